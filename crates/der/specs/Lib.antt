@@ -1,0 +1,6 @@
+pub mod Fault
+pub mod Node
+pub mod Number
+pub mod ObjectIdentifier
+pub mod Reading
+pub mod Tree

@@ -1,0 +1,43 @@
+-- Object identifiers: contents octets (X.690 8.19) and dotted text (RFC 3061 section 2's form of numbers joined by dots).
+use Rattle.std.specs.Prelude.{◌≡◌, ℕ, ◌+◌, ◌-◌, ◌*◌, ◌^◌, ◌<◌, ◌≤◌, ◌==◌, if◌then◌else◌, nat_lt, List, [], ◌∷◌, ◌++◌, length, map}
+use Rattle.std.specs.List.{AllByRecursion, flat_map}
+use Rattle.std.specs.Int.Digits.{digits_of}
+
+-- An object identifier is its subidentifiers, of which the first is 40 * X + Y for the arcs X and Y (X.690 8.19.4).
+-- Own limits: at most 32 of them, each below 2 ^ 128.
+pub record IsOid (subidentifiers : List ℕ) : Type 0 where
+  pub some : 1 ≤ length subidentifiers
+  pub few : length subidentifiers ≤ 32
+  pub small : AllByRecursion (λ subidentifier. subidentifier < 2 ^ 128) subidentifiers
+
+-- bit 8 set on all octets but the last
+abbrev pub with_continuation : List ℕ → List ℕ
+with_continuation [] = []
+with_continuation (last ∷ []) = last ∷ []
+with_continuation (first ∷ second ∷ others) = (128 + first) ∷ with_continuation (second ∷ others)
+
+-- a subidentifier in base 128 in the fewest octets, most significant first (X.690 8.19.2)
+unfoldable pub subidentifier_octets : ℕ → List ℕ
+subidentifier_octets n = if nat_lt n 128 then n ∷ [] else with_continuation (digits_of 128 n)
+
+-- the contents octets of an object identifier
+abbrev pub oid_content : List ℕ → List ℕ
+oid_content subidentifiers = flat_map subidentifier_octets subidentifiers
+
+-- a number in decimal digits, without leading zeros
+unfoldable pub decimal : ℕ → List ℕ
+decimal n = if n == 0 then 48 ∷ [] else map (λ digit. 48 + digit) (digits_of 10 n)
+
+-- the first arc of the first subidentifier: 0, 1, or 2, of which the first two have at most 40 arcs below them
+abbrev pub first_arc : ℕ → ℕ
+first_arc n = if nat_lt n 40 then 0 else (if nat_lt n 80 then 1 else 2)
+
+-- `.` and the number
+abbrev pub dotted : ℕ → List ℕ
+dotted n = 46 ∷ decimal n
+
+-- the arcs in decimal, joined by dots
+abbrev pub oid_text : List ℕ → List ℕ
+oid_text [] = []
+oid_text (first ∷ others) =
+    decimal (first_arc first) ++ (dotted (first - 40 * first_arc first) ++ flat_map dotted others)

@@ -1,0 +1,89 @@
+-- Reading values from the front of octets: the answer, or the first fault from the left.
+use Rattle.std.specs.Prelude.{◌≡◌, ℕ, zero, suc, ◌-◌, ◌*◌, ◌/◌, ◌%◌, ◌^◌, ◌==◌, ◌||◌, if◌then◌else◌, nat_lt, List, [], ◌∷◌, length, take, drop, get_or, Result, Ok, Err}
+use Rattle.std.specs.Int.Digits.{number_from_digits}
+use Rattle.der.specs.Node.{Node, primitive, constructed, Nodes, no_nodes, node, bit_six}
+use Rattle.der.specs.declared.fault.DerFault.{DerFault}
+use Rattle.der.specs.declared.fault.DerFault.TheVariants.{Truncated, LengthForm, HighTag, WrongKind, TooDeep, TooLong, Trailing, BadValue, Memory}
+
+infixl 10 ◌>>=◌
+abbrev pub ◌>>=◌ : {A B : Type 0} → Result A DerFault → (A → Result B DerFault) → Result B DerFault
+(Ok x) >>= f = f x
+(Err e) >>= f = Err e
+
+-- What a function returned, seen by a view, is what reading gives, unless memory ran out.
+abbrev pub Fails : {Y : Type 0} → DerFault → Result Y DerFault → Type 0
+Fails Memory read = Unit {0}
+Fails Truncated read = read ≡ Err Truncated
+Fails LengthForm read = read ≡ Err LengthForm
+Fails HighTag read = read ≡ Err HighTag
+Fails WrongKind read = read ≡ Err WrongKind
+Fails TooDeep read = read ≡ Err TooDeep
+Fails TooLong read = read ≡ Err TooLong
+Fails Trailing read = read ≡ Err Trailing
+Fails BadValue read = read ≡ Err BadValue
+
+abbrev pub Gives : {X Y : Type 0} → (X → Y) → Result X DerFault → Result Y DerFault → Type 0
+Gives view (Ok x) read = read ≡ Ok (view x)
+Gives view (Err e) read = Fails e read
+
+-- The number that the length octets at the front give, and the octets after them (X.690 8.1.3.4, 8.1.3.5, 10.1).
+unfoldable pub long_length : List ℕ → List ℕ → Result (ℕ × List ℕ) DerFault
+long_length octets rest =
+    if (get_or octets 0 0 == 0) || nat_lt (number_from_digits 256 octets) 128 then Err LengthForm
+    else (if nat_lt (number_from_digits 256 octets) (2 ^ 24) then Ok (number_from_digits 256 octets, rest) else Err TooLong)
+
+unfoldable pub length_at : List ℕ → Result (ℕ × List ℕ) DerFault
+length_at [] = Err Truncated
+length_at (first ∷ rest) =
+    if nat_lt first 128 then Ok (first, rest)
+    else (if (first == 128) || (first == 255) then Err LengthForm
+    else (if nat_lt (length rest) (first - 128) then Err Truncated
+    else long_length (take (first - 128) rest) (drop (first - 128) rest)))
+
+-- a value's identifier octet and contents octets, and the octets after it
+pub record Piece : Type 0 where
+  pub identifier : ℕ
+  pub contents : List ℕ
+  pub rest : List ℕ
+
+-- the identifier octet, and the octets after it
+unfoldable pub identifier_at : List ℕ → Result (ℕ × List ℕ) DerFault
+identifier_at [] = Err Truncated
+identifier_at (identifier ∷ rest) = if identifier % 32 == 31 then Err HighTag else Ok (identifier, rest)
+
+unfoldable pub contents_at : ℕ → ℕ → List ℕ → Result Piece DerFault
+contents_at identifier count rest =
+    if nat_lt (length rest) count then Err Truncated
+    else Ok (record { identifier = identifier; contents = take count rest; rest = drop count rest })
+
+unfoldable pub element_at : List ℕ → Result Piece DerFault
+element_at octets = do
+  identifier ← identifier_at octets
+  count ← length_at identifier.1
+  contents_at identifier.0 count.0 count.1
+
+-- values one after the other until the octets end, at most k of them, where `one` reads the value at the front
+unfoldable pub nodes_with : (List ℕ → Result (Node × List ℕ) DerFault) → ℕ → List ℕ → Result Nodes DerFault
+nodes_with one k [] = Ok no_nodes
+nodes_with one zero (octet ∷ octets) = Err Trailing
+nodes_with one (suc k) (octet ∷ octets) = do
+  first ← one (octet ∷ octets)
+  others ← nodes_with one k first.1
+  Ok (node first.0 others)
+
+-- the value that a piece is, where `one` reads the value at the front of a constructed one's contents
+unfoldable pub node_of : (List ℕ → Result (Node × List ℕ) DerFault) → Piece → Result (Node × List ℕ) DerFault
+node_of one piece =
+    if bit_six piece.identifier == 1 then (nodes_with one (length piece.contents) piece.contents >>= λ components. Ok (constructed piece.identifier components, piece.rest))
+    else Ok (primitive piece.identifier piece.contents, piece.rest)
+
+-- the value at the front, of at most that many levels, and the octets after it
+unfoldable pub node_at : ℕ → List ℕ → Result (Node × List ℕ) DerFault
+node_at zero octets = Err TooDeep
+node_at (suc levels) octets = element_at octets >>= node_of (node_at levels)
+
+-- the value that the octets are, and no octet after it
+unfoldable pub tree_of : List ℕ → Result Node DerFault
+tree_of octets = do
+  found ← node_at 32 octets
+  if length found.1 == 0 then Ok found.0 else Err Trailing

@@ -1,0 +1,18 @@
+-- The value that a `Tree` is.
+use Rattle.std.specs.Prelude.{List, [], ◌∷◌}
+use Rattle.der.specs.Node.{Node, primitive, constructed, Nodes, no_nodes, node}
+use Rattle.der.specs.declared.tree.Tree.{Tree, fold-Tree}
+use Rattle.der.specs.declared.tree.Tree.TheOpen.{Tree-F}
+
+-- a list as values one after the other
+abbrev pub nodes : List Node → Nodes
+nodes [] = no_nodes
+nodes (first ∷ others) = node first (nodes others)
+
+-- one level, with each value inside already seen
+abbrev pub view_step : Tree-F Node → Node
+view_step (Tree-F.Primitive tag contents) = primitive tag.octet contents.items
+view_step (Tree-F.Constructed tag components) = constructed tag.octet (nodes components.items)
+
+abbrev pub view : Tree → Node
+view = fold-Tree Node view_step
