@@ -1,0 +1,31 @@
+-- The values of which the messages are made (X.690 8.2, 8.3, 8.7, 8.9, 8.19, 11.1, 11.5).
+use Rattle.std.specs.Prelude.{◌≡◌, ℕ, Bool, true, false, ◌||◌, if◌then◌else◌, ℤ, List, [], ◌∷◌, Option, Some, None}
+use Rattle.der.specs.Node.{Node, primitive, constructed}
+use Rattle.der.specs.Tree.{nodes}
+use Rattle.der.specs.Number.{number_content}
+use Rattle.der.specs.ObjectIdentifier.{oid_content}
+
+abbrev pub integer : ℤ → Node
+integer z = primitive 2 (number_content z)
+
+-- FF is TRUE and 00 FALSE
+abbrev pub boolean : Bool → Node
+boolean b = primitive 1 ((if b then 255 else 0) ∷ [])
+
+abbrev pub octet_string : List ℕ → Node
+octet_string octets = primitive 4 octets
+
+abbrev pub object_identifier : List ℕ → Node
+object_identifier subidentifiers = primitive 6 (oid_content subidentifiers)
+
+abbrev pub sequence : List Node → Node
+sequence components = constructed 48 (nodes components)
+
+-- a component where there is one
+abbrev pub optional : {A : Type 0} → (A → Node) → Option A → List Node
+optional component None = []
+optional component (Some x) = component x ∷ []
+
+-- a BOOLEAN DEFAULT FALSE: TRUE is written, and FALSE only where it is stated
+abbrev pub false_by_default : Bool → Bool → List Node
+false_by_default stated b = if b || stated then boolean b ∷ [] else []
