@@ -1,5 +1,6 @@
 pub mod Fault
 pub mod Grammar
 pub mod Request
+pub mod Rules
 pub mod Rejection
 
