@@ -1,5 +1,5 @@
 -- Values under the Distinguished Encoding Rules, and their one encoding (X.690 8.1 and 10.1).
-use Rattle.std.specs.Prelude.{◌≡◌, ℕ, zero, suc, max, ◌+◌, ◌/◌, ◌%◌, ◌^◌, ◌<◌, ◌≤◌, Bool, true, false, if◌then◌else◌, nat_lt, List, [], ◌∷◌, ◌++◌, length}
+use Rattle.std.specs.Prelude.{◌≡◌, ℕ, zero, suc, max, ◌+◌, ◌/◌, ◌%◌, ◌^◌, ◌<◌, ◌≤◌, ◌==◌, Bool, true, false, if◌then◌else◌, nat_lt, List, [], ◌∷◌, ◌++◌, length, Option, Some, None}
 use Rattle.std.specs.List.{AllByRecursion}
 use Rattle.std.specs.Int.Digits.{digits_of}
 
@@ -69,3 +69,28 @@ abbrev mutual
 pub record IsLawful (n : Node) : Type 0 where
   pub formed : IsFormed n
   pub depth : levels n ≤ 32
+
+abbrev pub identifier_of : Node → ℕ
+identifier_of (primitive identifier contents) = identifier
+identifier_of (constructed identifier components) = identifier
+
+-- the contents octets of a value under this identifier octet
+unfoldable pub contents_of : ℕ → Node → Option (List ℕ)
+contents_of tag (primitive identifier contents) = if identifier == tag then Some contents else None
+contents_of tag (constructed identifier components) = None
+
+-- the values inside a value under this identifier octet
+unfoldable pub components_of : ℕ → Node → Option Nodes
+components_of tag (primitive identifier contents) = None
+components_of tag (constructed identifier components) = if identifier == tag then Some components else None
+
+-- the first value, and those after it
+unfoldable pub front_of : Nodes → Option (Node × Nodes)
+front_of no_nodes = None
+front_of (node first others) = Some (first, others)
+
+-- the first value where it is under this identifier octet, and the values after it; else none, and all of them
+unfoldable pub take_under : ℕ → Nodes → Option Node × Nodes
+take_under tag no_nodes = (None, no_nodes)
+take_under tag (node first others) =
+    if identifier_of first == tag then (Some first, others) else (None, node first others)

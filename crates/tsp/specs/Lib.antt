@@ -2,5 +2,6 @@ pub mod Fault
 pub mod Grammar
 pub mod Request
 pub mod Rules
+pub mod Reading
 pub mod Rejection
 
