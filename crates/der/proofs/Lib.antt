@@ -1,1 +1,4 @@
+pub mod Digits
+pub mod DigitsElements
+pub mod Number
 mod Rows
