@@ -1,5 +1,5 @@
 -- Object identifiers: contents octets (X.690 8.19) and dotted text (RFC 3061 section 2's form of numbers joined by dots).
-use Rattle.std.specs.Prelude.{◌≡◌, ℕ, ◌+◌, ◌-◌, ◌*◌, ◌^◌, ◌<◌, ◌≤◌, ◌==◌, if◌then◌else◌, nat_lt, List, [], ◌∷◌, ◌++◌, length, map}
+use Rattle.std.specs.Prelude.{◌≡◌, ℕ, ◌+◌, ◌-◌, ◌*◌, ◌^◌, ◌<◌, ◌≤◌, ◌==◌, if◌then◌else◌, nat_lt, List, [], ◌∷◌, ◌++◌, length, map, Option, None}
 use Rattle.std.specs.List.{AllByRecursion, flat_map}
 use Rattle.std.specs.Int.Digits.{digits_of}
 
@@ -41,3 +41,7 @@ abbrev pub oid_text : List ℕ → List ℕ
 oid_text [] = []
 oid_text (first ∷ others) =
     decimal (first_arc first) ++ (dotted (first - 40 * first_arc first) ++ flat_map dotted others)
+
+-- STUB until the other lands
+unfoldable pub oid_of : List ℕ → Option (List ℕ)
+oid_of octets = None
