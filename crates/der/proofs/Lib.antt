@@ -1,1 +1,3 @@
 mod Rows
+pub mod Digits
+pub mod Lengths
