@@ -4,7 +4,9 @@
 mod fault;
 mod tag;
 mod tree;
+mod writer;
 
 pub use fault::DerFault;
 pub use tag::Tag;
 pub use tree::Tree;
+pub use writer::Writer;
