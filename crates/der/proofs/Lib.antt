@@ -1,6 +1,5 @@
 pub mod Digits
 pub mod DigitsElements
+pub mod Lengths
 pub mod Number
 mod Rows
-pub mod Digits
-pub mod Lengths
