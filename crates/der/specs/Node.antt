@@ -1,5 +1,5 @@
 -- Values under the Distinguished Encoding Rules, and their one encoding (X.690 8.1 and 10.1).
-use Rattle.std.specs.Prelude.{◌≡◌, ℕ, zero, suc, max, ◌+◌, ◌/◌, ◌%◌, ◌^◌, ◌<◌, ◌≤◌, Bool, true, false, if◌then◌else◌, nat_lt, List, [], ◌∷◌, ◌++◌, length}
+use Rattle.std.specs.Prelude.{◌≡◌, ℕ, suc, max, ◌+◌, ◌/◌, ◌%◌, ◌^◌, ◌<◌, ◌≤◌, if◌then◌else◌, nat_lt, List, [], ◌∷◌, ◌++◌, length}
 use Rattle.std.specs.List.{AllByRecursion}
 use Rattle.std.specs.Int.Digits.{digits_of}
 
@@ -34,6 +34,11 @@ abbrev mutual
   pub encodings : Nodes → List ℕ
   encodings no_nodes = []
   encodings (node first others) = encoding first ++ encodings others
+
+-- a value's contents octets
+abbrev pub contents_octets : Node → List ℕ
+contents_octets (primitive identifier contents) = contents
+contents_octets (constructed identifier components) = encodings components
 
 -- how many levels a value has: itself is one
 abbrev mutual
