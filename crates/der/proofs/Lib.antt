@@ -3,3 +3,11 @@ pub mod DigitsElements
 pub mod Lengths
 pub mod Number
 mod Rows
+pub mod Octets
+pub mod ReadingSteps
+pub mod ReadingLengths
+pub mod ReadingElements
+pub mod ReadingNodes
+pub mod ReadingRuns
+pub mod ReadingTree
+pub mod EncodingBounds

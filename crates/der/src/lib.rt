@@ -2,11 +2,13 @@
 #![tactic(auto)]
 
 mod fault;
+mod read;
 mod tag;
 mod tree;
 mod writer;
 
 pub use fault::DerFault;
+pub use read::read_tree;
 pub use tag::Tag;
-pub use tree::Tree;
+pub use tree::{Tree, encodings_are_bounded, trees_have_one_encoding};
 pub use writer::Writer;
