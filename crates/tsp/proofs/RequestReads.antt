@@ -2,7 +2,7 @@
 use Rattle.std.proofs.Common.{◌≡◌, ℕ, Bool, true, false, cond, ℤ, List, [], ◌∷◌, ◌++◌, Option, Some, None, refl, sym, ap, ◌∙◌, subst}
 use Rattle.std.specs.Option.{option_and_then, IfSome, unwrap_or}
 use Rattle.std.specs.List.{AllByRecursion}
-use Rattle.der.specs.Node.{Node, primitive, constructed, Nodes, no_nodes, node, contents_of, components_of, front_of, take_under, identifier_of}
+use Rattle.der.specs.Node.{Node, primitive, constructed, Nodes, no_nodes, node, contents_of, components_of, first_of, take_under, identifier_of}
 use Rattle.der.specs.Tree.{nodes}
 use Rattle.der.specs.Number.{is_shortest, twos_value, number_content}
 use Rattle.der.specs.ObjectIdentifier.{IsOid, oid_content, oid_of}
@@ -19,21 +19,21 @@ pub oid_of-oid_content : (a : List ℕ) → IsOid a → oid_of (oid_content a) �
 oid_of-oid_content a h = ?
 
 pub integer_of-integer : (z : ℤ) → integer_of (integer z) ≡ Some z
-unfolding integer_of number_of contents_of
+unfolding integer_of number_of
 integer_of-integer z = rw (is_shortest-number_content z, twos_value-number_content z) refl
 
 pub boolean_of-boolean : (b : Bool) → boolean_of (boolean b) ≡ Some b
-unfolding boolean_of truth_of contents_of
+unfolding boolean_of truth_of
 boolean_of-boolean true = refl
 boolean_of-boolean false = refl
 
 pub oid_in-object_identifier : (a : List ℕ) → IsOid a → oid_in (object_identifier a) ≡ Some a
-unfolding oid_in contents_of
+unfolding oid_in
 oid_in-object_identifier a h = oid_of-oid_content a h
 
 -- an optional component that is there
 pub optional_at-some : {A : Type 0} (tag : ℕ) (read : Node → Option A) (n : Node) (x : A) (rest : Nodes) → identifier_of n ≡ tag → read n ≡ Some x → optional_at tag read (node n rest) ≡ Some (Some x, rest)
-unfolding optional_at take_under
+unfolding optional_at
 optional_at-some tag read n x rest same e = rw (eq-eqb (identifier_of n) tag same, e) refl
 
 -- values whose first is under another identifier octet
@@ -42,7 +42,7 @@ StartsApart tag no_nodes = Unit {0}
 StartsApart tag (node first others) = identifier_of first ≡ tag → ⊥
 
 pub optional_at-none : {A : Type 0} (tag : ℕ) (read : Node → Option A) (rest : Nodes) → StartsApart tag rest → optional_at tag read rest ≡ Some (None, rest)
-unfolding optional_at take_under
+unfolding optional_at
 optional_at-none tag read no_nodes apart = refl
 optional_at-none tag read (node first others) apart = rw (ne_eqb (identifier_of first) tag apart) refl
 
@@ -60,17 +60,17 @@ flag_at-false_by_default true false rest apart = rw (optional_at-some 1 boolean_
 flag_at-false_by_default false false rest apart = rw (optional_at-none 1 boolean_of rest apart) refl
 
 pub algorithm_of-algorithm_identifier : (a : List ℕ) (parameters : Option Node) → IsOid a → algorithm_of (sequence (object_identifier a ∷ optional (λ p. p) parameters)) ≡ Some (a, parameters)
-unfolding algorithm_of components_of front_of parameters_of
+unfolding algorithm_of parameters_of
 algorithm_of-algorithm_identifier a None h = rw (oid_in-object_identifier a h) refl
 algorithm_of-algorithm_identifier a (Some n) h = rw (oid_in-object_identifier a h) refl
 
 pub imprint_of-message_imprint : (i : ImprintValue) → IsOid i.algorithm → imprint_of (message_imprint i) ≡ Some i
-unfolding imprint_of components_of front_of contents_of only
+unfolding imprint_of only
 imprint_of-message_imprint i h = rw (algorithm_of-algorithm_identifier i.algorithm i.parameters h) refl
 
 -- what comes after an extension's critical begins with an OCTET STRING
 pub extension_of-extension : (stated : Bool) (e : ExtensionValue) → IsOid e.identifier → extension_of (extension stated e) ≡ Some e
-unfolding extension_of components_of front_of contents_of only
+unfolding extension_of only
 extension_of-extension stated e h =
     let split : nodes (false_by_default stated e.critical ++ (octet_string e.value ∷ [])) ≡ before (false_by_default stated e.critical) (node (octet_string e.value) no_nodes) = nodes-append _ _ in
     let apart : StartsApart 1 (node (octet_string e.value) no_nodes) = λ q. absurd (omega (arith, q)) in
@@ -89,7 +89,7 @@ extensions_at-extensions_under tag stated [] h = rw (optional_at-none tag (exten
 extensions_at-extensions_under tag stated (e ∷ es) h =
     let all = extensions_of-extension_nodes stated (e ∷ es) h in
     let list : extension_list_of tag (constructed tag (nodes (extension_nodes stated (e ∷ es)))) ≡ Some (e ∷ es) =
-        unfold extension_list_of components_of some_extensions in rw (eq-eqb tag tag refl, all) refl in
+        unfold extension_list_of some_extensions in rw (eq-eqb tag tag refl, all) refl in
     rw (optional_at-some tag (extension_list_of tag) (constructed tag (nodes (extension_nodes stated (e ∷ es)))) (e ∷ es) no_nodes refl list) refl
 
 -- Where the values after a component begin apart, and the component does too, so do both.
@@ -125,7 +125,7 @@ any Q None f = tt
 any Q (Some x) f = f x
 
 pub request_of-request : (s : Stated) (r : RequestValue) → IsRequest r → request_of (request s r) ≡ Some r
-unfolding request_of components_of front_of only
+unfolding request_of only
 request_of-request s r h =
     let ext = nodes (extensions_under 160 s.critical r.extensions) in
     let flags = before (false_by_default s.cert_req r.cert_req) ext in

@@ -5,7 +5,7 @@ use Rattle.std.specs.Option.{option_and_then, IfSome, unwrap_or}
 use Rattle.std.specs.List.{AllByRecursion}
 use Rattle.std.proofs.lemmas.Option.{option_and_then_some, cond_some}
 use Rattle.std.proofs.lemmas.Bool.{eqb-true}
-use Rattle.der.specs.Node.{Node, primitive, constructed, Nodes, no_nodes, node, contents_of, components_of, front_of, take_under, identifier_of, IsFormed, AreFormed, AreOctets}
+use Rattle.der.specs.Node.{Node, primitive, constructed, Nodes, no_nodes, node, contents_of, components_of, first_of, take_under, identifier_of, IsFormed, AreFormed, AreOctets}
 use Rattle.der.specs.Tree.{nodes}
 use Rattle.der.specs.Number.{is_shortest, twos_value, number_content}
 use Rattle.der.specs.ObjectIdentifier.{IsOid, oid_content, oid_of}
@@ -70,7 +70,7 @@ optional_by_test false read first others found e = inl (cc, cc)
 -- What optional_at answers stood in front of what is left.
 pub optional_at_takes : {A : Type 0} (tag : ℕ) (read : Node → Option A) (ns : Nodes) (found : Option A × Nodes) → optional_at tag read ns ≡ Some found
     → ((found.0 ≡ None) × (ns ≡ found.1)) ⊎ ((n : Node) × (x : A) × (found.0 ≡ Some x) × (read n ≡ Some x) × (ns ≡ node n found.1))
-unfolding optional_at take_under
+unfolding optional_at
 optional_at_takes tag read no_nodes found e = inl (cc, cc)
 optional_at_takes tag read (node first others) found e = optional_by_test (eqb (identifier_of first) tag) read first others found e
 
@@ -109,7 +109,7 @@ pub algorithm_takes : (n : Node) (found : List ℕ × Option Node) → algorithm
 unfolding algorithm_of
 algorithm_takes n found e =
     option_and_then_some _ (components_of 48 n) found e (λ members e1 r1.
-    option_and_then_some _ (front_of members) found r1 (λ first e2 r2.
+    option_and_then_some _ (first_of members) found r1 (λ first e2 r2.
     option_and_then_some _ (oid_in first.0) found r2 (λ identifier e3 r3.
     option_and_then_some _ (parameters_of first.1) found r3 (λ parameters e4 r4.
     let oid = oid_takes first.0 identifier e3 in
@@ -124,9 +124,9 @@ pub imprint_takes : (n : Node) (i : ImprintValue) → imprint_of n ≡ Some i �
 unfolding imprint_of
 imprint_takes n i e =
     option_and_then_some _ (components_of 48 n) i e (λ members e1 r1.
-    option_and_then_some _ (front_of members) i r1 (λ first e2 r2.
+    option_and_then_some _ (first_of members) i r1 (λ first e2 r2.
     option_and_then_some _ (algorithm_of first.0) i r2 (λ algorithm e3 r3.
-    option_and_then_some _ (front_of first.1) i r3 (λ second e4 r4.
+    option_and_then_some _ (first_of first.1) i r3 (λ second e4 r4.
     option_and_then_some _ (contents_of 4 second.0) i r4 (λ hash e5 r5.
     let a = algorithm_takes first.0 algorithm e3 in
     let last = only_takes second.1 _ i r5 in
@@ -140,10 +140,10 @@ pub extension_takes : (n : Node) (v : ExtensionValue) → extension_of n ≡ Som
 unfolding extension_of
 extension_takes n v e =
     option_and_then_some _ (components_of 48 n) v e (λ members e1 r1.
-    option_and_then_some _ (front_of members) v r1 (λ first e2 r2.
+    option_and_then_some _ (first_of members) v r1 (λ first e2 r2.
     option_and_then_some _ (oid_in first.0) v r2 (λ identifier e3 r3.
     option_and_then_some _ (flag_at first.1) v r3 (λ critical e4 r4.
-    option_and_then_some _ (front_of critical.1) v r4 (λ last e5 r5.
+    option_and_then_some _ (first_of critical.1) v r4 (λ last e5 r5.
     option_and_then_some _ (contents_of 4 last.0) v r5 (λ value e6 r6.
     let oid = oid_takes first.0 identifier e3 in
     let flag = flag_takes first.1 critical e4 in
@@ -221,9 +221,9 @@ pub request_takes : (n : Node) (r : RequestValue) → IsFormed n → request_of 
 unfolding request_of
 request_takes n r formed e =
     option_and_then_some _ (components_of 48 n) r e (λ members e1 r1.
-    option_and_then_some _ (front_of members) r r1 (λ first e2 r2.
+    option_and_then_some _ (first_of members) r r1 (λ first e2 r2.
     option_and_then_some _ (integer_of first.0) r r2 (λ version e3 r3.
-    option_and_then_some _ (front_of first.1) r r3 (λ second e4 r4.
+    option_and_then_some _ (first_of first.1) r r3 (λ second e4 r4.
     option_and_then_some _ (imprint_of second.0) r r4 (λ imprint e5 r5.
     option_and_then_some _ (optional_at 6 oid_in second.1) r r5 (λ policy e6 r6.
     option_and_then_some _ (optional_at 2 integer_of policy.1) r r6 (λ nonce e7 r7.

@@ -1,6 +1,6 @@
 -- Reading messages from values: the answer, or none where the value isn't of the grammar.
 use Rattle.std.specs.Prelude.{◌≡◌, ℕ, ◌==◌, Bool, true, false, if◌then◌else◌, ℤ, List, [], ◌∷◌, Option, Some, None, option_and_then, unwrap_or}
-use Rattle.der.specs.Node.{Node, primitive, constructed, Nodes, no_nodes, node, contents_of, components_of, front_of, take_under}
+use Rattle.der.specs.Node.{Node, primitive, constructed, Nodes, no_nodes, node, contents_of, components_of, first_of, take_under}
 use Rattle.der.specs.Number.{is_shortest, twos_value}
 use Rattle.der.specs.ObjectIdentifier.{oid_of}
 use Rattle.tsp.specs.Request.{ImprintValue, ExtensionValue, RequestValue}
@@ -54,7 +54,7 @@ parameters_of (node first (node second others)) = None
 unfoldable pub algorithm_of : Node → Option (List ℕ × Option Node)
 algorithm_of n = do
   members ← components_of 48 n
-  first ← front_of members
+  first ← first_of members
   identifier ← oid_in first.0
   parameters ← parameters_of first.1
   Some (identifier, parameters)
@@ -63,9 +63,9 @@ algorithm_of n = do
 unfoldable pub imprint_of : Node → Option ImprintValue
 imprint_of n = do
   members ← components_of 48 n
-  first ← front_of members
+  first ← first_of members
   algorithm ← algorithm_of first.0
-  second ← front_of first.1
+  second ← first_of first.1
   hash ← contents_of 4 second.0
   only second.1 (record { algorithm = algorithm.0; parameters = algorithm.1; hash = hash })
 
@@ -73,10 +73,10 @@ imprint_of n = do
 unfoldable pub extension_of : Node → Option ExtensionValue
 extension_of n = do
   members ← components_of 48 n
-  first ← front_of members
+  first ← first_of members
   identifier ← oid_in first.0
   critical ← flag_at first.1
-  last ← front_of critical.1
+  last ← first_of critical.1
   value ← contents_of 4 last.0
   only last.1 (record { identifier = identifier; critical = critical.0; value = value })
 
@@ -106,9 +106,9 @@ extensions_at tag ns = optional_at tag (extension_list_of tag) ns >>= λ found. 
 unfoldable pub request_of : Node → Option RequestValue
 request_of n = do
   members ← components_of 48 n
-  first ← front_of members
+  first ← first_of members
   version ← integer_of first.0
-  second ← front_of first.1
+  second ← first_of first.1
   imprint ← imprint_of second.0
   policy ← optional_at 6 oid_in second.1
   nonce ← optional_at 2 integer_of policy.1
