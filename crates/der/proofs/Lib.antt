@@ -1,4 +1,4 @@
 pub mod Digits
 pub mod DigitsElements
-pub mod Number
+pub mod NumberContents
 mod Rows

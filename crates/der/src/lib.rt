@@ -2,9 +2,11 @@
 #![tactic(auto)]
 
 mod fault;
+mod number;
 mod tag;
 mod tree;
 
 pub use fault::DerFault;
+pub use number::{is_number_content, numbers_have_one_content, whole_number_content};
 pub use tag::Tag;
 pub use tree::Tree;
