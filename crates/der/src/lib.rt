@@ -3,10 +3,12 @@
 
 mod fault;
 mod number;
+mod oid;
 mod tag;
 mod tree;
 
 pub use fault::DerFault;
 pub use number::{is_number_content, numbers_have_one_content, whole_number_content};
+pub use oid::{Oid, is_oid_content};
 pub use tag::Tag;
 pub use tree::Tree;
