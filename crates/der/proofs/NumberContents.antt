@@ -1,16 +1,18 @@
 -- The contents octets of a number: they are its shortest, and its only ones.
-use Rattle.std.proofs.Common.{◌≡◌, ℕ, zero, suc, ◌+◌, ◌-◌, ◌*◌, ◌/◌, ◌%◌, ◌^◌, ◌<◌, ◌≤◌, ℤ, pos, negsuc, Bool, true, false, cond, ltb, eqb, leb, List, [], ◌∷◌, ◌++◌, length, get_or, map, refl, sym, ap, subst, ◌∙◌, ◌⊎◌, inl, inr, ⊎_elim, lit<, arith}
-use Rattle.std.specs.Int.Digits.{digits_of, number_from_digits, number_from_digits_after, AllBelowBase}
-use Rattle.std.proofs.lemmas.Bool.{cases_lt, cases_eq, lt-ltb, le-ltb, cond-true, cond-false, cases_Bool, ltb-true, ltb-false, leb-true, eqb-true, eqb-false, eq-eqb, ne_eqb, le-leb}
+use Rattle.std.proofs.Common.{◌≡◌, ℕ, zero, suc, ◌+◌, ◌-◌, ◌*◌, ◌/◌, ◌%◌, ◌^◌, ◌<◌, ◌≤◌, ℤ, pos, negsuc, Bool, true, false, cond, ltb, eqb, leb, List, [], ◌∷◌, ◌++◌, length, get_or, refl, sym, ap, subst, ◌∙◌, ⊎_elim, lit<, arith, append_assoc, reverse, take, drop, IsTrue, ◌↔◌}
+use Rattle.std.specs.Int.Signed.{lt_z}
+use Rattle.std.proofs.Math.IntN.{nat_abs}
+use Rattle.std.specs.Int.Digits.{digits_of, number_from_digits, number_from_digits_after}
+use Rattle.std.proofs.lemmas.Bool.{true≢false, cases_lt, cases_eq, lt-ltb, le-ltb, cond-true, cond-false, ltb-true}
 use Rattle.std.proofs.lemmas.Int.Digits.{digits_of_step, first_digits_of, number_digits_of, all_below_base_digits_of, number_after_lt}
-use Rattle.std.proofs.lemmas.List.{length-map, length_push}
+use Rattle.std.proofs.lemmas.List.{length-map, length_push, reverse-append, take_at}
 use Rattle.std.proofs.lemmas.Bool.Decides.{nat_tests}
 use Rattle.std.proofs.Math.Nat.{pow-suc}
 use Rattle.std.proofs.lemmas.Nat.{mul-le}
 use Rattle.der.specs.Node.{AreOctets}
 use Rattle.der.specs.Number.{number_content, with_sign, complement, twos_value, IsNumberContent, is_shortest}
 use Rattle.der.proofs.Digits.{digits_of_digit, digits_of-number}
-use Rattle.der.proofs.DigitsElements.{all-map, same_from_number}
+use Rattle.der.proofs.DigitsElements.{all-map, all-from_places, same_from_number}
 
 -- the contents of a number that is not negative
 abbrev pub magnitude : ℕ → List ℕ
@@ -45,13 +47,13 @@ magnitude_of_two n low high =
     let q : n / 256 ≡ 0 = omega arith in
     let r : n % 256 ≡ n = omega arith in
     ap with_sign (digits_of_digit 256 n (omega arith) high (omega arith)) ∙
-      (with_sign_large n [] low ∙ sym (ap (λ k. magnitude k ++ n % 256 ∷ []) q ∙ ap (λ k. 0 ∷ k ∷ []) r))
+    (with_sign_large n [] low ∙ sym (ap (λ k. magnitude k ++ n % 256 ∷ []) q ∙ ap (λ k. 0 ∷ k ∷ []) r))
 
 magnitude_of_more : (n : ℕ) → 256 ≤ n → magnitude n ≡ magnitude (n / 256) ++ n % 256 ∷ []
 magnitude_of_more n h =
     let above : 0 < n / 256 = omega arith in
     ap with_sign (digits_of_step 256 n (omega arith) (omega arith)) ∙
-      with_sign_push (digits_of 256 (n / 256)) (n % 256) (some_from_first (digits_of 256 (n / 256)) (first_digits_of 256 (n / 256) (omega arith) above))
+    with_sign_push (digits_of 256 (n / 256)) (n % 256) (some_from_first (digits_of 256 (n / 256)) (first_digits_of 256 (n / 256) (omega arith) above))
 
 pub magnitude_step : (n : ℕ) → 128 ≤ n → magnitude n ≡ magnitude (n / 256) ++ n % 256 ∷ []
 magnitude_step n h = ⊎_elim (magnitude_of_two n h) (magnitude_of_more n) (cases_lt n 256)
@@ -124,13 +126,13 @@ magnitude-number [] octets h = absurd h
 magnitude-number (octet ∷ []) octets h = ap magnitude (one_octet octet) ∙ magnitude_small octet h
 magnitude-number (first ∷ second ∷ others) octets h =
     ⊎_elim
-        (λ none.
-        ap (λ k. magnitude (number_from_digits_after 256 (k * 256 + second) others)) (one_octet first ∙ none) ∙
-          (ap with_sign (digits_of-number 256 (second ∷ others) (omega arith) octets.1 (omega (arith, h.1 none))) ∙
-            (with_sign_large second others (h.1 none) ∙ ap (λ k. k ∷ second ∷ others) (sym none))))
-        (λ some.
-        ap with_sign (digits_of-number 256 (first ∷ second ∷ others) (omega arith) octets (omega arith)) ∙ with_sign_small first (second ∷ others) h.0)
-        (cases_eq first 0)
+    (λ none.
+    ap (λ k. magnitude (number_from_digits_after 256 (k * 256 + second) others)) (one_octet first ∙ none) ∙
+    (ap with_sign (digits_of-number 256 (second ∷ others) (omega arith) octets.1 (omega (arith, h.1 none))) ∙
+    (with_sign_large second others (h.1 none) ∙ ap (λ k. k ∷ second ∷ others) (sym none))))
+    (λ some.
+    ap with_sign (digits_of-number 256 (first ∷ second ∷ others) (omega arith) octets (omega arith)) ∙ with_sign_small first (second ∷ others) h.0)
+    (cases_eq first 0)
 
 -- ---- how many octets
 
@@ -180,7 +182,7 @@ twos_value-complement (octet ∷ []) octets h =
     twos_value-high (255 - octet) [] (omega arith) ∙ ap (λ os. negsuc (number_from_digits 256 os)) (complement-complement (octet ∷ []) octets)
 twos_value-complement (first ∷ second ∷ others) octets h =
     twos_value-high (255 - first) (complement (second ∷ others)) (omega (arith, h.0)) ∙
-      ap (λ os. negsuc (number_from_digits 256 os)) (complement-complement (first ∷ second ∷ others) octets)
+    ap (λ os. negsuc (number_from_digits 256 os)) (complement-complement (first ∷ second ∷ others) octets)
 
 pub twos_value-number_content : (z : ℤ) → twos_value (number_content z) ≡ z
 unfolding number_content
@@ -227,10 +229,11 @@ fewest-negsuc n [] octets some same = absurd (omega (arith, some))
 fewest-negsuc n (first ∷ others) octets some same =
     let is = number-from_negsuc n (first ∷ others) some same in
     omega (
-        arith,
-        fewest_of n (255 - first) (complement others) (omega (arith, is.0)) (octets-complement (first ∷ others) octets) is.1,
-        length-map others (λ octet. 255 - octet),
-        length-map (magnitude n) (λ octet. 255 - octet))
+      arith,
+      fewest_of n (255 - first) (complement others) (omega (arith, is.0)) (octets-complement (first ∷ others) octets) is.1,
+      length-map others (λ octet. 255 - octet),
+      length-map (magnitude n) (λ octet. 255 - octet),
+    )
 
 pub fewest-number_content : (z : ℤ) (os : List ℕ) → AreOctets os → 0 < length os → twos_value os ≡ z → length (number_content z) ≤ length os
 unfolding number_content
@@ -255,7 +258,7 @@ same_from_pos n xs ys p q some some' e x y =
 same_from_negsuc : (n : ℕ) (xs ys : List ℕ) → AreOctets xs → AreOctets ys → 0 < length xs → 0 < length ys → length xs ≡ length ys → twos_value xs ≡ negsuc n → twos_value ys ≡ negsuc n → xs ≡ ys
 same_from_negsuc n xs ys p q some some' e x y =
     let turned : complement xs ≡ complement ys = same_from_number 256 (complement xs) (complement ys) (octets-complement xs p) (octets-complement ys q)
-      (length-map xs (λ octet. 255 - octet) ∙ (e ∙ sym (length-map ys (λ octet. 255 - octet)))) ((number-from_negsuc n xs some x).1 ∙ sym (number-from_negsuc n ys some' y).1) in
+    (length-map xs (λ octet. 255 - octet) ∙ (e ∙ sym (length-map ys (λ octet. 255 - octet)))) ((number-from_negsuc n xs some x).1 ∙ sym (number-from_negsuc n ys some' y).1) in
     sym (complement-complement xs p) ∙ (ap complement turned ∙ complement-complement ys q)
 
 same_from_value : (z : ℤ) (xs ys : List ℕ) → AreOctets xs → AreOctets ys → 0 < length xs → 0 < length ys → length xs ≡ length ys → twos_value xs ≡ z → twos_value ys ≡ z → xs ≡ ys
@@ -304,9 +307,51 @@ unfolding number_content
 number_content-twos_value [] octets shortest = absurd (let e : false ≡ true = shortest in cc)
 number_content-twos_value (first ∷ others) octets shortest =
     ⊎_elim
-        (λ low. ap number_content (twos_value-low first others low) ∙ magnitude-number (first ∷ others) octets (unsigned-shortest first others low shortest))
-        (λ high.
-        ap number_content (twos_value-high first others high) ∙
-          (ap complement (magnitude-number (complement (first ∷ others)) (octets-complement (first ∷ others) octets) (complement-shortest first others octets high shortest)) ∙
-            complement-complement (first ∷ others) octets))
-        (cases_lt first 128)
+    (λ low. ap number_content (twos_value-low first others low) ∙ magnitude-number (first ∷ others) octets (unsigned-shortest first others low shortest))
+    (λ high.
+    ap number_content (twos_value-high first others high) ∙
+    (ap complement (magnitude-number (complement (first ∷ others)) (octets-complement (first ∷ others) octets) (complement-shortest first others octets high shortest)) ∙
+    complement-complement (first ∷ others) octets))
+    (cases_lt first 128)
+
+-- ---- what the code keeps
+
+-- one octet is pushed, in the order from the last to the first
+pub magnitude_more : (n rest : ℕ) (octets pushed : List ℕ) → 128 ≤ rest → magnitude n ≡ magnitude rest ++ reverse octets → pushed ≡ octets ++ rest % 256 ∷ [] → magnitude n ≡ magnitude (rest / 256) ++ reverse pushed
+magnitude_more n rest octets pushed high so_far push =
+    so_far ∙
+    (ap (λ front. front ++ reverse octets) (magnitude_step rest high) ∙
+    (append_assoc (magnitude (rest / 256)) (rest % 256 ∷ []) (reverse octets) ∙
+    ap (λ back. magnitude (rest / 256) ++ back) (sym (ap reverse push ∙ reverse-append octets (rest % 256 ∷ [])))))
+
+pub magnitude_last : (n rest : ℕ) (octets pushed : List ℕ) → rest < 128 → magnitude n ≡ magnitude rest ++ reverse octets → pushed ≡ octets ++ rest ∷ [] → reverse pushed ≡ magnitude n
+magnitude_last n rest octets pushed low so_far push =
+    ap reverse push ∙ (reverse-append octets (rest ∷ []) ∙ sym (so_far ∙ ap (λ front. front ++ reverse octets) (magnitude_small rest low)))
+
+pub is_shortest_decides : (os : List ℕ) (b : Bool) → ((i : ℕ) → get_or os i 0 < 256) → b ≡ is_shortest os → IsTrue b ↔ (number_content (twos_value os) ≡ os)
+is_shortest_decides os b octets same =
+    (λ yes'. number_content-twos_value os (all-from_places 256 os (λ i _. octets i)) (sym same ∙ yes'), λ e. same ∙ (ap is_shortest (sym e) ∙ is_shortest-number_content (twos_value os)))
+
+pub IsNumberContent-from : (z : ℤ) (os : List ℕ) → os ≡ number_content z → IsNumberContent z os
+IsNumberContent-from z os e = subst (IsNumberContent z) (sym e) (IsNumberContent-number_content z)
+
+not_negative : (z : ℤ) (n : ℕ) (os : List ℕ) → lt_z z (pos 0) ≡ false → n ≡ nat_abs z → os ≡ magnitude n → os ≡ number_content z
+unfolding number_content
+not_negative (pos m) n os sign size e = e ∙ ap magnitude size
+not_negative (negsuc m) n os sign size e = absurd (true≢false sign)
+
+-- z is seen by the code as seen
+pub content_not_negative : (z seen : ℤ) (n : ℕ) (os : List ℕ) → seen ≡ z → lt_z seen (pos 0) ≡ false → n ≡ nat_abs seen → os ≡ magnitude n → os ≡ number_content z
+content_not_negative z seen n os same sign size e = not_negative seen n os sign size e ∙ ap number_content same
+
+negative : (z : ℤ) (n : ℕ) (os : List ℕ) → lt_z z (pos 0) ≡ true → n ≡ nat_abs z → os ≡ complement (magnitude (n - 1)) → os ≡ number_content z
+unfolding number_content
+negative (pos m) n os sign size e = absurd (omega (arith, ltb-true m 0 sign))
+negative (negsuc m) n os sign size e =
+    let same : n - 1 ≡ m = omega (arith, size) in
+    e ∙ ap (λ k. complement (magnitude k)) same
+
+pub content_negative : (z seen : ℤ) (n len : ℕ) (items now new : List ℕ) → seen ≡ z → lt_z seen (pos 0) ≡ true → n ≡ nat_abs seen → items ≡ magnitude (n - 1) → now ≡ items → new ≡ complement now → len ≡ length items → take len (new ++ drop (length new) items) ≡ number_content z
+content_negative z seen n len items now new same sign size e lent turned long =
+    take_at new (drop (length new) items) len (ap length turned ∙ (length-map now (λ octet. 255 - octet) ∙ (ap length lent ∙ sym long))) ∙
+    (negative seen n new sign size (turned ∙ (ap complement lent ∙ ap complement e)) ∙ ap number_content same)
