@@ -2,23 +2,17 @@
 #![tactic(auto)]
 
 mod fault;
-<<<<<<< HEAD
 mod read;
-=======
 mod number;
 mod oid;
->>>>>>> e9eb5dfad0ac36106ce2b3db0197c5a76bd6bd2e
 mod tag;
 mod tree;
 mod writer;
 
 pub use fault::DerFault;
-<<<<<<< HEAD
 pub use read::read_tree;
-=======
 pub use number::{is_number_content, numbers_have_one_content, whole_number_content};
 pub use oid::{Oid, is_oid_content};
->>>>>>> e9eb5dfad0ac36106ce2b3db0197c5a76bd6bd2e
 pub use tag::Tag;
 pub use tree::{Tree, encodings_are_bounded, trees_have_one_encoding};
 pub use writer::Writer;

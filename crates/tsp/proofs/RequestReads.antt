@@ -6,7 +6,8 @@ use Rattle.der.specs.Node.{Node, primitive, constructed, Nodes, no_nodes, node, 
 use Rattle.der.specs.Tree.{nodes}
 use Rattle.der.specs.Number.{is_shortest, twos_value, number_content}
 use Rattle.der.specs.ObjectIdentifier.{IsOid, oid_content, oid_of}
-use Rattle.der.proofs.Number.{twos_value-number_content, is_shortest-number_content}
+use Rattle.der.proofs.NumberContents.{twos_value-number_content, is_shortest-number_content}
+use Rattle.der.proofs.OidContents.{oid_of-content}
 use Rattle.tsp.specs.Grammar.{integer, boolean, octet_string, object_identifier, sequence, optional, false_by_default}
 use Rattle.tsp.specs.Request.{ImprintValue, ExtensionValue, RequestValue, IsRequest, Stated, algorithm_identifier, message_imprint, extension, extension_nodes, extensions_under, request}
 use Rattle.tsp.specs.Reading.{number_of, integer_of, truth_of, boolean_of, oid_in, only, optional_of, optional_at, flag_at, parameters_of, algorithm_of, imprint_of, extension_of, extensions_of, some_extensions, extension_list_of, extensions_at, request_of}
@@ -14,9 +15,6 @@ use Rattle.std.proofs.Common.{arith}
 use Rattle.std.proofs.lemmas.Bool.{eq-eqb}
 use borrow.Author.Tests.{ne_eqb}
 use Rattle.tsp.proofs.Components.{before, nodes-append}
-
-pub oid_of-oid_content : (a : List ℕ) → IsOid a → oid_of (oid_content a) ≡ Some a
-oid_of-oid_content a h = ?
 
 pub integer_of-integer : (z : ℤ) → integer_of (integer z) ≡ Some z
 unfolding integer_of number_of
@@ -29,7 +27,7 @@ boolean_of-boolean false = refl
 
 pub oid_in-object_identifier : (a : List ℕ) → IsOid a → oid_in (object_identifier a) ≡ Some a
 unfolding oid_in
-oid_in-object_identifier a h = oid_of-oid_content a h
+oid_in-object_identifier a h = oid_of-content a h
 
 -- an optional component that is there
 pub optional_at-some : {A : Type 0} (tag : ℕ) (read : Node → Option A) (n : Node) (x : A) (rest : Nodes) → identifier_of n ≡ tag → read n ≡ Some x → optional_at tag read (node n rest) ≡ Some (Some x, rest)

@@ -9,15 +9,13 @@ use Rattle.der.specs.Node.{Node, primitive, constructed, Nodes, no_nodes, node, 
 use Rattle.der.specs.Tree.{nodes}
 use Rattle.der.specs.Number.{is_shortest, twos_value, number_content}
 use Rattle.der.specs.ObjectIdentifier.{IsOid, oid_content, oid_of}
-use Rattle.der.proofs.Number.{number_content-twos_value}
+use Rattle.der.proofs.NumberContents.{number_content-twos_value}
+use Rattle.der.proofs.OidContents.{oid_of-some}
 use Rattle.tsp.specs.Grammar.{integer, boolean, octet_string, object_identifier, sequence, optional, false_by_default}
 use Rattle.tsp.specs.Request.{ImprintValue, ExtensionValue, RequestValue, IsRequest, Stated, algorithm_identifier, message_imprint, extension, extension_nodes, extensions_under, request}
 use Rattle.tsp.specs.Reading.{number_of, integer_of, truth_of, boolean_of, oid_in, only, optional_of, optional_at, flag_at, parameters_of, algorithm_of, imprint_of, extension_of, extensions_of, some_extensions, extension_list_of, extensions_at, request_of}
 use Rattle.tsp.proofs.Components.{before, nodes-append, contents_takes, components_takes, front_takes}
 use Rattle.tsp.proofs.RequestReads.{request_tail}
-
-pub oid_of_takes : (octets a : List ℕ) → oid_of octets ≡ Some a → IsOid a × (octets ≡ oid_content a)
-oid_of_takes octets a e = ?
 
 pub number_takes : (octets : List ℕ) (z : ℤ) → AreOctets octets → number_of octets ≡ Some z → octets ≡ number_content z
 unfolding number_of
@@ -53,7 +51,7 @@ boolean_takes n b e = option_and_then_some truth_of (contents_of 1 n) b e (λ oc
 pub oid_takes : (n : Node) (a : List ℕ) → oid_in n ≡ Some a → IsOid a × (n ≡ object_identifier a)
 unfolding oid_in
 oid_takes n a e = option_and_then_some oid_of (contents_of 6 n) a e (λ octets p q.
-    let is = oid_of_takes octets a q in
+    let is = oid_of-some octets a q in
     (is.0, contents_takes 6 n octets p ∙ ap (primitive 6) is.1))
 
 only_takes : {A : Type 0} (ns : Nodes) (x y : A) → only ns x ≡ Some y → (ns ≡ no_nodes) × (x ≡ y)

@@ -5,7 +5,8 @@ use Rattle.der.specs.Node.{Node, primitive, constructed, Nodes, no_nodes, node, 
 use Rattle.der.specs.Tree.{nodes}
 use Rattle.der.specs.Number.{number_content}
 use Rattle.der.specs.ObjectIdentifier.{IsOid, oid_content}
-use Rattle.der.proofs.Number.{octets-number_content, length-magnitude}
+use Rattle.der.proofs.NumberContents.{octets-number_content, length-magnitude}
+use Rattle.der.proofs.OidContents.{octets-oid_content, length-oid_content}
 use Rattle.gentime.specs.GenTime.{text_of, last_moment}
 use Rattle.gentime.proofs.Texts.{text_of_short}
 use Rattle.tsp.specs.Grammar.{integer, boolean, octet_string, object_identifier, sequence, optional, false_by_default}
@@ -16,7 +17,7 @@ use Rattle.tsp.proofs.Sizes.{IsWithin, AreWithin, wider, within_none, within_nod
 use Rattle.tsp.proofs.RequestReads.{request_tail}
 
 oid_is_short : (a : List ℕ) → IsOid a → AreOctets (oid_content a) × (length (oid_content a) ≤ 608)
-oid_is_short a h = ?
+oid_is_short a h = (octets-oid_content a, omega (arith, length-oid_content a h))
 
 -- a number below 2 ^ 63 has at most eight octets
 number_is_short : (n : ℕ) → n < 9223372036854775808 → length (number_content (pos n)) ≤ 8
