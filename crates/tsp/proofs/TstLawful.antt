@@ -20,7 +20,7 @@ oid_is_short : (a : List ℕ) → IsOid a → AreOctets (oid_content a) × (leng
 oid_is_short a h = (octets-oid_content a, omega (arith, length-oid_content a h))
 
 -- a number below 2 ^ 63 has at most eight octets
-number_is_short : (n : ℕ) → n < 9223372036854775808 → length (number_content (pos n)) ≤ 8
+pub number_is_short : (n : ℕ) → n < 9223372036854775808 → length (number_content (pos n)) ≤ 8
 unfolding number_content
 number_is_short n small = length-magnitude 7 n (omega arith)
 
