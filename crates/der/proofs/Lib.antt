@@ -9,3 +9,4 @@ pub mod ReadingNodes
 pub mod ReadingRuns
 pub mod ReadingTree
 pub mod EncodingBounds
+pub mod TreeViews

@@ -10,5 +10,8 @@ mod writer;
 pub use fault::DerFault;
 pub use read::read_tree;
 pub use tag::Tag;
-pub use tree::{Tree, encodings_are_bounded, trees_have_one_encoding};
+pub use tree::{
+    Components, Tree, components_under, contents_under, encodings_are_bounded,
+    trees_have_one_encoding,
+};
 pub use writer::Writer;
