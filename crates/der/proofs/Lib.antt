@@ -13,3 +13,4 @@ pub mod ReadingNodes
 pub mod ReadingRuns
 pub mod ReadingTree
 pub mod EncodingBounds
+pub mod TreeViews
