@@ -1,12 +1,11 @@
 -- A moment and the parts of its time name each other.
-use Rattle.std.proofs.Common.{◌≡◌, ℕ, ◌+◌, ◌*◌, ◌/◌, ◌%◌, ◌<◌, ◌≤◌, List, length, refl, sym, ap, ◌∙◌, arith, ℤ, pos, ◌≤ℤ◌}
-use Rattle.std.proofs.lemmas.Int.{by_lt_z}
+use Rattle.std.proofs.Common.{◌≡◌, ℕ, ◌+◌, ◌*◌, ◌/◌, ◌%◌, ◌<◌, ◌≤◌, List, refl, sym, ap, ◌∙◌, arith, pos}
 use Rattle.gentime.specs.Calendar.{CivilDate, civil_date}
 use Rattle.gentime.specs.Fraction.{micros_of}
-use Rattle.gentime.specs.GenTime.{last_moment, round_down, GeneralizedTime, fraction_of, IsFraction, IsFormed, IsTime, IsCounted, States, spelling, time_of, text_of}
-use Rattle.gentime.proofs.Days.{civil_date_is, civil_date_of}
+use Rattle.gentime.specs.GenTime.{last_moment, round_down, GeneralizedTime, IsFormed, IsTime, IsCounted, States, spelling, time_of, text_of}
+use Rattle.gentime.proofs.Days.{civil_date_is}
 use Rattle.gentime.proofs.Fractions.{micros_of-fraction_of, micros_of_bound, fraction_of-micros_of}
-use Rattle.gentime.proofs.Pairs.{pairs_at_stated}
+use Rattle.gentime.proofs.Pairs.{stated_once}
 use Rattle.gentime.proofs.Texts.{time_of_formed, length-fraction_of_time}
 use Rattle.jiff_core.specs.Calendar.{day_count}
 
@@ -101,3 +100,13 @@ year_of_time moment = (civil_date_is (moment / 86_400_000_000)).from
 
 pub time_of_counted : (moment : ℕ) → IsCounted (time_of moment)
 time_of_counted moment = record { year = year_of_time moment; micros = length-fraction_of_time moment }
+
+-- two moments with one text are one moment
+pub same_text : (m n : ℕ) → m ≤ last_moment → n ≤ last_moment → text_of 6 m ≡ text_of 6 n → m ≡ n
+same_text m n h k e =
+    same_moment m n (stated_once (text_of 6 m) (time_of m) (time_of n) (states_time_of (text_of 6 m) m h refl) (states_time_of (text_of 6 m) n k e))
+
+pub text_of_rounded : (digits moment : ℕ) → text_of digits moment ≡ text_of 6 (round_down digits moment)
+unfolding text_of
+text_of_rounded digits moment =
+    ap (λ rounded. spelling (time_of rounded)) (sym (round_down-six (round_down digits moment)))

@@ -1,11 +1,11 @@
 -- What is read from the front of a text is what it states, and nothing else is.
-use Rattle.std.proofs.Common.{◌≡◌, ◌≢◌, ℕ, zero, suc, ◌-◌, ◌+◌, ◌*◌, ◌/◌, ◌%◌, ◌<◌, ◌≤◌, ◌&&◌, Bool, true, false, cond, List, [], ◌∷◌, ◌++◌, length, get_or, Option, Some, None, refl, sym, ap, ◌∙◌, subst, arith, append_assoc}
+use Rattle.std.proofs.Common.{◌≡◌, ℕ, zero, suc, ◌-◌, ◌+◌, ◌*◌, ◌/◌, ◌%◌, ◌<◌, ◌≤◌, ◌&&◌, true, cond, List, [], ◌∷◌, ◌++◌, length, get_or, Option, Some, None, refl, sym, ap, ◌∙◌, subst, arith}
 use Rattle.std.proofs.lemmas.Bool.Decides.{nat_tests}
-use Rattle.std.proofs.lemmas.Grind.{common_steps}
 use Rattle.std.proofs.lemmas.Option.{option_and_then_some, cond_some, same_Some, some_pair_parts, none-some}
-use Rattle.std.specs.Char.{is_ascii_digit, IsAsciiDigit}
+use Rattle.std.proofs.lemmas.List.{append_cancel_right}
+use Rattle.std.specs.Char.{is_ascii_digit}
 use Rattle.std.specs.List.{AllByRecursion, flat_map}
-use Rattle.gentime.specs.GenTime.{GeneralizedTime, digit, two_digits, point_and, pairs_of, spelling, without_trailing_zeros, IsFraction, IsFormed, States}
+use Rattle.gentime.specs.GenTime.{GeneralizedTime, digit, two_digits, point_and, pairs_of, spelling, IsFraction, States}
 use Rattle.gentime.specs.Pairs.{pair_at, pairs_at}
 
 abbrev IsPair : ℕ → Type 0
@@ -129,3 +129,19 @@ states_with octets pairs rest fraction e f r =
       };
       spelled = rw (high, low) (q.0 ∙ ap (λ ps. flat_map two_digits ps ++ rest) seven_pairs ∙ ap (λ xs. flat_map two_digits (get_or pairs 0 0 ∷ get_or pairs 1 0 ∷ get_or pairs 2 0 ∷ get_or pairs 3 0 ∷ get_or pairs 4 0 ∷ get_or pairs 5 0 ∷ get_or pairs 6 0 ∷ []) ++ xs) r);
     }
+
+point_and_injective : (a b : List ℕ) → point_and a ≡ point_and b → a ≡ b
+point_and_injective [] [] e = refl
+point_and_injective [] (y ∷ ys) e = absurd (cc)
+point_and_injective (x ∷ xs) [] e = absurd (cc)
+point_and_injective (x ∷ xs) (y ∷ ys) e = cc
+
+fraction_stated : (a b : List ℕ) → point_and a ++ 90 ∷ [] ≡ point_and b ++ 90 ∷ [] → a ≡ b
+fraction_stated a b e = point_and_injective a b (append_cancel_right (point_and a) (point_and b) (90 ∷ []) e)
+
+-- octets state one time at most
+pub stated_once : (octets : List ℕ) (a b : GeneralizedTime) → States octets a → States octets b → a ≡ b
+stated_once octets a b s t =
+    let same = some_stated octets (pairs_of b) (point_and b.fraction ++ 90 ∷ []) a (sym (pairs_at_stated octets b t)) s in
+    sym (time_with-pairs_of (pairs_of b) b.fraction a same.0 (fraction_stated b.fraction a.fraction same.1))
+    ∙ time_with-pairs_of (pairs_of b) b.fraction b refl refl

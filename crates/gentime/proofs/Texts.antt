@@ -139,7 +139,7 @@ length-spelling time =
     let e = length-octets_of_fraction time.fraction in
     (omega (arith, e), omega (arith, e))
 
-round_down_bound : (digits moment : ℕ) → round_down digits moment ≤ moment
+pub round_down_bound : (digits moment : ℕ) → round_down digits moment ≤ moment
 round_down_bound digits moment = grind arith
 
 pub length-fraction_of_time : (moment : ℕ) → length (time_of moment).fraction ≤ 6

@@ -10,5 +10,5 @@ mod reading;
 mod tests;
 
 pub use fault::GenTimeFault;
-pub use laws::texts_are_short;
+pub use laws::{texts_are_distinct, texts_are_rounded, texts_are_short};
 pub use moment::{GenTime, read};

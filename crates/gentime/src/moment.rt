@@ -14,7 +14,7 @@ const LAST: i64 = 253_402_300_799_999_999;
 
 /// A moment from 1970-01-01T00:00:00Z to 9999-12-31T23:59:59.999999Z: whole microseconds since the first, without leap
 /// seconds.
-#[derive(Clone, Copy, Debug, PartialEq, Eq, PartialOrd, Ord)]
+#[derive(Clone, Copy, Debug, PartialEq, Eq, PartialOrd, Ord, Hash)]
 pub struct GenTime {
     micros: u64,
 }
@@ -38,9 +38,13 @@ impl Model for GenTime {
 pub fn read(octets: &[u8]) -> Result<GenTime, GenTimeFault>
     ensures text { IfOk result (λ moment. octets.now ≡ text_of 6 moment) }
     ensures moment { (moment : ℕ) → moment ≤ last_moment → octets.now ≡ text_of 6 moment → result ≡ Ok moment }
+
+    // The first refusal that holds.
     ensures form { IsErrOf result GenTimeFault.Form ↔ ((time : GeneralizedTime) → ¬ States octets.now time) }
-    ensures date { IsErrOf result GenTimeFault.Date ↔ ((time : GeneralizedTime) × States octets.now time × ¬ IsTime time) }
-    ensures range { IsErrOf result GenTimeFault.Range ↔ ((time : GeneralizedTime) × States octets.now time × IsTime time × ¬ IsCounted time) }
+    ensures date { IsErrOf result GenTimeFault.Date
+        ↔ ((time : GeneralizedTime) × States octets.now time × ¬ IsTime time) }
+    ensures range { IsErrOf result GenTimeFault.Range
+        ↔ ((time : GeneralizedTime) × States octets.now time × IsTime time × ¬ IsCounted time) }
     ensures memory { ¬ IsErrOf result GenTimeFault.Memory }
 {
     let time = Components::read(octets).ok_or(GenTimeFault::Form)?;

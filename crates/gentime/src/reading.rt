@@ -56,7 +56,9 @@ impl<'a> Components<'a> {
             return None;
         }
         let day = u64::from(days_since_1970(date));
-        let seconds = u64::from(self.hour) * 3_600 + u64::from(self.minute) * 60 + u64::from(self.second);
+        let seconds = u64::from(self.hour) * 3_600
+            + u64::from(self.minute) * 60
+            + u64::from(self.second);
         Some((day * 86_400 + seconds) * 1_000_000 + u64::from(micros_of(self.fraction)))
     }
 }
