@@ -9,6 +9,6 @@ mod tree;
 
 pub use fault::DerFault;
 pub use number::{is_number_content, numbers_have_one_content, whole_number_content};
-pub use oid::{Oid, is_oid_content};
+pub use oid::{Oid, is_oid_content, oids_have_one_content_and_text};
 pub use tag::Tag;
 pub use tree::Tree;
