@@ -157,3 +157,6 @@ pub fn read_tree(alloc: Global, bytes: &[u8]) -> Result<Tree, DerFault>
     }
     Ok(tree)
 }
+
+#[cfg(test)]
+mod tests;

@@ -115,3 +115,6 @@ pub fn encodings_are_bounded()
     ensures at_most { (n : Node) → IsFormed n → length (encoding n) ≤ length (contents_octets n) + 5 }
     ensures ends { (m n : Node) (x y : List ℕ) → IsFormed m → IsFormed n → encoding m ++ x ≡ encoding n ++ y → (m ≡ n) × (x ≡ y) }
 {}
+
+#[cfg(test)]
+mod tests;

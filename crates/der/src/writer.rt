@@ -165,3 +165,6 @@ fn push_length(octets: &mut Vec<u8>, count: u32) -> Result<(), AllocError>
     }
     Ok(())
 }
+
+#[cfg(test)]
+mod tests;
