@@ -1,4 +1,8 @@
-ghost use Rattle.std.specs.Prelude.{◌≡◌, ◌≤◌};
+ghost use Rattle.std.specs.Prelude.{◌≡◌, ◌≢◌, ◌≤◌, ◌⊎◌};
+ghost use Rattle.clap.specs.Words.{kind_of};
+
+#[cfg(test)]
+mod tests;
 
 use crate::fault::{Fault, InputFault};
 use crate::input::read_octets;
@@ -54,7 +58,14 @@ pub fn run_words<I: Read, O: Write, E: Write>(
     output: &mut O,
     errors: &mut E,
 ) -> u8
-    ensures { result ≤ 2 }
+    ensures status { result ≤ 2 }
+
+    // Where all is done, no fault is written.
+    ensures silent { result ≡ 0 → E.contents errors.new ≡ E.contents errors.old }
+
+    // Words that aren't understood read nothing, and write to `errors` alone.
+    ensures unread { result ≡ 2 → I.remaining input.new ≡ I.remaining input.old }
+    ensures unwritten { result ≡ 2 → O.contents output.new ≡ O.contents output.old }
 {
     match Word::parse(rt.alloc(), words) {
         Ok(word) => match run_word(rt.alloc(), &word, input, output) {
@@ -99,7 +110,16 @@ fn report<E: Write>(fault: Fault, errors: &mut E) -> u8
 
 /// Writes why there are no words to run: help to standard output, a mistake to standard error.
 fn explain<O: Write, E: Write>(error: &clap::Error, output: &mut O, errors: &mut E) -> u8
-    ensures { result ≤ 2 }
+    ensures status { result ≤ 2 }
+    ensures silent { result ≡ 0 → E.contents errors.new ≡ E.contents errors.old }
+    ensures unwritten { result ≡ 2 → O.contents output.new ≡ O.contents output.old }
+
+    // Words are refused where clap says so, and help is shown where it was asked for.
+    ensures refused { result ≡ 2 → (kind_of error.now ≢ ErrorKind.DisplayHelp)
+        × (kind_of error.now ≢ ErrorKind.DisplayVersion) }
+    ensures shown { result ≡ 0 → (kind_of error.now ≡ ErrorKind.DisplayHelp)
+        ⊎ (kind_of error.now ≡ ErrorKind.DisplayVersion) }
+    ensures memory { kind_of error.now ≡ ErrorKind.OutOfMemory → result ≡ 1 }
 {
     if error.kind() == ErrorKind::OutOfMemory {
         return report(Fault::Input(InputFault::Memory), errors);
