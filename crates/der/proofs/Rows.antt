@@ -1,10 +1,10 @@
 -- The definitions, computed on octets that are known from elsewhere.
-use Rattle.std.proofs.Common.{◌≡◌, ℤ, pos, negsuc, List, [], ◌∷◌, ◌++◌, refl, Result, Ok, Err, replicate}
-use Rattle.der.specs.Node.{Node, primitive, constructed, Nodes, no_nodes, node, encoding, length_octets}
+use Rattle.std.proofs.Common.{◌≡◌, pos, negsuc, [], ◌∷◌, refl, Ok, Err}
+use Rattle.der.specs.Node.{Node, primitive, constructed, no_nodes, node, encoding, length_octets}
 use Rattle.der.specs.Number.{number_content, twos_value}
 use Rattle.der.specs.ObjectIdentifier.{oid_content, oid_text, subidentifier_octets, decimal}
 use Rattle.der.specs.Reading.{tree_of, node_at, node_of, nodes_with, element_at, identifier_at, length_at, contents_at, long_length}
-use Rattle.der.specs.declared.fault.DerFault.TheVariants.{Truncated, LengthForm, HighTag, TooDeep, Trailing}
+use Rattle.der.specs.declared.fault.DerFault.TheVariants.{Truncated, LengthForm, HighTag, Trailing}
 
 -- 201 is 81 C9 (X.690 8.1.3.5's example)
 length_of_201 : length_octets 201 ≡ 129 ∷ 201 ∷ []

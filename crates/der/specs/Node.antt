@@ -1,5 +1,5 @@
 -- Values under the Distinguished Encoding Rules, and their one encoding (X.690 8.1 and 10.1).
-use Rattle.std.specs.Prelude.{◌≡◌, ℕ, zero, suc, max, ◌+◌, ◌/◌, ◌%◌, ◌^◌, ◌<◌, ◌≤◌, Bool, true, false, if◌then◌else◌, nat_lt, List, [], ◌∷◌, ◌++◌, length}
+use Rattle.std.specs.Prelude.{◌≡◌, ℕ, suc, max, ◌+◌, ◌/◌, ◌%◌, ◌^◌, ◌<◌, ◌≤◌, ◌==◌, Bool, true, false, if◌then◌else◌, nat_lt, List, [], ◌∷◌, ◌++◌, length, Option, Some, None}
 use Rattle.std.specs.List.{AllByRecursion}
 use Rattle.std.specs.Int.Digits.{digits_of}
 
@@ -34,6 +34,40 @@ abbrev mutual
   pub encodings : Nodes → List ℕ
   encodings no_nodes = []
   encodings (node first others) = encoding first ++ encodings others
+
+-- a value's contents octets
+abbrev pub contents_octets : Node → List ℕ
+contents_octets (primitive identifier contents) = contents
+contents_octets (constructed identifier components) = encodings components
+
+abbrev pub identifier_of : Node → ℕ
+identifier_of (primitive identifier contents) = identifier
+identifier_of (constructed identifier components) = identifier
+
+-- the contents octets of a value under that identifier octet that isn't made of further values
+abbrev pub contents_of : ℕ → Node → Option (List ℕ)
+contents_of wanted (primitive identifier contents) = if identifier == wanted then Some contents else None
+contents_of wanted (constructed identifier components) = None
+
+-- the values inside a value under that identifier octet
+abbrev pub components_of : ℕ → Node → Option Nodes
+components_of wanted (primitive identifier contents) = None
+components_of wanted (constructed identifier components) = if identifier == wanted then Some components else None
+
+-- the first of values, and those after it
+abbrev pub first_of : Nodes → Option (Node × Nodes)
+first_of no_nodes = None
+first_of (node first others) = Some (first, others)
+
+-- the first of values where it is under that identifier octet, and those that are left
+abbrev pub take_under : ℕ → Nodes → Option Node × Nodes
+take_under wanted no_nodes = (None, no_nodes)
+take_under wanted (node first others) =
+    if identifier_of first == wanted then (Some first, others) else (None, node first others)
+
+abbrev pub is_end : Nodes → Bool
+is_end no_nodes = true
+is_end (node first others) = false
 
 -- how many levels a value has: itself is one
 abbrev mutual

@@ -1,5 +1,5 @@
 -- The contents octets of an INTEGER (X.690 8.3).
-use Rattle.std.specs.Prelude.{◌≡◌, ℕ, ◌-◌, ◌<◌, ◌≤◌, ℤ, pos, negsuc, if◌then◌else◌, nat_lt, List, [], ◌∷◌, length, map}
+use Rattle.std.specs.Prelude.{◌≡◌, ℕ, ◌-◌, ◌<◌, ◌≤◌, ℤ, pos, negsuc, Bool, true, false, ◌==◌, if◌then◌else◌, nat_lt, nat_le, List, [], ◌∷◌, length, map}
 use Rattle.std.specs.Int.Digits.{digits_of, number_from_digits}
 use Rattle.der.specs.Node.{AreOctets}
 
@@ -31,3 +31,10 @@ with_sign (first ∷ others) = if nat_lt first 128 then first ∷ others else 0 
 unfoldable pub number_content : ℤ → List ℕ
 number_content (pos n) = with_sign (digits_of 256 n)
 number_content (negsuc n) = complement (with_sign (digits_of 256 n))
+
+-- At least one octet, and where there are more, the first nine bits are not all equal (X.690 8.3.2).
+abbrev pub is_shortest : List ℕ → Bool
+is_shortest [] = false
+is_shortest (octet ∷ []) = true
+is_shortest (first ∷ second ∷ others) =
+    if first == 0 then nat_le 128 second else (if first == 255 then nat_lt second 128 else true)

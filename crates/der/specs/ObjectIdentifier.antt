@@ -1,6 +1,7 @@
 -- Object identifiers: contents octets (X.690 8.19) and dotted text (RFC 3061 section 2's form of numbers joined by dots).
-use Rattle.std.specs.Prelude.{◌≡◌, ℕ, ◌+◌, ◌-◌, ◌*◌, ◌^◌, ◌<◌, ◌≤◌, ◌==◌, if◌then◌else◌, nat_lt, List, [], ◌∷◌, ◌++◌, length, map}
-use Rattle.std.specs.List.{AllByRecursion, flat_map}
+use Rattle.std.specs.Prelude.{◌≡◌, ℕ, ◌+◌, ◌-◌, ◌*◌, ◌^◌, ◌<◌, ◌≤◌, Bool, ◌&&◌, ◌==◌, if◌then◌else◌, nat_lt, nat_le, List, [], ◌∷◌, ◌++◌, length, map, Option, Some, None}
+use Rattle.std.specs.List.{AllByRecursion, flat_map, list_all}
+use Rattle.std.specs.Str.{bytes_eq}
 use Rattle.std.specs.Int.Digits.{digits_of}
 
 -- An object identifier is its subidentifiers, of which the first is 40 * X + Y for the arcs X and Y (X.690 8.19.4).
@@ -23,6 +24,33 @@ subidentifier_octets n = if nat_lt n 128 then n ∷ [] else with_continuation (d
 -- the contents octets of an object identifier
 abbrev pub oid_content : List ℕ → List ℕ
 oid_content subidentifiers = flat_map subidentifier_octets subidentifiers
+
+-- The subidentifiers that octets are, with n read of the first: seven bits of each octet, and an octet below 128 is a
+-- subidentifier's last (X.690 8.19.2).
+abbrev pub subidentifiers_after : ℕ → List ℕ → List ℕ
+subidentifiers_after n [] = []
+subidentifiers_after n (octet ∷ octets) =
+    if nat_lt octet 128 then (n * 128 + octet) ∷ subidentifiers_after 0 octets
+    else subidentifiers_after (n * 128 + (octet - 128)) octets
+
+unfoldable pub subidentifiers_of : List ℕ → List ℕ
+subidentifiers_of octets = subidentifiers_after 0 octets
+
+-- The octets are the contents of an object identifier, the one of the subidentifiers that they are read as.
+pub record IsOidContent (octets : List ℕ) : Type 0 where
+  pub oid : IsOid (subidentifiers_of octets)
+  pub same : oid_content (subidentifiers_of octets) ≡ octets
+
+-- whether numbers are an object identifier
+abbrev pub is_oid : List ℕ → Bool
+is_oid subidentifiers =
+    nat_le 1 (length subidentifiers) && nat_le (length subidentifiers) 32 && list_all (λ subidentifier. nat_lt subidentifier (2 ^ 128)) subidentifiers
+
+-- the object identifier whose contents the octets are, where they are any's
+unfoldable pub oid_of : List ℕ → Option (List ℕ)
+oid_of octets =
+    if is_oid (subidentifiers_of octets) && bytes_eq (oid_content (subidentifiers_of octets)) octets then Some (subidentifiers_of octets)
+    else None
 
 -- a number in decimal digits, without leading zeros
 unfoldable pub decimal : ℕ → List ℕ

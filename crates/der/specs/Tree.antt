@@ -1,6 +1,8 @@
 -- The value that a `Tree` is.
-use Rattle.std.specs.Prelude.{List, [], ◌∷◌}
+use Rattle.std.specs.Prelude.{◌≡◌, List, [], ◌∷◌, map, Result, Ok, Err}
 use Rattle.der.specs.Node.{Node, primitive, constructed, Nodes, no_nodes, node}
+use Rattle.der.specs.declared.fault.DerFault.{DerFault}
+use Rattle.der.specs.declared.fault.DerFault.TheVariants.{Memory}
 use Rattle.der.specs.declared.tree.Tree.{Tree, fold-Tree}
 use Rattle.der.specs.declared.tree.Tree.TheOpen.{Tree-F}
 
@@ -16,3 +18,11 @@ view_step (Tree-F.Constructed tag components) = constructed tag.octet (nodes com
 
 abbrev pub view : Tree → Node
 view = fold-Tree Node view_step
+
+abbrev pub components_view : List Tree → Nodes
+components_view trees = nodes (map view trees)
+
+-- a reader of octets that are this value's encoding answers the value, unless memory ran out
+abbrev pub IsRead : Result Tree DerFault → Node → Type 0
+IsRead (Ok tree) n = view tree ≡ n
+IsRead (Err fault) n = fault ≡ Memory

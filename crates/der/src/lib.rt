@@ -2,9 +2,20 @@
 #![tactic(auto)]
 
 mod fault;
+mod read;
+mod number;
+mod oid;
 mod tag;
 mod tree;
+mod writer;
 
 pub use fault::DerFault;
+pub use read::read_tree;
+pub use number::{is_number_content, numbers_have_one_content, whole_number_content};
+pub use oid::{Oid, is_oid_content};
 pub use tag::Tag;
-pub use tree::Tree;
+pub use tree::{
+    Components, Tree, components_under, contents_under, encodings_are_bounded,
+    trees_have_one_encoding,
+};
+pub use writer::Writer;

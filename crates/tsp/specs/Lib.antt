@@ -1,6 +1,9 @@
 pub mod Fault
+pub mod Gives
 pub mod Grammar
+pub mod Reading
+pub mod Rejection
 pub mod Request
 pub mod Rules
-pub mod Rejection
-
+pub mod Tst
+pub mod View

@@ -2,9 +2,18 @@
 #![tactic(auto)]
 
 mod fault;
+mod imprint;
+mod integer;
 mod rejection;
+mod request;
 mod rule;
+mod tst;
+mod writing;
 
 pub use fault::TspFault;
+pub use imprint::{Extension, MessageImprint};
+pub use integer::Integer;
 pub use rejection::Rejection;
+pub use request::Request;
 pub use rule::Rule;
+pub use tst::TstInfo;

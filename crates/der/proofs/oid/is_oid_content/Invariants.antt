@@ -1,0 +1,5 @@
+use Rattle.der.proofs.OidReading.{IsReadSoFar}
+use Rattle.der.proofs.oid.is_oid_content.Given as goal
+
+abbrev pub invariant-loop-octet : goal.invariant-loop-octet
+invariant-loop-octet l = IsReadSoFar l.content l.octet-index l.subidentifier l.count

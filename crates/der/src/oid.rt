@@ -1,0 +1,185 @@
+ghost use Rattle.std.specs.Prelude.{◌≡◌, ℕ, ◌+◌, ◌*◌, ◌<◌, ◌≤◌, ◌↔◌, ◌⊎◌, nat_eq, List, [], length, Option, Some, None, IfOk, IfErr, MatchResult, IsTrue, IsSome, IfSome, IsNone};
+ghost use Rattle.std.specs.Option.{is_some};
+ghost use Rattle.std.specs.Cmp.Lexicographic.{pointwise};
+ghost use Rattle.std.proofs.lemmas.Cmp.{nat_list_eq_equiv};
+ghost use Rattle.std.specs.Cmp.{partial_equiv_from_equiv};
+ghost use Rattle.der.specs.Node.{AreOctets};
+ghost use Rattle.der.specs.ObjectIdentifier.{IsOid, IsOidContent, oid_content, subidentifiers_of, oid_of};
+ghost use Rattle.der.specs.declared.fault.DerFault.TheVariants.{BadValue, Memory};
+
+use crate::fault::DerFault;
+use std::alloc::{AllocError, Global};
+use std::marker::Model;
+
+/// An OBJECT IDENTIFIER (X.690 8.19): 1 to 32 subidentifiers, each below 2^128, of which the first is 40 * X + Y for the
+/// arcs X and Y. The value keeps its contents octets, so that comparing and lending them takes no memory.
+#[derive(Drop, Debug)]
+pub struct Oid {
+    content: Vec<u8>,
+}
+
+impl Model for Oid {
+    ghost use Rattle.std.specs.Prelude.{ℕ, List};
+    ghost use Rattle.der.specs.ObjectIdentifier.{subidentifiers_of, IsOidContent};
+
+    ghost Value = { List ℕ };
+
+    ghost view = { λ oid. subidentifiers_of oid.content.items };
+
+    ghost invariant = { λ oid. IsOidContent oid.content.items };
+}
+
+impl Oid {
+    /// The object identifier whose contents octets these are (X.690 8.19), moved in; none where they are no object
+    /// identifier's. Takes no memory.
+    pub fn from_owned_content(content: Vec<u8>) -> Option<Oid>
+        ensures read { result ≡ oid_of content.items }
+        ensures found { IfSome result (λ oid. IsOid oid × (content.items ≡ oid_content oid)) }
+        ensures none { IsNone result → (subidentifiers : List ℕ) → IsOid subidentifiers
+            → content.items ≡ oid_content subidentifiers → ⊥ }
+    {
+        if is_oid_content(&content) {
+            Some(Oid { content })
+        } else {
+            None
+        }
+    }
+
+    /// The object identifier whose contents octets these are (X.690 8.19). Refused with `BadValue` where they are no
+    /// object identifier's, and with `Memory` where memory runs out.
+    pub fn from_content(alloc: Global, content: &[u8]) -> Result<Oid, DerFault>
+        ensures found { IfOk result (λ oid. IsOid oid × (content.now ≡ oid_content oid)) }
+        ensures only { (subidentifiers : List ℕ) → IsOid subidentifiers → content.now ≡ oid_content subidentifiers
+            → MatchResult result (λ oid. oid ≡ subidentifiers) (λ e. e ≡ Memory) }
+        ensures refusals { IfErr result (λ e. (e ≡ BadValue) ⊎ (e ≡ Memory)) }
+    {
+        if !is_oid_content(content) {
+            return Err(DerFault::BadValue);
+        }
+        Ok(Oid {
+            content: Vec::from_slice(alloc, content)?,
+        })
+    }
+
+    /// The contents octets (X.690 8.19), 1 to 608 of them. Takes no memory.
+    pub fn content(&self) -> &[u8]
+        ensures encoded { result.now ≡ oid_content self.now }
+        ensures oid { IsOid self.now }
+    {
+        self.content.as_slice()
+    }
+}
+
+impl PartialEq for Oid {
+    ghost eq = { pointwise nat_eq };
+
+    ghost laws = { partial_equiv_from_equiv nat_list_eq_equiv };
+
+    fn eq(&self, other: &Oid) -> bool {
+        self.content() == other.content()
+    }
+}
+
+impl Eq for Oid {
+    ghost laws = { nat_list_eq_equiv };
+}
+
+/// Whether octets are the contents of an object identifier: 1 to 32 subidentifiers below 2^128, each in the fewest
+/// octets in base 128, with bit 8 set on all octets but its last (X.690 8.19.2). Takes no memory.
+pub fn is_oid_content(content: &[u8]) -> bool
+    ensures content { IsTrue result ↔ IsOidContent content.now }
+    ensures read { result ≡ is_some (oid_of content.now) }
+{
+    // the subidentifier so far, and how many ended before it
+    let mut subidentifier: u128 = 0;
+    let mut count: usize = 0;
+    for octet in content {
+        if subidentifier >= 1 << 121 {
+            return false;
+        }
+        if *octet < 128 {
+            subidentifier = 0;
+            count += 1;
+        } else {
+            subidentifier = subidentifier * 128 + u128::from(*octet - 128);
+            // the first of the octets would be 80
+            if subidentifier == 0 {
+                return false;
+            }
+        }
+    }
+    match count {
+        1..=32 => subidentifier == 0,
+        _ => false,
+    }
+}
+
+#[cfg(test)]
+mod tests {
+    use super::*;
+    use std::test::Fail;
+
+    // 2.999 (X.690 8.19.5's example), 1.2.840.113549, 2.25.(2^128 - 1), 32 subidentifiers.
+    #[test]
+    fn takes_contents(rt: HostRuntime) -> Result<(), Fail> {
+        let cases: [&[u8]; 4] = [
+            &[0x88, 0x37],
+            &[0x2a, 0x86, 0x48, 0x86, 0xf7, 0x0d],
+            &[
+                0x69, 0x83, 255, 255, 255, 255, 255, 255, 255, 255, 255, 255, 255, 255, 255, 255,
+                255, 255, 255, 0x7f,
+            ],
+            &[1; 32],
+        ];
+        for (index, octets) in cases.iter().enumerate() {
+            let oid = Oid::from_content(rt.alloc(), octets)?;
+            assert_eq!(rt; oid.content(), *octets);
+            let owned = Oid::from_owned_content(Vec::from_slice(rt.alloc(), octets)?);
+            assert_eq!(rt; owned, Some(oid), "{index}");
+        }
+        Ok(())
+    }
+
+    // None, the last octet missing, 80 in front (of either), 2.25.(2^128), 33 subidentifiers.
+    #[test]
+    fn refuses_other_octets(rt: HostRuntime) -> Result<(), Fail> {
+        let cases: [&[u8]; 7] = [
+            &[],
+            &[0x88],
+            &[0x2a, 0x86],
+            &[0x80, 0x01],
+            &[0x2a, 0x80, 0x01],
+            &[
+                0x69, 0x84, 0x80, 0x80, 0x80, 0x80, 0x80, 0x80, 0x80, 0x80, 0x80, 0x80, 0x80, 0x80,
+                0x80, 0x80, 0x80, 0x80, 0x80, 0,
+            ],
+            &[1; 33],
+        ];
+        for (index, octets) in cases.iter().enumerate() {
+            assert!(rt; !is_oid_content(octets), "{index}");
+            assert_eq!(rt;
+                Oid::from_content(rt.alloc(), octets),
+                Err(DerFault::BadValue),
+                "{index}"
+            );
+            let owned = Oid::from_owned_content(Vec::from_slice(rt.alloc(), octets)?);
+            assert_eq!(rt; owned, None, "{index}");
+        }
+        Ok(())
+    }
+
+    #[test]
+    fn tells_others_apart(rt: HostRuntime) -> Result<(), Fail> {
+        let sha_256 = Oid::from_content(
+            rt.alloc(),
+            &[0x60, 0x86, 0x48, 0x01, 0x65, 0x03, 0x04, 0x02, 0x01],
+        )?;
+        let sha_384 = Oid::from_content(
+            rt.alloc(),
+            &[0x60, 0x86, 0x48, 0x01, 0x65, 0x03, 0x04, 0x02, 0x02],
+        )?;
+        assert!(rt; sha_256 != sha_384);
+        assert!(rt; sha_256 == sha_256);
+        Ok(())
+    }
+}

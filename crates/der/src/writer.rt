@@ -1,0 +1,167 @@
+//! Writing encodings from the inside outwards.
+ghost use Rattle.std.specs.Prelude.{◌≡◌, ℕ, ◌≤◌, ◌<◌, ◌^◌, ◌↔◌, ◌⊎◌, List, [], ◌++◌, length, OnOk, OnErr, IfOk, IfErr, IsTrue};
+ghost use Rattle.der.specs.Node.{element, length_octets, encoding, encodings, IsFormed, AreFormed};
+ghost use Rattle.der.specs.Tree.{view, components_view};
+ghost use Rattle.der.specs.declared.fault.DerFault.TheVariants.{TooLong, Memory};
+
+use crate::fault::DerFault;
+use crate::tag::Tag;
+use crate::tree::Tree;
+use std::alloc::{AllocError, Global};
+use std::marker::Model;
+
+/// Octets in the making. What is appended stands one after the other, until `wrap` makes all of it the contents of one
+/// value: a value is written from the inside outwards, so that its length is known when its length octets are due.
+///
+/// It keeps the allocator that it was made with. A refused call leaves it as it was.
+#[derive(Debug, Drop)]
+pub struct Writer {
+    alloc: Global,
+    octets: Vec<u8>,
+}
+
+impl Model for Writer {
+    ghost Value = { List ℕ };
+
+    ghost view = { λ writer. writer.octets.items };
+}
+
+impl Writer {
+    /// No octets so far. Takes no memory.
+    pub fn new(alloc: Global) -> Writer
+        ensures { result ≡ [] }
+    {
+        Writer {
+            alloc,
+            octets: Vec::new(alloc),
+        }
+    }
+
+    /// Puts octets after those written so far. Refused only for want of memory.
+    pub fn append(&mut self, octets: &[u8]) -> Result<(), DerFault>
+        ensures ok { OnOk result (self.new ≡ self.old ++ octets.now) }
+        ensures err { OnErr result (self.new ≡ self.old) }
+        ensures refusals { IfErr result (λ e. e ≡ Memory) }
+    {
+        self.octets.extend_from_slice(octets)?;
+        Ok(())
+    }
+
+    /// Makes all that was written so far the contents of one value: puts the identifier octet in front of it, and the
+    /// fewest length octets between (X.690 8.1.1, 8.1.3, 10.1).
+    ///
+    /// Refused as `TooLong` exactly where 2^24 octets or more were written, and else only for want of memory.
+    pub fn wrap(&mut self, tag: Tag) -> Result<(), DerFault>
+        ensures ok { OnOk result (self.new ≡ element tag.octet self.old) }
+        ensures err { OnErr result (self.new ≡ self.old) }
+        ensures too_long { (result ≡ Err TooLong) ↔ (2 ^ 24 ≤ length self.old) }
+        ensures refusals { IfErr result (λ e. (e ≡ TooLong) ⊎ (e ≡ Memory)) }
+    {
+        let count = self.octets.len();
+        if count >= 1 << 24 {
+            return Err(DerFault::TooLong);
+        }
+        let mut wrapped = Vec::with_capacity(self.alloc, count + 5)?;
+        wrapped.push(tag.octet)?;
+        push_length(&mut wrapped, count as u32)?;
+        wrapped.extend_from_slice(&self.octets)?;
+        self.octets = wrapped;
+        Ok(())
+    }
+
+    /// Puts a value's encoding after the octets written so far (X.690 8.1, 10.1).
+    ///
+    /// Refused as `TooLong` only where some contents in the value are 2^24 octets or more, and else only for want of
+    /// memory.
+    pub fn append_tree(&mut self, tree: &Tree) -> Result<(), DerFault>
+        ensures ok { OnOk result (self.new ≡ self.old ++ encoding (view tree.now)) }
+        ensures err { OnErr result (self.new ≡ self.old) }
+        ensures too_long { result ≡ Err TooLong → IsFormed (view tree.now) → ⊥ }
+        ensures refusals { IfErr result (λ e. (e ≡ TooLong) ⊎ (e ≡ Memory)) }
+    {
+        let encoded = Writer::encoded(self.alloc, tree)?;
+        self.append(encoded.as_slice())
+    }
+
+    /// A value's encoding.
+    #[cycle(encode)]
+    fn encoded(alloc: Global, tree: &Tree) -> Result<Writer, DerFault>
+        ensures ok { IfOk result (λ writer. writer ≡ encoding (view tree.now)) }
+        ensures too_long { result ≡ Err TooLong → IsFormed (view tree.now) → ⊥ }
+        ensures refusals { IfErr result (λ e. (e ≡ TooLong) ⊎ (e ≡ Memory)) }
+    {
+        match tree {
+            Tree::Primitive(tag, contents) => {
+                let mut writer = Writer::new(alloc);
+                writer.append(contents)?;
+                writer.wrap(*tag)?;
+                Ok(writer)
+            }
+            Tree::Constructed(tag, components) => {
+                let mut writer = Writer::all_encoded(alloc, components)?;
+                writer.wrap(*tag)?;
+                Ok(writer)
+            }
+        }
+    }
+
+    /// The encodings of values, one after the other.
+    #[cycle(encode)]
+    fn all_encoded(alloc: Global, trees: &Vec<Tree>) -> Result<Writer, DerFault>
+        ensures ok { IfOk result (λ writer. writer ≡ encodings (components_view trees.now.items)) }
+        ensures too_long { result ≡ Err TooLong → AreFormed (components_view trees.now.items) → ⊥ }
+        ensures refusals { IfErr result (λ e. (e ≡ TooLong) ⊎ (e ≡ Memory)) }
+    {
+        let mut writer = Writer::new(alloc);
+        for tree in trees {
+            let encoded = Writer::encoded(alloc, tree)?;
+            writer.append(encoded.as_slice())?;
+        }
+        Ok(writer)
+    }
+
+    /// How many octets were written.
+    pub fn len(&self) -> usize
+        ensures { result ≡ length self.now }
+    {
+        self.octets.len()
+    }
+
+    /// Whether no octet was written.
+    pub fn is_empty(&self) -> bool
+        ensures { IsTrue result ↔ (self.now ≡ []) }
+    {
+        self.octets.is_empty()
+    }
+
+    /// The octets written.
+    pub fn as_slice(&self) -> &[u8]
+        ensures { result.now ≡ self.now }
+    {
+        self.octets.as_slice()
+    }
+
+    /// The octets written, with their memory.
+    pub fn into_octets(self) -> Vec<u8>
+        ensures { result.items ≡ self }
+    {
+        self.octets
+    }
+}
+
+/// Writes the length octets of that many contents octets: one octet below 128, else how many follow and then the number
+/// in base 256.
+#[tactic(auto, using(crate::proofs::Lengths::length_octets_short, crate::proofs::Lengths::length_octets_one, crate::proofs::Lengths::length_octets_two, crate::proofs::Lengths::length_octets_three))]
+fn push_length(octets: &mut Vec<u8>, count: u32) -> Result<(), AllocError>
+    requires { count < 2 ^ 24 }
+    ensures { OnOk result (octets.new.items ≡ octets.old.items ++ length_octets count) }
+{
+    let [_, high, middle, low] = count.to_be_bytes();
+    match count {
+        0..=0x7f => octets.push(low)?,
+        0x80..=0xff => octets.extend_from_slice(&[0x81, low])?,
+        0x100..=0xffff => octets.extend_from_slice(&[0x82, middle, low])?,
+        _ => octets.extend_from_slice(&[0x83, high, middle, low])?,
+    }
+    Ok(())
+}

@@ -1,0 +1,7 @@
+use Rattle.std.proofs.Common.{◌≡◌, take}
+use Rattle.std.specs.List.{flat_map}
+use Rattle.gentime.specs.GenTime.{two_digits}
+use Rattle.gentime.proofs.components.Components.spell.Given as goal
+
+abbrev pub invariant-loop-pair : goal.invariant-loop-pair
+invariant-loop-pair l = l.text.items ≡ flat_map two_digits (take l.pair-index l.pair-items)

@@ -1,0 +1,94 @@
+-- Moments, and the genTime of a time-stamp (RFC 3161 2.4.2): a GeneralizedTime in DER (X.690 11.7).
+use Rattle.std.specs.Prelude.{◌≡◌, ℕ, ◌<◌, ◌+◌, ◌-◌, ◌*◌, ◌/◌, ◌%◌, ◌^◌, ◌==◌, List, [], ◌∷◌, ◌++◌, if◌then◌else◌}
+use Rattle.std.specs.Int.{IsInRange}
+use Rattle.std.specs.List.{flat_map, AllByRecursion}
+use Rattle.gentime.specs.Calendar.{civil_date}
+
+-- 9999-12-31T23:59:59.999999Z, in microseconds since 1970-01-01T00:00:00Z without leap seconds
+abbrev pub last_moment : ℕ
+last_moment = 253402300799999999
+
+-- a moment rounded down to that many digits of the fraction of its second
+abbrev pub round_down : ℕ → ℕ → ℕ
+round_down digits moment = moment / 10 ^ (6 - digits) * 10 ^ (6 - digits)
+
+-- the parts of a time; the fraction has the octets of its digits, from the tenths on
+pub record GeneralizedTime : Type 0 where
+  pub year : ℕ
+  pub month : ℕ
+  pub day : ℕ
+  pub hour : ℕ
+  pub minute : ℕ
+  pub second : ℕ
+  pub fraction : List ℕ
+
+-- the octet of a decimal digit
+abbrev pub digit : ℕ → ℕ
+digit n = 48 + n
+
+abbrev pub two_digits : ℕ → List ℕ
+two_digits n = digit (n / 10) ∷ digit (n % 10) ∷ []
+
+-- a point before the digits of a fraction, where there are any
+abbrev pub point_and : List ℕ → List ℕ
+point_and [] = []
+point_and (first ∷ others) = 46 ∷ first ∷ others
+
+-- YYYYMMDDhhmmss, the fraction, and Z
+unfoldable pub spelling : GeneralizedTime → List ℕ
+spelling time =
+    flat_map two_digits
+    (time.year / 100 ∷ time.year % 100 ∷ time.month ∷ time.day ∷ time.hour ∷ time.minute ∷ time.second ∷ [])
+    ++ (point_and time.fraction ++ 90 ∷ [])
+
+-- a digit before digits that end in no zero; a zero before none is left away
+abbrev pub digit_before : ℕ → List ℕ → List ℕ
+digit_before octet [] = if octet == digit 0 then [] else octet ∷ []
+digit_before octet (next ∷ others) = octet ∷ next ∷ others
+
+-- digits without the zeros at their end
+abbrev pub without_trailing_zeros : List ℕ → List ℕ
+without_trailing_zeros [] = []
+without_trailing_zeros (octet ∷ octets) = digit_before octet (without_trailing_zeros octets)
+
+-- the six digits of so many microseconds
+abbrev pub six_digits : ℕ → List ℕ
+six_digits micros = flat_map two_digits (micros / 10_000 ∷ micros / 100 % 100 ∷ micros % 100 ∷ [])
+
+-- the digits of a fraction of so many microseconds
+abbrev pub fraction_of : ℕ → List ℕ
+fraction_of micros = without_trailing_zeros (six_digits micros)
+
+-- the octet of one of the ten digits
+abbrev pub IsDigit : ℕ → Type 0
+IsDigit octet = IsInRange 48 57 octet
+
+-- parts that a text can state: numbers of four and two digits, and a fraction of digits that ends in no zero
+pub record IsFormed (time : GeneralizedTime) : Type 0 where
+  pub year : time.year < 10_000
+  pub month : time.month < 100
+  pub day : time.day < 100
+  pub hour : time.hour < 100
+  pub minute : time.minute < 100
+  pub second : time.second < 100
+  pub digits : AllByRecursion IsDigit time.fraction
+  pub no_zero : without_trailing_zeros time.fraction ≡ time.fraction
+
+-- the parts of the moment: its date, its time of day, and its fraction of a second
+unfoldable pub time_of : ℕ → GeneralizedTime
+time_of moment =
+    let date = civil_date (moment / 86_400_000_000) in
+    let seconds = moment % 86_400_000_000 / 1_000_000 in
+    record {
+      year = date.year;
+      month = date.month;
+      day = date.day;
+      hour = seconds / 3_600;
+      minute = seconds / 60 % 60;
+      second = seconds % 60;
+      fraction = fraction_of (moment % 1_000_000);
+    }
+
+-- the genTime of a moment to that many digits, as octets
+unfoldable pub text_of : ℕ → ℕ → List ℕ
+text_of digits moment = spelling (time_of (round_down digits moment))

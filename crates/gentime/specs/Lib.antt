@@ -1,0 +1,4 @@
+pub mod Calendar
+pub mod Components
+pub mod GenTime
+pub mod GenTimeFault

@@ -1,0 +1,90 @@
+//! A moment, as a clock counts it.
+
+ghost use Rattle.std.specs.Prelude.{◌≡◌, ◌↔◌, ◌≤◌, pos, ◌≤ℤ◌, IsOk, IfOk, IfErr};
+ghost use Rattle.gentime.specs.GenTime.{last_moment, round_down, text_of};
+ghost use Rattle.gentime.specs.declared.fault.GenTimeFault.TheVariants.{Memory, Range};
+
+use crate::components::{Components, six_digits, without_trailing_zeros};
+use crate::fault::GenTimeFault;
+use std::alloc::Global;
+use std::marker::Model;
+
+/// 9999-12-31T23:59:59.999999Z.
+const LAST: i64 = 253_402_300_799_999_999;
+
+/// A moment from 1970-01-01T00:00:00Z to 9999-12-31T23:59:59.999999Z: whole microseconds since the first, without leap
+/// seconds.
+#[derive(Clone, Copy, Debug, PartialEq, Eq, PartialOrd, Ord)]
+pub struct GenTime {
+    micros: u64,
+}
+
+impl Model for GenTime {
+    ghost use Rattle.std.specs.Prelude.{ℕ, ◌≤◌};
+    ghost use Rattle.gentime.specs.GenTime.{last_moment};
+
+    ghost Value = { ℕ };
+
+    ghost view = { λ moment. moment.micros };
+
+    ghost invariant = { λ moment. moment.micros ≤ last_moment };
+
+    ghost inverse = { λ micros. record { micros = micros } };
+}
+
+impl GenTime {
+    /// The moment that many microseconds after 1970-01-01T00:00:00Z. `Range` where that is before 1970 or after 9999.
+    pub fn from_micros(micros: i64) -> Result<GenTime, GenTimeFault>
+        ensures succeeds { IsOk result ↔ ((pos 0 ≤ℤ micros) × (micros ≤ℤ pos last_moment)) }
+        ensures value { IfOk result (λ moment. pos moment ≡ micros) }
+        ensures range { IfErr result (λ fault. fault ≡ GenTimeFault.Range) }
+    {
+        if micros < 0 || micros > LAST {
+            return Err(GenTimeFault::Range);
+        }
+        Ok(GenTime {
+            micros: micros as u64,
+        })
+    }
+
+    /// The microseconds since 1970-01-01T00:00:00Z.
+    pub fn micros(self) -> i64
+        ensures value { result ≡ pos self }
+        ensures bound { self ≤ last_moment }
+    {
+        self.micros as i64
+    }
+
+    /// The octets of the moment's genTime with at most that many digits of a fraction, 0 to 6: the moment is rounded down
+    /// to them, and zeros at the end of the fraction are left away (RFC 3161 2.4.2, X.690 11.7). `Memory` where an
+    /// allocation is refused.
+    #[tactic(auto, unfolding(crate::specs::GenTime::text_of))]
+    pub fn write(self, alloc: Global, digits: u8) -> Result<Vec<u8>, GenTimeFault>
+        requires { digits ≤ 6 }
+        ensures text { IfOk result (λ text. text.items ≡ text_of digits self) }
+        ensures memory { IfErr result (λ fault. fault ≡ GenTimeFault.Memory) }
+    {
+        let rounded = self.rounded_down(digits);
+        let digits = six_digits((rounded % 1_000_000) as u32);
+        let parts = Components::of(rounded, without_trailing_zeros(&digits));
+        Ok(parts.spell(alloc)?)
+    }
+
+    /// The moment's microseconds, rounded down to that many digits of the fraction of its second.
+    fn rounded_down(self, digits: u8) -> u64
+        requires { digits ≤ 6 }
+        ensures value { result ≡ round_down digits self }
+        ensures bound { result ≤ last_moment }
+    {
+        let step: u64 = match digits {
+            0 => 1_000_000,
+            1 => 100_000,
+            2 => 10_000,
+            3 => 1_000,
+            4 => 100,
+            5 => 10,
+            _ => 1,
+        };
+        self.micros / step * step
+    }
+}

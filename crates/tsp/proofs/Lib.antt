@@ -1,0 +1,5 @@
+pub mod Components
+pub mod RequestReads
+pub mod RequestTakes
+pub mod Sizes
+pub mod TstLawful

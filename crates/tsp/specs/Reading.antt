@@ -1,0 +1,117 @@
+-- Reading messages from values: the answer, or none where the value isn't of the grammar.
+use Rattle.std.specs.Prelude.{◌≡◌, ℕ, ◌==◌, Bool, true, false, if◌then◌else◌, ℤ, List, [], ◌∷◌, Option, Some, None, option_and_then, unwrap_or}
+use Rattle.der.specs.Node.{Node, primitive, constructed, Nodes, no_nodes, node, contents_of, components_of, first_of, take_under}
+use Rattle.der.specs.Number.{is_shortest, twos_value}
+use Rattle.der.specs.ObjectIdentifier.{oid_of}
+use Rattle.tsp.specs.Request.{ImprintValue, ExtensionValue, RequestValue}
+
+infixl 10 ◌>>=◌
+abbrev pub ◌>>=◌ : {A B : Type 0} → Option A → (A → Option B) → Option B
+o >>= f = option_and_then f o
+
+unfoldable pub number_of : List ℕ → Option ℤ
+number_of octets = if is_shortest octets then Some (twos_value octets) else None
+
+unfoldable pub integer_of : Node → Option ℤ
+integer_of n = contents_of 2 n >>= number_of
+
+-- 00 is FALSE and FF is TRUE
+unfoldable pub truth_of : List ℕ → Option Bool
+truth_of [] = None
+truth_of (octet ∷ []) = if octet == 0 then Some false else (if octet == 255 then Some true else None)
+truth_of (octet ∷ second ∷ others) = None
+
+unfoldable pub boolean_of : Node → Option Bool
+boolean_of n = contents_of 1 n >>= truth_of
+
+unfoldable pub oid_in : Node → Option (List ℕ)
+oid_in n = contents_of 6 n >>= oid_of
+
+-- the value where nothing is left
+unfoldable pub only : {A : Type 0} → Nodes → A → Option A
+only no_nodes x = Some x
+only (node first others) x = None
+
+-- an optional component, and what is left
+abbrev pub optional_of : {A : Type 0} → (Node → Option A) → Option Node → Nodes → Option (Option A × Nodes)
+optional_of read None ns = Some (None, ns)
+optional_of read (Some n) ns = read n >>= λ x. Some (Some x, ns)
+
+unfoldable pub optional_at : {A : Type 0} → ℕ → (Node → Option A) → Nodes → Option (Option A × Nodes)
+optional_at tag read ns = optional_of read (take_under tag ns).0 (take_under tag ns).1
+
+-- a BOOLEAN DEFAULT FALSE, and what is left
+unfoldable pub flag_at : Nodes → Option (Bool × Nodes)
+flag_at ns = optional_at 1 boolean_of ns >>= λ found. Some (unwrap_or found.0 false, found.1)
+
+-- parameters: nothing, or one value
+unfoldable pub parameters_of : Nodes → Option (Option Node)
+parameters_of no_nodes = Some None
+parameters_of (node first no_nodes) = Some (Some first)
+parameters_of (node first (node second others)) = None
+
+-- an AlgorithmIdentifier
+unfoldable pub algorithm_of : Node → Option (List ℕ × Option Node)
+algorithm_of n = do
+  members ← components_of 48 n
+  first ← first_of members
+  identifier ← oid_in first.0
+  parameters ← parameters_of first.1
+  Some (identifier, parameters)
+
+-- a MessageImprint
+unfoldable pub imprint_of : Node → Option ImprintValue
+imprint_of n = do
+  members ← components_of 48 n
+  first ← first_of members
+  algorithm ← algorithm_of first.0
+  second ← first_of first.1
+  hash ← contents_of 4 second.0
+  only second.1 (record { algorithm = algorithm.0; parameters = algorithm.1; hash = hash })
+
+-- an Extension
+unfoldable pub extension_of : Node → Option ExtensionValue
+extension_of n = do
+  members ← components_of 48 n
+  first ← first_of members
+  identifier ← oid_in first.0
+  critical ← flag_at first.1
+  last ← first_of critical.1
+  value ← contents_of 4 last.0
+  only last.1 (record { identifier = identifier; critical = critical.0; value = value })
+
+unfoldable pub extensions_of : Nodes → Option (List ExtensionValue)
+extensions_of no_nodes = Some []
+extensions_of (node first others) = do
+  e ← extension_of first
+  es ← extensions_of others
+  Some (e ∷ es)
+
+-- Extensions, of which there is at least one
+unfoldable pub some_extensions : List ExtensionValue → Option (List ExtensionValue)
+some_extensions [] = None
+some_extensions (e ∷ es) = Some (e ∷ es)
+
+unfoldable pub extension_list_of : ℕ → Node → Option (List ExtensionValue)
+extension_list_of tag n = do
+  members ← components_of tag n
+  extensions ← extensions_of members
+  some_extensions extensions
+
+-- extensions under a tag, none where they are left away, and what is left
+unfoldable pub extensions_at : ℕ → Nodes → Option (List ExtensionValue × Nodes)
+extensions_at tag ns = optional_at tag (extension_list_of tag) ns >>= λ found. Some (unwrap_or found.0 [], found.1)
+
+-- a TimeStampReq
+unfoldable pub request_of : Node → Option RequestValue
+request_of n = do
+  members ← components_of 48 n
+  first ← first_of members
+  version ← integer_of first.0
+  second ← first_of first.1
+  imprint ← imprint_of second.0
+  policy ← optional_at 6 oid_in second.1
+  nonce ← optional_at 2 integer_of policy.1
+  cert_req ← flag_at nonce.1
+  extensions ← extensions_at 160 cert_req.1
+  only extensions.1 (record { version = version; imprint = imprint; policy = policy.0; nonce = nonce.0; cert_req = cert_req.0; extensions = extensions.0 })

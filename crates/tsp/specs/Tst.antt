@@ -1,0 +1,49 @@
+-- TSTInfo (RFC 3161 2.4.2).
+use Rattle.std.specs.Prelude.{◌≡◌, ℕ, ◌/◌, ◌%◌, ◌^◌, ◌<◌, ◌≤◌, ◌==◌, Bool, false, if◌then◌else◌, ℤ, pos, List, [], ◌∷◌, ◌++◌, Option}
+use Rattle.std.specs.List.{AllByRecursion}
+use Rattle.der.specs.Node.{Node, primitive}
+use Rattle.der.specs.Number.{number_content}
+use Rattle.der.specs.ObjectIdentifier.{IsOid}
+use Rattle.gentime.specs.GenTime.{text_of}
+use Rattle.tsp.specs.Grammar.{sequence, integer, object_identifier, optional, false_by_default}
+use Rattle.tsp.specs.Request.{ImprintValue, ExtensionValue, message_imprint, extensions_under}
+
+-- genTime and accuracy in microseconds
+pub record TstValue : Type 0 where
+  pub policy : List ℕ
+  pub imprint : ImprintValue
+  pub serial : ℕ
+  pub gen_time : ℕ
+  pub accuracy : ℕ
+  pub ordering : Bool
+  pub nonce : Option ℤ
+  pub extensions : List ExtensionValue
+
+-- the ranges of its parts
+pub record IsTst (t : TstValue) : Type 0 where
+  pub policy : IsOid t.policy
+  pub algorithm : IsOid t.imprint.algorithm
+  pub some_serial : 1 ≤ t.serial
+  pub last_serial : t.serial < 2 ^ 63
+  pub gen_time : t.gen_time ≤ 253402300799999999
+  pub some_accuracy : 1 ≤ t.accuracy
+  pub most_accuracy : t.accuracy ≤ 1000000
+  pub extensions : AllByRecursion (λ extension. IsOid extension.identifier) t.extensions
+
+-- a part of an accuracy, where it isn't zero
+abbrev pub accuracy_part : ℕ → ℕ → List Node
+accuracy_part tag n = if n == 0 then [] else primitive tag (number_content (pos n)) ∷ []
+
+-- Accuracy: whole seconds, then milliseconds under [0] and microseconds under [1], each 1 to 999 where it stands
+abbrev pub accuracy : ℕ → Node
+accuracy n = sequence (accuracy_part 2 (n / 1000000) ++ (accuracy_part 128 (n / 1000 % 1000) ++ accuracy_part 129 (n % 1000)))
+
+abbrev pub generalized_time : ℕ → Node
+generalized_time moment = primitive 24 (text_of 6 moment)
+
+-- TSTInfo: version 1, accuracy always stated, no FALSE stated, extensions under [1]
+abbrev pub tst_info : TstValue → Node
+tst_info t =
+    sequence (integer (pos 1) ∷ object_identifier t.policy ∷ message_imprint t.imprint ∷ integer (pos t.serial)
+    ∷ generalized_time t.gen_time ∷ accuracy t.accuracy ∷ (false_by_default false t.ordering
+    ++ (optional integer t.nonce ++ extensions_under 161 [] t.extensions)))

@@ -1,0 +1,26 @@
+use der::Oid;
+use gentime::GenTime;
+
+use crate::imprint::{Extension, MessageImprint};
+use crate::integer::Integer;
+
+/// What a token says (RFC 3161 2.4.2, TSTInfo), of version 1 and without the field tsa.
+#[derive(Debug, Drop)]
+pub struct TstInfo {
+    /// The policy under which the token was given.
+    pub policy: Oid,
+    /// What was stamped, as it stands in the request.
+    pub imprint: MessageImprint,
+    /// The serial number, 1 to 2^63 - 1.
+    pub serial: u64,
+    /// The moment, in microseconds since 1970.
+    pub gen_time: GenTime,
+    /// How far the true moment may be away from `gen_time`, 1 to 1,000,000 microseconds.
+    pub accuracy: u32,
+    /// Whether tokens are ordered by their `gen_time` alone.
+    pub ordering: bool,
+    /// The request's nonce.
+    pub nonce: Option<Integer>,
+    /// The request's extensions, in their order.
+    pub extensions: Vec<Extension>,
+}
