@@ -1,2 +1,4 @@
 pub mod Fault
 pub mod Hexadecimal
+pub mod Known
+pub mod Tst

@@ -4,6 +4,7 @@
 mod fault;
 mod hexadecimal;
 mod input;
+mod known;
 mod output;
 mod run;
 mod tst;
