@@ -3,7 +3,10 @@ pub mod DigitsElements
 pub mod Lengths
 pub mod NumberContents
 pub mod OidContents
+pub mod OidNumbers
 pub mod OidReading
+pub mod OidTextLoops
+pub mod OidTexts
 mod Rows
 pub mod Octets
 pub mod ReadingSteps

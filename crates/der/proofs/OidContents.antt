@@ -170,17 +170,17 @@ fits-content ss small = ap (fits 0) (sym (append-nil (oid_content ss))) ∙ fits
 
 -- what was read is what was written
 
-fits_parts : (n octet : ℕ) (octets : List ℕ) → fits n (octet ∷ octets) ≡ true → (n < 2 ^ 121) × (cond (ltb octet 128) (fits 0 octets) (ltb 0 (n * 128 + (octet - 128)) && fits (n * 128 + (octet - 128)) octets) ≡ true)
+pub fits_parts : (n octet : ℕ) (octets : List ℕ) → fits n (octet ∷ octets) ≡ true → (n < 2 ^ 121) × (cond (ltb octet 128) (fits 0 octets) (ltb 0 (n * 128 + (octet - 128)) && fits (n * 128 + (octet - 128)) octets) ≡ true)
 fits_parts n octet octets h =
     let parts = and_parts (ltb n (2 ^ 121)) (cond (ltb octet 128) (fits 0 octets) (ltb 0 (n * 128 + (octet - 128)) && fits (n * 128 + (octet - 128)) octets)) h in
     (ltb-true n (2 ^ 121) parts.0, parts.1)
 
-fits_parts_more : (n octet : ℕ) (octets : List ℕ) → 128 ≤ octet → fits n (octet ∷ octets) ≡ true → (0 < n * 128 + (octet - 128)) × (fits (n * 128 + (octet - 128)) octets ≡ true)
+pub fits_parts_more : (n octet : ℕ) (octets : List ℕ) → 128 ≤ octet → fits n (octet ∷ octets) ≡ true → (0 < n * 128 + (octet - 128)) × (fits (n * 128 + (octet - 128)) octets ≡ true)
 fits_parts_more n octet octets high h =
     let parts = and_parts (ltb 0 (n * 128 + (octet - 128))) (fits (n * 128 + (octet - 128)) octets) (sym (cond-false (ltb octet 128) _ _ (le-ltb octet 128 high)) ∙ (fits_parts n octet octets h).1) in
     (ltb-true 0 (n * 128 + (octet - 128)) parts.0, parts.1)
 
-fits_parts_last : (n octet : ℕ) (octets : List ℕ) → octet < 128 → fits n (octet ∷ octets) ≡ true → fits 0 octets ≡ true
+pub fits_parts_last : (n octet : ℕ) (octets : List ℕ) → octet < 128 → fits n (octet ∷ octets) ≡ true → fits 0 octets ≡ true
 fits_parts_last n octet octets low h = sym (cond-true (ltb octet 128) _ _ (lt-ltb octet 128 low)) ∙ (fits_parts n octet octets h).1
 
 one_more : (n octet : ℕ) → 128 ≤ octet → octet < 256 → 0 < n * 128 + (octet - 128) → continued (digits_of 128 (n * 128 + (octet - 128))) ≡ continued (digits_of 128 n) ++ octet ∷ []

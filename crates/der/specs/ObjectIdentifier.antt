@@ -1,5 +1,5 @@
 -- Object identifiers: contents octets (X.690 8.19) and dotted text (RFC 3061 section 2's form of numbers joined by dots).
-use Rattle.std.specs.Prelude.{◌≡◌, ℕ, ◌+◌, ◌-◌, ◌*◌, ◌^◌, ◌<◌, ◌≤◌, Bool, ◌&&◌, ◌==◌, if◌then◌else◌, nat_lt, nat_le, List, [], ◌∷◌, ◌++◌, length, map, Option, Some, None}
+use Rattle.std.specs.Prelude.{◌≡◌, ◌⊎◌, ℕ, ◌+◌, ◌-◌, ◌*◌, ◌^◌, ◌<◌, ◌≤◌, Bool, ◌&&◌, ◌==◌, if◌then◌else◌, nat_lt, nat_le, List, [], ◌∷◌, ◌++◌, length, map, Option, Some, None}
 use Rattle.std.specs.List.{AllByRecursion, flat_map, list_all}
 use Rattle.std.specs.Str.{bytes_eq}
 use Rattle.std.specs.Int.Digits.{digits_of}
@@ -69,3 +69,26 @@ abbrev pub oid_text : List ℕ → List ℕ
 oid_text [] = []
 oid_text (first ∷ others) =
     decimal (first_arc first) ++ (dotted (first - 40 * first_arc first) ++ flat_map dotted others)
+
+-- ---- reading a text from its front
+
+-- subidentifiers that may stand after the first
+pub record AreOthers (subidentifiers : List ℕ) : Type 0 where
+  pub few : length subidentifiers ≤ 31
+  pub small : AllByRecursion (λ subidentifier. subidentifier < 2 ^ 128) subidentifiers
+
+abbrev pub BeginsWithoutDigit : List ℕ → Type 0
+BeginsWithoutDigit [] = Unit {0}
+BeginsWithoutDigit (character ∷ others) = (character < 48) ⊎ (57 < character)
+
+-- a decimal number below 2 ^ 128, all its digits, and the characters after it
+pub record IsNumberAt (text : List ℕ) (number : ℕ) (rest : List ℕ) : Type 0 where
+  pub spelled : text ≡ decimal number ++ rest
+  pub small : number < 2 ^ 128
+  pub ends : BeginsWithoutDigit rest
+
+-- the same, with a `.` in front
+pub record IsDottedNumberAt (text : List ℕ) (number : ℕ) (rest : List ℕ) : Type 0 where
+  pub spelled : text ≡ dotted number ++ rest
+  pub small : number < 2 ^ 128
+  pub ends : BeginsWithoutDigit rest

@@ -1,15 +1,21 @@
-ghost use Rattle.std.specs.Prelude.{◌≡◌, ℕ, ◌+◌, ◌*◌, ◌<◌, ◌≤◌, ◌↔◌, ◌⊎◌, nat_eq, List, [], length, Option, Some, None, IfOk, IfErr, MatchResult, IsTrue, IsSome, IfSome, IsNone};
+ghost use Rattle.std.specs.Prelude.{◌≡◌, ℕ, ◌+◌, ◌*◌, ◌<◌, ◌≤◌, ◌↔◌, ◌⊎◌, nat_eq, List, [], length, Option, Some, None, IfOk, IfErr, MatchResult, IsTrue, IsSome, IfSome, IsNone, string_bytes};
 ghost use Rattle.std.specs.Option.{is_some};
 ghost use Rattle.std.specs.Cmp.Lexicographic.{pointwise};
 ghost use Rattle.std.proofs.lemmas.Cmp.{nat_list_eq_equiv};
 ghost use Rattle.std.specs.Cmp.{partial_equiv_from_equiv};
 ghost use Rattle.der.specs.Node.{AreOctets};
-ghost use Rattle.der.specs.ObjectIdentifier.{IsOid, IsOidContent, oid_content, subidentifiers_of, oid_of};
+ghost use Rattle.der.specs.ObjectIdentifier.{IsOid, IsOidContent, oid_content, oid_text, subidentifiers_of, oid_of};
 ghost use Rattle.der.specs.declared.fault.DerFault.TheVariants.{BadValue, Memory};
 
 use crate::fault::DerFault;
 use std::alloc::{AllocError, Global};
 use std::marker::Model;
+use text::{
+    dotted_number_at, joined_arcs, number_at, push_dotted, push_first_arcs, push_others,
+    push_subidentifier,
+};
+
+mod text;
 
 /// An OBJECT IDENTIFIER (X.690 8.19): 1 to 32 subidentifiers, each below 2^128, of which the first is 40 * X + Y for the
 /// arcs X and Y. The value keeps its contents octets, so that comparing and lending them takes no memory.
@@ -59,6 +65,55 @@ impl Oid {
         Ok(Oid {
             content: Vec::from_slice(alloc, content)?,
         })
+    }
+
+    /// The object identifier that a text gives, as `1.2.840`: decimal numbers without leading zeros, joined by dots, at
+    /// least two. The first is 0, 1 or 2, the second below 40 where the first is below 2. Refused with `BadValue` where the
+    /// text is another, or gives more than 32 subidentifiers or one of 2^128 or above, and with `Memory` where memory runs
+    /// out.
+    pub fn parse_text(alloc: Global, text: &str) -> Result<Oid, DerFault>
+        ensures found { IfOk result (λ oid. IsOid oid × (text.now ≡ oid_text oid)) }
+        ensures only { (subidentifiers : List ℕ) → IsOid subidentifiers → text.now ≡ oid_text subidentifiers
+            → MatchResult result (λ oid. oid ≡ subidentifiers) (λ e. e ≡ Memory) }
+        ensures refusals { IfErr result (λ e. (e ≡ BadValue) ⊎ (e ≡ Memory)) }
+    {
+        let Some((first, rest)) = number_at(text.as_bytes()) else {
+            return Err(DerFault::BadValue);
+        };
+        let Some((second, rest)) = dotted_number_at(rest) else {
+            return Err(DerFault::BadValue);
+        };
+        let Some(subidentifier) = joined_arcs(first, second) else {
+            return Err(DerFault::BadValue);
+        };
+        let mut content = Vec::new(alloc);
+        push_subidentifier(&mut content, subidentifier)?;
+        push_others(&mut content, rest)?;
+        Ok(Oid { content })
+    }
+
+    /// The text, as `1.2.840`: the arcs in decimal, without leading zeros, joined by dots. Refused with `Memory` where
+    /// memory runs out.
+    pub fn text(&self, alloc: Global) -> Result<String, DerFault>
+        ensures written { IfOk result (λ text. string_bytes text ≡ oid_text self.now) }
+        ensures memory { IfErr result (λ e. e ≡ Memory) }
+    {
+        let mut text = String::new(alloc);
+        let mut subidentifier: u128 = 0;
+        for octet in &self.content {
+            if *octet >= 128 {
+                subidentifier = subidentifier * 128 + u128::from(*octet - 128);
+                continue;
+            }
+            subidentifier = subidentifier * 128 + u128::from(*octet);
+            if text.is_empty() {
+                push_first_arcs(&mut text, subidentifier)?;
+            } else {
+                push_dotted(&mut text, subidentifier)?;
+            }
+            subidentifier = 0;
+        }
+        Ok(text)
     }
 
     /// The contents octets (X.690 8.19), 1 to 608 of them. Takes no memory.
@@ -113,6 +168,18 @@ pub fn is_oid_content(content: &[u8]) -> bool
         _ => false,
     }
 }
+
+/// Object identifiers, their contents octets and their texts: each has one content and one text, and no two have the same.
+pub fn oids_have_one_content_and_text()
+    ensures read { (oid : List ℕ) → subidentifiers_of (oid_content oid) ≡ oid }
+    ensures octets { (oid : List ℕ) → AreOctets (oid_content oid) }
+    ensures some { (oid : List ℕ) → IsOid oid → 0 < length (oid_content oid) }
+    ensures few { (oid : List ℕ) → IsOid oid → length (oid_content oid) ≤ 19 * 32 }
+    ensures one_content { (a b : List ℕ) → oid_content a ≡ oid_content b → a ≡ b }
+    ensures one_text { (a b : List ℕ) → IsOid a → IsOid b → oid_text a ≡ oid_text b → a ≡ b }
+    ensures computed { (oid : List ℕ) → IsOid oid → oid_of (oid_content oid) ≡ Some oid }
+    ensures found { (octets oid : List ℕ) → oid_of octets ≡ Some oid → IsOid oid × (octets ≡ oid_content oid) }
+{}
 
 #[cfg(test)]
 mod tests {
