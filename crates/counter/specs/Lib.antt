@@ -1,4 +1,5 @@
 pub mod Fault
 pub mod Hexadecimal
 pub mod Known
+pub mod Settings
 pub mod Tst

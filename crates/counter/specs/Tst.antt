@@ -1,6 +1,6 @@
 -- The reply to a request where no account, policy file or clock is asked: the TSTInfo of the request, or the rejection by the
 -- first rule that fails (RFC 3161 2.4.2).
-use Rattle.std.specs.Prelude.{◌≡◌, ℕ, ◌⊎◌, Bool, List, unwrap_or}
+use Rattle.std.specs.Prelude.{◌≡◌, ℕ, ◌⊎◌, List, unwrap_or}
 use Rattle.der.specs.Node.{encoding}
 use Rattle.gentime.specs.GenTime.{round_down}
 use Rattle.tsp.specs.Request.{RequestValue, Spells}
@@ -10,15 +10,7 @@ use Rattle.tsp.specs.Tst.{TstValue, tst_info}
 use Rattle.tsp.specs.declared.rule.Rule.{Rule}
 use Rattle.tsp.specs.declared.rule.Rule.TheVariants.{Spelling, Version, Account, Algorithm, HashLength, Policy, PolicyAlgorithm, Extensions, Certificate, Clock, Quota, System}
 use Rattle.counter.specs.Known.{five_algorithms}
-
--- what a TSTInfo says besides what its request says; moment and accuracy in microseconds
-pub record SettingsValue : Type 0 where
-  pub policy : List ℕ
-  pub moment : ℕ
-  pub digits : ℕ
-  pub serial : ℕ
-  pub accuracy : ℕ
-  pub ordering : Bool
+use Rattle.counter.specs.Settings.{SettingsValue}
 
 -- the TSTInfo of a request: its policy is the request's where it states one, and its genTime the moment rounded down
 abbrev pub tst_of : SettingsValue → RequestValue → TstValue

@@ -6,7 +6,9 @@ mod hexadecimal;
 mod input;
 mod known;
 mod output;
+mod rules;
 mod run;
+mod settings;
 mod tst;
 mod words;
 

@@ -7,6 +7,7 @@ mod tests;
 use crate::fault::{Fault, InputFault};
 use crate::input::read_octets;
 use crate::output::write_octets;
+use crate::settings::Settings;
 use crate::tst::tst_reply;
 use crate::words::{TstWords, Word};
 use clap::error::ErrorKind;
@@ -89,12 +90,13 @@ fn run_word<I: Read, O: Write>(
 
 fn tst<I: Read, O: Write>(
     alloc: Global,
-    _words: &TstWords<'_>,
+    words: &TstWords<'_>,
     input: &mut I,
     output: &mut O,
 ) -> Result<(), Fault> {
+    let settings = Settings::of_words(alloc, words)?;
     let query = read_octets(alloc, input)?;
-    let reply = tst_reply(alloc, query.as_slice())?;
+    let reply = tst_reply(alloc, query.as_slice(), &settings)?;
     write_octets(alloc, reply.as_slice(), output)?;
     Ok(())
 }
