@@ -21,6 +21,7 @@ struct Piece<'a> {
     rest: &'a [u8],
 }
 
+/// The identifier octet, and the octets after it.
 #[tactic(auto, unfolding(crate::specs::Reading::identifier_at))]
 fn read_identifier(bytes: &[u8]) -> Result<(Tag, &[u8]), DerFault>
     ensures read { Gives (λ found. (found.0.octet, found.1.now)) result (identifier_at bytes.now) }
@@ -82,6 +83,7 @@ fn read_length(bytes: &[u8]) -> Result<(usize, &[u8]), DerFault>
     }
 }
 
+/// Identifier and contents of the value at the front, and the octets after it, whatever the contents are.
 #[tactic(auto, unfolding(crate::specs::Reading::element_at, crate::specs::Reading::contents_at))]
 fn read_element(bytes: &[u8]) -> Result<Piece<'_>, DerFault>
     ensures read { Gives piece_view result (element_at bytes.now) }
@@ -157,3 +159,6 @@ pub fn read_tree(alloc: Global, bytes: &[u8]) -> Result<Tree, DerFault>
     }
     Ok(tree)
 }
+
+#[cfg(test)]
+mod tests;

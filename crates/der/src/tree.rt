@@ -28,11 +28,8 @@ impl Tree {
 pub fn contents_under(tag: Tag, tree: Tree) -> Option<Vec<u8>>
     ensures { option_map (λ contents. contents.items) result ≡ contents_of tag.octet (view tree) }
 {
-    if tree.tag() != tag {
-        return None;
-    }
     match tree {
-        Tree::Primitive(_, contents) => Some(contents),
+        Tree::Primitive(found, contents) => (found == tag).then_some(contents),
         Tree::Constructed(_, _components) => None,
     }
 }
@@ -41,12 +38,12 @@ pub fn contents_under(tag: Tag, tree: Tree) -> Option<Vec<u8>>
 pub fn components_under(tag: Tag, tree: Tree) -> Option<Components>
     ensures { option_map components_view result ≡ components_of tag.octet (view tree) }
 {
-    if tree.tag() != tag {
-        return None;
-    }
     match tree {
         Tree::Primitive(_, _contents) => None,
-        Tree::Constructed(_, components) => {
+        Tree::Constructed(found, components) => {
+            if found != tag {
+                return None;
+            }
             let mut reversed = components;
             reversed.reverse();
             Some(Components { reversed })
@@ -91,7 +88,7 @@ impl Components {
         if self.reversed.last()?.tag() != tag {
             return None;
         }
-        self.reversed.pop()
+        self.next()
     }
 
     /// Whether no value is left.
@@ -115,3 +112,6 @@ pub fn encodings_are_bounded()
     ensures at_most { (n : Node) → IsFormed n → length (encoding n) ≤ length (contents_octets n) + 5 }
     ensures ends { (m n : Node) (x y : List ℕ) → IsFormed m → IsFormed n → encoding m ++ x ≡ encoding n ++ y → (m ≡ n) × (x ≡ y) }
 {}
+
+#[cfg(test)]
+mod tests;

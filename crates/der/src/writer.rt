@@ -1,6 +1,6 @@
 //! Writing encodings from the inside outwards.
 ghost use Rattle.std.specs.Prelude.{◌≡◌, ℕ, ◌≤◌, ◌<◌, ◌^◌, ◌↔◌, ◌⊎◌, List, [], ◌++◌, length, OnOk, OnErr, IfOk, IfErr, IsTrue};
-ghost use Rattle.der.specs.Node.{element, length_octets, encoding, encodings, IsFormed, AreFormed};
+ghost use Rattle.der.specs.Node.{element, length_octets, encoding, encodings, HasShortContents, HaveShortContents, IsFormed};
 ghost use Rattle.der.specs.Tree.{view, components_view};
 ghost use Rattle.der.specs.declared.fault.DerFault.TheVariants.{TooLong, Memory};
 
@@ -72,11 +72,13 @@ impl Writer {
     /// Puts a value's encoding after the octets written so far (X.690 8.1, 10.1).
     ///
     /// Refused as `TooLong` only where some contents in the value are 2^24 octets or more, and else only for want of
-    /// memory.
+    /// memory; a value with such contents is always refused.
     pub fn append_tree(&mut self, tree: &Tree) -> Result<(), DerFault>
         ensures ok { OnOk result (self.new ≡ self.old ++ encoding (view tree.now)) }
+        ensures short { OnOk result (HasShortContents (view tree.now)) }
         ensures err { OnErr result (self.new ≡ self.old) }
-        ensures too_long { result ≡ Err TooLong → IsFormed (view tree.now) → ⊥ }
+        ensures too_long { result ≡ Err TooLong → HasShortContents (view tree.now) → ⊥ }
+        ensures formed { result ≡ Err TooLong → IsFormed (view tree.now) → ⊥ }
         ensures refusals { IfErr result (λ e. (e ≡ TooLong) ⊎ (e ≡ Memory)) }
     {
         let encoded = Writer::encoded(self.alloc, tree)?;
@@ -87,7 +89,8 @@ impl Writer {
     #[cycle(encode)]
     fn encoded(alloc: Global, tree: &Tree) -> Result<Writer, DerFault>
         ensures ok { IfOk result (λ writer. writer ≡ encoding (view tree.now)) }
-        ensures too_long { result ≡ Err TooLong → IsFormed (view tree.now) → ⊥ }
+        ensures short { OnOk result (HasShortContents (view tree.now)) }
+        ensures too_long { result ≡ Err TooLong → HasShortContents (view tree.now) → ⊥ }
         ensures refusals { IfErr result (λ e. (e ≡ TooLong) ⊎ (e ≡ Memory)) }
     {
         match tree {
@@ -109,7 +112,8 @@ impl Writer {
     #[cycle(encode)]
     fn all_encoded(alloc: Global, trees: &Vec<Tree>) -> Result<Writer, DerFault>
         ensures ok { IfOk result (λ writer. writer ≡ encodings (components_view trees.now.items)) }
-        ensures too_long { result ≡ Err TooLong → AreFormed (components_view trees.now.items) → ⊥ }
+        ensures short { OnOk result (HaveShortContents (components_view trees.now.items)) }
+        ensures too_long { result ≡ Err TooLong → HaveShortContents (components_view trees.now.items) → ⊥ }
         ensures refusals { IfErr result (λ e. (e ≡ TooLong) ⊎ (e ≡ Memory)) }
     {
         let mut writer = Writer::new(alloc);
@@ -165,3 +169,6 @@ fn push_length(octets: &mut Vec<u8>, count: u32) -> Result<(), AllocError>
     }
     Ok(())
 }
+
+#[cfg(test)]
+mod tests;

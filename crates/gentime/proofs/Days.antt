@@ -1,6 +1,7 @@
 -- The calendar's date of a day is the one that `jiff_core` gives it.
-use Rattle.std.proofs.Common.{◌≡◌, ℕ, zero, suc, ◌+◌, ◌<◌, ◌≤◌, inl, inr, ◌∙◌, arith, pos}
+use Rattle.std.proofs.Common.{◌≡◌, ℕ, zero, suc, ◌+◌, ◌<◌, ◌≤◌, inl, inr, ◌∙◌, arith, ℤ, pos, negsuc, unsigned_abs, refl, ◌≤ℤ◌}
 use Rattle.std.proofs.lemmas.Bool.{cases_lt, lt-ltb, le-ltb}
+use Rattle.std.proofs.lemmas.Int.{by_lt_z}
 use Rattle.gentime.specs.Calendar.{CivilDate, IsDate, days_in_month, day_after, civil_date}
 use Rattle.jiff_core.specs.declared.civil.date.Date.{Date}
 use Rattle.jiff_core.specs.Calendar.{day_count}
@@ -97,3 +98,15 @@ unfolding date_of
 civil_date_of d n h e =
     epoch_day_injective d (date_of n h)
     (e ∙ omega (arith, signed_arith, (civil_date_is n).count, days_from_civil-day_count (pos (civil_date n).year) (civil_date n).month (civil_date n).day))
+
+-- dates from 1970 on have day numbers from 0 on
+pub epoch_day_from_1970 : (d : Date) → pos 1970 ≤ℤ d.year → pos 0 ≤ℤ epoch_day d
+epoch_day_from_1970 d h =
+    let first : day_count (pos 1970) 1 1 ≤ day_count d.year 1 1 = by_lt_z (pos 1970) d.year
+    (λ lt. omega (arith, day_count-later_year (pos 1970) d.year (omega (arith, signed_arith)) lt))
+    (λ le. let e : d.year ≡ pos 1970 = omega (arith, signed_arith) in rw e (omega arith)) in
+    omega (arith, signed_arith, first, day_count-epoch, days_from_civil-day_count d.year d.month d.day, day_count-day_of_year d.year d.month d.day d.day_in.0, d.day_in.0)
+
+pub same_unsigned : (z : ℤ) → pos 0 ≤ℤ z → z ≡ pos (unsigned_abs z)
+same_unsigned (pos n) h = refl
+same_unsigned (negsuc n) h = absurd (omega (arith, signed_arith))

@@ -1,2 +1,5 @@
 pub mod Days
+pub mod Fractions
+pub mod Moments
+pub mod Pairs
 pub mod Texts

@@ -3,9 +3,10 @@ use Rattle.std.proofs.Common.{◌≡◌, ◌≢◌, ℕ, ◌-◌, ◌/◌, ◌%�
 use Rattle.std.proofs.lemmas.Bool.{ne_eqb, cond_both}
 use Rattle.std.proofs.lemmas.Bool.Decides.{nat_tests}
 use Rattle.std.proofs.lemmas.List.{take_more}
+use Rattle.std.specs.Char.{IsAsciiDigit}
 use Rattle.std.specs.List.{AllByRecursion}
 use Rattle.gentime.specs.Calendar.{civil_date}
-use Rattle.gentime.specs.GenTime.{last_moment, round_down, GeneralizedTime, digit_before, point_and, without_trailing_zeros, six_digits, fraction_of, IsDigit, IsFormed, spelling, time_of, text_of}
+use Rattle.gentime.specs.GenTime.{last_moment, round_down, GeneralizedTime, digit_before, point_and, without_trailing_zeros, six_digits, fraction_of, IsFormed, spelling, time_of, text_of}
 use Rattle.gentime.proofs.Days.{civil_date_is, civil_date_year}
 use Rattle.jiff_core.proofs.CalendarLemmas.{days_in_month_bounds}
 
@@ -59,9 +60,18 @@ pub length-without_trailing_zeros : (xs : List ℕ) → length (without_trailing
 length-without_trailing_zeros [] = omega arith
 length-without_trailing_zeros (x ∷ xs) = omega (arith, length-without_trailing_zeros xs, length-digit_before x (without_trailing_zeros xs))
 
+-- digits of which the last is no zero
+pub ends_in_no_zero : (octets front : List ℕ) (last : ℕ) → octets ≡ front ++ last ∷ [] → last ≢ 48 → without_trailing_zeros octets ≡ octets
+ends_in_no_zero octets front last e h = rw e (without_trailing_zeros-other front last h)
+
+pub ends_in_zero : (octets front : List ℕ) (last : ℕ) → octets ≡ front ++ last ∷ [] → last ≡ 48 → without_trailing_zeros octets ≡ octets → ⊥
+ends_in_zero octets front last e zero kept =
+    let shorter : without_trailing_zeros octets ≡ without_trailing_zeros front = rw (e, zero) (without_trailing_zeros-zero front) in
+    omega (arith, length-without_trailing_zeros front, ap length shorter, ap length kept, ap length e, length-append front (last ∷ []))
+
 -- the digits of a fraction, at most six
-pub fraction_digits : (micros : ℕ) → micros < 1_000_000 → AllByRecursion IsDigit (fraction_of micros)
-fraction_digits micros h = AllByRecursion-without_trailing_zeros IsDigit (six_digits micros)
+pub fraction_digits : (micros : ℕ) → micros < 1_000_000 → AllByRecursion IsAsciiDigit (fraction_of micros)
+fraction_digits micros h = AllByRecursion-without_trailing_zeros IsAsciiDigit (six_digits micros)
     ((omega arith, omega arith), ((omega arith, omega arith), ((omega arith, omega arith), ((omega arith, omega arith), ((omega arith, omega arith), ((omega arith, omega arith), tt))))))
 
 pub length-fraction_of : (micros : ℕ) → length (fraction_of micros) ≤ 6
@@ -79,15 +89,14 @@ time_of_formed moment h =
       hour = omega arith;
       minute = omega arith;
       second = omega arith;
-      digits = fraction_digits (moment % 1_000_000) (omega arith);
-      no_zero = without_trailing_zeros-twice (six_digits (moment % 1_000_000));
+      fraction = (fraction_digits (moment % 1_000_000) (omega arith), without_trailing_zeros-twice (six_digits (moment % 1_000_000)));
     }
 
-octets_of_digits : (xs : List ℕ) → AllByRecursion IsDigit xs → AllByRecursion (λ octet. octet < 256) (xs ++ 90 ∷ [])
+octets_of_digits : (xs : List ℕ) → AllByRecursion IsAsciiDigit xs → AllByRecursion (λ octet. octet < 256) (xs ++ 90 ∷ [])
 octets_of_digits [] h = (omega arith, tt)
 octets_of_digits (x ∷ xs) h = (omega (arith, h.0.1), octets_of_digits xs h.1)
 
-octets_of_fraction : (xs : List ℕ) → AllByRecursion IsDigit xs → AllByRecursion (λ octet. octet < 256) (point_and xs ++ 90 ∷ [])
+octets_of_fraction : (xs : List ℕ) → AllByRecursion IsAsciiDigit xs → AllByRecursion (λ octet. octet < 256) (point_and xs ++ 90 ∷ [])
 octets_of_fraction [] h = octets_of_digits [] h
 octets_of_fraction (x ∷ xs) h = (omega arith, octets_of_digits (x ∷ xs) h)
 
@@ -114,7 +123,7 @@ spelling_octets time h = (
               omega (arith, h.day),
               (
                 omega (arith, h.day),
-                (omega (arith, h.hour), (omega (arith, h.hour), (omega (arith, h.minute), (omega (arith, h.minute), (omega (arith, h.second), (omega (arith, h.second), octets_of_fraction time.fraction h.digits)))))),
+                (omega (arith, h.hour), (omega (arith, h.hour), (omega (arith, h.minute), (omega (arith, h.minute), (omega (arith, h.second), (omega (arith, h.second), octets_of_fraction time.fraction h.fraction.0)))))),
               ),
             ),
           ),
@@ -130,10 +139,10 @@ length-spelling time =
     let e = length-octets_of_fraction time.fraction in
     (omega (arith, e), omega (arith, e))
 
-round_down_bound : (digits moment : ℕ) → round_down digits moment ≤ moment
+pub round_down_bound : (digits moment : ℕ) → round_down digits moment ≤ moment
 round_down_bound digits moment = grind arith
 
-length-fraction_of_time : (moment : ℕ) → length (time_of moment).fraction ≤ 6
+pub length-fraction_of_time : (moment : ℕ) → length (time_of moment).fraction ≤ 6
 unfolding time_of
 length-fraction_of_time moment = length-fraction_of (moment % 1_000_000)
 

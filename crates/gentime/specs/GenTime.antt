@@ -1,8 +1,8 @@
 -- Moments, and the genTime of a time-stamp (RFC 3161 2.4.2): a GeneralizedTime in DER (X.690 11.7).
-use Rattle.std.specs.Prelude.{◌≡◌, ℕ, ◌<◌, ◌+◌, ◌-◌, ◌*◌, ◌/◌, ◌%◌, ◌^◌, ◌==◌, List, [], ◌∷◌, ◌++◌, if◌then◌else◌}
-use Rattle.std.specs.Int.{IsInRange}
+use Rattle.std.specs.Prelude.{◌≡◌, ℕ, ◌<◌, ◌≤◌, ◌+◌, ◌-◌, ◌*◌, ◌/◌, ◌%◌, ◌^◌, ◌==◌, List, [], ◌∷◌, ◌++◌, length, if◌then◌else◌}
+use Rattle.std.specs.Char.{IsAsciiDigit}
 use Rattle.std.specs.List.{flat_map, AllByRecursion}
-use Rattle.gentime.specs.Calendar.{civil_date}
+use Rattle.gentime.specs.Calendar.{IsDate, civil_date}
 
 -- 9999-12-31T23:59:59.999999Z, in microseconds since 1970-01-01T00:00:00Z without leap seconds
 abbrev pub last_moment : ℕ
@@ -34,12 +34,14 @@ abbrev pub point_and : List ℕ → List ℕ
 point_and [] = []
 point_and (first ∷ others) = 46 ∷ first ∷ others
 
+-- the numbers of two digits: of the century and the year in it, and of the other parts down to the second
+abbrev pub pairs_of : GeneralizedTime → List ℕ
+pairs_of time =
+    time.year / 100 ∷ time.year % 100 ∷ time.month ∷ time.day ∷ time.hour ∷ time.minute ∷ time.second ∷ []
+
 -- YYYYMMDDhhmmss, the fraction, and Z
 unfoldable pub spelling : GeneralizedTime → List ℕ
-spelling time =
-    flat_map two_digits
-    (time.year / 100 ∷ time.year % 100 ∷ time.month ∷ time.day ∷ time.hour ∷ time.minute ∷ time.second ∷ [])
-    ++ (point_and time.fraction ++ 90 ∷ [])
+spelling time = flat_map two_digits (pairs_of time) ++ (point_and time.fraction ++ 90 ∷ [])
 
 -- a digit before digits that end in no zero; a zero before none is left away
 abbrev pub digit_before : ℕ → List ℕ → List ℕ
@@ -59,11 +61,11 @@ six_digits micros = flat_map two_digits (micros / 10_000 ∷ micros / 100 % 100 
 abbrev pub fraction_of : ℕ → List ℕ
 fraction_of micros = without_trailing_zeros (six_digits micros)
 
--- the octet of one of the ten digits
-abbrev pub IsDigit : ℕ → Type 0
-IsDigit octet = IsInRange 48 57 octet
+-- digits after a point, of which the last is no zero, or none
+abbrev pub IsFraction : List ℕ → Type 0
+IsFraction octets = AllByRecursion IsAsciiDigit octets × (without_trailing_zeros octets ≡ octets)
 
--- parts that a text can state: numbers of four and two digits, and a fraction of digits that ends in no zero
+-- parts that a text can state, whether or not the calendar has them: numbers of four and two digits, and a fraction
 pub record IsFormed (time : GeneralizedTime) : Type 0 where
   pub year : time.year < 10_000
   pub month : time.month < 100
@@ -71,8 +73,24 @@ pub record IsFormed (time : GeneralizedTime) : Type 0 where
   pub hour : time.hour < 100
   pub minute : time.minute < 100
   pub second : time.second < 100
-  pub digits : AllByRecursion IsDigit time.fraction
-  pub no_zero : without_trailing_zeros time.fraction ≡ time.fraction
+  pub fraction : IsFraction time.fraction
+
+-- the octets are a GeneralizedTime in DER, with these parts
+pub record States (octets : List ℕ) (time : GeneralizedTime) : Type 0 where
+  pub formed : IsFormed time
+  pub spelled : octets ≡ spelling time
+
+-- the calendar has the date, and the day has the time
+pub record IsTime (time : GeneralizedTime) : Type 0 where
+  pub date : IsDate time.year time.month time.day
+  pub hour : time.hour < 24
+  pub minute : time.minute < 60
+  pub second : time.second < 60
+
+-- 1970 or later, in whole microseconds
+pub record IsCounted (time : GeneralizedTime) : Type 0 where
+  pub year : 1970 ≤ time.year
+  pub micros : length time.fraction ≤ 6
 
 -- the parts of the moment: its date, its time of day, and its fraction of a second
 unfoldable pub time_of : ℕ → GeneralizedTime

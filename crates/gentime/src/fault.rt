@@ -7,7 +7,7 @@ use std::alloc::{AllocError, AllocFailed};
 use thiserror::Error;
 
 /// A refusal. Of several that hold, the one with the lowest number is answered; `Memory` comes where it is met.
-#[derive(Clone, Copy, Debug, PartialEq, Eq, Error)]
+#[derive(Clone, Copy, Debug, PartialEq, Eq, Hash, Error)]
 pub enum GenTimeFault {
     /// The octets are not a GeneralizedTime in DER (X.690 11.7).
     #[error("not a GeneralizedTime in DER")]

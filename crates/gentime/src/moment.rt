@@ -1,8 +1,8 @@
 //! A moment, as a clock counts it.
 
-ghost use Rattle.std.specs.Prelude.{◌≡◌, ◌↔◌, ◌≤◌, pos, ◌≤ℤ◌, IsOk, IfOk, IfErr};
-ghost use Rattle.gentime.specs.GenTime.{last_moment, round_down, text_of};
-ghost use Rattle.gentime.specs.declared.fault.GenTimeFault.TheVariants.{Memory, Range};
+ghost use Rattle.std.specs.Prelude.{◌≡◌, ◌↔◌, ◌≤◌, ℕ, pos, ◌≤ℤ◌, IsOk, IfOk, IfErr, IsErrOf, Ok};
+ghost use Rattle.gentime.specs.GenTime.{last_moment, round_down, text_of, GeneralizedTime, States, IsTime, IsCounted};
+ghost use Rattle.gentime.specs.declared.fault.GenTimeFault.TheVariants.{Date, Form, Memory, Range};
 
 use crate::components::{Components, six_digits, without_trailing_zeros};
 use crate::fault::GenTimeFault;
@@ -14,7 +14,7 @@ const LAST: i64 = 253_402_300_799_999_999;
 
 /// A moment from 1970-01-01T00:00:00Z to 9999-12-31T23:59:59.999999Z: whole microseconds since the first, without leap
 /// seconds.
-#[derive(Clone, Copy, Debug, PartialEq, Eq, PartialOrd, Ord)]
+#[derive(Clone, Copy, Debug, PartialEq, Eq, PartialOrd, Ord, Hash)]
 pub struct GenTime {
     micros: u64,
 }
@@ -30,6 +30,27 @@ impl Model for GenTime {
     ghost invariant = { λ moment. moment.micros ≤ last_moment };
 
     ghost inverse = { λ micros. record { micros = micros } };
+}
+
+/// The moment whose genTime with six digits the octets are (RFC 3161 2.4.2, X.690 11.7). Of the refusals that hold it answers
+/// the first of these: `Form` where the octets are no GeneralizedTime in DER, `Date` where the calendar has no such date or the
+/// day no such time (second 60 too), and `Range` where it is before 1970 or has more than six digits of a fraction.
+pub fn read(octets: &[u8]) -> Result<GenTime, GenTimeFault>
+    ensures text { IfOk result (λ moment. octets.now ≡ text_of 6 moment) }
+    ensures moment { (moment : ℕ) → moment ≤ last_moment → octets.now ≡ text_of 6 moment → result ≡ Ok moment }
+
+    // The first refusal that holds.
+    ensures form { IsErrOf result GenTimeFault.Form ↔ ((time : GeneralizedTime) → ¬ States octets.now time) }
+    ensures date { IsErrOf result GenTimeFault.Date
+        ↔ ((time : GeneralizedTime) × States octets.now time × ¬ IsTime time) }
+    ensures range { IsErrOf result GenTimeFault.Range
+        ↔ ((time : GeneralizedTime) × States octets.now time × IsTime time × ¬ IsCounted time) }
+    ensures memory { ¬ IsErrOf result GenTimeFault.Memory }
+{
+    let time = Components::read(octets).ok_or(GenTimeFault::Form)?;
+    let date = time.date().ok_or(GenTimeFault::Date)?;
+    let micros = time.micros(date).ok_or(GenTimeFault::Range)?;
+    Ok(GenTime { micros })
 }
 
 impl GenTime {

@@ -1,7 +1,20 @@
 //! Texts from outside: the two of the standards' example moment, and those that Python's `datetime` gives.
 
+ghost use Rattle.std.specs.Prelude.{◌≡◌, codes};
+ghost use Rattle.gentime.specs.GenTime.{text_of};
+
 use super::*;
 use std::test::*;
+
+/// The definition itself, computed.
+fn known_texts()
+    ensures first { text_of 0 0 ≡ codes "19700101000000Z" }
+    ensures example { text_of 6 928_887_206_343_520 ≡ codes "19990609001326.34352Z" }
+    ensures example_rounded { text_of 0 928_887_206_343_520 ≡ codes "19990609001326Z" }
+    ensures rounded_down { text_of 3 1_000_000_250 ≡ codes "19700101001640Z" }
+    ensures leap_day { text_of 6 951_868_799_999_999 ≡ codes "20000229235959.999999Z" }
+    ensures no_leap_day { text_of 6 4_107_542_400_000_000 ≡ codes "21000301000000Z" }
+{}
 
 /// A moment, digits of its fraction, and its text.
 static TEXTS: [(i64, u8, &str); 61] = [
@@ -87,6 +100,75 @@ fn texts(rt: HostRuntime) -> Result<(), Fail> {
 }
 
 #[test]
+fn moments(rt: HostRuntime) -> Result<(), Fail> {
+    for (micros, digits, text) in &TEXTS {
+        if *digits == 6 {
+            let moment = read(text.as_bytes())?;
+            assert_eq!(rt; moment.micros(), *micros, "of {text}");
+        }
+    }
+    known_texts();
+    Ok(())
+}
+
+/// Texts that are refused: of the wrong form, then of no date or time, then out of range.
+static REFUSED: [(&str, GenTimeFault); 43] = [
+    ("", GenTimeFault::Form),
+    ("Z", GenTimeFault::Form),
+    ("19990609001326", GenTimeFault::Form),
+    ("19990609001326z", GenTimeFault::Form),
+    ("199906090013Z", GenTimeFault::Form),
+    ("1999060900132Z", GenTimeFault::Form),
+    ("19990609001326.Z", GenTimeFault::Form),
+    ("19990609001326.0Z", GenTimeFault::Form),
+    ("19990609001326.340Z", GenTimeFault::Form),
+    ("19990609001326,5Z", GenTimeFault::Form),
+    ("19990609001326.5", GenTimeFault::Form),
+    ("19990609001326.5+0000", GenTimeFault::Form),
+    ("19990609001326+0000", GenTimeFault::Form),
+    ("1999060900132AZ", GenTimeFault::Form),
+    ("19990609001326.5AZ", GenTimeFault::Form),
+    (" 19990609001326Z", GenTimeFault::Form),
+    ("19990609001326Z ", GenTimeFault::Form),
+    ("19990609001326.34352ZZ", GenTimeFault::Form),
+    ("19990609001326.3.4Z", GenTimeFault::Form),
+    ("+9990609001326Z", GenTimeFault::Form),
+    ("19991399001326.0Z", GenTimeFault::Form),
+    ("19690609001326.0Z", GenTimeFault::Form),
+    ("19990609001326.1234560Z", GenTimeFault::Form),
+    ("19990009001326Z", GenTimeFault::Date),
+    ("19991309001326Z", GenTimeFault::Date),
+    ("19990600001326Z", GenTimeFault::Date),
+    ("19990631001326Z", GenTimeFault::Date),
+    ("19990229000000Z", GenTimeFault::Date),
+    ("21000229000000Z", GenTimeFault::Date),
+    ("19990609240000Z", GenTimeFault::Date),
+    ("19990609006000Z", GenTimeFault::Date),
+    ("19990609001360Z", GenTimeFault::Date),
+    ("19981231235960Z", GenTimeFault::Date),
+    ("00000230000000Z", GenTimeFault::Date),
+    ("19690229000000Z", GenTimeFault::Date),
+    ("19990609001360.1234567Z", GenTimeFault::Date),
+    ("19691231235959Z", GenTimeFault::Range),
+    ("19691231235959.999999Z", GenTimeFault::Range),
+    ("19990609001326.1234567Z", GenTimeFault::Range),
+    ("19700101000000.0000001Z", GenTimeFault::Range),
+    ("00000229000000Z", GenTimeFault::Range),
+    ("00010101000000Z", GenTimeFault::Range),
+    ("19000101000000.5Z", GenTimeFault::Range),
+];
+
+#[test]
+fn refused_texts(rt: HostRuntime) {
+    for (text, fault) in &REFUSED {
+        assert!(rt;
+            matches!(read(text.as_bytes()), Err(found) if found == *fault),
+            "at {text}"
+        );
+    }
+}
+
+#[test]
 fn refused_moments(rt: HostRuntime) {
     for micros in [i64::MIN, -1, 253_402_300_800_000_000, i64::MAX] {
         assert!(rt;
@@ -110,5 +192,7 @@ fn faults(rt: HostRuntime) -> Result<(), Fail> {
         assert_eq!(rt; shown.as_str(), text);
     }
     texts_are_short();
+    texts_are_distinct();
+    texts_are_rounded();
     Ok(())
 }

@@ -10,7 +10,7 @@ use Rattle.der.proofs.NumberContents.{twos_value-number_content, is_shortest-num
 use Rattle.der.proofs.OidContents.{oid_of-content}
 use Rattle.tsp.specs.Grammar.{integer, boolean, octet_string, object_identifier, sequence, optional, false_by_default}
 use Rattle.tsp.specs.Request.{ImprintValue, ExtensionValue, RequestValue, IsRequest, Stated, algorithm_identifier, message_imprint, extension, extension_nodes, extensions_under, request}
-use Rattle.tsp.specs.Reading.{number_of, integer_of, truth_of, boolean_of, oid_in, only, optional_of, optional_at, flag_at, parameters_of, algorithm_of, imprint_of, extension_of, extensions_of, some_extensions, extension_list_of, extensions_at, request_of}
+use Rattle.tsp.specs.Reading.{number_of, integer_of, truth_of, boolean_of, oid_in, only, end_of, optional_of, optional_at, flag_at, parameters_of, algorithm_of, imprint_of, extension_of, extensions_of, some_extensions, extension_list_of, extensions_at, request_of}
 use Rattle.std.proofs.Common.{arith}
 use Rattle.std.proofs.lemmas.Bool.{eq-eqb}
 use borrow.Author.Tests.{ne_eqb}
@@ -63,12 +63,12 @@ algorithm_of-algorithm_identifier a None h = rw (oid_in-object_identifier a h) r
 algorithm_of-algorithm_identifier a (Some n) h = rw (oid_in-object_identifier a h) refl
 
 pub imprint_of-message_imprint : (i : ImprintValue) → IsOid i.algorithm → imprint_of (message_imprint i) ≡ Some i
-unfolding imprint_of only
+unfolding imprint_of only end_of
 imprint_of-message_imprint i h = rw (algorithm_of-algorithm_identifier i.algorithm i.parameters h) refl
 
 -- what comes after an extension's critical begins with an OCTET STRING
 pub extension_of-extension : (stated : Bool) (e : ExtensionValue) → IsOid e.identifier → extension_of (extension stated e) ≡ Some e
-unfolding extension_of only
+unfolding extension_of only end_of
 extension_of-extension stated e h =
     let split : nodes (false_by_default stated e.critical ++ (octet_string e.value ∷ [])) ≡ before (false_by_default stated e.critical) (node (octet_string e.value) no_nodes) = nodes-append _ _ in
     let apart : StartsApart 1 (node (octet_string e.value) no_nodes) = λ q. absurd (omega (arith, q)) in
@@ -123,7 +123,7 @@ any Q None f = tt
 any Q (Some x) f = f x
 
 pub request_of-request : (s : Stated) (r : RequestValue) → IsRequest r → request_of (request s r) ≡ Some r
-unfolding request_of only
+unfolding request_of only end_of
 request_of-request s r h =
     let ext = nodes (extensions_under 160 s.critical r.extensions) in
     let flags = before (false_by_default s.cert_req r.cert_req) ext in

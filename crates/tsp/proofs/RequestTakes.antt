@@ -13,7 +13,7 @@ use Rattle.der.proofs.NumberContents.{number_content-twos_value}
 use Rattle.der.proofs.OidContents.{oid_of-some}
 use Rattle.tsp.specs.Grammar.{integer, boolean, octet_string, object_identifier, sequence, optional, false_by_default}
 use Rattle.tsp.specs.Request.{ImprintValue, ExtensionValue, RequestValue, IsRequest, Stated, algorithm_identifier, message_imprint, extension, extension_nodes, extensions_under, request}
-use Rattle.tsp.specs.Reading.{number_of, integer_of, truth_of, boolean_of, oid_in, only, optional_of, optional_at, flag_at, parameters_of, algorithm_of, imprint_of, extension_of, extensions_of, some_extensions, extension_list_of, extensions_at, request_of}
+use Rattle.tsp.specs.Reading.{number_of, integer_of, truth_of, boolean_of, oid_in, only, end_of, optional_of, optional_at, flag_at, parameters_of, algorithm_of, imprint_of, extension_of, extensions_of, some_extensions, extension_list_of, extensions_at, request_of}
 use Rattle.tsp.proofs.Components.{before, nodes-append, contents_takes, components_takes, front_takes}
 use Rattle.tsp.proofs.RequestReads.{request_tail}
 
@@ -55,7 +55,7 @@ oid_takes n a e = option_and_then_some oid_of (contents_of 6 n) a e (λ octets p
     (is.0, contents_takes 6 n octets p ∙ ap (primitive 6) is.1))
 
 only_takes : {A : Type 0} (ns : Nodes) (x y : A) → only ns x ≡ Some y → (ns ≡ no_nodes) × (x ≡ y)
-unfolding only
+unfolding only end_of
 only_takes no_nodes x y e = (refl, cc)
 only_takes (node first others) x y e = cc
 

@@ -1,7 +1,7 @@
 -- The TSTInfo that answers a request of at most 65,536 octets is lawful.
 use Rattle.std.proofs.Common.{◌≡◌, ℕ, suc, ◌+◌, ◌*◌, ◌/◌, ◌%◌, ◌<◌, ◌≤◌, ◌^◌, Bool, true, false, cond, eqb, ℤ, pos, List, [], ◌∷◌, ◌++◌, length, Option, Some, None, ◌⊎◌, inl, inr, refl, sym, ap, ◌∙◌, subst, arith, length-append}
 use Rattle.std.specs.List.{AllByRecursion}
-use Rattle.der.specs.Node.{Node, primitive, constructed, Nodes, no_nodes, node, encoding, encodings, levels, levels_of, IsFormed, AreFormed, AreOctets, IsLawful}
+use Rattle.der.specs.Node.{Node, primitive, constructed, Nodes, no_nodes, node, element, encoding, encodings, levels, levels_of, IsFormed, AreFormed, AreOctets, IsLawful}
 use Rattle.der.specs.Tree.{nodes}
 use Rattle.der.specs.Number.{number_content}
 use Rattle.der.specs.ObjectIdentifier.{IsOid, oid_content}
@@ -156,3 +156,14 @@ tst_is_lawful octets r t spells short h i n x =
     let parts = repeats spells.stated r spells.lawful (omega (arith, short, ap length spells.spelled)) in
     tst_within t h (subst (λ v. IsWithin 31 65536 (message_imprint v)) (sym i) parts.imprint) (subst (λ v. AreWithin 31 65536 (nodes (optional integer v))) (sym n) parts.nonce)
         (subst (λ v. AreWithin 31 65541 (nodes (extensions_under 161 [] v))) (sym x) parts.extensions)
+
+-- what writing a part of an accuracy adds
+pub part_adds : (t n : ℕ) (old new : List ℕ) → n < 4294967296 → new ≡ old ++ encodings (nodes (accuracy_part t n)) → length new ≤ length old + 13
+part_adds t n old new small e = by_test (eqb n 0) e
+  where
+    by_test : (z : Bool) → new ≡ old ++ encodings (nodes (cond z [] (primitive t (number_content (pos n)) ∷ []))) → length new ≤ length old + 13
+    by_test true e = omega (arith, ap length e, length-append old [])
+    by_test false e =
+        let short = number_is_short n (omega arith) in
+        let size = length-element t (number_content (pos n)) (omega arith) in
+        omega (arith, ap length e, length-append old (element t (number_content (pos n)) ++ []), length-append (element t (number_content (pos n))) [], size.1)

@@ -27,10 +27,14 @@ boolean_of n = contents_of 1 n >>= truth_of
 unfoldable pub oid_in : Node → Option (List ℕ)
 oid_in n = contents_of 6 n >>= oid_of
 
+-- nothing is left
+unfoldable pub end_of : Nodes → Option (Unit {0})
+end_of no_nodes = Some tt
+end_of (node first others) = None
+
 -- the value where nothing is left
 unfoldable pub only : {A : Type 0} → Nodes → A → Option A
-only no_nodes x = Some x
-only (node first others) x = None
+only ns x = end_of ns >>= λ ended. Some x
 
 -- an optional component, and what is left
 abbrev pub optional_of : {A : Type 0} → (Node → Option A) → Option Node → Nodes → Option (Option A × Nodes)

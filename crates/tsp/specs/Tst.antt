@@ -6,7 +6,7 @@ use Rattle.der.specs.Number.{number_content}
 use Rattle.der.specs.ObjectIdentifier.{IsOid}
 use Rattle.gentime.specs.GenTime.{text_of}
 use Rattle.tsp.specs.Grammar.{sequence, integer, object_identifier, optional, false_by_default}
-use Rattle.tsp.specs.Request.{ImprintValue, ExtensionValue, message_imprint, extensions_under}
+use Rattle.tsp.specs.Request.{ImprintValue, ExtensionValue, RequestValue, message_imprint, extensions_under}
 
 -- genTime and accuracy in microseconds
 pub record TstValue : Type 0 where
@@ -47,3 +47,16 @@ tst_info t =
     sequence (integer (pos 1) ∷ object_identifier t.policy ∷ message_imprint t.imprint ∷ integer (pos t.serial)
     ∷ generalized_time t.gen_time ∷ accuracy t.accuracy ∷ (false_by_default false t.ordering
     ++ (optional integer t.nonce ++ extensions_under 161 [] t.extensions)))
+
+-- the TSTInfo that answers a request
+abbrev pub answer : RequestValue → List ℕ → ℕ → ℕ → ℕ → Bool → TstValue
+answer r policy serial gen_time accuracy ordering = record {
+  policy = policy;
+  imprint = r.imprint;
+  serial = serial;
+  gen_time = gen_time;
+  accuracy = accuracy;
+  ordering = ordering;
+  nonce = r.nonce;
+  extensions = r.extensions;
+}

@@ -1,5 +1,5 @@
 //! From messages to octets, from the inside outwards.
-ghost use Rattle.std.specs.Prelude.{◌≡◌, ◌<◌, ◌≤◌, ◌^◌, ◌++◌, ◌⊎◌, Bool, false, pos, length, List, map, OnOk, IfOk, IfErr};
+ghost use Rattle.std.specs.Prelude.{◌≡◌, ◌<◌, ◌≤◌, ◌^◌, ◌++◌, ◌⊎◌, Bool, false, [], pos, length, List, map, OnOk, IfOk, IfErr};
 ghost use Rattle.der.specs.Node.{element, encoding, encodings, IsFormed, AreFormed, IsLawful};
 ghost use Rattle.der.specs.Tree.{nodes, view};
 ghost use Rattle.der.specs.Number.{number_content};
@@ -11,13 +11,21 @@ ghost use Rattle.tsp.specs.declared.fault.TspFault.TheVariants.{Memory};
 
 use std::alloc::Global;
 
-use der::{DerFault, Tag, Writer, whole_number_content};
-use gentime::GenTime;
+use der::{DerFault, Tag, Tree, Writer, whole_number_content};
+use gentime::{GenTime, GenTimeFault, texts_are_short};
 
 use crate::fault::TspFault;
 use crate::imprint::{Extension, MessageImprint};
 use crate::integer::Integer;
 use crate::tst::TstInfo;
+
+/// The part of an accuracy in milliseconds, under [0].
+const MILLIS: Tag = Tag { octet: 0x80 };
+/// The part of an accuracy in microseconds, under [1].
+const MICROS: Tag = Tag { octet: 0x81 };
+
+/// The extensions of a TSTInfo, under [1].
+const EXTENSIONS: Tag = Tag { octet: 0xa1 };
 
 /// Puts what was written under a tag. The caller's contents are fewer than 2^24 octets, so only memory can be wanting.
 fn wrap(writer: &mut Writer, tag: Tag) -> Result<(), TspFault>
@@ -68,4 +76,178 @@ fn append_number(alloc: Global, writer: &mut Writer, tag: Tag, number: u64) -> R
         Err(DerFault::Memory) => Err(TspFault::Memory),
         Err(_) => unreachable!(),
     }
+}
+
+/// Appends a GeneralizedTime (RFC 3161 2.4.2, X.690 11.7).
+fn append_time(alloc: Global, writer: &mut Writer, moment: GenTime) -> Result<(), TspFault>
+    ensures ok { OnOk result (writer.new ≡ writer.old ++ encoding (generalized_time moment)) }
+    ensures memory { IfErr result (λ fault. fault ≡ Memory) }
+{
+    let _bound = moment.micros();
+    texts_are_short();
+    match moment.write(alloc, 6) {
+        Ok(text) => append_value(alloc, writer, Tag::GENERALIZED_TIME, &text),
+        Err(GenTimeFault::Memory) => Err(TspFault::Memory),
+        Err(_) => unreachable!(),
+    }
+}
+
+/// Appends a part of an accuracy where it isn't zero.
+fn append_part(alloc: Global, writer: &mut Writer, tag: Tag, part: u32) -> Result<(), TspFault>
+    ensures ok { OnOk result (writer.new ≡ writer.old ++ encodings (nodes (accuracy_part tag.octet part))) }
+    ensures memory { IfErr result (λ fault. fault ≡ Memory) }
+{
+    if part == 0 {
+        return Ok(());
+    }
+    append_number(alloc, writer, tag, u64::from(part))
+}
+
+/// Appends an Accuracy of so many microseconds, at most 1,000,000 (RFC 3161 2.4.2).
+fn append_accuracy(alloc: Global, writer: &mut Writer, micros: u32) -> Result<(), TspFault>
+    requires { micros ≤ 1000000 }
+    ensures ok { OnOk result (writer.new ≡ writer.old ++ encoding (accuracy micros)) }
+    ensures memory { IfErr result (λ fault. fault ≡ Memory) }
+{
+    let mut parts = Writer::new(alloc);
+    append_part(alloc, &mut parts, Tag::INTEGER, micros / 1_000_000)?;
+    append_part(alloc, &mut parts, MILLIS, micros / 1_000 % 1_000)?;
+    append_part(alloc, &mut parts, MICROS, micros % 1_000)?;
+    wrap(&mut parts, Tag::SEQUENCE)?;
+    append(writer, parts.as_slice())
+}
+
+/// Appends a BOOLEAN DEFAULT FALSE: nothing for FALSE (X.690 11.5).
+fn append_flag(alloc: Global, writer: &mut Writer, flag: bool) -> Result<(), TspFault>
+    ensures ok { OnOk result (writer.new ≡ writer.old ++ encodings (nodes (false_by_default false flag))) }
+    ensures memory { IfErr result (λ fault. fault ≡ Memory) }
+{
+    if flag {
+        append_value(alloc, writer, Tag::BOOLEAN, &[0xff])
+    } else {
+        Ok(())
+    }
+}
+
+/// Appends a value as it was read.
+fn append_tree(writer: &mut Writer, tree: &Tree) -> Result<(), TspFault>
+    requires { IsFormed (view tree.now) }
+    ensures ok { OnOk result (writer.new ≡ writer.old ++ encoding (view tree.now)) }
+    ensures memory { IfErr result (λ fault. fault ≡ Memory) }
+{
+    match writer.append_tree(tree) {
+        Ok(()) => Ok(()),
+        Err(DerFault::Memory) => Err(TspFault::Memory),
+        Err(_) => unreachable!(),
+    }
+}
+
+/// Appends an AlgorithmIdentifier (RFC 5280 4.1.1.2).
+fn append_algorithm(alloc: Global, writer: &mut Writer, imprint: &MessageImprint) -> Result<(), TspFault>
+    requires { IsFormed (algorithm_identifier (imprint_view imprint.now)) }
+    ensures ok { OnOk result (writer.new ≡ writer.old ++ encoding (algorithm_identifier (imprint_view imprint.now))) }
+    ensures memory { IfErr result (λ fault. fault ≡ Memory) }
+{
+    let mut members = Writer::new(alloc);
+    append_value(alloc, &mut members, Tag::OBJECT_IDENTIFIER, imprint.algorithm.content())?;
+    if let Some(parameters) = &imprint.parameters {
+        append_tree(&mut members, parameters)?;
+    }
+    wrap(&mut members, Tag::SEQUENCE)?;
+    append(writer, members.as_slice())
+}
+
+/// Appends a MessageImprint (RFC 3161 2.4.1).
+fn append_imprint(alloc: Global, writer: &mut Writer, imprint: &MessageImprint) -> Result<(), TspFault>
+    requires { IsFormed (message_imprint (imprint_view imprint.now)) }
+    ensures ok { OnOk result (writer.new ≡ writer.old ++ encoding (message_imprint (imprint_view imprint.now))) }
+    ensures memory { IfErr result (λ fault. fault ≡ Memory) }
+{
+    let mut members = Writer::new(alloc);
+    append_algorithm(alloc, &mut members, imprint)?;
+    append_value(alloc, &mut members, Tag::OCTET_STRING, &imprint.hash)?;
+    wrap(&mut members, Tag::SEQUENCE)?;
+    append(writer, members.as_slice())
+}
+
+/// Appends an Extension (RFC 5280 4.1), `critical` only where it is TRUE.
+fn append_extension(alloc: Global, writer: &mut Writer, item: &Extension) -> Result<(), TspFault>
+    requires { IsFormed (extension false (extension_view item.now)) }
+    ensures ok { OnOk result (writer.new ≡ writer.old ++ encoding (extension false (extension_view item.now))) }
+    ensures memory { IfErr result (λ fault. fault ≡ Memory) }
+{
+    let mut members = Writer::new(alloc);
+    append_value(alloc, &mut members, Tag::OBJECT_IDENTIFIER, item.identifier.content())?;
+    append_flag(alloc, &mut members, item.critical)?;
+    append_value(alloc, &mut members, Tag::OCTET_STRING, &item.value)?;
+    wrap(&mut members, Tag::SEQUENCE)?;
+    append(writer, members.as_slice())
+}
+
+/// Appends Extension after Extension.
+fn append_all(alloc: Global, writer: &mut Writer, extensions: &[Extension]) -> Result<(), TspFault>
+    requires { AreFormed (nodes (extension_nodes [] (map extension_view extensions.now))) }
+    ensures ok { OnOk result (writer.new ≡ writer.old ++ encodings (nodes (extension_nodes [] (map extension_view extensions.now)))) }
+    ensures memory { IfErr result (λ fault. fault ≡ Memory) }
+{
+    for item in extensions {
+        append_extension(alloc, writer, item)?;
+    }
+    Ok(())
+}
+
+/// Appends Extensions under an implicit tag; nothing where there is none.
+fn append_extensions(
+    alloc: Global,
+    writer: &mut Writer,
+    tag: Tag,
+    extensions: &[Extension],
+) -> Result<(), TspFault>
+    requires { AreFormed (nodes (extensions_under tag.octet [] (map extension_view extensions.now))) }
+    ensures ok { OnOk result (writer.new ≡ writer.old ++ encodings (nodes (extensions_under tag.octet [] (map extension_view extensions.now)))) }
+    ensures memory { IfErr result (λ fault. fault ≡ Memory) }
+{
+    if extensions.is_empty() {
+        return Ok(());
+    }
+    let mut list = Writer::new(alloc);
+    append_all(alloc, &mut list, extensions)?;
+    wrap(&mut list, tag)?;
+    append(writer, list.as_slice())
+}
+
+/// Appends an INTEGER where there is one.
+fn append_nonce(alloc: Global, writer: &mut Writer, nonce: &Option<Integer>) -> Result<(), TspFault>
+    requires { AreFormed (nodes (optional integer nonce.now)) }
+    ensures ok { OnOk result (writer.new ≡ writer.old ++ encodings (nodes (optional integer nonce.now))) }
+    ensures memory { IfErr result (λ fault. fault ≡ Memory) }
+{
+    match nonce {
+        None => Ok(()),
+        Some(number) => append_value(alloc, writer, Tag::INTEGER, number.content()),
+    }
+}
+
+/// Writes a TSTInfo in its one encoding (RFC 3161 2.4.2): the accuracy is always stated, and ordering, nonce and
+/// extensions only where there is one, `critical` only where it is TRUE. The caller hands in parts within their ranges,
+/// of which the TSTInfo is a lawful value; `tst_infos_are_lawful` says so of what answers a request. Refused only for want
+/// of memory.
+pub fn write_tst(alloc: Global, tst: &TstInfo) -> Result<Vec<u8>, TspFault>
+    requires ranges { IsTst (tst_view tst.now) }
+    requires lawful { IsLawful (tst_info (tst_view tst.now)) }
+    ensures text { IfOk result (λ octets. octets.items ≡ encoding (tst_info (tst_view tst.now))) }
+    ensures memory { IfErr result (λ fault. fault ≡ Memory) }
+{
+    let mut members = Writer::new(alloc);
+    append_value(alloc, &mut members, Tag::INTEGER, &[1])?;
+    append_value(alloc, &mut members, Tag::OBJECT_IDENTIFIER, tst.policy.content())?;
+    append_imprint(alloc, &mut members, &tst.imprint)?;
+    append_number(alloc, &mut members, Tag::INTEGER, tst.serial)?;
+    append_time(alloc, &mut members, tst.gen_time)?;
+    append_accuracy(alloc, &mut members, tst.accuracy)?;
+    append_flag(alloc, &mut members, tst.ordering)?;
+    append_nonce(alloc, &mut members, &tst.nonce)?;
+    append_extensions(alloc, &mut members, EXTENSIONS, &tst.extensions)?;
+    wrap(&mut members, Tag::SEQUENCE)?;
+    Ok(members.into_octets())
 }

@@ -1,0 +1,81 @@
+use super::Writer;
+use crate::{DerFault, Tag, Tree};
+use std::alloc::Global;
+use std::test::Fail;
+
+/// How many octets are wrapped, with the identifier and length octets that X.690 10.1 wants in front of them.
+const HEADERS: &[(usize, &[u8])] = &[
+    (0, &[0x30, 0x00]),
+    (127, &[0x30, 0x7f]),
+    (128, &[0x30, 0x81, 0x80]),
+    (201, &[0x30, 0x81, 0xc9]),
+    (255, &[0x30, 0x81, 0xff]),
+    (256, &[0x30, 0x82, 0x01, 0x00]),
+    (65_535, &[0x30, 0x82, 0xff, 0xff]),
+    (65_536, &[0x30, 0x83, 0x01, 0x00, 0x00]),
+    (0x012345, &[0x30, 0x83, 0x01, 0x23, 0x45]),
+    (16_777_215, &[0x30, 0x83, 0xff, 0xff, 0xff]),
+];
+
+#[test]
+fn wraps_in_the_fewest_length_octets(rt: HostRuntime) -> Result<(), Fail> {
+    for (count, header) in HEADERS {
+        let octets = vec![in rt.alloc(); 0x09u8; *count]?;
+        let mut writer = Writer::new(rt.alloc());
+        writer.append(&octets)?;
+        writer.wrap(Tag::SEQUENCE)?;
+        assert!(rt; writer.as_slice().starts_with(header), "{count}");
+        assert!(rt; writer.as_slice().ends_with(&octets), "{count}");
+        assert_eq!(rt; writer.len(), header.len().saturating_add(*count));
+    }
+    Ok(())
+}
+
+#[test]
+fn refuses_to_wrap_2_24_octets(rt: HostRuntime) -> Result<(), Fail> {
+    let octets = vec![in rt.alloc(); 0x09u8; 1 << 24]?;
+    let mut writer = Writer::new(rt.alloc());
+    writer.append(&octets)?;
+    assert_eq!(rt; writer.wrap(Tag::SEQUENCE), Err(DerFault::TooLong));
+    assert_eq!(rt; writer.len(), 1 << 24);
+    let long = Tree::Primitive(Tag::OCTET_STRING, octets);
+    let mut writer = Writer::new(rt.alloc());
+    assert_eq!(rt; writer.append_tree(&long), Err(DerFault::TooLong));
+    assert!(rt; writer.is_empty());
+    Ok(())
+}
+
+/// A SEQUENCE of the INTEGER 1 and the BOOLEAN TRUE.
+fn sample(alloc: Global) -> Result<Tree, DerFault> {
+    let mut number = Vec::new(alloc);
+    number.push(1)?;
+    let mut truth = Vec::new(alloc);
+    truth.push(0xff)?;
+    let mut components = Vec::new(alloc);
+    components.push(Tree::Primitive(Tag::INTEGER, number))?;
+    components.push(Tree::Primitive(Tag::BOOLEAN, truth))?;
+    Ok(Tree::Constructed(Tag::SEQUENCE, components))
+}
+
+/// A NULL, and the sample after it.
+fn written(alloc: Global) -> Result<Vec<u8>, DerFault> {
+    let mut writer = Writer::new(alloc);
+    writer.wrap(Tag::NULL)?;
+    writer.append_tree(&sample(alloc)?)?;
+    Ok(writer.into_octets())
+}
+
+/// Also for a run in which each allocation is refused in turn: the octets, or want of memory and nothing else.
+#[test]
+fn writes_values(rt: HostRuntime) {
+    let wanted = [0x05, 0x00, 0x30, 0x06, 0x02, 0x01, 0x01, 0x01, 0x01, 0xff];
+    match written(rt.alloc()) {
+        Ok(octets) => assert_eq!(rt; octets.as_slice(), wanted.as_slice()),
+        Err(fault) => assert_eq!(rt; fault, DerFault::Memory),
+    }
+}
+
+#[test]
+fn has_memory_to_write(rt: HostRuntime) {
+    assert!(rt; written(rt.alloc()).is_ok());
+}

@@ -1,0 +1,6 @@
+use Rattle.gentime.proofs.Moments.{same_text}
+use Rattle.gentime.proofs.Pairs.{stated_once}
+use Rattle.gentime.proofs.laws.texts_are_distinct.Goals as goal
+
+pub returns : goal.returns
+returns c = record { times = stated_once; moments = same_text }
