@@ -1,12 +1,16 @@
 -- Rules that hold of the one request that octets spell, and of the octets.
-use Rattle.std.proofs.Common.{◌≡◌, ℕ, ◌<◌, ◌≤◌, List, length, sym, subst, refl, arith}
+use Rattle.std.proofs.Common.{◌≡◌, ℕ, ◌<◌, ◌≤◌, ℤ, pos, List, [], ◌∷◌, length, Result, Ok, Err, IfOk, inl, inr, sym, ap, ◌∙◌, subst, refl, arith}
+use Rattle.der.specs.Node.{encoding}
+use Rattle.der.specs.Number.{number_content, twos_value}
 use Rattle.tsp.specs.Request.{RequestValue, Spells}
-use Rattle.tsp.specs.Rejection.{number_of}
+use Rattle.tsp.specs.Rejection.{number_of, rejection}
 use Rattle.tsp.specs.Rules.{IsSpelled, HasVersionOne, HasKnownAlgorithm, HasAlgorithmLength, IsFirstFailing}
+use Rattle.tsp.specs.Tst.{tst_info}
 use Rattle.tsp.specs.declared.rule.Rule.{Rule}
 use Rattle.tsp.specs.declared.rule.Rule.TheVariants.{Spelling, Version, Account, Algorithm, HashLength, Policy, PolicyAlgorithm, Extensions, Certificate, Clock, Quota, System}
+use Rattle.counter.specs.Settings.{SettingsValue}
 use Rattle.counter.specs.Known.{five_algorithms}
-use Rattle.counter.specs.Tst.{Holds, HoldsOf}
+use Rattle.counter.specs.Tst.{Holds, HoldsOf, IsReply, tst_of}
 
 -- the octets spell the request and no other, and are few enough
 pub record IsOnlyRequest (query : List ℕ) (r : RequestValue) : Type 0 where
@@ -81,3 +85,30 @@ all_hold r version algorithm hash Version = version
 all_hold r version algorithm hash Algorithm = algorithm
 all_hold r version algorithm hash HashLength = hash
 all_hold r version algorithm hash rule = tt
+
+pub granted : (settings : SettingsValue) (query : List ℕ) (r : RequestValue) (octets : List ℕ) → IsOnlyRequest query r
+    → ((rule : Rule) → HoldsOf r rule) → octets ≡ encoding (tst_info (tst_of settings r)) → IsReply settings query octets
+granted settings query r octets h holds text =
+    inl record {
+      holds = λ rule. lifted query r h rule (holds rule);
+      info = λ other s. let P : RequestValue → Type 0 = λ x. octets ≡ encoding (tst_info (tst_of settings x)) in subst P (h.only other s) text;
+    }
+
+pub rejected : (settings : SettingsValue) (query : List ℕ) (rule : Rule) (octets : List ℕ) → IsFirstFailing (Holds query) rule
+    → octets ≡ encoding (rejection rule) → IsReply settings query octets
+rejected settings query rule octets first text = inr record { rule = rule; first = first; text = text }
+
+pub if_ok : {T E : Type 0} {P Q : T → Type 0} (r : Result T E) → ((x : T) → P x → Q x) → IfOk r P → IfOk r Q
+if_ok (Ok x) f h = f x h
+if_ok (Err e) f h = h
+
+-- the contents of a version tell whether it is 1
+pub version_one : (content : List ℕ) (version : ℤ) → content ≡ number_content version → twos_value (number_content version) ≡ version
+    → content ≡ 1 ∷ [] → version ≡ pos 1
+version_one content version e value one =
+    let octets : number_content version ≡ 1 ∷ [] = sym e ∙ one in
+    sym value ∙ ap twos_value octets
+
+pub one_is_content : (content : List ℕ) (version : ℤ) → content ≡ number_content version → version ≡ pos 1 → content ≡ 1 ∷ []
+unfolding number_content
+one_is_content content version e one = e ∙ ap number_content one

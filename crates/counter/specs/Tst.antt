@@ -1,12 +1,12 @@
 -- The reply to a request where no account, policy file or clock is asked: the TSTInfo of the request, or the rejection by the
 -- first rule that fails (RFC 3161 2.4.2).
 use Rattle.std.specs.Prelude.{◌≡◌, ℕ, ◌⊎◌, List, unwrap_or}
-use Rattle.der.specs.Node.{encoding}
+use Rattle.der.specs.Node.{encoding, IsLawful}
 use Rattle.gentime.specs.GenTime.{round_down}
 use Rattle.tsp.specs.Request.{RequestValue, Spells}
 use Rattle.tsp.specs.Rejection.{rejection}
 use Rattle.tsp.specs.Rules.{IsSpelled, HasVersionOne, HasKnownAlgorithm, HasAlgorithmLength, IsFirstFailing}
-use Rattle.tsp.specs.Tst.{TstValue, tst_info}
+use Rattle.tsp.specs.Tst.{TstValue, IsTst, tst_info}
 use Rattle.tsp.specs.declared.rule.Rule.{Rule}
 use Rattle.tsp.specs.declared.rule.Rule.TheVariants.{Spelling, Version, Account, Algorithm, HashLength, Policy, PolicyAlgorithm, Extensions, Certificate, Clock, Quota, System}
 use Rattle.counter.specs.Known.{five_algorithms}
@@ -24,6 +24,11 @@ tst_of settings r = record {
   nonce = r.nonce;
   extensions = r.extensions;
 }
+
+-- each TSTInfo with the request's imprint, nonce and extensions is a lawful value
+abbrev pub HasLawfulAnswers : RequestValue → Type 0
+HasLawfulAnswers r =
+    (t : TstValue) → IsTst t → t.imprint ≡ r.imprint → t.nonce ≡ r.nonce → t.extensions ≡ r.extensions → IsLawful (tst_info t)
 
 -- Which rules hold of a request. Those that speak of the request and of hash algorithms alone are judged; the others hold here.
 abbrev pub HoldsOf : RequestValue → Rule → Type 0

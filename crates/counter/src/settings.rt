@@ -1,7 +1,7 @@
 ghost use Rattle.std.specs.Prelude.{◌≡◌, ◌⊎◌, ◌^◌, ◌<◌, ◌≤◌, List, ℕ, Err, IfOk, IfErr};
 ghost use Rattle.der.specs.ObjectIdentifier.{IsOid, oid_text};
 ghost use Rattle.der.specs.declared.fault.DerFault.TheVariants.{BadValue, Memory};
-ghost use Rattle.gentime.specs.GenTime.{round_down};
+ghost use Rattle.gentime.specs.GenTime.{last_moment, round_down};
 
 use crate::fault::Fault;
 use crate::words::TstWords;
@@ -56,7 +56,8 @@ impl Settings {
 
     /// The moment, rounded down to the fraction digits.
     pub fn gen_time(&self) -> GenTime
-        ensures { result ≡ round_down self.now.digits self.now.moment }
+        ensures rounded { result ≡ round_down self.now.digits self.now.moment }
+        ensures bound { result ≤ last_moment }
     {
         let step: i64 = match self.digits {
             0 => 1_000_000,
