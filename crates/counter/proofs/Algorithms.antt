@@ -1,5 +1,5 @@
 -- The five algorithms, as values and as the contents of their object identifiers.
-use Rattle.std.proofs.Common.{◌≡◌, ℕ, zero, suc, ◌<◌, Bool, true, false, Option, Some, None, is_some, List, [], ◌∷◌, length, get_or, refl, sym, ap, ◌∙◌, arith}
+use Rattle.std.proofs.Common.{◌≡◌, ℕ, zero, suc, ◌<◌, Bool, true, false, Option, Some, None, is_some, List, [], ◌∷◌, get_or, refl, sym, ap, ◌∙◌, arith}
 use Rattle.std.specs.Prelude.{Contains, slice_index_or, ◌↔◌, IsTrue, IsNone, IfSome}
 use Rattle.der.specs.ObjectIdentifier.{oid_content, subidentifier_octets}
 use Rattle.tsp.specs.Rules.{AlgorithmValue}

@@ -1,5 +1,5 @@
 -- Rules that hold of the one request that octets spell, and of the octets.
-use Rattle.std.proofs.Common.{◌≡◌, ℕ, ◌<◌, ◌≤◌, ℤ, pos, List, [], ◌∷◌, length, Result, Ok, Err, IfOk, inl, inr, sym, ap, ◌∙◌, subst, refl, arith}
+use Rattle.std.proofs.Common.{◌≡◌, ℕ, ◌<◌, ◌≤◌, ℤ, pos, List, [], ◌∷◌, length, Result, Ok, Err, IfOk, inl, inr, sym, ap, ◌∙◌, subst, arith}
 use Rattle.der.specs.Node.{encoding}
 use Rattle.der.specs.Number.{number_content, twos_value}
 use Rattle.tsp.specs.Request.{RequestValue, Spells}

@@ -1,4 +1,4 @@
-ghost use Rattle.std.specs.Prelude.{◌≡◌, ◌⊎◌, OnOk, IfErr};
+ghost use Rattle.std.specs.Prelude.{◌≡◌, ◌⊎◌, Err, OnOk, IfErr};
 ghost use Rattle.std.specs.Io.KnownBytes.{Appends};
 ghost use Rattle.counter.specs.Hexadecimal.{line};
 
@@ -15,6 +15,7 @@ pub fn write_octets<W: Write>(
 ) -> Result<(), InputFault>
     ensures written { OnOk result
         (Appends (W.contents output.old) (W.contents output.new) (line octets.now)) }
+    ensures kept { result ≡ Err InputFault.Memory → W.contents output.new ≡ W.contents output.old }
     ensures faults { IfErr result (λ fault.
         (fault ≡ InputFault.Failed) ⊎ (fault ≡ InputFault.Memory)) }
 {

@@ -1,4 +1,6 @@
-ghost use Rattle.std.specs.Prelude.{◌≡◌, ◌≢◌, ◌≤◌, ◌⊎◌};
+ghost use Rattle.std.specs.Prelude.{◌≡◌, ◌≢◌, ◌≤◌, ◌⊎◌, List, ℕ, OnOk, IfSome, IfErr};
+ghost use Rattle.std.specs.Io.KnownBytes.{Appends};
+ghost use Rattle.counter.specs.Answers.{Answers};
 ghost use Rattle.clap.specs.Words.{kind_of};
 
 #[cfg(test)]
@@ -88,12 +90,21 @@ fn run_word<I: Read, O: Write>(
     }
 }
 
+/// Reads a request, and writes the reply to it.
 fn tst<I: Read, O: Write>(
     alloc: Global,
     words: &TstWords<'_>,
     input: &mut I,
     output: &mut O,
-) -> Result<(), Fault> {
+) -> Result<(), Fault>
+    // The reply to the request that the input spells is written, by the settings that the words state.
+    ensures answered { OnOk result (IfSome (I.remaining input.old) (λ text.
+        (written : List ℕ) × Answers words.now text written × Appends (O.contents output.old) (O.contents output.new) written)) }
+
+    // Before a fault nothing is written, but where writing itself fails.
+    ensures kept { IfErr result (λ fault. (fault ≡ Fault.Input InputFault.Failed)
+        ⊎ (O.contents output.new ≡ O.contents output.old)) }
+{
     let settings = Settings::of_words(alloc, words)?;
     let query = read_octets(alloc, input)?;
     let reply = tst_reply(alloc, query.as_slice(), &settings)?;

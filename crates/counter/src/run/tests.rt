@@ -1,3 +1,5 @@
+mod rows;
+
 use super::run_words;
 use std::alloc::{AllocError, Global};
 use std::io;
@@ -61,6 +63,10 @@ fn words_of(alloc: Global, line: &str) -> Result<Vec<String>, AllocError> {
 }
 
 const NOT_HEXADECIMAL: &[u8] = b"counter: input 1\n";
+
+const BAD_POLICY: &[u8] = b"counter: der 8\n";
+
+const OTHER_VERSION: &[u8] = b"3014301202010230090c0772756c6520303203020520\n";
 
 const FAILED: &[u8] = b"counter: input 5\n";
 
@@ -192,6 +198,44 @@ fn a_writer_that_fails_is_a_fault(rt: HostRuntime) -> Result<(), Fail> {
             assert_eq!(rt; output.taken.len(), room);
             assert_eq!(rt; errors.as_slice(), FAILED);
         }
+    }
+    Ok(())
+}
+
+#[test]
+fn a_policy_that_is_no_object_identifier_is_refused(rt: HostRuntime) -> Result<(), Fail> {
+    let alloc = rt.alloc();
+    for policy in [
+        "''", "1", "2..999", "2.999.", "1.40", "2.0999", "+2.999", "2,999", "a.b",
+    ] {
+        let settings = format!(in alloc;
+            "--policy {policy} --moment 0 --digits 0 --serial 1 --accuracy 1"
+        )?;
+        let words = tst_words(alloc, settings.as_str())?;
+        // The policy is looked at before the input.
+        for input in ["", "zz"] {
+            let run = run_on(&rt, words.as_slice(), input.as_bytes());
+            assert_eq!(rt; run.status, 1, "{policy}");
+            assert!(rt; run.output.is_empty(), "{policy}");
+            assert_eq!(rt; run.errors.as_slice(), BAD_POLICY, "{policy}");
+        }
+    }
+    Ok(())
+}
+
+#[test]
+fn blanks_and_both_cases_are_read(rt: HostRuntime) -> Result<(), Fail> {
+    let alloc = rt.alloc();
+    let words = tst_words(alloc, SETTINGS)?;
+    let version_two: [&[u8]; 3] = [
+        b"3039020102 3031300D06096086480165030402010500042000112233445566778899AABBCCDDEEFF00112233445566778899aabbccddeeff0101FF",
+        b" 3 0\t39\r\n020\n102303130\r0d0609608648016503040201050004200011223344556677 8899aabbccddeeff00112233445566778899aabbccddeeff0101ff\n\n",
+        b"303902010230313\t00d06096086480165030402010500042000112233445566778899aabbccddeeff00112233445566778899aabbccddeeff 0101fF",
+    ];
+    for text in version_two {
+        let run = run_on(&rt, words.as_slice(), text);
+        assert_eq!(rt; run.status, 0);
+        assert_eq!(rt; run.output.as_slice(), OTHER_VERSION);
     }
     Ok(())
 }

@@ -1,4 +1,4 @@
-use Rattle.std.proofs.Common.{◌≡◌, sym, ◌∙◌, refl, eqb-true, eq-eqb, length}
+use Rattle.std.proofs.Common.{sym, ◌∙◌, refl, eqb-true, eq-eqb, length}
 use Rattle.counter.specs.Known.{value_of}
 use Rattle.counter.proofs.Algorithms.{contains_value, each_length, none_contained}
 use Rattle.counter.proofs.known.has_known_length.Goals as goal

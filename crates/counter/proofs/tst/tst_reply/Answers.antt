@@ -1,4 +1,4 @@
-use Rattle.std.proofs.Common.{◌≡◌, ◌<◌, Err, inl, inr, length, ap, ◌∙◌, arith}
+use Rattle.std.proofs.Common.{◌<◌, Err, inl, inr, length, ap, ◌∙◌, arith}
 use Rattle.tsp.specs.Rules.{IsSpelled}
 use Rattle.tsp.specs.View.{request_view}
 use Rattle.tsp.specs.declared.rule.Rule.TheVariants.{Spelling}
@@ -47,8 +47,8 @@ returns-in-Form c =
     ] in
     record {
       reply =
-        if_ok c.write_rejection-in-Form.result
-        (λ reply. rejected (settings_value c.args.settings.now) query Spelling reply.items (spelling_fails query fails))
-        c.write_rejection-in-Form.ensures.text;
+          if_ok c.write_rejection-in-Form.result
+          (λ reply. rejected (settings_value c.args.settings.now) query Spelling reply.items (spelling_fails query fails))
+          c.write_rejection-in-Form.ensures.text;
       memory = c.write_rejection-in-Form.ensures.memory;
     }
