@@ -87,7 +87,7 @@ extensions_at-extensions_under tag stated [] h = rw (optional_at-none tag (exten
 extensions_at-extensions_under tag stated (e ∷ es) h =
     let all = extensions_of-extension_nodes stated (e ∷ es) h in
     let list : extension_list_of tag (constructed tag (nodes (extension_nodes stated (e ∷ es)))) ≡ Some (e ∷ es) =
-        unfold extension_list_of some_extensions in rw (eq-eqb tag tag refl, all) refl in
+    unfold extension_list_of some_extensions in rw (eq-eqb tag tag refl, all) refl in
     rw (optional_at-some tag (extension_list_of tag) (constructed tag (nodes (extension_nodes stated (e ∷ es)))) (e ∷ es) no_nodes refl list) refl
 
 -- Where the values after a component begin apart, and the component does too, so do both.
@@ -131,7 +131,7 @@ request_of-request s r h =
     let none_one : StartsApart 1 ext = apart-extensions_under 1 160 s.critical r.extensions (λ q. absurd (omega (arith, q))) in
     let none_two : StartsApart 2 flags = apart-false_by_default 2 s.cert_req r.cert_req ext (λ q. absurd (omega (arith, q))) (apart-extensions_under 2 160 s.critical r.extensions (λ q. absurd (omega (arith, q)))) in
     let none_six : StartsApart 6 nonces = apart-optional 6 2 integer r.nonce flags (λ x. refl) (λ q. absurd (omega (arith, q)))
-        (apart-false_by_default 6 s.cert_req r.cert_req ext (λ q. absurd (omega (arith, q))) (apart-extensions_under 6 160 s.critical r.extensions (λ q. absurd (omega (arith, q))))) in
+    (apart-false_by_default 6 s.cert_req r.cert_req ext (λ q. absurd (omega (arith, q))) (apart-extensions_under 6 160 s.critical r.extensions (λ q. absurd (omega (arith, q))))) in
     let policy = optional_at-optional 6 oid_in object_identifier r.policy nonces (λ x. refl) (if_some IsOid (λ x. oid_in (object_identifier x) ≡ Some x) r.policy h.policy oid_in-object_identifier) none_six in
     let nonce = optional_at-optional 2 integer_of integer r.nonce flags (λ x. refl) (any (λ x. integer_of (integer x) ≡ Some x) r.nonce integer_of-integer) none_two in
     let flag = flag_at-false_by_default s.cert_req r.cert_req ext none_one in

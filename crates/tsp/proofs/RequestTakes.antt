@@ -91,10 +91,10 @@ flag_takes ns found e = option_and_then_some (λ f. Some (unwrap_or f.0 false, f
     let flag : unwrap_or f.0 false ≡ found.0 = cc in
     let rest : f.1 ≡ found.1 = cc in
     ⊎_elim
-        (λ none. let is : found.0 ≡ false = sym flag ∙ ap (λ o. unwrap_or o false) none.0 in (false, none.1 ∙ rest ∙ sym (ap (λ b. before (false_by_default false b) found.1) is)))
-        (λ some. let is : found.0 ≡ some.1 = sym flag ∙ ap (λ o. unwrap_or o false) some.2 in
-            (true, some.4 ∙ ap (λ n. node n f.1) (boolean_takes some.0 some.1 some.3 ∙ ap boolean (sym is)) ∙ ap (node (boolean found.0)) rest ∙ sym (stated_flag found.0 found.1)))
-        (optional_at_takes 1 boolean_of ns f p))
+    (λ none. let is : found.0 ≡ false = sym flag ∙ ap (λ o. unwrap_or o false) none.0 in (false, none.1 ∙ rest ∙ sym (ap (λ b. before (false_by_default false b) found.1) is)))
+    (λ some. let is : found.0 ≡ some.1 = sym flag ∙ ap (λ o. unwrap_or o false) some.2 in
+    (true, some.4 ∙ ap (λ n. node n f.1) (boolean_takes some.0 some.1 some.3 ∙ ap boolean (sym is)) ∙ ap (node (boolean found.0)) rest ∙ sym (stated_flag found.0 found.1)))
+    (optional_at_takes 1 boolean_of ns f p))
 
 parameters_takes : (ns : Nodes) (parameters : Option Node) → parameters_of ns ≡ Some parameters → ns ≡ nodes (optional (λ n. n) parameters)
 unfolding parameters_of
@@ -112,11 +112,12 @@ algorithm_takes n found e =
     option_and_then_some _ (parameters_of first.1) found r3 (λ parameters e4 r4.
     let oid = oid_takes first.0 identifier e3 in
     let same_oid : identifier ≡ found.0 = cc in
-    let same_parameters : parameters ≡ found.1 = cc in
-    (subst IsOid same_oid oid.0,
-    components_takes 48 n members e1 ∙ ap (constructed 48) (front_takes members first e2
-    ∙ ap (λ x. node x first.1) (oid.1 ∙ ap object_identifier same_oid)
-    ∙ ap (node (object_identifier found.0)) (parameters_takes first.1 parameters e4 ∙ ap (λ o. nodes (optional (λ p. p) o)) same_parameters)))))))
+    let same_parameters : parameters ≡ found.1 = cc in (
+      subst IsOid same_oid oid.0,
+      components_takes 48 n members e1 ∙ ap (constructed 48) (front_takes members first e2
+          ∙ ap (λ x. node x first.1) (oid.1 ∙ ap object_identifier same_oid)
+          ∙ ap (node (object_identifier found.0)) (parameters_takes first.1 parameters e4 ∙ ap (λ o. nodes (optional (λ p. p) o)) same_parameters)),
+    )))))
 
 pub imprint_takes : (n : Node) (i : ImprintValue) → imprint_of n ≡ Some i → IsOid i.algorithm × (n ≡ message_imprint i)
 unfolding imprint_of
@@ -129,9 +130,9 @@ imprint_takes n i e =
     let a = algorithm_takes first.0 algorithm e3 in
     let last = only_takes second.1 _ i r5 in
     let whole : n ≡ message_imprint (record { algorithm = algorithm.0; parameters = algorithm.1; hash = hash }) =
-        components_takes 48 n members e1 ∙ ap (constructed 48) (front_takes members first e2 ∙ ap (λ x. node x first.1) a.1
-        ∙ ap (node (sequence (object_identifier algorithm.0 ∷ optional (λ p. p) algorithm.1))) (front_takes first.1 second e4
-        ∙ ap (λ x. node x second.1) (contents_takes 4 second.0 hash e5) ∙ ap (node (octet_string hash)) last.0)) in
+    components_takes 48 n members e1 ∙ ap (constructed 48) (front_takes members first e2 ∙ ap (λ x. node x first.1) a.1
+    ∙ ap (node (sequence (object_identifier algorithm.0 ∷ optional (λ p. p) algorithm.1))) (front_takes first.1 second e4
+    ∙ ap (λ x. node x second.1) (contents_takes 4 second.0 hash e5) ∙ ap (node (octet_string hash)) last.0)) in
     (subst (λ (v : ImprintValue). IsOid v.algorithm) last.1 a.0, whole ∙ ap message_imprint last.1))))))
 
 pub extension_takes : (n : Node) (v : ExtensionValue) → extension_of n ≡ Some v → IsOid v.identifier × ((stated : Bool) × (n ≡ extension stated v))
@@ -147,10 +148,10 @@ extension_takes n v e =
     let flag = flag_takes first.1 critical e4 in
     let end = only_takes last.1 _ v r6 in
     let whole : n ≡ extension flag.0 (record { identifier = identifier; critical = critical.0; value = value }) =
-        components_takes 48 n members e1 ∙ ap (constructed 48) (front_takes members first e2 ∙ ap (λ x. node x first.1) oid.1
-        ∙ ap (node (object_identifier identifier)) (flag.1 ∙ ap (before (false_by_default flag.0 critical.0)) (front_takes critical.1 last e5
-        ∙ ap (λ x. node x last.1) (contents_takes 4 last.0 value e6) ∙ ap (node (octet_string value)) end.0)
-        ∙ sym (nodes-append (false_by_default flag.0 critical.0) (octet_string value ∷ [])))) in
+    components_takes 48 n members e1 ∙ ap (constructed 48) (front_takes members first e2 ∙ ap (λ x. node x first.1) oid.1
+    ∙ ap (node (object_identifier identifier)) (flag.1 ∙ ap (before (false_by_default flag.0 critical.0)) (front_takes critical.1 last e5
+    ∙ ap (λ x. node x last.1) (contents_takes 4 last.0 value e6) ∙ ap (node (octet_string value)) end.0)
+    ∙ sym (nodes-append (false_by_default flag.0 critical.0) (octet_string value ∷ [])))) in
     (subst (λ (x : ExtensionValue). IsOid x.identifier) end.1 oid.0, (flag.0, whole ∙ ap (extension flag.0) end.1))))))))
 
 pub extensions_takes : (ns : Nodes) (es : List ExtensionValue) → extensions_of ns ≡ Some es
@@ -163,9 +164,10 @@ extensions_takes (node first others) es e =
     option_and_then_some _ (extensions_of others) es r1 (λ vs e2 r2.
     let one = extension_takes first v e1 in
     let rest = extensions_takes others vs e2 in
-    let is : v ∷ vs ≡ es = cc in
-    (subst (λ xs. AllByRecursion (λ x. IsOid x.identifier) xs) is (one.0, rest.0),
-    (one.1.0 ∷ rest.1.0, ap (λ x. node x others) one.1.1 ∙ ap (node (extension one.1.0 v)) rest.1.1 ∙ ap (λ xs. nodes (extension_nodes (one.1.0 ∷ rest.1.0) xs)) is))))
+    let is : v ∷ vs ≡ es = cc in (
+      subst (λ xs. AllByRecursion (λ x. IsOid x.identifier) xs) is (one.0, rest.0),
+      (one.1.0 ∷ rest.1.0, ap (λ x. node x others) one.1.1 ∙ ap (node (extension one.1.0 v)) rest.1.1 ∙ ap (λ xs. nodes (extension_nodes (one.1.0 ∷ rest.1.0) xs)) is),
+    )))
 
 some_takes : (es found : List ExtensionValue) → some_extensions es ≡ Some found → (first : ExtensionValue) × (others : List ExtensionValue) × (es ≡ first ∷ others) × (found ≡ first ∷ others)
 unfolding some_extensions
@@ -244,10 +246,10 @@ request_takes n r formed e =
     let found : RequestValue = record { version = version; imprint = imprint; policy = policy.0; nonce = nonce.0; cert_req = cert_req.0; extensions = extensions.0 } in
     let s : Stated = record { cert_req = of_flag.0; critical = of_extensions.1.0 } in
     let whole : n ≡ request s found =
-        is_n ∙ ap (constructed 48) (is_members ∙ ap (λ x. node x first.1) is_version ∙ ap (node (integer version)) (is_rest
-        ∙ ap (λ x. node x second.1) of_imprint.1 ∙ ap (node (message_imprint imprint)) (of_policy.1
-        ∙ ap (before (optional object_identifier policy.0)) (of_nonce.1 ∙ ap (before (optional integer nonce.0)) (of_flag.1
-        ∙ ap (before (false_by_default of_flag.0 cert_req.0)) (of_extensions.1.1 ∙ ap (before (extensions_under 160 of_extensions.1.0 extensions.0)) end.0
-        ∙ before-none (extensions_under 160 of_extensions.1.0 extensions.0)))) ∙ sym (request_tail s found)))) in
+    is_n ∙ ap (constructed 48) (is_members ∙ ap (λ x. node x first.1) is_version ∙ ap (node (integer version)) (is_rest
+    ∙ ap (λ x. node x second.1) of_imprint.1 ∙ ap (node (message_imprint imprint)) (of_policy.1
+    ∙ ap (before (optional object_identifier policy.0)) (of_nonce.1 ∙ ap (before (optional integer nonce.0)) (of_flag.1
+    ∙ ap (before (false_by_default of_flag.0 cert_req.0)) (of_extensions.1.1 ∙ ap (before (extensions_under 160 of_extensions.1.0 extensions.0)) end.0
+    ∙ before-none (extensions_under 160 of_extensions.1.0 extensions.0)))) ∙ sym (request_tail s found)))) in
     let proper : IsRequest found = record { algorithm = of_imprint.0; policy = of_policy.0; extensions = of_extensions.0 } in
     (subst IsRequest end.1 proper, (s, whole ∙ ap (request s) end.1)))))))))))

@@ -12,12 +12,12 @@ length_of_length : (n : ℕ) → n < 16777216 → (1 ≤ length (length_octets n
 length_of_length n small = ⊎_elim
     (λ l. let e = ap length (length_octets_short n l) in (omega (arith, e), omega (arith, e)))
     (λ g. ⊎_elim
-        (λ l. let e = ap length (length_octets_one n g l) in (omega (arith, e), omega (arith, e)))
-        (λ g2. ⊎_elim
-            (λ l. let e = ap length (length_octets_two n g2 l) in (omega (arith, e), omega (arith, e)))
-            (λ g3. let e = ap length (length_octets_three n g3 small) in (omega (arith, e), omega (arith, e)))
-            (split n 65536))
-        (split n 256))
+    (λ l. let e = ap length (length_octets_one n g l) in (omega (arith, e), omega (arith, e)))
+    (λ g2. ⊎_elim
+    (λ l. let e = ap length (length_octets_two n g2 l) in (omega (arith, e), omega (arith, e)))
+    (λ g3. let e = ap length (length_octets_three n g3 small) in (omega (arith, e), omega (arith, e)))
+    (split n 65536))
+    (split n 256))
     (split n 128)
   where
     split : (a b : ℕ) → (a < b) ⊎ (b ≤ a)
@@ -96,18 +96,20 @@ within_components t depth size ns h = record {
 
 pub within_first : (depth size : ℕ) (n : Node) (ns : Nodes) → AreWithin depth size (node n ns) → IsWithin depth size n × AreWithin depth size ns
 within_first depth size n ns h =
-    let long = length-append (encoding n) (encodings ns) in
-    (record { formed = h.formed.0; deep = omega (arith, h.deep); long = omega (arith, h.long, long) },
-    record { formed = h.formed.1; deep = omega (arith, h.deep); long = omega (arith, h.long, long) })
+    let long = length-append (encoding n) (encodings ns) in (
+      record { formed = h.formed.0; deep = omega (arith, h.deep); long = omega (arith, h.long, long) },
+      record { formed = h.formed.1; deep = omega (arith, h.deep); long = omega (arith, h.long, long) },
+    )
 
 pub within_parts : (depth size : ℕ) (xs : List Node) (ns : Nodes) → AreWithin depth size (before xs ns) → AreWithin depth size (nodes xs) × AreWithin depth size ns
 within_parts depth size [] ns h = (record { formed = tt; deep = omega arith; long = omega arith }, h)
 within_parts depth size (x ∷ xs) ns h =
     let one = within_first depth (length (encodings (before (x ∷ xs) ns))) x (before xs ns) (record { formed = h.formed; deep = h.deep; long = omega arith }) in
-    let rest = within_parts depth (length (encodings (before xs ns))) xs ns (record { formed = one.1.formed; deep = one.1.deep; long = omega arith }) in
-    (record {
-      formed = (one.0.formed, rest.0.formed);
-      deep = max-le (levels x) (levels_of (nodes xs)) depth one.0.deep rest.0.deep;
-      long = omega (arith, h.long, rest.0.long, length-append (encoding x) (encodings (before xs ns)), length-append (encoding x) (encodings (nodes xs)));
-    },
-    record { formed = rest.1.formed; deep = rest.1.deep; long = omega (arith, h.long, rest.1.long, length-append (encoding x) (encodings (before xs ns))) })
+    let rest = within_parts depth (length (encodings (before xs ns))) xs ns (record { formed = one.1.formed; deep = one.1.deep; long = omega arith }) in (
+      record {
+        formed = (one.0.formed, rest.0.formed);
+        deep = max-le (levels x) (levels_of (nodes xs)) depth one.0.deep rest.0.deep;
+        long = omega (arith, h.long, rest.0.long, length-append (encoding x) (encodings (before xs ns)), length-append (encoding x) (encodings (nodes xs)));
+      },
+      record { formed = rest.1.formed; deep = rest.1.deep; long = omega (arith, h.long, rest.1.long, length-append (encoding x) (encodings (before xs ns))) },
+    )

@@ -11,7 +11,7 @@ use Rattle.gentime.specs.GenTime.{text_of, last_moment}
 use Rattle.gentime.proofs.Texts.{text_of_short}
 use Rattle.tsp.specs.Grammar.{integer, boolean, octet_string, object_identifier, sequence, optional, false_by_default}
 use Rattle.tsp.specs.Request.{ImprintValue, ExtensionValue, RequestValue, IsRequest, Stated, Spells, message_imprint, extension, extension_nodes, extensions_under, request}
-use Rattle.tsp.specs.Tst.{TstValue, IsTst, accuracy_part, accuracy, generalized_time, tst_info}
+use Rattle.tsp.specs.Tst.{TstValue, IsTst, accuracy_part, accuracy, generalized_time, tst_info, answer}
 use Rattle.tsp.proofs.Components.{before, nodes-append}
 use Rattle.tsp.proofs.Sizes.{IsWithin, AreWithin, wider, within_none, within_node, within_before, within_primitive, within_constructed, within_components, within_first, within_parts, length-element}
 use Rattle.tsp.proofs.RequestReads.{request_tail}
@@ -55,8 +55,8 @@ within_accuracy n small =
     let millis = within_part 128 (n / 1000 % 1000) (inr (inl refl)) (omega arith) in
     let micros = within_part 129 (n % 1000) (inr (inr refl)) (omega arith) in
     let split : nodes (accuracy_part 2 (n / 1000000) ++ (accuracy_part 128 (n / 1000 % 1000) ++ accuracy_part 129 (n % 1000)))
-        ≡ before (accuracy_part 2 (n / 1000000)) (before (accuracy_part 128 (n / 1000 % 1000)) (nodes (accuracy_part 129 (n % 1000)))) =
-        nodes-append _ _ ∙ ap (before (accuracy_part 2 (n / 1000000))) (nodes-append _ _) in
+    ≡ before (accuracy_part 2 (n / 1000000)) (before (accuracy_part 128 (n / 1000 % 1000)) (nodes (accuracy_part 129 (n % 1000)))) =
+    nodes-append _ _ ∙ ap (before (accuracy_part 2 (n / 1000000))) (nodes-append _ _) in
     let all = within_before 1 13 26 (accuracy_part 2 (n / 1000000)) _ seconds (within_before 1 13 13 (accuracy_part 128 (n / 1000 % 1000)) _ millis micros) in
     within_constructed 48 1 39 _ (omega arith, omega arith) refl (subst (AreWithin 1 39) (sym split) all) (omega arith)
 
@@ -155,7 +155,7 @@ pub tst_is_lawful : (octets : List ℕ) (r : RequestValue) (t : TstValue) → Sp
 tst_is_lawful octets r t spells short h i n x =
     let parts = repeats spells.stated r spells.lawful (omega (arith, short, ap length spells.spelled)) in
     tst_within t h (subst (λ v. IsWithin 31 65536 (message_imprint v)) (sym i) parts.imprint) (subst (λ v. AreWithin 31 65536 (nodes (optional integer v))) (sym n) parts.nonce)
-        (subst (λ v. AreWithin 31 65541 (nodes (extensions_under 161 [] v))) (sym x) parts.extensions)
+    (subst (λ v. AreWithin 31 65541 (nodes (extensions_under 161 [] v))) (sym x) parts.extensions)
 
 -- what writing a part of an accuracy adds
 pub part_adds : (t n : ℕ) (old new : List ℕ) → n < 4294967296 → new ≡ old ++ encodings (nodes (accuracy_part t n)) → length new ≤ length old + 13
@@ -167,3 +167,21 @@ part_adds t n old new small e = by_test (eqb n 0) e
         let short = number_is_short n (omega arith) in
         let size = length-element t (number_content (pos n)) (omega arith) in
         omega (arith, ap length e, length-append old (element t (number_content (pos n)) ++ []), length-append (element t (number_content (pos n))) [], size.1)
+
+-- what answers a request is within its ranges, and lawful
+pub answer_is_lawful : (octets : List ℕ) (r : RequestValue) → Spells octets r → length octets ≤ 65536
+    → (policy : List ℕ) (serial gen_time accuracy : ℕ) (ordering : Bool) → IsOid policy → 1 ≤ serial → serial < 2 ^ 63
+    → gen_time ≤ 253402300799999999 → 1 ≤ accuracy → accuracy ≤ 1000000
+    → IsTst (answer r policy serial gen_time accuracy ordering) × IsLawful (tst_info (answer r policy serial gen_time accuracy ordering))
+answer_is_lawful octets r spells short policy serial gen_time accuracy ordering p s1 s2 g a1 a2 =
+    let ranges : IsTst (answer r policy serial gen_time accuracy ordering) = record {
+      policy = p;
+      algorithm = spells.proper.algorithm;
+      some_serial = s1;
+      last_serial = s2;
+      gen_time = g;
+      some_accuracy = a1;
+      most_accuracy = a2;
+      extensions = spells.proper.extensions;
+    } in
+    (ranges, tst_is_lawful octets r (answer r policy serial gen_time accuracy ordering) spells short ranges refl refl refl)

@@ -49,7 +49,7 @@ tst_text t w0 w1 w2 w3 w4 w5 w6 w7 w8 w9 e0 e1 e2 e3 e4 e5 e6 e7 e8 e9 =
     let s8 = e8 ∙ ap (λ w. w ++ encodings (nodes (optional integer t.nonce))) s7 in
     let s9 = e9 ∙ ap (λ w. w ++ encodings (nodes (extensions_under 161 [] t.extensions))) s8 in
     s9 ∙ regroup (encoding (integer (pos 1))) (encoding (object_identifier t.policy)) (encoding (message_imprint t.imprint)) (encoding (integer (pos t.serial)))
-        (encoding (generalized_time t.gen_time)) (encoding (accuracy t.accuracy)) (encodings (nodes (false_by_default false t.ordering)))
-        (encodings (nodes (optional integer t.nonce))) (encodings (nodes (extensions_under 161 [] t.extensions)))
+    (encoding (generalized_time t.gen_time)) (encoding (accuracy t.accuracy)) (encodings (nodes (false_by_default false t.ordering)))
+    (encodings (nodes (optional integer t.nonce))) (encodings (nodes (extensions_under 161 [] t.extensions)))
     ∙ ap (λ w. encoding (integer (pos 1)) ++ (encoding (object_identifier t.policy) ++ (encoding (message_imprint t.imprint) ++ (encoding (integer (pos t.serial))
-        ++ (encoding (generalized_time t.gen_time) ++ (encoding (accuracy t.accuracy) ++ w)))))) (sym (tail t))
+    ++ (encoding (generalized_time t.gen_time) ++ (encoding (accuracy t.accuracy) ++ w)))))) (sym (tail t))

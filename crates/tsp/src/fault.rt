@@ -1,8 +1,8 @@
-use std::alloc::{AllocError, AllocFailed};
-use thiserror::Error;
-
 ghost use Rattle.std.specs.Prelude.{◌≡◌};
 ghost use Rattle.tsp.specs.declared.fault.TspFault.TheVariants.{Memory};
+
+use std::alloc::{AllocError, AllocFailed};
+use thiserror::Error;
 
 /// Why octets are refused. Each refusal has a number, which the program prints.
 #[derive(Clone, Copy, Debug, PartialEq, Eq, Error)]

@@ -2,9 +2,8 @@ ghost use Rattle.std.specs.Prelude.{◌≡◌};
 ghost use Rattle.der.specs.Number.{number_content};
 ghost use Rattle.tsp.specs.Reading.{number_of};
 
-use std::marker::Model;
-
 use der::is_number_content;
+use std::marker::Model;
 
 /// An INTEGER of any size, by its contents octets (X.690 8.3).
 #[derive(Debug, Drop)]

@@ -4,10 +4,12 @@
 mod fault;
 mod imprint;
 mod integer;
-mod rejection;
 mod reading;
+mod rejection;
 mod request;
 mod rule;
+#[cfg(test)]
+mod tests;
 mod tst;
 mod writing;
 

@@ -5,12 +5,11 @@ ghost use Rattle.tsp.specs.Reading.{number_of, integer_of, truth_of, boolean_of,
 ghost use Rattle.tsp.specs.View.{imprint_view, extension_view, extensions_view};
 ghost use Rattle.tsp.specs.Gives.{Gives};
 
-use der::{Components, Oid, Tag, Tree, components_under, contents_under};
-use std::alloc::Global;
-
 use crate::fault::TspFault;
 use crate::imprint::{Extension, MessageImprint};
 use crate::integer::Integer;
+use der::{Components, Oid, Tag, Tree, components_under, contents_under};
+use std::alloc::Global;
 
 #[tactic(auto, unfolding(crate::specs::Reading::integer_of))]
 pub(crate) fn integer_from(tree: Tree) -> Option<Integer>

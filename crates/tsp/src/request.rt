@@ -1,7 +1,7 @@
-ghost use Rattle.std.specs.Prelude.{◌≡◌, ◌≢◌, ◌↔◌, ◌<◌, ◌≤◌, ℕ, List, Option, Some, None, Err, option_map, length, map, unwrap_or, IfOk, MatchResult};
+ghost use Rattle.std.specs.Prelude.{◌≡◌, ◌≢◌, ◌↔◌, ◌<◌, ◌≤◌, ◌^◌, ℕ, Bool, List, Option, Some, None, Err, option_map, length, map, unwrap_or, IfOk, MatchResult};
 ghost use Rattle.std.specs.Option.{option_copied};
 ghost use Rattle.der.specs.Number.{number_content};
-ghost use Rattle.der.specs.ObjectIdentifier.{oid_content};
+ghost use Rattle.der.specs.ObjectIdentifier.{IsOid, oid_content};
 ghost use Rattle.der.specs.Tree.{view};
 ghost use Rattle.tsp.specs.Gives.{Gives};
 ghost use Rattle.tsp.specs.Reading.{request_of, only};
@@ -11,15 +11,16 @@ ghost use Rattle.tsp.specs.Tst.{TstValue, IsTst, tst_info, answer};
 ghost use Rattle.tsp.specs.View.{request_view, extension_view, tst_view};
 ghost use Rattle.tsp.specs.declared.fault.TspFault.TheVariants.{Form, TooLong, Memory};
 
-use der::{DerFault, Oid, Tag, Tree, components_under, read_tree};
-use gentime::GenTime;
-use std::alloc::Global;
-
 use crate::fault::TspFault;
 use crate::imprint::{Extension, MessageImprint};
 use crate::integer::Integer;
+use crate::reading::{
+    end, extensions, flag, imprint_from, integer_from, optional_integer, optional_oid,
+};
 use crate::tst::TstInfo;
-use crate::reading::{end, extensions, flag, imprint_from, integer_from, optional_integer, optional_oid};
+use der::{DerFault, Oid, Tag, Tree, components_under, read_tree};
+use gentime::GenTime;
+use std::alloc::Global;
 
 /// How many octets a request may have.
 const MAX_OCTETS: usize = 65_536;
@@ -134,8 +135,11 @@ pub fn requests_have_one_reading()
     ensures one { (octets : List ℕ) (r s : RequestValue) → Spells octets r → Spells octets s → r ≡ s }
     ensures lawful { (octets : List ℕ) (r : RequestValue) (t : TstValue) → Spells octets r → length octets ≤ 65536 → IsTst t
         → t.imprint ≡ r.imprint → t.nonce ≡ r.nonce → t.extensions ≡ r.extensions → IsLawful (tst_info t) }
-{
-}
+    ensures answer { (octets : List ℕ) (r : RequestValue) → Spells octets r → length octets ≤ 65536
+        → (policy : List ℕ) (serial gen_time accuracy : ℕ) (ordering : Bool) → IsOid policy → 1 ≤ serial → serial < 2 ^ 63
+        → gen_time ≤ 253402300799999999 → 1 ≤ accuracy → accuracy ≤ 1000000
+        → IsTst (answer r policy serial gen_time accuracy ordering) × IsLawful (tst_info (answer r policy serial gen_time accuracy ordering)) }
+{}
 
 /// Reads a TimeStampReq (RFC 3161 2.4.1) in its distinguished encoding, but that certReq's and each `critical`'s FALSE
 /// may be stated.

@@ -1,8 +1,7 @@
-use der::Oid;
-use gentime::GenTime;
-
 use crate::imprint::{Extension, MessageImprint};
 use crate::integer::Integer;
+use der::Oid;
+use gentime::GenTime;
 
 /// What a token says (RFC 3161 2.4.2, TSTInfo), of version 1 and without the field tsa.
 #[derive(Debug, Drop)]

@@ -9,15 +9,13 @@ ghost use Rattle.tsp.specs.Tst.{IsTst, accuracy, accuracy_part, generalized_time
 ghost use Rattle.tsp.specs.View.{imprint_view, extension_view, extensions_view, tst_view};
 ghost use Rattle.tsp.specs.declared.fault.TspFault.TheVariants.{Memory};
 
-use std::alloc::Global;
-
-use der::{DerFault, Tag, Tree, Writer, whole_number_content};
-use gentime::{GenTime, GenTimeFault, texts_are_short};
-
 use crate::fault::TspFault;
 use crate::imprint::{Extension, MessageImprint};
 use crate::integer::Integer;
 use crate::tst::TstInfo;
+use der::{DerFault, Tag, Tree, Writer, whole_number_content};
+use gentime::{GenTime, GenTimeFault, texts_are_short};
+use std::alloc::Global;
 
 /// The part of an accuracy in milliseconds, under [0].
 const MILLIS: Tag = Tag { octet: 0x80 };
@@ -53,7 +51,12 @@ fn append(writer: &mut Writer, octets: &[u8]) -> Result<(), TspFault>
 }
 
 /// Appends a value with these contents octets, of which there are fewer than 2^24.
-fn append_value(alloc: Global, writer: &mut Writer, tag: Tag, contents: &[u8]) -> Result<(), TspFault>
+fn append_value(
+    alloc: Global,
+    writer: &mut Writer,
+    tag: Tag,
+    contents: &[u8],
+) -> Result<(), TspFault>
     requires { length contents.now < 2 ^ 24 }
     ensures ok { OnOk result (writer.new ≡ writer.old ++ element tag.octet contents.now) }
     ensures memory { IfErr result (λ fault. fault ≡ Memory) }
@@ -143,13 +146,22 @@ fn append_tree(writer: &mut Writer, tree: &Tree) -> Result<(), TspFault>
 }
 
 /// Appends an AlgorithmIdentifier (RFC 5280 4.1.1.2).
-fn append_algorithm(alloc: Global, writer: &mut Writer, imprint: &MessageImprint) -> Result<(), TspFault>
+fn append_algorithm(
+    alloc: Global,
+    writer: &mut Writer,
+    imprint: &MessageImprint,
+) -> Result<(), TspFault>
     requires { IsFormed (algorithm_identifier (imprint_view imprint.now)) }
     ensures ok { OnOk result (writer.new ≡ writer.old ++ encoding (algorithm_identifier (imprint_view imprint.now))) }
     ensures memory { IfErr result (λ fault. fault ≡ Memory) }
 {
     let mut members = Writer::new(alloc);
-    append_value(alloc, &mut members, Tag::OBJECT_IDENTIFIER, imprint.algorithm.content())?;
+    append_value(
+        alloc,
+        &mut members,
+        Tag::OBJECT_IDENTIFIER,
+        imprint.algorithm.content(),
+    )?;
     if let Some(parameters) = &imprint.parameters {
         append_tree(&mut members, parameters)?;
     }
@@ -158,7 +170,11 @@ fn append_algorithm(alloc: Global, writer: &mut Writer, imprint: &MessageImprint
 }
 
 /// Appends a MessageImprint (RFC 3161 2.4.1).
-fn append_imprint(alloc: Global, writer: &mut Writer, imprint: &MessageImprint) -> Result<(), TspFault>
+fn append_imprint(
+    alloc: Global,
+    writer: &mut Writer,
+    imprint: &MessageImprint,
+) -> Result<(), TspFault>
     requires { IsFormed (message_imprint (imprint_view imprint.now)) }
     ensures ok { OnOk result (writer.new ≡ writer.old ++ encoding (message_imprint (imprint_view imprint.now))) }
     ensures memory { IfErr result (λ fault. fault ≡ Memory) }
@@ -177,7 +193,12 @@ fn append_extension(alloc: Global, writer: &mut Writer, item: &Extension) -> Res
     ensures memory { IfErr result (λ fault. fault ≡ Memory) }
 {
     let mut members = Writer::new(alloc);
-    append_value(alloc, &mut members, Tag::OBJECT_IDENTIFIER, item.identifier.content())?;
+    append_value(
+        alloc,
+        &mut members,
+        Tag::OBJECT_IDENTIFIER,
+        item.identifier.content(),
+    )?;
     append_flag(alloc, &mut members, item.critical)?;
     append_value(alloc, &mut members, Tag::OCTET_STRING, &item.value)?;
     wrap(&mut members, Tag::SEQUENCE)?;
@@ -240,7 +261,12 @@ pub fn write_tst(alloc: Global, tst: &TstInfo) -> Result<Vec<u8>, TspFault>
 {
     let mut members = Writer::new(alloc);
     append_value(alloc, &mut members, Tag::INTEGER, &[1])?;
-    append_value(alloc, &mut members, Tag::OBJECT_IDENTIFIER, tst.policy.content())?;
+    append_value(
+        alloc,
+        &mut members,
+        Tag::OBJECT_IDENTIFIER,
+        tst.policy.content(),
+    )?;
     append_imprint(alloc, &mut members, &tst.imprint)?;
     append_number(alloc, &mut members, Tag::INTEGER, tst.serial)?;
     append_time(alloc, &mut members, tst.gen_time)?;
