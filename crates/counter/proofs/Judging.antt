@@ -1,0 +1,114 @@
+-- Rules that hold of the one request that octets spell, and of the octets.
+use Rattle.std.proofs.Common.{◌≡◌, ℕ, ◌<◌, ◌≤◌, ℤ, pos, List, [], ◌∷◌, length, Result, Ok, Err, IfOk, inl, inr, sym, ap, ◌∙◌, subst, arith}
+use Rattle.der.specs.Node.{encoding}
+use Rattle.der.specs.Number.{number_content, twos_value}
+use Rattle.tsp.specs.Request.{RequestValue, Spells}
+use Rattle.tsp.specs.Rejection.{number_of, rejection}
+use Rattle.tsp.specs.Rules.{IsSpelled, HasVersionOne, HasKnownAlgorithm, HasAlgorithmLength, IsFirstFailing}
+use Rattle.tsp.specs.Tst.{tst_info}
+use Rattle.tsp.specs.declared.rule.Rule.{Rule}
+use Rattle.tsp.specs.declared.rule.Rule.TheVariants.{Spelling, Version, Account, Algorithm, HashLength, Policy, PolicyAlgorithm, Extensions, Certificate, Clock, Quota, System}
+use Rattle.counter.specs.Settings.{SettingsValue}
+use Rattle.counter.specs.Known.{five_algorithms}
+use Rattle.counter.specs.Tst.{Holds, HoldsOf, IsReply, tst_of}
+
+-- the octets spell the request and no other, and are few enough
+pub record IsOnlyRequest (query : List ℕ) (r : RequestValue) : Type 0 where
+  pub spelled : Spells query r
+  pub only : (other : RequestValue) → Spells query other → r ≡ other
+  pub short : length query ≤ 65536
+
+pub lifted : (query : List ℕ) (r : RequestValue) → IsOnlyRequest query r → (rule : Rule) → HoldsOf r rule → Holds query rule
+lifted query r h Spelling k = ((r, h.spelled), h.short)
+lifted query r h Version k = λ other s. let P : RequestValue → Type 0 = λ x. HoldsOf x Version in subst P (h.only other s) k
+lifted query r h Account k = λ other s. tt
+lifted query r h Algorithm k = λ other s. let P : RequestValue → Type 0 = λ x. HoldsOf x Algorithm in subst P (h.only other s) k
+lifted query r h HashLength k = λ other s. let P : RequestValue → Type 0 = λ x. HoldsOf x HashLength in subst P (h.only other s) k
+lifted query r h Policy k = λ other s. tt
+lifted query r h PolicyAlgorithm k = λ other s. tt
+lifted query r h Extensions k = λ other s. tt
+lifted query r h Certificate k = λ other s. tt
+lifted query r h Clock k = λ other s. tt
+lifted query r h Quota k = λ other s. tt
+lifted query r h System k = λ other s. tt
+
+pub lowered : (query : List ℕ) (r : RequestValue) → IsOnlyRequest query r → (rule : Rule) → Holds query rule → HoldsOf r rule
+lowered query r h Spelling k = tt
+lowered query r h rule k = k r h.spelled
+
+pub first_lifted : (query : List ℕ) (r : RequestValue) → IsOnlyRequest query r → (rule : Rule)
+    → IsFirstFailing (HoldsOf r) rule → IsFirstFailing (Holds query) rule
+first_lifted query r h rule first =
+    record {
+      fails = λ k. first.fails (lowered query r h rule k);
+      before = λ earlier lower. lifted query r h earlier (first.before earlier lower);
+    }
+
+none_lower : (P : Rule → Type 0) (earlier : Rule) → number_of earlier < 1 → P earlier
+none_lower P Spelling h = absurd (omega arith)
+none_lower P rule h = absurd (omega arith)
+
+pub spelling_fails : (query : List ℕ) → (IsSpelled query → ⊥) → IsFirstFailing (Holds query) Spelling
+spelling_fails query fails = record { fails = fails; before = λ earlier lower. none_lower (Holds query) earlier lower }
+
+before_version : (r : RequestValue) (earlier : Rule) → number_of earlier < 2 → HoldsOf r earlier
+before_version r Spelling h = tt
+before_version r rule h = absurd (omega arith)
+
+pub version_fails : (r : RequestValue) → (HasVersionOne r → ⊥) → IsFirstFailing (HoldsOf r) Version
+version_fails r fails = record { fails = fails; before = before_version r }
+
+before_algorithm : (r : RequestValue) → HasVersionOne r → (earlier : Rule) → number_of earlier < 4 → HoldsOf r earlier
+before_algorithm r version Spelling h = tt
+before_algorithm r version Version h = version
+before_algorithm r version Account h = tt
+before_algorithm r version rule h = absurd (omega arith)
+
+pub algorithm_fails : (r : RequestValue) → HasVersionOne r → (HasKnownAlgorithm five_algorithms r → ⊥) → IsFirstFailing (HoldsOf r) Algorithm
+algorithm_fails r version fails = record { fails = fails; before = before_algorithm r version }
+
+before_length : (r : RequestValue) → HasVersionOne r → HasKnownAlgorithm five_algorithms r → (earlier : Rule)
+    → number_of earlier < 5 → HoldsOf r earlier
+before_length r version algorithm Spelling h = tt
+before_length r version algorithm Version h = version
+before_length r version algorithm Account h = tt
+before_length r version algorithm Algorithm h = algorithm
+before_length r version algorithm rule h = absurd (omega arith)
+
+pub length_fails : (r : RequestValue) → HasVersionOne r → HasKnownAlgorithm five_algorithms r
+    → (HasAlgorithmLength five_algorithms r → ⊥) → IsFirstFailing (HoldsOf r) HashLength
+length_fails r version algorithm fails = record { fails = fails; before = before_length r version algorithm }
+
+pub all_hold : (r : RequestValue) → HasVersionOne r → HasKnownAlgorithm five_algorithms r → HasAlgorithmLength five_algorithms r
+    → (rule : Rule) → HoldsOf r rule
+all_hold r version algorithm hash Version = version
+all_hold r version algorithm hash Algorithm = algorithm
+all_hold r version algorithm hash HashLength = hash
+all_hold r version algorithm hash rule = tt
+
+pub granted : (settings : SettingsValue) (query : List ℕ) (r : RequestValue) (octets : List ℕ) → IsOnlyRequest query r
+    → ((rule : Rule) → HoldsOf r rule) → octets ≡ encoding (tst_info (tst_of settings r)) → IsReply settings query octets
+granted settings query r octets h holds text =
+    inl record {
+      holds = λ rule. lifted query r h rule (holds rule);
+      info = λ other s. let P : RequestValue → Type 0 = λ x. octets ≡ encoding (tst_info (tst_of settings x)) in subst P (h.only other s) text;
+    }
+
+pub rejected : (settings : SettingsValue) (query : List ℕ) (rule : Rule) (octets : List ℕ) → IsFirstFailing (Holds query) rule
+    → octets ≡ encoding (rejection rule) → IsReply settings query octets
+rejected settings query rule octets first text = inr record { rule = rule; first = first; text = text }
+
+pub if_ok : {T E : Type 0} {P Q : T → Type 0} (r : Result T E) → ((x : T) → P x → Q x) → IfOk r P → IfOk r Q
+if_ok (Ok x) f h = f x h
+if_ok (Err e) f h = h
+
+-- the contents of a version tell whether it is 1
+pub version_one : (content : List ℕ) (version : ℤ) → content ≡ number_content version → twos_value (number_content version) ≡ version
+    → content ≡ 1 ∷ [] → version ≡ pos 1
+version_one content version e value one =
+    let octets : number_content version ≡ 1 ∷ [] = sym e ∙ one in
+    sym value ∙ ap twos_value octets
+
+pub one_is_content : (content : List ℕ) (version : ℤ) → content ≡ number_content version → version ≡ pos 1 → content ≡ 1 ∷ []
+unfolding number_content
+one_is_content content version e one = e ∙ ap number_content one

@@ -1,0 +1,6 @@
+pub mod Answers
+pub mod Fault
+pub mod Hexadecimal
+pub mod Known
+pub mod Settings
+pub mod Tst

@@ -1,0 +1,65 @@
+-- The reply to a request where no account, policy file or clock is asked: the TSTInfo of the request, or the rejection by the
+-- first rule that fails (RFC 3161 2.4.2).
+use Rattle.std.specs.Prelude.{◌≡◌, ℕ, ◌⊎◌, List, unwrap_or}
+use Rattle.der.specs.Node.{encoding, IsLawful}
+use Rattle.gentime.specs.GenTime.{round_down}
+use Rattle.tsp.specs.Request.{RequestValue, Spells}
+use Rattle.tsp.specs.Rejection.{rejection}
+use Rattle.tsp.specs.Rules.{IsSpelled, HasVersionOne, HasKnownAlgorithm, HasAlgorithmLength, IsFirstFailing}
+use Rattle.tsp.specs.Tst.{TstValue, IsTst, tst_info}
+use Rattle.tsp.specs.declared.rule.Rule.{Rule}
+use Rattle.tsp.specs.declared.rule.Rule.TheVariants.{Spelling, Version, Account, Algorithm, HashLength, Policy, PolicyAlgorithm, Extensions, Certificate, Clock, Quota, System}
+use Rattle.counter.specs.Known.{five_algorithms}
+use Rattle.counter.specs.Settings.{SettingsValue}
+
+-- the TSTInfo of a request: its policy is the request's where it states one, and its genTime the moment rounded down
+abbrev pub tst_of : SettingsValue → RequestValue → TstValue
+tst_of settings r = record {
+  policy = unwrap_or r.policy settings.policy;
+  imprint = r.imprint;
+  serial = settings.serial;
+  gen_time = round_down settings.digits settings.moment;
+  accuracy = settings.accuracy;
+  ordering = settings.ordering;
+  nonce = r.nonce;
+  extensions = r.extensions;
+}
+
+-- each TSTInfo with the request's imprint, nonce and extensions is a lawful value
+abbrev pub HasLawfulAnswers : RequestValue → Type 0
+HasLawfulAnswers r =
+    (t : TstValue) → IsTst t → t.imprint ≡ r.imprint → t.nonce ≡ r.nonce → t.extensions ≡ r.extensions → IsLawful (tst_info t)
+
+-- Which rules hold of a request. Those that speak of the request and of hash algorithms alone are judged; the others hold here.
+abbrev pub HoldsOf : RequestValue → Rule → Type 0
+HoldsOf r Spelling = Unit {0}
+HoldsOf r Version = HasVersionOne r
+HoldsOf r Account = Unit {0}
+HoldsOf r Algorithm = HasKnownAlgorithm five_algorithms r
+HoldsOf r HashLength = HasAlgorithmLength five_algorithms r
+HoldsOf r Policy = Unit {0}
+HoldsOf r PolicyAlgorithm = Unit {0}
+HoldsOf r Extensions = Unit {0}
+HoldsOf r Certificate = Unit {0}
+HoldsOf r Clock = Unit {0}
+HoldsOf r Quota = Unit {0}
+HoldsOf r System = Unit {0}
+
+-- Which rules hold of octets: that they are a request, and what holds of each request that they spell.
+abbrev pub Holds : List ℕ → Rule → Type 0
+Holds query Spelling = IsSpelled query
+Holds query rule = (r : RequestValue) → Spells query r → HoldsOf r rule
+
+-- each rule holds, and the reply is the TSTInfo of the request that the octets spell
+pub record IsGranted (settings : SettingsValue) (query octets : List ℕ) : Type 0 where
+  pub holds : (rule : Rule) → Holds query rule
+  pub info : (r : RequestValue) → Spells query r → octets ≡ encoding (tst_info (tst_of settings r))
+
+-- the reply is the rejection by the first rule that fails
+pub record IsRejected (query octets : List ℕ) : Type 0 where
+  pub rule : Rule
+  pub first : IsFirstFailing (Holds query) rule
+  pub text : octets ≡ encoding (rejection rule)
+
+abbrev pub IsReply : SettingsValue → List ℕ → List ℕ → Type 0
+IsReply settings query octets = IsGranted settings query octets ⊎ IsRejected query octets

@@ -1,0 +1,19 @@
+//! The counter of a time-stamping authority (RFC 3161), as a program.
+#![tactic(auto)]
+
+mod fault;
+mod hexadecimal;
+mod input;
+mod known;
+mod output;
+mod rules;
+mod run;
+mod settings;
+mod tst;
+mod words;
+
+use std::process::ExitCode;
+
+fn main(rt: HostRuntime) -> ExitCode {
+    ExitCode::from(run::run(&rt))
+}

@@ -1,0 +1,148 @@
+ghost use Rattle.std.specs.Prelude.{◌≡◌, ◌≢◌, ◌≤◌, ◌⊎◌, List, ℕ, OnOk, IfSome, IfErr};
+ghost use Rattle.std.specs.Io.KnownBytes.{Appends};
+ghost use Rattle.counter.specs.Answers.{Answers};
+ghost use Rattle.clap.specs.Words.{kind_of};
+
+#[cfg(test)]
+mod tests;
+
+use crate::fault::{Fault, InputFault};
+use crate::input::read_octets;
+use crate::output::write_octets;
+use crate::settings::Settings;
+use crate::tst::tst_reply;
+use crate::words::{TstWords, Word};
+use clap::error::ErrorKind;
+use std::alloc::Global;
+use std::io::{Read, Write};
+use std::rt::HostRuntime;
+use std::{env, io};
+
+const DONE: u8 = 0;
+
+const FAULT: u8 = 1;
+
+const WORDS_REFUSED: u8 = 2;
+
+/// The program with the process's own words and streams. Words that aren't UTF-8 are refused.
+pub fn run(rt: &HostRuntime) -> u8
+    ensures { result ≤ 2 }
+{
+    match process_words(rt) {
+        Ok(words) => run_words(
+            rt,
+            words.as_slice(),
+            &mut rt.stdin(),
+            &mut rt.stdout(),
+            &mut rt.stderr(),
+        ),
+        Err(error) if error.kind() == io::ErrorKind::OutOfMemory => {
+            report(Fault::Input(InputFault::Memory), &mut rt.stderr())
+        }
+        Err(_) => {
+            // Where standard error fails, the status alone tells.
+            let _ = rt.stderr().write_all(b"error: the words are not UTF-8\n");
+            WORDS_REFUSED
+        }
+    }
+}
+
+fn process_words(rt: &HostRuntime) -> io::Result<Vec<String>> {
+    Ok(env::args(rt)?.collect(rt.alloc())?)
+}
+
+/// The whole program: does what the words ask for, of which the first is the program's name, and answers the exit status: 0
+/// where it is done (a rejection and help are done too), 1 where a fault stopped it, whose line it writes to `errors`, and
+/// 2 where the words aren't understood.
+pub fn run_words<I: Read, O: Write, E: Write>(
+    rt: &HostRuntime,
+    words: &[String],
+    input: &mut I,
+    output: &mut O,
+    errors: &mut E,
+) -> u8
+    ensures status { result ≤ 2 }
+
+    // Where all is done, no fault is written.
+    ensures silent { result ≡ 0 → E.contents errors.new ≡ E.contents errors.old }
+
+    // Words that aren't understood read nothing, and write to `errors` alone.
+    ensures unread { result ≡ 2 → I.remaining input.new ≡ I.remaining input.old }
+    ensures unwritten { result ≡ 2 → O.contents output.new ≡ O.contents output.old }
+{
+    match Word::parse(rt.alloc(), words) {
+        Ok(word) => match run_word(rt.alloc(), &word, input, output) {
+            Ok(()) => DONE,
+            Err(fault) => report(fault, errors),
+        },
+        Err(error) => explain(&error, output, errors),
+    }
+}
+
+fn run_word<I: Read, O: Write>(
+    alloc: Global,
+    word: &Word<'_>,
+    input: &mut I,
+    output: &mut O,
+) -> Result<(), Fault> {
+    match word {
+        Word::Tst(words) => tst(alloc, words, input, output),
+    }
+}
+
+/// Reads a request, and writes the reply to it.
+fn tst<I: Read, O: Write>(
+    alloc: Global,
+    words: &TstWords<'_>,
+    input: &mut I,
+    output: &mut O,
+) -> Result<(), Fault>
+    // The reply to the request that the input spells is written, by the settings that the words state.
+    ensures answered { OnOk result (IfSome (I.remaining input.old) (λ text.
+        (written : List ℕ) × Answers words.now text written × Appends (O.contents output.old) (O.contents output.new) written)) }
+
+    // Before a fault nothing is written, but where writing itself fails.
+    ensures kept { IfErr result (λ fault. (fault ≡ Fault.Input InputFault.Failed)
+        ⊎ (O.contents output.new ≡ O.contents output.old)) }
+{
+    let settings = Settings::of_words(alloc, words)?;
+    let query = read_octets(alloc, input)?;
+    let reply = tst_reply(alloc, query.as_slice(), &settings)?;
+    write_octets(alloc, reply.as_slice(), output)?;
+    Ok(())
+}
+
+/// Writes the fault's line.
+fn report<E: Write>(fault: Fault, errors: &mut E) -> u8
+    ensures { result ≡ 1 }
+{
+    // Where standard error fails, the status alone tells.
+    let _ = writeln!(errors, "{fault}");
+    FAULT
+}
+
+/// Writes why there are no words to run: help to standard output, a mistake to standard error.
+fn explain<O: Write, E: Write>(error: &clap::Error, output: &mut O, errors: &mut E) -> u8
+    ensures status { result ≤ 2 }
+    ensures silent { result ≡ 0 → E.contents errors.new ≡ E.contents errors.old }
+    ensures unwritten { result ≡ 2 → O.contents output.new ≡ O.contents output.old }
+
+    // Words are refused where clap says so, and help is shown where it was asked for.
+    ensures refused { result ≡ 2 → (kind_of error.now ≢ ErrorKind.DisplayHelp)
+        × (kind_of error.now ≢ ErrorKind.DisplayVersion) }
+    ensures shown { result ≡ 0 → (kind_of error.now ≡ ErrorKind.DisplayHelp)
+        ⊎ (kind_of error.now ≡ ErrorKind.DisplayVersion) }
+    ensures memory { kind_of error.now ≡ ErrorKind.OutOfMemory → result ≡ 1 }
+{
+    if error.kind() == ErrorKind::OutOfMemory {
+        return report(Fault::Input(InputFault::Memory), errors);
+    }
+    if error.use_stderr() {
+        let _ = write!(errors, "{error}");
+        return WORDS_REFUSED;
+    }
+    match write!(output, "{error}") {
+        Ok(()) => DONE,
+        Err(_) => report(Fault::Input(InputFault::Failed), errors),
+    }
+}

@@ -1,0 +1,73 @@
+ghost use Rattle.std.specs.Prelude.{◌≡◌, ◌⊎◌, ◌^◌, ◌<◌, ◌≤◌, List, ℕ, Err, IfOk, IfErr};
+ghost use Rattle.der.specs.ObjectIdentifier.{IsOid, oid_text};
+ghost use Rattle.der.specs.declared.fault.DerFault.TheVariants.{BadValue, Memory};
+ghost use Rattle.gentime.specs.GenTime.{last_moment, round_down};
+
+use crate::fault::Fault;
+use crate::words::TstWords;
+use der::Oid;
+use gentime::GenTime;
+use std::alloc::Global;
+
+/// What a TSTInfo says besides what its request says.
+#[derive(Debug, Drop)]
+pub struct Settings {
+    /// The policy of a request that states none.
+    pub policy: Oid,
+    /// The moment, which is rounded down to the fraction digits.
+    pub moment: GenTime,
+    /// How many fraction digits of a second the genTime has at most, 0 to 6.
+    pub digits: u8,
+    /// The serial number, 1 to 2^63 - 1.
+    pub serial: u64,
+    /// The accuracy, 1 to 1,000,000 microseconds.
+    pub accuracy: u32,
+    /// Whether the TSTInfo states that tokens are ordered.
+    pub ordering: bool,
+    ghost fraction: { digits ≤ 6 },
+    ghost first_serial: { 1 ≤ serial },
+    ghost last_serial: { serial < 2 ^ 63 },
+    ghost some_accuracy: { 1 ≤ accuracy },
+    ghost most_accuracy: { accuracy ≤ 1000000 },
+}
+
+impl Settings {
+    ghost use Rattle.counter.specs.Settings.{settings_value, States};
+
+    /// The settings that the words state. A policy that is no object identifier's text is refused as `der` 8, and `der` 9 is
+    /// want of memory.
+    pub fn of_words(alloc: Global, words: &TstWords<'_>) -> Result<Settings, Fault>
+        ensures found { IfOk result (λ settings. States words.now (settings_value settings)) }
+        ensures refused { result ≡ Err (Fault.Der BadValue) → (oid : List ℕ) → IsOid oid
+            → words.now.policy.now ≡ oid_text oid → ⊥ }
+        ensures faults { IfErr result (λ fault. (fault ≡ Fault.Der BadValue) ⊎ (fault ≡ Fault.Der Memory)) }
+    {
+        let policy = Oid::parse_text(alloc, words.policy)?;
+        let moment = GenTime::from_micros(words.moment as i64).unwrap();
+        Ok(Settings {
+            policy,
+            moment,
+            digits: words.digits,
+            serial: words.serial,
+            accuracy: words.accuracy,
+            ordering: words.ordering,
+        })
+    }
+
+    /// The moment, rounded down to the fraction digits.
+    pub fn gen_time(&self) -> GenTime
+        ensures rounded { result ≡ round_down self.now.digits self.now.moment }
+        ensures bound { result ≤ last_moment }
+    {
+        let step: i64 = match self.digits {
+            0 => 1_000_000,
+            1 => 100_000,
+            2 => 10_000,
+            3 => 1_000,
+            4 => 100,
+            5 => 10,
+            _ => 1,
+        };
+        GenTime::from_micros(self.moment.micros() / step * step).unwrap()
+    }
+}

@@ -1,0 +1,29 @@
+/* Loaded into a program before the C library: refuses the allocation of the number REFUSED_ALLOCATION, counted from 1, and with
+   REFUSED_ALLOCATIONS=all each one after it. Where it refused any, it makes the file REFUSAL_MARK. */
+#include <errno.h>
+#include <fcntl.h>
+#include <stdlib.h>
+#include <string.h>
+#include <unistd.h>
+
+extern void *__libc_malloc(size_t size);
+extern void *__libc_realloc(void *old, size_t size);
+
+static long allocations;
+
+static int is_refused(void) {
+  const char *number = getenv("REFUSED_ALLOCATION");
+  const char *which = getenv("REFUSED_ALLOCATIONS");
+  const char *mark = getenv("REFUSAL_MARK");
+  if (!number || !which || !mark) return 0;
+  long first = strtol(number, NULL, 10);
+  allocations++;
+  if (allocations < first || (allocations > first && strcmp(which, "all") != 0)) return 0;
+  if (allocations == first) close(open(mark, O_CREAT | O_WRONLY, 0600));
+  errno = ENOMEM;
+  return 1;
+}
+
+void *malloc(size_t size) { return is_refused() ? NULL : __libc_malloc(size); }
+
+void *realloc(void *old, size_t size) { return is_refused() ? NULL : __libc_realloc(old, size); }
