@@ -3,6 +3,7 @@ pub mod Extensions
 pub mod Natural
 pub mod RequestReads
 pub mod RequestTakes
+pub mod RequestText
 pub mod Sizes
 pub mod Spelled
 pub mod TstLawful

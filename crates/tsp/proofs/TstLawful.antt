@@ -10,7 +10,7 @@ use Rattle.der.proofs.OidContents.{octets-oid_content, length-oid_content}
 use Rattle.gentime.specs.GenTime.{text_of, last_moment}
 use Rattle.gentime.proofs.Texts.{text_of_short}
 use Rattle.tsp.specs.Grammar.{integer, boolean, octet_string, object_identifier, sequence, optional, false_by_default}
-use Rattle.tsp.specs.Request.{ImprintValue, ExtensionValue, RequestValue, IsRequest, Stated, Spells, message_imprint, extension, extension_nodes, extensions_under, request}
+use Rattle.tsp.specs.Request.{ImprintValue, ExtensionValue, RequestValue, IsRequest, Stated, Spells, message_imprint, extension, extension_nodes, extensions_under, unstated, request}
 use Rattle.tsp.specs.Tst.{TstValue, IsTst, accuracy_part, accuracy, generalized_time, tst_info, answer}
 use Rattle.tsp.proofs.Components.{before, nodes-append}
 use Rattle.tsp.proofs.Sizes.{IsWithin, AreWithin, wider, within_none, within_node, within_before, within_primitive, within_constructed, within_components, within_first, within_parts, length-element}
@@ -185,3 +185,35 @@ answer_is_lawful octets r spells short policy serial gen_time accuracy ordering 
       extensions = spells.proper.extensions;
     } in
     (ranges, tst_is_lawful octets r (answer r policy serial gen_time accuracy ordering) spells short ranges refl refl refl)
+
+-- the extensions of a request, without stated FALSEs
+within_extension_list_request : (stated : List Bool) (depth size : ℕ) (es : List ExtensionValue) → size < 16777216 → AreWithin (suc (suc depth)) size (nodes (extensions_under 160 stated es)) → AreWithin (suc (suc depth)) (size + 5) (nodes (extensions_under 160 [] es))
+within_extension_list_request stated depth size [] small h = record { formed = tt; deep = omega arith; long = omega arith }
+within_extension_list_request stated depth size (e ∷ es) small h =
+    let list = within_first (suc (suc depth)) size (constructed 160 (nodes (extension_nodes stated (e ∷ es)))) no_nodes h in
+    let inside = within_components 160 (suc depth) size (nodes (extension_nodes stated (e ∷ es))) list.0 in
+    let new = within_constructed 160 (suc depth) size (nodes (extension_nodes [] (e ∷ es))) (omega arith, omega arith) refl (within_extensions stated depth size (e ∷ es) inside) small in
+    let one = within_node (suc (suc depth)) (size + 5) 0 (constructed 160 (nodes (extension_nodes [] (e ∷ es)))) no_nodes new (within_none (suc (suc depth))) in
+    record { formed = one.formed; deep = one.deep; long = omega (arith, one.long) }
+
+-- what is read from at most 65,536 octets is lawful without its stated FALSEs
+pub unstated_is_lawful : (octets : List ℕ) (r : RequestValue) → Spells octets r → length octets ≤ 65536 → IsLawful (request unstated r)
+unstated_is_lawful octets r spells short =
+    let s = spells.stated in
+    let whole : IsWithin 32 65536 (request s r) = record { formed = spells.lawful.formed; deep = spells.lawful.depth; long = omega (arith, short, ap length spells.spelled) } in
+    let inside = within_components 48 31 65536 _ whole in
+    let first = within_first 31 65536 (integer r.version) _ inside in
+    let second = within_first 31 65536 (message_imprint r.imprint) _ first.1 in
+    let tail = subst (AreWithin 31 65536) (request_tail s r) second.1 in
+    let policy = within_parts 31 65536 (optional object_identifier r.policy) _ tail in
+    let nonce = within_parts 31 65536 (optional integer r.nonce) _ policy.1 in
+    let flag = within_parts 31 65536 (false_by_default s.cert_req r.cert_req) _ nonce.1 in
+    let list = within_extension_list_request s.critical 29 65536 r.extensions (omega arith) flag.1 in
+    let a = within_before 31 6 65541 (false_by_default false r.cert_req) _ (deeper 1 31 6 _ (within_flag false r.cert_req) (omega arith)) list in
+    let b = within_before 31 65536 65547 (optional integer r.nonce) _ nonce.0 a in
+    let c = within_before 31 65536 131083 (optional object_identifier r.policy) _ policy.0 b in
+    let d = subst (AreWithin 31 196619) (sym (request_tail unstated r)) c in
+    let e = within_node 31 65536 196619 (message_imprint r.imprint) _ second.0 d in
+    let f = within_node 31 65536 262155 (integer r.version) _ first.0 e in
+    let all = within_constructed 48 31 327691 _ (omega arith, omega arith) refl f (omega arith) in
+    record { formed = all.formed; depth = all.deep }

@@ -10,7 +10,7 @@ use Rattle.tsp.specs.Tst.{TstValue, accuracy, generalized_time}
 use Rattle.tsp.proofs.Components.{before}
 use Rattle.tsp.proofs.TstLawful.{tst_tail}
 
-encodings-before : (xs : List Node) (rest : Nodes) → encodings (before xs rest) ≡ encodings (nodes xs) ++ encodings rest
+pub encodings-before : (xs : List Node) (rest : Nodes) → encodings (before xs rest) ≡ encodings (nodes xs) ++ encodings rest
 encodings-before [] rest = refl
 encodings-before (x ∷ xs) rest = ap (λ octets. encoding x ++ octets) (encodings-before xs rest) ∙ sym (append_assoc (encoding x) (encodings (nodes xs)) (encodings rest))
 

@@ -68,6 +68,10 @@ request stated r =
     sequence (integer r.version ∷ message_imprint r.imprint ∷ (optional object_identifier r.policy ++ (optional integer r.nonce
     ++ (false_by_default stated.cert_req r.cert_req ++ extensions_under 160 stated.critical r.extensions))))
 
+-- no FALSE is stated
+abbrev pub unstated : Stated
+unstated = record { cert_req = false; critical = [] }
+
 -- The octets are the encoding of a lawful value that the grammar gives for the request. Which FALSEs are stated is free,
 -- and nothing else.
 pub record Spells (octets : List ℕ) (r : RequestValue) : Type 0 where

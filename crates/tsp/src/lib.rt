@@ -22,4 +22,4 @@ pub use request::{Request, read_request, requests_have_one_reading};
 pub use rule::Rule;
 pub use tst::TstInfo;
 pub use tst_reading::{read_tst, tst_infos_have_one_reading};
-pub use writing::write_tst;
+pub use writing::{write_request, write_tst};

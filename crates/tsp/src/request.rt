@@ -5,8 +5,8 @@ ghost use Rattle.der.specs.ObjectIdentifier.{IsOid, oid_content};
 ghost use Rattle.der.specs.Tree.{view};
 ghost use Rattle.tsp.specs.Gives.{Gives};
 ghost use Rattle.tsp.specs.Reading.{request_of, only};
-ghost use Rattle.der.specs.Node.{IsLawful};
-ghost use Rattle.tsp.specs.Request.{RequestValue, Spells};
+ghost use Rattle.der.specs.Node.{encoding, IsLawful};
+ghost use Rattle.tsp.specs.Request.{RequestValue, IsRequest, Stated, unstated, request as spelled, Spells};
 ghost use Rattle.tsp.specs.Tst.{TstValue, IsTst, tst_info, answer};
 ghost use Rattle.tsp.specs.View.{request_view, extension_view, tst_view};
 ghost use Rattle.tsp.specs.declared.fault.TspFault.TheVariants.{Form, TooLong, Memory};
@@ -25,7 +25,7 @@ use std::alloc::Global;
 /// How many octets a request may have.
 const MAX_OCTETS: usize = 65_536;
 /// The extensions of a request, under [0].
-const EXTENSIONS: Tag = Tag { octet: 0xa0 };
+pub(crate) const REQUEST_EXTENSIONS: Tag = Tag { octet: 0xa0 };
 
 /// A time-stamp request (RFC 3161 2.4.1, TimeStampReq), as `read_request` reads it.
 #[derive(Debug, Drop)]
@@ -133,6 +133,15 @@ impl Request {
 /// octets is lawful, so that `write_tst` writes it.
 pub fn requests_have_one_reading()
     ensures one { (octets : List ℕ) (r s : RequestValue) → Spells octets r → Spells octets s → r ≡ s }
+
+    // Two spellings of one request differ only in stated FALSEs.
+    ensures spellings { (octets others : List ℕ) (r : RequestValue) → Spells octets r → Spells others r →
+        (s : Stated) × ((t : Stated) × ((octets ≡ encoding (spelled s r)) × (others ≡ encoding (spelled t r)))) }
+
+    // Without its stated FALSEs a request of at most 65,536 octets is lawful too. What `write_request` writes spells it, so
+    // it is read back.
+    ensures unstated { (octets : List ℕ) (r : RequestValue) → Spells octets r → length octets ≤ 65536 → IsLawful (spelled unstated r) }
+    ensures written { (r : RequestValue) → IsRequest r → IsLawful (spelled unstated r) → Spells (encoding (spelled unstated r)) r }
     ensures lawful { (octets : List ℕ) (r : RequestValue) (t : TstValue) → Spells octets r → length octets ≤ 65536 → IsTst t
         → t.imprint ≡ r.imprint → t.nonce ≡ r.nonce → t.extensions ≡ r.extensions → IsLawful (tst_info t) }
     ensures answer { (octets : List ℕ) (r : RequestValue) → Spells octets r → length octets ≤ 65536
@@ -177,7 +186,7 @@ fn request_from(alloc: Global, tree: Tree) -> Result<Request, TspFault>
     let policy = optional_oid(&mut members).ok_or(TspFault::Form)?;
     let nonce = optional_integer(&mut members).ok_or(TspFault::Form)?;
     let cert_req = flag(true, &mut members).ok_or(TspFault::Form)?;
-    let extensions = extensions(alloc, true, EXTENSIONS, &mut members)?;
+    let extensions = extensions(alloc, true, REQUEST_EXTENSIONS, &mut members)?;
     end(&members).ok_or(TspFault::Form)?;
     Ok(Request {
         version,

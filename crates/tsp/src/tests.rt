@@ -283,3 +283,14 @@ fn reads_tst_infos_and_nothing_else(rt: HostRuntime) -> Result<(), Fail> {
     }
     Ok(())
 }
+
+#[test]
+fn writes_requests_without_stated_falses(rt: HostRuntime) -> Result<(), Fail> {
+    let request = read_request(rt.alloc(), REQUESTS[2])?;
+    requests_have_one_reading();
+    assert_eq!(rt;
+        write_request(rt.alloc(), &request)?.as_slice(),
+        REQUESTS[0]
+    );
+    Ok(())
+}

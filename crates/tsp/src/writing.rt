@@ -3,17 +3,18 @@ ghost use Rattle.std.specs.Prelude.{◌≡◌, ◌<◌, ◌≤◌, ◌^◌, ◌+
 ghost use Rattle.der.specs.Node.{element, encoding, encodings, IsFormed, AreFormed, IsLawful};
 ghost use Rattle.der.specs.Tree.{nodes, view};
 ghost use Rattle.der.specs.Number.{number_content};
-ghost use Rattle.tsp.specs.Grammar.{integer, optional, false_by_default};
-ghost use Rattle.tsp.specs.Request.{algorithm_identifier, message_imprint, extension, extension_nodes, extensions_under};
+ghost use Rattle.tsp.specs.Grammar.{integer, object_identifier, optional, false_by_default};
+ghost use Rattle.tsp.specs.Request.{request as tsp_request, unstated, algorithm_identifier, message_imprint, extension, extension_nodes, extensions_under};
 ghost use Rattle.tsp.specs.Tst.{IsTst, accuracy, accuracy_part, generalized_time, tst_info};
-ghost use Rattle.tsp.specs.View.{imprint_view, extension_view, extensions_view, tst_view};
+ghost use Rattle.tsp.specs.View.{request_view, imprint_view, extension_view, extensions_view, tst_view};
 ghost use Rattle.tsp.specs.declared.fault.TspFault.TheVariants.{Memory};
 
 use crate::fault::TspFault;
 use crate::imprint::{Extension, MessageImprint};
 use crate::integer::Integer;
+use crate::request::{REQUEST_EXTENSIONS, Request};
 use crate::tst::TstInfo;
-use der::{DerFault, Tag, Tree, Writer, whole_number_content};
+use der::{DerFault, Oid, Tag, Tree, Writer, whole_number_content};
 use gentime::{GenTime, GenTimeFault, texts_are_short};
 use std::alloc::Global;
 
@@ -274,6 +275,36 @@ pub fn write_tst(alloc: Global, tst: &TstInfo) -> Result<Vec<u8>, TspFault>
     append_flag(alloc, &mut members, tst.ordering)?;
     append_nonce(alloc, &mut members, &tst.nonce)?;
     append_extensions(alloc, &mut members, EXTENSIONS, &tst.extensions)?;
+    wrap(&mut members, Tag::SEQUENCE)?;
+    Ok(members.into_octets())
+}
+
+/// Appends an OBJECT IDENTIFIER where there is one.
+fn append_policy(alloc: Global, writer: &mut Writer, policy: &Option<Oid>) -> Result<(), TspFault>
+    requires { AreFormed (nodes (optional object_identifier policy.now)) }
+    ensures ok { OnOk result (writer.new ≡ writer.old ++ encodings (nodes (optional object_identifier policy.now))) }
+    ensures memory { IfErr result (λ fault. fault ≡ Memory) }
+{
+    match policy {
+        None => Ok(()),
+        Some(policy) => append_value(alloc, writer, Tag::OBJECT_IDENTIFIER, policy.content()),
+    }
+}
+
+/// Writes a request without stated FALSEs (RFC 3161 2.4.1). The caller hands in a request that is a lawful value so; one
+/// that `read_request` read is. Refused only for want of memory.
+pub fn write_request(alloc: Global, request: &Request) -> Result<Vec<u8>, TspFault>
+    requires { IsLawful (tsp_request unstated (request_view request.now)) }
+    ensures text { IfOk result (λ octets. octets.items ≡ encoding (tsp_request unstated (request_view request.now))) }
+    ensures memory { IfErr result (λ fault. fault ≡ Memory) }
+{
+    let mut members = Writer::new(alloc);
+    append_value(alloc, &mut members, Tag::INTEGER, request.version.content())?;
+    append_imprint(alloc, &mut members, &request.imprint)?;
+    append_policy(alloc, &mut members, &request.policy)?;
+    append_nonce(alloc, &mut members, &request.nonce)?;
+    append_flag(alloc, &mut members, request.cert_req)?;
+    append_extensions(alloc, &mut members, REQUEST_EXTENSIONS, &request.extensions)?;
     wrap(&mut members, Tag::SEQUENCE)?;
     Ok(members.into_octets())
 }
