@@ -1,4 +1,4 @@
-ghost use Rattle.std.specs.Prelude.{◌≡◌, ℕ, ◌*◌, ◌<◌, ◌≤◌, ◌↔◌, ◌⊎◌, nat_eq, List, length, IfOk, IfErr, MatchResult, IsTrue, IfSome, IsNone, string_bytes};
+ghost use Rattle.std.specs.Prelude.{◌≡◌, ℕ, ◌*◌, ◌<◌, ◌≤◌, ◌↔◌, ◌⊎◌, nat_eq, List, length, None, Err, IfOk, IfErr, MatchResult, IsTrue, IfSome, IsNone, string_bytes};
 ghost use Rattle.std.specs.Option.{is_some};
 ghost use Rattle.std.specs.Cmp.Lexicographic.{pointwise};
 ghost use Rattle.std.proofs.lemmas.Cmp.{nat_list_eq_equiv};
@@ -58,6 +58,7 @@ impl Oid {
         ensures only { (subidentifiers : List ℕ) → IsOid subidentifiers → content.now ≡ oid_content subidentifiers
             → MatchResult result (λ oid. oid ≡ subidentifiers) (λ e. e ≡ Memory) }
         ensures refusals { IfErr result (λ e. (e ≡ BadValue) ⊎ (e ≡ Memory)) }
+        ensures bad_value { (result ≡ Err BadValue) ↔ (oid_of content.now ≡ None) }
     {
         if !is_oid_content(content) {
             return Err(DerFault::BadValue);
