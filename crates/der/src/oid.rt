@@ -1,4 +1,4 @@
-ghost use Rattle.std.specs.Prelude.{◌≡◌, ℕ, ◌+◌, ◌*◌, ◌<◌, ◌≤◌, ◌↔◌, ◌⊎◌, nat_eq, List, [], length, Option, Some, None, IfOk, IfErr, MatchResult, IsTrue, IsSome, IfSome, IsNone, string_bytes};
+ghost use Rattle.std.specs.Prelude.{◌≡◌, ℕ, ◌*◌, ◌<◌, ◌≤◌, ◌↔◌, ◌⊎◌, nat_eq, List, length, None, Err, IfOk, IfErr, MatchResult, IsTrue, IfSome, IsNone, string_bytes};
 ghost use Rattle.std.specs.Option.{is_some};
 ghost use Rattle.std.specs.Cmp.Lexicographic.{pointwise};
 ghost use Rattle.std.proofs.lemmas.Cmp.{nat_list_eq_equiv};
@@ -58,6 +58,7 @@ impl Oid {
         ensures only { (subidentifiers : List ℕ) → IsOid subidentifiers → content.now ≡ oid_content subidentifiers
             → MatchResult result (λ oid. oid ≡ subidentifiers) (λ e. e ≡ Memory) }
         ensures refusals { IfErr result (λ e. (e ≡ BadValue) ⊎ (e ≡ Memory)) }
+        ensures bad_value { (result ≡ Err BadValue) ↔ (oid_of content.now ≡ None) }
     {
         if !is_oid_content(content) {
             return Err(DerFault::BadValue);
@@ -159,6 +160,7 @@ pub fn is_oid_content(content: &[u8]) -> bool
     let mut subidentifier: u128 = 0;
     let mut count: usize = 0;
     for octet in content {
+        // seven bits more would not be below 2^128
         if subidentifier >= 1 << 121 {
             return false;
         }
@@ -278,13 +280,11 @@ mod tests {
         ];
         for (text, octets) in cases {
             let oid = Oid::parse_text(rt.alloc(), text)?;
-            assert_eq!(rt; oid.content(), octets, "{text}");
-            assert_eq!(rt;
-                Oid::from_content(rt.alloc(), octets)?
-                    .text(rt.alloc())?
-                    .as_str(),
-                text
-            );
+            assert_eq!(rt; oid.content(), octets);
+            let written = Oid::from_content(rt.alloc(), octets)?
+                .clone()?
+                .text(rt.alloc())?;
+            assert_eq!(rt; written.as_bytes(), text.as_bytes());
         }
         Ok(())
     }
