@@ -1,9 +1,9 @@
 -- Decimal numbers, written and read.
-use Rattle.std.proofs.Common.{◌≡◌, ℕ, zero, suc, ◌+◌, ◌-◌, ◌*◌, ◌/◌, ◌%◌, ◌^◌, ◌<◌, ◌≤◌, Bool, true, false, ◌&&◌, cond, ltb, eqb, leb, List, [], ◌∷◌, ◌++◌, length, get_or, drop, map, Option, Some, None, refl, sym, ap, subst, ◌∙◌, ◌⊎◌, inl, inr, ⊎_elim, lit<, arith, append_assoc, MatchOption}
+use Rattle.std.proofs.Common.{◌≡◌, ℕ, zero, suc, ◌+◌, ◌-◌, ◌*◌, ◌/◌, ◌%◌, ◌^◌, ◌<◌, ◌≤◌, Bool, true, false, ◌&&◌, cond, ltb, eqb, leb, List, [], ◌∷◌, ◌++◌, length, get_or, drop, map, Option, Some, None, refl, sym, ap, subst, ◌∙◌, ◌⊎◌, inl, inr, ⊎_elim, arith, append_assoc}
 use Rattle.std.specs.Int.Digits.{digits_of, number_from_digits, number_from_digits_after, AllBelowBase}
-use Rattle.std.proofs.lemmas.Bool.{cases_lt, cases_Bool, lt-ltb, le-ltb, le-leb, lt-leb, eq-eqb, ne_eqb, ltb-true, eqb-true, eqb-false, leb-true, cond-true, cond-false, false≢true, and_left, and_right, and_parts, and_cases}
-use Rattle.std.proofs.lemmas.Int.Digits.{digits_of_step, first_digits_of, number_digits_of, all_below_base_digits_of, number_after_ge}
-use Rattle.std.proofs.lemmas.List.{append-nil, map-append, drop_more, drop_all}
+use Rattle.std.proofs.lemmas.Bool.{cases_lt, cases_Bool, lt-ltb, le-ltb, le-leb, lt-leb, eq-eqb, ne_eqb, eqb-false, cond-true, cond-false, and_left, and_right}
+use Rattle.std.proofs.lemmas.Int.Digits.{first_digits_of, number_digits_of, all_below_base_digits_of, number_after_ge}
+use Rattle.std.proofs.lemmas.List.{map-append, drop_more, drop_all}
 use Rattle.der.specs.ObjectIdentifier.{decimal, BeginsWithoutDigit, IsNumberAt}
 use Rattle.der.proofs.Digits.{digits_of_digit, digits_of_push}
 

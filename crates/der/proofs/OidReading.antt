@@ -1,7 +1,7 @@
 -- The loop that tells the contents of object identifiers from other octets.
-use Rattle.std.proofs.Common.{◌≡◌, ℕ, ◌+◌, ◌-◌, ◌*◌, ◌^◌, ◌<◌, ◌≤◌, Bool, true, false, List, [], ◌∷◌, length, drop, get_or, Option, Some, None, IsTrue, ◌↔◌, Decides, refl, sym, ap, subst, ◌∙◌, arith, eqb}
+use Rattle.std.proofs.Common.{◌≡◌, ℕ, ◌+◌, ◌-◌, ◌*◌, ◌^◌, ◌<◌, ◌≤◌, Bool, true, false, List, ◌∷◌, length, drop, get_or, IsTrue, ◌↔◌, refl, sym, ap, subst, ◌∙◌, arith, eqb, ltb}
 use Rattle.std.specs.Option.{is_some}
-use Rattle.std.proofs.lemmas.Bool.{eqb-true, eqb-false, eq-eqb, false≢true}
+use Rattle.std.proofs.lemmas.Bool.{eqb-true, eqb-false, eq-eqb, false≢true, le-ltb}
 use Rattle.std.proofs.lemmas.List.{drop_more, drop_all}
 use Rattle.der.specs.Node.{AreOctets}
 use Rattle.der.specs.ObjectIdentifier.{IsOidContent, subidentifiers_after, subidentifiers_of, oid_of}
@@ -86,3 +86,8 @@ tells_by os i n count false octets end so_far some few e = tells_others_at_end o
 
 pub tells_at_end : (os : List ℕ) (i n count : ℕ) → ((k : ℕ) → get_or os k 0 < 256) → length os ≤ i → IsReadSoFar os i n count → 1 ≤ count → count ≤ 32 → Tells os (eqb n 0)
 tells_at_end os i n count octets end so_far some few = tells_by os i n count (eqb n 0) (all-from_places 256 os (λ k _. octets k)) end so_far some few refl
+
+-- the answer is then whether there is a subidentifier
+pub tells_none : (os : List ℕ) (i n count : ℕ) → length os ≤ i → IsReadSoFar os i n count → count ≤ 0 → Tells os (ltb 0 count)
+tells_none os i n count end so_far none =
+    subst (Tells os) (sym (le-ltb 0 count none)) (tells_others_at_end os i n count end so_far (λ _ some _. absurd (omega arith)))

@@ -1,8 +1,7 @@
 -- The loops over a text's numbers, and over the octets of which a text is written.
-use Rattle.std.proofs.Common.{◌≡◌, ℕ, ◌+◌, ◌-◌, ◌*◌, ◌^◌, ◌<◌, ◌≤◌, Bool, true, false, List, [], ◌∷◌, ◌++◌, length, drop, get_or, refl, sym, ap, subst, ◌∙◌, inl, lit<, arith, append_assoc, length-append}
+use Rattle.std.proofs.Common.{◌≡◌, ℕ, ◌+◌, ◌-◌, ◌*◌, ◌^◌, ◌<◌, ◌≤◌, true, List, [], ◌∷◌, ◌++◌, length, drop, get_or, refl, sym, ap, subst, ◌∙◌, arith, append_assoc, length-append}
 use Rattle.std.specs.List.{flat_map}
 use Rattle.std.proofs.lemmas.List.{append-nil, drop_more, drop_all, flat_map_more, nil_from_length, length_push}
-use Rattle.std.proofs.lemmas.List.Concat.{flat_map-append}
 use Rattle.der.specs.ObjectIdentifier.{IsOidContent, subidentifier_octets, oid_content, subidentifiers_after, subidentifiers_of, decimal, dotted, first_arc, oid_text, AreOthers, IsDottedNumberAt}
 use Rattle.der.proofs.DigitsElements.{all-append}
 use Rattle.der.proofs.OidContents.{AreSmall, fits, fits_parts, fits_parts_last, fits_parts_more, fits-from_IsOidContent, subidentifiers_after-last, subidentifiers_after-more}

@@ -1,11 +1,11 @@
 -- Texts of object identifiers, written and read.
-use Rattle.std.proofs.Common.{◌≡◌, ℕ, ◌+◌, ◌-◌, ◌*◌, ◌/◌, ◌%◌, ◌^◌, ◌<◌, ◌≤◌, List, [], ◌∷◌, ◌++◌, length, map, drop, refl, sym, ap, subst, ◌∙◌, ◌⊎◌, inl, inr, ⊎_elim, lit<, arith, append_assoc, Result, Ok, Err, OnOk, if◌then◌else◌}
+use Rattle.std.proofs.Common.{◌≡◌, ℕ, ◌+◌, ◌-◌, ◌*◌, ◌/◌, ◌%◌, ◌^◌, ◌<◌, ◌≤◌, List, [], ◌∷◌, ◌++◌, refl, sym, ap, subst, ◌∙◌, inl, lit<, arith, append_assoc, Result, Ok, Err, OnOk, if◌then◌else◌}
 use Rattle.std.specs.Result.{is_ok}
 use Rattle.std.proofs.lemmas.Bool.Decides.{nat_tests}
 use Rattle.std.specs.Int.Digits.{digits_of}
-use Rattle.std.specs.List.{flat_map, AllByRecursion}
+use Rattle.std.specs.List.{flat_map}
 use Rattle.std.proofs.lemmas.Int.Digits.{digits_of_step}
-use Rattle.std.proofs.lemmas.List.{append-nil, map-append}
+use Rattle.std.proofs.lemmas.List.{map-append}
 use Rattle.der.specs.ObjectIdentifier.{IsOid, IsOidContent, subidentifiers_of, subidentifier_octets, oid_content, decimal, dotted, first_arc, oid_text, AreOthers, IsNumberAt, IsDottedNumberAt, BeginsWithoutDigit}
 use Rattle.der.proofs.OidContents.{continued, subidentifier_octets-split, AreSmall, IsOidContent-written, subidentifiers_of-written}
 use Rattle.der.proofs.OidNumbers.{same_number}

@@ -1,6 +1,6 @@
 -- The definitions, computed on octets that are known from elsewhere.
-use Rattle.std.proofs.Common.{◌≡◌, pos, negsuc, [], ◌∷◌, refl, Ok, Err}
-use Rattle.der.specs.Node.{Node, primitive, constructed, no_nodes, node, encoding, length_octets}
+use Rattle.std.proofs.Common.{◌≡◌, pos, negsuc, [], ◌∷◌, refl, Ok, Err, Some, None}
+use Rattle.der.specs.Node.{Node, primitive, constructed, no_nodes, node, encoding, length_octets, levels, components_of, contents_of, first_of, take_under}
 use Rattle.der.specs.Number.{number_content, twos_value}
 use Rattle.der.specs.ObjectIdentifier.{oid_content, oid_text, subidentifier_octets, decimal}
 use Rattle.der.specs.Reading.{tree_of, node_at, node_of, nodes_with, element_at, identifier_at, length_at, contents_at, long_length}
@@ -30,6 +30,31 @@ sample_encoding = refl
 sample_read : tree_of (48 ∷ 6 ∷ 2 ∷ 1 ∷ 1 ∷ 1 ∷ 1 ∷ 255 ∷ []) ≡ Ok sample
 unfolding tree_of node_at node_of nodes_with element_at identifier_at length_at contents_at long_length
 sample_read = refl
+
+sample_is_two_levels : levels sample ≡ 2
+sample_is_two_levels = refl
+
+-- its components, under its own tag alone; then the first of them, and the first one where it is an INTEGER
+sample_components : components_of 48 sample ≡ Some (node (primitive 2 (1 ∷ [])) (node (primitive 1 (255 ∷ [])) no_nodes))
+sample_components = refl
+
+sample_is_no_set : components_of 49 sample ≡ None
+sample_is_no_set = refl
+
+sample_first : first_of (node (primitive 2 (1 ∷ [])) no_nodes) ≡ Some (primitive 2 (1 ∷ []), no_nodes)
+sample_first = refl
+
+number_taken : take_under 2 (node (primitive 2 (1 ∷ [])) no_nodes) ≡ (Some (primitive 2 (1 ∷ [])), no_nodes)
+number_taken = refl
+
+truth_left : take_under 2 (node (primitive 1 (255 ∷ [])) no_nodes) ≡ (None, node (primitive 1 (255 ∷ [])) no_nodes)
+truth_left = refl
+
+number_contents : contents_of 2 (primitive 2 (1 ∷ [])) ≡ Some (1 ∷ [])
+number_contents = refl
+
+number_is_no_truth : contents_of 1 (primitive 2 (1 ∷ [])) ≡ None
+number_is_no_truth = refl
 
 -- 81 03 is not the shortest form, 1F begins a high tag number, a SEQUENCE of 2 octets has 3 after it
 long_form : tree_of (4 ∷ 129 ∷ 3 ∷ 1 ∷ 2 ∷ 3 ∷ []) ≡ Err LengthForm

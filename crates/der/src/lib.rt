@@ -2,17 +2,17 @@
 #![tactic(auto)]
 
 mod fault;
-mod read;
 mod number;
 mod oid;
+mod read;
 mod tag;
 mod tree;
 mod writer;
 
 pub use fault::DerFault;
-pub use read::read_tree;
 pub use number::{is_number_content, numbers_have_one_content, whole_number_content};
 pub use oid::{Oid, is_oid_content, oids_have_one_content_and_text};
+pub use read::read_tree;
 pub use tag::Tag;
 pub use tree::{
     Components, Tree, components_under, contents_under, encodings_are_bounded,

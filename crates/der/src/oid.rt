@@ -139,6 +139,16 @@ impl Eq for Oid {
     ghost laws = { nat_list_eq_equiv };
 }
 
+impl Clone for Oid {
+    ghost is_clone = { λ oid clone. clone ≡ oid };
+
+    fn clone(&self) -> Result<Oid, AllocError> {
+        Ok(Oid {
+            content: self.content.clone()?,
+        })
+    }
+}
+
 /// Whether octets are the contents of an object identifier: 1 to 32 subidentifiers below 2^128, each in the fewest
 /// octets in base 128, with bit 8 set on all octets but its last (X.690 8.19.2). Takes no memory.
 pub fn is_oid_content(content: &[u8]) -> bool
@@ -163,10 +173,10 @@ pub fn is_oid_content(content: &[u8]) -> bool
             }
         }
     }
-    match count {
-        1..=32 => subidentifier == 0,
-        _ => false,
+    if count > 32 {
+        return false;
     }
+    count > 0 && subidentifier == 0
 }
 
 /// Object identifiers, their contents octets and their texts: each has one content and one text, and no two have the same.
@@ -232,6 +242,95 @@ mod tests {
             let owned = Oid::from_owned_content(Vec::from_slice(rt.alloc(), octets)?);
             assert_eq!(rt; owned, None, "{index}");
         }
+        Ok(())
+    }
+
+    // The texts and contents of the cases above, and the least and greatest second arcs.
+    #[test]
+    fn reads_and_writes_texts(rt: HostRuntime) -> Result<(), Fail> {
+        let cases: [(&str, &[u8]); 11] = [
+            ("2.999", &[0x88, 0x37]),
+            ("1.2.840.113549", &[0x2a, 0x86, 0x48, 0x86, 0xf7, 0x0d]),
+            (
+                "2.25.340282366920938463463374607431768211455",
+                &[
+                    0x69, 0x83, 255, 255, 255, 255, 255, 255, 255, 255, 255, 255, 255, 255, 255,
+                    255, 255, 255, 255, 0x7f,
+                ],
+            ),
+            (
+                "2.340282366920938463463374607431768211375",
+                &[
+                    0x83, 255, 255, 255, 255, 255, 255, 255, 255, 255, 255, 255, 255, 255, 255,
+                    255, 255, 255, 0x7f,
+                ],
+            ),
+            ("0.0", &[0x00]),
+            ("0.39", &[0x27]),
+            ("1.0", &[0x28]),
+            ("1.39", &[0x4f]),
+            ("2.0", &[0x50]),
+            ("2.40.0", &[0x78, 0x00]),
+            (
+                "0.1.1.1.1.1.1.1.1.1.1.1.1.1.1.1.1.1.1.1.1.1.1.1.1.1.1.1.1.1.1.1.1",
+                &[1; 32],
+            ),
+        ];
+        for (text, octets) in cases {
+            let oid = Oid::parse_text(rt.alloc(), text)?;
+            assert_eq!(rt; oid.content(), octets, "{text}");
+            assert_eq!(rt;
+                Oid::from_content(rt.alloc(), octets)?
+                    .text(rt.alloc())?
+                    .as_str(),
+                text
+            );
+        }
+        Ok(())
+    }
+
+    // Among them 34 numbers, 2.(2^128 - 80) and 2.25.(2^128).
+    #[test]
+    fn refuses_other_texts(rt: HostRuntime) -> Result<(), Fail> {
+        let cases = [
+            "",
+            ".",
+            "1",
+            "1.",
+            ".1",
+            "1..2",
+            "1.2.",
+            "1.2..3",
+            "1.40",
+            "0.40",
+            "3.1",
+            "10.1",
+            "01.2",
+            "00.1",
+            "1.02",
+            "1.2.00",
+            "+1.2",
+            "1.+2",
+            "1.-2",
+            " 1.2",
+            "1.2 ",
+            "1. 2",
+            "1,2",
+            "1.2a",
+            "a.b",
+            "1.2\u{0663}",
+            "2.340282366920938463463374607431768211376",
+            "2.25.340282366920938463463374607431768211456",
+            "0.1.1.1.1.1.1.1.1.1.1.1.1.1.1.1.1.1.1.1.1.1.1.1.1.1.1.1.1.1.1.1.1.1",
+        ];
+        for text in cases {
+            assert_eq!(rt;
+                Oid::parse_text(rt.alloc(), text),
+                Err(DerFault::BadValue),
+                "{text}"
+            );
+        }
+        oids_have_one_content_and_text();
         Ok(())
     }
 

@@ -5,10 +5,12 @@ ghost use Rattle.der.specs.Tree.{view, components_view};
 use crate::tag::Tag;
 use std::marker::Model;
 
-/// A value: contents octets under a tag, or further values under a tag.
+/// A value: contents octets under a tag, or further values under a tag (X.690 8.1.1, 8.1.4).
 #[derive(Debug, Drop)]
 pub enum Tree {
+    /// Contents octets, under a tag whose bit 6 is 0 where the value is lawful.
     Primitive(Tag, Vec<u8>),
+    /// Values one after the other, under a tag whose bit 6 is 1 where the value is lawful.
     Constructed(Tag, Vec<Tree>),
 }
 

@@ -146,10 +146,15 @@ pub length-fraction_of_time : (moment : ℕ) → length (time_of moment).fractio
 unfolding time_of
 length-fraction_of_time moment = length-fraction_of (moment % 1_000_000)
 
+-- and no more than 22 octets
+pub spelling_short : (moment : ℕ) → (15 ≤ length (spelling (time_of moment))) × (length (spelling (time_of moment)) ≤ 22)
+spelling_short moment =
+    let e = length-spelling (time_of moment) in
+    (e.0, omega (arith, e.1, length-fraction_of_time moment))
+
 pub text_of_short : (digits moment : ℕ) → moment ≤ last_moment → (15 ≤ length (text_of digits moment)) × (length (text_of digits moment) ≤ 22) × AllByRecursion (λ octet. octet < 256) (text_of digits moment)
 unfolding text_of
 text_of_short digits moment h =
-    let rounded = round_down digits moment in
     let bound = round_down_bound digits moment in
-    let e = length-spelling (time_of (round_down digits moment)) in
-    (e.0, omega (arith, e.1, length-fraction_of_time (round_down digits moment)), spelling_octets _ (time_of_formed (round_down digits moment) (omega arith)))
+    let e = spelling_short (round_down digits moment) in
+    (e.0, e.1, spelling_octets _ (time_of_formed (round_down digits moment) (omega arith)))

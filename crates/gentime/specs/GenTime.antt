@@ -8,7 +8,7 @@ use Rattle.gentime.specs.Calendar.{IsDate, civil_date}
 abbrev pub last_moment : ℕ
 last_moment = 253402300799999999
 
--- a moment rounded down to that many digits of the fraction of its second
+-- a moment rounded down to that many decimal digits of the fraction of its second
 abbrev pub round_down : ℕ → ℕ → ℕ
 round_down digits moment = moment / 10 ^ (6 - digits) * 10 ^ (6 - digits)
 
@@ -29,7 +29,7 @@ digit n = 48 + n
 abbrev pub two_digits : ℕ → List ℕ
 two_digits n = digit (n / 10) ∷ digit (n % 10) ∷ []
 
--- a point before the digits of a fraction, where there are any
+-- a point before the digits of a fraction, where there are any (X.690 11.7.4)
 abbrev pub point_and : List ℕ → List ℕ
 point_and [] = []
 point_and (first ∷ others) = 46 ∷ first ∷ others
@@ -39,7 +39,7 @@ abbrev pub pairs_of : GeneralizedTime → List ℕ
 pairs_of time =
     time.year / 100 ∷ time.year % 100 ∷ time.month ∷ time.day ∷ time.hour ∷ time.minute ∷ time.second ∷ []
 
--- YYYYMMDDhhmmss, the fraction, and Z
+-- YYYYMMDDhhmmss, the fraction, and Z (X.690 11.7.1 and 11.7.2)
 unfoldable pub spelling : GeneralizedTime → List ℕ
 spelling time = flat_map two_digits (pairs_of time) ++ (point_and time.fraction ++ 90 ∷ [])
 
@@ -48,7 +48,7 @@ abbrev pub digit_before : ℕ → List ℕ → List ℕ
 digit_before octet [] = if octet == digit 0 then [] else octet ∷ []
 digit_before octet (next ∷ others) = octet ∷ next ∷ others
 
--- digits without the zeros at their end
+-- digits without the zeros at their end (X.690 11.7.3)
 abbrev pub without_trailing_zeros : List ℕ → List ℕ
 without_trailing_zeros [] = []
 without_trailing_zeros (octet ∷ octets) = digit_before octet (without_trailing_zeros octets)

@@ -1,6 +1,6 @@
 //! A moment, as a clock counts it.
 
-ghost use Rattle.std.specs.Prelude.{◌≡◌, ◌↔◌, ◌≤◌, ℕ, pos, ◌≤ℤ◌, IsOk, IfOk, IfErr, IsErrOf, Ok};
+ghost use Rattle.std.specs.Prelude.{◌≡◌, ◌↔◌, ◌≤◌, ℕ, length, pos, ◌≤ℤ◌, IsOk, IfOk, IfErr, IsErrOf, Ok};
 ghost use Rattle.gentime.specs.GenTime.{last_moment, round_down, text_of, GeneralizedTime, States, IsTime, IsCounted};
 ghost use Rattle.gentime.specs.declared.fault.GenTimeFault.TheVariants.{Date, Form, Memory, Range};
 
@@ -83,6 +83,7 @@ impl GenTime {
     pub fn write(self, alloc: Global, digits: u8) -> Result<Vec<u8>, GenTimeFault>
         requires { digits ≤ 6 }
         ensures text { IfOk result (λ text. text.items ≡ text_of digits self) }
+        ensures length { IfOk result (λ text. (15 ≤ length text.items) × (length text.items ≤ 22)) }
         ensures memory { IfErr result (λ fault. fault ≡ GenTimeFault.Memory) }
     {
         let rounded = self.rounded_down(digits);

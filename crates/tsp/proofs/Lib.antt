@@ -1,8 +1,12 @@
 pub mod Components
 pub mod Extensions
+pub mod Natural
 pub mod RequestReads
 pub mod RequestTakes
 pub mod Sizes
 pub mod Spelled
 pub mod TstLawful
+pub mod TstRead
+pub mod TstReads
+pub mod TstTakes
 pub mod TstText

@@ -6,4 +6,6 @@ pub mod Rejection
 pub mod Request
 pub mod Rules
 pub mod Tst
+pub mod TstReading
+pub mod TstView
 pub mod View

@@ -1,5 +1,5 @@
 -- Reading messages from values: the answer, or none where the value isn't of the grammar.
-use Rattle.std.specs.Prelude.{◌≡◌, ℕ, ◌==◌, Bool, true, false, if◌then◌else◌, ℤ, List, [], ◌∷◌, Option, Some, None, option_and_then, unwrap_or}
+use Rattle.std.specs.Prelude.{◌≡◌, ℕ, ◌==◌, ◌||◌, Bool, true, false, if◌then◌else◌, ℤ, List, [], ◌∷◌, Option, Some, None, option_and_then, unwrap_or}
 use Rattle.der.specs.Node.{Node, primitive, constructed, Nodes, no_nodes, node, contents_of, components_of, first_of, take_under}
 use Rattle.der.specs.Number.{is_shortest, twos_value}
 use Rattle.der.specs.ObjectIdentifier.{oid_of}
@@ -44,9 +44,13 @@ optional_of read (Some n) ns = read n >>= λ x. Some (Some x, ns)
 unfoldable pub optional_at : {A : Type 0} → ℕ → (Node → Option A) → Nodes → Option (Option A × Nodes)
 optional_at tag read ns = optional_of read (take_under tag ns).0 (take_under tag ns).1
 
+-- the BOOLEAN of a component DEFAULT FALSE, whose FALSE is stated only where it may be
+unfoldable pub stated_of : Bool → Node → Option Bool
+stated_of may n = boolean_of n >>= λ b. if b || may then Some b else None
+
 -- a BOOLEAN DEFAULT FALSE, and what is left
-unfoldable pub flag_at : Nodes → Option (Bool × Nodes)
-flag_at ns = optional_at 1 boolean_of ns >>= λ found. Some (unwrap_or found.0 false, found.1)
+unfoldable pub flag_at : Bool → Nodes → Option (Bool × Nodes)
+flag_at may ns = optional_at 1 (stated_of may) ns >>= λ found. Some (unwrap_or found.0 false, found.1)
 
 -- parameters: nothing, or one value
 unfoldable pub parameters_of : Nodes → Option (Option Node)
@@ -73,22 +77,22 @@ imprint_of n = do
   hash ← contents_of 4 second.0
   only second.1 (record { algorithm = algorithm.0; parameters = algorithm.1; hash = hash })
 
--- an Extension
-unfoldable pub extension_of : Node → Option ExtensionValue
-extension_of n = do
+-- an Extension, whose FALSE may be stated or not
+unfoldable pub extension_of : Bool → Node → Option ExtensionValue
+extension_of may n = do
   members ← components_of 48 n
   first ← first_of members
   identifier ← oid_in first.0
-  critical ← flag_at first.1
+  critical ← flag_at may first.1
   last ← first_of critical.1
   value ← contents_of 4 last.0
   only last.1 (record { identifier = identifier; critical = critical.0; value = value })
 
-unfoldable pub extensions_of : Nodes → Option (List ExtensionValue)
-extensions_of no_nodes = Some []
-extensions_of (node first others) = do
-  e ← extension_of first
-  es ← extensions_of others
+unfoldable pub extensions_of : Bool → Nodes → Option (List ExtensionValue)
+extensions_of may no_nodes = Some []
+extensions_of may (node first others) = do
+  e ← extension_of may first
+  es ← extensions_of may others
   Some (e ∷ es)
 
 -- Extensions, of which there is at least one
@@ -96,15 +100,15 @@ unfoldable pub some_extensions : List ExtensionValue → Option (List ExtensionV
 some_extensions [] = None
 some_extensions (e ∷ es) = Some (e ∷ es)
 
-unfoldable pub extension_list_of : ℕ → Node → Option (List ExtensionValue)
-extension_list_of tag n = do
+unfoldable pub extension_list_of : Bool → ℕ → Node → Option (List ExtensionValue)
+extension_list_of may tag n = do
   members ← components_of tag n
-  extensions ← extensions_of members
+  extensions ← extensions_of may members
   some_extensions extensions
 
 -- extensions under a tag, none where they are left away, and what is left
-unfoldable pub extensions_at : ℕ → Nodes → Option (List ExtensionValue × Nodes)
-extensions_at tag ns = optional_at tag (extension_list_of tag) ns >>= λ found. Some (unwrap_or found.0 [], found.1)
+unfoldable pub extensions_at : Bool → ℕ → Nodes → Option (List ExtensionValue × Nodes)
+extensions_at may tag ns = optional_at tag (extension_list_of may tag) ns >>= λ found. Some (unwrap_or found.0 [], found.1)
 
 -- a TimeStampReq
 unfoldable pub request_of : Node → Option RequestValue
@@ -116,6 +120,6 @@ request_of n = do
   imprint ← imprint_of second.0
   policy ← optional_at 6 oid_in second.1
   nonce ← optional_at 2 integer_of policy.1
-  cert_req ← flag_at nonce.1
-  extensions ← extensions_at 160 cert_req.1
+  cert_req ← flag_at true nonce.1
+  extensions ← extensions_at true 160 cert_req.1
   only extensions.1 (record { version = version; imprint = imprint; policy = policy.0; nonce = nonce.0; cert_req = cert_req.0; extensions = extensions.0 })

@@ -11,6 +11,7 @@ mod rule;
 #[cfg(test)]
 mod tests;
 mod tst;
+mod tst_reading;
 mod writing;
 
 pub use fault::TspFault;
@@ -20,4 +21,5 @@ pub use rejection::Rejection;
 pub use request::{Request, read_request, requests_have_one_reading};
 pub use rule::Rule;
 pub use tst::TstInfo;
+pub use tst_reading::{read_tst, tst_infos_have_one_reading};
 pub use writing::write_tst;

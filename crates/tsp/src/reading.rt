@@ -1,7 +1,7 @@
 //! From values to messages: each reader answers what its definition reads, and takes the value apart without copying it.
 ghost use Rattle.std.specs.Prelude.{◌≡◌, ℕ, List, Option, Some, None, option_map, map};
 ghost use Rattle.der.specs.Tree.{view, components_view};
-ghost use Rattle.tsp.specs.Reading.{number_of, integer_of, truth_of, boolean_of, oid_in, optional_of, optional_at, flag_at, parameters_of, algorithm_of, imprint_of, only, end_of, extension_of, extensions_of, some_extensions, extension_list_of, extensions_at};
+ghost use Rattle.tsp.specs.Reading.{number_of, integer_of, truth_of, boolean_of, stated_of, oid_in, optional_of, optional_at, flag_at, parameters_of, algorithm_of, imprint_of, only, end_of, extension_of, extensions_of, some_extensions, extension_list_of, extensions_at};
 ghost use Rattle.tsp.specs.View.{imprint_view, extension_view, extensions_view};
 ghost use Rattle.tsp.specs.Gives.{Gives};
 
@@ -37,7 +37,7 @@ fn boolean_from(tree: Tree) -> Option<bool>
 }
 
 #[tactic(auto, unfolding(crate::specs::Reading::oid_in))]
-fn oid_from(tree: Tree) -> Option<Oid>
+pub(crate) fn oid_from(tree: Tree) -> Option<Oid>
     ensures { result ≡ oid_in (view tree) }
 {
     Oid::from_owned_content(contents_under(Tag::OBJECT_IDENTIFIER, tree)?)
@@ -65,14 +65,27 @@ pub(crate) fn optional_integer(members: &mut Components) -> Option<Option<Intege
     }
 }
 
-/// A BOOLEAN DEFAULT FALSE. A stated FALSE is read too, though DER leaves it away (X.690 11.5).
+/// The BOOLEAN of a component DEFAULT FALSE: FALSE only where it may be stated, since DER leaves it away (X.690 11.5).
+#[tactic(auto, unfolding(crate::specs::Reading::stated_of))]
+fn stated_from(may_state_false: bool, tree: Tree) -> Option<bool>
+    ensures { result ≡ stated_of may_state_false (view tree) }
+{
+    let flag = boolean_from(tree)?;
+    if flag || may_state_false {
+        Some(flag)
+    } else {
+        None
+    }
+}
+
+/// A BOOLEAN DEFAULT FALSE, whose FALSE may be stated or not.
 #[tactic(auto, unfolding(crate::specs::Reading::optional_at, crate::specs::Reading::flag_at))]
-pub(crate) fn flag(members: &mut Components) -> Option<bool>
-    ensures { option_map (λ found. (found, components_view members.new)) result ≡ flag_at (components_view members.old) }
+pub(crate) fn flag(may_state_false: bool, members: &mut Components) -> Option<bool>
+    ensures { option_map (λ found. (found, components_view members.new)) result ≡ flag_at may_state_false (components_view members.old) }
 {
     match members.next_under(Tag::BOOLEAN) {
         None => Some(false),
-        Some(tree) => Some(boolean_from(tree)?),
+        Some(tree) => Some(stated_from(may_state_false, tree)?),
     }
 }
 
@@ -123,12 +136,12 @@ pub(crate) fn imprint_from(tree: Tree) -> Option<MessageImprint>
 }
 
 #[tactic(auto, unfolding(crate::specs::Reading::extension_of, crate::specs::Reading::only))]
-fn extension_from(tree: Tree) -> Option<Extension>
-    ensures { option_map extension_view result ≡ extension_of (view tree) }
+fn extension_from(may_state_false: bool, tree: Tree) -> Option<Extension>
+    ensures { option_map extension_view result ≡ extension_of may_state_false (view tree) }
 {
     let mut members = components_under(Tag::SEQUENCE, tree)?;
     let identifier = oid_from(members.next()?)?;
-    let critical = flag(&mut members)?;
+    let critical = flag(may_state_false, &mut members)?;
     let value = contents_under(Tag::OCTET_STRING, members.next()?)?;
     end(&members)?;
     Some(Extension {
@@ -139,12 +152,16 @@ fn extension_from(tree: Tree) -> Option<Extension>
 }
 
 /// One Extension after the other.
-fn extensions_from(alloc: Global, mut members: Components) -> Result<Vec<Extension>, TspFault>
-    ensures { Gives extensions_view result (extensions_of (components_view members)) }
+fn extensions_from(
+    alloc: Global,
+    may_state_false: bool,
+    mut members: Components,
+) -> Result<Vec<Extension>, TspFault>
+    ensures { Gives extensions_view result (extensions_of may_state_false (components_view members)) }
 {
     let mut extensions = Vec::new(alloc);
     while let Some(tree) = members.next() {
-        let Some(extension) = extension_from(tree) else {
+        let Some(extension) = extension_from(may_state_false, tree) else {
             return Err(TspFault::Form);
         };
         extensions.push(extension)?;
@@ -154,11 +171,16 @@ fn extensions_from(alloc: Global, mut members: Components) -> Result<Vec<Extensi
 
 /// Extensions, at least one, under an implicit tag.
 #[tactic(auto, unfolding(crate::specs::Reading::extension_list_of, crate::specs::Reading::some_extensions))]
-fn extension_list_from(alloc: Global, tag: Tag, tree: Tree) -> Result<Vec<Extension>, TspFault>
-    ensures { Gives extensions_view result (extension_list_of tag.octet (view tree)) }
+fn extension_list_from(
+    alloc: Global,
+    may_state_false: bool,
+    tag: Tag,
+    tree: Tree,
+) -> Result<Vec<Extension>, TspFault>
+    ensures { Gives extensions_view result (extension_list_of may_state_false tag.octet (view tree)) }
 {
     let members = components_under(tag, tree).ok_or(TspFault::Form)?;
-    let extensions = extensions_from(alloc, members)?;
+    let extensions = extensions_from(alloc, may_state_false, members)?;
     if extensions.is_empty() {
         return Err(TspFault::Form);
     }
@@ -169,14 +191,15 @@ fn extension_list_from(alloc: Global, tag: Tag, tree: Tree) -> Result<Vec<Extens
 #[tactic(auto, unfolding(crate::specs::Reading::optional_at, crate::specs::Reading::extensions_at))]
 pub(crate) fn extensions(
     alloc: Global,
+    may_state_false: bool,
     tag: Tag,
     members: &mut Components,
 ) -> Result<Vec<Extension>, TspFault>
     ensures { Gives (λ found. (extensions_view found, components_view members.new)) result
-        (extensions_at tag.octet (components_view members.old)) }
+        (extensions_at may_state_false tag.octet (components_view members.old)) }
 {
     match members.next_under(tag) {
         None => Ok(Vec::new(alloc)),
-        Some(tree) => Ok(extension_list_from(alloc, tag, tree)?),
+        Some(tree) => Ok(extension_list_from(alloc, may_state_false, tag, tree)?),
     }
 }

@@ -176,8 +176,8 @@ fn request_from(alloc: Global, tree: Tree) -> Result<Request, TspFault>
     let imprint = imprint_from(members.next().ok_or(TspFault::Form)?).ok_or(TspFault::Form)?;
     let policy = optional_oid(&mut members).ok_or(TspFault::Form)?;
     let nonce = optional_integer(&mut members).ok_or(TspFault::Form)?;
-    let cert_req = flag(&mut members).ok_or(TspFault::Form)?;
-    let extensions = extensions(alloc, EXTENSIONS, &mut members)?;
+    let cert_req = flag(true, &mut members).ok_or(TspFault::Form)?;
+    let extensions = extensions(alloc, true, EXTENSIONS, &mut members)?;
     end(&members).ok_or(TspFault::Form)?;
     Ok(Request {
         version,

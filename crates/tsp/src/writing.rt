@@ -18,12 +18,12 @@ use gentime::{GenTime, GenTimeFault, texts_are_short};
 use std::alloc::Global;
 
 /// The part of an accuracy in milliseconds, under [0].
-const MILLIS: Tag = Tag { octet: 0x80 };
+pub(crate) const MILLIS: Tag = Tag { octet: 0x80 };
 /// The part of an accuracy in microseconds, under [1].
-const MICROS: Tag = Tag { octet: 0x81 };
+pub(crate) const MICROS: Tag = Tag { octet: 0x81 };
 
 /// The extensions of a TSTInfo, under [1].
-const EXTENSIONS: Tag = Tag { octet: 0xa1 };
+pub(crate) const EXTENSIONS: Tag = Tag { octet: 0xa1 };
 
 /// Puts what was written under a tag. The caller's contents are fewer than 2^24 octets, so only memory can be wanting.
 fn wrap(writer: &mut Writer, tag: Tag) -> Result<(), TspFault>

@@ -1,7 +1,6 @@
 use Rattle.std.proofs.Common.{[], ap, ◌∙◌, string_bytes}
 use Rattle.std.proofs.lemmas.List.{append-nil}
 use Rattle.std.proofs.Common.{sym}
-use Rattle.der.specs.ObjectIdentifier.{decimal}
 use Rattle.der.proofs.OidNumbers.{decimal-step, decimal-last}
 use Rattle.der.proofs.OidTexts.{decimal_pushed}
 use Rattle.der.proofs.oid.text.+push_decimal.Goals as goal

@@ -1,0 +1,97 @@
+-- Reading a TSTInfo from a value: the answer, or none where the value isn't of the grammar.
+use Rattle.std.specs.Prelude.{◌≡◌, ℕ, ◌+◌, ◌*◌, ◌-◌, ◌^◌, ◌&&◌, Bool, true, false, if◌then◌else◌, nat_lt, nat_le, ℤ, pos, negsuc, List, [], ◌∷◌, ◌++◌, Option, Some, None, unwrap_or}
+use Rattle.der.specs.Node.{Node, primitive, Nodes, contents_of, components_of, first_of}
+use Rattle.gentime.specs.GenTime.{text_of}
+use Rattle.tsp.specs.Grammar.{sequence, integer, object_identifier, optional, false_by_default}
+use Rattle.tsp.specs.Reading.{◌>>=◌, only, optional_at, number_of, integer_of, oid_in, imprint_of, flag_at, extensions_at}
+use Rattle.tsp.specs.Request.{ImprintValue, ExtensionValue, message_imprint, extensions_under}
+use Rattle.tsp.specs.Tst.{TstValue, accuracy}
+
+-- the first five parts of a TSTInfo after its version, of which the time is still its octets
+pub record TstHead : Type 0 where
+  pub policy : List ℕ
+  pub imprint : ImprintValue
+  pub serial : ℕ
+  pub time : List ℕ
+  pub accuracy : ℕ
+
+-- a number from 0 to 2 ^ 63 - 1
+unfoldable pub natural : ℤ → Option ℕ
+natural (pos n) = if nat_lt n (2 ^ 63) then Some n else None
+natural (negsuc n) = None
+
+unfoldable pub natural_of : List ℕ → Option ℕ
+natural_of octets = number_of octets >>= natural
+
+-- from 1 to a greatest number
+unfoldable pub up_to : ℕ → ℕ → Option ℕ
+up_to most n = if nat_le 1 n && nat_le n most then Some n else None
+
+-- a number under a tag, from 1 to a greatest one
+unfoldable pub number_in : ℕ → ℕ → Node → Option ℕ
+number_in tag most n = do
+  octets ← contents_of tag n
+  number ← natural_of octets
+  up_to most number
+
+-- a part of an accuracy, 0 where it is left away, and what is left
+unfoldable pub part_at : ℕ → ℕ → Nodes → Option (ℕ × Nodes)
+part_at tag most ns = optional_at tag (number_in tag most) ns >>= λ found. Some (unwrap_or found.0 0, found.1)
+
+-- an Accuracy, in microseconds
+unfoldable pub accuracy_of : Node → Option ℕ
+accuracy_of n = do
+  members ← components_of 48 n
+  seconds ← part_at 2 1 members
+  millis ← part_at 128 999 seconds.1
+  micros ← part_at 129 999 millis.1
+  whole ← only micros.1 (seconds.0 * 1000000 + (millis.0 * 1000 + micros.0))
+  up_to 1000000 whole
+
+unfoldable pub head_of : Nodes → Option (TstHead × Nodes)
+head_of members = do
+  first ← first_of members
+  version ← number_in 2 1 first.0
+  second ← first_of first.1
+  policy ← oid_in second.0
+  third ← first_of second.1
+  imprint ← imprint_of third.0
+  fourth ← first_of third.1
+  serial ← number_in 2 (2 ^ 63 - 1) fourth.0
+  fifth ← first_of fourth.1
+  time ← contents_of 24 fifth.0
+  sixth ← first_of fifth.1
+  accuracy ← accuracy_of sixth.0
+  Some (record { policy = policy; imprint = imprint; serial = serial; time = time; accuracy = accuracy }, sixth.1)
+
+-- the parts of a TSTInfo
+pub record TstParts : Type 0 where
+  pub head : TstHead
+  pub ordering : Bool
+  pub nonce : Option ℤ
+  pub extensions : List ExtensionValue
+
+unfoldable pub parts_of : Node → Option TstParts
+parts_of n = do
+  members ← components_of 48 n
+  head ← head_of members
+  ordering ← flag_at false head.1
+  nonce ← optional_at 2 integer_of ordering.1
+  extensions ← extensions_at false 161 nonce.1
+  only extensions.1 (record { head = head.0; ordering = ordering.0; nonce = nonce.0; extensions = extensions.0 })
+
+-- the TSTInfo of its parts
+abbrev pub info_of : TstParts → Node
+info_of p =
+    sequence (integer (pos 1) ∷ object_identifier p.head.policy ∷ message_imprint p.head.imprint ∷ integer (pos p.head.serial)
+    ∷ primitive 24 p.head.time ∷ accuracy p.head.accuracy ∷ (false_by_default false p.ordering
+    ++ (optional integer p.nonce ++ extensions_under 161 [] p.extensions)))
+
+-- the parts of a TSTInfo, with the time as its octets
+abbrev pub parts_in : TstValue → TstParts
+parts_in t = record {
+  head = record { policy = t.policy; imprint = t.imprint; serial = t.serial; time = text_of 6 t.gen_time; accuracy = t.accuracy };
+  ordering = t.ordering;
+  nonce = t.nonce;
+  extensions = t.extensions;
+}
