@@ -1,10 +1,11 @@
 -- The kinds of keys of a policy file, and their values.
-use Rattle.std.specs.Prelude.{ℕ, ℤ, pos, negsuc, ◌==◌, ◌||◌, ◌&&◌, nat_le, nat_lt, not, Bool, true, false, if◌then◌else◌, List, [], ◌∷◌, ◌++◌, length, map, codes, Option, Some, None, Result, Ok, Err}
+use Rattle.std.specs.Prelude.{ℕ, ◌+◌, ℤ, pos, negsuc, ◌==◌, ◌||◌, ◌&&◌, nat_le, nat_lt, not, Bool, true, false, if◌then◌else◌, List, [], ◌∷◌, ◌++◌, length, map, codes, Option, Some, None, Result, Ok, Err}
 use Rattle.std.specs.List.{list_all, list_any}
 use Rattle.std.specs.Result.{result_ok}
 use Rattle.std.specs.Str.{bytes_eq}
+use Rattle.der.specs.ObjectIdentifier.{oid_content}
 use Rattle.hex.specs.Hex.{decode_sized}
-use Rattle.toml.specs.Data.{Data, Items, no_items, item, Members, no_members, member, as_str, as_integer, as_bool, as_array, as_table}
+use Rattle.toml.specs.Data.{Data, Items, no_items, item, Members, no_members, member, get_member, as_str, as_integer, as_bool, as_array, as_table}
 use Rattle.policy.specs.OidText.{oid_of_text}
 use Rattle.policy.specs.declared.fault.PolicyFault.{PolicyFault}
 use Rattle.policy.specs.declared.fault.PolicyFault.TheVariants.{Missing, BadValue, Duplicate, UnknownName, TooMany}
@@ -20,6 +21,9 @@ abbrev pub ◌>>=◌ : {A B : Type 0} → Result A PolicyFault → (A → Result
 -- a value that passed a test
 abbrev pub test : {A : Type 0} → Bool → PolicyFault → A → Result A PolicyFault
 test passed fault x = if passed then Ok x else Err fault
+
+abbrev pub check : Bool → PolicyFault → Result (Unit {0}) PolicyFault
+check passed fault = test passed fault tt
 
 -- a value of the kind that is asked
 abbrev pub given : {A : Type 0} → Field → Option A → Result A PolicyFault
@@ -51,7 +55,7 @@ has_only known no_members = true
 has_only known (member key d ms) = is_among known key && has_only known ms
 
 abbrev pub only : List (List ℕ) → Members → Result (Unit {0}) PolicyFault
-only known ms = test (has_only known ms) (UnknownName Key) tt
+only known ms = check (has_only known ms) (UnknownName Key)
 
 -- a boolean
 abbrev pub truth_in : Field → Data → Result Bool PolicyFault
@@ -82,6 +86,12 @@ name_in field d = do
   text ← given field (as_str d)
   test (is_name text) (BadValue field) text
 
+-- a name where there is one
+unfoldable pub some_name_in : Field → Data → Result (Option (List ℕ)) PolicyFault
+some_name_in field d = do
+  name ← name_in field d
+  Ok (Some name)
+
 -- an object identifier's text
 unfoldable pub oid_in : Field → Data → Result (List ℕ) PolicyFault
 oid_in field d = do
@@ -98,19 +108,51 @@ hash_in field d = do
 abbrev pub fresh : Field → List (List ℕ) → List ℕ → Result (List ℕ) PolicyFault
 fresh field earlier x = test (not (is_among earlier x)) (Duplicate field) x
 
+-- the key `name` of an entry
+unfoldable pub new_name_in : Field → List (List ℕ) → Members → Result (List ℕ) PolicyFault
+new_name_in field earlier ms = wanted field (name_in field) (get_member (codes "name") ms) >>= fresh field earlier
+
+-- the key `oid` of an entry: object identifiers are compared by their contents octets
+unfoldable pub new_oid_in : Field → List (List ℕ) → Members → Result (List ℕ) PolicyFault
+new_oid_in field earlier ms = do
+  oid ← wanted field (oid_in field) (get_member (codes "oid") ms)
+  new ← fresh field earlier (oid_content oid)
+  Ok oid
+
+-- a key hash is this one
+abbrev pub is_hash : List ℕ → Option (List ℕ) → Bool
+is_hash hash None = false
+is_hash hash (Some own) = bytes_eq own hash
+
+-- a key hash that no earlier entry has
+unfoldable pub new_hash_in : Field → List (Option (List ℕ)) → Data → Result (Option (List ℕ)) PolicyFault
+new_hash_in field earlier d = do
+  hash ← hash_in field d
+  test (not (list_any (is_hash hash) earlier)) (Duplicate field) (Some hash)
+
 -- entries one after the other, each of which may look at those before it
 abbrev pub entries_after : {A : Type 0} → (List A → Data → Result A PolicyFault) → List A → Items → Result (List A) PolicyFault
 entries_after read earlier no_items = Ok earlier
 entries_after read earlier (item d ds) = read earlier d >>= λ entry. entries_after read (earlier ++ entry ∷ []) ds
 
--- a list of names: each is a name, at least as many as asked, none twice, and each exists
+-- names of a list: at least as many as asked, none twice, and each exists
+unfoldable pub listed : Field → ℕ → List (List ℕ) → List (List ℕ) → Result (Unit {0}) PolicyFault
+listed field least existing names = do
+  enough ← check (nat_le least (length names)) (BadValue field)
+  different ← check (are_distinct names) (Duplicate field)
+  check (list_all (is_among existing) names) (UnknownName field)
+
+-- the values of an array
+unfoldable pub values_in : Field → Data → Result Items PolicyFault
+values_in field d = given field (as_array d)
+
+-- a list of names
 unfoldable pub names_in : Field → ℕ → List (List ℕ) → Data → Result (List (List ℕ)) PolicyFault
 names_in field least existing d = do
-  ds ← given field (as_array d)
+  ds ← values_in field d
   names ← entries_after (λ earlier. name_in field) [] ds
-  enough ← test (nat_le least (length names)) (BadValue field) tt
-  different ← test (are_distinct names) (Duplicate field) tt
-  test (list_all (is_among existing) names) (UnknownName field) names
+  right ← listed field least existing names
+  Ok names
 
 abbrev pub is_table : Data → Bool
 is_table d = elim (as_table d) [ Some ms ↦ true | None ↦ false ]
@@ -127,12 +169,16 @@ count_of (item d ds) = 1 + count_of ds
 -- an array of at most so many tables
 unfoldable pub tables_in : Field → ℕ → Data → Result Items PolicyFault
 tables_in field most d = do
-  ds ← given field (as_array d)
-  tables ← test (are_tables ds) (BadValue field) tt
+  ds ← values_in field d
+  tables ← check (are_tables ds) (BadValue field)
   test (nat_le (count_of ds) most) (TooMany field) ds
+
+-- an entry of such an array
+unfoldable pub entry_in : {A : Type 0} → Field → (List A → Members → Result A PolicyFault) → List A → Data → Result A PolicyFault
+entry_in field read earlier d = given field (as_table d) >>= read earlier
 
 -- an array of tables that may be absent, which means empty
 unfoldable pub array_in : {A : Type 0} → Field → ℕ → (List A → Members → Result A PolicyFault) → Option Data → Result (List A) PolicyFault
 array_in field most read d = do
   ds ← optional no_items (tables_in field most) d
-  entries_after (λ earlier e. given field (as_table e) >>= read earlier) [] ds
+  entries_after (entry_in field read) [] ds

@@ -5,3 +5,4 @@ pub mod OidText
 pub mod Kinds
 pub mod Meaning
 pub mod View
+pub mod LookUp

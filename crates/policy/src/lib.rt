@@ -1,11 +1,13 @@
 //! The policy file of a Time-Stamping Authority: what it may write into its tokens, and for whom.
 #![tactic(auto)]
 
+mod arrays;
 mod entries;
 mod fault;
 mod field;
-
+mod find;
 mod policy;
+mod reading;
 
 pub use entries::{Account, Algorithm, Counter, Extension, TsaPolicy};
 pub use fault::PolicyFault;
