@@ -67,19 +67,34 @@ fn counter_of(alloc: Global, table: &Table) -> Result<Counter, PolicyFault>
     })
 }
 
-// SHA-1 is 1.3.14.3.2.26; SHA-256, SHA-384, SHA-512 and SHA-224 are 2.16.840.1.101.3.4.2.1 to .4
+/// 1.3.14.3.2.26
+const SHA_1: [u8; 5] = [0x2b, 0x0e, 0x03, 0x02, 0x1a];
+/// 2.16.840.1.101.3.4.2.1
+const SHA_256: [u8; 9] = [0x60, 0x86, 0x48, 0x01, 0x65, 0x03, 0x04, 0x02, 0x01];
+/// 2.16.840.1.101.3.4.2.2
+const SHA_384: [u8; 9] = [0x60, 0x86, 0x48, 0x01, 0x65, 0x03, 0x04, 0x02, 0x02];
+/// 2.16.840.1.101.3.4.2.3
+const SHA_512: [u8; 9] = [0x60, 0x86, 0x48, 0x01, 0x65, 0x03, 0x04, 0x02, 0x03];
+/// 2.16.840.1.101.3.4.2.4
+const SHA_224: [u8; 9] = [0x60, 0x86, 0x48, 0x01, 0x65, 0x03, 0x04, 0x02, 0x04];
+
 /// The least and the greatest length that an algorithm's hashes may have, by its object identifier's contents octets.
 fn lengths(content: &[u8]) -> (u64, u64)
     ensures lengths { result ≡ lengths_of content.now }
     ensures small { result.1 ≤ 64 }
 {
-    match content {
-        [0x2b, 0x0e, 0x03, 0x02, 0x1a] => (20, 20),
-        [0x60, 0x86, 0x48, 0x01, 0x65, 0x03, 0x04, 0x02, 0x01] => (32, 32),
-        [0x60, 0x86, 0x48, 0x01, 0x65, 0x03, 0x04, 0x02, 0x02] => (48, 48),
-        [0x60, 0x86, 0x48, 0x01, 0x65, 0x03, 0x04, 0x02, 0x03] => (64, 64),
-        [0x60, 0x86, 0x48, 0x01, 0x65, 0x03, 0x04, 0x02, 0x04] => (28, 28),
-        _ => (16, 64),
+    if content == SHA_1.as_slice() {
+        (20, 20)
+    } else if content == SHA_256.as_slice() {
+        (32, 32)
+    } else if content == SHA_384.as_slice() {
+        (48, 48)
+    } else if content == SHA_512.as_slice() {
+        (64, 64)
+    } else if content == SHA_224.as_slice() {
+        (28, 28)
+    } else {
+        (16, 64)
     }
 }
 

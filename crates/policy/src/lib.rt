@@ -13,3 +13,6 @@ pub use entries::{Account, Algorithm, Counter, Extension, TsaPolicy};
 pub use fault::PolicyFault;
 pub use field::Field;
 pub use policy::Policy;
+
+#[cfg(test)]
+mod tests;
