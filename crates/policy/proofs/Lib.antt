@@ -1,0 +1,4 @@
+pub mod Keys
+pub mod KindsRead
+pub mod OidTexts
+pub mod EntriesRead

@@ -1,0 +1,7 @@
+use Rattle.std.proofs.Common.{◌≡◌, drop, map}
+use Rattle.policy.specs.Kinds.{is_among}
+use Rattle.policy.proofs.find.has_name.Given as goal
+
+-- it is among those left where it is among all
+abbrev pub invariant-loop-entry : goal.invariant-loop-entry
+invariant-loop-entry g l = is_among (map g.T.Named.name_of (drop l.entry-index l.entries)) l.name ≡ is_among (map g.T.Named.name_of l.entries) l.name

@@ -1,0 +1,18 @@
+//! The policy file of a Time-Stamping Authority: what it may write into its tokens, and for whom.
+#![tactic(auto)]
+
+mod arrays;
+mod entries;
+mod fault;
+mod field;
+mod find;
+mod policy;
+mod reading;
+
+pub use entries::{Account, Algorithm, Counter, Extension, TsaPolicy};
+pub use fault::PolicyFault;
+pub use field::Field;
+pub use policy::Policy;
+
+#[cfg(test)]
+mod tests;

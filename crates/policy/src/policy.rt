@@ -1,0 +1,149 @@
+ghost use Rattle.std.specs.Prelude.{◌≡◌, Option, option_map, map, string_bytes};
+ghost use Rattle.std.specs.List.{find};
+ghost use Rattle.std.specs.Str.{bytes_eq};
+ghost use Rattle.der.specs.ObjectIdentifier.{oid_content};
+ghost use Rattle.sha2.specs.Sha256.{sha256};
+ghost use Rattle.toml.specs.View.{table_view};
+ghost use Rattle.policy.specs.Gives.{Gives};
+ghost use Rattle.policy.specs.Kinds.{is_hash};
+ghost use Rattle.policy.specs.Meaning.{meaning_of, policy_in, is_none_or_among};
+ghost use Rattle.policy.specs.View.{policy_view};
+ghost use Rattle.policy.specs.LookUp.{anonymous_in};
+
+use crate::arrays::{accounts, algorithms, counter, extensions, tsa_policies};
+use crate::entries::{Account, Algorithm, Counter, Extension, TsaPolicy};
+use crate::fault::PolicyFault;
+use crate::field::Field;
+use crate::find::{find_by_hash, find_by_name, find_by_oid, has_name};
+use crate::reading::{member, only};
+use sha2::{Digest, Sha256};
+use std::alloc::Global;
+use toml::Table;
+
+/// What a policy file says.
+#[derive(Debug, Drop)]
+pub struct Policy {
+    /// How the counter keeps time.
+    pub counter: Counter,
+    /// The hash algorithms, at most 8, in the file's order.
+    pub algorithms: Vec<Algorithm>,
+    /// The extensions, at most 32, in the file's order.
+    pub extensions: Vec<Extension>,
+    /// The TSA policies, at most 16, in the file's order.
+    pub policies: Vec<TsaPolicy>,
+    /// The accounts, at most 64, in the file's order.
+    pub accounts: Vec<Account>,
+}
+
+impl Policy {
+    /// What the text of a policy file says, or its first fault: `Toml` where it is no TOML document, then the first of
+    /// `Missing`, `BadValue`, `Duplicate`, `UnknownName` and `TooMany` in the order of the tables and of their keys.
+    /// `Memory` where memory runs out.
+    #[tactic(auto, unfolding(crate::specs::Meaning::meaning_of))]
+    pub fn from_text(alloc: Global, text: &str) -> Result<Policy, PolicyFault>
+        ensures { Gives policy_view result (meaning_of text.now) }
+    {
+        match toml::table_from_str(alloc, text) {
+            Ok(document) => from_table(alloc, &document),
+            Err(fault) => {
+                if fault.is_memory() {
+                    Err(PolicyFault::Memory)
+                } else {
+                    Err(PolicyFault::Toml)
+                }
+            }
+        }
+    }
+
+    /// The account whose key these octets are: its `key_sha256` is their SHA-256. Whether it is active isn't asked. None
+    /// where no account has that key. Takes no memory.
+    pub fn account_of_key(&self, key: &[u8]) -> Option<&Account>
+        ensures { option_map (λ a. a.now) result ≡ find (λ a. is_hash (sha256 key.now) a.key_sha256) self.now.accounts.items }
+    {
+        let hash = Sha256::digest(key);
+        find_by_hash(&self.accounts, &hash)
+    }
+
+    /// The account of those that show no key, if the file names one. Takes no memory.
+    pub fn anonymous(&self) -> Option<&Account>
+        ensures { option_map (λ a. a.now) result ≡ anonymous_in self.now }
+    {
+        match &self.counter.anonymous {
+            Some(name) => find_by_name(&self.accounts, name.as_str()),
+            None => None,
+        }
+    }
+
+    /// The account of that name. None where no account has it. Takes no memory.
+    pub fn account_named(&self, name: &str) -> Option<&Account>
+        ensures { option_map (λ a. a.now) result ≡ find (λ a. bytes_eq (string_bytes a.name) name.now) self.now.accounts.items }
+    {
+        find_by_name(&self.accounts, name)
+    }
+
+    /// The policy of that name. None where no policy has it. Takes no memory.
+    pub fn policy_named(&self, name: &str) -> Option<&TsaPolicy>
+        ensures { option_map (λ p. p.now) result ≡ find (λ p. bytes_eq (string_bytes p.name) name.now) self.now.policies.items }
+    {
+        find_by_name(&self.policies, name)
+    }
+
+    /// The policy whose object identifier has these contents octets (X.690 8.19). None where no policy has it. Takes no
+    /// memory.
+    pub fn policy_of_oid(&self, content: &[u8]) -> Option<&TsaPolicy>
+        ensures { option_map (λ p. p.now) result ≡ find (λ p. bytes_eq (oid_content p.oid) content.now) self.now.policies.items }
+    {
+        find_by_oid(&self.policies, content)
+    }
+
+    /// The hash algorithm whose object identifier has these contents octets (X.690 8.19). None where no algorithm has it.
+    /// Takes no memory.
+    pub fn algorithm_of_oid(&self, content: &[u8]) -> Option<&Algorithm>
+        ensures { option_map (λ a. a.now) result ≡ find (λ a. bytes_eq (oid_content a.oid) content.now) self.now.algorithms.items }
+    {
+        find_by_oid(&self.algorithms, content)
+    }
+
+    /// The extension whose object identifier has these contents octets (X.690 8.19). None where no extension has it. Takes
+    /// no memory.
+    pub fn extension_of_oid(&self, content: &[u8]) -> Option<&Extension>
+        ensures { option_map (λ e. e.now) result ≡ find (λ e. bytes_eq (oid_content e.oid) content.now) self.now.extensions.items }
+    {
+        find_by_oid(&self.extensions, content)
+    }
+}
+
+/// Whether the anonymous account exists, where one is named.
+fn anonymous_exists(counter: &Counter, accounts: &[Account]) -> bool
+    ensures { result ≡ is_none_or_among (map (λ e. string_bytes e.name) accounts.now) (option_map string_bytes counter.now.anonymous) }
+{
+    match &counter.anonymous {
+        Some(name) => has_name(accounts, name.as_str()),
+        None => true,
+    }
+}
+
+#[tactic(auto, unfolding(crate::specs::Meaning::policy_in), using(crate::proofs::EntriesRead::algorithm_names, crate::proofs::EntriesRead::extension_names, crate::proofs::EntriesRead::tsa_policy_names, crate::proofs::EntriesRead::account_names))]
+fn from_table(alloc: Global, document: &Table) -> Result<Policy, PolicyFault>
+    ensures { Gives policy_view result (policy_in (table_view document.now)) }
+{
+    only(document, &["counter", "algorithm", "extension", "policy", "account"])?;
+    let Some(value) = member(document, "counter") else {
+        return Err(PolicyFault::Missing(Field::Counter));
+    };
+    let counter = counter(alloc, value)?;
+    let algorithms = algorithms(alloc, document)?;
+    let extensions = extensions(alloc, document)?;
+    let policies = tsa_policies(alloc, &algorithms, &extensions, document)?;
+    let accounts = accounts(alloc, &policies, document)?;
+    if !anonymous_exists(&counter, &accounts) {
+        return Err(PolicyFault::UnknownName(Field::CounterAnonymous));
+    }
+    Ok(Policy {
+        counter,
+        algorithms,
+        extensions,
+        policies,
+        accounts,
+    })
+}

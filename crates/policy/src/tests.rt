@@ -1,0 +1,285 @@
+//! A whole policy file and changes of it, each with the fault that it has to give.
+
+use super::*;
+use std::alloc::{AllocError, Global};
+use std::test::*;
+
+const FILE: &str = r#"[counter]
+accuracy_us = 1000000
+fraction_digits = 0
+drift_ppb = 0
+max_age_us = 86400000000
+anonymous = "guest"
+[[algorithm]]
+name = "sha256"
+oid = "2.16.840.1.101.3.4.2.1"
+length = 32
+[[algorithm]]
+name = "sha512"
+oid = "2.16.840.1.101.3.4.2.3"
+length = 64
+[[extension]]
+name = "batch"
+oid = "2.999.7"
+max_length = 4
+[[policy]]
+name = "open"
+oid = "2.999.1"
+algorithms = ["sha256", "sha512"]
+extensions = ["batch"]
+[[policy]]
+name = "strict"
+oid = "2.999.2"
+algorithms = ["sha512"]
+certificate = false
+[[account]]
+name = "guest"
+policies = ["open"]
+daily_quota = 1000
+[[account]]
+name = "alice"
+key_sha256 = "2cf24dba5fb0a30e26e83b2ac5b9e29e1b161e5c1fa7425e73043362938b9824"
+policies = ["open", "strict"]
+daily_quota = 1001
+[[account]]
+name = "bob"
+key_sha256 = "9f86d081884c7d659a2feaa0c55ad015a3bf4f1b2b0b822cd15d6c15b0f00a08"
+active = false
+policies = ["open"]
+daily_quota = 1002
+[[account]]
+name = "carol"
+key_sha256 = "2c26b46b68ffc68ff99b453c1d30413413422d706483bfa0f98a5e886266e7ae"
+policies = ["open"]
+daily_quota = 2
+[[account]]
+name = "audra"
+key_sha256 = "ca978112ca1bbdcafac231b39a23dc4da786eff8147c4e72b9807785afee48bb"
+auditor = true
+policies = ["open"]
+daily_quota = 1003
+"#;
+
+/// The text with the first `old` replaced.
+fn changed(alloc: Global, text: &str, old: &str, new: &str) -> Result<String, AllocError> {
+    match text.split_once(old) {
+        Some((front, back)) => format!(in alloc; "{front}{new}{back}"),
+        None => String::from_str(alloc, text),
+    }
+}
+
+/// What is replaced, by what, and the fault.
+static CHANGES: [(&str, &str, PolicyFault); 46] = [
+    ("[counter]", "[counter", PolicyFault::Toml),
+    ("[counter]", "[[counter]]", PolicyFault::BadValue(Field::Counter)),
+    ("accuracy_us = 1000000", "accuracy_us = 0", PolicyFault::BadValue(Field::CounterAccuracyUs)),
+    ("accuracy_us = 1000000", "accuracy_us = 1000001", PolicyFault::BadValue(Field::CounterAccuracyUs)),
+    ("accuracy_us = 1000000", "accuracy_us = \"1\"", PolicyFault::BadValue(Field::CounterAccuracyUs)),
+    ("accuracy_us = 1000000", "", PolicyFault::Missing(Field::CounterAccuracyUs)),
+    ("fraction_digits = 0", "fraction_digits = 7", PolicyFault::BadValue(Field::CounterFractionDigits)),
+    ("fraction_digits = 0", "fraction_digits = -1", PolicyFault::BadValue(Field::CounterFractionDigits)),
+    ("drift_ppb = 0\n", "", PolicyFault::Missing(Field::CounterDriftPpb)),
+    ("drift_ppb = 0", "drift_ppb = 1000001", PolicyFault::BadValue(Field::CounterDriftPpb)),
+    ("drift_ppb = 0", "drift_ppb = 0\nordering = 1", PolicyFault::BadValue(Field::CounterOrdering)),
+    ("86400000000", "31536000000001", PolicyFault::BadValue(Field::CounterMaxAgeUs)),
+    ("anonymous = \"guest\"", "anonymous = \"nobody\"", PolicyFault::UnknownName(Field::CounterAnonymous)),
+    ("anonymous = \"guest\"", "anonymous = 3", PolicyFault::BadValue(Field::CounterAnonymous)),
+    ("anonymous = \"guest\"", "quorum = 3", PolicyFault::UnknownName(Field::Key)),
+    ("[counter]", "colour = 1\n[counter]", PolicyFault::UnknownName(Field::Key)),
+    ("[counter]", "algorithm = 1\n[counter]", PolicyFault::Toml),
+    ("\"sha512\"", "\"sha256\"", PolicyFault::Duplicate(Field::AlgorithmName)),
+    ("\"sha512\"", "\"SHA512\"", PolicyFault::BadValue(Field::AlgorithmName)),
+    ("\"sha512\"", "\"\"", PolicyFault::BadValue(Field::AlgorithmName)),
+    ("\"sha512\"", "\"a23456789012345678901234567890123\"", PolicyFault::BadValue(Field::AlgorithmName)),
+    ("3.4.2.3", "3.4.2.1", PolicyFault::Duplicate(Field::AlgorithmOid)),
+    ("3.4.2.3", "3.4.2.03", PolicyFault::BadValue(Field::AlgorithmOid)),
+    ("length = 32", "length = 33", PolicyFault::BadValue(Field::AlgorithmLength)),
+    ("oid = \"2.16.840.1.101.3.4.2.1\"\nlength = 32", "oid = \"2.999.9\"\nlength = 15", PolicyFault::BadValue(Field::AlgorithmLength)),
+    ("oid = \"2.16.840.1.101.3.4.2.1\"\nlength = 32", "oid = \"2.999.9\"\nlength = 65", PolicyFault::BadValue(Field::AlgorithmLength)),
+    ("oid = \"2.16.840.1.101.3.4.2.1\"\nlength = 32", "oid = \"1.3.14.3.2.26\"\nlength = 32", PolicyFault::BadValue(Field::AlgorithmLength)),
+    ("max_length = 4", "max_length = 4097", PolicyFault::BadValue(Field::ExtensionMaxLength)),
+    ("name = \"batch\"", "", PolicyFault::Missing(Field::ExtensionName)),
+    ("algorithms = [\"sha256\", \"sha512\"]", "algorithms = [\"sha1\"]", PolicyFault::UnknownName(Field::PolicyAlgorithms)),
+    ("algorithms = [\"sha256\", \"sha512\"]", "algorithms = []", PolicyFault::BadValue(Field::PolicyAlgorithms)),
+    ("algorithms = [\"sha256\", \"sha512\"]", "algorithms = \"sha256\"", PolicyFault::BadValue(Field::PolicyAlgorithms)),
+    ("algorithms = [\"sha256\", \"sha512\"]", "algorithms = [\"sha256\", \"sha256\"]", PolicyFault::Duplicate(Field::PolicyAlgorithms)),
+    ("extensions = [\"batch\"]", "extensions = [\"batches\"]", PolicyFault::UnknownName(Field::PolicyExtensions)),
+    ("certificate = false", "certificate = \"no\"", PolicyFault::BadValue(Field::PolicyCertificate)),
+    ("\"2.999.2\"", "\"2.999.1\"", PolicyFault::Duplicate(Field::PolicyOid)),
+    ("name = \"bob\"", "name = \"bob\"\ncolour = 1", PolicyFault::UnknownName(Field::Key)),
+    ("name = \"bob\"", "name = \"alice\"", PolicyFault::Duplicate(Field::AccountName)),
+    ("9f86d081884c7d659a2feaa0c55ad015a3bf4f1b2b0b822cd15d6c15b0f00a08", "2CF24DBA5fb0a30e26e83b2ac5b9e29e1b161e5c1fa7425e73043362938b9824", PolicyFault::Duplicate(Field::AccountKeySha256)),
+    ("9f86d081", "9f86d08", PolicyFault::BadValue(Field::AccountKeySha256)),
+    ("9f86d081", "9f86d08g", PolicyFault::BadValue(Field::AccountKeySha256)),
+    ("active = false", "active = 0", PolicyFault::BadValue(Field::AccountActive)),
+    ("auditor = true", "auditor = 1", PolicyFault::BadValue(Field::AccountAuditor)),
+    ("policies = [\"open\", \"strict\"]", "policies = [\"closed\"]", PolicyFault::UnknownName(Field::AccountPolicies)),
+    ("daily_quota = 1000", "daily_quota = 1000000001", PolicyFault::BadValue(Field::AccountDailyQuota)),
+    ("daily_quota = 1003", "", PolicyFault::Missing(Field::AccountDailyQuota)),
+];
+
+#[test]
+fn changes_have_their_fault(rt: HostRuntime) -> Result<(), Fail> {
+    for (index, (old, new, fault)) in CHANGES.iter().enumerate() {
+        let text = changed(rt.alloc(), FILE, *old, *new)?;
+        match Policy::from_text(rt.alloc(), text.as_str()) {
+            Ok(_) => assert!(rt; false, "{index}: taken"),
+            Err(found) => assert_eq!(rt; found, *fault, "{index}"),
+        }
+    }
+    Ok(())
+}
+
+/// Two changes, and the fault that comes first.
+static PAIRS: [(&str, &str, &str, &str, PolicyFault); 14] = [
+    ("[counter]", "colour = 1\n[[counter]]", "", "", PolicyFault::UnknownName(Field::Key)),
+    ("fraction_digits = 0", "fraction_digits = 7", "accuracy_us = 1000000", "", PolicyFault::Missing(Field::CounterAccuracyUs)),
+    ("anonymous = \"guest\"", "quorum = 3", "accuracy_us = 1000000", "", PolicyFault::UnknownName(Field::Key)),
+    ("drift_ppb = 0", "drift_ppb = -1", "\"sha512\"", "\"sha256\"", PolicyFault::BadValue(Field::CounterDriftPpb)),
+    ("3.4.2.3", "3.4.2.1", "length = 64", "length = 63", PolicyFault::Duplicate(Field::AlgorithmOid)),
+    ("length = 32", "length = 31", "\"sha512\"", "\"sha512\"\ncolour = 1", PolicyFault::BadValue(Field::AlgorithmLength)),
+    ("length = 64", "length = 63", "max_length = 4", "max_length = 4097", PolicyFault::BadValue(Field::AlgorithmLength)),
+    ("max_length = 4", "max_length = 4097", "certificate = false", "certificate = 0", PolicyFault::BadValue(Field::ExtensionMaxLength)),
+    ("\"strict\"", "\"open\"", "\"2.999.2\"", "\"2.999.\"", PolicyFault::Duplicate(Field::PolicyName)),
+    ("[\"sha256\", \"sha512\"]", "[\"sha1\", \"sha1\"]", "certificate = false", "certificate = 0", PolicyFault::Duplicate(Field::PolicyAlgorithms)),
+    ("[\"sha256\", \"sha512\"]", "[\"sha1\", \"sha1\", \"SHA\"]", "", "", PolicyFault::BadValue(Field::PolicyAlgorithms)),
+    ("[\"open\", \"strict\"]", "[\"closed\"]", "daily_quota = 1001", "", PolicyFault::UnknownName(Field::AccountPolicies)),
+    ("9f86d081884c7d659a2feaa0c55ad015a3bf4f1b2b0b822cd15d6c15b0f00a08", "2cf24dba5fb0a30e26e83b2ac5b9e29e1b161e5c1fa7425e73043362938b9824", "active = false", "active = 0", PolicyFault::Duplicate(Field::AccountKeySha256)),
+    ("anonymous = \"guest\"", "anonymous = \"nobody\"", "daily_quota = 1003", "daily_quota = -1", PolicyFault::BadValue(Field::AccountDailyQuota)),
+];
+
+#[test]
+fn first_fault_decides(rt: HostRuntime) -> Result<(), Fail> {
+    for (index, (old, new, other, another, fault)) in PAIRS.iter().enumerate() {
+        let once = changed(rt.alloc(), FILE, *old, *new)?;
+        let text = changed(rt.alloc(), once.as_str(), *other, *another)?;
+        match Policy::from_text(rt.alloc(), text.as_str()) {
+            Ok(_) => assert!(rt; false, "{index}: taken"),
+            Err(found) => assert_eq!(rt; found, *fault, "{index}"),
+        }
+    }
+    Ok(())
+}
+
+/// The file with more accounts, so many in all.
+fn with_accounts(alloc: Global, count: u32) -> Result<String, AllocError> {
+    let mut text = String::from_str(alloc, FILE)?;
+    for number in 5..count {
+        let account = format!(in alloc; "[[account]]\nname = \"a{number}\"\npolicies = [\"open\"]\ndaily_quota = 0\n")?;
+        text.push_str(account.as_str())?;
+    }
+    Ok(text)
+}
+
+#[test]
+fn accounts_are_counted(rt: HostRuntime) -> Result<(), Fail> {
+    let most = with_accounts(rt.alloc(), 64)?;
+    let policy = Policy::from_text(rt.alloc(), most.as_str())?;
+    assert_eq!(rt; policy.accounts.len(), 64);
+    let more = with_accounts(rt.alloc(), 65)?;
+    let text = changed(rt.alloc(), more.as_str(), "\"guest\"", "\"nobody\"")?;
+    match Policy::from_text(rt.alloc(), text.as_str()) {
+        Ok(_) => assert!(rt; false, "65 accounts"),
+        Err(found) => assert_eq!(rt; found, PolicyFault::TooMany(Field::Account)),
+    }
+    Ok(())
+}
+
+#[test]
+fn empty_text_has_no_counter(rt: HostRuntime) -> Result<(), Fail> {
+    match Policy::from_text(rt.alloc(), "") {
+        Ok(_) => assert!(rt; false, "taken"),
+        Err(found) => assert_eq!(rt; found, PolicyFault::Missing(Field::Counter)),
+    }
+    Ok(())
+}
+
+#[test]
+fn faults_have_numbers_and_texts(rt: HostRuntime) -> Result<(), Fail> {
+    let cases = [
+        (PolicyFault::Toml, 1, "the text is no TOML document"),
+        (PolicyFault::Missing(Field::Counter), 2, "counter is missing"),
+        (PolicyFault::BadValue(Field::AlgorithmOid), 3, "algorithm.oid has a wrong value"),
+        (PolicyFault::Duplicate(Field::AccountName), 4, "account.name stands twice"),
+        (PolicyFault::UnknownName(Field::Key), 5, "a key is unknown"),
+        (PolicyFault::TooMany(Field::Policy), 6, "there are too many of policy"),
+        (PolicyFault::Memory, 7, "out of memory"),
+    ];
+    for (fault, number, text) in cases.iter() {
+        assert_eq!(rt; fault.number(), *number);
+        let shown = format!(in rt.alloc(); "{fault}")?;
+        assert_eq!(rt; shown.as_str(), *text);
+    }
+    Ok(())
+}
+
+#[test]
+fn file_is_read(rt: HostRuntime) -> Result<(), Fail> {
+    let policy = Policy::from_text(rt.alloc(), FILE)?;
+    assert_eq!(rt; policy.algorithms.len(), 2);
+    assert_eq!(rt; policy.extensions.len(), 1);
+    assert_eq!(rt; policy.policies.len(), 2);
+    assert_eq!(rt; policy.accounts.len(), 5);
+    assert_eq!(rt; policy.counter.accuracy_us, 1_000_000);
+    assert_eq!(rt; policy.counter.max_age_us, 86_400_000_000);
+    assert!(rt; !policy.counter.ordering);
+    Ok(())
+}
+
+/// A key, and the quota of its account.
+static KEYS: [(&str, Option<u32>); 6] = [
+    ("hello", Some(1001)),
+    ("test", Some(1002)),
+    ("foo", Some(2)),
+    ("a", Some(1003)),
+    ("", None),
+    ("hellp", None),
+];
+
+#[test]
+fn accounts_are_found(rt: HostRuntime) -> Result<(), Fail> {
+    let policy = Policy::from_text(rt.alloc(), FILE)?;
+    for (key, quota) in KEYS.iter() {
+        let found = match policy.account_of_key(key.as_bytes()) {
+            Some(account) => Some(account.daily_quota),
+            None => None,
+        };
+        assert_eq!(rt; found, *quota, "{key}");
+    }
+    match policy.anonymous() {
+        Some(account) => assert_eq!(rt; account.daily_quota, 1000),
+        None => assert!(rt; false, "no anonymous account"),
+    }
+    match policy.account_named("carol") {
+        Some(account) => assert_eq!(rt; account.daily_quota, 2),
+        None => assert!(rt; false, "no carol"),
+    }
+    assert!(rt; policy.account_named("carole").is_none());
+    Ok(())
+}
+
+#[test]
+fn entries_are_found(rt: HostRuntime) -> Result<(), Fail> {
+    let policy = Policy::from_text(rt.alloc(), FILE)?;
+    match policy.policy_of_oid(&[0x88, 0x37, 0x02]) {
+        Some(found) => assert!(rt; !found.certificate),
+        None => assert!(rt; false, "no strict"),
+    }
+    match policy.policy_named("open") {
+        Some(found) => assert_eq!(rt; found.algorithms.len(), 2),
+        None => assert!(rt; false, "no open"),
+    }
+    match policy.algorithm_of_oid(&[0x60, 0x86, 0x48, 0x01, 0x65, 0x03, 0x04, 0x02, 0x03]) {
+        Some(found) => assert_eq!(rt; found.length, 64),
+        None => assert!(rt; false, "no sha512"),
+    }
+    match policy.extension_of_oid(&[0x88, 0x37, 0x07]) {
+        Some(found) => assert_eq!(rt; found.max_length, 4),
+        None => assert!(rt; false, "no batch"),
+    }
+    assert!(rt; policy.policy_of_oid(&[0x88, 0x37, 0x03]).is_none());
+    assert!(rt; policy.policy_named("closed").is_none());
+    assert!(rt; policy.algorithm_of_oid(&[0x88, 0x37]).is_none());
+    assert!(rt; policy.extension_of_oid(&[]).is_none());
+    Ok(())
+}
