@@ -1,3 +1,4 @@
+pub mod Counts
 pub mod Answers
 pub mod Fault
 pub mod Hexadecimal

@@ -1,10 +1,11 @@
 ghost use Rattle.std.specs.Prelude.{◌≡◌};
-ghost use Rattle.counter.specs.declared.fault.Fault.TheVariants.{Der, Tsp, Input};
+ghost use Rattle.counter.specs.declared.fault.Fault.TheVariants.{Der, Tsp, Policy, Input};
 ghost use Rattle.counter.specs.declared.fault.InputFault.TheVariants.{Memory};
 ghost use Rattle.counter.specs.Fault.{fault_of};
 
 use der::DerFault;
 use hex::FromHexError;
+use policy::PolicyFault;
 use std::alloc::{AllocError, AllocFailed};
 use thiserror::Error;
 use tsp::TspFault;
@@ -19,6 +20,9 @@ pub enum Fault {
     /// Memory ran out over a request or a TSTInfo.
     #[error("counter: tsp {}", .0.number())]
     Tsp(TspFault),
+    /// The policy file isn't one.
+    #[error("counter: policy {}", .0.number())]
+    Policy(PolicyFault),
     /// The inputs of the program itself.
     #[error("counter: input {}", .0.number())]
     Input(InputFault),
@@ -37,6 +41,14 @@ impl From<TspFault> for Fault {
 
     fn from(fault: TspFault) -> Fault {
         Fault::Tsp(fault)
+    }
+}
+
+impl From<PolicyFault> for Fault {
+    ghost from_gives = { λ fault e. e ≡ Policy fault };
+
+    fn from(fault: PolicyFault) -> Fault {
+        Fault::Policy(fault)
     }
 }
 

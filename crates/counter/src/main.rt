@@ -1,6 +1,7 @@
 //! The counter of a time-stamping authority (RFC 3161), as a program.
 #![tactic(auto)]
 
+mod check;
 mod fault;
 mod hexadecimal;
 mod input;

@@ -6,12 +6,13 @@ ghost use Rattle.clap.specs.Words.{kind_of};
 #[cfg(test)]
 mod tests;
 
+use crate::check::{read_policy, write_counts};
 use crate::fault::{Fault, InputFault};
 use crate::input::read_octets;
 use crate::output::write_octets;
 use crate::settings::Settings;
 use crate::tst::tst_reply;
-use crate::words::{TstWords, Word};
+use crate::words::{CheckWords, TstWords, Word};
 use clap::error::ErrorKind;
 use std::alloc::Global;
 use std::io::{Read, Write};
@@ -71,7 +72,7 @@ pub fn run_words<I: Read, O: Write, E: Write>(
     ensures unwritten { result ≡ 2 → O.contents output.new ≡ O.contents output.old }
 {
     match Word::parse(rt.alloc(), words) {
-        Ok(word) => match run_word(rt.alloc(), &word, input, output) {
+        Ok(word) => match run_word(rt, &word, input, output) {
             Ok(()) => DONE,
             Err(fault) => report(fault, errors),
         },
@@ -80,14 +81,22 @@ pub fn run_words<I: Read, O: Write, E: Write>(
 }
 
 fn run_word<I: Read, O: Write>(
-    alloc: Global,
+    rt: &HostRuntime,
     word: &Word<'_>,
     input: &mut I,
     output: &mut O,
 ) -> Result<(), Fault> {
     match word {
-        Word::Tst(words) => tst(alloc, words, input, output),
+        Word::Tst(words) => tst(rt.alloc(), words, input, output),
+        Word::Check(words) => check(rt, words, output),
     }
+}
+
+/// Reads a policy file, and writes how many entries it has.
+fn check<O: Write>(rt: &HostRuntime, words: &CheckWords<'_>, output: &mut O) -> Result<(), Fault> {
+    let policy = read_policy(rt, words.rules)?;
+    write_counts(rt.alloc(), &policy, output)?;
+    Ok(())
 }
 
 /// Reads a request, and writes the reply to it.

@@ -10,6 +10,15 @@ use std::alloc::{AllocError, Global};
 pub enum Word<'a> {
     /// Answers a request by its TSTInfo, or by the rejection of the first rule that fails.
     Tst(TstWords<'a>),
+    /// Counts what a policy file has.
+    Check(CheckWords<'a>),
+}
+
+/// The words of `check`.
+#[derive(Clone, Copy, Debug, PartialEq, Eq)]
+pub struct CheckWords<'a> {
+    /// The policy file's path.
+    pub rules: &'a str,
 }
 
 /// The words of `tst`.
@@ -77,6 +86,9 @@ impl<'a> Word<'a> {
 fn word_of<'a>(matches: &ArgMatches<'a>) -> Option<Word<'a>> {
     match matches.subcommand()? {
         ("tst", words) => Some(Word::Tst(tst_words(words)?)),
+        ("check", words) => Some(Word::Check(CheckWords {
+            rules: words.get_str("rules")?,
+        })),
         _ => None,
     }
 }
@@ -143,9 +155,19 @@ fn tst_command<'a>(alloc: Global) -> Result<Command<'a>, AllocError> {
         .arg(ordering)
 }
 
+fn check_command<'a>(alloc: Global) -> Result<Command<'a>, AllocError> {
+    let rules = option(alloc, "rules", ValueParser::string(), "The policy file");
+    Command::new(alloc, "check")
+        .about(
+            "Reads a policy file, and writes how many algorithms, extensions, policies and accounts it has",
+        )
+        .arg(rules)
+}
+
 fn command<'a>(alloc: Global) -> Result<Command<'a>, AllocError> {
     Command::new(alloc, "counter")
         .about("The counter of a time-stamping authority (RFC 3161)")
         .subcommand_required(true)
-        .subcommand(tst_command(alloc)?)
+        .subcommand(tst_command(alloc)?)?
+        .subcommand(check_command(alloc)?)
 }

@@ -239,3 +239,71 @@ fn blanks_and_both_cases_are_read(rt: HostRuntime) -> Result<(), Fail> {
     }
     Ok(())
 }
+
+/// A policy file with two algorithms, one extension, two policies and three accounts.
+const RULES: &str = "[counter]
+accuracy_us = 1000000
+fraction_digits = 0
+drift_ppb = 0
+max_age_us = 86400000000
+anonymous = \"guest\"
+[[algorithm]]
+name = \"sha256\"
+oid = \"2.16.840.1.101.3.4.2.1\"
+length = 32
+[[algorithm]]
+name = \"sha512\"
+oid = \"2.16.840.1.101.3.4.2.3\"
+length = 64
+[[extension]]
+name = \"batch\"
+oid = \"2.999.7\"
+max_length = 4
+[[policy]]
+name = \"open\"
+oid = \"2.999.1\"
+algorithms = [\"sha256\", \"sha512\"]
+extensions = [\"batch\"]
+[[policy]]
+name = \"strict\"
+oid = \"2.999.2\"
+algorithms = [\"sha512\"]
+certificate = false
+[[account]]
+name = \"guest\"
+policies = [\"open\"]
+daily_quota = 1000
+[[account]]
+name = \"carol\"
+policies = [\"open\"]
+daily_quota = 2
+[[account]]
+name = \"audra\"
+auditor = true
+policies = [\"open\", \"strict\"]
+daily_quota = 1000
+";
+
+#[test]
+fn entries_of_a_policy_file_are_counted(rt: HostRuntime) -> Result<(), Fail> {
+    let policy = Policy::from_text(rt.alloc(), RULES)?;
+    let mut output = Vec::new(rt.alloc());
+    write_counts(rt.alloc(), &policy, &mut output)?;
+    assert_eq!(rt; output.as_slice(), b"2 1 2 3\n".as_slice());
+    let mut broken = BrokenWriter {
+        room: 3,
+        taken: Vec::new(rt.alloc()),
+    };
+    assert!(rt; write_counts(rt.alloc(), &policy, &mut broken).is_err());
+    Ok(())
+}
+
+#[test]
+fn a_policy_file_that_is_not_there_is_refused(rt: HostRuntime) -> Result<(), Fail> {
+    let words = words_of(rt.alloc(), "counter check --rules no/such/file.toml")?;
+    let outcome = run_on(&rt, words.as_slice(), b"");
+    assert_eq!(rt; outcome.status, 1);
+    assert!(rt; outcome.output.is_empty());
+    assert_eq!(rt; outcome.errors.as_slice(), b"counter: input 2\n".as_slice());
+    Ok(())
+}

@@ -1,0 +1,54 @@
+//! What a policy file has.
+ghost use Rattle.std.specs.Prelude.{◌≡◌, ◌⊎◌, OnOk, IfOk, IfErr, vec_len, string_bytes};
+ghost use Rattle.std.specs.Io.KnownBytes.{Appends};
+ghost use Rattle.counter.specs.Counts.{counts_line};
+
+use crate::fault::{Fault, InputFault};
+use policy::Policy;
+use std::alloc::{AllocError, Global};
+use std::io::Write;
+use std::rt::HostRuntime;
+use std::{fs, io};
+
+/// Reads a policy file. One that can't be read or isn't UTF-8 is `input` 2, and one that is no policy file `policy` with the
+/// number of its first fault.
+pub fn read_policy(rt: &HostRuntime, path: &str) -> Result<Policy, Fault> {
+    let text = read_text(rt, path)?;
+    Ok(Policy::from_text(rt.alloc(), text.as_str())?)
+}
+
+fn read_text(rt: &HostRuntime, path: &str) -> Result<String, InputFault>
+    ensures { IfErr result (λ fault. (fault ≡ InputFault.File) ⊎ (fault ≡ InputFault.Memory)) }
+{
+    match fs::read_to_string(rt, path) {
+        Ok(text) => Ok(text),
+        Err(error) if error.kind() == io::ErrorKind::OutOfMemory => Err(InputFault::Memory),
+        Err(_) => Err(InputFault::File),
+    }
+}
+
+/// Writes the numbers of algorithms, extensions, policies and accounts as one line. A write that fails is `Failed`.
+pub fn write_counts<W: Write>(
+    alloc: Global,
+    policy: &Policy,
+    output: &mut W,
+) -> Result<(), InputFault>
+    ensures written { OnOk result (Appends (W.contents output.old) (W.contents output.new) (counts_line policy.now)) }
+    ensures faults { IfErr result (λ fault. (fault ≡ InputFault.Failed) ⊎ (fault ≡ InputFault.Memory)) }
+{
+    let line = counts(alloc, policy)?;
+    if output.write_all(line.as_bytes()).is_err() || output.flush().is_err() {
+        return Err(InputFault::Failed);
+    }
+    Ok(())
+}
+
+fn counts(alloc: Global, policy: &Policy) -> Result<String, AllocError>
+    ensures { IfOk result (λ line. string_bytes line ≡ counts_line policy.now) }
+{
+    let algorithms = policy.algorithms.len();
+    let extensions = policy.extensions.len();
+    let policies = policy.policies.len();
+    let accounts = policy.accounts.len();
+    format!(in alloc; "{algorithms} {extensions} {policies} {accounts}\n")
+}
