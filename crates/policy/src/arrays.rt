@@ -99,11 +99,7 @@ fn lengths(content: &[u8]) -> (u64, u64)
 }
 
 #[tactic(auto, unfolding(crate::specs::Meaning::algorithm_of))]
-fn algorithm(
-    alloc: Global,
-    earlier: &[Algorithm],
-    table: &Table,
-) -> Result<Algorithm, PolicyFault>
+fn algorithm(alloc: Global, earlier: &[Algorithm], table: &Table) -> Result<Algorithm, PolicyFault>
     ensures { Gives algorithm_view result
         (algorithm_of (map (λ e. string_bytes e.name) earlier.now) (map (λ e. oid_content e.oid) earlier.now) (table_view table.now)) }
 {
@@ -120,11 +116,7 @@ fn algorithm(
 }
 
 #[tactic(auto, unfolding(crate::specs::Meaning::extension_of))]
-fn extension(
-    alloc: Global,
-    earlier: &[Extension],
-    table: &Table,
-) -> Result<Extension, PolicyFault>
+fn extension(alloc: Global, earlier: &[Extension], table: &Table) -> Result<Extension, PolicyFault>
     ensures { Gives extension_view result
         (extension_of (map (λ e. string_bytes e.name) earlier.now) (map (λ e. oid_content e.oid) earlier.now) (table_view table.now)) }
 {
@@ -149,13 +141,28 @@ fn tsa_policy(
 ) -> Result<TsaPolicy, PolicyFault>
     ensures { Gives tsa_policy_view result
         (tsa_policy_of (map (λ e. string_bytes e.name) algorithms.now) (map (λ e. string_bytes e.name) extensions.now)
-            (map (λ e. string_bytes e.name) earlier.now) (map (λ e. oid_content e.oid) earlier.now) (table_view table.now)) }
+        (map (λ e. string_bytes e.name) earlier.now) (map (λ e. oid_content e.oid) earlier.now) (table_view table.now)) }
 {
-    only(table, &["name", "oid", "algorithms", "extensions", "certificate"])?;
+    only(
+        table,
+        &["name", "oid", "algorithms", "extensions", "certificate"],
+    )?;
     let name = new_name(alloc, table, Field::PolicyName, earlier)?;
     let oid = new_oid(alloc, table, Field::PolicyOid, earlier)?;
-    let algorithms = some_names(alloc, table, "algorithms", Field::PolicyAlgorithms, algorithms)?;
-    let extensions = optional_names(alloc, table, "extensions", Field::PolicyExtensions, extensions)?;
+    let algorithms = some_names(
+        alloc,
+        table,
+        "algorithms",
+        Field::PolicyAlgorithms,
+        algorithms,
+    )?;
+    let extensions = optional_names(
+        alloc,
+        table,
+        "extensions",
+        Field::PolicyExtensions,
+        extensions,
+    )?;
     let certificate = optional_truth(table, "certificate", Field::PolicyCertificate, true)?;
     Ok(TsaPolicy {
         name,
@@ -194,7 +201,7 @@ fn account(
 ) -> Result<Account, PolicyFault>
     ensures { Gives account_view result
         (account_of (map (λ e. string_bytes e.name) policies.now) (map (λ e. string_bytes e.name) earlier.now)
-            (map (λ e. e.key_sha256) earlier.now) (table_view table.now)) }
+        (map (λ e. e.key_sha256) earlier.now) (table_view table.now)) }
 {
     only(
         table,
@@ -212,7 +219,13 @@ fn account(
     let active = optional_truth(table, "active", Field::AccountActive, true)?;
     let auditor = optional_truth(table, "auditor", Field::AccountAuditor, false)?;
     let policies = some_names(alloc, table, "policies", Field::AccountPolicies, policies)?;
-    let daily_quota = number(table, "daily_quota", Field::AccountDailyQuota, 0, 1_000_000_000)?;
+    let daily_quota = number(
+        table,
+        "daily_quota",
+        Field::AccountDailyQuota,
+        0,
+        1_000_000_000,
+    )?;
     Ok(Account {
         name,
         key_sha256,
@@ -294,7 +307,7 @@ fn tsa_policy_entry(
 ) -> Result<TsaPolicy, PolicyFault>
     ensures { Gives tsa_policy_view result
         (entry_in Field.Policy (tsa_policy_in (map (λ e. string_bytes e.name) algorithms.now) (map (λ e. string_bytes e.name) extensions.now))
-            (map tsa_policy_view earlier.now) (view value.now)) }
+        (map tsa_policy_view earlier.now) (view value.now)) }
 {
     let table = table_of(Field::Policy, value)?;
     tsa_policy(alloc, algorithms, extensions, earlier, table)
@@ -346,8 +359,8 @@ fn tsa_policy_entries(
 ) -> Result<Vec<TsaPolicy>, PolicyFault>
     ensures { Gives (λ es. map tsa_policy_view es.items) result
         (entries_after (entry_in Field.Policy
-            (tsa_policy_in (map (λ e. string_bytes e.name) algorithms.now) (map (λ e. string_bytes e.name) extensions.now)))
-            [] (items_view values.now)) }
+        (tsa_policy_in (map (λ e. string_bytes e.name) algorithms.now) (map (λ e. string_bytes e.name) extensions.now)))
+        [] (items_view values.now)) }
 {
     let mut entries = Vec::new(alloc);
     for value in values {
@@ -409,8 +422,8 @@ pub(crate) fn tsa_policies(
 ) -> Result<Vec<TsaPolicy>, PolicyFault>
     ensures { Gives (λ es. map tsa_policy_view es.items) result
         (array_in Field.Policy 16
-            (tsa_policy_in (map (λ e. string_bytes e.name) algorithms.now) (map (λ e. string_bytes e.name) extensions.now))
-            (get_member (codes "policy") (table_view document.now))) }
+        (tsa_policy_in (map (λ e. string_bytes e.name) algorithms.now) (map (λ e. string_bytes e.name) extensions.now))
+        (get_member (codes "policy") (table_view document.now))) }
 {
     let Some(value) = member(document, "policy") else {
         return Ok(Vec::new(alloc));
@@ -428,7 +441,7 @@ pub(crate) fn accounts(
 ) -> Result<Vec<Account>, PolicyFault>
     ensures { Gives (λ es. map account_view es.items) result
         (array_in Field.Account 64 (account_in (map (λ e. string_bytes e.name) policies.now))
-            (get_member (codes "account") (table_view document.now))) }
+        (get_member (codes "account") (table_view document.now))) }
 {
     let Some(value) = member(document, "account") else {
         return Ok(Vec::new(alloc));

@@ -1,9 +1,9 @@
+ghost use Rattle.std.specs.Prelude.{◌≡◌};
+ghost use Rattle.policy.specs.declared.fault.PolicyFault.TheVariants.{Memory};
+
 use crate::field::Field;
 use std::alloc::{AllocError, AllocFailed};
 use thiserror::Error;
-
-ghost use Rattle.std.specs.Prelude.{◌≡◌};
-ghost use Rattle.policy.specs.declared.fault.PolicyFault.TheVariants.{Memory};
 
 /// Why a policy file is refused. Each refusal has a number, which the program prints.
 #[derive(Clone, Copy, Debug, PartialEq, Eq, Error)]

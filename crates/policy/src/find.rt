@@ -11,6 +11,7 @@ use der::Oid;
 /// An entry with a name.
 pub(crate) trait Named {
     ghost name_of: { Self → List ℕ };
+
     ghost use Rattle.std.specs.Prelude.{◌≡◌, ℕ, List};
 
     /// The name.
@@ -21,6 +22,7 @@ pub(crate) trait Named {
 /// An entry with an object identifier.
 pub(crate) trait Identified {
     ghost oid_of: { Self → List ℕ };
+
     ghost use Rattle.std.specs.Prelude.{◌≡◌, ℕ, List};
     ghost use Rattle.der.specs.ObjectIdentifier.{oid_content};
 

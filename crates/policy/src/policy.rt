@@ -127,7 +127,10 @@ fn anonymous_exists(counter: &Counter, accounts: &[Account]) -> bool
 fn from_table(alloc: Global, document: &Table) -> Result<Policy, PolicyFault>
     ensures { Gives policy_view result (policy_in (table_view document.now)) }
 {
-    only(document, &["counter", "algorithm", "extension", "policy", "account"])?;
+    only(
+        document,
+        &["counter", "algorithm", "extension", "policy", "account"],
+    )?;
     let Some(value) = member(document, "counter") else {
         return Err(PolicyFault::Missing(Field::Counter));
     };

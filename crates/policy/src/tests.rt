@@ -71,51 +71,227 @@ fn changed(alloc: Global, text: &str, old: &str, new: &str) -> Result<String, Al
 /// What is replaced, by what, and the fault.
 static CHANGES: [(&str, &str, PolicyFault); 46] = [
     ("[counter]", "[counter", PolicyFault::Toml),
-    ("[counter]", "[[counter]]", PolicyFault::BadValue(Field::Counter)),
-    ("accuracy_us = 1000000", "accuracy_us = 0", PolicyFault::BadValue(Field::CounterAccuracyUs)),
-    ("accuracy_us = 1000000", "accuracy_us = 1000001", PolicyFault::BadValue(Field::CounterAccuracyUs)),
-    ("accuracy_us = 1000000", "accuracy_us = \"1\"", PolicyFault::BadValue(Field::CounterAccuracyUs)),
-    ("accuracy_us = 1000000", "", PolicyFault::Missing(Field::CounterAccuracyUs)),
-    ("fraction_digits = 0", "fraction_digits = 7", PolicyFault::BadValue(Field::CounterFractionDigits)),
-    ("fraction_digits = 0", "fraction_digits = -1", PolicyFault::BadValue(Field::CounterFractionDigits)),
-    ("drift_ppb = 0\n", "", PolicyFault::Missing(Field::CounterDriftPpb)),
-    ("drift_ppb = 0", "drift_ppb = 1000001", PolicyFault::BadValue(Field::CounterDriftPpb)),
-    ("drift_ppb = 0", "drift_ppb = 0\nordering = 1", PolicyFault::BadValue(Field::CounterOrdering)),
-    ("86400000000", "31536000000001", PolicyFault::BadValue(Field::CounterMaxAgeUs)),
-    ("anonymous = \"guest\"", "anonymous = \"nobody\"", PolicyFault::UnknownName(Field::CounterAnonymous)),
-    ("anonymous = \"guest\"", "anonymous = 3", PolicyFault::BadValue(Field::CounterAnonymous)),
-    ("anonymous = \"guest\"", "quorum = 3", PolicyFault::UnknownName(Field::Key)),
-    ("[counter]", "colour = 1\n[counter]", PolicyFault::UnknownName(Field::Key)),
+    (
+        "[counter]",
+        "[[counter]]",
+        PolicyFault::BadValue(Field::Counter),
+    ),
+    (
+        "accuracy_us = 1000000",
+        "accuracy_us = 0",
+        PolicyFault::BadValue(Field::CounterAccuracyUs),
+    ),
+    (
+        "accuracy_us = 1000000",
+        "accuracy_us = 1000001",
+        PolicyFault::BadValue(Field::CounterAccuracyUs),
+    ),
+    (
+        "accuracy_us = 1000000",
+        "accuracy_us = \"1\"",
+        PolicyFault::BadValue(Field::CounterAccuracyUs),
+    ),
+    (
+        "accuracy_us = 1000000",
+        "",
+        PolicyFault::Missing(Field::CounterAccuracyUs),
+    ),
+    (
+        "fraction_digits = 0",
+        "fraction_digits = 7",
+        PolicyFault::BadValue(Field::CounterFractionDigits),
+    ),
+    (
+        "fraction_digits = 0",
+        "fraction_digits = -1",
+        PolicyFault::BadValue(Field::CounterFractionDigits),
+    ),
+    (
+        "drift_ppb = 0\n",
+        "",
+        PolicyFault::Missing(Field::CounterDriftPpb),
+    ),
+    (
+        "drift_ppb = 0",
+        "drift_ppb = 1000001",
+        PolicyFault::BadValue(Field::CounterDriftPpb),
+    ),
+    (
+        "drift_ppb = 0",
+        "drift_ppb = 0\nordering = 1",
+        PolicyFault::BadValue(Field::CounterOrdering),
+    ),
+    (
+        "86400000000",
+        "31536000000001",
+        PolicyFault::BadValue(Field::CounterMaxAgeUs),
+    ),
+    (
+        "anonymous = \"guest\"",
+        "anonymous = \"nobody\"",
+        PolicyFault::UnknownName(Field::CounterAnonymous),
+    ),
+    (
+        "anonymous = \"guest\"",
+        "anonymous = 3",
+        PolicyFault::BadValue(Field::CounterAnonymous),
+    ),
+    (
+        "anonymous = \"guest\"",
+        "quorum = 3",
+        PolicyFault::UnknownName(Field::Key),
+    ),
+    (
+        "[counter]",
+        "colour = 1\n[counter]",
+        PolicyFault::UnknownName(Field::Key),
+    ),
     ("[counter]", "algorithm = 1\n[counter]", PolicyFault::Toml),
-    ("\"sha512\"", "\"sha256\"", PolicyFault::Duplicate(Field::AlgorithmName)),
-    ("\"sha512\"", "\"SHA512\"", PolicyFault::BadValue(Field::AlgorithmName)),
-    ("\"sha512\"", "\"\"", PolicyFault::BadValue(Field::AlgorithmName)),
-    ("\"sha512\"", "\"a23456789012345678901234567890123\"", PolicyFault::BadValue(Field::AlgorithmName)),
-    ("3.4.2.3", "3.4.2.1", PolicyFault::Duplicate(Field::AlgorithmOid)),
-    ("3.4.2.3", "3.4.2.03", PolicyFault::BadValue(Field::AlgorithmOid)),
-    ("length = 32", "length = 33", PolicyFault::BadValue(Field::AlgorithmLength)),
-    ("oid = \"2.16.840.1.101.3.4.2.1\"\nlength = 32", "oid = \"2.999.9\"\nlength = 15", PolicyFault::BadValue(Field::AlgorithmLength)),
-    ("oid = \"2.16.840.1.101.3.4.2.1\"\nlength = 32", "oid = \"2.999.9\"\nlength = 65", PolicyFault::BadValue(Field::AlgorithmLength)),
-    ("oid = \"2.16.840.1.101.3.4.2.1\"\nlength = 32", "oid = \"1.3.14.3.2.26\"\nlength = 32", PolicyFault::BadValue(Field::AlgorithmLength)),
-    ("max_length = 4", "max_length = 4097", PolicyFault::BadValue(Field::ExtensionMaxLength)),
-    ("name = \"batch\"", "", PolicyFault::Missing(Field::ExtensionName)),
-    ("algorithms = [\"sha256\", \"sha512\"]", "algorithms = [\"sha1\"]", PolicyFault::UnknownName(Field::PolicyAlgorithms)),
-    ("algorithms = [\"sha256\", \"sha512\"]", "algorithms = []", PolicyFault::BadValue(Field::PolicyAlgorithms)),
-    ("algorithms = [\"sha256\", \"sha512\"]", "algorithms = \"sha256\"", PolicyFault::BadValue(Field::PolicyAlgorithms)),
-    ("algorithms = [\"sha256\", \"sha512\"]", "algorithms = [\"sha256\", \"sha256\"]", PolicyFault::Duplicate(Field::PolicyAlgorithms)),
-    ("extensions = [\"batch\"]", "extensions = [\"batches\"]", PolicyFault::UnknownName(Field::PolicyExtensions)),
-    ("certificate = false", "certificate = \"no\"", PolicyFault::BadValue(Field::PolicyCertificate)),
-    ("\"2.999.2\"", "\"2.999.1\"", PolicyFault::Duplicate(Field::PolicyOid)),
-    ("name = \"bob\"", "name = \"bob\"\ncolour = 1", PolicyFault::UnknownName(Field::Key)),
-    ("name = \"bob\"", "name = \"alice\"", PolicyFault::Duplicate(Field::AccountName)),
-    ("9f86d081884c7d659a2feaa0c55ad015a3bf4f1b2b0b822cd15d6c15b0f00a08", "2CF24DBA5fb0a30e26e83b2ac5b9e29e1b161e5c1fa7425e73043362938b9824", PolicyFault::Duplicate(Field::AccountKeySha256)),
-    ("9f86d081", "9f86d08", PolicyFault::BadValue(Field::AccountKeySha256)),
-    ("9f86d081", "9f86d08g", PolicyFault::BadValue(Field::AccountKeySha256)),
-    ("active = false", "active = 0", PolicyFault::BadValue(Field::AccountActive)),
-    ("auditor = true", "auditor = 1", PolicyFault::BadValue(Field::AccountAuditor)),
-    ("policies = [\"open\", \"strict\"]", "policies = [\"closed\"]", PolicyFault::UnknownName(Field::AccountPolicies)),
-    ("daily_quota = 1000", "daily_quota = 1000000001", PolicyFault::BadValue(Field::AccountDailyQuota)),
-    ("daily_quota = 1003", "", PolicyFault::Missing(Field::AccountDailyQuota)),
+    (
+        "\"sha512\"",
+        "\"sha256\"",
+        PolicyFault::Duplicate(Field::AlgorithmName),
+    ),
+    (
+        "\"sha512\"",
+        "\"SHA512\"",
+        PolicyFault::BadValue(Field::AlgorithmName),
+    ),
+    (
+        "\"sha512\"",
+        "\"\"",
+        PolicyFault::BadValue(Field::AlgorithmName),
+    ),
+    (
+        "\"sha512\"",
+        "\"a23456789012345678901234567890123\"",
+        PolicyFault::BadValue(Field::AlgorithmName),
+    ),
+    (
+        "3.4.2.3",
+        "3.4.2.1",
+        PolicyFault::Duplicate(Field::AlgorithmOid),
+    ),
+    (
+        "3.4.2.3",
+        "3.4.2.03",
+        PolicyFault::BadValue(Field::AlgorithmOid),
+    ),
+    (
+        "length = 32",
+        "length = 33",
+        PolicyFault::BadValue(Field::AlgorithmLength),
+    ),
+    (
+        "oid = \"2.16.840.1.101.3.4.2.1\"\nlength = 32",
+        "oid = \"2.999.9\"\nlength = 15",
+        PolicyFault::BadValue(Field::AlgorithmLength),
+    ),
+    (
+        "oid = \"2.16.840.1.101.3.4.2.1\"\nlength = 32",
+        "oid = \"2.999.9\"\nlength = 65",
+        PolicyFault::BadValue(Field::AlgorithmLength),
+    ),
+    (
+        "oid = \"2.16.840.1.101.3.4.2.1\"\nlength = 32",
+        "oid = \"1.3.14.3.2.26\"\nlength = 32",
+        PolicyFault::BadValue(Field::AlgorithmLength),
+    ),
+    (
+        "max_length = 4",
+        "max_length = 4097",
+        PolicyFault::BadValue(Field::ExtensionMaxLength),
+    ),
+    (
+        "name = \"batch\"",
+        "",
+        PolicyFault::Missing(Field::ExtensionName),
+    ),
+    (
+        "algorithms = [\"sha256\", \"sha512\"]",
+        "algorithms = [\"sha1\"]",
+        PolicyFault::UnknownName(Field::PolicyAlgorithms),
+    ),
+    (
+        "algorithms = [\"sha256\", \"sha512\"]",
+        "algorithms = []",
+        PolicyFault::BadValue(Field::PolicyAlgorithms),
+    ),
+    (
+        "algorithms = [\"sha256\", \"sha512\"]",
+        "algorithms = \"sha256\"",
+        PolicyFault::BadValue(Field::PolicyAlgorithms),
+    ),
+    (
+        "algorithms = [\"sha256\", \"sha512\"]",
+        "algorithms = [\"sha256\", \"sha256\"]",
+        PolicyFault::Duplicate(Field::PolicyAlgorithms),
+    ),
+    (
+        "extensions = [\"batch\"]",
+        "extensions = [\"batches\"]",
+        PolicyFault::UnknownName(Field::PolicyExtensions),
+    ),
+    (
+        "certificate = false",
+        "certificate = \"no\"",
+        PolicyFault::BadValue(Field::PolicyCertificate),
+    ),
+    (
+        "\"2.999.2\"",
+        "\"2.999.1\"",
+        PolicyFault::Duplicate(Field::PolicyOid),
+    ),
+    (
+        "name = \"bob\"",
+        "name = \"bob\"\ncolour = 1",
+        PolicyFault::UnknownName(Field::Key),
+    ),
+    (
+        "name = \"bob\"",
+        "name = \"alice\"",
+        PolicyFault::Duplicate(Field::AccountName),
+    ),
+    (
+        "9f86d081884c7d659a2feaa0c55ad015a3bf4f1b2b0b822cd15d6c15b0f00a08",
+        "2CF24DBA5fb0a30e26e83b2ac5b9e29e1b161e5c1fa7425e73043362938b9824",
+        PolicyFault::Duplicate(Field::AccountKeySha256),
+    ),
+    (
+        "9f86d081",
+        "9f86d08",
+        PolicyFault::BadValue(Field::AccountKeySha256),
+    ),
+    (
+        "9f86d081",
+        "9f86d08g",
+        PolicyFault::BadValue(Field::AccountKeySha256),
+    ),
+    (
+        "active = false",
+        "active = 0",
+        PolicyFault::BadValue(Field::AccountActive),
+    ),
+    (
+        "auditor = true",
+        "auditor = 1",
+        PolicyFault::BadValue(Field::AccountAuditor),
+    ),
+    (
+        "policies = [\"open\", \"strict\"]",
+        "policies = [\"closed\"]",
+        PolicyFault::UnknownName(Field::AccountPolicies),
+    ),
+    (
+        "daily_quota = 1000",
+        "daily_quota = 1000000001",
+        PolicyFault::BadValue(Field::AccountDailyQuota),
+    ),
+    (
+        "daily_quota = 1003",
+        "",
+        PolicyFault::Missing(Field::AccountDailyQuota),
+    ),
 ];
 
 #[test]
@@ -132,20 +308,104 @@ fn changes_have_their_fault(rt: HostRuntime) -> Result<(), Fail> {
 
 /// Two changes, and the fault that comes first.
 static PAIRS: [(&str, &str, &str, &str, PolicyFault); 14] = [
-    ("[counter]", "colour = 1\n[[counter]]", "", "", PolicyFault::UnknownName(Field::Key)),
-    ("fraction_digits = 0", "fraction_digits = 7", "accuracy_us = 1000000", "", PolicyFault::Missing(Field::CounterAccuracyUs)),
-    ("anonymous = \"guest\"", "quorum = 3", "accuracy_us = 1000000", "", PolicyFault::UnknownName(Field::Key)),
-    ("drift_ppb = 0", "drift_ppb = -1", "\"sha512\"", "\"sha256\"", PolicyFault::BadValue(Field::CounterDriftPpb)),
-    ("3.4.2.3", "3.4.2.1", "length = 64", "length = 63", PolicyFault::Duplicate(Field::AlgorithmOid)),
-    ("length = 32", "length = 31", "\"sha512\"", "\"sha512\"\ncolour = 1", PolicyFault::BadValue(Field::AlgorithmLength)),
-    ("length = 64", "length = 63", "max_length = 4", "max_length = 4097", PolicyFault::BadValue(Field::AlgorithmLength)),
-    ("max_length = 4", "max_length = 4097", "certificate = false", "certificate = 0", PolicyFault::BadValue(Field::ExtensionMaxLength)),
-    ("\"strict\"", "\"open\"", "\"2.999.2\"", "\"2.999.\"", PolicyFault::Duplicate(Field::PolicyName)),
-    ("[\"sha256\", \"sha512\"]", "[\"sha1\", \"sha1\"]", "certificate = false", "certificate = 0", PolicyFault::Duplicate(Field::PolicyAlgorithms)),
-    ("[\"sha256\", \"sha512\"]", "[\"sha1\", \"sha1\", \"SHA\"]", "", "", PolicyFault::BadValue(Field::PolicyAlgorithms)),
-    ("[\"open\", \"strict\"]", "[\"closed\"]", "daily_quota = 1001", "", PolicyFault::UnknownName(Field::AccountPolicies)),
-    ("9f86d081884c7d659a2feaa0c55ad015a3bf4f1b2b0b822cd15d6c15b0f00a08", "2cf24dba5fb0a30e26e83b2ac5b9e29e1b161e5c1fa7425e73043362938b9824", "active = false", "active = 0", PolicyFault::Duplicate(Field::AccountKeySha256)),
-    ("anonymous = \"guest\"", "anonymous = \"nobody\"", "daily_quota = 1003", "daily_quota = -1", PolicyFault::BadValue(Field::AccountDailyQuota)),
+    (
+        "[counter]",
+        "colour = 1\n[[counter]]",
+        "",
+        "",
+        PolicyFault::UnknownName(Field::Key),
+    ),
+    (
+        "fraction_digits = 0",
+        "fraction_digits = 7",
+        "accuracy_us = 1000000",
+        "",
+        PolicyFault::Missing(Field::CounterAccuracyUs),
+    ),
+    (
+        "anonymous = \"guest\"",
+        "quorum = 3",
+        "accuracy_us = 1000000",
+        "",
+        PolicyFault::UnknownName(Field::Key),
+    ),
+    (
+        "drift_ppb = 0",
+        "drift_ppb = -1",
+        "\"sha512\"",
+        "\"sha256\"",
+        PolicyFault::BadValue(Field::CounterDriftPpb),
+    ),
+    (
+        "3.4.2.3",
+        "3.4.2.1",
+        "length = 64",
+        "length = 63",
+        PolicyFault::Duplicate(Field::AlgorithmOid),
+    ),
+    (
+        "length = 32",
+        "length = 31",
+        "\"sha512\"",
+        "\"sha512\"\ncolour = 1",
+        PolicyFault::BadValue(Field::AlgorithmLength),
+    ),
+    (
+        "length = 64",
+        "length = 63",
+        "max_length = 4",
+        "max_length = 4097",
+        PolicyFault::BadValue(Field::AlgorithmLength),
+    ),
+    (
+        "max_length = 4",
+        "max_length = 4097",
+        "certificate = false",
+        "certificate = 0",
+        PolicyFault::BadValue(Field::ExtensionMaxLength),
+    ),
+    (
+        "\"strict\"",
+        "\"open\"",
+        "\"2.999.2\"",
+        "\"2.999.\"",
+        PolicyFault::Duplicate(Field::PolicyName),
+    ),
+    (
+        "[\"sha256\", \"sha512\"]",
+        "[\"sha1\", \"sha1\"]",
+        "certificate = false",
+        "certificate = 0",
+        PolicyFault::Duplicate(Field::PolicyAlgorithms),
+    ),
+    (
+        "[\"sha256\", \"sha512\"]",
+        "[\"sha1\", \"sha1\", \"SHA\"]",
+        "",
+        "",
+        PolicyFault::BadValue(Field::PolicyAlgorithms),
+    ),
+    (
+        "[\"open\", \"strict\"]",
+        "[\"closed\"]",
+        "daily_quota = 1001",
+        "",
+        PolicyFault::UnknownName(Field::AccountPolicies),
+    ),
+    (
+        "9f86d081884c7d659a2feaa0c55ad015a3bf4f1b2b0b822cd15d6c15b0f00a08",
+        "2cf24dba5fb0a30e26e83b2ac5b9e29e1b161e5c1fa7425e73043362938b9824",
+        "active = false",
+        "active = 0",
+        PolicyFault::Duplicate(Field::AccountKeySha256),
+    ),
+    (
+        "anonymous = \"guest\"",
+        "anonymous = \"nobody\"",
+        "daily_quota = 1003",
+        "daily_quota = -1",
+        PolicyFault::BadValue(Field::AccountDailyQuota),
+    ),
 ];
 
 #[test]
@@ -165,7 +425,9 @@ fn first_fault_decides(rt: HostRuntime) -> Result<(), Fail> {
 fn with_accounts(alloc: Global, count: u32) -> Result<String, AllocError> {
     let mut text = String::from_str(alloc, FILE)?;
     for number in 5..count {
-        let account = format!(in alloc; "[[account]]\nname = \"a{number}\"\npolicies = [\"open\"]\ndaily_quota = 0\n")?;
+        let account = format!(in alloc;
+            "[[account]]\nname = \"a{number}\"\npolicies = [\"open\"]\ndaily_quota = 0\n"
+        )?;
         text.push_str(account.as_str())?;
     }
     Ok(text)
@@ -198,11 +460,27 @@ fn empty_text_has_no_counter(rt: HostRuntime) -> Result<(), Fail> {
 fn faults_have_numbers_and_texts(rt: HostRuntime) -> Result<(), Fail> {
     let cases = [
         (PolicyFault::Toml, 1, "the text is no TOML document"),
-        (PolicyFault::Missing(Field::Counter), 2, "counter is missing"),
-        (PolicyFault::BadValue(Field::AlgorithmOid), 3, "algorithm.oid has a wrong value"),
-        (PolicyFault::Duplicate(Field::AccountName), 4, "account.name stands twice"),
+        (
+            PolicyFault::Missing(Field::Counter),
+            2,
+            "counter is missing",
+        ),
+        (
+            PolicyFault::BadValue(Field::AlgorithmOid),
+            3,
+            "algorithm.oid has a wrong value",
+        ),
+        (
+            PolicyFault::Duplicate(Field::AccountName),
+            4,
+            "account.name stands twice",
+        ),
         (PolicyFault::UnknownName(Field::Key), 5, "a key is unknown"),
-        (PolicyFault::TooMany(Field::Policy), 6, "there are too many of policy"),
+        (
+            PolicyFault::TooMany(Field::Policy),
+            6,
+            "there are too many of policy",
+        ),
         (PolicyFault::Memory, 7, "out of memory"),
     ];
     for (fault, number, text) in cases.iter() {
