@@ -1,6 +1,8 @@
 mod rows;
 
 use super::run_words;
+use crate::check::write_counts;
+use policy::Policy;
 use std::alloc::{AllocError, Global};
 use std::io;
 use std::io::{Read, Write};
