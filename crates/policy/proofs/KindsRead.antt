@@ -1,13 +1,11 @@
 -- The kinds of keys.
-use Rattle.std.proofs.Common.{◌≡◌, ℕ, List, Option, Some, None, Result, Ok, Err, refl, sym, ap, ◌∙◌, MatchResult}
+use Rattle.std.proofs.Common.{◌≡◌, ℕ, List, Some, None, Result, Ok, Err, refl, MatchResult}
 use Rattle.std.specs.Result.{result_ok}
 use Rattle.toml.specs.Data.{Data, as_str}
 use Rattle.der.specs.ObjectIdentifier.{IsOid, oid_text}
 use Rattle.hex.specs.Hex.{decode_sized}
 use Rattle.hex.specs.declared.error.FromHexError.{FromHexError}
-use Rattle.policy.specs.Kinds.{hash_in, oid_in, given}
-use Rattle.policy.specs.OidText.{oid_of_text}
-use Rattle.policy.specs.declared.fault.PolicyFault.{PolicyFault}
+use Rattle.policy.specs.Kinds.{hash_in, oid_in}
 use Rattle.policy.specs.declared.fault.PolicyFault.TheVariants.{BadValue}
 use Rattle.policy.specs.declared.field.Field.{Field}
 use Rattle.policy.proofs.OidTexts.{oid_of_text-written, oid_of_text-other}

@@ -1,11 +1,11 @@
 -- The text of an object identifier, read.
-use Rattle.std.proofs.Common.{◌≡◌, ℕ, zero, suc, ◌+◌, ◌-◌, ◌*◌, ◌<◌, ◌≤◌, Bool, true, false, ◌&&◌, eqb, ltb, leb, ◌^◌, Decides, cond, List, [], ◌∷◌, ◌++◌, length, map, Option, Some, None, refl, sym, ap, subst, ◌∙◌, arith, append_assoc}
-use Rattle.std.specs.Int.Digits.{digits_of, number_from_digits, number_from_digits_after, AllBelowBase}
+use Rattle.std.proofs.Common.{◌≡◌, ℕ, zero, suc, ◌+◌, ◌-◌, ◌*◌, ◌<◌, ◌≤◌, Bool, true, false, ◌&&◌, eqb, ltb, leb, ◌^◌, Decides, List, [], ◌∷◌, ◌++◌, length, map, Some, None, refl, sym, ap, subst, ◌∙◌, arith}
+use Rattle.std.specs.Int.Digits.{digits_of, number_from_digits_after}
 use Rattle.std.specs.List.{flat_map, list_all, AllByRecursion}
 use Rattle.std.specs.Str.{bytes_eq}
-use Rattle.std.proofs.lemmas.Bool.{and_parts, ne_eqb, cond-false, cond-true, cases_Bool, false≢true, leb-true, le-leb}
+use Rattle.std.proofs.lemmas.Bool.{ne_eqb, cond-false, cond-true, leb-true, le-leb}
 use Rattle.std.proofs.lemmas.Bool.Decides.{nat_tests, Decides-and, Decides-ltb}
-use Rattle.std.proofs.lemmas.Int.Digits.{number_digits_of, all_below_base_digits_of}
+use Rattle.std.proofs.lemmas.Int.Digits.{number_digits_of}
 use Rattle.std.proofs.lemmas.Slice.Eq.{bytes_eq-Decides}
 use Rattle.der.specs.ObjectIdentifier.{IsOid, is_oid, oid_text, decimal, dotted, first_arc}
 use Rattle.policy.specs.OidText.{arcs_after, joined, oid_of_text}

@@ -1,6 +1,5 @@
 -- The meaning of a policy file: the record, or the first fault.
-use Rattle.std.specs.Prelude.{ℕ, ◌==◌, ◌||◌, ◌&&◌, nat_le, Bool, true, false, if◌then◌else◌, List, [], ◌∷◌, map, codes, Option, Some, None, option_map, Result, Ok, Err}
-use Rattle.std.specs.List.{flat_map}
+use Rattle.std.specs.Prelude.{ℕ, Bool, true, false, if◌then◌else◌, List, [], ◌∷◌, map, codes, Option, Some, None, Result, Ok, Err}
 use Rattle.std.specs.Str.{bytes_eq}
 use Rattle.der.specs.ObjectIdentifier.{oid_content}
 use Rattle.toml.specs.Data.{Data, Members, get_member, as_table}
@@ -9,7 +8,6 @@ use Rattle.policy.specs.Kinds.{◌>>=◌, test, given, wanted, optional, is_amon
 use Rattle.policy.specs.Record.{AlgorithmValue, ExtensionValue, TsaPolicyValue, AccountValue, CounterValue, PolicyValue}
 use Rattle.policy.specs.declared.fault.PolicyFault.{PolicyFault}
 use Rattle.policy.specs.declared.fault.PolicyFault.TheVariants.{Toml, UnknownName}
-use Rattle.policy.specs.declared.field.Field.{Field}
 use Rattle.policy.specs.declared.field.Field.TheVariants as field
 
 -- the hash algorithms whose lengths are fixed, by their contents octets, as least and greatest length of a hash

@@ -1,5 +1,5 @@
 -- What the types stand for.
-use Rattle.std.specs.Prelude.{ℕ, List, Option, option_map, map, String, Vec, string_bytes}
+use Rattle.std.specs.Prelude.{ℕ, List, option_map, map, String, Vec, string_bytes}
 use Rattle.std.specs.declared.alloc.Global.{Global}
 use Rattle.policy.specs.Record.{AlgorithmValue, ExtensionValue, TsaPolicyValue, AccountValue, CounterValue, PolicyValue}
 use Rattle.policy.specs.declared.entries.Algorithm.{Algorithm}

@@ -1,4 +1,4 @@
-use Rattle.std.proofs.Common.{◌≡◌, drop, map, [], string_bytes}
+use Rattle.std.proofs.Common.{◌≡◌, drop, map, []}
 use Rattle.toml.specs.View.{items_view}
 use Rattle.policy.specs.Kinds.{entries_after, entry_in}
 use Rattle.policy.specs.Meaning.{algorithm_in}

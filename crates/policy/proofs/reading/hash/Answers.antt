@@ -1,4 +1,3 @@
-use Rattle.std.proofs.Common.{◌≡◌, ◌∙◌, sym, Some}
 use Rattle.policy.proofs.KindsRead.{hash_in-refused, refused-decode}
 use Rattle.policy.proofs.reading.hash.Goals as goal
 

@@ -1,4 +1,3 @@
-use Rattle.std.proofs.Common.{◌≡◌, ◌∙◌, sym, Some}
 use Rattle.policy.proofs.KindsRead.{oid_in-read, oid_in-refused}
 use Rattle.policy.proofs.reading.oid.Goals as goal
 

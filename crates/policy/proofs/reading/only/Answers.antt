@@ -1,4 +1,4 @@
-use Rattle.std.proofs.Common.{◌≡◌, ◌∙◌, ap, map, string_bytes}
+use Rattle.std.proofs.Common.{◌∙◌, ap, map, string_bytes}
 use Rattle.std.specs.List.{list_all}
 use Rattle.policy.specs.Kinds.{is_among}
 use Rattle.policy.proofs.Keys.{has_only-keys}
