@@ -4,9 +4,9 @@ use super::run_words;
 use crate::check::write_counts;
 use policy::Policy;
 use std::alloc::{AllocError, Global};
-use std::io;
 use std::io::{Read, Write};
 use std::test::Fail;
+use std::{fs, io};
 
 /// Gives its octets one at a time, and fails after them.
 #[derive(Drop)]
@@ -242,7 +242,7 @@ fn blanks_and_both_cases_are_read(rt: HostRuntime) -> Result<(), Fail> {
     Ok(())
 }
 
-/// A policy file with two algorithms, one extension, two policies and three accounts.
+/// A policy file with two algorithms, one extension, two policies and five accounts.
 const RULES: &str = "[counter]
 accuracy_us = 1000000
 fraction_digits = 0
@@ -276,22 +276,120 @@ name = \"guest\"
 policies = [\"open\"]
 daily_quota = 1000
 [[account]]
+name = \"alice\"
+key_sha256 = \"2cf24dba5fb0a30e26e83b2ac5b9e29e1b161e5c1fa7425e73043362938b9824\"
+policies = [\"open\", \"strict\"]
+daily_quota = 1000
+[[account]]
+name = \"bob\"
+key_sha256 = \"9f86d081884c7d659a2feaa0c55ad015a3bf4f1b2b0b822cd15d6c15b0f00a08\"
+policies = [\"open\"]
+daily_quota = 1000
+[[account]]
 name = \"carol\"
+key_sha256 = \"2c26b46b68ffc68ff99b453c1d30413413422d706483bfa0f98a5e886266e7ae\"
 policies = [\"open\"]
 daily_quota = 2
 [[account]]
 name = \"audra\"
 auditor = true
-policies = [\"open\", \"strict\"]
+key_sha256 = \"ca978112ca1bbdcafac231b39a23dc4da786eff8147c4e72b9807785afee48bb\"
+policies = [\"open\"]
 daily_quota = 1000
 ";
+
+/// What is changed in that file (what stands there, and what takes its place), and what `check` writes to the output and to
+/// the errors then.
+static CHANGES: [(&str, &str, &[u8], &[u8]); 9] = [
+    ("guest\"\npolicies", "guest\"\npolicies", b"2 1 2 5\n", b""),
+    ("[counter]", "[counter", b"", b"counter: policy 1\n"),
+    ("[counter]", "[[counter]]", b"", b"counter: policy 3\n"),
+    (
+        "accuracy_us = 1000000",
+        "accuracy_us = 0",
+        b"",
+        b"counter: policy 3\n",
+    ),
+    ("drift_ppb = 0\n", "", b"", b"counter: policy 2\n"),
+    (
+        "2.16.840.1.101.3.4.2.3",
+        "2.16.840.1.101.3.4.2.1",
+        b"",
+        b"counter: policy 4\n",
+    ),
+    (
+        "[\"sha256\", \"sha512\"]",
+        "[\"sha1\"]",
+        b"",
+        b"counter: policy 5\n",
+    ),
+    (
+        "auditor = true",
+        "colour = true",
+        b"",
+        b"counter: policy 5\n",
+    ),
+    (
+        "anonymous = \"guest\"",
+        "anonymous = \"nobody\"",
+        b"",
+        b"counter: policy 5\n",
+    ),
+];
+
+/// What `check` answers where the file has this text.
+fn check_on(rt: &HostRuntime, text: &str) -> io::Result<Outcome> {
+    let path = "policy_file_of_a_test.toml";
+    fs::write(rt, path, text)?;
+    let words = words_of(
+        rt.alloc(),
+        "counter check --rules policy_file_of_a_test.toml",
+    )?;
+    let outcome = run_on(rt, words.as_slice(), b"");
+    fs::remove_file(rt, path)?;
+    Ok(outcome)
+}
+
+#[test]
+fn policy_files_are_checked(rt: HostRuntime) -> Result<(), Fail> {
+    for (i, (old, new, output, errors)) in CHANGES.iter().enumerate() {
+        let (before, after) = RULES.split_once(*old).ok_or("the file has no such text")?;
+        let text = format!(in rt.alloc(); "{before}{new}{after}")?;
+        let outcome = check_on(&rt, text.as_str())?;
+        assert_eq!(rt; outcome.output.as_slice(), *output, "at {i}");
+        assert_eq!(rt; outcome.errors.as_slice(), *errors, "at {i}");
+    }
+    let outcome = check_on(&rt, "")?;
+    assert_eq!(rt;
+        outcome.errors.as_slice(),
+        b"counter: policy 2\n".as_slice()
+    );
+    Ok(())
+}
+
+#[test]
+fn too_many_accounts_are_refused(rt: HostRuntime) -> Result<(), Fail> {
+    let mut text = String::from_str(rt.alloc(), RULES)?;
+    for number in 0..60 {
+        write!(
+            text,
+            "[[account]]\nname = \"a{number}\"\npolicies = [\"open\"]\ndaily_quota = 1\n"
+        )?;
+    }
+    let outcome = check_on(&rt, text.as_str())?;
+    assert_eq!(rt;
+        outcome.errors.as_slice(),
+        b"counter: policy 6\n".as_slice()
+    );
+    Ok(())
+}
 
 #[test]
 fn entries_of_a_policy_file_are_counted(rt: HostRuntime) -> Result<(), Fail> {
     let policy = Policy::from_text(rt.alloc(), RULES)?;
     let mut output = Vec::new(rt.alloc());
     write_counts(rt.alloc(), &policy, &mut output)?;
-    assert_eq!(rt; output.as_slice(), b"2 1 2 3\n".as_slice());
+    assert_eq!(rt; output.as_slice(), b"2 1 2 5\n".as_slice());
     let mut broken = BrokenWriter {
         room: 3,
         taken: Vec::new(rt.alloc()),
