@@ -2,3 +2,4 @@ pub mod Keys
 pub mod KindsRead
 pub mod OidTexts
 pub mod EntriesRead
+pub mod SoundRecords

@@ -6,3 +6,4 @@ pub mod Kinds
 pub mod Meaning
 pub mod View
 pub mod LookUp
+pub mod Sound

@@ -6,12 +6,14 @@ mod entries;
 mod fault;
 mod field;
 mod find;
+mod laws;
 mod policy;
 mod reading;
 
 pub use entries::{Account, Algorithm, Counter, Extension, TsaPolicy};
 pub use fault::PolicyFault;
 pub use field::Field;
+pub use laws::records_are_sound;
 pub use policy::Policy;
 
 #[cfg(test)]
