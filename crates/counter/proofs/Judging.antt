@@ -1,7 +1,6 @@
 -- Rules that hold of the one request that octets spell, and of the octets.
-use Rattle.std.proofs.Common.{◌≡◌, ℕ, ◌<◌, ◌≤◌, ℤ, pos, List, [], ◌∷◌, length, Result, Ok, Err, IfOk, inl, inr, sym, ap, ◌∙◌, subst, arith}
+use Rattle.std.proofs.Common.{◌≡◌, ℕ, ◌<◌, ◌≤◌, List, length, Result, Ok, Err, IfOk, inl, inr, subst, arith}
 use Rattle.der.specs.Node.{encoding}
-use Rattle.der.specs.Number.{number_content, twos_value}
 use Rattle.tsp.specs.Request.{RequestValue, Spells}
 use Rattle.tsp.specs.Rejection.{number_of, rejection}
 use Rattle.tsp.specs.Rules.{IsSpelled, HasVersionOne, HasKnownAlgorithm, HasAlgorithmLength, IsFirstFailing}
@@ -101,14 +100,3 @@ rejected settings query rule octets first text = inr record { rule = rule; first
 pub if_ok : {T E : Type 0} {P Q : T → Type 0} (r : Result T E) → ((x : T) → P x → Q x) → IfOk r P → IfOk r Q
 if_ok (Ok x) f h = f x h
 if_ok (Err e) f h = h
-
--- the contents of a version tell whether it is 1
-pub version_one : (content : List ℕ) (version : ℤ) → content ≡ number_content version → twos_value (number_content version) ≡ version
-    → content ≡ 1 ∷ [] → version ≡ pos 1
-version_one content version e value one =
-    let octets : number_content version ≡ 1 ∷ [] = sym e ∙ one in
-    sym value ∙ ap twos_value octets
-
-pub one_is_content : (content : List ℕ) (version : ℤ) → content ≡ number_content version → version ≡ pos 1 → content ≡ 1 ∷ []
-unfolding number_content
-one_is_content content version e one = e ∙ ap number_content one

@@ -1,6 +1,10 @@
 //! What a policy file has.
-ghost use Rattle.std.specs.Prelude.{◌≡◌, ◌⊎◌, OnOk, IfOk, IfErr, vec_len, string_bytes};
+ghost use Rattle.std.specs.Prelude.{◌≡◌, ◌⊎◌, List, ℕ, Ok, OnOk, IfOk, IfErr, vec_len, string_bytes};
 ghost use Rattle.std.specs.Io.KnownBytes.{Appends};
+ghost use Rattle.policy.specs.Gives.{Fails};
+ghost use Rattle.policy.specs.Meaning.{meaning_of};
+ghost use Rattle.policy.specs.View.{policy_view};
+ghost use Rattle.policy.specs.declared.fault.PolicyFault.{PolicyFault};
 ghost use Rattle.counter.specs.Counts.{counts_line};
 
 use crate::fault::{Fault, InputFault};
@@ -12,7 +16,12 @@ use std::{fs, io};
 
 /// Reads a policy file. One that can't be read or isn't UTF-8 is `input` 2, and one that is no policy file `policy` with the
 /// number of its first fault.
-pub fn read_policy(rt: &HostRuntime, path: &str) -> Result<Policy, Fault> {
+pub fn read_policy(rt: &HostRuntime, path: &str) -> Result<Policy, Fault>
+    // What no contract says is what a file holds. Whatever text was read, the policy is its meaning, and a fault the first of its.
+    ensures meant { IfOk result (λ policy. (text : List ℕ) × (meaning_of text ≡ Ok (policy_view policy))) }
+    ensures faults { IfErr result (λ fault. (fault ≡ Fault.Input InputFault.File) ⊎ ((fault ≡ Fault.Input InputFault.Memory)
+        ⊎ ((text : List ℕ) × ((first : PolicyFault) × (fault ≡ Fault.Policy first) × Fails first (meaning_of text))))) }
+{
     let text = read_text(rt, path)?;
     Ok(Policy::from_text(rt.alloc(), text.as_str())?)
 }

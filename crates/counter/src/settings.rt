@@ -59,15 +59,6 @@ impl Settings {
         ensures rounded { result ≡ round_down self.now.digits self.now.moment }
         ensures bound { result ≤ last_moment }
     {
-        let step: i64 = match self.digits {
-            0 => 1_000_000,
-            1 => 100_000,
-            2 => 10_000,
-            3 => 1_000,
-            4 => 100,
-            5 => 10,
-            _ => 1,
-        };
-        GenTime::from_micros(self.moment.micros() / step * step).unwrap()
+        self.moment.rounded_down(self.digits)
     }
 }

@@ -1,6 +1,6 @@
 //! A moment, as a clock counts it.
 
-ghost use Rattle.std.specs.Prelude.{◌≡◌, ◌↔◌, ◌≤◌, ℕ, length, pos, ◌≤ℤ◌, IsOk, IfOk, IfErr, IsErrOf, Ok};
+ghost use Rattle.std.specs.Prelude.{◌≡◌, ◌↔◌, ◌≤◌, ◌-◌, ◌^◌, ℕ, length, pos, ◌≤ℤ◌, IsOk, IfOk, IfErr, IsErrOf, Ok};
 ghost use Rattle.gentime.specs.GenTime.{last_moment, round_down, text_of, GeneralizedTime, States, IsTime, IsCounted};
 ghost use Rattle.gentime.specs.declared.fault.GenTimeFault.TheVariants.{Date, Form, Memory, Range};
 
@@ -86,19 +86,18 @@ impl GenTime {
         ensures length { IfOk result (λ text. (15 ≤ length text.items) × (length text.items ≤ 22)) }
         ensures memory { IfErr result (λ fault. fault ≡ GenTimeFault.Memory) }
     {
-        let rounded = self.rounded_down(digits);
+        let rounded = self.rounded_down(digits).micros;
         let digits = six_digits((rounded % 1_000_000) as u32);
         let parts = Components::of(rounded, without_trailing_zeros(&digits));
         Ok(parts.spell(alloc)?)
     }
 
-    /// The moment's microseconds, rounded down to that many digits of the fraction of its second.
-    fn rounded_down(self, digits: u8) -> u64
-        requires { digits ≤ 6 }
-        ensures value { result ≡ round_down digits self }
-        ensures bound { result ≤ last_moment }
+    /// How many microseconds the last of so many fraction digits of a second counts; one for more than six digits.
+    pub fn step(digits: u8) -> u64
+        ensures value { result ≡ 10 ^ (6 - digits) }
+        ensures bounds { (1 ≤ result) × (result ≤ 1_000_000) }
     {
-        let step: u64 = match digits {
+        match digits {
             0 => 1_000_000,
             1 => 100_000,
             2 => 10_000,
@@ -106,7 +105,16 @@ impl GenTime {
             4 => 100,
             5 => 10,
             _ => 1,
-        };
-        self.micros / step * step
+        }
+    }
+
+    /// The moment, rounded down to that many digits of the fraction of its second.
+    pub fn rounded_down(self, digits: u8) -> GenTime
+        ensures { result ≡ round_down digits self }
+    {
+        let step = GenTime::step(digits);
+        GenTime {
+            micros: self.micros / step * step,
+        }
     }
 }

@@ -134,8 +134,8 @@ pub(crate) fn find_by_oid<'e, T: Identified>(entries: &'e [T], content: &[u8]) -
 pub(crate) fn has_name<T: Named>(entries: &[T], name: &str) -> bool
     ensures { result ≡ is_among (map T.name_of entries.now) name.now }
 {
-    for entry in entries {
-        if entry.name() == name {
+    for other in entries {
+        if other.name() == name {
             return true;
         }
     }
@@ -147,8 +147,8 @@ pub(crate) fn has_oid<T: Identified>(entries: &[T], oid: &Oid) -> bool
     ensures { result ≡ is_among (map (λ e. oid_content (T.oid_of e)) entries.now) (oid_content oid.now) }
 {
     let content = oid.content();
-    for entry in entries {
-        if entry.oid_content() == content {
+    for other in entries {
+        if other.oid_content() == content {
             return true;
         }
     }
@@ -181,8 +181,8 @@ pub(crate) fn find_by_hash<'e>(accounts: &'e [Account], hash: &[u8; 32]) -> Opti
 pub(crate) fn has_hash(accounts: &[Account], hash: &[u8; 32]) -> bool
     ensures { result ≡ list_any (is_hash hash.now) (map (λ a. a.key_sha256) accounts.now) }
 {
-    for account in accounts {
-        if is_key_hash(account, hash) {
+    for other in accounts {
+        if is_key_hash(other, hash) {
             return true;
         }
     }

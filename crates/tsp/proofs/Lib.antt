@@ -11,3 +11,4 @@ pub mod TstRead
 pub mod TstReads
 pub mod TstTakes
 pub mod TstText
+pub mod Versions

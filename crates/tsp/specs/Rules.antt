@@ -19,11 +19,14 @@ IsSpelled octets = ((r : RequestValue) × Spells octets r) × (length octets ≤
 abbrev pub HasVersionOne : RequestValue → Type 0
 HasVersionOne r = r.version ≡ pos 1
 
+-- the algorithm's parameters are absent or NULL
+abbrev pub HasPlainParameters : RequestValue → Type 0
+HasPlainParameters r = (r.imprint.parameters ≡ None) ⊎ (r.imprint.parameters ≡ Some (primitive 5 []))
+
 -- an algorithm is known by the request's identifier, and its parameters are absent or NULL
 abbrev pub HasKnownAlgorithm : List AlgorithmValue → RequestValue → Type 0
 HasKnownAlgorithm algorithms r =
-    ((a : AlgorithmValue) × Contains algorithms a × (a.identifier ≡ r.imprint.algorithm))
-    × ((r.imprint.parameters ≡ None) ⊎ (r.imprint.parameters ≡ Some (primitive 5 [])))
+    ((a : AlgorithmValue) × Contains algorithms a × (a.identifier ≡ r.imprint.algorithm)) × HasPlainParameters r
 
 -- each algorithm that is known by the request's identifier has the hash's length
 abbrev pub HasAlgorithmLength : List AlgorithmValue → RequestValue → Type 0

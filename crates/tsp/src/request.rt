@@ -1,4 +1,4 @@
-ghost use Rattle.std.specs.Prelude.{◌≡◌, ◌≢◌, ◌↔◌, ◌<◌, ◌≤◌, ◌^◌, ℕ, Bool, List, Option, Some, None, Err, option_map, length, map, unwrap_or, IfOk, MatchResult};
+ghost use Rattle.std.specs.Prelude.{◌≡◌, ◌≢◌, ◌↔◌, ◌<◌, ◌≤◌, ◌^◌, ℕ, Bool, List, Option, Some, None, Err, option_map, length, map, unwrap_or, IfOk, IsTrue, MatchResult};
 ghost use Rattle.std.specs.Option.{option_copied};
 ghost use Rattle.der.specs.Number.{number_content};
 ghost use Rattle.der.specs.ObjectIdentifier.{IsOid, oid_content};
@@ -7,6 +7,7 @@ ghost use Rattle.tsp.specs.Gives.{Gives};
 ghost use Rattle.tsp.specs.Reading.{request_of, only};
 ghost use Rattle.der.specs.Node.{encoding, IsLawful};
 ghost use Rattle.tsp.specs.Request.{RequestValue, IsRequest, Stated, unstated, request as spelled, Spells};
+ghost use Rattle.tsp.specs.Rules.{HasVersionOne, HasPlainParameters};
 ghost use Rattle.tsp.specs.Tst.{TstValue, IsTst, tst_info, answer};
 ghost use Rattle.tsp.specs.View.{request_view, extension_view, tst_view};
 ghost use Rattle.tsp.specs.declared.fault.TspFault.TheVariants.{Form, TooLong, Memory};
@@ -18,12 +19,14 @@ use crate::reading::{
     end, extensions, flag, imprint_from, integer_from, optional_integer, optional_oid,
 };
 use crate::tst::TstInfo;
-use der::{DerFault, Oid, Tag, Tree, components_under, read_tree};
+use der::{DerFault, Oid, Tag, Tree, components_under, numbers_have_one_content, read_tree};
 use gentime::GenTime;
 use std::alloc::Global;
 
 /// How many octets a request may have.
 const MAX_OCTETS: usize = 65_536;
+/// The contents octets of the number 1.
+const VERSION_ONE: &[u8] = &[1];
 /// The extensions of a request, under [0].
 pub(crate) const REQUEST_EXTENSIONS: Tag = Tag { octet: 0xa0 };
 
@@ -92,6 +95,25 @@ impl Request {
         ensures { result ≡ (request_view self.now).cert_req }
     {
         self.cert_req
+    }
+
+    /// Whether the version is 1 (RFC 3161 2.4.1).
+    pub fn has_version_one(&self) -> bool
+        ensures { IsTrue result ↔ HasVersionOne (request_view self.now) }
+    {
+        numbers_have_one_content();
+        self.version() == VERSION_ONE
+    }
+
+    /// Whether the algorithm's parameters are absent or NULL (RFC 5280 4.1.1.2).
+    pub fn has_plain_parameters(&self) -> bool
+        ensures { IsTrue result ↔ HasPlainParameters (request_view self.now) }
+    {
+        match &self.imprint.parameters {
+            None => true,
+            Some(Tree::Primitive(tag, contents)) => *tag == Tag::NULL && contents.is_empty(),
+            Some(Tree::Constructed(_, _)) => false,
+        }
     }
 
     /// The extensions, in their order.

@@ -4,7 +4,7 @@ use Rattle.policy.specs.Kinds.{is_among}
 use Rattle.policy.proofs.find.has_oid.Given as goal
 
 -- it is among those left where it is among all
-abbrev pub invariant-loop-entry : goal.invariant-loop-entry
-invariant-loop-entry g l =
-    is_among (map (λ e. oid_content (g.T.Identified.oid_of e)) (drop l.entry-index l.entries)) l.content
+abbrev pub invariant-loop-other : goal.invariant-loop-other
+invariant-loop-other g l =
+    is_among (map (λ e. oid_content (g.T.Identified.oid_of e)) (drop l.other-index l.entries)) l.content
     ≡ is_among (map (λ e. oid_content (g.T.Identified.oid_of e)) l.entries) l.content
