@@ -4,6 +4,8 @@ use der::Oid;
 use gentime::GenTime;
 use std::test::Fail;
 
+mod random;
+
 /// Requests.
 static REQUESTS: [&[u8]; 8] = [
     // plain

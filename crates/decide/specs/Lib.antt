@@ -1,0 +1,4 @@
+pub mod Clock
+pub mod Rules
+pub mod Tests
+pub mod Verdict

@@ -1,0 +1,17 @@
+//! The decision on a time-stamp request (RFC 3161 2.4.1) under a written policy (in the manner of RFC 3628): the clock's state,
+//! the rules in their order, and the verdict. No call takes memory, and all succeed.
+#![tactic(auto)]
+
+mod accounts;
+mod clock;
+mod facts;
+mod judge;
+mod rules;
+#[cfg(test)]
+mod tests;
+mod verdict;
+
+pub use clock::{ClockState, clock_state, now_of};
+pub use facts::{Calibration, Facts, Hold};
+pub use judge::{decide, judge_request};
+pub use verdict::{Plan, Verdict};
