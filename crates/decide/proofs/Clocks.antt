@@ -1,10 +1,10 @@
 -- The good state, and the promise on its genTime.
-use Rattle.std.proofs.Common.{◌≡◌, ℕ, ◌<◌, ◌≤◌, ◌+◌, ◌-◌, ◌*◌, ◌/◌, ◌%◌, ◌^◌, ℤ, pos, ◌+ℤ◌, Option, Some, false, refl, sym, ap, ◌∙◌, subst, arith}
+use Rattle.std.proofs.Common.{◌≡◌, ℕ, ◌<◌, ◌≤◌, ◌+◌, ◌-◌, ◌*◌, ◌/◌, ◌%◌, ◌^◌, ℤ, pos, Some, false, sym, ◌∙◌, subst, arith}
 use Rattle.std.specs.Prelude.{◌≤ℤ◌}
 use Rattle.std.proofs.lemmas.Int.{ints}
 use Rattle.std.proofs.Math.Nat.{one-le-pow}
 use Rattle.std.proofs.lemmas.Option.{same_Some}
-use Rattle.gentime.specs.GenTime.{last_moment, round_down}
+use Rattle.gentime.specs.GenTime.{last_moment}
 use Rattle.policy.specs.Record.{CounterValue}
 use Rattle.decide.specs.Clock.{now_at, elapsed, divided_up, deviation, step, gen_time, Follows, IsGood, IsGoodAt, IsWithin, KeepsAccuracy}
 use Rattle.decide.specs.declared.facts.Calibration.{Calibration}

@@ -1,5 +1,5 @@
 -- Tests over lists, and what they tell of the values that the elements stand for.
-use Rattle.std.proofs.Common.{◌≡◌, ℕ, zero, suc, ◌<◌, Bool, true, false, Option, Some, None, is_some, List, [], ◌∷◌, map, length, drop, get_or, ◌+◌, ◌≤◌, ◌&&◌, ◌||◌, option_map, refl, sym, ap, ◌∙◌, subst, inl, inr, ◌⊎◌, arith}
+use Rattle.std.proofs.Common.{◌≡◌, ℕ, zero, suc, ◌<◌, Bool, true, false, Some, is_some, List, [], ◌∷◌, map, length, drop, get_or, ◌+◌, ◌≤◌, option_map, refl, sym, ap, ◌∙◌, subst, inl, inr, ◌⊎◌, arith}
 use Rattle.std.specs.Prelude.{Contains, slice_index_or}
 use Rattle.std.proofs.lemmas.List.{drop_more, drop_all}
 use Rattle.std.specs.Bool.{Decides}

@@ -1,7 +1,7 @@
 -- The definitions, computed on a row: calibration (0, 250, 400), drift 1000, three digits, reading 1,000,000,000.
-use Rattle.std.proofs.Common.{◌≡◌, ℕ, ◌+◌, ◌-◌, pos, Option, None, false, refl}
+use Rattle.std.proofs.Common.{◌≡◌, ◌+◌, ◌-◌, pos, None, false, refl}
 use Rattle.policy.specs.Record.{CounterValue}
-use Rattle.decide.specs.Clock.{now_at, deviation, step, gen_time, elapsed}
+use Rattle.decide.specs.Clock.{now_at, deviation, step, gen_time}
 use Rattle.decide.specs.declared.facts.Calibration.{Calibration}
 
 abbrev counter : CounterValue

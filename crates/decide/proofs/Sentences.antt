@@ -1,5 +1,5 @@
 -- The code's tests tell the rules' sentences.
-use Rattle.std.proofs.Common.{◌≡◌, ℕ, ◌≤◌, Bool, true, false, Option, Some, None, is_some, List, [], ◌∷◌, map, length, ◌&&◌, ◌||◌, ◌==◌, not, nat_le, option_map, String, Global, string_bytes, slice_get, refl, sym, ap, ◌∙◌, subst, inl, inr, ◌⊎◌, arith}
+use Rattle.std.proofs.Common.{◌≡◌, ℕ, ◌≤◌, Bool, true, false, Option, Some, None, is_some, List, [], ◌∷◌, map, length, ◌&&◌, ◌||◌, ◌==◌, not, nat_le, option_map, String, Global, string_bytes, slice_get, refl, sym, ap, ◌∙◌, subst, inl, inr, ◌⊎◌}
 use Rattle.std.specs.Prelude.{Contains}
 use Rattle.std.specs.Bool.{Decides}
 use Rattle.std.specs.List.{list_any, list_all, find, AllByRecursion}
@@ -14,7 +14,6 @@ use Rattle.policy.specs.Record.{TsaPolicyValue, AccountValue, PolicyValue}
 use Rattle.policy.specs.Record as record_of
 use Rattle.policy.specs.View.{algorithm_view, extension_view, tsa_policy_view, policy_view}
 use Rattle.policy.specs.declared.entries.Algorithm.{Algorithm}
-use Rattle.policy.specs.declared.entries.Extension.{Extension}
 use Rattle.policy.specs.declared.entries.TsaPolicy.{TsaPolicy}
 use Rattle.policy.specs.declared.policy.Policy.{Policy}
 use Rattle.tsp.specs.Rules.{AlgorithmValue}

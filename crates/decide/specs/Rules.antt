@@ -1,8 +1,8 @@
 -- The rules of a written policy (in the manner of RFC 3628), each a sentence that stands by itself, and the first that fails.
-use Rattle.std.specs.Prelude.{◌≡◌, ℕ, ◌<◌, ◌≤◌, ◌⊎◌, Bool, true, false, List, [], ◌∷◌, map, length, Option, Some, None, option_map, Contains}
+use Rattle.std.specs.Prelude.{◌≡◌, ℕ, ◌<◌, ◌≤◌, ◌⊎◌, true, false, List, [], ◌∷◌, map, length, Option, Some, None, option_map, Contains}
 use Rattle.std.specs.List.{AllByRecursion, find}
 use Rattle.std.specs.Str.{bytes_eq}
-use Rattle.policy.specs.Record.{AlgorithmValue, ExtensionValue, TsaPolicyValue, AccountValue, CounterValue, PolicyValue}
+use Rattle.policy.specs.Record.{AlgorithmValue, ExtensionValue, TsaPolicyValue, AccountValue, PolicyValue}
 use Rattle.tsp.specs.Request.{RequestValue}
 use Rattle.tsp.specs.Request as tsp
 use Rattle.tsp.specs.Rules as rules

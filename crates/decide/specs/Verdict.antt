@@ -1,5 +1,5 @@
 -- The decision on a request: the first rule that fails, or the plan of the stamp.
-use Rattle.std.specs.Prelude.{◌≡◌, ℕ, Option, Some}
+use Rattle.std.specs.Prelude.{◌≡◌, Option, Some}
 use Rattle.policy.specs.Record.{AccountValue, PolicyValue}
 use Rattle.tsp.specs.Request.{RequestValue}
 use Rattle.tsp.specs.Rules.{IsFirstFailing}

@@ -1,11 +1,9 @@
 -- Lemmas on values one after the other, and on options.
-use Rattle.std.proofs.Common.{◌≡◌, ℕ, Bool, true, false, cond, eqb, List, [], ◌∷◌, ◌++◌, Option, Some, None, refl, sym, ap, ◌∙◌, subst}
-use Rattle.std.specs.Option.{option_and_then}
-use Rattle.std.proofs.lemmas.Option.{option_and_then_some, cond_some}
-use Rattle.std.proofs.lemmas.Bool.Decides.{nat_tests}
-use Rattle.der.specs.Node.{Node, primitive, constructed, Nodes, no_nodes, node, IsFormed, AreFormed, AreOctets, contents_of, components_of, first_of, take_under, identifier_of}
+use Rattle.std.proofs.Common.{◌≡◌, ℕ, eqb, List, [], ◌∷◌, ◌++◌, Some, refl, ap}
+use Rattle.std.proofs.lemmas.Option.{cond_some}
+use Rattle.der.specs.Node.{Node, primitive, constructed, Nodes, no_nodes, node, contents_of, components_of, first_of}
 use Rattle.der.specs.Tree.{nodes}
-use Rattle.std.proofs.lemmas.Bool.{eqb-true, eq-eqb}
+use Rattle.std.proofs.lemmas.Bool.{eqb-true}
 
 -- values before others
 abbrev pub before : List Node → Nodes → Nodes

@@ -1,16 +1,15 @@
 -- What the grammar gives for a request is read as that request.
-use Rattle.std.proofs.Common.{◌≡◌, ℕ, Bool, true, false, ◌||◌, cond, ℤ, List, [], ◌∷◌, ◌++◌, Option, Some, None, refl, sym, ap, ◌∙◌, subst}
-use Rattle.std.specs.Option.{option_and_then, IfSome, unwrap_or}
+use Rattle.std.proofs.Common.{◌≡◌, ℕ, Bool, true, false, ◌||◌, ℤ, List, [], ◌∷◌, ◌++◌, Option, Some, None, refl, sym, ap, ◌∙◌}
+use Rattle.std.specs.Option.{IfSome}
 use Rattle.std.specs.List.{AllByRecursion}
-use Rattle.der.specs.Node.{Node, primitive, constructed, Nodes, no_nodes, node, contents_of, components_of, first_of, take_under, identifier_of}
+use Rattle.der.specs.Node.{Node, constructed, Nodes, no_nodes, node, identifier_of}
 use Rattle.der.specs.Tree.{nodes}
-use Rattle.der.specs.Number.{is_shortest, twos_value, number_content}
-use Rattle.der.specs.ObjectIdentifier.{IsOid, oid_content, oid_of}
+use Rattle.der.specs.ObjectIdentifier.{IsOid}
 use Rattle.der.proofs.NumberContents.{twos_value-number_content, is_shortest-number_content}
 use Rattle.der.proofs.OidContents.{oid_of-content}
 use Rattle.tsp.specs.Grammar.{integer, boolean, octet_string, object_identifier, sequence, optional, false_by_default}
-use Rattle.tsp.specs.Request.{ImprintValue, ExtensionValue, RequestValue, IsRequest, Stated, algorithm_identifier, message_imprint, extension, extension_nodes, extensions_under, request}
-use Rattle.tsp.specs.Reading.{number_of, integer_of, truth_of, boolean_of, stated_of, oid_in, only, end_of, optional_of, optional_at, flag_at, parameters_of, algorithm_of, imprint_of, extension_of, extensions_of, some_extensions, extension_list_of, extensions_at, request_of}
+use Rattle.tsp.specs.Request.{ImprintValue, ExtensionValue, RequestValue, IsRequest, Stated, message_imprint, extension, extension_nodes, extensions_under, request}
+use Rattle.tsp.specs.Reading.{number_of, integer_of, truth_of, boolean_of, stated_of, oid_in, only, end_of, optional_at, flag_at, parameters_of, algorithm_of, imprint_of, extension_of, extensions_of, some_extensions, extension_list_of, extensions_at, request_of}
 use Rattle.std.proofs.Common.{arith}
 use Rattle.std.proofs.lemmas.Bool.{eq-eqb}
 use borrow.Author.Tests.{ne_eqb}

@@ -1,18 +1,18 @@
 -- What is read from a value is what the grammar gives for some choice of stated FALSEs.
-use Rattle.std.proofs.Common.{◌≡◌, ℕ, Bool, true, false, ◌||◌, cond, ℤ, List, [], ◌∷◌, ◌++◌, Option, Some, None, ◌⊎◌, inl, inr, eqb, refl, sym, ap, ◌∙◌, subst, arith}
+use Rattle.std.proofs.Common.{◌≡◌, ℕ, Bool, true, false, ◌||◌, cond, ℤ, List, [], ◌∷◌, Option, Some, None, ◌⊎◌, inl, inr, eqb, refl, sym, ap, ◌∙◌, subst}
 use mathlib.Core.Logic.{⊎_elim}
-use Rattle.std.specs.Option.{option_and_then, IfSome, unwrap_or}
+use Rattle.std.specs.Option.{IfSome, unwrap_or}
 use Rattle.std.specs.List.{AllByRecursion}
 use Rattle.std.proofs.lemmas.Option.{option_and_then_some, cond_some}
 use Rattle.std.proofs.lemmas.Bool.{eqb-true}
-use Rattle.der.specs.Node.{Node, primitive, constructed, Nodes, no_nodes, node, contents_of, components_of, first_of, take_under, identifier_of, IsFormed, AreFormed, AreOctets}
+use Rattle.der.specs.Node.{Node, primitive, constructed, Nodes, no_nodes, node, contents_of, components_of, first_of, identifier_of, IsFormed, AreFormed, AreOctets}
 use Rattle.der.specs.Tree.{nodes}
 use Rattle.der.specs.Number.{is_shortest, twos_value, number_content}
-use Rattle.der.specs.ObjectIdentifier.{IsOid, oid_content, oid_of}
+use Rattle.der.specs.ObjectIdentifier.{IsOid, oid_of}
 use Rattle.der.proofs.NumberContents.{number_content-twos_value}
 use Rattle.der.proofs.OidContents.{oid_of-some}
 use Rattle.tsp.specs.Grammar.{integer, boolean, octet_string, object_identifier, sequence, optional, false_by_default}
-use Rattle.tsp.specs.Request.{ImprintValue, ExtensionValue, RequestValue, IsRequest, Stated, algorithm_identifier, message_imprint, extension, extension_nodes, extensions_under, request}
+use Rattle.tsp.specs.Request.{ImprintValue, ExtensionValue, RequestValue, IsRequest, Stated, message_imprint, extension, extension_nodes, extensions_under, request}
 use Rattle.tsp.specs.Reading.{number_of, integer_of, truth_of, boolean_of, stated_of, oid_in, only, end_of, optional_of, optional_at, flag_at, parameters_of, algorithm_of, imprint_of, extension_of, extensions_of, some_extensions, extension_list_of, extensions_at, request_of}
 use Rattle.tsp.proofs.Components.{before, nodes-append, contents_takes, components_takes, front_takes}
 use Rattle.tsp.proofs.RequestReads.{before-none, request_tail, IsAllowed}

@@ -1,11 +1,10 @@
 -- The octets of a request without stated FALSEs, part by part.
-use Rattle.std.proofs.Common.{◌≡◌, ℕ, false, List, [], ◌∷◌, ◌++◌, refl, sym, ap, ◌∙◌, append_assoc}
+use Rattle.std.proofs.Common.{◌≡◌, ℕ, false, List, [], ◌++◌, sym, ap, ◌∙◌, append_assoc}
 use Rattle.der.specs.Node.{Nodes, node, element, encoding, encodings}
 use Rattle.der.specs.Tree.{nodes}
 use Rattle.der.specs.Number.{number_content}
 use Rattle.tsp.specs.Grammar.{integer, object_identifier, optional, false_by_default}
 use Rattle.tsp.specs.Request.{RequestValue, message_imprint, extensions_under, unstated}
-use Rattle.tsp.proofs.Components.{before}
 use Rattle.tsp.proofs.RequestReads.{request_tail}
 use Rattle.tsp.proofs.TstText.{encodings-before}
 

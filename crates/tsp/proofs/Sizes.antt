@@ -1,11 +1,11 @@
 -- How large and how deep values are that are made of others.
-use Rattle.std.proofs.Common.{◌≡◌, ℕ, suc, max, ◌+◌, ◌%◌, ◌<◌, ◌≤◌, ◌^◌, ◌⊎◌, inl, inr, Bool, List, [], ◌∷◌, ◌++◌, length, refl, sym, ap, ◌∙◌, subst, arith, length-append}
+use Rattle.std.proofs.Common.{◌≡◌, ℕ, suc, max, ◌+◌, ◌<◌, ◌≤◌, ◌⊎◌, inl, inr, List, [], ◌∷◌, length, ap, arith, length-append}
 use mathlib.Core.Logic.{⊎_elim}
 use Rattle.std.proofs.lemmas.Bool.Decides.{leb_tells}
 use Rattle.der.specs.Node.{Node, primitive, constructed, Nodes, no_nodes, node, element, encoding, encodings, levels, levels_of, length_octets, IsLowTag, bit_six, IsFormed, AreFormed, AreOctets}
 use Rattle.der.specs.Tree.{nodes}
 use Rattle.der.proofs.Lengths.{length_octets_short, length_octets_one, length_octets_two, length_octets_three}
-use Rattle.tsp.proofs.Components.{before, nodes-append}
+use Rattle.tsp.proofs.Components.{before}
 
 -- 1 to 4 length octets
 length_of_length : (n : ℕ) → n < 16777216 → (1 ≤ length (length_octets n)) × (length (length_octets n) ≤ 4)

@@ -1,5 +1,5 @@
 -- What is read from a lawful value is the request that its octets spell.
-use Rattle.std.proofs.Common.{◌≡◌, ℕ, ◌≤◌, List, Option, Some, None, [], ◌++◌, Result, Ok, Err, refl, sym, ap, ◌∙◌, subst, length, IfOk, MatchResult}
+use Rattle.std.proofs.Common.{◌≡◌, ℕ, List, Some, [], ◌++◌, Result, Ok, Err, refl, sym, ap, ◌∙◌, subst, IfOk, MatchResult}
 use Rattle.std.proofs.lemmas.Option.{same_Some, none-some}
 use Rattle.der.specs.Node.{Node, encoding, IsLawful}
 use Rattle.der.proofs.ReadingNodes.{encoding_ends}

@@ -1,7 +1,6 @@
 -- The TSTInfo that answers a request of at most 65,536 octets is lawful.
-use Rattle.std.proofs.Common.{◌≡◌, ℕ, suc, ◌+◌, ◌*◌, ◌/◌, ◌%◌, ◌<◌, ◌≤◌, ◌^◌, Bool, true, false, cond, eqb, ℤ, pos, List, [], ◌∷◌, ◌++◌, length, Option, Some, None, ◌⊎◌, inl, inr, refl, sym, ap, ◌∙◌, subst, arith, length-append}
-use Rattle.std.specs.List.{AllByRecursion}
-use Rattle.der.specs.Node.{Node, primitive, constructed, Nodes, no_nodes, node, element, encoding, encodings, levels, levels_of, IsFormed, AreFormed, AreOctets, IsLawful}
+use Rattle.std.proofs.Common.{◌≡◌, ℕ, suc, ◌+◌, ◌/◌, ◌%◌, ◌<◌, ◌≤◌, ◌^◌, Bool, true, false, cond, eqb, pos, List, [], ◌∷◌, ◌++◌, length, ◌⊎◌, inl, inr, refl, sym, ap, ◌∙◌, subst, arith, length-append}
+use Rattle.der.specs.Node.{Node, primitive, constructed, Nodes, no_nodes, node, element, encoding, encodings, AreOctets, IsLawful}
 use Rattle.der.specs.Tree.{nodes}
 use Rattle.der.specs.Number.{number_content}
 use Rattle.der.specs.ObjectIdentifier.{IsOid, oid_content}
@@ -10,7 +9,7 @@ use Rattle.der.proofs.OidContents.{octets-oid_content, length-oid_content}
 use Rattle.gentime.specs.GenTime.{text_of, last_moment}
 use Rattle.gentime.proofs.Texts.{text_of_short}
 use Rattle.tsp.specs.Grammar.{integer, boolean, octet_string, object_identifier, sequence, optional, false_by_default}
-use Rattle.tsp.specs.Request.{ImprintValue, ExtensionValue, RequestValue, IsRequest, Stated, Spells, message_imprint, extension, extension_nodes, extensions_under, unstated, request}
+use Rattle.tsp.specs.Request.{ExtensionValue, RequestValue, Stated, Spells, message_imprint, extension, extension_nodes, extensions_under, unstated, request}
 use Rattle.tsp.specs.Tst.{TstValue, IsTst, accuracy_part, accuracy, generalized_time, tst_info, answer}
 use Rattle.tsp.proofs.Components.{before, nodes-append}
 use Rattle.tsp.proofs.Sizes.{IsWithin, AreWithin, wider, within_none, within_node, within_before, within_primitive, within_constructed, within_components, within_first, within_parts, length-element}

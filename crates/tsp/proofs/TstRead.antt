@@ -1,5 +1,5 @@
 -- What is read from a lawful value is the TSTInfo whose octets they are.
-use Rattle.std.proofs.Common.{◌≡◌, ℕ, ◌≤◌, [], ◌++◌, List, Option, Some, None, Result, Ok, Err, refl, sym, ap, ◌∙◌, subst, arith, IsOk, IfOk, MatchResult}
+use Rattle.std.proofs.Common.{◌≡◌, ℕ, ◌≤◌, [], ◌++◌, List, Some, Result, Ok, Err, refl, sym, ap, ◌∙◌, subst, arith, IsOk, IfOk, MatchResult}
 use Rattle.std.specs.List.{AllByRecursion}
 use Rattle.std.proofs.lemmas.Option.{same_Some, none-some}
 use Rattle.der.specs.Node.{Node, encoding, IsLawful}
@@ -9,7 +9,7 @@ use Rattle.der.proofs.ReadingNodes.{encoding_ends}
 use Rattle.gentime.proofs.Moments.{same_text}
 use Rattle.tsp.specs.Gives.{Gives}
 use Rattle.tsp.specs.Tst.{TstValue, IsTst, tst_info}
-use Rattle.tsp.specs.TstReading.{TstHead, TstParts, parts_of, parts_in, info_of}
+use Rattle.tsp.specs.TstReading.{TstParts, parts_of, parts_in, info_of}
 use Rattle.tsp.specs.TstView.{parts_view}
 use Rattle.tsp.specs.View.{tst_view}
 use Rattle.tsp.specs.declared.tst.TstInfo.{TstInfo}

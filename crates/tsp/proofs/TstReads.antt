@@ -1,22 +1,21 @@
 -- What the grammar gives for a TSTInfo is read as its parts.
-use Rattle.std.proofs.Common.{◌≡◌, ℕ, zero, suc, ◌+◌, ◌-◌, ◌*◌, ◌/◌, ◌%◌, ◌^◌, ◌<◌, ◌≤◌, Bool, true, false, cond, eqb, ltb, leb, ◌&&◌, ℤ, pos, List, [], ◌∷◌, ◌++◌, Option, Some, None, refl, sym, ap, ◌∙◌, subst, arith}
-use Rattle.std.specs.Option.{option_and_then, IfSome, unwrap_or}
+use Rattle.std.proofs.Common.{◌≡◌, ℕ, zero, suc, ◌+◌, ◌*◌, ◌/◌, ◌%◌, ◌<◌, ◌≤◌, true, false, ltb, leb, pos, [], ◌∷◌, ◌++◌, Some, refl, sym, ap, ◌∙◌, arith}
 use Rattle.std.specs.List.{AllByRecursion}
 use Rattle.std.proofs.lemmas.Bool.Decides.{nat_tests}
 use Rattle.std.proofs.lemmas.Bool.{eq-eqb}
 use borrow.Author.Tests.{ne_eqb}
-use Rattle.der.specs.Node.{Node, primitive, constructed, Nodes, no_nodes, node, identifier_of}
+use Rattle.der.specs.Node.{primitive, Nodes, no_nodes, node}
 use Rattle.der.specs.Tree.{nodes}
-use Rattle.der.specs.Number.{is_shortest, twos_value, number_content}
+use Rattle.der.specs.Number.{number_content}
 use Rattle.der.specs.ObjectIdentifier.{IsOid}
 use Rattle.der.proofs.NumberContents.{twos_value-number_content, is_shortest-number_content}
-use Rattle.tsp.specs.Grammar.{integer, boolean, octet_string, object_identifier, sequence, optional, false_by_default}
-use Rattle.tsp.specs.Request.{ExtensionValue, message_imprint, extensions_under}
+use Rattle.tsp.specs.Grammar.{integer, object_identifier, optional, false_by_default}
+use Rattle.tsp.specs.Request.{message_imprint, extensions_under}
 use Rattle.tsp.specs.Tst.{accuracy_part, accuracy}
-use Rattle.tsp.specs.Reading.{number_of, integer_of, oid_in, only, end_of, imprint_of, optional_at, flag_at, extensions_at}
+use Rattle.tsp.specs.Reading.{number_of, integer_of, only, end_of}
 use Rattle.tsp.specs.TstReading.{TstHead, TstParts, natural, natural_of, up_to, number_in, part_at, accuracy_of, head_of, parts_of, info_of}
 use Rattle.tsp.proofs.Components.{before, nodes-append}
-use Rattle.tsp.proofs.RequestReads.{before-none, integer_of-integer, oid_in-object_identifier, imprint_of-message_imprint, optional_at-some, optional_at-none, optional_at-optional, StartsApart, flag_at-false_by_default, extensions_at-extensions_under, apart-optional, apart-false_by_default, apart-extensions_under, any, never}
+use Rattle.tsp.proofs.RequestReads.{before-none, integer_of-integer, oid_in-object_identifier, imprint_of-message_imprint, optional_at-some, optional_at-none, optional_at-optional, StartsApart, flag_at-false_by_default, extensions_at-extensions_under, apart-optional, apart-extensions_under, any, never}
 
 pub natural_of-number_content : (n : ℕ) → n < 9223372036854775808 → natural_of (number_content (pos n)) ≡ Some n
 unfolding natural_of number_of natural

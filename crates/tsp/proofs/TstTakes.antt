@@ -1,20 +1,19 @@
 -- What is read as a TSTInfo's parts is what the grammar gives for them.
-use Rattle.std.proofs.Common.{◌≡◌, ℕ, zero, suc, ◌+◌, ◌-◌, ◌*◌, ◌/◌, ◌%◌, ◌^◌, ◌<◌, ◌≤◌, Bool, true, false, cond, eqb, ltb, leb, ◌&&◌, ℤ, pos, negsuc, List, [], ◌∷◌, ◌++◌, Option, Some, None, ◌⊎◌, inl, inr, refl, sym, ap, ◌∙◌, subst, arith}
-use mathlib.Core.Logic.{⊎_elim}
-use Rattle.std.specs.Option.{option_and_then, IfSome, unwrap_or}
+use Rattle.std.proofs.Common.{◌≡◌, ℕ, ◌+◌, ◌*◌, ◌/◌, ◌%◌, ◌≤◌, Bool, true, false, ltb, leb, ◌&&◌, ℤ, pos, negsuc, List, [], ◌∷◌, ◌++◌, Option, Some, None, ◌⊎◌, inl, inr, refl, sym, ap, ◌∙◌, subst, arith}
+use Rattle.std.specs.Option.{option_and_then, unwrap_or}
 use Rattle.std.specs.List.{AllByRecursion}
 use Rattle.std.proofs.lemmas.Option.{option_and_then_some, cond_some}
 use Rattle.std.proofs.lemmas.Bool.{leb-true}
-use Rattle.der.specs.Node.{Node, primitive, constructed, Nodes, no_nodes, node, contents_of, components_of, first_of, identifier_of, IsFormed, AreFormed, AreOctets}
+use Rattle.der.specs.Node.{Node, primitive, constructed, Nodes, no_nodes, node, contents_of, components_of, first_of, IsFormed, AreFormed}
 use Rattle.der.specs.Tree.{nodes}
-use Rattle.der.specs.Number.{is_shortest, twos_value, number_content}
+use Rattle.der.specs.Number.{number_content}
 use Rattle.der.specs.ObjectIdentifier.{IsOid}
-use Rattle.tsp.specs.Grammar.{integer, boolean, octet_string, object_identifier, sequence, optional, false_by_default}
+use Rattle.tsp.specs.Grammar.{integer, object_identifier, sequence, optional, false_by_default}
 use Rattle.tsp.specs.Request.{ExtensionValue, message_imprint, extension, extension_nodes, extensions_under}
 use Rattle.tsp.specs.Tst.{accuracy_part, accuracy}
-use Rattle.tsp.specs.Reading.{number_of, integer_of, oid_in, only, end_of, imprint_of, optional_at, flag_at, extensions_at}
+use Rattle.tsp.specs.Reading.{number_of, integer_of, oid_in, only, imprint_of, optional_at, flag_at, extensions_at}
 use Rattle.tsp.specs.TstReading.{TstHead, TstParts, natural, natural_of, up_to, number_in, part_at, accuracy_of, head_of, parts_of, info_of}
-use Rattle.tsp.proofs.Components.{before, nodes-append, contents_takes, components_takes, front_takes}
+use Rattle.tsp.proofs.Components.{before, contents_takes, components_takes, front_takes}
 use Rattle.tsp.proofs.RequestReads.{before-none, IsAllowed}
 use Rattle.tsp.proofs.RequestTakes.{number_takes, integer_takes, oid_takes, imprint_takes, only_takes, optional_at_takes, optional_takes, flag_takes, extensions_at_takes, formed_after}
 use Rattle.tsp.proofs.TstReads.{accuracy_part-some, accuracy_parts, IsHead, head_before, tail_parts}

@@ -1,6 +1,6 @@
 -- The octets of a TSTInfo, part by part.
 use Rattle.std.proofs.Common.{◌≡◌, ℕ, false, pos, List, [], ◌∷◌, ◌++◌, refl, sym, ap, ◌∙◌, append_assoc}
-use Rattle.der.specs.Node.{Node, Nodes, no_nodes, node, element, encoding, encodings}
+use Rattle.der.specs.Node.{Node, Nodes, node, element, encoding, encodings}
 use Rattle.der.specs.Tree.{nodes}
 use Rattle.der.specs.Number.{number_content}
 use Rattle.der.specs.ObjectIdentifier.{oid_content}

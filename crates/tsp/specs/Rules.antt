@@ -1,11 +1,10 @@
 -- The rules of a written policy that speak of a request and of hash algorithms alone, each a sentence that stands by itself,
 -- and the first of them that fails.
-use Rattle.std.specs.Prelude.{◌≡◌, ℕ, ◌<◌, ◌≤◌, ◌⊎◌, pos, List, [], Option, Some, None, length, Contains}
-use Rattle.der.specs.Node.{Node, primitive}
+use Rattle.std.specs.Prelude.{◌≡◌, ℕ, ◌<◌, ◌≤◌, ◌⊎◌, pos, List, [], Some, None, length, Contains}
+use Rattle.der.specs.Node.{primitive}
 use Rattle.tsp.specs.Request.{RequestValue, Spells}
 use Rattle.tsp.specs.Rejection.{number_of}
 use Rattle.tsp.specs.declared.rule.Rule.{Rule}
-use Rattle.tsp.specs.declared.rule.Rule.TheVariants.{Spelling, Version, Account, Algorithm, HashLength, Policy, PolicyAlgorithm, Extensions, Certificate, Clock, Quota, System}
 
 -- a known hash algorithm, and how many octets its hashes have
 pub record AlgorithmValue : Type 0 where

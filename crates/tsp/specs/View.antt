@@ -1,5 +1,5 @@
 -- What the types stand for.
-use Rattle.std.specs.Prelude.{ℕ, List, Option, option_map, map, Vec}
+use Rattle.std.specs.Prelude.{List, option_map, map, Vec}
 use Rattle.std.specs.declared.alloc.Global.{Global}
 use Rattle.der.specs.Tree.{view}
 use Rattle.tsp.specs.Request.{ImprintValue, ExtensionValue, RequestValue}

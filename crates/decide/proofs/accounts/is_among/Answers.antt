@@ -1,6 +1,5 @@
-use Rattle.std.proofs.Common.{◌≡◌}
 use Rattle.policy.specs.View.{account_view}
-use Rattle.decide.proofs.Lists.{contains_none, still_left, none_left}
+use Rattle.decide.proofs.Lists.{still_left, none_left}
 use Rattle.decide.proofs.accounts.is_among.Goals as goal
 
 pub loop-other-init : goal.loop-other-init

@@ -1,4 +1,4 @@
-use Rattle.std.proofs.Common.{option_map, ap, sym, ◌∙◌}
+use Rattle.std.proofs.Common.{option_map}
 use Rattle.policy.specs.View.{policy_view, account_view}
 use Rattle.tsp.specs.View.{request_view}
 use Rattle.decide.proofs.Judging.{clock_fails, quota_fails, all_hold, refuted}

@@ -1,4 +1,4 @@
-use Rattle.std.proofs.Common.{◌≡◌, Some, None, option_map, refl, sym, ap, ◌∙◌, rules}
+use Rattle.std.proofs.Common.{Some, option_map, refl, sym, ap, ◌∙◌}
 use Rattle.policy.specs.View.{policy_view, account_view}
 use Rattle.tsp.specs.View.{request_view}
 use Rattle.decide.specs.Rules.{policy_asked}

@@ -1,5 +1,3 @@
-use Rattle.std.proofs.Common.{◌≡◌, ap}
-use Rattle.policy.specs.Record.{TsaPolicyValue}
 use Rattle.decide.proofs.Sentences.{extensions_known, extensions_unknown}
 use Rattle.decide.proofs.rules.allows_extensions.Goals as goal
 

@@ -1,5 +1,4 @@
-use Rattle.std.proofs.Common.{◌≡◌, Some, None, option_map, ap, sym, ◌∙◌, refl, rules}
-use Rattle.der.specs.ObjectIdentifier.{oid_content}
+use Rattle.std.proofs.Common.{Some, None, refl, rules}
 use Rattle.decide.proofs.Sentences.{default_is}
 use Rattle.decide.proofs.rules.default_policy.Goals as goal
 

@@ -1,4 +1,4 @@
-use Rattle.std.proofs.Common.{◌≡◌, true, inl, inr, sym, ◌∙◌}
+use Rattle.std.proofs.Common.{◌≡◌, true}
 use Rattle.std.proofs.lemmas.Bool.Decides.{Decides-at}
 use Rattle.policy.specs.Record.{TsaPolicyValue}
 use Rattle.decide.proofs.Sentences.{asked_any, wanted_given}

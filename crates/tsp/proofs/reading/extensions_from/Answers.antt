@@ -1,9 +1,8 @@
-use Rattle.std.proofs.Common.{◌≡◌, Option, Some, None, ◌∷◌, [], ◌++◌, List, map, option_map, sym, ap, ◌∙◌, subst}
+use Rattle.std.proofs.Common.{◌∷◌, [], map, sym, ap, ◌∙◌}
 use Rattle.std.proofs.lemmas.List.{map-append}
-use Rattle.der.specs.Node.{first_of}
-use Rattle.der.specs.Tree.{view, components_view}
-use Rattle.tsp.specs.Reading.{extension_of, extensions_of}
-use Rattle.tsp.specs.View.{extension_view, extensions_view}
+use Rattle.der.specs.Tree.{components_view}
+use Rattle.tsp.specs.Reading.{extensions_of}
+use Rattle.tsp.specs.View.{extension_view}
 use Rattle.tsp.proofs.Extensions.{with_front, with_front-end, with_front-none, with_front-some}
 use Rattle.tsp.proofs.reading.extensions_from.Goals as goal
 

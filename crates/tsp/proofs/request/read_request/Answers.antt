@@ -1,4 +1,3 @@
-use Rattle.std.proofs.Common.{◌≡◌, sym, ap, ◌∙◌}
 use Rattle.der.specs.Tree.{view}
 use Rattle.tsp.specs.Request.{request}
 use Rattle.tsp.proofs.Spelled.{found_from_read, only_from_read, form_from_read, read_from_spelled}

@@ -1,8 +1,8 @@
-use Rattle.std.proofs.Common.{◌≡◌, false, sym, subst, arith}
+use Rattle.std.proofs.Common.{false, sym, subst, arith}
 use Rattle.std.proofs.lemmas.Int.{ints}
 use Rattle.der.specs.Node.{IsLawful}
 use Rattle.tsp.specs.Tst.{tst_info}
-use Rattle.tsp.specs.View.{request_view, tst_view}
+use Rattle.tsp.specs.View.{request_view}
 use Rattle.tsp.proofs.tests.writes_a_tst_info.Goals as goal
 
 -- what answers a request is lawful

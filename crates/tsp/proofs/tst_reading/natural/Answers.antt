@@ -1,4 +1,4 @@
-use Rattle.std.proofs.Common.{◌≡◌, Some, sym, ap, ◌∙◌, arith}
+use Rattle.std.proofs.Common.{Some, sym, ap, ◌∙◌, arith}
 use Rattle.tsp.proofs.Natural.{natural_of-others, by_negative, by_long, by_some}
 use Rattle.tsp.proofs.tst_reading.natural.Goals as goal
 

@@ -1,4 +1,4 @@
-use Rattle.std.proofs.Common.{◌<◌, ◌≤◌, arith}
+use Rattle.std.proofs.Common.{arith}
 use Rattle.tsp.proofs.Natural.{prefix_small}
 use Rattle.tsp.proofs.tst_reading.number_from.Goals as goal
 

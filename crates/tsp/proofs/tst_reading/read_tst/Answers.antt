@@ -1,4 +1,4 @@
-use Rattle.std.proofs.Common.{◌≡◌, refl, sym, ap, ◌∙◌}
+use Rattle.std.proofs.Common.{ap}
 use Rattle.der.specs.Tree.{view}
 use Rattle.tsp.specs.Tst.{tst_info}
 use Rattle.tsp.proofs.TstRead.{found_from_time, only_from_time, parts_from_read, memory_from_read, read_from_written}

@@ -1,5 +1,5 @@
 -- Three parts of an accuracy have at most 39 octets.
-use Rattle.std.proofs.Common.{◌<◌, ◌≤◌, ◌/◌, ◌%◌, ◌+◌, length, arith, ap}
+use Rattle.std.proofs.Common.{◌/◌, ◌%◌, length, arith, ap}
 use Rattle.tsp.proofs.TstLawful.{part_adds}
 use Rattle.tsp.proofs.writing.append_accuracy.Goals as goal
 

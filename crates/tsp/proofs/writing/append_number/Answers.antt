@@ -1,7 +1,6 @@
 -- A number below 2 ^ 63 has at most eight contents octets.
-use Rattle.std.proofs.Common.{◌≡◌, ◌<◌, ◌≤◌, ℕ, ℤ, pos, length, arith, ap, ◌∙◌, rules, to_z, of_z}
+use Rattle.std.proofs.Common.{◌≡◌, pos, length, arith, ap, ◌∙◌, rules, to_z, of_z}
 use mir.Syntax.{w128}
-use Rattle.std.proofs.lemmas.Int.{ints, to_z-of_z}
 use Rattle.der.specs.Number.{number_content}
 use Rattle.tsp.proofs.TstLawful.{number_is_short}
 use Rattle.tsp.proofs.writing.append_number.Goals as goal

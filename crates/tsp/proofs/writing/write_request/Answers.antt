@@ -1,9 +1,9 @@
-use Rattle.std.proofs.Common.{◌≡◌, ◌<◌, [], ◌++◌, map, length, arith, ap, ◌∙◌}
+use Rattle.std.proofs.Common.{[], ◌++◌, map, length, arith, ap, ◌∙◌}
 use Rattle.der.specs.Node.{element, encodings}
 use Rattle.der.specs.Tree.{nodes}
 use Rattle.tsp.specs.Request.{extensions_under}
 use Rattle.tsp.specs.View.{request_view, extension_view}
-use Rattle.tsp.proofs.RequestText.{request_text, members_of}
+use Rattle.tsp.proofs.RequestText.{request_text}
 use Rattle.tsp.proofs.writing.write_request.Goals as goal
 
 -- a request that is lawful has fewer than 2 ^ 24 contents octets

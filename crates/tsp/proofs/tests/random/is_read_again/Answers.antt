@@ -1,4 +1,4 @@
-use Rattle.std.proofs.Common.{◌≡◌, sym, subst, arith, rules}
+use Rattle.std.proofs.Common.{sym, subst, arith, rules}
 use Rattle.der.specs.Node.{IsLawful}
 use Rattle.tsp.specs.Tst.{tst_info}
 use Rattle.tsp.specs.View.{request_view}
