@@ -1,5 +1,5 @@
 //! What a policy file has.
-ghost use Rattle.std.specs.Prelude.{◌≡◌, ◌⊎◌, List, ℕ, Ok, OnOk, IfOk, IfErr, vec_len, string_bytes};
+ghost use Rattle.std.specs.Prelude.{◌≡◌, ◌⊎◌, List, ℕ, Ok, Err, OnOk, IfOk, IfErr, vec_len, string_bytes};
 ghost use Rattle.std.specs.Io.KnownBytes.{Appends};
 ghost use Rattle.policy.specs.Gives.{Fails};
 ghost use Rattle.policy.specs.Meaning.{meaning_of};
@@ -43,9 +43,12 @@ pub fn write_counts<W: Write>(
     output: &mut W,
 ) -> Result<(), InputFault>
     ensures written { OnOk result (Appends (W.contents output.old) (W.contents output.new) (counts_line policy.now)) }
+    ensures kept { result ≡ Err InputFault.Memory → W.contents output.new ≡ W.contents output.old }
     ensures faults { IfErr result (λ fault. (fault ≡ InputFault.Failed) ⊎ (fault ≡ InputFault.Memory)) }
 {
-    let line = counts(alloc, policy)?;
+    let Ok(line) = counts(alloc, policy) else {
+        return Err(InputFault::Memory);
+    };
     if output.write_all(line.as_bytes()).is_err() || output.flush().is_err() {
         return Err(InputFault::Failed);
     }

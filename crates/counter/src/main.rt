@@ -2,6 +2,7 @@
 #![tactic(auto)]
 
 mod check;
+mod command;
 mod fault;
 mod hexadecimal;
 mod input;

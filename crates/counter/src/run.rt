@@ -1,6 +1,8 @@
-ghost use Rattle.std.specs.Prelude.{◌≡◌, ◌≢◌, ◌≤◌, ◌⊎◌, List, ℕ, OnOk, IfSome, IfErr};
+ghost use Rattle.std.specs.Prelude.{◌≡◌, ◌≢◌, ◌≤◌, ◌⊎◌, List, ℕ, OnOk, IfSome, IfErr, map, string_bytes};
 ghost use Rattle.std.specs.Io.KnownBytes.{Appends};
-ghost use Rattle.counter.specs.Answers.{Answers};
+ghost use Rattle.counter.specs.Answers.{Answers, Does};
+ghost use Rattle.counter.specs.Counts.{Counts};
+ghost use Rattle.counter.specs.Words.{Asks, AsksHelp};
 ghost use Rattle.clap.specs.Words.{kind_of};
 
 #[cfg(test)]
@@ -64,6 +66,11 @@ pub fn run_words<I: Read, O: Write, E: Write>(
 ) -> u8
     ensures status { result ≤ 2 }
 
+    // Where all is done, what the words ask for is written, or they ask for help.
+    ensures done { result ≡ 0 → ((word : Word) × Asks (map (λ word. string_bytes word) words.now) word
+        × Does word (I.remaining input.old) (Appends (O.contents output.old) (O.contents output.new)))
+        ⊎ AsksHelp (map (λ word. string_bytes word) words.now) }
+
     // Where all is done, no fault is written.
     ensures silent { result ≡ 0 → E.contents errors.new ≡ E.contents errors.old }
 
@@ -85,7 +92,13 @@ fn run_word<I: Read, O: Write>(
     word: &Word<'_>,
     input: &mut I,
     output: &mut O,
-) -> Result<(), Fault> {
+) -> Result<(), Fault>
+    ensures done { OnOk result (Does word.now (I.remaining input.old) (Appends (O.contents output.old) (O.contents output.new))) }
+
+    // Before a fault nothing is written, but where writing itself fails.
+    ensures kept { IfErr result (λ fault. (fault ≡ Fault.Input InputFault.Failed)
+        ⊎ (O.contents output.new ≡ O.contents output.old)) }
+{
     match word {
         Word::Tst(words) => tst(rt.alloc(), words, input, output),
         Word::Check(words) => check(rt, words, output),
@@ -93,7 +106,13 @@ fn run_word<I: Read, O: Write>(
 }
 
 /// Reads a policy file, and writes how many entries it has.
-fn check<O: Write>(rt: &HostRuntime, words: &CheckWords<'_>, output: &mut O) -> Result<(), Fault> {
+fn check<O: Write>(rt: &HostRuntime, words: &CheckWords<'_>, output: &mut O) -> Result<(), Fault>
+    ensures counted { OnOk result ((written : List ℕ) × Counts written × Appends (O.contents output.old) (O.contents output.new) written) }
+
+    // Before a fault nothing is written, but where writing itself fails.
+    ensures kept { IfErr result (λ fault. (fault ≡ Fault.Input InputFault.Failed)
+        ⊎ (O.contents output.new ≡ O.contents output.old)) }
+{
     let policy = read_policy(rt, words.rules)?;
     write_counts(rt.alloc(), &policy, output)?;
     Ok(())

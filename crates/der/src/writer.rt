@@ -149,7 +149,8 @@ impl Writer {
     pub fn into_octets(self) -> Vec<u8>
         ensures { result.items ≡ self }
     {
-        self.octets
+        let Writer { octets, .. } = self;
+        octets
     }
 }
 

@@ -25,8 +25,6 @@ use std::alloc::Global;
 
 /// How many octets a request may have.
 const MAX_OCTETS: usize = 65_536;
-/// The contents octets of the number 1.
-const VERSION_ONE: &[u8] = &[1];
 /// The extensions of a request, under [0].
 pub(crate) const REQUEST_EXTENSIONS: Tag = Tag { octet: 0xa0 };
 
@@ -102,7 +100,7 @@ impl Request {
         ensures { IsTrue result ↔ HasVersionOne (request_view self.now) }
     {
         numbers_have_one_content();
-        self.version() == VERSION_ONE
+        self.version() == [1].as_slice()
     }
 
     /// Whether the algorithm's parameters are absent or NULL (RFC 5280 4.1.1.2).

@@ -10,7 +10,7 @@ pub returns : goal.returns
 returns c =
     let content = c.version.result.now in
     let version = (request_view c.args.self.now).version in
-    let same = slice_eq-Decides Decides-eqb content (1 ∷ []) c.eq.result c.eq.ensures in (
+    let same = slice_eq-Decides Decides-eqb content (1 ∷ []) c.eq.result (rw c.as_slice.ensures at c.eq.ensures) in (
       λ t. version_one content version c.version.ensures (c.numbers_have_one_content.ensures.value version) (same.0 t),
       λ one. same.1 (one_is_content content version c.version.ensures one),
     )

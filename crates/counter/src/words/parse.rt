@@ -1,0 +1,67 @@
+ghost use Rattle.std.specs.Prelude.{◌≡◌, ◌≤◌, ◌⊎◌, List, Some, IfOk, IfErr, IfSome, map, string_bytes};
+ghost use Rattle.clap.specs.Words.{Row, Text, HasKind, fault_of, found_of, kind_of, rows_of, subcommand_rows_of};
+ghost use Rattle.counter.specs.Words.{Asks, IsAsked, StatesNumber, StatesTst, counter_command};
+
+use crate::command::{ACCURACIES, DIGITS, MOMENTS, Numbers, SERIALS, command};
+use crate::words::{CheckWords, TstWords, Word};
+use clap::error::ErrorKind;
+use clap::{ArgMatches, Error};
+use std::alloc::Global;
+
+impl<'a> Word<'a> {
+    /// Reads the words, of which the first is the program's name. Words that aren't understood, and a request for help, are
+    /// `clap`'s error, whose text is for the user.
+    pub fn parse(alloc: Global, words: &'a [String]) -> Result<Word<'a>, Error>
+        ensures asked { IfOk result (Asks (map (λ word. string_bytes word) words.now)) }
+
+        // Of words that `clap` takes, none lacks a value: that this refusal doesn't come is only tested.
+        ensures refused { IfErr result (λ error. (kind_of error ≡ ErrorKind.MissingRequiredArgument)
+            ⊎ HasKind (fault_of counter_command (map (λ word. string_bytes word) words.now)) error) }
+    {
+        let mut command = command(alloc)?;
+        let matches = command.try_get_matches_from_mut(words)?;
+        match word_of(&matches) {
+            Some(word) => Ok(word),
+            None => Err(command.error(ErrorKind::MissingRequiredArgument, "a value is missing")?),
+        }
+    }
+}
+
+fn word_of<'a>(matches: &ArgMatches<'a>) -> Option<Word<'a>>
+    ensures { IfSome result (λ word. (name : Text) × ((rows : List Row)
+        × (subcommand_rows_of matches.now ≡ Some (name, rows)) × IsAsked name rows word)) }
+{
+    match matches.subcommand()? {
+        ("tst", words) => Some(Word::Tst(tst_words(words)?)),
+        ("check", words) => Some(Word::Check(CheckWords {
+            rules: words.get_str("rules")?,
+        })),
+        _ => None,
+    }
+}
+
+fn tst_words<'a>(matches: &ArgMatches<'a>) -> Option<TstWords<'a>>
+    ensures { IfSome result (StatesTst (rows_of (found_of matches.now))) }
+{
+    Some(TstWords {
+        policy: matches.get_str("policy")?,
+        moment: number(matches, "moment", MOMENTS)?,
+        digits: number(matches, "digits", DIGITS)? as u8,
+        serial: number(matches, "serial", SERIALS)?,
+        accuracy: number(matches, "accuracy", ACCURACIES)? as u32,
+        ordering: matches.get_flag("ordering"),
+    })
+}
+
+fn number(matches: &ArgMatches<'_>, name: &str, numbers: Numbers) -> Option<u64>
+    ensures least { IfSome result (λ number. numbers.least ≤ number) }
+    ensures most { IfSome result (λ number. number ≤ numbers.most) }
+    ensures stated { IfSome result (StatesNumber (rows_of (found_of matches.now)) name.now) }
+{
+    let number = matches.get_one::<u64>(name)?;
+    if numbers.least <= number && number <= numbers.most {
+        Some(number)
+    } else {
+        None
+    }
+}
