@@ -1,12 +1,13 @@
 -- What the words ask for: the command line of the program, and what each subcommand's options state. `clap` says which words a
 -- command takes, and what it finds in them.
 use Rattle.std.specs.Prelude.{◌≡◌, ◌⊎◌, ℕ, Bool, true, false, pos, List, [], ◌∷◌, Some, None, codes}
-use Rattle.std.specs.Str.Parse.{digits_value, without_leading_plus}
+use Rattle.std.specs.Str.Parse.{IsNumeral, digits_value, without_leading_plus}
 use Rattle.clap.specs.Words.{App, IsAmong, Row, Rule, Text, fault_of, first_of, new_app, new_rule, one_of, subcommand_of, with_subcommand}
 use Rattle.clap.specs.Simple.{on_top}
 use Rattle.clap.specs.declared.builder.action.ArgAction.TheVariants.{Set, SetTrue}
 use Rattle.clap.specs.declared.builder.value_parser.ValueParser.{ValueParser}
 use Rattle.clap.specs.declared.builder.value_parser.ValueParser.TheVariants as parser
+use Rattle.clap.specs.declared.error.kind.ErrorKind.{ErrorKind}
 use Rattle.clap.specs.declared.error.kind.ErrorKind.TheVariants.{DisplayHelp, DisplayVersion}
 use Rattle.counter.specs.declared.words.CheckWords.{CheckWords}
 use Rattle.counter.specs.declared.words.TstWords.{TstWords}
@@ -61,10 +62,11 @@ counter_command =
     tst_command.top)
     check_command.top
 
--- the option's value is the number in decimal
+-- the option's value is the number in decimal digits, before which a plus may stand
 pub record StatesNumber (rows : List Row) (name : Text) (number : ℕ) : Type 0 where
   pub text : Text
   pub given : one_of name rows ≡ Some text
+  pub numeral : IsNumeral 10 (without_leading_plus text)
   pub value : number ≡ digits_value 10 (without_leading_plus text)
 
 -- the flag is there or not
@@ -99,3 +101,7 @@ pub record Asks (texts : List Text) (word : Word) : Type 0 where
 -- the words ask for help
 abbrev pub AsksHelp : List Text → Type 0
 AsksHelp texts = IsAmong DisplayHelp (fault_of counter_command texts) ⊎ IsAmong DisplayVersion (fault_of counter_command texts)
+
+-- `clap` finds a fault with the words, or they ask for nothing
+abbrev pub AreRefused : List Text → Type 0
+AreRefused texts = ((kind : ErrorKind) × IsAmong kind (fault_of counter_command texts)) ⊎ ((word : Word) → Asks texts word → ⊥)

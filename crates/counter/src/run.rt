@@ -2,7 +2,7 @@ ghost use Rattle.std.specs.Prelude.{◌≡◌, ◌≢◌, ◌≤◌, ◌⊎◌, 
 ghost use Rattle.std.specs.Io.KnownBytes.{Appends};
 ghost use Rattle.counter.specs.Answers.{Answers, Does};
 ghost use Rattle.counter.specs.Counts.{Counts};
-ghost use Rattle.counter.specs.Words.{Asks, AsksHelp};
+ghost use Rattle.counter.specs.Words.{AreRefused, Asks, AsksHelp};
 ghost use Rattle.clap.specs.Words.{kind_of};
 
 #[cfg(test)]
@@ -74,7 +74,8 @@ pub fn run_words<I: Read, O: Write, E: Write>(
     // Where all is done, no fault is written.
     ensures silent { result ≡ 0 → E.contents errors.new ≡ E.contents errors.old }
 
-    // Words that aren't understood read nothing, and write to `errors` alone.
+    // Only words that aren't understood are refused. They read nothing, and write to `errors` alone.
+    ensures refused { result ≡ 2 → AreRefused (map (λ word. string_bytes word) words.now) }
     ensures unread { result ≡ 2 → I.remaining input.new ≡ I.remaining input.old }
     ensures unwritten { result ≡ 2 → O.contents output.new ≡ O.contents output.old }
 {

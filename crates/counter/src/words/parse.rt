@@ -1,4 +1,4 @@
-ghost use Rattle.std.specs.Prelude.{◌≡◌, ◌≤◌, ◌⊎◌, List, Some, IfOk, IfErr, IfSome, map, string_bytes};
+ghost use Rattle.std.specs.Prelude.{◌≡◌, ◌≤◌, ◌⊎◌, ℕ, List, Some, IfOk, IfErr, IfSome, IsNone, map, string_bytes};
 ghost use Rattle.clap.specs.Words.{Row, Text, HasKind, fault_of, found_of, kind_of, rows_of, subcommand_rows_of};
 ghost use Rattle.counter.specs.Words.{Asks, IsAsked, StatesNumber, StatesTst, counter_command};
 
@@ -14,8 +14,12 @@ impl<'a> Word<'a> {
     pub fn parse(alloc: Global, words: &'a [String]) -> Result<Word<'a>, Error>
         ensures asked { IfOk result (Asks (map (λ word. string_bytes word) words.now)) }
 
-        // Of words that `clap` takes, none lacks a value: that this refusal doesn't come is only tested.
-        ensures refused { IfErr result (λ error. (kind_of error ≡ ErrorKind.MissingRequiredArgument)
+        // Words are refused as `clap` says, for want of memory, or where they ask for nothing.
+        ensures refused { IfErr result (λ error. HasKind (fault_of counter_command (map (λ word. string_bytes word) words.now)) error
+            ⊎ ((word : Word) → Asks (map (λ word. string_bytes word) words.now) word → ⊥)) }
+
+        // No text is shown as help but `clap`'s.
+        ensures help { IfErr result (λ error. (kind_of error ≡ ErrorKind.MissingRequiredArgument)
             ⊎ HasKind (fault_of counter_command (map (λ word. string_bytes word) words.now)) error) }
     {
         let mut command = command(alloc)?;
@@ -28,8 +32,10 @@ impl<'a> Word<'a> {
 }
 
 fn word_of<'a>(matches: &ArgMatches<'a>) -> Option<Word<'a>>
-    ensures { IfSome result (λ word. (name : Text) × ((rows : List Row)
+    ensures found { IfSome result (λ word. (name : Text) × ((rows : List Row)
         × (subcommand_rows_of matches.now ≡ Some (name, rows)) × IsAsked name rows word)) }
+    ensures none { IsNone result → (name : Text) → (rows : List Row) → (word : Word)
+        → subcommand_rows_of matches.now ≡ Some (name, rows) → IsAsked name rows word → ⊥ }
 {
     match matches.subcommand()? {
         ("tst", words) => Some(Word::Tst(tst_words(words)?)),
@@ -41,7 +47,8 @@ fn word_of<'a>(matches: &ArgMatches<'a>) -> Option<Word<'a>>
 }
 
 fn tst_words<'a>(matches: &ArgMatches<'a>) -> Option<TstWords<'a>>
-    ensures { IfSome result (StatesTst (rows_of (found_of matches.now))) }
+    ensures found { IfSome result (StatesTst (rows_of (found_of matches.now))) }
+    ensures none { IsNone result → (words : TstWords) → StatesTst (rows_of (found_of matches.now)) words → ⊥ }
 {
     Some(TstWords {
         policy: matches.get_str("policy")?,
@@ -57,6 +64,8 @@ fn number(matches: &ArgMatches<'_>, name: &str, numbers: Numbers) -> Option<u64>
     ensures least { IfSome result (λ number. numbers.least ≤ number) }
     ensures most { IfSome result (λ number. number ≤ numbers.most) }
     ensures stated { IfSome result (StatesNumber (rows_of (found_of matches.now)) name.now) }
+    ensures none { IsNone result → (number : ℕ) → StatesNumber (rows_of (found_of matches.now)) name.now number
+        → numbers.least ≤ number → number ≤ numbers.most → ⊥ }
 {
     let number = matches.get_one::<u64>(name)?;
     if numbers.least <= number && number <= numbers.most {

@@ -1,0 +1,14 @@
+use Rattle.std.proofs.Common.{◌≡◌, arith, inl, inr}
+use Rattle.clap.specs.Words.{kind_of}
+use Rattle.counter.proofs.run.run_words.Goals as goal
+
+pub returns-in-Err-clause-refused : goal.returns-in-Err-clause-refused
+returns-in-Err-clause-refused g c =
+    λ two.
+    elim c.in-Err.ensures.refused [
+      | inl (inl memory) ↦
+          let one : c.explain.result ≡ 1 = c.explain.ensures.memory memory in
+          absurd (omega arith)
+      | inl (inr among) ↦ inl (kind_of c.in-Err.error, among)
+      | inr none ↦ inr none
+    ]
