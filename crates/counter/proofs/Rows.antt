@@ -1,13 +1,13 @@
 -- The definitions, computed on rows from elsewhere.
-use Rattle.std.proofs.Common.{◌≡◌, List, [], ◌∷◌, ◌++◌, Some, codes, inl, refl, true}
+use Rattle.std.proofs.Common.{◌≡◌, List, [], ◌∷◌, ◌++◌, Some, codes, inl, refl}
 use Rattle.std.specs.Prelude.{option_map}
-use Rattle.clap.specs.Words.{Text, fault_of, first_of, one_of, subcommand_of, takes}
-use Rattle.clap.specs.declared.error.kind.ErrorKind.TheVariants.{MissingRequiredArgument, MissingSubcommand, ValueValidation}
+use Rattle.clap.specs.Words.{Text, fault_of, first_of, one_of, subcommand_of}
+use Rattle.clap.specs.declared.error.kind.ErrorKind.TheVariants.{ArgumentConflict, DisplayHelp, MissingRequiredArgument, MissingSubcommand, TooManyValues, UnknownArgument, ValueValidation}
 use Rattle.clap.proofs.OnLiterals.{clap_on_literals}
 use Rattle.der.specs.ObjectIdentifier.{oid_text, decimal}
 use Rattle.counter.specs.Hexadecimal.{IsHexadecimal, line}
 use Rattle.counter.specs.Known.{value_of}
-use Rattle.counter.specs.Words.{AsksHelp, counter_command}
+use Rattle.counter.specs.Words.{AreTaken, AsksHelp, counter_command}
 use Rattle.counter.specs.declared.known.HashAlgorithm.TheVariants.{Sha1, Sha224, Sha256, Sha384, Sha512}
 
 -- no digit spells no octet
@@ -21,7 +21,7 @@ three_octets = refl
 pub line_of_octets : line (48 ∷ 250 ∷ 9 ∷ []) ≡ codes "30fa09" ++ (10 ∷ [])
 line_of_octets = refl
 
--- RFC 3279 2.2.1, RFC 5754 2.1 to 2.4
+-- RFC 3370 2.1, RFC 5754 2.1 to 2.4
 pub text_of_sha_1 : oid_text (value_of Sha1).identifier ≡ codes "1.3.14.3.2.26"
 unfolding decimal
 text_of_sha_1 = refl
@@ -47,7 +47,7 @@ tst_words digits =
     codes "counter" ∷ codes "tst" ∷ codes "--policy" ∷ codes "2.999.1" ∷ codes "--moment=5" ∷ codes "--digits" ∷ digits
     ∷ codes "--serial" ∷ codes "1" ∷ codes "--accuracy" ∷ codes "1000000" ∷ codes "--ordering" ∷ []
 
-pub tst_is_taken : takes counter_command (tst_words (codes "6")) ≡ true
+pub tst_is_taken : AreTaken (tst_words (codes "6"))
 unfolding clap_on_literals
 tst_is_taken = refl
 
@@ -66,6 +66,32 @@ ordering_of_tst = refl
 pub seven_digits_are_refused : fault_of counter_command (tst_words (codes "7")) ≡ ValueValidation ∷ []
 unfolding clap_on_literals
 seven_digits_are_refused = refl
+
+-- a number below the least, an option that stands twice, a word too many, an unknown option, a value of a flag, help among all
+-- that is needed
+pub minus_is_refused : fault_of counter_command (codes "counter" ∷ codes "tst" ∷ codes "--serial=-5" ∷ []) ≡ ValueValidation ∷ []
+unfolding clap_on_literals
+minus_is_refused = refl
+
+pub twice_is_refused : fault_of counter_command (tst_words (codes "6") ++ (codes "--digits" ∷ codes "6" ∷ [])) ≡ ArgumentConflict ∷ []
+unfolding clap_on_literals
+twice_is_refused = refl
+
+pub word_too_many_is_refused : fault_of counter_command (tst_words (codes "6") ++ (codes "3" ∷ [])) ≡ UnknownArgument ∷ []
+unfolding clap_on_literals
+word_too_many_is_refused = refl
+
+pub other_option_is_refused : fault_of counter_command (tst_words (codes "6") ++ (codes "--colour" ∷ [])) ≡ UnknownArgument ∷ []
+unfolding clap_on_literals
+other_option_is_refused = refl
+
+pub value_of_flag_is_refused : fault_of counter_command (codes "counter" ∷ codes "tst" ∷ codes "--ordering=true" ∷ []) ≡ TooManyValues ∷ []
+unfolding clap_on_literals
+value_of_flag_is_refused = refl
+
+pub help_among_settings_is_asked : fault_of counter_command (tst_words (codes "6") ++ (codes "--help" ∷ [])) ≡ DisplayHelp ∷ []
+unfolding clap_on_literals
+help_among_settings_is_asked = refl
 
 pub check_needs_rules : fault_of counter_command (codes "counter" ∷ codes "check" ∷ []) ≡ MissingRequiredArgument ∷ []
 unfolding clap_on_literals

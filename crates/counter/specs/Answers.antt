@@ -1,5 +1,5 @@
 -- What the words write for the text that they read.
-use Rattle.std.specs.Prelude.{◌≡◌, ℕ, List, Option, IfSome}
+use Rattle.std.specs.Prelude.{◌≡◌, ℕ, List, Option, IfSome, ⊤}
 use Rattle.counter.specs.Counts.{Counts}
 use Rattle.counter.specs.Hexadecimal.{IsHexadecimal, line}
 use Rattle.counter.specs.Settings.{SettingsValue, States}
@@ -22,3 +22,7 @@ pub record Answers (words : TstWords) (text written : List ℕ) : Type 0 where
 abbrev pub Does : Word → Option (List ℕ) → (List ℕ → Type 0) → Type 0
 Does (Tst words) input IsWritten = IfSome input (λ text. (written : List ℕ) × Answers words text written × IsWritten written)
 Does (Check words) input IsWritten = (written : List ℕ) × Counts written × IsWritten written
+
+-- What was asked for has an answer, that can be written.
+abbrev pub HasAnswer : Word → Option (List ℕ) → Type 0
+HasAnswer word input = Does word input (λ _. ⊤)

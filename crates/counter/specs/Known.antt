@@ -1,4 +1,4 @@
--- The hash algorithms that are known without a policy file: their object identifiers by subidentifiers (RFC 3279 2.2.1 for SHA-1,
+-- The hash algorithms that are known without a policy file: their object identifiers by subidentifiers (RFC 3370 2.1 for SHA-1,
 -- RFC 5754 2 for the others), and how many octets their hashes have (FIPS 180-4).
 use Rattle.std.specs.Prelude.{ℕ, List, [], ◌∷◌}
 use Rattle.tsp.specs.Rules.{AlgorithmValue}

@@ -1,6 +1,6 @@
 -- What the words ask for: the command line of the program, and what each subcommand's options state. `clap` says which words a
 -- command takes, and what it finds in them.
-use Rattle.std.specs.Prelude.{◌≡◌, ◌⊎◌, ℕ, Bool, true, false, pos, List, [], ◌∷◌, Some, None, codes}
+use Rattle.std.specs.Prelude.{◌≡◌, ◌≢◌, ◌⊎◌, ℕ, Bool, true, false, pos, List, [], ◌∷◌, Some, None, codes}
 use Rattle.std.specs.Str.Parse.{IsNumeral, digits_value, without_leading_plus}
 use Rattle.clap.specs.Words.{App, IsAmong, Row, Rule, Text, fault_of, first_of, new_app, new_rule, one_of, subcommand_of, with_subcommand}
 use Rattle.clap.specs.Simple.{on_top}
@@ -91,17 +91,24 @@ abbrev pub IsAsked : Text → List Row → Word → Type 0
 IsAsked name rows (Tst words) = (name ≡ codes "tst") × StatesTst rows words
 IsAsked name rows (Check words) = (name ≡ codes "check") × StatesCheck rows words
 
--- the words, of which the first is the program's name, ask for this
+-- `clap` finds no fault with the words, of which the first is the program's name.
+abbrev pub AreTaken : List Text → Type 0
+AreTaken texts = fault_of counter_command texts ≡ []
+
+-- the words are taken, and ask for this
 pub record Asks (texts : List Text) (word : Word) : Type 0 where
+  pub taken : AreTaken texts
   pub name : Text
   pub rows : List Row
   pub found : subcommand_of counter_command texts ≡ Some (name, rows)
   pub asked : IsAsked name rows word
 
--- the words ask for help
+-- that they ask for help is what `clap` may say of the words
 abbrev pub AsksHelp : List Text → Type 0
 AsksHelp texts = IsAmong DisplayHelp (fault_of counter_command texts) ⊎ IsAmong DisplayVersion (fault_of counter_command texts)
 
--- `clap` finds a fault with the words, or they ask for nothing
+-- a fault other than that they ask for help is what `clap` may say of the words, or they are taken and ask for nothing
 abbrev pub AreRefused : List Text → Type 0
-AreRefused texts = ((kind : ErrorKind) × IsAmong kind (fault_of counter_command texts)) ⊎ ((word : Word) → Asks texts word → ⊥)
+AreRefused texts =
+    ((kind : ErrorKind) × IsAmong kind (fault_of counter_command texts) × (kind ≢ DisplayHelp) × (kind ≢ DisplayVersion))
+    ⊎ (AreTaken texts × ((word : Word) → Asks texts word → ⊥))

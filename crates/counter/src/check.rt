@@ -8,6 +8,7 @@ ghost use Rattle.policy.specs.declared.fault.PolicyFault.{PolicyFault};
 ghost use Rattle.counter.specs.Counts.{counts_line};
 
 use crate::fault::{Fault, InputFault};
+use crate::output::write_line;
 use policy::Policy;
 use std::alloc::{AllocError, Global};
 use std::io::Write;
@@ -15,9 +16,9 @@ use std::rt::HostRuntime;
 use std::{fs, io};
 
 /// Reads a policy file. One that can't be read or isn't UTF-8 is `input` 2, and one that is no policy file `policy` with the
-/// number of its first fault.
+/// number of its first fault. Where memory runs out it is `input` 7 over the file, and `policy` 7 over what the file says.
 pub fn read_policy(rt: &HostRuntime, path: &str) -> Result<Policy, Fault>
-    // What no contract says is what a file holds. Whatever text was read, the policy is its meaning, and a fault the first of its.
+    // No contract says what a file holds. So the policy is the meaning of some text, and a fault the first of some text.
     ensures meant { IfOk result (λ policy. (text : List ℕ) × (meaning_of text ≡ Ok (policy_view policy))) }
     ensures faults { IfErr result (λ fault. (fault ≡ Fault.Input InputFault.File) ⊎ ((fault ≡ Fault.Input InputFault.Memory)
         ⊎ ((text : List ℕ) × ((first : PolicyFault) × (fault ≡ Fault.Policy first) × Fails first (meaning_of text))))) }
@@ -36,7 +37,8 @@ fn read_text(rt: &HostRuntime, path: &str) -> Result<String, InputFault>
     }
 }
 
-/// Writes the numbers of algorithms, extensions, policies and accounts as one line. A write that fails is `Failed`.
+/// Writes the numbers of algorithms, extensions, policies and accounts as one line. A write that fails is `Failed`: the line's
+/// beginning may have been written then. `Memory` where memory runs out, before anything is written.
 pub fn write_counts<W: Write>(
     alloc: Global,
     policy: &Policy,
@@ -46,13 +48,8 @@ pub fn write_counts<W: Write>(
     ensures kept { result ≡ Err InputFault.Memory → W.contents output.new ≡ W.contents output.old }
     ensures faults { IfErr result (λ fault. (fault ≡ InputFault.Failed) ⊎ (fault ≡ InputFault.Memory)) }
 {
-    let Ok(line) = counts(alloc, policy) else {
-        return Err(InputFault::Memory);
-    };
-    if output.write_all(line.as_bytes()).is_err() || output.flush().is_err() {
-        return Err(InputFault::Failed);
-    }
-    Ok(())
+    let line = counts(alloc, policy)?;
+    write_line(line.as_str(), output)
 }
 
 fn counts(alloc: Global, policy: &Policy) -> Result<String, AllocError>

@@ -7,27 +7,33 @@ use clap::builder::ValueParser;
 use clap::{Arg, ArgAction, Command, value_parser};
 use std::alloc::{AllocError, Global};
 
-/// The numbers that an option takes.
+/// The numbers that an option takes, both ends included.
 #[derive(Clone, Copy)]
 pub struct Numbers {
+    /// The least of them.
     pub least: u64,
+    /// The greatest of them.
     pub most: u64,
     ghost small_least: { least < 2 ^ 63 },
     ghost small_most: { most < 2 ^ 63 },
 }
 
+/// Microseconds since 1970-01-01T00:00:00Z.
 pub const MOMENTS: Numbers = Numbers {
     least: 0,
     most: 253_402_300_799_999_999,
 };
 
+/// Fraction digits of a second.
 pub const DIGITS: Numbers = Numbers { least: 0, most: 6 };
 
+/// Serial numbers.
 pub const SERIALS: Numbers = Numbers {
     least: 1,
     most: i64::MAX as u64,
 };
 
+/// Microseconds of accuracy.
 pub const ACCURACIES: Numbers = Numbers {
     least: 1,
     most: 1_000_000,
@@ -91,7 +97,7 @@ fn check_command<'a>(alloc: Global) -> Result<Command<'a>, AllocError>
         .arg(rules)
 }
 
-/// The command line of the whole program.
+/// The command line of the whole program. An error where memory runs out.
 pub fn command<'a>(alloc: Global) -> Result<Command<'a>, AllocError>
     ensures { IfOk result (λ command. app_of command ≡ counter_command) }
 {

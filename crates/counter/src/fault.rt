@@ -65,15 +65,15 @@ impl From<InputFault> for Fault {
 pub enum InputFault {
     /// Standard input isn't hexadecimal text.
     NotHexadecimal = 1,
-    /// A file can't be read, has a wrong size or, where it has to be text, isn't UTF-8.
+    /// A file can't be read, or it has to be text and isn't UTF-8.
     File = 2,
-    /// A hold doesn't begin before it ends.
+    /// A hold doesn't begin before it ends. No word answers it yet.
     Hold = 3,
-    /// No account has that key or name.
+    /// No account has that key or name. No word answers it yet.
     Account = 4,
-    /// Standard input or output or the clock failed.
+    /// Standard input or output failed.
     Failed = 5,
-    /// The address can't be listened on.
+    /// The address can't be listened on. No word answers it yet.
     Address = 6,
     /// Memory ran out.
     Memory = 7,

@@ -6,7 +6,7 @@ use std::alloc::{AllocError, Global};
 
 /// The octets that hexadecimal text spells, in digits of either case. Blanks (space, tab, CR, LF) may stand anywhere, also
 /// between the two digits of an octet; text without a digit spells no octets. An odd count of digits, or an octet that is
-/// neither digit nor blank, is `NotHexadecimal`.
+/// neither digit nor blank, is `NotHexadecimal`. `Memory` where memory runs out.
 pub fn decode(alloc: Global, text: Vec<u8>) -> Result<Vec<u8>, InputFault>
     ensures found { IfOk result (λ octets. IsHexadecimal text.items octets.items) }
     ensures only { (octets : List ℕ) → IsHexadecimal text.items octets
@@ -32,7 +32,7 @@ fn digits_of(text: Vec<u8>) -> Vec<u8>
     digits
 }
 
-/// One line of the octets' digits in lower case.
+/// One line of the octets' digits in lower case, with LF at its end. An error where memory runs out.
 pub fn encode_line(alloc: Global, octets: &[u8]) -> Result<String, AllocError>
     ensures { IfOk result (λ text. string_bytes text ≡ line octets.now) }
 {

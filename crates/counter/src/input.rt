@@ -20,7 +20,8 @@ fn read_all<R: Read>(alloc: Global, input: &mut R) -> Result<Vec<u8>, InputFault
     }
 }
 
-/// The octets that a reader's hexadecimal text spells. All of it is read before it is judged.
+/// The octets that a reader's hexadecimal text spells. All of it is read before it is judged. `Failed` where a read fails,
+/// `NotHexadecimal` where the text spells no octets, and `Memory` where memory runs out.
 pub fn read_octets<R: Read>(alloc: Global, input: &mut R) -> Result<Vec<u8>, InputFault>
     ensures found { IfOk result (λ v. IfSome (R.remaining input.old) (λ text.
         IsHexadecimal text v.items)) }

@@ -37,7 +37,7 @@ impl HashAlgorithm {
         None
     }
 
-    /// The contents octets of its object identifier (X.690 8.19): RFC 3279 2.2.1 gives that of SHA-1, and RFC 5754 2 the others.
+    /// The contents octets of its object identifier (X.690 8.19): RFC 3370 2.1 gives that of SHA-1, and RFC 5754 2 the others.
     #[tactic(auto, unfolding(der::specs::ObjectIdentifier::subidentifier_octets))]
     pub fn identifier(self) -> &'static [u8]
         ensures { result.now ≡ oid_content (value_of self).identifier }
@@ -73,7 +73,8 @@ pub fn is_known(identifier: &[u8]) -> bool
     HashAlgorithm::of_identifier(identifier).is_some()
 }
 
-/// Whether the hash has the length of the algorithm with these contents octets of its object identifier, where it is known.
+/// Whether the hash has the length of the algorithm with these contents octets of its object identifier. True where no
+/// algorithm is known by them.
 pub fn has_known_length(identifier: &[u8], hash: &[u8]) -> bool
     ensures { IsTrue result ↔ ((a : AlgorithmValue) → Contains five_algorithms a
         → identifier.now ≡ oid_content a.identifier → length hash.now ≡ a.hash_length) }

@@ -1,8 +1,8 @@
 ghost use Rattle.std.specs.Prelude.{◌≡◌, ◌≢◌, ◌≤◌, ◌⊎◌, List, ℕ, OnOk, IfSome, IfErr, map, string_bytes};
 ghost use Rattle.std.specs.Io.KnownBytes.{Appends};
-ghost use Rattle.counter.specs.Answers.{Answers, Does};
+ghost use Rattle.counter.specs.Answers.{Answers, Does, HasAnswer};
 ghost use Rattle.counter.specs.Counts.{Counts};
-ghost use Rattle.counter.specs.Words.{AreRefused, Asks, AsksHelp};
+ghost use Rattle.counter.specs.Words.{AreRefused, AreTaken, Asks, AsksHelp};
 ghost use Rattle.clap.specs.Words.{kind_of};
 
 #[cfg(test)]
@@ -27,7 +27,8 @@ const FAULT: u8 = 1;
 
 const WORDS_REFUSED: u8 = 2;
 
-/// The program with the process's own words and streams. Words that aren't UTF-8 are refused.
+/// The program with the process's own words and streams. It answers the exit status as `run_words` does. Words that aren't
+/// UTF-8 are refused, with status 2; where memory runs out over them it is `input` 7, with status 1.
 pub fn run(rt: &HostRuntime) -> u8
     ensures { result ≤ 2 }
 {
@@ -54,9 +55,13 @@ fn process_words(rt: &HostRuntime) -> io::Result<Vec<String>> {
     Ok(env::args(rt)?.collect(rt.alloc())?)
 }
 
-/// The whole program: does what the words ask for, of which the first is the program's name, and answers the exit status: 0
-/// where it is done (a rejection and help are done too), 1 where a fault stopped it, whose line it writes to `errors`, and
-/// 2 where the words aren't understood.
+/// The whole program: does what the words ask for, of which the first is the program's name, and answers the exit status.
+///
+/// 0 where it is done; a rejection and help are done too. 1 where a fault stopped it, whose line it writes to `errors`: `der`,
+/// `tsp` and `policy` with the number of those crates' refusals, and `input` 1 where the input isn't hexadecimal, 2 where the
+/// policy file can't be read or isn't UTF-8, 5 where the input or the output fails, and 7 where memory runs out. 2 where the
+/// words are refused; why is written to `errors`. Where the status isn't 0 nothing is written to `output`, but where writing
+/// an answer or help fails: then its beginning may stand there.
 pub fn run_words<I: Read, O: Write, E: Write>(
     rt: &HostRuntime,
     words: &[String],
@@ -74,10 +79,18 @@ pub fn run_words<I: Read, O: Write, E: Write>(
     // Where all is done, no fault is written.
     ensures silent { result ≡ 0 → E.contents errors.new ≡ E.contents errors.old }
 
-    // Only words that aren't understood are refused. They read nothing, and write to `errors` alone.
+    // Only words that aren't understood are refused, and they write to `errors` alone.
     ensures refused { result ≡ 2 → AreRefused (map (λ word. string_bytes word) words.now) }
-    ensures unread { result ≡ 2 → I.remaining input.new ≡ I.remaining input.old }
     ensures unwritten { result ≡ 2 → O.contents output.new ≡ O.contents output.old }
+
+    // Words that aren't taken read nothing, whatever the status.
+    ensures unread { (result ≡ 2) ⊎ (AreTaken (map (λ word. string_bytes word) words.now) → ⊥)
+        → I.remaining input.new ≡ I.remaining input.old }
+
+    // Where a fault stopped it, something is written only where there is help or an answer to write.
+    ensures kept { result ≡ 1 → (O.contents output.new ≡ O.contents output.old)
+        ⊎ (AsksHelp (map (λ word. string_bytes word) words.now)
+        ⊎ ((word : Word) × Asks (map (λ word. string_bytes word) words.now) word × HasAnswer word (I.remaining input.old))) }
 {
     match Word::parse(rt.alloc(), words) {
         Ok(word) => match run_word(rt, &word, input, output) {
@@ -96,9 +109,9 @@ fn run_word<I: Read, O: Write>(
 ) -> Result<(), Fault>
     ensures done { OnOk result (Does word.now (I.remaining input.old) (Appends (O.contents output.old) (O.contents output.new))) }
 
-    // Before a fault nothing is written, but where writing itself fails.
-    ensures kept { IfErr result (λ fault. (fault ≡ Fault.Input InputFault.Failed)
-        ⊎ (O.contents output.new ≡ O.contents output.old)) }
+    // Before a fault nothing is written, but where there is an answer and writing it fails.
+    ensures kept { IfErr result (λ fault. (O.contents output.new ≡ O.contents output.old)
+        ⊎ ((fault ≡ Fault.Input InputFault.Failed) × HasAnswer word.now (I.remaining input.old))) }
 {
     match word {
         Word::Tst(words) => tst(rt.alloc(), words, input, output),
@@ -110,9 +123,9 @@ fn run_word<I: Read, O: Write>(
 fn check<O: Write>(rt: &HostRuntime, words: &CheckWords<'_>, output: &mut O) -> Result<(), Fault>
     ensures counted { OnOk result ((written : List ℕ) × Counts written × Appends (O.contents output.old) (O.contents output.new) written) }
 
-    // Before a fault nothing is written, but where writing itself fails.
-    ensures kept { IfErr result (λ fault. (fault ≡ Fault.Input InputFault.Failed)
-        ⊎ (O.contents output.new ≡ O.contents output.old)) }
+    // Before a fault nothing is written, but where there are counts and writing them fails.
+    ensures kept { IfErr result (λ fault. (O.contents output.new ≡ O.contents output.old)
+        ⊎ ((fault ≡ Fault.Input InputFault.Failed) × ((written : List ℕ) × Counts written))) }
 {
     let policy = read_policy(rt, words.rules)?;
     write_counts(rt.alloc(), &policy, output)?;
@@ -130,9 +143,10 @@ fn tst<I: Read, O: Write>(
     ensures answered { OnOk result (IfSome (I.remaining input.old) (λ text.
         (written : List ℕ) × Answers words.now text written × Appends (O.contents output.old) (O.contents output.new) written)) }
 
-    // Before a fault nothing is written, but where writing itself fails.
-    ensures kept { IfErr result (λ fault. (fault ≡ Fault.Input InputFault.Failed)
-        ⊎ (O.contents output.new ≡ O.contents output.old)) }
+    // Before a fault nothing is written, but where there is a reply and writing it fails.
+    ensures kept { IfErr result (λ fault. (O.contents output.new ≡ O.contents output.old)
+        ⊎ ((fault ≡ Fault.Input InputFault.Failed) × IfSome (I.remaining input.old) (λ text.
+        (written : List ℕ) × Answers words.now text written))) }
 {
     let settings = Settings::of_words(alloc, words)?;
     let query = read_octets(alloc, input)?;
@@ -154,7 +168,10 @@ fn report<E: Write>(fault: Fault, errors: &mut E) -> u8
 fn explain<O: Write, E: Write>(error: &clap::Error, output: &mut O, errors: &mut E) -> u8
     ensures status { result ≤ 2 }
     ensures silent { result ≡ 0 → E.contents errors.new ≡ E.contents errors.old }
-    ensures unwritten { result ≡ 2 → O.contents output.new ≡ O.contents output.old }
+
+    // Nothing but help is written to the output.
+    ensures unwritten { (O.contents output.new ≡ O.contents output.old) ⊎ ((kind_of error.now ≡ ErrorKind.DisplayHelp)
+        ⊎ (kind_of error.now ≡ ErrorKind.DisplayVersion)) }
 
     // Words are refused where clap says so, and help is shown where it was asked for.
     ensures refused { result ≡ 2 → (kind_of error.now ≢ ErrorKind.DisplayHelp)

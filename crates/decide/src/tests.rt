@@ -2,7 +2,7 @@
 use super::*;
 use gentime::GenTime;
 use policy::Policy;
-use std::alloc::{AllocError, Global};
+use std::alloc::Global;
 use std::test::Fail;
 use tsp::{Request, Rule, read_request};
 
@@ -94,11 +94,9 @@ const LONG_EXTENSION: &[u8] =
     b"\x30\x46\x02\x01\x01\x30\x31\x30\x0d\x06\x09\x60\x86\x48\x01\x65\x03\x04\x02\x01\x05\x00\x04\x20\xba\x78\x16\xbf\x8f\x01\xcf\xea\x41\x41\x40\xde\x5d\xae\x22\x23\xb0\x03\x61\xa3\x96\x17\x7a\x9c\xb4\x10\xff\x61\xf2\x00\x15\xad\xa0\x0e\x30\x0c\x06\x03\x88\x37\x07\x04\x05\x2a\x2a\x2a\x2a\x2a";
 
 /// The text with the first `old` replaced.
-fn changed(alloc: Global, old: &str, new: &str) -> Result<String, AllocError> {
-    match FILE.split_once(old) {
-        Some((front, back)) => format!(in alloc; "{front}{new}{back}"),
-        None => String::from_str(alloc, FILE),
-    }
+fn changed(alloc: Global, old: &str, new: &str) -> Result<String, Fail> {
+    let (front, back) = FILE.split_once(old).ok_or("the file has no such text")?;
+    Ok(format!(in alloc; "{front}{new}{back}")?)
 }
 
 /// A request and its facts, with the genTime that it is allowed or the rule that it fails.

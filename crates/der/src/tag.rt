@@ -4,6 +4,7 @@ ghost use Rattle.std.specs.Prelude.{◌≡◌, ◌<◌, ◌%◌, ◌/◌, ◌==�
 /// number, 0 to 30 (X.690 8.1.2.2).
 #[derive(Clone, Copy, Debug, PartialEq, Eq)]
 pub struct Tag {
+    /// The octet itself.
     pub octet: u8,
     pub ghost low_tag_number: { octet % 32 < 31 },
 }

@@ -108,7 +108,7 @@ impl GenTime {
         }
     }
 
-    /// The moment, rounded down to that many digits of the fraction of its second.
+    /// The moment, rounded down to that many digits of the fraction of its second; more than six count as six.
     pub fn rounded_down(self, digits: u8) -> GenTime
         ensures { result ≡ round_down digits self }
     {

@@ -3,3 +3,4 @@ pub mod KindsRead
 pub mod OidTexts
 pub mod EntriesRead
 pub mod SoundRecords
+pub mod Rows

@@ -61,11 +61,9 @@ daily_quota = 1003
 "#;
 
 /// The text with the first `old` replaced.
-fn changed(alloc: Global, text: &str, old: &str, new: &str) -> Result<String, AllocError> {
-    match text.split_once(old) {
-        Some((front, back)) => format!(in alloc; "{front}{new}{back}"),
-        None => String::from_str(alloc, text),
-    }
+fn changed(alloc: Global, text: &str, old: &str, new: &str) -> Result<String, Fail> {
+    let (front, back) = text.split_once(old).ok_or("the file has no such text")?;
+    Ok(format!(in alloc; "{front}{new}{back}")?)
 }
 
 /// What is replaced, by what, and the fault.

@@ -4,6 +4,7 @@ pub mod Natural
 pub mod RequestReads
 pub mod RequestTakes
 pub mod RequestText
+pub mod Rows
 pub mod Sizes
 pub mod Spelled
 pub mod TstLawful

@@ -4,6 +4,7 @@ use crate::rule::Rule;
 /// (RFC 3161 2.4.2). It takes no memory.
 #[derive(Clone, Copy, Debug, PartialEq, Eq)]
 pub struct Rejection {
+    /// The rule that fails.
     pub rule: Rule,
 }
 

@@ -40,35 +40,35 @@ pub struct Request {
 }
 
 impl Request {
-    /// The contents octets of the version.
+    /// The contents octets of the version (RFC 3161 2.4.1).
     pub fn version(&self) -> &[u8]
         ensures { result.now ≡ number_content (request_view self.now).version }
     {
         self.version.content()
     }
 
-    /// The contents octets of the hash algorithm's object identifier.
+    /// The contents octets of the hash algorithm's object identifier (RFC 3161 2.4.1, X.690 8.19).
     pub fn algorithm(&self) -> &[u8]
         ensures { result.now ≡ oid_content (request_view self.now).imprint.algorithm }
     {
         self.imprint.algorithm.content()
     }
 
-    /// The algorithm's parameters, where there are any.
+    /// The algorithm's parameters, where there are any (RFC 5280 4.1.1.2).
     pub fn parameters(&self) -> Option<&Tree>
         ensures { option_map (λ tree. view tree.now) result ≡ (request_view self.now).imprint.parameters }
     {
         self.imprint.parameters.as_ref()
     }
 
-    /// The hash of what is to be stamped.
+    /// The octets of the hash of what is to be stamped (RFC 3161 2.4.1, hashedMessage).
     pub fn hash(&self) -> &[u8]
         ensures { result.now ≡ (request_view self.now).imprint.hash }
     {
         &self.imprint.hash
     }
 
-    /// The contents octets of the object identifier of the policy that is asked for, where one is.
+    /// The contents octets of the object identifier of the policy that is asked for, where one is (RFC 3161 2.4.1, reqPolicy).
     pub fn policy(&self) -> Option<&[u8]>
         ensures { option_map (λ content. content.now) result ≡ option_map oid_content (request_view self.now).policy }
     {
@@ -78,7 +78,7 @@ impl Request {
         }
     }
 
-    /// The contents octets of the nonce, where there is one.
+    /// The contents octets of the nonce, where there is one (RFC 3161 2.4.1).
     pub fn nonce(&self) -> Option<&[u8]>
         ensures { option_map (λ content. content.now) result ≡ option_map number_content (request_view self.now).nonce }
     {
@@ -88,7 +88,7 @@ impl Request {
         }
     }
 
-    /// Whether the token is to come with the signer's certificate.
+    /// Whether the token is to come with the signer's certificate (RFC 3161 2.4.1, certReq).
     pub fn cert_req(&self) -> bool
         ensures { result ≡ (request_view self.now).cert_req }
     {
@@ -114,7 +114,7 @@ impl Request {
         }
     }
 
-    /// The extensions, in their order.
+    /// The extensions, in their order (RFC 3161 2.4.1); none where they are absent.
     pub fn extensions(&self) -> &[Extension]
         ensures { map extension_view result.now ≡ (request_view self.now).extensions }
     {

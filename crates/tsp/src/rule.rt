@@ -1,5 +1,3 @@
-use std::fmt;
-
 /// The rules by which a request is judged, in their order. The first that fails decides the rejection.
 #[derive(Clone, Copy, Debug, PartialEq, Eq)]
 pub enum Rule {
@@ -38,12 +36,5 @@ impl Rule {
         ensures { result ≡ number_of self }
     {
         self as u8
-    }
-}
-
-impl fmt::Display for Rule {
-    fn fmt<W: fmt::Write>(&self, f: &mut fmt::Formatter<W>) -> fmt::Result {
-        let number = self.number();
-        write!(f, "rule {number:02}")
     }
 }

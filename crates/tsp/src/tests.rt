@@ -190,9 +190,16 @@ fn rejects_by_each_rule(rt: HostRuntime) -> Result<(), Fail> {
 
 #[test]
 fn numbers_faults_and_integers(rt: HostRuntime) -> Result<(), Fail> {
-    assert_eq!(rt; TspFault::Form.number(), 1);
-    assert_eq!(rt; TspFault::TooLong.number(), 2);
-    assert_eq!(rt; TspFault::Memory.number(), 3);
+    let faults = [
+        (TspFault::Form, 1, "the octets are not of their grammar"),
+        (TspFault::TooLong, 2, "there are more than 65,536 octets"),
+        (TspFault::Memory, 3, "out of memory"),
+    ];
+    for (fault, number, text) in faults {
+        assert_eq!(rt; fault.number(), number);
+        let shown = format!(in rt.alloc(); "{fault}")?;
+        assert_eq!(rt; shown.as_str(), text);
+    }
     let minus_one = Integer::from_owned_content(vec![in rt.alloc(); 0xff]?).ok_or("refused")?;
     assert_eq!(rt; minus_one.content(), [0xff].as_slice());
     assert!(rt; Integer::from_owned_content(vec![in rt.alloc(); 0, 1]?).is_none());

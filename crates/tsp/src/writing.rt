@@ -252,8 +252,8 @@ fn append_nonce(alloc: Global, writer: &mut Writer, nonce: &Option<Integer>) -> 
 
 /// Writes a TSTInfo in its one encoding (RFC 3161 2.4.2): the accuracy is always stated, and ordering, nonce and
 /// extensions only where there is one, `critical` only where it is TRUE. The caller hands in parts within their ranges,
-/// of which the TSTInfo is a lawful value; `tst_infos_are_lawful` says so of what answers a request. Refused only for want
-/// of memory.
+/// of which the TSTInfo is a lawful value; `requests_have_one_reading` says so of what answers a request. Refused only for
+/// want of memory, as `Memory`.
 pub fn write_tst(alloc: Global, tst: &TstInfo) -> Result<Vec<u8>, TspFault>
     requires ranges { IsTst (tst_view tst.now) }
     requires lawful { IsLawful (tst_info (tst_view tst.now)) }
@@ -292,7 +292,7 @@ fn append_policy(alloc: Global, writer: &mut Writer, policy: &Option<Oid>) -> Re
 }
 
 /// Writes a request without stated FALSEs (RFC 3161 2.4.1). The caller hands in a request that is a lawful value so; one
-/// that `read_request` read is. Refused only for want of memory.
+/// that `read_request` read is. Refused only for want of memory, as `Memory`.
 pub fn write_request(alloc: Global, request: &Request) -> Result<Vec<u8>, TspFault>
     requires { IsLawful (tsp_request unstated (request_view request.now)) }
     ensures text { IfOk result (λ octets. octets.items ≡ encoding (tsp_request unstated (request_view request.now))) }

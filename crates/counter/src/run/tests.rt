@@ -116,11 +116,16 @@ fn words_are_refused(rt: HostRuntime) -> Result<(), Fail> {
         "counter tst --policy 2.999.1 --moment 0 --digits 0 --serial 1 --accuracy 1000001",
         "counter tst --policy 2.999.1 --moment 253402300800000000 --digits 0 --serial 1 --accuracy 1",
         "counter tst --policy 2.999.1 --moment -1 --digits 0 --serial 1 --accuracy 1",
-        "counter tst --policy 2.999.1 --moment 1_0 --digits 0 --serial 1 --accuracy 1",
-        "counter tst --policy 2.999.1 --moment 0x1 --digits 0 --serial 1 --accuracy 1",
         "counter tst --policy 2.999.1 --moment 0 --moment 0 --digits 0 --serial 1 --accuracy 1",
         "counter tst --policy 2.999.1 --moment 0 --digits 0 --serial 1 --accuracy",
         "counter tst --policy 2.999.1 --moment 0 --digits 0 --serial 1 --accuracy 1 3",
+        "counter tst --policy 2.999.1 --moment 0 --digits 0 --serial=-5 --accuracy 1",
+        "counter tst --policy 2.999.1 --moment 0 --digits 0 --serial 1 --accuracy 1 --ordering --ordering",
+        "counter tst --policy 2.999.1 --moment 0 --digits 0 --serial 1 --accuracy 1 --ordering=true",
+        "counter tst --policy 2.999.1 --moment 0 --digits 0 --serial 1 --accuracy 1 --colour red",
+        "counter tst --policy 2.999.1 --moment 0 --digits 0 --serial 1 --accuracy 1 --rules a",
+        "counter check --rules a --rules a",
+        "counter help nosuch",
     ];
     for line in lines {
         let words = words_of(alloc, line)?;
@@ -132,20 +137,62 @@ fn words_are_refused(rt: HostRuntime) -> Result<(), Fail> {
     Ok(())
 }
 
+/// What is to be found in each text of help.
+const HELP: [(&str, &[&str]); 5] = [
+    ("counter --help", &["tst", "check", "--help"]),
+    ("counter help", &["tst", "check", "--help"]),
+    ("counter tst --help", &OPTIONS),
+    ("counter help tst", &OPTIONS),
+    ("counter check --help", &["--rules", "--help"]),
+];
+
+const OPTIONS: [&str; 7] = [
+    "--policy",
+    "--moment",
+    "--digits",
+    "--serial",
+    "--accuracy",
+    "--ordering",
+    "--help",
+];
+
 #[test]
 fn help_is_written(rt: HostRuntime) -> Result<(), Fail> {
     let alloc = rt.alloc();
-    for line in [
-        "counter --help",
-        "counter help",
-        "counter tst --help",
-        "counter help tst",
-    ] {
+    for (line, named) in HELP {
         let words = words_of(alloc, line)?;
         let run = run_on(&rt, words.as_slice(), b"");
         assert_eq!(rt; run.status, 0, "{line}");
-        assert!(rt; !run.output.is_empty(), "{line}");
         assert!(rt; run.errors.is_empty(), "{line}");
+        let text = str::from_utf8(run.output.as_slice())?;
+        for name in named {
+            assert!(rt; text.contains(*name), "{line}: {name}");
+        }
+    }
+    Ok(())
+}
+
+#[test]
+fn numbers_are_digits(rt: HostRuntime) -> Result<(), Fail> {
+    let alloc = rt.alloc();
+    let settings = "--policy 2.999.1 --moment 0 --digits 0 --accuracy 1 --serial";
+    for (number, status) in [
+        ("1", 0),
+        ("+1", 0),
+        ("001", 0),
+        (" 1", 2),
+        ("1 ", 2),
+        ("1\t", 2),
+        ("1_0", 2),
+        ("0x1", 2),
+        ("1.0", 2),
+        ("\u{0661}", 2),
+    ] {
+        let mut words = tst_words(alloc, settings)?;
+        words.push(String::from_str(alloc, number)?)?;
+        let run = run_on(&rt, words.as_slice(), b"");
+        assert_eq!(rt; run.status, status, "{number}");
+        assert_eq!(rt; run.output.is_empty(), status == 2, "{number}");
     }
     Ok(())
 }
@@ -300,8 +347,21 @@ daily_quota = 1000
 
 /// What is changed in that file (what stands there, and what takes its place), and what `check` writes to the output and to
 /// the errors then.
-static CHANGES: [(&str, &str, &[u8], &[u8]); 9] = [
+static CHANGES: [(&str, &str, &[u8], &[u8]); 11] = [
     ("guest\"\npolicies", "guest\"\npolicies", b"2 1 2 5\n", b""),
+    (
+        "[[extension]]",
+        "[[extension]]\nname = \"first\"\noid = \"2.999.8\"\nmax_length = 0\n[[algorithm]]
+name = \"sha384\"\noid = \"2.16.840.1.101.3.4.2.2\"\nlength = 48\n[[extension]]",
+        b"3 2 2 5\n",
+        b"",
+    ),
+    (
+        "[[account]]",
+        "[[policy]]\nname = \"third\"\noid = \"2.999.3\"\nalgorithms = [\"sha256\"]\n[[account]]",
+        b"2 1 3 5\n",
+        b"",
+    ),
     ("[counter]", "[counter", b"", b"counter: policy 1\n"),
     ("[counter]", "[[counter]]", b"", b"counter: policy 3\n"),
     (
@@ -356,10 +416,13 @@ fn policy_files_are_checked(rt: HostRuntime) -> Result<(), Fail> {
         let (before, after) = RULES.split_once(*old).ok_or("the file has no such text")?;
         let text = format!(in rt.alloc(); "{before}{new}{after}")?;
         let outcome = check_on(&rt, text.as_str())?;
+        assert_eq!(rt; outcome.status, u8::from(output.is_empty()), "at {i}");
         assert_eq!(rt; outcome.output.as_slice(), *output, "at {i}");
         assert_eq!(rt; outcome.errors.as_slice(), *errors, "at {i}");
     }
     let outcome = check_on(&rt, "")?;
+    assert_eq!(rt; outcome.status, 1);
+    assert!(rt; outcome.output.is_empty());
     assert_eq!(rt;
         outcome.errors.as_slice(),
         b"counter: policy 2\n".as_slice()
@@ -377,6 +440,8 @@ fn too_many_accounts_are_refused(rt: HostRuntime) -> Result<(), Fail> {
         )?;
     }
     let outcome = check_on(&rt, text.as_str())?;
+    assert_eq!(rt; outcome.status, 1);
+    assert!(rt; outcome.output.is_empty());
     assert_eq!(rt;
         outcome.errors.as_slice(),
         b"counter: policy 6\n".as_slice()

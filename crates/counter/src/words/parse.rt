@@ -1,6 +1,6 @@
 ghost use Rattle.std.specs.Prelude.{◌≡◌, ◌≤◌, ◌⊎◌, ℕ, List, Some, IfOk, IfErr, IfSome, IsNone, map, string_bytes};
 ghost use Rattle.clap.specs.Words.{Row, Text, HasKind, fault_of, found_of, kind_of, rows_of, subcommand_rows_of};
-ghost use Rattle.counter.specs.Words.{Asks, IsAsked, StatesNumber, StatesTst, counter_command};
+ghost use Rattle.counter.specs.Words.{AreTaken, Asks, IsAsked, StatesNumber, StatesTst, counter_command};
 
 use crate::command::{ACCURACIES, DIGITS, MOMENTS, Numbers, SERIALS, command};
 use crate::words::{CheckWords, TstWords, Word};
@@ -9,14 +9,14 @@ use clap::{ArgMatches, Error};
 use std::alloc::Global;
 
 impl<'a> Word<'a> {
-    /// Reads the words, of which the first is the program's name. Words that aren't understood, and a request for help, are
-    /// `clap`'s error, whose text is for the user.
+    /// Reads the words, of which the first is the program's name. Words that aren't understood, a request for help and want
+    /// of memory are `clap`'s error, whose text is for the user.
     pub fn parse(alloc: Global, words: &'a [String]) -> Result<Word<'a>, Error>
         ensures asked { IfOk result (Asks (map (λ word. string_bytes word) words.now)) }
 
         // Words are refused as `clap` says, for want of memory, or where they ask for nothing.
         ensures refused { IfErr result (λ error. HasKind (fault_of counter_command (map (λ word. string_bytes word) words.now)) error
-            ⊎ ((word : Word) → Asks (map (λ word. string_bytes word) words.now) word → ⊥)) }
+            ⊎ (AreTaken (map (λ word. string_bytes word) words.now) × ((word : Word) → Asks (map (λ word. string_bytes word) words.now) word → ⊥))) }
 
         // No text is shown as help but `clap`'s.
         ensures help { IfErr result (λ error. (kind_of error ≡ ErrorKind.MissingRequiredArgument)

@@ -8,6 +8,45 @@ fn refusal(alloc: Global, bytes: &[u8]) -> Option<DerFault> {
     read_tree(alloc, bytes).err()
 }
 
+/// Each refusal with its number and its text.
+const FAULTS: [(DerFault, u8, &str); 9] = [
+    (DerFault::Truncated, 1, "octets are missing"),
+    (
+        DerFault::LengthForm,
+        2,
+        "the length is not in the definite form in the fewest octets",
+    ),
+    (DerFault::HighTag, 3, "the tag number is 31 or above"),
+    (DerFault::WrongKind, 4, "another kind of value is expected"),
+    (
+        DerFault::TooDeep,
+        5,
+        "values are nested more than 32 levels deep",
+    ),
+    (
+        DerFault::TooLong,
+        6,
+        "the contents have 2^24 octets or more",
+    ),
+    (DerFault::Trailing, 7, "octets stand after the value"),
+    (
+        DerFault::BadValue,
+        8,
+        "the contents or the text are malformed",
+    ),
+    (DerFault::Memory, 9, "out of memory"),
+];
+
+#[test]
+fn refusals_have_numbers_and_texts(rt: HostRuntime) -> Result<(), Fail> {
+    for (fault, number, text) in FAULTS {
+        assert_eq!(rt; fault.number(), number);
+        let shown = format!(in rt.alloc(); "{fault}")?;
+        assert_eq!(rt; shown.as_str(), text);
+    }
+    Ok(())
+}
+
 /// Octets with the refusal that X.690 and the limits on length and levels want.
 const REFUSED: &[(&[u8], DerFault)] = &[
     // no identifier octet, no length octet, too few length octets, too few contents octets

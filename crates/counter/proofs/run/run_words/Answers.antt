@@ -9,6 +9,8 @@ returns-in-Err-clause-refused g c =
       | inl (inl memory) ↦
           let one : c.explain.result ≡ 1 = c.explain.ensures.memory memory in
           absurd (omega arith)
-      | inl (inr among) ↦ inl (kind_of c.in-Err.error, among)
+      | inl (inr among) ↦
+          let other = c.explain.ensures.refused two in
+          inl (kind_of c.in-Err.error, among, other.0, other.1)
       | inr none ↦ inr none
     ]

@@ -38,7 +38,13 @@ struct Row {
 
 const USUAL: &str = "--moment 0 --digits 0 --serial 1 --accuracy 1000000";
 
-const ROWS: [Row; 20] = [
+const ROWS: [Row; 21] = [
+    Row {
+        name: "numbers with a plus or zeros before them",
+        settings: "--moment +0 --digits 00 --serial 001 --accuracy=+1000000",
+        request: "3036 020101 I",
+        reply: "3054 020101 0603883701 I 020101 G 3003020101",
+    },
     Row {
         name: "no octets",
         settings: USUAL,
