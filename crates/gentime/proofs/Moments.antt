@@ -2,7 +2,7 @@
 use Rattle.std.proofs.Common.{◌≡◌, ℕ, ◌+◌, ◌*◌, ◌/◌, ◌%◌, ◌<◌, ◌≤◌, List, refl, sym, ap, ◌∙◌, arith, pos}
 use Rattle.gentime.specs.Calendar.{CivilDate, civil_date}
 use Rattle.gentime.specs.Fraction.{micros_of}
-use Rattle.gentime.specs.GenTime.{last_moment, round_down, GeneralizedTime, IsFormed, IsTime, IsCounted, States, spelling, time_of, text_of}
+use Rattle.gentime.specs.GenTime.{last_moment, round_down, GeneralizedTime, HasParts, IsTime, IsCounted, HasForm, spelling, time_of, text_of}
 use Rattle.gentime.proofs.Days.{civil_date_is}
 use Rattle.gentime.proofs.Fractions.{micros_of-fraction_of, micros_of_bound, fraction_of-micros_of}
 use Rattle.gentime.proofs.Pairs.{stated_once}
@@ -36,7 +36,7 @@ same_parts : (year month day hour minute second : ℕ) (fraction : List ℕ) (ti
 same_parts year month day hour minute second fraction time a b c d e f g = rw (a, b, c, d, e, f, g)
 
 -- a time that exists is that of the moment that is counted from its parts
-pub time_of-moment_at : (time : GeneralizedTime) (day : ℕ) → IsFormed time → IsTime time → IsCounted time → (civil_date day).year ≡ time.year → (civil_date day).month ≡ time.month → (civil_date day).day ≡ time.day → time_of (moment_at day (seconds_of time) (micros_of time.fraction)) ≡ time
+pub time_of-moment_at : (time : GeneralizedTime) (day : ℕ) → HasParts time → IsTime time → IsCounted time → (civil_date day).year ≡ time.year → (civil_date day).month ≡ time.month → (civil_date day).day ≡ time.day → time_of (moment_at day (seconds_of time) (micros_of time.fraction)) ≡ time
 unfolding time_of
 time_of-moment_at time day formed exists counted year month d =
     let s = seconds_of_bound time exists in
@@ -76,12 +76,12 @@ unfolding text_of
 text_of-six moment = ap (λ rounded. spelling (time_of rounded)) (round_down-six moment)
 
 -- a moment's text states its time
-pub states_time_of : (octets : List ℕ) (moment : ℕ) → moment ≤ last_moment → octets ≡ text_of 6 moment → States octets (time_of moment)
+pub states_time_of : (octets : List ℕ) (moment : ℕ) → moment ≤ last_moment → octets ≡ text_of 6 moment → HasForm octets (time_of moment)
 states_time_of octets moment h e =
     record { formed = time_of_formed moment h; spelled = e ∙ text_of-six moment }
 
 -- and octets that state the time are the text
-pub text_from_time : (octets : List ℕ) (time : GeneralizedTime) (moment : ℕ) → States octets time → time_of moment ≡ time → octets ≡ text_of 6 moment
+pub text_from_time : (octets : List ℕ) (time : GeneralizedTime) (moment : ℕ) → HasForm octets time → time_of moment ≡ time → octets ≡ text_of 6 moment
 text_from_time octets time moment s e = s.spelled ∙ ap spelling (sym e) ∙ sym (text_of-six moment)
 
 pub time_of_exists : (moment : ℕ) → moment ≤ last_moment → IsTime (time_of moment)

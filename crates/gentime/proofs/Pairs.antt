@@ -5,7 +5,7 @@ use Rattle.std.proofs.lemmas.Option.{option_and_then_some, cond_some, same_Some,
 use Rattle.std.proofs.lemmas.List.{append_cancel_right}
 use Rattle.std.specs.Char.{is_ascii_digit}
 use Rattle.std.specs.List.{AllByRecursion, flat_map}
-use Rattle.gentime.specs.GenTime.{GeneralizedTime, digit, two_digits, point_and, pairs_of, spelling, IsFraction, States}
+use Rattle.gentime.specs.GenTime.{GeneralizedTime, digit, two_digits, point_and, pairs_of, spelling, IsFraction, HasForm}
 use Rattle.gentime.specs.Pairs.{pair_at, pairs_at}
 
 abbrev IsPair : ℕ → Type 0
@@ -64,7 +64,7 @@ pairs_at_is (suc count) octets q e =
     read_more count octets first others q (pair_at_is octets first f) (pairs_at_is count first.1 others k) h))
 
 -- a stated time's numbers are read, and then its fraction and `Z` are left
-pub pairs_at_stated : (octets : List ℕ) (time : GeneralizedTime) → States octets time → pairs_at 7 octets ≡ Some (pairs_of time, point_and time.fraction ++ 90 ∷ [])
+pub pairs_at_stated : (octets : List ℕ) (time : GeneralizedTime) → HasForm octets time → pairs_at 7 octets ≡ Some (pairs_of time, point_and time.fraction ++ 90 ∷ [])
 unfolding spelling
 pairs_at_stated octets time s =
     let f = s.formed in
@@ -72,10 +72,10 @@ pairs_at_stated octets time s =
     ∙ pairs_at-flat_map (pairs_of time) (point_and time.fraction ++ 90 ∷ [])
     (omega (arith, f.year), (omega (arith, f.year), (f.month, (f.day, (f.hour, (f.minute, (f.second, tt)))))))
 
-pub none_stated : (octets : List ℕ) (time : GeneralizedTime) → None ≡ pairs_at 7 octets → States octets time → ⊥
+pub none_stated : (octets : List ℕ) (time : GeneralizedTime) → None ≡ pairs_at 7 octets → HasForm octets time → ⊥
 none_stated octets time e s = none-some _ (e ∙ pairs_at_stated octets time s)
 
-pub some_stated : (octets pairs rest : List ℕ) (time : GeneralizedTime) → Some (pairs, rest) ≡ pairs_at 7 octets → States octets time → (pairs ≡ pairs_of time) × (rest ≡ point_and time.fraction ++ 90 ∷ [])
+pub some_stated : (octets pairs rest : List ℕ) (time : GeneralizedTime) → Some (pairs, rest) ≡ pairs_at 7 octets → HasForm octets time → (pairs ≡ pairs_of time) × (rest ≡ point_and time.fraction ++ 90 ∷ [])
 some_stated octets pairs rest time e s =
     some_pair_parts pairs (pairs_of time) rest (point_and time.fraction ++ 90 ∷ []) (e ∙ pairs_at_stated octets time s)
 
@@ -109,7 +109,7 @@ seven (a ∷ b ∷ c ∷ d ∷ f ∷ g ∷ h ∷ []) e = refl
 seven (a ∷ b ∷ c ∷ d ∷ f ∷ g ∷ h ∷ i ∷ ks) e = absurd (omega arith)
 
 -- octets of seven numbers, a fraction and `Z` state that time
-pub states_with : (octets pairs rest fraction : List ℕ) → Some (pairs, rest) ≡ pairs_at 7 octets → IsFraction fraction → rest ≡ point_and fraction ++ 90 ∷ [] → States octets (time_with pairs fraction)
+pub states_with : (octets pairs rest fraction : List ℕ) → Some (pairs, rest) ≡ pairs_at 7 octets → IsFraction fraction → rest ≡ point_and fraction ++ 90 ∷ [] → HasForm octets (time_with pairs fraction)
 unfolding spelling
 states_with octets pairs rest fraction e f r =
     let q = pairs_at_is 7 octets (pairs, rest) (sym e) in
@@ -140,7 +140,7 @@ fraction_stated : (a b : List ℕ) → point_and a ++ 90 ∷ [] ≡ point_and b 
 fraction_stated a b e = point_and_injective a b (append_cancel_right (point_and a) (point_and b) (90 ∷ []) e)
 
 -- octets state one time at most
-pub stated_once : (octets : List ℕ) (a b : GeneralizedTime) → States octets a → States octets b → a ≡ b
+pub stated_once : (octets : List ℕ) (a b : GeneralizedTime) → HasForm octets a → HasForm octets b → a ≡ b
 stated_once octets a b s t =
     let same = some_stated octets (pairs_of b) (point_and b.fraction ++ 90 ∷ []) a (sym (pairs_at_stated octets b t)) s in
     sym (time_with-pairs_of (pairs_of b) b.fraction a same.0 (fraction_stated b.fraction a.fraction same.1))

@@ -6,7 +6,7 @@ use Rattle.std.proofs.lemmas.List.{take_more}
 use Rattle.std.specs.Char.{IsAsciiDigit}
 use Rattle.std.specs.List.{AllByRecursion}
 use Rattle.gentime.specs.Calendar.{civil_date}
-use Rattle.gentime.specs.GenTime.{last_moment, round_down, GeneralizedTime, digit_before, point_and, without_trailing_zeros, six_digits, fraction_of, IsFormed, spelling, time_of, text_of}
+use Rattle.gentime.specs.GenTime.{last_moment, round_down, GeneralizedTime, digit_before, point_and, without_trailing_zeros, six_digits, fraction_of, HasParts, spelling, time_of, text_of}
 use Rattle.gentime.proofs.Days.{civil_date_is, civil_date_year}
 use Rattle.jiff_core.proofs.CalendarLemmas.{days_in_month_bounds}
 
@@ -78,7 +78,7 @@ pub length-fraction_of : (micros : ℕ) → length (fraction_of micros) ≤ 6
 length-fraction_of micros = length-without_trailing_zeros (six_digits micros)
 
 -- the parts of a moment can be stated
-pub time_of_formed : (moment : ℕ) → moment ≤ last_moment → IsFormed (time_of moment)
+pub time_of_formed : (moment : ℕ) → moment ≤ last_moment → HasParts (time_of moment)
 unfolding time_of
 time_of_formed moment h =
     let day = civil_date_is (moment / 86_400_000_000) in
@@ -105,7 +105,7 @@ length-octets_of_fraction [] = (omega arith, omega arith)
 length-octets_of_fraction (x ∷ xs) = (omega (arith, length-append xs (90 ∷ [])), omega (arith, length-append xs (90 ∷ [])))
 
 -- a text of parts that can be stated has octets
-pub spelling_octets : (time : GeneralizedTime) → IsFormed time → AllByRecursion (λ octet. octet < 256) (spelling time)
+pub spelling_octets : (time : GeneralizedTime) → HasParts time → AllByRecursion (λ octet. octet < 256) (spelling time)
 unfolding spelling
 spelling_octets time h = (
   omega (arith, h.year),

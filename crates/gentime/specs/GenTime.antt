@@ -12,7 +12,7 @@ last_moment = 253402300799999999
 abbrev pub round_down : ℕ → ℕ → ℕ
 round_down digits moment = moment / 10 ^ (6 - digits) * 10 ^ (6 - digits)
 
--- the parts of a time; the fraction has the octets of its digits, from the tenths on
+-- the parts of a time, whether or not there is such a time; the fraction has the octets of its digits, from the tenths on
 pub record GeneralizedTime : Type 0 where
   pub year : ℕ
   pub month : ℕ
@@ -24,7 +24,7 @@ pub record GeneralizedTime : Type 0 where
 
 -- the octet of a decimal digit
 abbrev pub digit : ℕ → ℕ
-digit n = 48 + n
+digit n = 0x30 + n
 
 abbrev pub two_digits : ℕ → List ℕ
 two_digits n = digit (n / 10) ∷ digit (n % 10) ∷ []
@@ -32,7 +32,7 @@ two_digits n = digit (n / 10) ∷ digit (n % 10) ∷ []
 -- a point before the digits of a fraction, where there are any (X.690 11.7.4)
 abbrev pub point_and : List ℕ → List ℕ
 point_and [] = []
-point_and (first ∷ others) = 46 ∷ first ∷ others
+point_and (first ∷ others) = 0x2E ∷ first ∷ others
 
 -- the numbers of two digits: of the century and the year in it, and of the other parts down to the second
 abbrev pub pairs_of : GeneralizedTime → List ℕ
@@ -41,7 +41,7 @@ pairs_of time =
 
 -- YYYYMMDDhhmmss, the fraction, and Z (X.690 11.7.1 and 11.7.2)
 unfoldable pub spelling : GeneralizedTime → List ℕ
-spelling time = flat_map two_digits (pairs_of time) ++ (point_and time.fraction ++ 90 ∷ [])
+spelling time = flat_map two_digits (pairs_of time) ++ (point_and time.fraction ++ 0x5A ∷ [])
 
 -- a digit before digits that end in no zero; a zero before none is left away
 abbrev pub digit_before : ℕ → List ℕ → List ℕ
@@ -65,8 +65,9 @@ fraction_of micros = without_trailing_zeros (six_digits micros)
 abbrev pub IsFraction : List ℕ → Type 0
 IsFraction octets = AllByRecursion IsAsciiDigit octets × (without_trailing_zeros octets ≡ octets)
 
--- parts that a text can state, whether or not the calendar has them: numbers of four and two digits, and a fraction
-pub record IsFormed (time : GeneralizedTime) : Type 0 where
+-- parts that the form of a GeneralizedTime has room for, whether or not there is such a time: numbers of four and two digits,
+-- and a fraction
+pub record HasParts (time : GeneralizedTime) : Type 0 where
   pub year : time.year < 10_000
   pub month : time.month < 100
   pub day : time.day < 100
@@ -75,9 +76,9 @@ pub record IsFormed (time : GeneralizedTime) : Type 0 where
   pub second : time.second < 100
   pub fraction : IsFraction time.fraction
 
--- the octets are a GeneralizedTime in DER, with these parts
-pub record States (octets : List ℕ) (time : GeneralizedTime) : Type 0 where
-  pub formed : IsFormed time
+-- the octets have the form of a GeneralizedTime in DER, with these parts, whether or not there is such a time
+pub record HasForm (octets : List ℕ) (time : GeneralizedTime) : Type 0 where
+  pub formed : HasParts time
   pub spelled : octets ≡ spelling time
 
 -- the calendar has the date, and the day has the time
@@ -92,10 +93,14 @@ pub record IsCounted (time : GeneralizedTime) : Type 0 where
   pub year : 1970 ≤ time.year
   pub micros : length time.fraction ≤ 6
 
+-- the day number of a moment: 1970-01-01 is day 0, and a day has 86,400,000,000 microseconds
+abbrev pub day_of : ℕ → ℕ
+day_of moment = moment / 86_400_000_000
+
 -- the parts of the moment: its date, its time of day, and its fraction of a second
 unfoldable pub time_of : ℕ → GeneralizedTime
 time_of moment =
-    let date = civil_date (moment / 86_400_000_000) in
+    let date = civil_date (day_of moment) in
     let seconds = moment % 86_400_000_000 / 1_000_000 in
     record {
       year = date.year;

@@ -9,10 +9,10 @@ use thiserror::Error;
 /// A refusal. Of several that hold, the one with the lowest number is answered; `Memory` comes where it is met.
 #[derive(Clone, Copy, Debug, PartialEq, Eq, Hash, Error)]
 pub enum GenTimeFault {
-    /// The octets are not a GeneralizedTime in DER (X.690 11.7).
+    /// The octets haven't the form of a GeneralizedTime in DER (X.690 11.7), whether or not there is such a time.
     #[error("not a GeneralizedTime in DER")]
     Form = 1,
-    /// The calendar has no such date, or the day no such time (second 60 too).
+    /// The calendar has no such date, or the day no such time (hour 24 and second 60 too).
     #[error("no such date or time of day")]
     Date = 2,
     /// The moment is before 1970 or after 9999, or has more than six digits of a fraction.

@@ -2,7 +2,7 @@
 
 ghost use Rattle.std.specs.Prelude.{◌≡◌, ℕ, ◌<◌, ◌≤◌, List, length};
 ghost use Rattle.std.specs.List.{AllByRecursion};
-ghost use Rattle.gentime.specs.GenTime.{last_moment, round_down, text_of, GeneralizedTime, States};
+ghost use Rattle.gentime.specs.GenTime.{last_moment, round_down, text_of, GeneralizedTime, HasForm};
 
 /// A moment's text has 15 to 22 octets.
 pub fn texts_are_short()
@@ -14,7 +14,7 @@ pub fn texts_are_short()
 /// Octets state one time at most, and no two moments have one text with six digits.
 pub fn texts_are_distinct()
     ensures times { (octets : List ℕ) (one other : GeneralizedTime) →
-        States octets one → States octets other → one ≡ other }
+        HasForm octets one → HasForm octets other → one ≡ other }
     ensures moments { (one other : ℕ) → one ≤ last_moment → other ≤ last_moment →
         text_of 6 one ≡ text_of 6 other → one ≡ other }
 {}

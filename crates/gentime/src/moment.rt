@@ -1,7 +1,7 @@
 //! A moment, as a clock counts it.
 
 ghost use Rattle.std.specs.Prelude.{◌≡◌, ◌↔◌, ◌≤◌, ◌-◌, ◌^◌, ℕ, length, pos, ◌≤ℤ◌, IsOk, IfOk, IfErr, IsErrOf, Ok};
-ghost use Rattle.gentime.specs.GenTime.{last_moment, round_down, text_of, GeneralizedTime, States, IsTime, IsCounted};
+ghost use Rattle.gentime.specs.GenTime.{last_moment, round_down, day_of, text_of, GeneralizedTime, HasForm, IsTime, IsCounted};
 ghost use Rattle.gentime.specs.declared.fault.GenTimeFault.TheVariants.{Date, Form, Memory, Range};
 
 use crate::components::{Components, six_digits, without_trailing_zeros};
@@ -33,18 +33,19 @@ impl Model for GenTime {
 }
 
 /// The moment whose genTime with six digits the octets are (RFC 3161 2.4.2, X.690 11.7). Of the refusals that hold it answers
-/// the first of these: `Form` where the octets are no GeneralizedTime in DER, `Date` where the calendar has no such date or the
-/// day no such time (second 60 too), and `Range` where it is before 1970 or has more than six digits of a fraction.
+/// the first of these: `Form` where the octets haven't the form of a GeneralizedTime in DER, whether or not there is such a
+/// time; `Date` where the calendar has no such date or the day no such time (hour 24 and second 60 too); and `Range` where it is
+/// before 1970 or has more than six digits of a fraction.
 pub fn read(octets: &[u8]) -> Result<GenTime, GenTimeFault>
     ensures text { IfOk result (λ moment. octets.now ≡ text_of 6 moment) }
     ensures moment { (moment : ℕ) → moment ≤ last_moment → octets.now ≡ text_of 6 moment → result ≡ Ok moment }
 
     // The first refusal that holds.
-    ensures form { IsErrOf result GenTimeFault.Form ↔ ((time : GeneralizedTime) → ¬ States octets.now time) }
+    ensures form { IsErrOf result GenTimeFault.Form ↔ ((time : GeneralizedTime) → ¬ HasForm octets.now time) }
     ensures date { IsErrOf result GenTimeFault.Date
-        ↔ ((time : GeneralizedTime) × States octets.now time × ¬ IsTime time) }
+        ↔ ((time : GeneralizedTime) × HasForm octets.now time × ¬ IsTime time) }
     ensures range { IsErrOf result GenTimeFault.Range
-        ↔ ((time : GeneralizedTime) × States octets.now time × IsTime time × ¬ IsCounted time) }
+        ↔ ((time : GeneralizedTime) × HasForm octets.now time × IsTime time × ¬ IsCounted time) }
     ensures memory { ¬ IsErrOf result GenTimeFault.Memory }
 {
     let time = Components::read(octets).ok_or(GenTimeFault::Form)?;
@@ -74,6 +75,14 @@ impl GenTime {
         ensures bound { self ≤ last_moment }
     {
         self.micros as i64
+    }
+
+    /// The moment's day number: whole days since 1970-01-01, each of 86,400,000,000 microseconds.
+    pub fn day(self) -> u64
+        ensures value { result ≡ day_of self }
+        ensures bound { result ≤ 2_932_896 }
+    {
+        self.micros / 86_400_000_000
     }
 
     /// The octets of the moment's genTime with at most that many digits of a fraction, 0 to 6: the moment is rounded down

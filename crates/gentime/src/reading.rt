@@ -5,7 +5,7 @@ ghost use Rattle.std.specs.Char.{IsAsciiDigit};
 ghost use Rattle.std.specs.List.{All};
 ghost use Rattle.gentime.specs.Fraction.{micros_of};
 ghost use Rattle.jiff_core.specs.Date.{epoch_day};
-ghost use Rattle.gentime.specs.GenTime.{point_and, GeneralizedTime, IsFraction, IsFormed, States, IsTime, IsCounted, last_moment, time_of};
+ghost use Rattle.gentime.specs.GenTime.{point_and, GeneralizedTime, IsFraction, HasParts, HasForm, IsTime, IsCounted, last_moment, time_of};
 ghost use Rattle.gentime.specs.Pairs.{pair_at, pairs_at};
 
 use crate::components::Components;
@@ -16,8 +16,8 @@ impl<'a> Components<'a> {
 
     /// The parts that the octets state, where they are a GeneralizedTime in DER.
     pub(crate) fn read(octets: &'a [u8]) -> Option<Components<'a>>
-        ensures stated { IfSome result (λ parts. States octets.now (plain parts)) }
-        ensures only { (time : GeneralizedTime) → States octets.now time → option_map plain result ≡ Some time }
+        ensures stated { IfSome result (λ parts. HasForm octets.now (plain parts)) }
+        ensures only { (time : GeneralizedTime) → HasForm octets.now time → option_map plain result ≡ Some time }
     {
         let ([century, year, month, day, hour, minute, second], rest) = pairs(octets)?;
         let fraction = fraction(rest)?;
@@ -34,7 +34,7 @@ impl<'a> Components<'a> {
 
     /// The date, where the calendar has it and the day has the time.
     pub(crate) fn date(&self) -> Option<Date>
-        requires { IsFormed (plain self.now) }
+        requires { HasParts (plain self.now) }
         ensures date { IfSome result (IsDateOf (plain self.now)) }
         ensures exists { IsSome result ↔ IsTime (plain self.now) }
     {
@@ -46,7 +46,7 @@ impl<'a> Components<'a> {
 
     /// The microseconds since 1970, where the time is 1970 or later and states whole microseconds. The date is the time's.
     pub(crate) fn micros(&self, date: Date) -> Option<u64>
-        requires formed { IsFormed (plain self.now) }
+        requires formed { HasParts (plain self.now) }
         requires time { IsTime (plain self.now) }
         requires date { IsDateOf (plain self.now) date }
         ensures moment { IfSome result (λ moment. (moment ≤ last_moment) × (time_of moment ≡ plain self.now)) }
@@ -118,8 +118,8 @@ fn pairs(octets: &[u8]) -> Option<([u8; 7], &[u8])>
 
 /// The digits of the fraction, where the octets are a fraction in DER and `Z`.
 fn fraction(octets: &[u8]) -> Option<&[u8]>
-    ensures stated { IfSome result (λ digits. IsFraction digits.now × (octets.now ≡ point_and digits.now ++ 90 ∷ [])) }
-    ensures only { (digits : List ℕ) → IsFraction digits → octets.now ≡ point_and digits ++ 90 ∷ [] → option_map (λ x. x.now) result ≡ Some digits }
+    ensures stated { IfSome result (λ digits. IsFraction digits.now × (octets.now ≡ point_and digits.now ++ 0x5A ∷ [])) }
+    ensures only { (digits : List ℕ) → IsFraction digits → octets.now ≡ point_and digits ++ 0x5A ∷ [] → option_map (λ x. x.now) result ≡ Some digits }
 {
     let (last, front) = octets.split_last()?;
     if *last != b'Z' {

@@ -168,6 +168,22 @@ fn refused_texts(rt: HostRuntime) {
     }
 }
 
+/// Moments and their day numbers: the first day's ends, 2000-01-01, and the last moment.
+#[test]
+fn days(rt: HostRuntime) -> Result<(), Fail> {
+    for (micros, day) in [
+        (0, 0),
+        (86_399_999_999, 0),
+        (86_400_000_000, 1),
+        (946_684_799_999_999, 10_956),
+        (946_684_800_000_000, 10_957),
+        (253_402_300_799_999_999, 2_932_896),
+    ] {
+        assert_eq!(rt; GenTime::from_micros(micros)?.day(), day);
+    }
+    Ok(())
+}
+
 #[test]
 fn refused_moments(rt: HostRuntime) {
     for micros in [i64::MIN, -1, 253_402_300_800_000_000, i64::MAX] {
