@@ -1,0 +1,4 @@
+pub mod Digits
+pub mod Identifiers
+pub mod Members
+pub mod Texts

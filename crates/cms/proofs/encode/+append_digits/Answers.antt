@@ -1,0 +1,10 @@
+use Rattle.std.proofs.Common.{rules, ◌≡◌, ◌++◌, [], ◌∷◌, ◌/◌, ◌%◌, ◌≤◌, arith, append_assoc}
+use Rattle.std.specs.Int.Digits.{digits_of}
+use Rattle.cms.proofs.Digits.{digits_of_last}
+use Rattle.cms.proofs.encode.+append_digits.Goals as goal
+
+pub returns : goal.returns
+returns t c =
+    let low : 256 ≤ c.args.n = omega (arith, c.if-n-lt256.false) in
+    let last : digits_of 256 c.args.n ≡ digits_of 256 (c.args.n / 256) ++ (c.args.n % 256 ∷ []) = digits_of_last c.args.n low in
+    search (rules, append_assoc)

@@ -1,0 +1,9 @@
+use Rattle.std.proofs.Common.{arith, ◌≤◌, ◌<◌, ◌^◌}
+use Rattle.cms.proofs.Digits.{digit_count_few, digit_count_last}
+use Rattle.cms.proofs.encode.+digit_count.Goals as goal
+
+pub returns-else-n-lt256-clause-few : goal.returns-else-n-lt256-clause-few
+returns-else-n-lt256-clause-few t c =
+    let low : 256 ≤ c.args.n = omega (arith, c.if-n-lt256.false) in
+    let small : c.args.n < 2 ^ 64 = omega (arith, c.ranges.n.fits) in
+    omega (arith, digit_count_few c.args.n small, digit_count_last c.args.n low, c.digit_count.ensures.count)

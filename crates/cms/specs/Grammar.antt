@@ -1,0 +1,31 @@
+-- The values of which a token is made, each by its encoding (X.690 8.3, 8.7, 8.9, 8.11, 8.14, 8.19). A certificate, an
+-- issuer and an algorithm stand in a token as they are, so what is put together here are encodings.
+use Rattle.std.specs.Prelude.{ℕ, pos, List, [], ◌∷◌, ◌++◌}
+use Rattle.der.specs.Node.{element}
+use Rattle.der.specs.Number.{number_content}
+use Rattle.der.specs.ObjectIdentifier.{oid_content}
+
+-- encodings one after the other
+abbrev pub joined : List (List ℕ) → List ℕ
+joined [] = []
+joined (first ∷ others) = first ++ joined others
+
+abbrev pub integer : ℕ → List ℕ
+integer n = element 2 (number_content (pos n))
+
+abbrev pub octet_string : List ℕ → List ℕ
+octet_string octets = element 4 octets
+
+-- of its subidentifiers
+abbrev pub object_identifier : List ℕ → List ℕ
+object_identifier subidentifiers = element 6 (oid_content subidentifiers)
+
+abbrev pub sequence : List (List ℕ) → List ℕ
+sequence components = element 48 (joined components)
+
+abbrev pub set : List (List ℕ) → List ℕ
+set components = element 49 (joined components)
+
+-- under the context-specific tag [0]: one value where it is explicit, a SET's where it is implicit
+abbrev pub under_zero : List (List ℕ) → List ℕ
+under_zero components = element 160 (joined components)

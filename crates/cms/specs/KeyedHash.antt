@@ -1,0 +1,13 @@
+-- The stand-in signer: a hash of a key and the text.
+use Rattle.std.specs.Prelude.{◌≡◌, ◌⊎◌, ℕ, List, [], ◌∷◌, ◌++◌, Result, Ok, Err}
+use Rattle.sha2.specs.Sha256.{sha256}
+use Rattle.cms.specs.declared.signer.SignerFault.{SignerFault}
+use Rattle.cms.specs.declared.signer.SignerFault.TheVariants.{Memory}
+
+-- SHA-256 of the key followed by the text, or want of memory; the key stays
+abbrev pub SignsByHash : List ℕ → List ℕ → Result (List ℕ) SignerFault → List ℕ → Type 0
+SignsByHash before text answer after = ((answer ≡ Ok (sha256 (before ++ text))) ⊎ (answer ≡ Err Memory)) × (after ≡ before)
+
+-- the AlgorithmIdentifier of 2.999.9, without parameters
+abbrev pub keyed_hash_algorithm : List ℕ
+keyed_hash_algorithm = 48 ∷ 5 ∷ 6 ∷ 3 ∷ 136 ∷ 55 ∷ 9 ∷ []

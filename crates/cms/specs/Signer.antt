@@ -1,0 +1,24 @@
+-- What a signer answers.
+use Rattle.std.specs.Prelude.{ℕ, ◌+◌, ◌%◌, ◌^◌, List, Result, Ok, Err, Vec}
+use Rattle.cms.specs.declared.signer.SignerFault.{SignerFault}
+use Rattle.cms.specs.declared.signer.SignerFault.TheVariants.{Failed, Memory}
+
+-- the refusals' numbers
+abbrev pub number_of : SignerFault → ℕ
+number_of Failed = 1
+number_of Memory = 2
+
+-- an answer's octets, or the fault
+abbrev pub signed_by : {A : Type 0} → Result (Vec ℕ A) SignerFault → Result (List ℕ) SignerFault
+signed_by (Ok signature) = Ok signature.items
+signed_by (Err fault) = Err fault
+
+-- a count of faults after one more, of 64 bits
+abbrev pub next_count : ℕ → ℕ
+next_count count = (count + 1) % 2 ^ 64
+
+-- the count of faults after a call: only a failed one counts
+abbrev pub count_after : {A : Type 0} → Result A SignerFault → ℕ → ℕ
+count_after (Ok signature) count = count
+count_after (Err Failed) count = next_count count
+count_after (Err Memory) count = count

@@ -1,0 +1,95 @@
+//! Encodings of values of any length, from the inside outwards.
+ghost use Rattle.std.specs.Prelude.{◌≡◌, ◌++◌, ◌<◌, ◌≤◌, length, OnOk, IfOk};
+ghost use Rattle.std.specs.Int.Digits.{digits_of};
+ghost use Rattle.der.specs.Node.{element, length_octets};
+
+use der::Tag;
+use std::alloc::{AllocError, Global};
+
+/// How many digits a number other than 0 has in base 256.
+#[tactic(auto, using(crate::proofs::Digits::digit_count_last, crate::proofs::Digits::digit_count_one, crate::proofs::Digits::digit_count_few))]
+fn digit_count(n: usize) -> u8
+    requires { 0 < n }
+    ensures count { result ≡ length (digits_of 256 n) }
+    ensures few { result ≤ 8 }
+{
+    if n < 256 { 1 } else { digit_count(n / 256) + 1 }
+}
+
+/// Appends a number's digits in base 256, the highest first.
+#[tactic(auto, using(crate::proofs::Digits::digits_of_last, crate::proofs::Digits::digits_of_one))]
+fn append_digits(octets: &mut Vec<u8>, n: usize) -> Result<(), AllocError>
+    requires { 0 < n }
+    ensures { OnOk result (octets.new.items ≡ octets.old.items ++ digits_of 256 n) }
+{
+    if n < 256 {
+        octets.push(n as u8)?;
+        return Ok(());
+    }
+    append_digits(octets, n / 256)?;
+    octets.push((n % 256) as u8)?;
+    Ok(())
+}
+
+/// Appends the length octets of so many contents octets (X.690 8.1.3, 10.1).
+#[tactic(auto, using(crate::proofs::Digits::length_octets_short, crate::proofs::Digits::length_octets_long))]
+fn append_length(octets: &mut Vec<u8>, count: usize) -> Result<(), AllocError>
+    ensures { OnOk result (octets.new.items ≡ octets.old.items ++ length_octets count) }
+{
+    if count < 128 {
+        octets.push(count as u8)?;
+        return Ok(());
+    }
+    octets.push(128 + digit_count(count))?;
+    append_digits(octets, count)?;
+    Ok(())
+}
+
+/// Appends a value with these contents octets.
+pub(crate) fn append_element(
+    octets: &mut Vec<u8>,
+    tag: Tag,
+    contents: &[u8],
+) -> Result<(), AllocError>
+    ensures { OnOk result (octets.new.items ≡ octets.old.items ++ element tag.octet contents.now) }
+{
+    octets.push(tag.octet)?;
+    append_length(octets, contents.len())?;
+    octets.extend_from_slice(contents)?;
+    Ok(())
+}
+
+/// A value with these contents octets.
+pub(crate) fn element_of(alloc: Global, tag: Tag, contents: &[u8]) -> Result<Vec<u8>, AllocError>
+    ensures { IfOk result (λ octets. octets.items ≡ element tag.octet contents.now) }
+{
+    let mut octets = Vec::new(alloc);
+    append_element(&mut octets, tag, contents)?;
+    Ok(octets)
+}
+
+#[cfg(test)]
+mod tests {
+    use super::*;
+    use std::test::Fail;
+
+    // As X.690 8.1.3 and 10.1 want them.
+    #[test]
+    fn writes_length_octets(rt: HostRuntime) -> Result<(), Fail> {
+        let cases: [(usize, &[u8]); 7] = [
+            (0, &[0x00]),
+            (127, &[0x7f]),
+            (128, &[0x81, 0x80]),
+            (201, &[0x81, 0xc9]),
+            (256, &[0x82, 0x01, 0x00]),
+            (16_777_216, &[0x84, 0x01, 0x00, 0x00, 0x00]),
+            (usize::MAX, &[0x88, 255, 255, 255, 255, 255, 255, 255, 255]),
+        ];
+        for (count, wanted) in cases {
+            let mut octets = Vec::new(rt.alloc());
+            append_length(&mut octets, count)?;
+            assert_eq!(rt; octets.as_slice(), wanted, "{count}");
+        }
+        Ok(())
+    }
+}

@@ -1,0 +1,96 @@
+ghost use Rattle.std.specs.Prelude.{◌≡◌, ℕ, List, [], ◌∷◌, IfOk, IfErr};
+ghost use Rattle.cms.specs.declared.fault.CmsFault.TheVariants.{Memory};
+
+use crate::algorithm::Algorithm;
+use crate::fault::CmsFault;
+use crate::signer::{Signer, SignerFault};
+use sha2::{Digest, Sha256};
+use std::alloc::Global;
+use std::marker::Model;
+
+/// A stand-in for a signer, for tests and first steps: its answer is SHA-256 of its key followed by the text. It is no
+/// signature, and protects nothing.
+#[derive(Debug, Drop)]
+pub struct KeyedHash {
+    alloc: Global,
+    key: Vec<u8>,
+    algorithm: Algorithm,
+}
+
+impl Model for KeyedHash {
+    ghost use Rattle.std.specs.Prelude.{◌≡◌, ℕ, List};
+    ghost use Rattle.cms.specs.KeyedHash.{keyed_hash_algorithm};
+
+    ghost Value = { List ℕ };
+
+    ghost view = { λ signer. signer.key.items };
+
+    ghost invariant = { λ signer. signer.algorithm ≡ keyed_hash_algorithm };
+}
+
+impl KeyedHash {
+    /// A signer with that key. It keeps the allocator for its answers. Refused only for want of memory, as `Memory`.
+    pub fn new(alloc: Global, key: &[u8]) -> Result<KeyedHash, CmsFault>
+        ensures key { IfOk result (λ signer. signer ≡ key.now) }
+        ensures memory { IfErr result (λ fault. fault ≡ Memory) }
+    {
+        let mut octets = Vec::new(alloc);
+        octets.extend_from_slice(&[0x30, 0x05, 0x06, 0x03, 0x88, 0x37, 0x09])?;
+        let mut copy = Vec::new(alloc);
+        copy.extend_from_slice(key)?;
+        Ok(KeyedHash {
+            alloc,
+            key: copy,
+            algorithm: Algorithm { octets },
+        })
+    }
+}
+
+impl Signer for KeyedHash {
+    ghost use Rattle.cms.specs.KeyedHash.{SignsByHash, keyed_hash_algorithm};
+
+    ghost signs = { SignsByHash };
+
+    ghost fault_count = { λ _. 0 };
+
+    ghost algorithm_octets = { λ _. keyed_hash_algorithm };
+
+    fn sign(&mut self, text: &[u8]) -> Result<Vec<u8>, SignerFault> {
+        let mut hasher = Sha256::new();
+        hasher.update(self.key.as_slice());
+        hasher.update(text);
+        let digest = hasher.finalize();
+        let mut signature = Vec::new(self.alloc);
+        signature.extend_from_slice(&digest)?;
+        Ok(signature)
+    }
+
+    fn algorithm(&self) -> &Algorithm {
+        &self.algorithm
+    }
+
+    fn faults(&self) -> u64 {
+        0
+    }
+}
+
+#[cfg(test)]
+mod tests {
+    use super::*;
+    use std::test::Fail;
+
+    // The digest is python3's hashlib.sha256(b"k" + b"abc").
+    #[test]
+    fn hashes_key_and_text(rt: HostRuntime) -> Result<(), Fail> {
+        let mut signer = KeyedHash::new(rt.alloc(), b"k")?;
+        let algorithm = b"\x30\x05\x06\x03\x88\x37\x09";
+        assert_eq!(rt; signer.algorithm().as_slice(), algorithm.as_slice());
+        let digest =
+            b"\xf7\x8a\x7b\x4e\x8a\x17\x04\xb4\x57\x87\x0d\xe7\xf2\xb5\xe5\x49\xa2\x86\xde\xc0\x91\xf0\x30\x57\xd9\xd8\x72\x9a\x9b\xc1\x01\xcc";
+        for _ in 0..2 {
+            assert_eq!(rt; signer.sign(b"abc")?.as_slice(), digest.as_slice());
+        }
+        assert_eq!(rt; signer.faults(), 0);
+        Ok(())
+    }
+}

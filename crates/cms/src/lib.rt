@@ -1,0 +1,17 @@
+//! Time-stamp tokens in the Cryptographic Message Syntax (RFC 5652, RFC 3161 2.4.2, RFC 5816), and who signs them.
+#![tactic(auto)]
+
+mod algorithm;
+mod encode;
+mod fault;
+mod identity;
+mod keyed_hash;
+mod signed_data;
+mod signer;
+
+pub use algorithm::Algorithm;
+pub use fault::CmsFault;
+pub use identity::Identity;
+pub use keyed_hash::KeyedHash;
+pub use signed_data::{attribute_text, token};
+pub use signer::{Signer, SignerFault};
