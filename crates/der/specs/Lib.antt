@@ -1,3 +1,5 @@
+pub mod DataValue
+pub mod DataValueView
 pub mod Fault
 pub mod Node
 pub mod Number

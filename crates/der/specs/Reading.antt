@@ -87,3 +87,13 @@ unfoldable pub tree_of : List ℕ → Result Node DerFault
 tree_of octets = do
   found ← node_at 32 octets
   if length found.1 == 0 then Ok found.0 else Err Trailing
+
+-- the value at the front as far as its own octets go, where it is under that identifier octet
+unfoldable pub expected_at : ℕ → List ℕ → Result Piece DerFault
+expected_at wanted octets = do
+  piece ← element_at octets
+  if piece.identifier == wanted then Ok piece else Err WrongKind
+
+-- the values that octets are, one after the other, of at most that many levels
+unfoldable pub values_at : ℕ → List ℕ → Result Nodes DerFault
+values_at levels octets = nodes_with (node_at levels) (length octets) octets

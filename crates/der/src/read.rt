@@ -15,10 +15,10 @@ const MAX_LEVELS: u8 = 32;
 
 /// The front of octets: a value's identifier octet and contents octets, and the octets after it.
 #[derive(Clone, Copy)]
-struct Piece<'a> {
-    tag: Tag,
-    contents: &'a [u8],
-    rest: &'a [u8],
+pub(crate) struct Piece<'a> {
+    pub(crate) tag: Tag,
+    pub(crate) contents: &'a [u8],
+    pub(crate) rest: &'a [u8],
 }
 
 /// The identifier octet, and the octets after it.
@@ -85,7 +85,7 @@ fn read_length(bytes: &[u8]) -> Result<(usize, &[u8]), DerFault>
 
 /// Identifier and contents of the value at the front, and the octets after it, whatever the contents are.
 #[tactic(auto, unfolding(crate::specs::Reading::element_at, crate::specs::Reading::contents_at))]
-fn read_element(bytes: &[u8]) -> Result<Piece<'_>, DerFault>
+pub(crate) fn read_element(bytes: &[u8]) -> Result<Piece<'_>, DerFault>
     ensures read { Gives piece_view result (element_at bytes.now) }
     ensures shorter { IfOk result (λ piece. length piece.rest.now < length bytes.now) }
 {

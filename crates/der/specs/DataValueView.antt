@@ -1,0 +1,11 @@
+-- The values that a `DataValue` and `DataValues` are.
+use Rattle.der.specs.Node.{Node, Nodes}
+use Rattle.der.specs.DataValue.{value_in, values_in}
+use Rattle.der.specs.declared.data_value.DataValue.{DataValue}
+use Rattle.der.specs.declared.data_value.DataValues.{DataValues}
+
+abbrev pub value_view : DataValue → Node
+value_view value = value_in value.element.whole.now
+
+abbrev pub values_view : DataValues → Nodes
+values_view values = values_in values.rest.now
