@@ -17,3 +17,6 @@ pub mod ReadingRuns
 pub mod ReadingTree
 pub mod EncodingBounds
 pub mod TreeViews
+pub mod ValuesRead
+pub mod ValuesTaken
+pub mod Elements

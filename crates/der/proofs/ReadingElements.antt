@@ -10,7 +10,7 @@ use Rattle.der.proofs.Octets.{AreOctets-parts}
 use Rattle.der.proofs.ReadingSteps.{ok_is, else_ok, bind_ok}
 use Rattle.der.proofs.ReadingLengths.{length_at-length_octets, length_at_reads}
 
-abbrev piece : ℕ → List ℕ → List ℕ → Piece
+abbrev pub piece : ℕ → List ℕ → List ℕ → Piece
 piece identifier contents rest = record { identifier = identifier; contents = contents; rest = rest }
 
 low_tag : (identifier : ℕ) (rest : List ℕ) → identifier % 32 < 31 → identifier_at (identifier ∷ rest) ≡ Ok (identifier, rest)

@@ -17,7 +17,7 @@ ReadsWritten k = (n : Node) (rest : List ℕ) → IsFormed n → levels n ≤ k 
 abbrev Reader : Type 0
 Reader = List ℕ → Result (Node × List ℕ) DerFault
 
-nodes_with_none : (one : Reader) (k : ℕ) → nodes_with one k [] ≡ Ok no_nodes
+pub nodes_with_none : (one : Reader) (k : ℕ) → nodes_with one k [] ≡ Ok no_nodes
 unfolding nodes_with
 nodes_with_none one zero = refl
 nodes_with_none one (suc k) = refl
@@ -27,7 +27,7 @@ unfolding nodes_with
 nodes_with_more one k [] n rest others some first later = absurd (omega arith)
 nodes_with_more one k (octet ∷ octets) n rest others some first later = rw (first, later) refl
 
-encoding_some : (n : Node) → 0 < length (encoding n)
+pub encoding_some : (n : Node) → 0 < length (encoding n)
 encoding_some (primitive identifier contents) = omega arith
 encoding_some (constructed identifier components) = omega arith
 
@@ -35,7 +35,7 @@ levels_some : (n : Node) → 0 < levels n
 levels_some (primitive identifier contents) = omega arith
 levels_some (constructed identifier components) = omega arith
 
-nodes_written : (k : ℕ) → ReadsWritten k → (ns : Nodes) (count : ℕ) → AreFormed ns → levels_of ns ≤ k → length (encodings ns) ≤ count → nodes_with (node_at k) count (encodings ns) ≡ Ok ns
+pub nodes_written : (k : ℕ) → ReadsWritten k → (ns : Nodes) (count : ℕ) → AreFormed ns → levels_of ns ≤ k → length (encodings ns) ≤ count → nodes_with (node_at k) count (encodings ns) ≡ Ok ns
 nodes_written k reads no_nodes count formed deep enough = nodes_with_none (node_at k) count
 nodes_written k reads (node first others) zero formed deep enough =
     absurd (omega (arith, length-append (encoding first) (encodings others), encoding_some first))
@@ -71,7 +71,7 @@ pub record ReadsNodes (k : ℕ) (octets : List ℕ) (ns : Nodes) : Type 0 where
 abbrev ReadsBack : ℕ → Type 0
 ReadsBack k = (octets : List ℕ) (n : Node) (rest : List ℕ) → AreOctets octets → node_at k octets ≡ Ok (n, rest) → ReadsNode k octets n rest
 
-nodes_read : (k : ℕ) → ReadsBack k → (count : ℕ) (octets : List ℕ) (ns : Nodes) → AreOctets octets → nodes_with (node_at k) count octets ≡ Ok ns → ReadsNodes k octets ns
+pub nodes_read : (k : ℕ) → ReadsBack k → (count : ℕ) (octets : List ℕ) (ns : Nodes) → AreOctets octets → nodes_with (node_at k) count octets ≡ Ok ns → ReadsNodes k octets ns
 unfolding nodes_with
 nodes_read k reads zero [] ns bytes e =
     let P : Nodes → Type 0 = λ found. ReadsNodes k [] found in subst P (ok_is no_nodes ns e) (record { all = refl; formed = tt; depth = omega arith })

@@ -35,7 +35,7 @@ after_found-push : (found : List Node) (n : Node) (r : Result Nodes DerFault) �
 after_found-push found n (Ok others) = ap Ok (sym (followed-push found n others))
 after_found-push found n (Err fault) = refl
 
-nodes_with_step : (one : Reader) (count : ℕ) (octets : List ℕ) (n : Node) (rest : List ℕ) → 0 < length octets → one octets ≡ Ok (n, rest) → nodes_with one (suc count) octets ≡ (nodes_with one count rest >>= λ others. Ok (node n others))
+pub nodes_with_step : (one : Reader) (count : ℕ) (octets : List ℕ) (n : Node) (rest : List ℕ) → 0 < length octets → one octets ≡ Ok (n, rest) → nodes_with one (suc count) octets ≡ (nodes_with one count rest >>= λ others. Ok (node n others))
 unfolding nodes_with
 nodes_with_step one count [] n rest some first = absurd (omega arith)
 nodes_with_step one count (octet ∷ octets) n rest some first = rw first refl
@@ -88,10 +88,26 @@ unfolding node_at
 node_at_step zero octets some = absurd (omega arith)
 node_at_step (suc levels) octets some = let less : suc levels - 1 ≡ levels = omega arith in rw less refl
 
+-- a fault is one
+Fails-is : {A : Type 0} (fault : DerFault) (r : Result A DerFault) → r ≡ Err fault → Fails fault r
+Fails-is Truncated r e = e
+Fails-is LengthForm r e = e
+Fails-is HighTag r e = e
+Fails-is WrongKind r e = e
+Fails-is TooDeep r e = e
+Fails-is TooLong r e = e
+Fails-is Trailing r e = e
+Fails-is BadValue r e = e
+Fails-is Memory r e = tt
+
 -- the value's own fault
-pub node_at_fails : (levels : ℕ) (octets : List ℕ) (fault : DerFault) → 0 < levels → Fails fault (element_at octets) → Fails fault (node_at levels octets)
-node_at_fails levels octets fault some fails =
-    Fails-along fault (element_at octets) (node_at levels octets) (λ e first. node_at_step levels octets some ∙ ap (λ found. found >>= node_of (node_at (levels - 1))) first) fails
+pub node_at_refused : (levels : ℕ) (octets : List ℕ) (fault : DerFault) → 0 < levels → element_at octets ≡ Err fault → node_at levels octets ≡ Err fault
+node_at_refused levels octets fault some first =
+    node_at_step levels octets some ∙ ap (λ found. found >>= node_of (node_at (levels - 1))) first
+
+pub node_at_fails : (levels : ℕ) (octets : List ℕ) (fault : DerFault) → 0 < levels → element_at octets ≡ Err fault → Fails fault (node_at levels octets)
+node_at_fails levels octets fault some first =
+    Fails-is fault (node_at levels octets) (node_at_refused levels octets fault some first)
 
 node_of_fails : (one : Reader) (found : Piece) (e : DerFault) → (bit_six found.identifier == 1) ≡ true → nodes_with one (length found.contents) found.contents ≡ Err e → node_of one found ≡ Err e
 unfolding node_of
@@ -109,9 +125,13 @@ at_piece : (levels : ℕ) (octets : List ℕ) (found : Piece) → 0 < levels →
 at_piece levels octets found some first = node_at_step levels octets some ∙ ap (λ read. read >>= node_of (node_at (levels - 1))) first
 
 -- a fault of the values inside
+pub node_at_inner_refused : (levels : ℕ) (octets : List ℕ) (found : Piece) (fault : DerFault) → 0 < levels → element_at octets ≡ Ok found → (bit_six found.identifier == 1) ≡ true → nodes_with (node_at (levels - 1)) (length found.contents) found.contents ≡ Err fault → node_at levels octets ≡ Err fault
+node_at_inner_refused levels octets found fault some first bit inner =
+    at_piece levels octets found some first ∙ node_of_fails (node_at (levels - 1)) found fault bit inner
+
 pub node_at_inner_fails : (levels : ℕ) (octets : List ℕ) (found : Piece) (fault : DerFault) → 0 < levels → element_at octets ≡ Ok found → (bit_six found.identifier == 1) ≡ true → Fails fault (nodes_with (node_at (levels - 1)) (length found.contents) found.contents) → Fails fault (node_at levels octets)
 node_at_inner_fails levels octets found fault some first bit fails =
-    Fails-along fault (nodes_with (node_at (levels - 1)) (length found.contents) found.contents) (node_at levels octets) (λ e inner. at_piece levels octets found some first ∙ node_of_fails (node_at (levels - 1)) found e bit inner) fails
+    Fails-along fault (nodes_with (node_at (levels - 1)) (length found.contents) found.contents) (node_at levels octets) (λ e inner. node_at_inner_refused levels octets found e some first bit inner) fails
 
 -- values are inside
 pub node_at_constructed : (levels : ℕ) (octets : List ℕ) (found : Piece) (ns : Nodes) → 0 < levels → element_at octets ≡ Ok found → (bit_six found.identifier == 1) ≡ true → nodes_with (node_at (levels - 1)) (length found.contents) found.contents ≡ Ok ns → node_at levels octets ≡ Ok (constructed found.identifier ns, found.rest)

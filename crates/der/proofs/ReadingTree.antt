@@ -21,7 +21,8 @@ unfolding tree_of
 tree_of_more octets n rest found some =
     let test : (length rest == 0) ≡ false = ne_eqb (length rest) 0 (λ e. omega arith) in rw (found, test) refl
 
-tree_of_no_node : (octets : List ℕ) (e : DerFault) → node_at 32 octets ≡ Err e → tree_of octets ≡ Err e
+-- no value is read
+pub tree_of_no_node : (octets : List ℕ) (e : DerFault) → node_at 32 octets ≡ Err e → tree_of octets ≡ Err e
 unfolding tree_of
 tree_of_no_node octets e found = rw found refl
 
@@ -43,3 +44,8 @@ not_found Memory n r fails found = refl
 pub refused_lawful : (octets : List ℕ) (fault : DerFault) (n : Node) → Fails fault (tree_of octets) → IsLawful n → octets ≡ encoding n → fault ≡ Memory
 refused_lawful octets fault n fails lawful same =
     not_found fault n (tree_of octets) fails (ap tree_of same ∙ tree_of-encoding n lawful)
+
+-- octets that are refused are no lawful value's encoding
+pub refused : (octets : List ℕ) (fault : DerFault) → tree_of octets ≡ Err fault → (n : Node) → IsLawful n → octets ≡ encoding n → ⊥
+refused octets fault fails n lawful same =
+    err_is_not fault n (sym fails ∙ (ap tree_of same ∙ tree_of-encoding n lawful))

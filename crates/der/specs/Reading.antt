@@ -26,6 +26,11 @@ abbrev pub Gives : {X Y : Type 0} → (X → Y) → Result X DerFault → Result
 Gives view (Ok x) read = read ≡ Ok (view x)
 Gives view (Err e) read = Fails e read
 
+-- What a function returned, seen by a view, is what reading gives.
+abbrev pub Reads : {X Y : Type 0} → (X → Y) → Result X DerFault → Result Y DerFault → Type 0
+Reads view (Ok x) read = read ≡ Ok (view x)
+Reads view (Err e) read = read ≡ Err e
+
 -- The number that the length octets at the front give, and the octets after them (X.690 8.1.3.4, 8.1.3.5, 10.1).
 unfoldable pub long_length : List ℕ → List ℕ → Result (ℕ × List ℕ) DerFault
 long_length octets rest =

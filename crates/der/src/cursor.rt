@@ -1,5 +1,5 @@
 //! Reading octets one element after the other, where they lie.
-ghost use Rattle.std.specs.Prelude.{◌≡◌, ℕ, ◌<◌, ◌^◌, ◌↔◌, List, [], ◌++◌, length, Err, IfOk, IfErr, OnErr, MatchResult, IsTrue};
+ghost use Rattle.std.specs.Prelude.{◌≡◌, ℕ, ◌%◌, ◌<◌, ◌^◌, ◌↔◌, List, [], ◌++◌, length, Err, IfOk, IfErr, OnErr, MatchResult, IsTrue};
 ghost use Rattle.der.specs.Node.{element, AreOctets, IsLowTag};
 ghost use Rattle.der.specs.Reading.{element_at, expected_at};
 
@@ -23,7 +23,7 @@ pub struct Element<'a> {
 }
 
 /// Octets from which one element after the other is taken. Takes no memory. A refused call leaves it as it was.
-#[derive(Debug)]
+#[derive(Debug, Drop)]
 pub struct Cursor<'a> {
     rest: &'a [u8],
 }
@@ -79,12 +79,12 @@ impl<'a> Cursor<'a> {
         ensures refusals { IfErr result (λ fault. expected_at tag.octet self.old ≡ Err fault) }
         ensures kept { OnErr result (self.new ≡ self.old) }
     {
-        let found = element_at_front(self.rest)?;
+        let before = self.rest;
+        let found = self.next()?;
         if found.tag != tag {
+            self.rest = before;
             return Err(DerFault::WrongKind);
         }
-        let (_, rest) = self.rest.split_at(found.whole.len());
-        self.rest = rest;
         Ok(found)
     }
 
@@ -100,7 +100,7 @@ impl<'a> Cursor<'a> {
 pub(crate) fn element_at_front(octets: &[u8]) -> Result<Element<'_>, DerFault>
     ensures front { IfOk result (λ found. (rest : List ℕ) × (octets.now ≡ found.whole.now ++ rest)) }
     ensures octets { IfOk result (λ found. AreOctets found.content.now) }
-    ensures only { (identifier : ℕ) (contents rest : List ℕ) → IsLowTag identifier → length contents < 2 ^ 24
+    ensures only { (identifier : ℕ) (contents rest : List ℕ) → identifier % 32 < 31 → length contents < 2 ^ 24
         → octets.now ≡ element identifier contents ++ rest
         → MatchResult result (λ found. (found.tag.octet ≡ identifier) × (found.content.now ≡ contents)) (λ fault. ⊥) }
     ensures refusals { IfErr result (λ fault. element_at octets.now ≡ Err fault) }
@@ -124,3 +124,6 @@ pub fn elements_have_one_beginning()
         → length others < 2 ^ 24 → element i contents ++ x ≡ element j others ++ y
         → (i ≡ j) × (contents ≡ others) × (x ≡ y) }
 {}
+
+#[cfg(test)]
+mod tests;

@@ -3,7 +3,7 @@ ghost use Rattle.std.specs.Prelude.{◌≡◌, ℕ, ◌≤◌, ◌<◌, ◌+◌,
 ghost use Rattle.der.specs.Node.{Node, encoding, IsLawful};
 ghost use Rattle.der.specs.Piece.{piece_view};
 ghost use Rattle.der.specs.Tree.{view, nodes, IsRead};
-ghost use Rattle.der.specs.Reading.{Gives, Fails, long_length, length_at, identifier_at, element_at, node_at, nodes_with, tree_of};
+ghost use Rattle.der.specs.Reading.{Gives, Reads, Fails, long_length, length_at, identifier_at, element_at, node_at, nodes_with, tree_of};
 
 use crate::fault::DerFault;
 use crate::tag::Tag;
@@ -11,7 +11,7 @@ use crate::tree::Tree;
 use std::alloc::Global;
 
 /// How many levels a value may have; itself is one.
-const MAX_LEVELS: u8 = 32;
+pub(crate) const MAX_LEVELS: u8 = 32;
 
 /// The front of octets: a value's identifier octet and contents octets, and the octets after it.
 #[derive(Clone, Copy)]
@@ -24,7 +24,7 @@ pub(crate) struct Piece<'a> {
 /// The identifier octet, and the octets after it.
 #[tactic(auto, unfolding(crate::specs::Reading::identifier_at))]
 fn read_identifier(bytes: &[u8]) -> Result<(Tag, &[u8]), DerFault>
-    ensures read { Gives (λ found. (found.0.octet, found.1.now)) result (identifier_at bytes.now) }
+    ensures read { Reads (λ found. (found.0.octet, found.1.now)) result (identifier_at bytes.now) }
     ensures shorter { IfOk result (λ found. length found.1.now < length bytes.now) }
 {
     match bytes {
@@ -40,7 +40,7 @@ fn read_identifier(bytes: &[u8]) -> Result<(Tag, &[u8]), DerFault>
 /// of them is not 0 and the number is at least 128 (X.690 8.1.3.5, 10.1).
 #[tactic(auto, unfolding(crate::specs::Reading::long_length))]
 fn long_length(octets: &[u8]) -> Result<usize, DerFault>
-    ensures { (rest : List ℕ) → Gives (λ count. (count, rest)) result (long_length octets.now rest) }
+    ensures { (rest : List ℕ) → Reads (λ count. (count, rest)) result (long_length octets.now rest) }
 {
     let [first, others @ ..] = octets else {
         return Err(DerFault::LengthForm);
@@ -61,7 +61,7 @@ fn long_length(octets: &[u8]) -> Result<usize, DerFault>
 /// How many contents octets there are, by the length octets at the front, and the octets after those.
 #[tactic(auto, unfolding(crate::specs::Reading::length_at))]
 fn read_length(bytes: &[u8]) -> Result<(usize, &[u8]), DerFault>
-    ensures read { Gives (λ found. (found.0, found.1.now)) result (length_at bytes.now) }
+    ensures read { Reads (λ found. (found.0, found.1.now)) result (length_at bytes.now) }
     ensures shorter { IfOk result (λ found. length found.1.now < length bytes.now) }
 {
     match bytes {
@@ -86,7 +86,7 @@ fn read_length(bytes: &[u8]) -> Result<(usize, &[u8]), DerFault>
 /// Identifier and contents of the value at the front, and the octets after it, whatever the contents are.
 #[tactic(auto, unfolding(crate::specs::Reading::element_at, crate::specs::Reading::contents_at))]
 pub(crate) fn read_element(bytes: &[u8]) -> Result<Piece<'_>, DerFault>
-    ensures read { Gives piece_view result (element_at bytes.now) }
+    ensures read { Reads piece_view result (element_at bytes.now) }
     ensures shorter { IfOk result (λ piece. length piece.rest.now < length bytes.now) }
 {
     let (tag, rest) = read_identifier(bytes)?;

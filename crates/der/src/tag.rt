@@ -14,16 +14,12 @@ impl Tag {
     pub const BOOLEAN: Tag = Tag { octet: 0x01 };
     /// INTEGER (X.690 8.3).
     pub const INTEGER: Tag = Tag { octet: 0x02 };
-    /// BIT STRING (X.690 8.6).
-    pub const BIT_STRING: Tag = Tag { octet: 0x03 };
     /// OCTET STRING (X.690 8.7).
     pub const OCTET_STRING: Tag = Tag { octet: 0x04 };
     /// NULL (X.690 8.8).
     pub const NULL: Tag = Tag { octet: 0x05 };
     /// OBJECT IDENTIFIER (X.690 8.19).
     pub const OBJECT_IDENTIFIER: Tag = Tag { octet: 0x06 };
-    /// UTF8String (X.690 8.23).
-    pub const UTF8_STRING: Tag = Tag { octet: 0x0c };
     /// GeneralizedTime (X.690 8.25, 11.7).
     pub const GENERALIZED_TIME: Tag = Tag { octet: 0x18 };
     /// SEQUENCE and SEQUENCE OF (X.690 8.9, 8.10).

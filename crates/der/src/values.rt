@@ -5,13 +5,11 @@ ghost use Rattle.der.specs.Reading.{node_at, values_at, tree_of};
 ghost use Rattle.der.specs.DataValue.{AreEncodings, is_value, are_values, value_in, values_in};
 ghost use Rattle.der.specs.DataValueView.{value_view, values_view};
 
-use crate::cursor::{Element, element_at_front};
+use crate::cursor::element_at_front;
 use crate::data_value::{DataValue, DataValues};
 use crate::fault::DerFault;
+use crate::read::{MAX_LEVELS, Piece, read_element};
 use crate::tag::Tag;
-
-/// How many levels a value may have; itself is one.
-const MAX_LEVELS: u8 = 32;
 
 /// Whether octets are the encodings of values, one after the other, of at most that many levels: `Ok` where they are,
 /// else their first fault, as `read_tree` orders them (`TooDeep` for a value on a level too many). Takes no memory.
@@ -19,9 +17,41 @@ pub fn check_values(levels: u8, octets: &[u8]) -> Result<(), DerFault>
     ensures found { (result ≡ Ok tt) ↔ AreEncodings levels octets.now }
     ensures refusals { IfErr result (λ fault. values_at levels octets.now ≡ Err fault) }
 {
-    let _ = levels;
-    let _ = octets;
+    skip_values(levels, octets)
+}
+
+/// Goes over values, one after the other, until the octets end.
+#[cycle(skip)]
+fn skip_values(levels: u8, octets: &[u8]) -> Result<(), DerFault>
+    ensures { MatchResult result (λ _. (ns : Nodes) × (values_at levels octets.now ≡ Ok ns))
+        (λ fault. values_at levels octets.now ≡ Err fault) }
+{
+    let mut rest = octets;
+    while !rest.is_empty() {
+        rest = skip_value(levels, rest)?;
+    }
     Ok(())
+}
+
+/// The octets after the value at the front, which has at most that many levels.
+#[cycle(skip)]
+fn skip_value(levels: u8, octets: &[u8]) -> Result<&[u8], DerFault>
+    ensures { MatchResult result (λ rest. (n : Node) × (node_at levels octets.now ≡ Ok (n, rest.now)))
+        (λ fault. node_at levels octets.now ≡ Err fault) }
+{
+    if levels == 0 {
+        return Err(DerFault::TooDeep);
+    }
+    let Piece {
+        tag,
+        contents,
+        rest,
+    } = read_element(octets)?;
+    if !tag.is_constructed() {
+        return Ok(rest);
+    }
+    skip_values(levels - 1, contents)?;
+    Ok(rest)
 }
 
 /// Reads the value that octets are, where it lies: a value of at most 32 levels, with nothing after it (X.690 8.1, 10.1).
@@ -31,13 +61,11 @@ pub fn read_value(octets: &[u8]) -> Result<DataValue<'_>, DerFault>
     ensures only { (n : Node) → IsLawful n → octets.now ≡ encoding n → MatchResult result (λ value. value_view value ≡ n) (λ fault. ⊥) }
     ensures refusals { IfErr result (λ fault. tree_of octets.now ≡ Err fault) }
 {
-    let element = element_at_front(octets)?;
-    if element.tag.is_constructed() {
-        check_values(MAX_LEVELS - 1, element.content)?;
-    }
-    if element.whole.len() < octets.len() {
+    let rest = skip_value(MAX_LEVELS, octets)?;
+    if !rest.is_empty() {
         return Err(DerFault::Trailing);
     }
+    let element = element_at_front(octets)?;
     Ok(DataValue { element })
 }
 
@@ -61,28 +89,28 @@ impl<'a> DataValue<'a> {
     pub fn contents_under(&self, tag: Tag) -> Option<&'a [u8]>
         ensures { option_map (λ contents. contents.now) result ≡ contents_of tag.octet (value_view self.now) }
     {
-        let Element {
-            tag: found,
-            content,
-            ..
-        } = self.element;
-        (found == tag && !tag.is_constructed()).then_some(content)
+        if self.element.tag != tag {
+            return None;
+        }
+        if tag.is_constructed() {
+            return None;
+        }
+        Some(self.element.content)
     }
 
     /// The values inside a value under that tag; none where the value is under another tag, or has contents octets alone.
     pub fn components_under(&self, tag: Tag) -> Option<DataValues<'a>>
         ensures { option_map values_view result ≡ components_of tag.octet (value_view self.now) }
     {
-        let Element {
-            tag: found,
-            content,
-            ..
-        } = self.element;
-        if found == tag && tag.is_constructed() {
-            Some(DataValues { rest: content })
-        } else {
-            None
+        if self.element.tag != tag {
+            return None;
         }
+        if !tag.is_constructed() {
+            return None;
+        }
+        Some(DataValues {
+            rest: self.element.content,
+        })
     }
 }
 
@@ -99,7 +127,9 @@ impl<'a> DataValues<'a> {
         ensures first { option_map (λ value. (value_view value, values_view self.new)) result ≡ first_of (values_view self.old) }
         ensures none { IsNone result → self.new ≡ self.old }
     {
-        let element = element_at_front(self.rest).ok()?;
+        let Ok(element) = element_at_front(self.rest) else {
+            return None;
+        };
         let (_, rest) = self.rest.split_at(element.whole.len());
         *self = DataValues { rest };
         Some(DataValue { element })
@@ -111,7 +141,9 @@ impl<'a> DataValues<'a> {
         ensures left { values_view self.new ≡ (take_under tag.octet (values_view self.old)).1 }
     {
         let mut later = *self;
-        let first = later.next()?;
+        let Some(first) = later.next() else {
+            return None;
+        };
         if first.tag() != tag {
             return None;
         }
@@ -136,3 +168,6 @@ pub fn encodings_are_read()
     ensures all_lawful { (octets : List ℕ) → are_values octets ≡ true
         → AreFormed (values_in octets) × (levels_of (values_in octets) ≤ 32) × (octets ≡ encodings (values_in octets)) }
 {}
+
+#[cfg(test)]
+mod tests;

@@ -57,16 +57,22 @@ impl Writer {
         ensures too_long { (result ≡ Err TooLong) ↔ (2 ^ 24 ≤ length self.old) }
         ensures refusals { IfErr result (λ e. (e ≡ TooLong) ⊎ (e ≡ Memory)) }
     {
-        let count = self.octets.len();
-        if count >= 1 << 24 {
-            return Err(DerFault::TooLong);
-        }
-        let mut wrapped = Vec::with_capacity(self.alloc, count + 5)?;
-        wrapped.push(tag.octet)?;
-        push_length(&mut wrapped, count as u32)?;
-        wrapped.extend_from_slice(&self.octets)?;
-        self.octets = wrapped;
+        self.octets = encoded_element(self.alloc, tag, &self.octets)?;
         Ok(())
+    }
+
+    /// Puts one value after the octets written so far: the identifier octet, the fewest length octets, and the contents
+    /// octets (X.690 8.1.1, 8.1.3, 10.1).
+    ///
+    /// Refused as `TooLong` exactly where there are 2^24 contents octets or more, and else only for want of memory.
+    pub fn append_element(&mut self, tag: Tag, contents: &[u8]) -> Result<(), DerFault>
+        ensures ok { OnOk result (self.new ≡ self.old ++ element tag.octet contents.now) }
+        ensures err { OnErr result (self.new ≡ self.old) }
+        ensures too_long { (result ≡ Err TooLong) ↔ (2 ^ 24 ≤ length contents.now) }
+        ensures refusals { IfErr result (λ e. (e ≡ TooLong) ⊎ (e ≡ Memory)) }
+    {
+        let encoded = encoded_element(self.alloc, tag, contents)?;
+        self.append(&encoded)
     }
 
     /// Puts a value's encoding after the octets written so far (X.690 8.1, 10.1).
@@ -152,6 +158,23 @@ impl Writer {
         let Writer { octets, .. } = self;
         octets
     }
+}
+
+/// One value's encoding: its identifier octet, the fewest length octets, and its contents octets.
+fn encoded_element(alloc: Global, tag: Tag, contents: &[u8]) -> Result<Vec<u8>, DerFault>
+    ensures ok { IfOk result (λ encoded. encoded.items ≡ element tag.octet contents.now) }
+    ensures too_long { (result ≡ Err TooLong) ↔ (2 ^ 24 ≤ length contents.now) }
+    ensures refusals { IfErr result (λ e. (e ≡ TooLong) ⊎ (e ≡ Memory)) }
+{
+    let count = contents.len();
+    if count >= 1 << 24 {
+        return Err(DerFault::TooLong);
+    }
+    let mut encoded = Vec::with_capacity(alloc, count + 5)?;
+    encoded.push(tag.octet)?;
+    push_length(&mut encoded, count as u32)?;
+    encoded.extend_from_slice(contents)?;
+    Ok(encoded)
 }
 
 /// Writes the length octets of that many contents octets: one octet below 128, else how many follow and then the number

@@ -1,5 +1,5 @@
 use super::read_tree;
-use crate::{DerFault, Tree};
+use crate::{DerFault, Tree, read_value};
 use std::alloc::Global;
 use std::test::Fail;
 
@@ -145,9 +145,11 @@ const ACCEPTED: &[&[u8]] = &[
 fn refuses_the_first_fault(rt: HostRuntime) {
     for (bytes, fault) in REFUSED {
         assert_eq!(rt; refusal(rt.alloc(), bytes), Some(*fault), "{bytes:?}");
+        assert_eq!(rt; read_value(bytes).err(), Some(*fault), "{bytes:?}");
     }
     for bytes in ACCEPTED {
         assert_eq!(rt; refusal(rt.alloc(), bytes), None, "{bytes:?}");
+        assert_eq!(rt; read_value(bytes).err(), None, "{bytes:?}");
     }
 }
 
@@ -175,6 +177,7 @@ fn refuses_level_33(rt: HostRuntime) -> Result<(), Fail> {
     ] {
         let octets = nested(rt.alloc(), levels, &last)?;
         assert_eq!(rt; refusal(rt.alloc(), &octets), fault, "{levels} {last:?}");
+        assert_eq!(rt; read_value(&octets).err(), fault, "{levels} {last:?}");
     }
     // the first level holds 48 octets, of which the second wants 48 after its own two
     let deep = vec![in rt.alloc(); 0x30u8; 60_000]?;

@@ -38,6 +38,12 @@ fn refuses_to_wrap_2_24_octets(rt: HostRuntime) -> Result<(), Fail> {
     writer.append(&octets)?;
     assert_eq!(rt; writer.wrap(Tag::SEQUENCE), Err(DerFault::TooLong));
     assert_eq!(rt; writer.len(), 1 << 24);
+    let mut element = Writer::new(rt.alloc());
+    assert_eq!(rt;
+        element.append_element(Tag::NULL, &octets),
+        Err(DerFault::TooLong)
+    );
+    assert!(rt; element.is_empty());
     let long = Tree::Primitive(Tag::OCTET_STRING, octets);
     let mut writer = Writer::new(rt.alloc());
     assert_eq!(rt; writer.append_tree(&long), Err(DerFault::TooLong));
@@ -57,10 +63,11 @@ fn sample(alloc: Global) -> Result<Tree, DerFault> {
     Ok(Tree::Constructed(Tag::SEQUENCE, components))
 }
 
-/// A NULL, and the sample after it.
+/// A NULL, an OCTET STRING, and the sample after them.
 fn written(alloc: Global) -> Result<Vec<u8>, DerFault> {
     let mut writer = Writer::new(alloc);
     writer.wrap(Tag::NULL)?;
+    writer.append_element(Tag::OCTET_STRING, &[0x1f, 0x80])?;
     writer.append_tree(&sample(alloc)?)?;
     Ok(writer.into_octets())
 }
@@ -68,7 +75,9 @@ fn written(alloc: Global) -> Result<Vec<u8>, DerFault> {
 /// Also for a run in which each allocation is refused in turn: the octets, or want of memory and nothing else.
 #[test]
 fn writes_values(rt: HostRuntime) {
-    let wanted = [0x05, 0x00, 0x30, 0x06, 0x02, 0x01, 0x01, 0x01, 0x01, 0xff];
+    let wanted = [
+        0x05, 0x00, 0x04, 0x02, 0x1f, 0x80, 0x30, 0x06, 0x02, 0x01, 0x01, 0x01, 0x01, 0xff,
+    ];
     match written(rt.alloc()) {
         Ok(octets) => assert_eq!(rt; octets.as_slice(), wanted.as_slice()),
         Err(fault) => assert_eq!(rt; fault, DerFault::Memory),
