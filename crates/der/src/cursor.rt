@@ -1,5 +1,6 @@
 //! Reading octets one element after the other, where they lie.
-ghost use Rattle.std.specs.Prelude.{◌≡◌, ℕ, ◌%◌, ◌<◌, ◌^◌, ◌↔◌, List, [], ◌++◌, length, Err, IfOk, IfErr, OnErr, MatchResult, IsTrue};
+ghost use Rattle.std.specs.Prelude.{◌≡◌, ℕ, ◌%◌, ◌<◌, ◌^◌, ◌↔◌, List, [], ◌++◌, length};
+ghost use Rattle.std.specs.Prelude.{Err, IfOk, IfErr, OnErr, MatchResult, IsTrue};
 ghost use Rattle.der.specs.Node.{element, AreOctets, IsLowTag};
 ghost use Rattle.der.specs.Reading.{element_at, expected_at};
 
@@ -47,8 +48,8 @@ impl<'a> Cursor<'a> {
         Cursor { rest: octets }
     }
 
-    /// Takes the element at the front: an identifier octet whose tag number is at most 30, the fewest length octets, and
-    /// fewer than 2^24 contents octets (X.690 8.1.2, 8.1.3, 10.1).
+    /// Takes the element at the front: an identifier octet whose tag number is at most 30, the fewest length octets,
+    /// and fewer than 2^24 contents octets (X.690 8.1.2, 8.1.3, 10.1).
     ///
     /// Refused with the first of these: `Truncated` where no identifier octet stands; `HighTag`; `LengthForm` for the
     /// length octet `80` or `FF`; `Truncated` where length octets are missing; `LengthForm` for more than the fewest of
@@ -58,7 +59,9 @@ impl<'a> Cursor<'a> {
         ensures octets { IfOk result (λ found. AreOctets found.content.now) }
         ensures only { (identifier : ℕ) (contents rest : List ℕ) → IsLowTag identifier → length contents < 2 ^ 24
             → self.old ≡ element identifier contents ++ rest
-            → MatchResult result (λ found. (found.tag.octet ≡ identifier) × (found.content.now ≡ contents) × (self.new ≡ rest)) (λ fault. ⊥) }
+            → MatchResult result
+            (λ found. (found.tag.octet ≡ identifier) × (found.content.now ≡ contents) × (self.new ≡ rest))
+            (λ fault. ⊥) }
         ensures refusals { IfErr result (λ fault. element_at self.old ≡ Err fault) }
         ensures kept { OnErr result (self.new ≡ self.old) }
     {
@@ -72,9 +75,11 @@ impl<'a> Cursor<'a> {
     ///
     /// Refused as `next` refuses, and with `WrongKind` where the element at the front is under another tag.
     pub fn expect(&mut self, tag: Tag) -> Result<Element<'a>, DerFault>
-        ensures found { IfOk result (λ found. (found.tag.octet ≡ tag.octet) × (self.old ≡ found.whole.now ++ self.new)) }
+        ensures found { IfOk result (λ found. self.old ≡ found.whole.now ++ self.new) }
+        ensures tag { IfOk result (λ found. found.tag.octet ≡ tag.octet) }
         ensures octets { IfOk result (λ found. AreOctets found.content.now) }
-        ensures only { (contents rest : List ℕ) → length contents < 2 ^ 24 → self.old ≡ element tag.octet contents ++ rest
+        ensures only { (contents rest : List ℕ) → length contents < 2 ^ 24
+            → self.old ≡ element tag.octet contents ++ rest
             → MatchResult result (λ found. (found.content.now ≡ contents) × (self.new ≡ rest)) (λ fault. ⊥) }
         ensures refusals { IfErr result (λ fault. expected_at tag.octet self.old ≡ Err fault) }
         ensures kept { OnErr result (self.new ≡ self.old) }
@@ -102,7 +107,8 @@ pub(crate) fn element_at_front(octets: &[u8]) -> Result<Element<'_>, DerFault>
     ensures octets { IfOk result (λ found. AreOctets found.content.now) }
     ensures only { (identifier : ℕ) (contents rest : List ℕ) → identifier % 32 < 31 → length contents < 2 ^ 24
         → octets.now ≡ element identifier contents ++ rest
-        → MatchResult result (λ found. (found.tag.octet ≡ identifier) × (found.content.now ≡ contents)) (λ fault. ⊥) }
+        → MatchResult result
+        (λ found. (found.tag.octet ≡ identifier) × (found.content.now ≡ contents)) (λ fault. ⊥) }
     ensures refusals { IfErr result (λ fault. element_at octets.now ≡ Err fault) }
 {
     let Piece {

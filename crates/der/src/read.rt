@@ -1,4 +1,4 @@
-//! Reading a value, or refusing octets at their first fault from the left.
+//! Reading a value, or refusing octets at their first fault.
 ghost use Rattle.std.specs.Prelude.{◌≡◌, ℕ, ◌≤◌, ◌<◌, ◌+◌, ◌*◌, List, length, map, IfOk, IfErr};
 ghost use Rattle.der.specs.Node.{Node, encoding, IsLawful};
 ghost use Rattle.der.specs.Piece.{piece_view};
@@ -143,11 +143,11 @@ fn read_nodes(alloc: Global, levels: u8, bytes: &[u8]) -> Result<Vec<Tree>, DerF
 
 /// Reads the value that octets are: a value of at most 32 levels, with nothing after it (X.690 8.1, 10.1).
 ///
-/// Of two faults the one in the earlier octet counts. For one value the order is: `Truncated` where no identifier octet
-/// stands; `HighTag`; `LengthForm` for the length octet `80` or `FF`; `Truncated` where length octets are missing;
-/// `LengthForm` for more than the fewest of them; `TooLong` for 2^24 contents octets or more; `Truncated` where contents
-/// octets are missing. `TooDeep` comes before all these, for a value on level 33, and `Trailing` comes last. `Memory`
-/// comes where it is met.
+/// Of two faults of one value the one in the earlier octet counts, and a value's own faults come before those of the values
+/// inside it, which are looked at from the left. For one value the order is: `TooDeep` for a value on level 33; `Truncated`
+/// where no identifier octet stands; `HighTag`; `LengthForm` for the length octet `80` or `FF`; `Truncated` where length
+/// octets are missing; `LengthForm` for more than the fewest of them; `TooLong` for 2^24 contents octets or more;
+/// `Truncated` where contents octets are missing. `Trailing` comes last. `Memory` comes where it is met.
 pub fn read_tree(alloc: Global, bytes: &[u8]) -> Result<Tree, DerFault>
     ensures found { IfOk result (λ tree. IsLawful (view tree) × (bytes.now ≡ encoding (view tree))) }
     ensures only { (n : Node) → IsLawful n → bytes.now ≡ encoding n → IsRead result n }

@@ -101,8 +101,7 @@ impl Components {
     }
 }
 
-/// No other lawful value has a lawful value's encoding (X.690 10.1: one encoding for each value, and here one value for
-/// each encoding).
+/// No two lawful values have one encoding.
 pub fn trees_have_one_encoding()
     ensures { (m n : Node) → IsLawful m → IsLawful n → encoding m ≡ encoding n → m ≡ n }
 {}

@@ -1,6 +1,8 @@
 //! Lawful values where they lie in octets: read without memory, and taken apart without copying.
-ghost use Rattle.std.specs.Prelude.{◌≡◌, ℕ, ◌≤◌, ◌↔◌, true, List, Ok, Err, IfOk, IfErr, IsNone, MatchResult, option_map};
-ghost use Rattle.der.specs.Node.{Node, Nodes, no_nodes, encoding, encodings, identifier_of, contents_of, components_of, first_of, take_under, is_end, levels_of, AreFormed, IsLawful};
+ghost use Rattle.std.specs.Prelude.{◌≡◌, ℕ, ◌≤◌, ◌↔◌, true, List, Ok, Err, option_map};
+ghost use Rattle.std.specs.Prelude.{IfOk, IfErr, IsNone, MatchResult};
+ghost use Rattle.der.specs.Node.{Node, Nodes, no_nodes, encoding, encodings, identifier_of, contents_of};
+ghost use Rattle.der.specs.Node.{components_of, first_of, take_under, is_end, levels_of, AreFormed, IsLawful};
 ghost use Rattle.der.specs.Reading.{node_at, values_at, tree_of};
 ghost use Rattle.der.specs.DataValue.{AreEncodings, is_value, are_values, value_in, values_in};
 ghost use Rattle.der.specs.DataValueView.{value_view, values_view};
@@ -54,11 +56,13 @@ fn skip_value(levels: u8, octets: &[u8]) -> Result<&[u8], DerFault>
     Ok(rest)
 }
 
-/// Reads the value that octets are, where it lies: a value of at most 32 levels, with nothing after it (X.690 8.1, 10.1).
-/// Takes no memory. Refused as `read_tree` refuses, but never with `Memory`.
+/// Reads the value that octets are, where it lies: a value of at most 32 levels, with nothing after it (X.690 8.1,
+/// 10.1). Takes no memory. Refused as `read_tree` refuses, but never with `Memory`.
 pub fn read_value(octets: &[u8]) -> Result<DataValue<'_>, DerFault>
-    ensures found { IfOk result (λ value. IsLawful (value_view value) × (octets.now ≡ encoding (value_view value))) }
-    ensures only { (n : Node) → IsLawful n → octets.now ≡ encoding n → MatchResult result (λ value. value_view value ≡ n) (λ fault. ⊥) }
+    ensures found { IfOk result (λ value. IsLawful (value_view value)
+        × (octets.now ≡ encoding (value_view value))) }
+    ensures only { (n : Node) → IsLawful n → octets.now ≡ encoding n
+        → MatchResult result (λ value. value_view value ≡ n) (λ fault. ⊥) }
     ensures refusals { IfErr result (λ fault. tree_of octets.now ≡ Err fault) }
 {
     let rest = skip_value(MAX_LEVELS, octets)?;
@@ -98,7 +102,8 @@ impl<'a> DataValue<'a> {
         Some(self.element.content)
     }
 
-    /// The values inside a value under that tag; none where the value is under another tag, or has contents octets alone.
+    /// The values inside a value under that tag; none where the value is under another tag, or has contents octets
+    /// alone.
     pub fn components_under(&self, tag: Tag) -> Option<DataValues<'a>>
         ensures { option_map values_view result ≡ components_of tag.octet (value_view self.now) }
     {
@@ -124,7 +129,8 @@ impl<'a> DataValues<'a> {
 
     /// Takes the first value off; none where no value is left.
     pub fn next(&mut self) -> Option<DataValue<'a>>
-        ensures first { option_map (λ value. (value_view value, values_view self.new)) result ≡ first_of (values_view self.old) }
+        ensures first { option_map (λ value. (value_view value, values_view self.new)) result
+            ≡ first_of (values_view self.old) }
         ensures none { IsNone result → self.new ≡ self.old }
     {
         let Ok(element) = element_at_front(self.rest) else {
@@ -164,9 +170,11 @@ impl<'a> DataValues<'a> {
 pub fn encodings_are_read()
     ensures value { (n : Node) → IsLawful n → value_in (encoding n) ≡ n }
     ensures values { (ns : Nodes) → AreFormed ns → levels_of ns ≤ 32 → values_in (encodings ns) ≡ ns }
-    ensures lawful { (octets : List ℕ) → is_value octets ≡ true → IsLawful (value_in octets) × (octets ≡ encoding (value_in octets)) }
+    ensures lawful { (octets : List ℕ) → is_value octets ≡ true
+        → IsLawful (value_in octets) × (octets ≡ encoding (value_in octets)) }
     ensures all_lawful { (octets : List ℕ) → are_values octets ≡ true
-        → AreFormed (values_in octets) × (levels_of (values_in octets) ≤ 32) × (octets ≡ encodings (values_in octets)) }
+        → AreFormed (values_in octets) × (levels_of (values_in octets) ≤ 32)
+        × (octets ≡ encodings (values_in octets)) }
 {}
 
 #[cfg(test)]
