@@ -1,7 +1,7 @@
 //! What a policy file has.
 ghost use Rattle.std.specs.Prelude.{◌≡◌, ◌⊎◌, List, ℕ, Ok, Err, OnOk, IfOk, IfErr, vec_len, string_bytes};
 ghost use Rattle.std.specs.Io.KnownBytes.{Appends};
-ghost use Rattle.policy.specs.Gives.{Fails};
+ghost use Rattle.policy.specs.Answers.{IsFirstFault};
 ghost use Rattle.policy.specs.Meaning.{meaning_of};
 ghost use Rattle.policy.specs.View.{policy_view};
 ghost use Rattle.policy.specs.declared.fault.PolicyFault.{PolicyFault};
@@ -21,7 +21,7 @@ pub fn read_policy(rt: &HostRuntime, path: &str) -> Result<Policy, Fault>
     // No contract says what a file holds. So the policy is the meaning of some text, and a fault the first of some text.
     ensures meant { IfOk result (λ policy. (text : List ℕ) × (meaning_of text ≡ Ok (policy_view policy))) }
     ensures faults { IfErr result (λ fault. (fault ≡ Fault.Input InputFault.File) ⊎ ((fault ≡ Fault.Input InputFault.Memory)
-        ⊎ ((text : List ℕ) × ((first : PolicyFault) × (fault ≡ Fault.Policy first) × Fails first (meaning_of text))))) }
+        ⊎ ((text : List ℕ) × ((first : PolicyFault) × (fault ≡ Fault.Policy first) × IsFirstFault first (meaning_of text))))) }
 {
     let text = read_text(rt, path)?;
     Ok(Policy::from_text(rt.alloc(), text.as_str())?)

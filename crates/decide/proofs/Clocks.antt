@@ -1,5 +1,5 @@
 -- The good state, and the promise on its genTime.
-use Rattle.std.proofs.Common.{◌≡◌, ℕ, ◌<◌, ◌≤◌, ◌+◌, ◌-◌, ◌*◌, ◌/◌, ◌%◌, ◌^◌, ℤ, pos, Some, false, sym, ◌∙◌, subst, arith}
+use Rattle.std.proofs.Common.{◌≡◌, ℕ, ◌<◌, ◌≤◌, ◌+◌, ◌-◌, ◌*◌, ◌/◌, ◌%◌, ◌^◌, ℤ, pos, Some, false, sym, ap, ◌∙◌, subst, arith}
 use Rattle.std.specs.Prelude.{◌≤ℤ◌}
 use Rattle.std.proofs.lemmas.Int.{ints}
 use Rattle.std.proofs.Math.Nat.{one-le-pow}
@@ -8,9 +8,9 @@ use Rattle.gentime.specs.GenTime.{last_moment}
 use Rattle.policy.specs.Record.{CounterValue}
 use Rattle.decide.specs.Clock.{now_at, elapsed, divided_up, deviation, step, gen_time, Follows, IsGood, IsGoodAt, IsWithin, KeepsAccuracy}
 use Rattle.decide.specs.declared.facts.Calibration.{Calibration}
-use Rattle.decide.specs.declared.facts.Facts.{Facts}
+use Rattle.decide.specs.declared.facts.ClockFacts.{ClockFacts}
 
-pub good_at : (counter : CounterValue) (facts : Facts) (calibration : Calibration) (since now moment : ℕ)
+pub good_at : (counter : CounterValue) (facts : ClockFacts) (calibration : Calibration) (since now moment : ℕ)
     → facts.calibration ≡ Some calibration → calibration.reading ≤ℤ facts.reading → since ≡ elapsed facts.reading calibration
     → since ≤ counter.max_age_us
     → calibration.uncertainty + divided_up (since * counter.drift_ppb) 1_000_000_000 + (step counter - 1) ≤ counter.accuracy_us
@@ -27,7 +27,7 @@ good_at counter facts calibration since now moment calibrated after e age accura
       accurate = subst P e accurate;
       now = now;
       stated = stated;
-      last = last;
+      statable = last;
       free = free;
       follows = subst (Follows counter.ordering facts.last_gen_time) rounded follows;
     } in
@@ -50,7 +50,7 @@ near now g d s a z low high fits within =
 step_positive : (k : ℕ) → 0 < 10 ^ k
 step_positive k = omega (arith, one-le-pow k 10 (omega arith))
 
-pub keeps_accuracy : (counter : CounterValue) (facts : Facts) (moment : ℕ) → IsGoodAt counter facts moment → KeepsAccuracy counter facts moment
+pub keeps_accuracy : (counter : CounterValue) (facts : ClockFacts) (moment : ℕ) → IsGoodAt counter facts moment → KeepsAccuracy counter facts moment
 keeps_accuracy counter facts moment (good, rounded) calibration calibrated z within =
     let same : good.calibration ≡ calibration = same_Some _ _ (sym good.calibrated ∙ calibrated) in
     let s = step counter in
@@ -61,3 +61,12 @@ keeps_accuracy counter facts moment (good, rounded) calibration calibrated z wit
     let bounds = rounded_near good.now s (step_positive (6 - counter.fraction_digits)) in
     subst (λ g. IsWithin counter.accuracy_us (pos g) z) (sym rounded)
     (near good.now (gen_time counter good.now) (deviation counter facts.reading good.calibration) s counter.accuracy_us z bounds.0 bounds.1 good.accurate by_now)
+
+-- a good clock gives one genTime
+pub one_gen_time : (counter : CounterValue) (facts : ClockFacts) (one other : ℕ) → IsGoodAt counter facts one → IsGoodAt counter facts other → one ≡ other
+one_gen_time counter facts one other (good, rounded) (again, rounded_again) =
+    let same : good.calibration ≡ again.calibration = same_Some _ _ (sym good.calibrated ∙ again.calibrated) in
+    let now : pos good.now ≡ pos again.now =
+    sym good.stated ∙ ap (now_at facts.reading) same ∙ again.stated in
+    let same_now : good.now ≡ again.now = omega (arith, ints, now) in
+    rounded ∙ ap (gen_time counter) same_now ∙ sym rounded_again

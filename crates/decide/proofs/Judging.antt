@@ -1,6 +1,7 @@
 -- The first failing rule, from what each rule was found to be.
-use Rattle.std.proofs.Common.{◌≡◌, ℕ, ◌<◌, ◌+◌, ◌-◌, Bool, true, false, List, [], ◌∷◌, get_or, ltb, Option, Some, refl, sym, ap, ◌∙◌, subst, arith}
+use Rattle.std.proofs.Common.{◌≡◌, ℕ, ◌<◌, ◌≤◌, ◌+◌, ◌-◌, Bool, true, false, List, [], ◌∷◌, get_or, ltb, Option, Some, None, refl, sym, ap, ◌∙◌, subst, arith}
 use Rattle.std.proofs.lemmas.Bool.Decides.{Decides-ltb}
+use Rattle.std.proofs.lemmas.Option.{same_Some}
 use Rattle.policy.specs.Record.{AccountValue, PolicyValue}
 use Rattle.tsp.specs.Request.{RequestValue}
 use Rattle.tsp.specs.Rejection.{number_of}
@@ -9,7 +10,9 @@ use Rattle.tsp.specs.declared.rule.Rule.{Rule}
 use Rattle.tsp.specs.declared.rule.Rule.TheVariants.{Spelling, Version, Account, Algorithm, HashLength, Policy, PolicyAlgorithm, Extensions, Certificate, Clock, Quota, System}
 use Rattle.decide.specs.Clock.{IsGood}
 use Rattle.decide.specs.Rules.{HoldsOf, Holds, IsWithinQuota, IsAccepted, AllowsAlgorithm, AllowsExtensions, GivesCertificate, policy_asked}
+use Rattle.decide.specs.Verdict.{PlanValue, VerdictValue, Allowed, Denied, IsJudged, IsVerdict}
 use Rattle.decide.specs.declared.facts.Facts.{Facts}
+use Rattle.decide.proofs.Clocks.{one_gen_time}
 
 abbrev rule_at : ℕ → Rule
 rule_at n =
@@ -95,11 +98,11 @@ judged_below : (file : PolicyValue) (account : Option AccountValue) (r : Request
 judged_below file account r facts h rule l = lift file account r facts rule l (h rule)
 
 pub clock_fails : (file : PolicyValue) (account : Option AccountValue) (r : RequestValue) (facts : Facts)
-    → ((rule : Rule) → HoldsOf file account r rule) → (IsGood file.counter facts → ⊥) → IsFirstFailing (Holds file account r facts) Clock
+    → ((rule : Rule) → HoldsOf file account r rule) → (IsGood file.counter facts.clock → ⊥) → IsFirstFailing (Holds file account r facts) Clock
 clock_fails file account r facts h bad = record { fails = bad; before = judged_below file account r facts h }
 
 pub quota_fails : (file : PolicyValue) (account : Option AccountValue) (r : RequestValue) (facts : Facts)
-    → ((rule : Rule) → HoldsOf file account r rule) → IsGood file.counter facts → (IsWithinQuota account facts.count → ⊥)
+    → ((rule : Rule) → HoldsOf file account r rule) → IsGood file.counter facts.clock → (IsWithinQuota account facts.count → ⊥)
     → IsFirstFailing (Holds file account r facts) Quota
 quota_fails file account r facts h good over =
     record {
@@ -108,7 +111,7 @@ quota_fails file account r facts h good over =
     }
 
 pub all_hold : (file : PolicyValue) (account : Option AccountValue) (r : RequestValue) (facts : Facts)
-    → ((rule : Rule) → HoldsOf file account r rule) → IsGood file.counter facts → IsWithinQuota account facts.count
+    → ((rule : Rule) → HoldsOf file account r rule) → IsGood file.counter facts.clock → IsWithinQuota account facts.count
     → (rule : Rule) → Holds file account r facts rule
 all_hold file account r facts h good within Clock = good
 all_hold file account r facts h good within Quota = within
@@ -162,6 +165,56 @@ judged_all file account r oid below asked gives =
     let H = HoldsOf file account r in
     let ten = below_next H Certificate below (subst (λ o. GivesCertificate file o r) (sym asked) gives) in
     all_below H (below_next H System (below_next H Quota (below_next H Clock ten tt) tt) tt)
+
+-- the first of the rules 2 to 9 that fails has such a number
+pub judged_number : (file : PolicyValue) (account : Option AccountValue) (r : RequestValue) (rule : Rule)
+    → IsFirstFailing (HoldsOf file account r) rule → (2 ≤ number_of rule) × (number_of rule ≤ 9)
+judged_number file account r Spelling first = absurd (first.fails tt)
+judged_number file account r Clock first = absurd (first.fails tt)
+judged_number file account r Quota first = absurd (first.fails tt)
+judged_number file account r System first = absurd (first.fails tt)
+judged_number file account r rule first = (omega arith, omega arith)
+
+first_at : (P : Rule → Type 0) (one other : Rule) → IsFirstFailing P one → IsFirstFailing P other
+    → (below above : Bool) → ltb (number_of one) (number_of other) ≡ below → ltb (number_of other) (number_of one) ≡ above → one ≡ other
+first_at P one other first second true above b a =
+    absurd (first.fails (second.before one ((Decides-ltb (number_of one) (number_of other)).0 b)))
+first_at P one other first second false true b a =
+    absurd (second.fails (first.before other ((Decides-ltb (number_of other) (number_of one)).0 a)))
+first_at P one other first second false false b a =
+    let not_below : number_of one < number_of other → ⊥ = λ k. let t = (Decides-ltb (number_of one) (number_of other)).1 k in cc in
+    let not_above : number_of other < number_of one → ⊥ = λ k. let t = (Decides-ltb (number_of other) (number_of one)).1 k in cc in
+    same_rule one other (omega (arith, not_below, not_above))
+
+-- there is one first rule that fails
+pub one_first : (P : Rule → Type 0) (one other : Rule) → IsFirstFailing P one → IsFirstFailing P other → one ≡ other
+one_first P one other first second = first_at P one other first second _ _ refl refl
+
+abbrev plan_of : List ℕ → ℕ → Bool → PlanValue
+plan_of policy gen_time certificate = record { policy = policy; gen_time = gen_time; certificate = certificate }
+
+same_plan : (p q : PlanValue) → p.policy ≡ q.policy → p.gen_time ≡ q.gen_time → p.certificate ≡ q.certificate → p ≡ q
+same_plan p q policy gen_time certificate =
+    ap (λ x. plan_of x p.gen_time p.certificate) policy ∙ ap (λ x. plan_of q.policy x p.certificate) gen_time
+    ∙ ap (λ x. plan_of q.policy q.gen_time x) certificate
+
+-- there is one verdict
+pub one_verdict : (file : PolicyValue) (account : Option AccountValue) (r : RequestValue) (facts : Facts) (one other : VerdictValue)
+    → IsVerdict file account r facts one → IsVerdict file account r facts other → one ≡ other
+one_verdict file account r facts (Allowed p) (Allowed q) v w =
+    ap Allowed (same_plan p q (same_Some _ _ (sym v.1.policy ∙ w.1.policy)) (one_gen_time file.counter facts.clock p.gen_time q.gen_time v.1.good w.1.good)
+    (v.1.certificate ∙ sym w.1.certificate))
+one_verdict file account r facts (Allowed p) (Denied rule) v w = absurd (w.fails (v.0 rule))
+one_verdict file account r facts (Denied rule) (Allowed q) v w = absurd (v.fails (w.0 rule))
+one_verdict file account r facts (Denied one) (Denied other) v w = ap Denied (one_first (Holds file account r facts) one other v w)
+
+-- there is one judgement
+pub one_judged : (file : PolicyValue) (account : Option AccountValue) (r : RequestValue) (one other : Option Rule)
+    → IsJudged file account r one → IsJudged file account r other → one ≡ other
+one_judged file account r None None v w = refl
+one_judged file account r None (Some rule) v w = absurd (w.fails (v rule))
+one_judged file account r (Some rule) None v w = absurd (v.fails (w rule))
+one_judged file account r (Some one) (Some other) v w = ap Some (one_first (HoldsOf file account r) one other v w)
 
 -- what a test that failed would have told
 pub refuted : {P : Type 0} (answer : Bool) → (P → answer ≡ true) → answer ≡ false → P → ⊥

@@ -42,6 +42,10 @@ decides_any view test P each (x ∷ xs) =
     let both = Decides-or (test x) (list_any test xs) (each x) others in
     Decides-like (list_any test (x ∷ xs)) (any_forward view P x xs) (any_backward view P x xs) both
 
+pub map_id : {A : Type 0} (xs : List A) → map (λ x. x) xs ≡ xs
+map_id [] = refl
+map_id (x ∷ xs) = ap (λ ys. x ∷ ys) (map_id xs)
+
 all_from : {A B : Type 0} (view : A → B) (P : B → Type 0) (x : A) (xs : List A) → P (view x) × ((y : B) → Contains (map view xs) y → P y)
     → (y : B) → (view x ≡ y) ⊎ Contains (map view xs) y → P y
 all_from view P x xs w y (inl e) = subst P e w.0

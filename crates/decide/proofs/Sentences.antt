@@ -10,6 +10,7 @@ use Rattle.std.proofs.lemmas.Slice.Eq.{bytes_eq-Decides}
 use Rattle.std.proofs.lemmas.Option.{same_Some}
 use Rattle.der.specs.ObjectIdentifier.{oid_content}
 use Rattle.policy.specs.Kinds.{is_among}
+use Rattle.policy.specs.LookUp.{policy_of_oid}
 use Rattle.policy.specs.Record.{TsaPolicyValue, AccountValue, PolicyValue}
 use Rattle.policy.specs.Record as record_of
 use Rattle.policy.specs.View.{algorithm_view, extension_view, tsa_policy_view, policy_view}
@@ -20,9 +21,9 @@ use Rattle.tsp.specs.Rules.{AlgorithmValue}
 use Rattle.tsp.specs.Request.{ExtensionValue}
 use Rattle.tsp.specs.View as tsp_view
 use Rattle.tsp.specs.declared.imprint.Extension as tsp
-use Rattle.decide.specs.Rules.{algorithms_of, first_of_names, IsAccepted, KnowsExtension, AreDistinct}
+use Rattle.decide.specs.Rules.{algorithms_of, IsAccepted, KnowsExtension, AreDistinct}
 use Rattle.decide.specs.Tests.{lists_algorithm, knows_extension, knows_extensions, are_distinct}
-use Rattle.decide.proofs.Lists.{contains_here, contains_there, contains_none, contains_first_or_other, decides_any, decides_all, decides_each, decides_found, found_passes, find_map}
+use Rattle.decide.proofs.Lists.{contains_here, contains_there, contains_none, contains_first_or_other, decides_any, decides_all, decides_each, decides_found, found_passes, map_id}
 
 -- the contents of an object identifier tell it
 abbrev pub OneContent : Type 0
@@ -51,16 +52,12 @@ map_map g f (x ∷ xs) = ap (λ ys. g (f x) ∷ ys) (map_map g f xs)
 abbrev known : Algorithm → AlgorithmValue
 known a = record { identifier = a.oid; hash_length = a.length }
 
-pub algorithm_known : OneContent → (policy : Policy) (content identifier : List ℕ) → content ≡ oid_content identifier
-    → Decides (list_any (λ a. bytes_eq (oid_content a.oid) content) policy.algorithms.items)
-    ((a : AlgorithmValue) × Contains (algorithms_of (policy_view policy)) a × (a.identifier ≡ identifier))
-algorithm_known one policy content identifier e =
-    let found =
-    decides_any known (λ a. bytes_eq (oid_content a.oid) content) (λ a. a.identifier ≡ identifier)
-    (λ a. decides_oid one a.oid identifier content e) policy.algorithms.items in
-    subst (λ xs. Decides (list_any (λ a. bytes_eq (oid_content a.oid) content) policy.algorithms.items)
-    ((a : AlgorithmValue) × Contains xs a × (a.identifier ≡ identifier)))
-    (sym (map_map _ algorithm_view policy.algorithms.items)) found
+pub algorithm_known : OneContent → (file : PolicyValue) (content identifier : List ℕ) → content ≡ oid_content identifier
+    → Decides (list_any (λ a. bytes_eq (oid_content a.oid) content) file.algorithms)
+    ((a : AlgorithmValue) × Contains (algorithms_of file) a × (a.identifier ≡ identifier))
+algorithm_known one file content identifier e =
+    decides_any (λ a. record { identifier = a.oid; hash_length = a.length }) (λ a. bytes_eq (oid_content a.oid) content) (λ a. a.identifier ≡ identifier)
+    (λ a. decides_oid one a.oid identifier content e) file.algorithms
 
 is_some_map : {A B : Type 0} (f : A → B) (o : Option A) → is_some (option_map f o) ≡ is_some o
 is_some_map f None = refl
@@ -153,21 +150,6 @@ pub decides_distinct : OneContent → (es : List tsp.Extension)
 decides_distinct one [] = (λ h. tt, λ w. refl)
 decides_distinct one (e ∷ es) = Decides-and _ _ (Decides-not _ (identifier_in one e es)) (decides_distinct one es)
 
-mapped : (o : Option TsaPolicy) → option_map (λ p. p.oid) (option_map tsa_policy_view o) ≡ option_map (λ p. p.oid) o
-mapped None = refl
-mapped (Some p) = refl
-
--- the default policy of an account is its first
-pub default_is : (policy : Policy) (names : List (String Global)) (name : String Global) (found : Option TsaPolicy) → slice_get names 0 ≡ Some name
-    → found ≡ find (λ p. bytes_eq (string_bytes p.name) (string_bytes name)) policy.policies.items
-    → first_of_names (policy_view policy) (map string_bytes names) ≡ option_map (λ p. p.oid) found
-default_is policy [] name found h e = cc h
-default_is policy (n ∷ ns) name found h e =
-    let same : n ≡ name = cc in
-    let searched = find_map tsa_policy_view (λ p. bytes_eq p.name (string_bytes n)) policy.policies.items in
-    let e2 : found ≡ find (λ p. bytes_eq (string_bytes p.name) (string_bytes n)) policy.policies.items = rw same e in
-    ap (option_map (λ p. p.oid)) searched ∙ ap (λ o. option_map (λ p. p.oid) (option_map tsa_policy_view o)) (sym e2) ∙ mapped found
-
 wanted_at : {P : Type 0} (asked given : Bool) → asked ≡ true → Decides given P → (asked ≡ false) ⊎ P → given ≡ true
 wanted_at asked given e d (inl off) = let bad : true ≡ false = sym e ∙ off in cc bad
 wanted_at asked given e d (inr p) = d.1 p
@@ -240,30 +222,36 @@ accepting one policy names content oid e =
     asked_any one policy.policies.items content oid e (λ p. is_among (map string_bytes names) (string_bytes p.name))
     (λ p. Contains (map string_bytes names) p.name) (λ p. decides_among (map string_bytes names) (string_bytes p.name))
 
+decides_each_value : {A : Type 0} (test : A → Bool) (P : A → Type 0) → ((x : A) → Decides (test x) (P x))
+    → (xs : List A) → Decides (list_any test xs) ((y : A) × Contains xs y × P y)
+decides_each_value test P each xs =
+    subst (λ ys. Decides (list_any test xs) ((y : _) × Contains ys y × P y)) (map_id xs) (decides_any (λ x. x) test P each xs)
+
 -- no policy has the object identifier that is asked for
 pub none_asked : OneContent → (policy : Policy) (account : Option AccountValue) (asked : Option (List ℕ)) (content : List ℕ)
-    → option_map oid_content asked ≡ Some content → find (λ p. bytes_eq (oid_content p.oid) content) policy.policies.items ≡ None
+    → option_map oid_content asked ≡ Some content → policy_of_oid (policy_view policy) content ≡ None
     → IsAccepted (policy_view policy) account asked → ⊥
 none_asked one policy account asked content e none w =
     let found = asked_some asked content e in
     let p = w.2.0 in
     let same : p.oid ≡ found.0 = sym (same_Some _ _ (sym found.1 ∙ w.2.1.1)) in
+    let values = map tsa_policy_view policy.policies.items in
     let any =
-    decides_any tsa_policy_view (λ q. bytes_eq (oid_content q.oid) content) (λ q. q.oid ≡ found.0)
-    (λ q. decides_oid one q.oid found.0 content found.2) policy.policies.items in
+    decides_each_value (λ q. bytes_eq (oid_content q.oid) content) (λ q. q.oid ≡ found.0)
+    (λ q. decides_oid one q.oid found.0 content found.2) values in
     let some : true ≡ false =
-    sym (any.1 (p, w.2.1.0, same)) ∙ sym (decides_found (λ q. bytes_eq (oid_content q.oid) content) policy.policies.items) ∙ ap is_some none in
+    sym (any.1 (p, w.2.1.0, same)) ∙ sym (decides_found (λ q. bytes_eq (oid_content q.oid) content) values) ∙ ap is_some none in
     cc some
 
 -- the policy that was found is the one that is asked for, and the account's
 pub found_accepted : OneContent → (policy : Policy) (account : AccountValue) (names : List (String Global)) → map string_bytes names ≡ account.policies
     → (asked : Option (List ℕ)) (content : List ℕ) → option_map oid_content asked ≡ Some content
-    → (q : TsaPolicy) → find (λ p. bytes_eq (oid_content p.oid) content) policy.policies.items ≡ Some q
+    → (q : TsaPolicyValue) → policy_of_oid (policy_view policy) content ≡ Some q
     → list_any (λ p. bytes_eq (oid_content p.oid) content && is_among (map string_bytes names) (string_bytes p.name)) policy.policies.items ≡ true
     → IsAccepted (policy_view policy) (Some account) (Some q.oid) × (asked ≡ Some q.oid)
 found_accepted one policy account names listed asked content e q found accepted =
     let some = asked_some asked content e in
-    let passes = found_passes (λ p. bytes_eq (oid_content p.oid) content) policy.policies.items q found in
+    let passes = found_passes (λ p. bytes_eq (oid_content p.oid) content) (map tsa_policy_view policy.policies.items) q found in
     let same : q.oid ≡ some.0 = (decides_oid one q.oid some.0 content some.2).0 passes in
     let w = (accepting one policy names content some.0 some.2).0 accepted in
     ((account, refl, (w.0, (w.1.0, ap Some same ∙ w.1.1), subst (λ ns. Contains ns w.0.name) listed w.2)), some.1 ∙ ap Some (sym same))

@@ -1,11 +1,11 @@
--- The clock: what a reading stands for after a calibration, how far the true moment may be away from it, and when a token may
--- be given (RFC 3628 7.3.1: no token while the clock is out of its accuracy). All quantities are whole microseconds without
--- bound, and moments count from 1970-01-01T00:00:00Z.
+-- The clock: what a reading stands for after a calibration, how far the true moment may be away from it, and when a
+-- token may be given (RFC 3628 7.3.1: no token while the clock is out of its accuracy). All quantities are whole
+-- microseconds without bound, and moments count from 1970-01-01T00:00:00Z.
 use Rattle.std.specs.Prelude.{◌≡◌, ℕ, ◌<◌, ◌≤◌, ◌+◌, ◌-◌, ◌*◌, ◌/◌, ◌^◌, ℤ, pos, negsuc, ◌+ℤ◌, ◌-ℤ◌, ◌≤ℤ◌, Bool, true, false, Option, Some, None}
 use Rattle.gentime.specs.GenTime.{last_moment, round_down}
 use Rattle.policy.specs.Record.{CounterValue}
 use Rattle.decide.specs.declared.facts.Calibration.{Calibration}
-use Rattle.decide.specs.declared.facts.Facts.{Facts}
+use Rattle.decide.specs.declared.facts.ClockFacts.{ClockFacts}
 use Rattle.decide.specs.declared.clock.ClockState.{ClockState}
 use Rattle.decide.specs.declared.clock.ClockState.TheVariants.{Good, Bad}
 
@@ -26,11 +26,13 @@ elapsed reading calibration = at_least_zero (reading -ℤ calibration.reading)
 abbrev pub divided_up : ℕ → ℕ → ℕ
 divided_up n divisor = (n + (divisor - 1)) / divisor
 
--- how far the true moment may be away from now: the uncertainty, and what the clock may have drifted since, in parts of 10^9
+-- how far the true moment may be away from now: the uncertainty, and what the clock may have drifted since, in parts of
+-- 10^9
 abbrev pub deviation : CounterValue → ℤ → Calibration → ℕ
-deviation counter reading calibration = calibration.uncertainty + divided_up (elapsed reading calibration * counter.drift_ppb) 1_000_000_000
+deviation counter reading calibration =
+    calibration.uncertainty + divided_up (elapsed reading calibration * counter.drift_ppb) 1_000_000_000
 
--- how much a genTime may be before now, by its fraction digits, and one more
+-- what the last fraction digit counts, in microseconds: a genTime is rounded down by less than that
 abbrev pub step : CounterValue → ℕ
 step counter = 10 ^ (6 - counter.fraction_digits)
 
@@ -39,16 +41,13 @@ abbrev pub gen_time : CounterValue → ℕ → ℕ
 gen_time counter now = round_down counter.fraction_digits now
 
 -- A genTime isn't before the last one; where tokens are ordered by it, it is after that.
-abbrev pub IsNotBefore : Bool → ℕ → ℕ → Type 0
-IsNotBefore true last moment = last < moment
-IsNotBefore false last moment = last ≤ moment
-
 abbrev pub Follows : Bool → Option ℕ → ℕ → Type 0
 Follows ordering None moment = Unit {0}
-Follows ordering (Some last) moment = IsNotBefore ordering last moment
+Follows true (Some last) moment = last < moment
+Follows false (Some last) moment = last ≤ moment
 
 -- A token may be given.
-pub record IsGood (counter : CounterValue) (facts : Facts) : Type 0 where
+pub record IsGood (counter : CounterValue) (facts : ClockFacts) : Type 0 where
   -- there is a calibration, it isn't after the reading, and it isn't too old
   pub calibration : Calibration
   pub calibrated : facts.calibration ≡ Some calibration
@@ -59,16 +58,16 @@ pub record IsGood (counter : CounterValue) (facts : Facts) : Type 0 where
   -- now is a moment that a genTime can state, and it isn't held
   pub now : ℕ
   pub stated : now_at facts.reading calibration ≡ pos now
-  pub last : now ≤ last_moment
+  pub statable : now ≤ last_moment
   pub free : facts.held ≡ false
   -- the last reserved genTime comes first
   pub follows : Follows counter.ordering facts.last_gen_time (gen_time counter now)
 
 -- a token may be given with this genTime
-abbrev pub IsGoodAt : CounterValue → Facts → ℕ → Type 0
+abbrev pub IsGoodAt : CounterValue → ClockFacts → ℕ → Type 0
 IsGoodAt counter facts moment = (good : IsGood counter facts) × (moment ≡ gen_time counter good.now)
 
-abbrev pub IsState : CounterValue → Facts → ClockState → Type 0
+abbrev pub IsState : CounterValue → ClockFacts → ClockState → Type 0
 IsState counter facts (Good moment) = IsGoodAt counter facts moment
 IsState counter facts Bad = IsGood counter facts → ⊥
 
@@ -78,8 +77,9 @@ pub record IsWithin (distance : ℕ) (one other : ℤ) : Type 0 where
   pub above : other ≤ℤ (one +ℤ pos distance)
 
 -- Each moment that is at most the deviation away from now is at most the accuracy away from the genTime.
-abbrev pub KeepsAccuracy : CounterValue → Facts → ℕ → Type 0
+abbrev pub KeepsAccuracy : CounterValue → ClockFacts → ℕ → Type 0
 KeepsAccuracy counter facts moment =
     (calibration : Calibration) → facts.calibration ≡ Some calibration
-    → (true_moment : ℤ) → IsWithin (deviation counter facts.reading calibration) (now_at facts.reading calibration) true_moment
+    → (true_moment : ℤ)
+    → IsWithin (deviation counter facts.reading calibration) (now_at facts.reading calibration) true_moment
     → IsWithin counter.accuracy_us (pos moment) true_moment

@@ -2,3 +2,4 @@ pub mod Clock
 pub mod Rules
 pub mod Tests
 pub mod Verdict
+pub mod View

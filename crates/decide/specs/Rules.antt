@@ -1,7 +1,7 @@
 -- The rules of a written policy (in the manner of RFC 3628), each a sentence that stands by itself, and the first that fails.
 use Rattle.std.specs.Prelude.{◌≡◌, ℕ, ◌<◌, ◌≤◌, ◌⊎◌, true, false, List, [], ◌∷◌, map, length, Option, Some, None, option_map, Contains}
-use Rattle.std.specs.List.{AllByRecursion, find}
-use Rattle.std.specs.Str.{bytes_eq}
+use Rattle.std.specs.List.{AllByRecursion}
+use Rattle.policy.specs.LookUp as look_up
 use Rattle.policy.specs.Record.{AlgorithmValue, ExtensionValue, TsaPolicyValue, AccountValue, PolicyValue}
 use Rattle.tsp.specs.Request.{RequestValue}
 use Rattle.tsp.specs.Request as tsp
@@ -20,18 +20,10 @@ IsKnown file account = (a : AccountValue) × (account ≡ Some a) × Contains fi
 abbrev pub algorithms_of : PolicyValue → List rules.AlgorithmValue
 algorithms_of file = map (λ a. record { identifier = a.oid; hash_length = a.length }) file.algorithms
 
--- the object identifier of the policy with that name
-abbrev pub oid_of_name : PolicyValue → List ℕ → Option (List ℕ)
-oid_of_name file name = option_map (λ p. p.oid) (find (λ p. bytes_eq p.name name) file.policies)
-
--- the first of the names is the default policy's
-abbrev pub first_of_names : PolicyValue → List (List ℕ) → Option (List ℕ)
-first_of_names file [] = None
-first_of_names file (name ∷ names) = oid_of_name file name
-
+-- the object identifier of the account's default policy
 abbrev pub default_policy : PolicyValue → Option AccountValue → Option (List ℕ)
 default_policy file None = None
-default_policy file (Some a) = first_of_names file a.policies
+default_policy file (Some a) = option_map (λ p. p.oid) (look_up.default_policy file a)
 
 -- the object identifier that the request states, and else that of the account's default policy
 abbrev pub or_default : Option (List ℕ) → Option (List ℕ) → Option (List ℕ)
@@ -101,6 +93,6 @@ HoldsOf file account r System = Unit {0}
 
 -- Which rules hold of a request, by the facts: those of the clock and of the day's count too.
 abbrev pub Holds : PolicyValue → Option AccountValue → RequestValue → Facts → Rule → Type 0
-Holds file account r facts Clock = IsGood file.counter facts
+Holds file account r facts Clock = IsGood file.counter facts.clock
 Holds file account r facts Quota = IsWithinQuota account facts.count
 Holds file account r facts rule = HoldsOf file account r rule

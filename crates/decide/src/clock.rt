@@ -4,7 +4,7 @@ ghost use Rattle.gentime.specs.GenTime.{last_moment};
 ghost use Rattle.policy.specs.View.{counter_view};
 ghost use Rattle.decide.specs.Clock.{now_at, elapsed, deviation, divided_up, step, gen_time, Follows, IsGood, IsGoodAt, IsState, KeepsAccuracy};
 
-use crate::facts::{Calibration, Facts};
+use crate::facts::{Calibration, ClockFacts};
 use gentime::GenTime;
 use policy::Counter;
 
@@ -74,7 +74,7 @@ fn follows(ordering: bool, last: Option<GenTime>, moment: GenTime) -> bool
 /// Whether a token may be given, and with which genTime (RFC 3628 7.3.1, RFC 3161 2.4.2): there is a calibration, not after the
 /// reading and at most the greatest age old; the deviation and the rounding are together within the accuracy; now is from 1970
 /// to 9999 and isn't held; and the genTime isn't before the last one, and after it where tokens are ordered.
-pub fn clock_state(counter: &Counter, facts: &Facts) -> ClockState
+pub fn clock_state(counter: &Counter, facts: &ClockFacts) -> ClockState
     ensures state { IsState (counter_view counter.now) facts.now result }
     ensures interval { (moment : ℕ) → result ≡ ClockState.Good moment
         → KeepsAccuracy (counter_view counter.now) facts.now moment }
@@ -86,7 +86,7 @@ pub fn clock_state(counter: &Counter, facts: &Facts) -> ClockState
 }
 
 /// The genTime, where a token may be given.
-fn good_gen_time(counter: &Counter, facts: &Facts) -> Option<GenTime>
+fn good_gen_time(counter: &Counter, facts: &ClockFacts) -> Option<GenTime>
     ensures { MatchOption result (IsGood (counter_view counter.now) facts.now → ⊥)
         (λ moment. IsGoodAt (counter_view counter.now) facts.now moment) }
 {

@@ -33,9 +33,9 @@ impl Hold {
     }
 }
 
-/// What the clock, the store and the account's day say.
+/// What tells whether the clock is good, and a token's genTime.
 #[derive(Clone, Copy, Debug, PartialEq, Eq)]
-pub struct Facts {
+pub struct ClockFacts {
     /// The clock's reading, in microseconds.
     pub reading: i64,
     /// The latest calibration, if any.
@@ -44,6 +44,13 @@ pub struct Facts {
     pub held: bool,
     /// The last genTime that was reserved, if any.
     pub last_gen_time: Option<GenTime>,
+}
+
+/// What a request is decided on, besides the policy file and the account.
+#[derive(Clone, Copy, Debug, PartialEq, Eq)]
+pub struct Facts {
+    /// The facts of the clock.
+    pub clock: ClockFacts,
     /// How many reservations the account has on the genTime's day.
     pub count: u64,
 }

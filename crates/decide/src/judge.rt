@@ -1,11 +1,11 @@
 //! The rules in their order.
-ghost use Rattle.std.specs.Prelude.{◌≡◌, option_map, Some, MatchOption, MatchResult};
-ghost use Rattle.policy.specs.View.{policy_view, account_view};
-ghost use Rattle.tsp.specs.Rules.{IsFirstFailing};
+ghost use Rattle.std.specs.Prelude.{◌≡◌, ◌≤◌, Some, None, IfSome, MatchResult};
+ghost use Rattle.policy.specs.View.{policy_view};
+ghost use Rattle.tsp.specs.Rejection.{number_of};
 ghost use Rattle.tsp.specs.View.{request_view};
-ghost use Rattle.tsp.specs.declared.rule.Rule.{Rule};
-ghost use Rattle.decide.specs.Rules.{HoldsOf, policy_asked};
-ghost use Rattle.decide.specs.Verdict.{IsVerdict, AllowsAccurately};
+ghost use Rattle.decide.specs.Rules.{policy_asked};
+ghost use Rattle.decide.specs.Verdict.{IsJudged, IsVerdict, AllowsAccurately};
+ghost use Rattle.decide.specs.View.{account_asked, verdict_view};
 
 use crate::accounts::is_known;
 use crate::clock::{ClockState, clock_state};
@@ -22,9 +22,8 @@ use tsp::{Request, Rule};
 /// The first of the rules 2 to 9 that a request fails; none where it fails none of them. They speak of the policy file, the
 /// account and the request alone (RFC 3161 2.4.1).
 pub fn judge_request(policy: &Policy, account: Option<&Account>, request: &Request) -> Option<Rule>
-    ensures { MatchOption result
-        ((rule : Rule) → HoldsOf (policy_view policy.now) (option_map (λ a. account_view a.now) account.entry) (request_view request.now) rule)
-        (λ rule. IsFirstFailing (HoldsOf (policy_view policy.now) (option_map (λ a. account_view a.now) account.entry) (request_view request.now)) rule) }
+    ensures first { IsJudged (policy_view policy.now) (account_asked account.entry) (request_view request.now) result }
+    ensures number { IfSome result (λ rule. (2 ≤ number_of rule) × (number_of rule ≤ 9)) }
 {
     match judged(policy, account, request) {
         Ok(_oid) => None,
@@ -39,9 +38,9 @@ fn judged<'p>(
     request: &Request,
 ) -> Result<&'p Oid, Rule>
     ensures { MatchResult result
-        (λ oid. ((rule : Rule) → HoldsOf (policy_view policy.now) (option_map (λ a. account_view a.now) account.entry) (request_view request.now) rule)
-        × (policy_asked (policy_view policy.now) (option_map (λ a. account_view a.now) account.entry) (request_view request.now) ≡ Some oid.now))
-        (λ rule. IsFirstFailing (HoldsOf (policy_view policy.now) (option_map (λ a. account_view a.now) account.entry) (request_view request.now)) rule) }
+        (λ oid. IsJudged (policy_view policy.now) (account_asked account.entry) (request_view request.now) None
+        × (policy_asked (policy_view policy.now) (account_asked account.entry) (request_view request.now) ≡ Some oid.now))
+        (λ rule. IsJudged (policy_view policy.now) (account_asked account.entry) (request_view request.now) (Some rule)) }
 {
     if !request.has_version_one() {
         return Err(Rule::Version);
@@ -82,14 +81,15 @@ pub fn decide<'p>(
     request: &Request,
     facts: &Facts,
 ) -> Verdict<'p>
-    ensures verdict { IsVerdict (policy_view policy.now) (option_map (λ a. account_view a.now) account.entry) (request_view request.now) facts.now result }
-    ensures interval { AllowsAccurately (policy_view policy.now) facts.now result }
+    ensures verdict { IsVerdict (policy_view policy.now) (account_asked account.entry) (request_view request.now) facts.now
+        (verdict_view result) }
+    ensures interval { AllowsAccurately (policy_view policy.now) facts.now (verdict_view result) }
 {
     let oid = match judged(policy, account, request) {
         Ok(oid) => oid,
         Err(rule) => return Verdict::Deny(rule),
     };
-    let ClockState::Good(gen_time) = clock_state(&policy.counter, facts) else {
+    let ClockState::Good(gen_time) = clock_state(&policy.counter, &facts.clock) else {
         return Verdict::Deny(Rule::Clock);
     };
     if !is_within_quota(account, facts.count) {

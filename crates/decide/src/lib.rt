@@ -6,12 +6,14 @@ mod accounts;
 mod clock;
 mod facts;
 mod judge;
+mod laws;
 mod rules;
 #[cfg(test)]
 mod tests;
 mod verdict;
 
 pub use clock::{ClockState, clock_state, now_of};
-pub use facts::{Calibration, Facts, Hold};
+pub use facts::{Calibration, ClockFacts, Facts, Hold};
 pub use judge::{decide, judge_request};
+pub use laws::{gen_times_are_one, verdicts_are_one};
 pub use verdict::{Plan, Verdict};

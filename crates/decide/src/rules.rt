@@ -7,7 +7,7 @@ ghost use Rattle.policy.specs.Kinds.{is_among};
 ghost use Rattle.policy.specs.View.{policy_view, account_view};
 ghost use Rattle.tsp.specs.Rules.{HasKnownAlgorithm, HasAlgorithmLength};
 ghost use Rattle.tsp.specs.View.{request_view};
-ghost use Rattle.decide.specs.Rules.{algorithms_of, policy_asked, default_policy, IsAccepted, AllowsAlgorithm, AllowsExtensions, GivesCertificate, IsWithinQuota};
+ghost use Rattle.decide.specs.Rules.{algorithms_of, policy_asked, IsAccepted, AllowsAlgorithm, AllowsExtensions, GivesCertificate, IsWithinQuota};
 ghost use Rattle.decide.specs.Tests.{lists_algorithm, knows_extension, knows_extensions, are_distinct};
 
 use der::{Oid, oids_have_one_content_and_text};
@@ -38,12 +38,7 @@ pub(crate) fn has_algorithm_length(policy: &Policy, request: &Request) -> bool
 fn have_length(algorithms: &[Algorithm], identifier: &[u8], length: usize) -> bool
     ensures { result ≡ list_all (λ a. not (bytes_eq (oid_content a.oid) identifier.now) || (a.length == length)) algorithms.now }
 {
-    for algorithm in algorithms {
-        if algorithm.oid.content() == identifier && usize::from(algorithm.length) != length {
-            return false;
-        }
-    }
-    true
+    algorithms.iter().all(|a| a.oid.content() != identifier || usize::from(a.length) == length)
 }
 
 /// Whether a name is in a list.
@@ -65,18 +60,8 @@ fn policy_asked<'a>(policy: &'a Policy, account: &Account, request: &'a Request)
 {
     match request.policy() {
         Some(content) => Some(content),
-        None => default_policy(policy, account),
+        None => Some(policy.default_policy(account)?.oid.content()),
     }
-}
-
-/// The account's default policy: its first.
-fn default_policy<'a>(policy: &'a Policy, account: &Account) -> Option<&'a [u8]>
-    ensures { option_map (λ content. content.now) result
-        ≡ option_map oid_content (default_policy (policy_view policy.now) (Some (account_view account.now))) }
-{
-    let name = account.policies.first()?;
-    let tsa_policy = policy.policy_named(name.as_str())?;
-    Some(tsa_policy.oid.content())
 }
 
 /// The policy that is asked for, where it is one of the account's.
@@ -106,12 +91,7 @@ fn is_accepted(policies: &[TsaPolicy], names: &[String], content: &[u8]) -> bool
     ensures { result ≡ list_any (λ p. bytes_eq (oid_content p.oid) content.now && is_among (map string_bytes names.now) (string_bytes p.name))
         policies.now }
 {
-    for tsa_policy in policies {
-        if tsa_policy.oid.content() == content && has_name(names, tsa_policy.name.as_str()) {
-            return true;
-        }
-    }
-    false
+    policies.iter().any(|p| p.oid.content() == content && has_name(names, p.name.as_str()))
 }
 
 /// Whether the policy allows the request's algorithm.
@@ -127,28 +107,18 @@ fn is_listed(policy: &Policy, content: &[u8], identifier: &[u8]) -> bool
     ensures { result ≡ list_any (λ p. bytes_eq (oid_content p.oid) content.now && lists_algorithm policy.now.algorithms.items identifier.now p)
         policy.now.policies.items }
 {
-    for tsa_policy in &policy.policies {
-        if tsa_policy.oid.content() == content
-            && lists_algorithm(&policy.algorithms, identifier, tsa_policy)
-        {
-            return true;
-        }
-    }
-    false
+    policy.policies.iter().any(|p| {
+        p.oid.content() == content && lists_algorithm(&policy.algorithms, identifier, p)
+    })
 }
 
 /// Whether a policy lists an algorithm with this identifier.
 fn lists_algorithm(algorithms: &[Algorithm], identifier: &[u8], tsa_policy: &TsaPolicy) -> bool
     ensures { result ≡ lists_algorithm algorithms.now identifier.now tsa_policy.now }
 {
-    for algorithm in algorithms {
-        if algorithm.oid.content() == identifier
-            && has_name(&tsa_policy.algorithms, algorithm.name.as_str())
-        {
-            return true;
-        }
-    }
-    false
+    algorithms.iter().any(|a| {
+        a.oid.content() == identifier && has_name(&tsa_policy.algorithms, a.name.as_str())
+    })
 }
 
 /// Whether there are no extensions, or the policy knows each and none stands twice.
@@ -245,12 +215,9 @@ pub(crate) fn gives_certificate(policy: &Policy, oid: &Oid, request: &Request) -
 fn is_given_out(policies: &[TsaPolicy], content: &[u8]) -> bool
     ensures { result ≡ list_any (λ p. bytes_eq (oid_content p.oid) content.now && p.certificate) policies.now }
 {
-    for tsa_policy in policies {
-        if tsa_policy.oid.content() == content && tsa_policy.certificate {
-            return true;
-        }
-    }
-    false
+    policies
+        .iter()
+        .any(|p| p.oid.content() == content && p.certificate)
 }
 
 /// Whether the account has had fewer reservations on the day than its quota.

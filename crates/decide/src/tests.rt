@@ -160,10 +160,12 @@ fn is_met(alloc: Global, case: &Case) -> Result<bool, Fail> {
         None => None,
     };
     let facts = Facts {
-        reading: case.reading,
-        calibration: case.calibration,
-        held: false,
-        last_gen_time,
+        clock: ClockFacts {
+            reading: case.reading,
+            calibration: case.calibration,
+            held: false,
+            last_gen_time,
+        },
         count: case.count,
     };
     match decided(&policy, case.account, &request, &facts) {
@@ -553,17 +555,17 @@ fn holds(rt: HostRuntime) -> Result<(), Fail> {
     assert!(rt; !hold.contains(now_of(0, &before)));
     for (reading, held) in [(0, true), (999_999, true), (1_000_000, false)] {
         assert_eq!(rt; hold.contains(now_of(reading, &EXACT)), held, "{reading}");
-        let facts = Facts {
+        let clock = ClockFacts {
             reading,
             calibration: Some(EXACT),
             held,
             last_gen_time: None,
-            count: 0,
         };
+        let facts = Facts { clock, count: 0 };
         let said = decided(&policy, Some("guest"), &request, &facts);
         assert_eq!(rt; said == Err(Rule::Clock), held, "{reading}");
         assert_eq!(rt;
-            clock_state(&policy.counter, &facts) == ClockState::Bad,
+            clock_state(&policy.counter, &clock) == ClockState::Bad,
             held,
             "{reading}"
         );
@@ -591,5 +593,7 @@ fn knows_its_own_accounts(rt: HostRuntime) -> Result<(), Fail> {
         judge_request(&policy, other.account_named("alice"), &request),
         None
     );
+    verdicts_are_one();
+    gen_times_are_one();
     Ok(())
 }

@@ -1,3 +1,4 @@
+pub mod Searches
 pub mod Keys
 pub mod KindsRead
 pub mod OidTexts

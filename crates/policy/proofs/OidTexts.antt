@@ -2,7 +2,9 @@
 use Rattle.std.proofs.Common.{◌≡◌, ℕ, zero, suc, ◌+◌, ◌-◌, ◌*◌, ◌<◌, ◌≤◌, Bool, true, false, ◌&&◌, eqb, ltb, leb, ◌^◌, Decides, List, [], ◌∷◌, ◌++◌, length, map, Some, None, refl, sym, ap, subst, ◌∙◌, arith}
 use Rattle.std.specs.Int.Digits.{digits_of, number_from_digits_after}
 use Rattle.std.specs.List.{flat_map, list_all, AllByRecursion}
+use Rattle.std.specs.Prelude.{if◌then◌else◌}
 use Rattle.std.specs.Str.{bytes_eq}
+use Rattle.std.proofs.lemmas.Option.{same_Some}
 use Rattle.std.proofs.lemmas.Bool.{ne_eqb, cond-false, cond-true, leb-true, le-leb}
 use Rattle.std.proofs.lemmas.Bool.Decides.{nat_tests, Decides-and, Decides-ltb}
 use Rattle.std.proofs.lemmas.Int.Digits.{number_digits_of}
@@ -86,3 +88,14 @@ unfolding oid_of_text
 oid_of_text-other text other =
     let oid : List ℕ = joined (arcs_after 0 text) in
     cond-false _ _ _ (no_text (tests oid text) oid text (tests_decide oid text) (other oid))
+
+from_test : (b : Bool) (oid text x : List ℕ) → Decides b (IsOid oid × (oid_text oid ≡ text)) → (if b then Some oid else None) ≡ Some x → IsOid x
+from_test true oid text x h e = subst IsOid (same_Some oid x e) (h.0 refl).0
+from_test false oid text x h e = absurd (cc e)
+
+-- what a text gives is an object identifier
+pub oid_of_text-is : (text x : List ℕ) → oid_of_text text ≡ Some x → IsOid x
+unfolding oid_of_text
+oid_of_text-is text x e =
+    let oid : List ℕ = joined (arcs_after 0 text) in
+    from_test (tests oid text) oid text x (tests_decide oid text) e

@@ -2,6 +2,7 @@
 use Rattle.std.proofs.Common.{◌≡◌, ℕ, pos, true, false, codes, List, [], ◌∷◌, refl, Some, None, Ok, Err}
 use Rattle.der.specs.ObjectIdentifier.{decimal, subidentifier_octets}
 use Rattle.toml.specs.Data.{Data, Items, no_items, item, Members, no_members, member, string, integer, array, table}
+use Rattle.policy.specs.HashAlgorithms.{hash_algorithms}
 use Rattle.policy.specs.Kinds.{number_in, is_name, name_in, some_name_in, oid_in, new_name_in, new_oid_in, listed, values_in, names_in, tables_in, entry_in, array_in}
 use Rattle.policy.specs.Meaning.{counter_of, counter_in, algorithm_of, extension_of, tsa_policy_of, account_of, policy_in}
 use Rattle.policy.specs.OidText.{oid_of_text}
@@ -65,7 +66,7 @@ meant = record {
 }
 
 file_is_meant : policy_in (file (counter 1000) (item (algorithm (codes "sha256")) no_items) sha_256 (codes "guest")) ≡ Ok meant
-unfolding number_in is_name name_in some_name_in oid_in new_name_in new_oid_in listed values_in names_in tables_in entry_in array_in counter_of counter_in algorithm_of extension_of tsa_policy_of account_of policy_in oid_of_text decimal subidentifier_octets
+unfolding number_in is_name name_in some_name_in oid_in new_name_in new_oid_in listed values_in names_in tables_in entry_in array_in counter_of counter_in algorithm_of extension_of tsa_policy_of account_of policy_in oid_of_text hash_algorithms decimal subidentifier_octets
 file_is_meant = refl
 
 no_counter_is_missing : policy_in no_members ≡ Err (Missing field.Counter)
@@ -78,9 +79,9 @@ unfolding number_in counter_of counter_in policy_in
 accuracy_is_judged_first = refl
 
 oid_is_a_duplicate : policy_in (file (counter 1000) (item (algorithm (codes "sha256")) (item (algorithm (codes "other")) no_items)) sha_256 (codes "guest")) ≡ Err (Duplicate field.AlgorithmOid)
-unfolding number_in is_name name_in some_name_in oid_in new_name_in new_oid_in listed values_in names_in tables_in entry_in array_in counter_of counter_in algorithm_of extension_of tsa_policy_of account_of policy_in oid_of_text decimal subidentifier_octets
+unfolding number_in is_name name_in some_name_in oid_in new_name_in new_oid_in listed values_in names_in tables_in entry_in array_in counter_of counter_in algorithm_of extension_of tsa_policy_of account_of policy_in oid_of_text hash_algorithms decimal subidentifier_octets
 oid_is_a_duplicate = refl
 
 anonymous_is_unknown : policy_in (file (counter 1000) (item (algorithm (codes "sha256")) no_items) sha_256 (codes "other")) ≡ Err (UnknownName field.CounterAnonymous)
-unfolding number_in is_name name_in some_name_in oid_in new_name_in new_oid_in listed values_in names_in tables_in entry_in array_in counter_of counter_in algorithm_of extension_of tsa_policy_of account_of policy_in oid_of_text decimal subidentifier_octets
+unfolding number_in is_name name_in some_name_in oid_in new_name_in new_oid_in listed values_in names_in tables_in entry_in array_in counter_of counter_in algorithm_of extension_of tsa_policy_of account_of policy_in oid_of_text hash_algorithms decimal subidentifier_octets
 anonymous_is_unknown = refl

@@ -1,21 +1,29 @@
 -- Each record that a policy file means is sound.
-use Rattle.std.proofs.Common.{◌≡◌, ℕ, ◌≤◌, Bool, true, false, not, ◌&&◌, ◌||◌, List, [], ◌∷◌, ◌++◌, length, map, codes, Option, Some, None, Result, Ok, Err, refl, ap, subst, ◌∙◌, arith}
+use Rattle.std.proofs.Common.{◌≡◌, ℕ, ◌≤◌, Bool, true, false, not, ◌&&◌, ◌||◌, List, [], ◌∷◌, ◌++◌, length, map, ◌+◌, ◌/◌, ◌%◌, ◌==◌, codes, Option, Some, None, Result, Ok, Err, refl, ap, subst, ◌∙◌, eqb-true, arith}
 use Rattle.std.specs.List.{AllByRecursion, list_all, list_any}
 use Rattle.std.specs.Str.{bytes_eq}
-use Rattle.std.specs.Prelude.{nat_le}
+use Rattle.std.specs.Prelude.{nat_le, if◌then◌else◌, IfSome}
+use Rattle.std.specs.Result.{result_ok}
+use Rattle.std.proofs.lemmas.Option.{same_Some}
 use Rattle.std.proofs.lemmas.Bool.{and_parts, leb-true}
-use Rattle.std.proofs.lemmas.List.{map-append}
-use Rattle.der.specs.ObjectIdentifier.{oid_content}
+use Rattle.std.proofs.lemmas.List.{map-append, length-append}
+use Rattle.der.specs.ObjectIdentifier.{IsOid, oid_content}
+use Rattle.hex.specs.Hex.{decode_pairs, decode_sized}
+use Rattle.hex.specs.declared.error.FromHexError.{FromHexError}
+use Rattle.hex.specs.declared.error.FromHexError.TheVariants.{OddLength, InvalidStringLength}
+use Rattle.hex.proofs.HexLemmas.{decode_pairs-ok}
 use Rattle.toml.specs.Data.{Data, Items, no_items, item, Members, get_member, as_table, as_integer, as_str}
 use Rattle.toml.specs.Parse.{parse_document}
-use Rattle.policy.specs.Kinds.{◌>>=◌, test, check, given, natural_of, wanted, optional, is_among, is_hash, is_name, are_distinct, number_in, name_in, some_name_in, truth_in, oid_in, new_name_in, new_oid_in, new_hash_in, hash_in, names_in, listed, values_in, fresh, entries_after, entry_in, tables_in, array_in, only}
+use Rattle.policy.specs.Kinds.{◌>>=◌, test, check, given, natural_of, wanted, optional, is_among, is_hash, is_name, are_distinct, number_in, name_in, some_name_in, truth_in, oid_in, new_name_in, new_oid_in, new_hash_in, hash_in, names_in, listed, values_in, fresh, entries_after, entry_in, tables_in, are_tables, count_of, array_in, only}
 use Rattle.policy.specs.Meaning.{lengths_of, is_none_or_among, counter_of, counter_in, algorithm_of, algorithm_in, extension_of, extension_in, tsa_policy_of, tsa_policy_in, account_of, account_in, policy_in, document_in, meaning_of}
+use Rattle.policy.specs.OidText.{oid_of_text}
 use Rattle.policy.specs.Record.{AlgorithmValue, ExtensionValue, TsaPolicyValue, AccountValue, CounterValue, PolicyValue}
 use Rattle.policy.specs.Sound.{are_apart, same_hash, AreListed, IsCounter, IsAlgorithm, IsExtension, IsTsaPolicy, IsAccount, AreEntries, AreAccounts, IsSound}
 use Rattle.policy.specs.declared.fault.PolicyFault.{PolicyFault}
-use Rattle.policy.specs.declared.fault.PolicyFault.TheVariants.{BadValue, Duplicate, UnknownName}
+use Rattle.policy.specs.declared.fault.PolicyFault.TheVariants.{BadValue, Duplicate, UnknownName, TooMany}
 use Rattle.policy.specs.declared.field.Field.{Field}
 use Rattle.policy.specs.declared.field.Field.TheVariants as field
+use Rattle.policy.proofs.OidTexts.{oid_of_text-is}
 
 -- ---- steps
 
@@ -41,6 +49,10 @@ tested false fault x y e = absurd (cc e)
 not_true : (b : Bool) → not b ≡ true → b ≡ false
 not_true true e = absurd (cc e)
 not_true false e = refl
+
+present : {A : Type 0} (name : Field) (o : Option A) (x : A) → given name o ≡ Ok x → o ≡ Some x
+present name None x e = absurd (cc e)
+present name (Some y) x e = ap Some (same_Ok y x e)
 
 -- what a present value and an absent one are
 from_wanted : {A : Type 0} (P : A → Type 0) (name : Field) (read : Data → Result A PolicyFault) → ((d : Data) (x : A) → read d ≡ Ok x → P x)
@@ -82,17 +94,56 @@ new_named name earlier ms x e =
     let t = tested (not (is_among earlier a.value)) (Duplicate name) a.value x a.after in
     subst (IsNew earlier) t.1 (record { fresh_one = not_true (is_among earlier a.value) t.0; name = from_wanted (λ k. is_name k ≡ true) name (name_in name) (named name) (get_member (codes "name") ms) a.value a.is })
 
-new_identified : (name : Field) (earlier : List (List ℕ)) (ms : Members) (x : List ℕ) → new_oid_in name earlier ms ≡ Ok x → is_among earlier (oid_content x) ≡ false
+identified : (name : Field) (d : Data) (x : List ℕ) → oid_in name d ≡ Ok x → IsOid x
+unfolding oid_in
+identified name d x e =
+    let a = bound (given name (as_str d)) _ x e in
+    oid_of_text-is a.value x (present name (oid_of_text a.value) x a.after)
+
+record IsNewOid (earlier : List (List ℕ)) (x : List ℕ) : Type 0 where
+  fresh_one : is_among earlier (oid_content x) ≡ false
+  oid : IsOid x
+
+new_identified : (name : Field) (earlier : List (List ℕ)) (ms : Members) (x : List ℕ) → new_oid_in name earlier ms ≡ Ok x → IsNewOid earlier x
 unfolding new_oid_in
 new_identified name earlier ms x e =
     let a = bound (wanted name (oid_in name) (get_member (codes "oid") ms)) _ x e in
     let b = bound (fresh name earlier (oid_content a.value)) _ x a.after in
     let t = tested (not (is_among earlier (oid_content a.value))) (Duplicate name) (oid_content a.value) b.value b.is in
-    subst (λ k. is_among earlier (oid_content k) ≡ false) (same_Ok a.value x b.after) (not_true (is_among earlier (oid_content a.value)) t.0)
+    subst (IsNewOid earlier) (same_Ok a.value x b.after) (record {
+      fresh_one = not_true (is_among earlier (oid_content a.value)) t.0;
+      oid = from_wanted IsOid name (oid_in name) (identified name) (get_member (codes "oid") ms) a.value a.is;
+    })
 
 no_hash : (earlier : List (Option (List ℕ))) → list_any (λ first. same_hash first None) earlier ≡ false
 no_hash [] = refl
 no_hash (x ∷ xs) = no_hash xs
+
+from_sized : (odd right : Bool) (text : List ℕ) (n : ℕ) (hash : List ℕ) → (right ≡ true → length text / 2 ≡ n)
+    → (if odd then Err OddLength else if right then decode_pairs 0 text else Err InvalidStringLength) ≡ Ok hash → length hash ≡ n
+from_sized true right text n hash half e = absurd (cc e)
+from_sized false true text n hash half e =
+    let pairs = (decode_pairs-ok 0 text hash e).1 in
+    let whole = half refl in omega (arith, pairs, whole)
+from_sized false false text n hash half e = absurd (cc e)
+
+decoded : (r : Result (List ℕ) FromHexError) (hash : List ℕ) → result_ok r ≡ Some hash → r ≡ Ok hash
+decoded (Ok bytes) hash e = ap Ok (same_Some bytes hash e)
+decoded (Err fault) hash e = absurd (cc e)
+
+hashed : (name : Field) (d : Data) (x : List ℕ) → hash_in name d ≡ Ok x → length x ≡ 32
+unfolding hash_in
+hashed name d x e =
+    let a = bound (given name (as_str d)) _ x e in
+    let read = decoded (decode_sized a.value 32) x (present name (result_ok (decode_sized a.value 32)) x a.after) in
+    from_sized (length a.value % 2 == 1) (length a.value / 2 == 32) a.value 32 x (eqb-true (length a.value / 2) 32) read
+
+key_hashed : (name : Field) (earlier : List (Option (List ℕ))) (d : Data) (x : Option (List ℕ)) → new_hash_in name earlier d ≡ Ok x → IfSome x (λ hash. length hash ≡ 32)
+unfolding new_hash_in
+key_hashed name earlier d x e =
+    let a = bound (hash_in name d) _ x e in
+    let t = tested (not (list_any (is_hash a.value) earlier)) (Duplicate name) (Some a.value) x a.after in
+    subst (λ k. IfSome k (λ hash. length hash ≡ 32)) t.1 (hashed name d a.value a.is)
 
 new_hashed : (name : Field) (earlier : List (Option (List ℕ))) (d : Data) (x : Option (List ℕ)) → new_hash_in name earlier d ≡ Ok x → list_any (λ first. same_hash first x) earlier ≡ false
 unfolding new_hash_in
@@ -132,6 +183,33 @@ unfolding array_in entry_in
 in_array name most read Q more none o entries e =
     let a = bound (optional no_items (tables_in name most) o) _ entries e in
     kept (entry_in name read) Q (λ earlier d entry h q. let b = bound (given name (as_table d)) _ entry h in more earlier b.value entry b.after q) a.value [] entries a.after none
+
+-- how many there are
+counted : {A : Type 0} (read : List A → Data → Result A PolicyFault) (ds : Items) (earlier entries : List A) → entries_after read earlier ds ≡ Ok entries
+    → length entries ≡ length earlier + count_of ds
+counted read no_items earlier entries e = let same = ap length (same_Ok earlier entries e) in omega (arith, same)
+counted read (item d ds) earlier entries e =
+    let a = bound (read earlier d) _ entries e in
+    let others = counted read ds (earlier ++ a.value ∷ []) entries a.after in
+    let one = length-append earlier (a.value ∷ []) in omega (arith, others, one)
+
+few_tables : (name : Field) (most : ℕ) (d : Data) (ds : Items) → tables_in name most d ≡ Ok ds → count_of ds ≤ most
+unfolding tables_in
+few_tables name most d ds e =
+    let a = bound (values_in name d) _ ds e in
+    let b = bound (check (are_tables a.value) (BadValue name)) _ ds a.after in
+    let t = tested (nat_le (count_of a.value) most) (TooMany name) a.value ds b.after in
+    subst (λ k. count_of k ≤ most) t.1 (leb-true (count_of a.value) most t.0)
+
+few_in : {A : Type 0} (name : Field) (most : ℕ) (read : List A → Members → Result A PolicyFault) (o : Option Data) (entries : List A)
+    → array_in name most read o ≡ Ok entries → length entries ≤ most
+unfolding array_in
+few_in name most read o entries e =
+    let a = bound (optional no_items (tables_in name most) o) _ entries e in
+    let n = counted (entry_in name read) a.value [] entries a.after in
+    let least : 0 ≤ most = omega arith in
+    let m = from_optional (λ ds. count_of ds ≤ most) no_items (tables_in name most) least (few_tables name most) o a.value a.is in
+    omega (arith, n, m)
 
 or_false : (a b : Bool) → (a || b) ≡ false → (a ≡ false) × (b ≡ false)
 or_false true b e = absurd (cc e)
@@ -175,10 +253,11 @@ algorithms_more earlier ms entry e are =
     let oid = bound (new_oid_in field.AlgorithmOid (map (λ e. oid_content e.oid) earlier) ms) _ entry name.after in
     let size = bound (wanted field.AlgorithmLength (number_in field.AlgorithmLength (lengths_of (oid_content oid.value)).0 (lengths_of (oid_content oid.value)).1) (get_member (codes "length") ms)) _ entry oid.after in
     let new = new_named field.AlgorithmName (map (λ e. e.name) earlier) ms name.value name.is in
+    let new_oid = new_identified field.AlgorithmOid (map (λ e. oid_content e.oid) earlier) ms oid.value oid.is in
     let range = from_wanted (λ n. ((lengths_of (oid_content oid.value)).0 ≤ n) × (n ≤ (lengths_of (oid_content oid.value)).1)) field.AlgorithmLength (number_in field.AlgorithmLength (lengths_of (oid_content oid.value)).0 (lengths_of (oid_content oid.value)).1) (in_range field.AlgorithmLength (lengths_of (oid_content oid.value)).0 (lengths_of (oid_content oid.value)).1) (get_member (codes "length") ms) size.value size.is in
     subst (λ k. AreEntries (λ e. e.name) (λ e. oid_content e.oid) IsAlgorithm (earlier ++ k ∷ [])) (same_Ok (record { name = name.value; oid = oid.value; length = size.value }) entry size.after)
-    (entries_more (λ e. e.name) (λ e. oid_content e.oid) IsAlgorithm earlier (record { name = name.value; oid = oid.value; length = size.value }) are new.fresh_one (new_identified field.AlgorithmOid (map (λ e. oid_content e.oid) earlier) ms oid.value oid.is)
-    (record { name = new.name; least = range.0; greatest = range.1 }))
+    (entries_more (λ e. e.name) (λ e. oid_content e.oid) IsAlgorithm earlier (record { name = name.value; oid = oid.value; length = size.value }) are new.fresh_one new_oid.fresh_one
+    (record { name = new.name; oid = new_oid.oid; least = range.0; greatest = range.1 }))
 
 extensions_more : (earlier : List ExtensionValue) (ms : Members) (entry : ExtensionValue) → extension_in earlier ms ≡ Ok entry
     → AreEntries (λ e. e.name) (λ e. oid_content e.oid) IsExtension earlier → AreEntries (λ e. e.name) (λ e. oid_content e.oid) IsExtension (earlier ++ entry ∷ [])
@@ -189,10 +268,11 @@ extensions_more earlier ms entry e are =
     let oid = bound (new_oid_in field.ExtensionOid (map (λ e. oid_content e.oid) earlier) ms) _ entry name.after in
     let size = bound (wanted field.ExtensionMaxLength (number_in field.ExtensionMaxLength 0 4096) (get_member (codes "max_length") ms)) _ entry oid.after in
     let new = new_named field.ExtensionName (map (λ e. e.name) earlier) ms name.value name.is in
+    let new_oid = new_identified field.ExtensionOid (map (λ e. oid_content e.oid) earlier) ms oid.value oid.is in
     let range = from_wanted (λ n. (0 ≤ n) × (n ≤ 4096)) field.ExtensionMaxLength (number_in field.ExtensionMaxLength 0 4096) (in_range field.ExtensionMaxLength 0 4096) (get_member (codes "max_length") ms) size.value size.is in
     subst (λ k. AreEntries (λ e. e.name) (λ e. oid_content e.oid) IsExtension (earlier ++ k ∷ [])) (same_Ok (record { name = name.value; oid = oid.value; max_length = size.value }) entry size.after)
-    (entries_more (λ e. e.name) (λ e. oid_content e.oid) IsExtension earlier (record { name = name.value; oid = oid.value; max_length = size.value }) are new.fresh_one (new_identified field.ExtensionOid (map (λ e. oid_content e.oid) earlier) ms oid.value oid.is)
-    (record { name = new.name; max_length = range.1 }))
+    (entries_more (λ e. e.name) (λ e. oid_content e.oid) IsExtension earlier (record { name = name.value; oid = oid.value; max_length = size.value }) are new.fresh_one new_oid.fresh_one
+    (record { name = new.name; oid = new_oid.oid; max_length = range.1 }))
 
 -- no names
 no_names : (existing : List (List ℕ)) → AreListed 0 existing []
@@ -209,10 +289,12 @@ tsa_policies_more algorithm_names extension_names earlier ms entry e are =
     let extensions = bound (optional [] (names_in field.PolicyExtensions 0 extension_names) (get_member (codes "extensions") ms)) _ entry algorithms.after in
     let certificate = bound (optional true (truth_in field.PolicyCertificate) (get_member (codes "certificate") ms)) _ entry extensions.after in
     let new = new_named field.PolicyName (map (λ e. e.name) earlier) ms name.value name.is in
+    let new_oid = new_identified field.PolicyOid (map (λ e. oid_content e.oid) earlier) ms oid.value oid.is in
     subst (λ k. AreEntries (λ e. e.name) (λ e. oid_content e.oid) (IsTsaPolicy algorithm_names extension_names) (earlier ++ k ∷ [])) (same_Ok (record { name = name.value; oid = oid.value; algorithms = algorithms.value; extensions = extensions.value; certificate = certificate.value }) entry certificate.after)
-    (entries_more (λ e. e.name) (λ e. oid_content e.oid) (IsTsaPolicy algorithm_names extension_names) earlier (record { name = name.value; oid = oid.value; algorithms = algorithms.value; extensions = extensions.value; certificate = certificate.value }) are new.fresh_one (new_identified field.PolicyOid (map (λ e. oid_content e.oid) earlier) ms oid.value oid.is)
+    (entries_more (λ e. e.name) (λ e. oid_content e.oid) (IsTsaPolicy algorithm_names extension_names) earlier (record { name = name.value; oid = oid.value; algorithms = algorithms.value; extensions = extensions.value; certificate = certificate.value }) are new.fresh_one new_oid.fresh_one
     (record {
       name = new.name;
+      oid = new_oid.oid;
       algorithms = from_wanted (AreListed 1 algorithm_names) field.PolicyAlgorithms (names_in field.PolicyAlgorithms 1 algorithm_names) (are_listed field.PolicyAlgorithms 1 algorithm_names) (get_member (codes "algorithms") ms) algorithms.value algorithms.is;
       extensions = from_optional (AreListed 0 extension_names) [] (names_in field.PolicyExtensions 0 extension_names) (no_names extension_names) (are_listed field.PolicyExtensions 0 extension_names) (get_member (codes "extensions") ms) extensions.value extensions.is;
     }))
@@ -236,6 +318,7 @@ accounts_more policy_names earlier ms entry e are =
           (from_optional (λ k. list_any (λ first. same_hash first k) (map (λ e. e.key_sha256) earlier) ≡ false) None (new_hash_in field.AccountKeySha256 (map (λ e. e.key_sha256) earlier)) (no_hash (map (λ e. e.key_sha256) earlier)) (new_hashed field.AccountKeySha256 (map (λ e. e.key_sha256) earlier)) (get_member (codes "key_sha256") ms) key.value key.is);
       each = all_more (IsAccount policy_names) earlier account are.each (record {
         name = new.name;
+        key_sha256 = from_optional (λ k. IfSome k (λ hash. length hash ≡ 32)) None (new_hash_in field.AccountKeySha256 (map (λ e. e.key_sha256) earlier)) tt (key_hashed field.AccountKeySha256 (map (λ e. e.key_sha256) earlier)) (get_member (codes "key_sha256") ms) key.value key.is;
         policies = from_wanted (AreListed 1 policy_names) field.AccountPolicies (names_in field.AccountPolicies 1 policy_names) (are_listed field.AccountPolicies 1 policy_names) (get_member (codes "policies") ms) policies.value policies.is;
         daily_quota = range.1;
       });
@@ -276,6 +359,12 @@ sound_table ms p e =
     let accounts = bound (array_in field.Account 64 (account_in (map (λ e. e.name) policies.value)) (get_member (codes "account") ms)) _ p policies.after in
     let t = tested (is_none_or_among (map (λ e. e.name) accounts.value) counter.value.anonymous) (UnknownName field.CounterAnonymous) (record { counter = counter.value; algorithms = algorithms.value; extensions = extensions.value; policies = policies.value; accounts = accounts.value }) p accounts.after in
     subst IsSound t.1 (record {
+      few = record {
+        algorithms = few_in field.Algorithm 8 algorithm_in (get_member (codes "algorithm") ms) algorithms.value algorithms.is;
+        extensions = few_in field.Extension 32 extension_in (get_member (codes "extension") ms) extensions.value extensions.is;
+        policies = few_in field.Policy 16 (tsa_policy_in (map (λ e. e.name) algorithms.value) (map (λ e. e.name) extensions.value)) (get_member (codes "policy") ms) policies.value policies.is;
+        accounts = few_in field.Account 64 (account_in (map (λ e. e.name) policies.value)) (get_member (codes "account") ms) accounts.value accounts.is;
+      };
       counter = from_wanted IsCounter field.Counter counter_in is_counter (get_member (codes "counter") ms) counter.value counter.is;
       algorithms = in_array field.Algorithm 8 algorithm_in (AreEntries (λ e. e.name) (λ e. oid_content e.oid) IsAlgorithm) algorithms_more (record { names = refl; oids = refl; each = tt }) (get_member (codes "algorithm") ms) algorithms.value algorithms.is;
       extensions = in_array field.Extension 32 extension_in (AreEntries (λ e. e.name) (λ e. oid_content e.oid) IsExtension) extensions_more (record { names = refl; oids = refl; each = tt }) (get_member (codes "extension") ms) extensions.value extensions.is;

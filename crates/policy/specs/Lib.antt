@@ -1,7 +1,8 @@
 pub mod Fault
-pub mod Gives
+pub mod Answers
 pub mod Record
 pub mod OidText
+pub mod HashAlgorithms
 pub mod Kinds
 pub mod Meaning
 pub mod View

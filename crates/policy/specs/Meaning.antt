@@ -1,26 +1,25 @@
 -- The meaning of a policy file: the record, or the first fault.
 use Rattle.std.specs.Prelude.{ℕ, Bool, true, false, if◌then◌else◌, List, [], ◌∷◌, map, codes, Option, Some, None, Result, Ok, Err}
+use Rattle.std.specs.List.{find}
 use Rattle.std.specs.Str.{bytes_eq}
 use Rattle.der.specs.ObjectIdentifier.{oid_content}
 use Rattle.toml.specs.Data.{Data, Members, get_member, as_table}
 use Rattle.toml.specs.Parse.{parse_document}
+use Rattle.policy.specs.HashAlgorithms.{HashAlgorithmValue, hash_algorithms}
 use Rattle.policy.specs.Kinds.{◌>>=◌, test, given, wanted, optional, is_among, only, truth_in, number_in, new_name_in, new_oid_in, new_hash_in, some_name_in, names_in, array_in}
 use Rattle.policy.specs.Record.{AlgorithmValue, ExtensionValue, TsaPolicyValue, AccountValue, CounterValue, PolicyValue}
 use Rattle.policy.specs.declared.fault.PolicyFault.{PolicyFault}
 use Rattle.policy.specs.declared.fault.PolicyFault.TheVariants.{Toml, UnknownName}
 use Rattle.policy.specs.declared.field.Field.TheVariants as field
 
--- the hash algorithms whose lengths are fixed, by their contents octets, as least and greatest length of a hash
+-- least and greatest length: those of a hash algorithm whose hashes have one length, and else 16 to 64 octets
+abbrev pub one_length_or_any : Option HashAlgorithmValue → ℕ × ℕ
+one_length_or_any None = (16, 64)
+one_length_or_any (Some algorithm) = (algorithm.length, algorithm.length)
+
+-- the least and the greatest length that an algorithm's hashes may have, by the contents octets of its object identifier
 abbrev pub lengths_of : List ℕ → ℕ × ℕ
-lengths_of content =
-    -- SHA-1, 1.3.14.3.2.26
-    if bytes_eq content (43 ∷ 14 ∷ 3 ∷ 2 ∷ 26 ∷ []) then (20, 20)
-    -- SHA-256, SHA-384, SHA-512 and SHA-224: 2.16.840.1.101.3.4.2.1 to .4
-    else if bytes_eq content (96 ∷ 134 ∷ 72 ∷ 1 ∷ 101 ∷ 3 ∷ 4 ∷ 2 ∷ 1 ∷ []) then (32, 32)
-    else if bytes_eq content (96 ∷ 134 ∷ 72 ∷ 1 ∷ 101 ∷ 3 ∷ 4 ∷ 2 ∷ 2 ∷ []) then (48, 48)
-    else if bytes_eq content (96 ∷ 134 ∷ 72 ∷ 1 ∷ 101 ∷ 3 ∷ 4 ∷ 2 ∷ 3 ∷ []) then (64, 64)
-    else if bytes_eq content (96 ∷ 134 ∷ 72 ∷ 1 ∷ 101 ∷ 3 ∷ 4 ∷ 2 ∷ 4 ∷ []) then (28, 28)
-    else (16, 64)
+lengths_of content = one_length_or_any (find (λ a. bytes_eq (oid_content a.oid) content) hash_algorithms)
 
 unfoldable pub counter_of : Members → Result CounterValue PolicyFault
 counter_of ms = do

@@ -1,7 +1,7 @@
 -- The record that a policy file means.
 use Rattle.std.specs.Prelude.{ℕ, List, Bool, Option}
 
--- names are lists of characters, object identifiers lists of subidentifiers (X.690 8.19)
+-- names by their octets, object identifiers by their subidentifiers (X.690 8.19)
 pub record AlgorithmValue : Type 0 where
   pub name : List ℕ
   pub oid : List ℕ

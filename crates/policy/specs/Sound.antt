@@ -1,8 +1,8 @@
 -- What holds of each record that a policy file means.
-use Rattle.std.specs.Prelude.{◌≡◌, ℕ, ◌≤◌, Bool, true, false, not, ◌&&◌, List, [], ◌∷◌, length, map, Option, Some, None}
+use Rattle.std.specs.Prelude.{◌≡◌, ℕ, ◌≤◌, Bool, true, false, not, ◌&&◌, List, [], ◌∷◌, length, map, Option, Some, None, IfSome}
 use Rattle.std.specs.List.{AllByRecursion, list_all, list_any}
 use Rattle.std.specs.Str.{bytes_eq}
-use Rattle.der.specs.ObjectIdentifier.{oid_content}
+use Rattle.der.specs.ObjectIdentifier.{IsOid, oid_content}
 use Rattle.policy.specs.Kinds.{is_among, is_hash, is_name, are_distinct}
 use Rattle.policy.specs.Meaning.{lengths_of, is_none_or_among}
 use Rattle.policy.specs.Record.{AlgorithmValue, ExtensionValue, TsaPolicyValue, AccountValue, CounterValue, PolicyValue}
@@ -33,20 +33,25 @@ pub record IsCounter (counter : CounterValue) : Type 0 where
 
 pub record IsAlgorithm (algorithm : AlgorithmValue) : Type 0 where
   pub name : is_name algorithm.name ≡ true
+  pub oid : IsOid algorithm.oid
   pub least : (lengths_of (oid_content algorithm.oid)).0 ≤ algorithm.length
   pub greatest : algorithm.length ≤ (lengths_of (oid_content algorithm.oid)).1
 
 pub record IsExtension (extension : ExtensionValue) : Type 0 where
   pub name : is_name extension.name ≡ true
+  pub oid : IsOid extension.oid
   pub max_length : extension.max_length ≤ 4096
 
 pub record IsTsaPolicy (algorithm_names extension_names : List (List ℕ)) (policy : TsaPolicyValue) : Type 0 where
   pub name : is_name policy.name ≡ true
+  pub oid : IsOid policy.oid
   pub algorithms : AreListed 1 algorithm_names policy.algorithms
   pub extensions : AreListed 0 extension_names policy.extensions
 
 pub record IsAccount (policy_names : List (List ℕ)) (account : AccountValue) : Type 0 where
   pub name : is_name account.name ≡ true
+  -- the 32 octets of a SHA-256
+  pub key_sha256 : IfSome account.key_sha256 (λ hash. length hash ≡ 32)
   pub policies : AreListed 1 policy_names account.policies
   pub daily_quota : account.daily_quota ≤ 1000000000
 
@@ -62,7 +67,15 @@ pub record AreAccounts (policy_names : List (List ℕ)) (accounts : List Account
   pub hashes : are_apart same_hash (map (λ e. e.key_sha256) accounts) ≡ true
   pub each : AllByRecursion (IsAccount policy_names) accounts
 
+-- no array has more entries than it may
+pub record HasFewEntries (p : PolicyValue) : Type 0 where
+  pub algorithms : length p.algorithms ≤ 8
+  pub extensions : length p.extensions ≤ 32
+  pub policies : length p.policies ≤ 16
+  pub accounts : length p.accounts ≤ 64
+
 pub record IsSound (p : PolicyValue) : Type 0 where
+  pub few : HasFewEntries p
   pub counter : IsCounter p.counter
   pub algorithms : AreEntries (λ e. e.name) (λ e. oid_content e.oid) IsAlgorithm p.algorithms
   pub extensions : AreEntries (λ e. e.name) (λ e. oid_content e.oid) IsExtension p.extensions

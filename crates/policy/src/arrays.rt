@@ -3,7 +3,7 @@ ghost use Rattle.std.specs.Prelude.{◌≡◌, ◌≤◌, ℕ, List, [], None, o
 ghost use Rattle.der.specs.ObjectIdentifier.{oid_content};
 ghost use Rattle.toml.specs.Data.{get_member, as_table};
 ghost use Rattle.toml.specs.View.{view, items_view, table_view};
-ghost use Rattle.policy.specs.Gives.{Gives};
+ghost use Rattle.policy.specs.Answers.{AnswersMeaning};
 ghost use Rattle.policy.specs.Kinds.{given, optional, new_hash_in, are_tables, tables_in, entry_in, entries_after, array_in};
 ghost use Rattle.policy.specs.Meaning.{lengths_of, counter_of, counter_in, algorithm_of, algorithm_in, extension_of, extension_in, tsa_policy_of, tsa_policy_in, account_of, account_in};
 ghost use Rattle.policy.specs.View.{counter_view, algorithm_view, extension_view, tsa_policy_view, account_view};
@@ -12,6 +12,7 @@ use crate::entries::{Account, Algorithm, Counter, Extension, TsaPolicy};
 use crate::fault::PolicyFault;
 use crate::field::Field;
 use crate::find::has_hash;
+use crate::hash_algorithm::HashAlgorithm;
 use crate::reading::{
     hash, member, new_name, new_oid, number, only, optional_name, optional_names, optional_truth,
     some_names, values,
@@ -22,7 +23,7 @@ use toml::{Table, Value};
 /// The table `counter`.
 #[tactic(auto, unfolding(crate::specs::Meaning::counter_in))]
 pub(crate) fn counter(alloc: Global, value: &Value) -> Result<Counter, PolicyFault>
-    ensures { Gives counter_view result (counter_in (view value.now)) }
+    ensures { AnswersMeaning counter_view result (counter_in (view value.now)) }
 {
     let Some(table) = value.as_table() else {
         return Err(PolicyFault::BadValue(Field::Counter));
@@ -32,7 +33,7 @@ pub(crate) fn counter(alloc: Global, value: &Value) -> Result<Counter, PolicyFau
 
 #[tactic(auto, unfolding(crate::specs::Meaning::counter_of))]
 fn counter_of(alloc: Global, table: &Table) -> Result<Counter, PolicyFault>
-    ensures { Gives counter_view result (counter_of (table_view table.now)) }
+    ensures { AnswersMeaning counter_view result (counter_of (table_view table.now)) }
 {
     only(
         table,
@@ -67,40 +68,23 @@ fn counter_of(alloc: Global, table: &Table) -> Result<Counter, PolicyFault>
     })
 }
 
-/// 1.3.14.3.2.26
-const SHA_1: [u8; 5] = [0x2b, 0x0e, 0x03, 0x02, 0x1a];
-/// 2.16.840.1.101.3.4.2.1
-const SHA_256: [u8; 9] = [0x60, 0x86, 0x48, 0x01, 0x65, 0x03, 0x04, 0x02, 0x01];
-/// 2.16.840.1.101.3.4.2.2
-const SHA_384: [u8; 9] = [0x60, 0x86, 0x48, 0x01, 0x65, 0x03, 0x04, 0x02, 0x02];
-/// 2.16.840.1.101.3.4.2.3
-const SHA_512: [u8; 9] = [0x60, 0x86, 0x48, 0x01, 0x65, 0x03, 0x04, 0x02, 0x03];
-/// 2.16.840.1.101.3.4.2.4
-const SHA_224: [u8; 9] = [0x60, 0x86, 0x48, 0x01, 0x65, 0x03, 0x04, 0x02, 0x04];
-
 /// The least and the greatest length that an algorithm's hashes may have, by its object identifier's contents octets.
 fn lengths(content: &[u8]) -> (u64, u64)
     ensures lengths { result ≡ lengths_of content.now }
     ensures small { result.1 ≤ 64 }
 {
-    if content == SHA_1.as_slice() {
-        (20, 20)
-    } else if content == SHA_256.as_slice() {
-        (32, 32)
-    } else if content == SHA_384.as_slice() {
-        (48, 48)
-    } else if content == SHA_512.as_slice() {
-        (64, 64)
-    } else if content == SHA_224.as_slice() {
-        (28, 28)
-    } else {
-        (16, 64)
+    match HashAlgorithm::of_identifier(content) {
+        Some(algorithm) => {
+            let length = u64::from(algorithm.hash_length());
+            (length, length)
+        }
+        None => (16, 64),
     }
 }
 
 #[tactic(auto, unfolding(crate::specs::Meaning::algorithm_of))]
 fn algorithm(alloc: Global, earlier: &[Algorithm], table: &Table) -> Result<Algorithm, PolicyFault>
-    ensures { Gives algorithm_view result
+    ensures { AnswersMeaning algorithm_view result
         (algorithm_of (map (λ e. string_bytes e.name) earlier.now) (map (λ e. oid_content e.oid) earlier.now) (table_view table.now)) }
 {
     only(table, &["name", "oid", "length"])?;
@@ -117,7 +101,7 @@ fn algorithm(alloc: Global, earlier: &[Algorithm], table: &Table) -> Result<Algo
 
 #[tactic(auto, unfolding(crate::specs::Meaning::extension_of))]
 fn extension(alloc: Global, earlier: &[Extension], table: &Table) -> Result<Extension, PolicyFault>
-    ensures { Gives extension_view result
+    ensures { AnswersMeaning extension_view result
         (extension_of (map (λ e. string_bytes e.name) earlier.now) (map (λ e. oid_content e.oid) earlier.now) (table_view table.now)) }
 {
     only(table, &["name", "oid", "max_length"])?;
@@ -139,7 +123,7 @@ fn tsa_policy(
     earlier: &[TsaPolicy],
     table: &Table,
 ) -> Result<TsaPolicy, PolicyFault>
-    ensures { Gives tsa_policy_view result
+    ensures { AnswersMeaning tsa_policy_view result
         (tsa_policy_of (map (λ e. string_bytes e.name) algorithms.now) (map (λ e. string_bytes e.name) extensions.now)
         (map (λ e. string_bytes e.name) earlier.now) (map (λ e. oid_content e.oid) earlier.now) (table_view table.now)) }
 {
@@ -199,7 +183,7 @@ fn account(
     earlier: &[Account],
     table: &Table,
 ) -> Result<Account, PolicyFault>
-    ensures { Gives account_view result
+    ensures { AnswersMeaning account_view result
         (account_of (map (λ e. string_bytes e.name) policies.now) (map (λ e. string_bytes e.name) earlier.now)
         (map (λ e. e.key_sha256) earlier.now) (table_view table.now)) }
 {
@@ -251,7 +235,7 @@ fn are_tables(values: &[Value]) -> bool
 /// The tables of an array of at most so many.
 #[tactic(auto, unfolding(crate::specs::Kinds::tables_in), using(crate::proofs::EntriesRead::count_of_view))]
 fn tables<'v>(field: Field, most: usize, value: &'v Value) -> Result<&'v [Value], PolicyFault>
-    ensures { Gives (λ vs. items_view vs.now) result (tables_in field most (view value.now)) }
+    ensures { AnswersMeaning (λ vs. items_view vs.now) result (tables_in field most (view value.now)) }
 {
     let values = values(field, value)?;
     if !are_tables(values) {
@@ -265,7 +249,7 @@ fn tables<'v>(field: Field, most: usize, value: &'v Value) -> Result<&'v [Value]
 
 /// An entry's table.
 fn table_of<'v>(field: Field, value: &'v Value) -> Result<&'v Table, PolicyFault>
-    ensures { Gives (λ t. table_view t.now) result (given field (as_table (view value.now))) }
+    ensures { AnswersMeaning (λ t. table_view t.now) result (given field (as_table (view value.now))) }
 {
     match value.as_table() {
         Some(table) => Ok(table),
@@ -279,7 +263,7 @@ fn algorithm_entry(
     earlier: &[Algorithm],
     value: &Value,
 ) -> Result<Algorithm, PolicyFault>
-    ensures { Gives algorithm_view result (entry_in Field.Algorithm algorithm_in (map algorithm_view earlier.now) (view value.now)) }
+    ensures { AnswersMeaning algorithm_view result (entry_in Field.Algorithm algorithm_in (map algorithm_view earlier.now) (view value.now)) }
 {
     let table = table_of(Field::Algorithm, value)?;
     algorithm(alloc, earlier, table)
@@ -291,7 +275,7 @@ fn extension_entry(
     earlier: &[Extension],
     value: &Value,
 ) -> Result<Extension, PolicyFault>
-    ensures { Gives extension_view result (entry_in Field.Extension extension_in (map extension_view earlier.now) (view value.now)) }
+    ensures { AnswersMeaning extension_view result (entry_in Field.Extension extension_in (map extension_view earlier.now) (view value.now)) }
 {
     let table = table_of(Field::Extension, value)?;
     extension(alloc, earlier, table)
@@ -305,7 +289,7 @@ fn tsa_policy_entry(
     earlier: &[TsaPolicy],
     value: &Value,
 ) -> Result<TsaPolicy, PolicyFault>
-    ensures { Gives tsa_policy_view result
+    ensures { AnswersMeaning tsa_policy_view result
         (entry_in Field.Policy (tsa_policy_in (map (λ e. string_bytes e.name) algorithms.now) (map (λ e. string_bytes e.name) extensions.now))
         (map tsa_policy_view earlier.now) (view value.now)) }
 {
@@ -320,7 +304,7 @@ fn account_entry(
     earlier: &[Account],
     value: &Value,
 ) -> Result<Account, PolicyFault>
-    ensures { Gives account_view result
+    ensures { AnswersMeaning account_view result
         (entry_in Field.Account (account_in (map (λ e. string_bytes e.name) policies.now)) (map account_view earlier.now) (view value.now)) }
 {
     let table = table_of(Field::Account, value)?;
@@ -328,7 +312,7 @@ fn account_entry(
 }
 
 fn algorithm_entries(alloc: Global, values: &[Value]) -> Result<Vec<Algorithm>, PolicyFault>
-    ensures { Gives (λ es. map algorithm_view es.items) result
+    ensures { AnswersMeaning (λ es. map algorithm_view es.items) result
         (entries_after (entry_in Field.Algorithm algorithm_in) [] (items_view values.now)) }
 {
     let mut entries = Vec::new(alloc);
@@ -340,7 +324,7 @@ fn algorithm_entries(alloc: Global, values: &[Value]) -> Result<Vec<Algorithm>, 
 }
 
 fn extension_entries(alloc: Global, values: &[Value]) -> Result<Vec<Extension>, PolicyFault>
-    ensures { Gives (λ es. map extension_view es.items) result
+    ensures { AnswersMeaning (λ es. map extension_view es.items) result
         (entries_after (entry_in Field.Extension extension_in) [] (items_view values.now)) }
 {
     let mut entries = Vec::new(alloc);
@@ -357,7 +341,7 @@ fn tsa_policy_entries(
     extensions: &[Extension],
     values: &[Value],
 ) -> Result<Vec<TsaPolicy>, PolicyFault>
-    ensures { Gives (λ es. map tsa_policy_view es.items) result
+    ensures { AnswersMeaning (λ es. map tsa_policy_view es.items) result
         (entries_after (entry_in Field.Policy
         (tsa_policy_in (map (λ e. string_bytes e.name) algorithms.now) (map (λ e. string_bytes e.name) extensions.now)))
         [] (items_view values.now)) }
@@ -375,7 +359,7 @@ fn account_entries(
     policies: &[TsaPolicy],
     values: &[Value],
 ) -> Result<Vec<Account>, PolicyFault>
-    ensures { Gives (λ es. map account_view es.items) result
+    ensures { AnswersMeaning (λ es. map account_view es.items) result
         (entries_after (entry_in Field.Account (account_in (map (λ e. string_bytes e.name) policies.now))) [] (items_view values.now)) }
 {
     let mut entries = Vec::new(alloc);
@@ -389,7 +373,7 @@ fn account_entries(
 /// The array `algorithm`, empty where it is absent.
 #[tactic(auto, unfolding(crate::specs::Kinds::array_in))]
 pub(crate) fn algorithms(alloc: Global, document: &Table) -> Result<Vec<Algorithm>, PolicyFault>
-    ensures { Gives (λ es. map algorithm_view es.items) result
+    ensures { AnswersMeaning (λ es. map algorithm_view es.items) result
         (array_in Field.Algorithm 8 algorithm_in (get_member (codes "algorithm") (table_view document.now))) }
 {
     let Some(value) = member(document, "algorithm") else {
@@ -402,7 +386,7 @@ pub(crate) fn algorithms(alloc: Global, document: &Table) -> Result<Vec<Algorith
 /// The array `extension`, empty where it is absent.
 #[tactic(auto, unfolding(crate::specs::Kinds::array_in))]
 pub(crate) fn extensions(alloc: Global, document: &Table) -> Result<Vec<Extension>, PolicyFault>
-    ensures { Gives (λ es. map extension_view es.items) result
+    ensures { AnswersMeaning (λ es. map extension_view es.items) result
         (array_in Field.Extension 32 extension_in (get_member (codes "extension") (table_view document.now))) }
 {
     let Some(value) = member(document, "extension") else {
@@ -420,7 +404,7 @@ pub(crate) fn tsa_policies(
     extensions: &[Extension],
     document: &Table,
 ) -> Result<Vec<TsaPolicy>, PolicyFault>
-    ensures { Gives (λ es. map tsa_policy_view es.items) result
+    ensures { AnswersMeaning (λ es. map tsa_policy_view es.items) result
         (array_in Field.Policy 16
         (tsa_policy_in (map (λ e. string_bytes e.name) algorithms.now) (map (λ e. string_bytes e.name) extensions.now))
         (get_member (codes "policy") (table_view document.now))) }
@@ -439,7 +423,7 @@ pub(crate) fn accounts(
     policies: &[TsaPolicy],
     document: &Table,
 ) -> Result<Vec<Account>, PolicyFault>
-    ensures { Gives (λ es. map account_view es.items) result
+    ensures { AnswersMeaning (λ es. map account_view es.items) result
         (array_in Field.Account 64 (account_in (map (λ e. string_bytes e.name) policies.now))
         (get_member (codes "account") (table_view document.now))) }
 {

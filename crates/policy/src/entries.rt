@@ -1,3 +1,5 @@
+ghost use Rattle.std.specs.Prelude.{◌≤◌};
+
 use der::Oid;
 
 /// How the counter keeps time (the table `counter`).
@@ -15,6 +17,9 @@ pub struct Counter {
     pub max_age_us: u64,
     /// The name of the account of those that show no key, if any.
     pub anonymous: Option<String>,
+    ghost accuracy_some: { 1 ≤ accuracy_us },
+    ghost accuracy: { accuracy_us ≤ 1_000_000 },
+    ghost digits: { fraction_digits ≤ 6 },
 }
 
 /// A hash algorithm that requests may name (the array `algorithm`).

@@ -110,49 +110,28 @@ impl Identified for TsaPolicy {
 pub(crate) fn find_by_name<'e, T: Named>(entries: &'e [T], name: &str) -> Option<&'e T>
     ensures { option_map (λ e. e.now) result ≡ find (λ e. bytes_eq (T.name_of e) name.now) entries.now }
 {
-    for entry in entries {
-        if entry.name() == name {
-            return Some(entry);
-        }
-    }
-    None
+    entries.iter().find(|entry| entry.name() == name)
 }
 
 /// The first entry whose object identifier has these contents octets.
 pub(crate) fn find_by_oid<'e, T: Identified>(entries: &'e [T], content: &[u8]) -> Option<&'e T>
     ensures { option_map (λ e. e.now) result ≡ find (λ e. bytes_eq (oid_content (T.oid_of e)) content.now) entries.now }
 {
-    for entry in entries {
-        if entry.oid_content() == content {
-            return Some(entry);
-        }
-    }
-    None
+    entries.iter().find(|entry| entry.oid_content() == content)
 }
 
 /// Whether an entry has that name.
 pub(crate) fn has_name<T: Named>(entries: &[T], name: &str) -> bool
     ensures { result ≡ is_among (map T.name_of entries.now) name.now }
 {
-    for other in entries {
-        if other.name() == name {
-            return true;
-        }
-    }
-    false
+    find_by_name(entries, name).is_some()
 }
 
 /// Whether an entry has that object identifier.
 pub(crate) fn has_oid<T: Identified>(entries: &[T], oid: &Oid) -> bool
     ensures { result ≡ is_among (map (λ e. oid_content (T.oid_of e)) entries.now) (oid_content oid.now) }
 {
-    let content = oid.content();
-    for other in entries {
-        if other.oid_content() == content {
-            return true;
-        }
-    }
-    false
+    find_by_oid(entries, oid.content()).is_some()
 }
 
 /// Whether an account has the key with this SHA-256.
@@ -169,24 +148,14 @@ fn is_key_hash(account: &Account, hash: &[u8; 32]) -> bool
 pub(crate) fn find_by_hash<'e>(accounts: &'e [Account], hash: &[u8; 32]) -> Option<&'e Account>
     ensures { option_map (λ a. a.now) result ≡ find (λ a. is_hash hash.now a.key_sha256) accounts.now }
 {
-    for account in accounts {
-        if is_key_hash(account, hash) {
-            return Some(account);
-        }
-    }
-    None
+    accounts.iter().find(|account| is_key_hash(account, hash))
 }
 
 /// Whether an account has the key with this SHA-256.
 pub(crate) fn has_hash(accounts: &[Account], hash: &[u8; 32]) -> bool
     ensures { result ≡ list_any (is_hash hash.now) (map (λ a. a.key_sha256) accounts.now) }
 {
-    for other in accounts {
-        if is_key_hash(other, hash) {
-            return true;
-        }
-    }
-    false
+    find_by_hash(accounts, hash).is_some()
 }
 
 /// Whether no name stands twice.

@@ -6,6 +6,7 @@ mod entries;
 mod fault;
 mod field;
 mod find;
+mod hash_algorithm;
 mod laws;
 mod policy;
 mod reading;
@@ -13,6 +14,7 @@ mod reading;
 pub use entries::{Account, Algorithm, Counter, Extension, TsaPolicy};
 pub use fault::PolicyFault;
 pub use field::Field;
+pub use hash_algorithm::HashAlgorithm;
 pub use laws::records_are_sound;
 pub use policy::Policy;
 

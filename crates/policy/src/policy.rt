@@ -1,14 +1,9 @@
 ghost use Rattle.std.specs.Prelude.{◌≡◌, Option, option_map, map, string_bytes};
-ghost use Rattle.std.specs.List.{find};
-ghost use Rattle.std.specs.Str.{bytes_eq};
-ghost use Rattle.der.specs.ObjectIdentifier.{oid_content};
-ghost use Rattle.sha2.specs.Sha256.{sha256};
 ghost use Rattle.toml.specs.View.{table_view};
-ghost use Rattle.policy.specs.Gives.{Gives};
-ghost use Rattle.policy.specs.Kinds.{is_hash};
+ghost use Rattle.policy.specs.Answers.{AnswersMeaning};
 ghost use Rattle.policy.specs.Meaning.{meaning_of, policy_in, is_none_or_among};
-ghost use Rattle.policy.specs.View.{policy_view};
-ghost use Rattle.policy.specs.LookUp.{anonymous_in};
+ghost use Rattle.policy.specs.View.{algorithm_view, extension_view, tsa_policy_view, account_view, policy_view};
+ghost use Rattle.policy.specs.LookUp.{account_named, account_of_key, anonymous_account, policy_named, policy_of_oid, default_policy, algorithm_of_oid, extension_of_oid};
 
 use crate::arrays::{accounts, algorithms, counter, extensions, tsa_policies};
 use crate::entries::{Account, Algorithm, Counter, Extension, TsaPolicy};
@@ -41,7 +36,7 @@ impl Policy {
     /// `Memory` where memory runs out.
     #[tactic(auto, unfolding(crate::specs::Meaning::meaning_of))]
     pub fn from_text(alloc: Global, text: &str) -> Result<Policy, PolicyFault>
-        ensures { Gives policy_view result (meaning_of text.now) }
+        ensures { AnswersMeaning policy_view result (meaning_of text.now) }
     {
         match toml::table_from_str(alloc, text) {
             Ok(document) => from_table(alloc, &document),
@@ -58,7 +53,7 @@ impl Policy {
     /// The account whose key these octets are: its `key_sha256` is their SHA-256. Whether it is active isn't asked. None
     /// where no account has that key. Takes no memory.
     pub fn account_of_key(&self, key: &[u8]) -> Option<&Account>
-        ensures { option_map (λ a. a.now) result ≡ find (λ a. is_hash (sha256 key.now) a.key_sha256) self.now.accounts.items }
+        ensures { option_map (λ a. account_view a.now) result ≡ account_of_key (policy_view self.now) key.now }
     {
         let hash = Sha256::digest(key);
         find_by_hash(&self.accounts, &hash)
@@ -66,7 +61,7 @@ impl Policy {
 
     /// The account of those that show no key, if the file names one. Takes no memory.
     pub fn anonymous(&self) -> Option<&Account>
-        ensures { option_map (λ a. a.now) result ≡ anonymous_in self.now }
+        ensures { option_map (λ a. account_view a.now) result ≡ anonymous_account (policy_view self.now) }
     {
         match &self.counter.anonymous {
             Some(name) => find_by_name(&self.accounts, name.as_str()),
@@ -76,14 +71,14 @@ impl Policy {
 
     /// The account of that name. None where no account has it. Takes no memory.
     pub fn account_named(&self, name: &str) -> Option<&Account>
-        ensures { option_map (λ a. a.now) result ≡ find (λ a. bytes_eq (string_bytes a.name) name.now) self.now.accounts.items }
+        ensures { option_map (λ a. account_view a.now) result ≡ account_named (policy_view self.now) name.now }
     {
         find_by_name(&self.accounts, name)
     }
 
     /// The policy of that name. None where no policy has it. Takes no memory.
     pub fn policy_named(&self, name: &str) -> Option<&TsaPolicy>
-        ensures { option_map (λ p. p.now) result ≡ find (λ p. bytes_eq (string_bytes p.name) name.now) self.now.policies.items }
+        ensures { option_map (λ p. tsa_policy_view p.now) result ≡ policy_named (policy_view self.now) name.now }
     {
         find_by_name(&self.policies, name)
     }
@@ -91,15 +86,24 @@ impl Policy {
     /// The policy whose object identifier has these contents octets (X.690 8.19). None where no policy has it. Takes no
     /// memory.
     pub fn policy_of_oid(&self, content: &[u8]) -> Option<&TsaPolicy>
-        ensures { option_map (λ p. p.now) result ≡ find (λ p. bytes_eq (oid_content p.oid) content.now) self.now.policies.items }
+        ensures { option_map (λ p. tsa_policy_view p.now) result ≡ policy_of_oid (policy_view self.now) content.now }
     {
         find_by_oid(&self.policies, content)
+    }
+
+    /// The account's default policy: its first. None where it has no policy, or where no policy has that name; neither is so for
+    /// an account of a policy file. Takes no memory.
+    pub fn default_policy(&self, account: &Account) -> Option<&TsaPolicy>
+        ensures { option_map (λ p. tsa_policy_view p.now) result ≡ default_policy (policy_view self.now) (account_view account.now) }
+    {
+        let name = account.policies.first()?;
+        self.policy_named(name.as_str())
     }
 
     /// The hash algorithm whose object identifier has these contents octets (X.690 8.19). None where no algorithm has it.
     /// Takes no memory.
     pub fn algorithm_of_oid(&self, content: &[u8]) -> Option<&Algorithm>
-        ensures { option_map (λ a. a.now) result ≡ find (λ a. bytes_eq (oid_content a.oid) content.now) self.now.algorithms.items }
+        ensures { option_map (λ a. algorithm_view a.now) result ≡ algorithm_of_oid (policy_view self.now) content.now }
     {
         find_by_oid(&self.algorithms, content)
     }
@@ -107,7 +111,7 @@ impl Policy {
     /// The extension whose object identifier has these contents octets (X.690 8.19). None where no extension has it. Takes
     /// no memory.
     pub fn extension_of_oid(&self, content: &[u8]) -> Option<&Extension>
-        ensures { option_map (λ e. e.now) result ≡ find (λ e. bytes_eq (oid_content e.oid) content.now) self.now.extensions.items }
+        ensures { option_map (λ e. extension_view e.now) result ≡ extension_of_oid (policy_view self.now) content.now }
     {
         find_by_oid(&self.extensions, content)
     }
@@ -125,7 +129,7 @@ fn anonymous_exists(counter: &Counter, accounts: &[Account]) -> bool
 
 #[tactic(auto, unfolding(crate::specs::Meaning::policy_in), using(crate::proofs::EntriesRead::algorithm_names, crate::proofs::EntriesRead::extension_names, crate::proofs::EntriesRead::tsa_policy_names, crate::proofs::EntriesRead::account_names))]
 fn from_table(alloc: Global, document: &Table) -> Result<Policy, PolicyFault>
-    ensures { Gives policy_view result (policy_in (table_view document.now)) }
+    ensures { AnswersMeaning policy_view result (policy_in (table_view document.now)) }
 {
     only(
         document,

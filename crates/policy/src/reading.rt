@@ -4,7 +4,7 @@ ghost use Rattle.std.specs.Prelude.{◌≡◌, ◌≤◌, None, ℕ, List, [], O
 ghost use Rattle.std.specs.List.{list_all};
 ghost use Rattle.toml.specs.Data.{get_member};
 ghost use Rattle.toml.specs.View.{view, items_view, table_view};
-ghost use Rattle.policy.specs.Gives.{Gives};
+ghost use Rattle.policy.specs.Answers.{AnswersMeaning};
 ghost use Rattle.policy.specs.Kinds.{is_name, is_name_character, is_among, truth_in, number_in, name_in, some_name_in, oid_in, hash_in, new_name_in, new_oid_in, names_in, listed, values_in, entries_after, wanted, optional, only};
 ghost use Rattle.policy.specs.View.{names_view};
 ghost use Rattle.der.specs.ObjectIdentifier.{oid_content};
@@ -51,7 +51,7 @@ pub(crate) fn optional_truth(
 #[tactic(auto, unfolding(crate::specs::Kinds::number_in))]
 fn number_from(field: Field, low: u64, high: u64, value: &Value) -> Result<u64, PolicyFault>
     ensures value { result ≡ number_in field low high (view value.now) }
-    ensures range { IfOk result (λ n. n ≤ high) }
+    ensures range { IfOk result (λ n. (low ≤ n) × (n ≤ high)) }
 {
     match value.as_integer() {
         None => Err(PolicyFault::BadValue(field)),
@@ -71,7 +71,7 @@ pub(crate) fn number(
     high: u64,
 ) -> Result<u64, PolicyFault>
     ensures value { result ≡ wanted field (number_in field low high) (get_member key.now (table_view table.now)) }
-    ensures range { IfOk result (λ n. n ≤ high) }
+    ensures range { IfOk result (λ n. (low ≤ n) × (n ≤ high)) }
 {
     match member(table, key) {
         Some(value) => number_from(field, low, high, value),
@@ -96,13 +96,13 @@ fn are_name_characters(octets: &[u8]) -> bool
 fn is_name_character(c: u8) -> bool
     ensures { result ≡ is_name_character c }
 {
-    (97 <= c && c <= 122) || (48 <= c && c <= 57) || c == 45
+    matches!(c, b'a'..=b'z' | b'0'..=b'9' | b'-')
 }
 
 /// A name: 1 to 32 lower-case ASCII letters, digits or hyphens.
 #[tactic(auto, unfolding(crate::specs::Kinds::name_in))]
 pub(crate) fn name(alloc: Global, field: Field, value: &Value) -> Result<String, PolicyFault>
-    ensures { Gives string_bytes result (name_in field (view value.now)) }
+    ensures { AnswersMeaning string_bytes result (name_in field (view value.now)) }
 {
     let Some(text) = value.as_str() else {
         return Err(PolicyFault::BadValue(field));
@@ -116,7 +116,7 @@ pub(crate) fn name(alloc: Global, field: Field, value: &Value) -> Result<String,
 /// The text of an object identifier, as `1.2.840`.
 #[tactic(auto, unfolding(crate::specs::Kinds::oid_in))]
 fn oid(alloc: Global, field: Field, value: &Value) -> Result<Oid, PolicyFault>
-    ensures { Gives (λ oid. oid) result (oid_in field (view value.now)) }
+    ensures { AnswersMeaning (λ oid. oid) result (oid_in field (view value.now)) }
 {
     let Some(text) = value.as_str() else {
         return Err(PolicyFault::BadValue(field));
@@ -177,7 +177,7 @@ pub(crate) fn new_name<T: Named>(
     field: Field,
     earlier: &[T],
 ) -> Result<String, PolicyFault>
-    ensures { Gives string_bytes result (new_name_in field (map T.name_of earlier.now) (table_view table.now)) }
+    ensures { AnswersMeaning string_bytes result (new_name_in field (map T.name_of earlier.now) (table_view table.now)) }
 {
     let Some(value) = member(table, "name") else {
         return Err(PolicyFault::Missing(field));
@@ -197,7 +197,7 @@ pub(crate) fn new_oid<T: Identified>(
     field: Field,
     earlier: &[T],
 ) -> Result<Oid, PolicyFault>
-    ensures { Gives (λ oid. oid) result
+    ensures { AnswersMeaning (λ oid. oid) result
         (new_oid_in field (map (λ e. oid_content (T.oid_of e)) earlier.now) (table_view table.now)) }
 {
     let Some(value) = member(table, "oid") else {
@@ -218,7 +218,7 @@ pub(crate) fn optional_name(
     key: &str,
     field: Field,
 ) -> Result<Option<String>, PolicyFault>
-    ensures { Gives (option_map string_bytes) result
+    ensures { AnswersMeaning (option_map string_bytes) result
         (optional None (some_name_in field) (get_member key.now (table_view table.now))) }
 {
     match member(table, key) {
@@ -229,7 +229,7 @@ pub(crate) fn optional_name(
 
 /// One name after the other.
 fn all_names(alloc: Global, field: Field, values: &[Value]) -> Result<Vec<String>, PolicyFault>
-    ensures { Gives names_view result (entries_after (λ earlier. name_in field) [] (items_view values.now)) }
+    ensures { AnswersMeaning names_view result (entries_after (λ earlier. name_in field) [] (items_view values.now)) }
 {
     let mut names = Vec::new(alloc);
     for value in values {
@@ -264,7 +264,7 @@ fn listed<T: Named>(
 /// The values of an array.
 #[tactic(auto, unfolding(crate::specs::Kinds::values_in))]
 pub(crate) fn values<'v>(field: Field, value: &'v Value) -> Result<&'v [Value], PolicyFault>
-    ensures { Gives (λ vs. items_view vs.now) result (values_in field (view value.now)) }
+    ensures { AnswersMeaning (λ vs. items_view vs.now) result (values_in field (view value.now)) }
 {
     match value.as_array() {
         Some(values) => Ok(values.as_slice()),
@@ -281,7 +281,7 @@ fn names<T: Named>(
     existing: &[T],
     value: &Value,
 ) -> Result<Vec<String>, PolicyFault>
-    ensures { Gives names_view result (names_in field least (map T.name_of existing.now) (view value.now)) }
+    ensures { AnswersMeaning names_view result (names_in field least (map T.name_of existing.now) (view value.now)) }
 {
     let values = values(field, value)?;
     let names = all_names(alloc, field, values)?;
@@ -297,7 +297,7 @@ pub(crate) fn some_names<T: Named>(
     field: Field,
     existing: &[T],
 ) -> Result<Vec<String>, PolicyFault>
-    ensures { Gives names_view result
+    ensures { AnswersMeaning names_view result
         (wanted field (names_in field 1 (map T.name_of existing.now)) (get_member key.now (table_view table.now))) }
 {
     match member(table, key) {
@@ -314,7 +314,7 @@ pub(crate) fn optional_names<T: Named>(
     field: Field,
     existing: &[T],
 ) -> Result<Vec<String>, PolicyFault>
-    ensures { Gives names_view result
+    ensures { AnswersMeaning names_view result
         (optional [] (names_in field 0 (map T.name_of existing.now)) (get_member key.now (table_view table.now))) }
 {
     match member(table, key) {

@@ -53,6 +53,10 @@ key_sha256 = "2c26b46b68ffc68ff99b453c1d30413413422d706483bfa0f98a5e886266e7ae"
 policies = ["open"]
 daily_quota = 2
 [[account]]
+name = "dora"
+policies = ["strict", "open"]
+daily_quota = 1004
+[[account]]
 name = "audra"
 key_sha256 = "ca978112ca1bbdcafac231b39a23dc4da786eff8147c4e72b9807785afee48bb"
 auditor = true
@@ -422,7 +426,7 @@ fn first_fault_decides(rt: HostRuntime) -> Result<(), Fail> {
 /// The file with more accounts, so many in all.
 fn with_accounts(alloc: Global, count: u32) -> Result<String, AllocError> {
     let mut text = String::from_str(alloc, FILE)?;
-    for number in 5..count {
+    for number in 6..count {
         let account = format!(in alloc;
             "[[account]]\nname = \"a{number}\"\npolicies = [\"open\"]\ndaily_quota = 0\n"
         )?;
@@ -489,13 +493,55 @@ fn faults_have_numbers_and_texts(rt: HostRuntime) -> Result<(), Fail> {
     Ok(())
 }
 
+/// Each field and its path: the table and the key as docs/policy.md has them.
+static PATHS: [(Field, &str); 29] = [
+    (Field::Key, "a key"),
+    (Field::Counter, "counter"),
+    (Field::CounterAccuracyUs, "counter.accuracy_us"),
+    (Field::CounterFractionDigits, "counter.fraction_digits"),
+    (Field::CounterOrdering, "counter.ordering"),
+    (Field::CounterDriftPpb, "counter.drift_ppb"),
+    (Field::CounterMaxAgeUs, "counter.max_age_us"),
+    (Field::CounterAnonymous, "counter.anonymous"),
+    (Field::Algorithm, "algorithm"),
+    (Field::AlgorithmName, "algorithm.name"),
+    (Field::AlgorithmOid, "algorithm.oid"),
+    (Field::AlgorithmLength, "algorithm.length"),
+    (Field::Extension, "extension"),
+    (Field::ExtensionName, "extension.name"),
+    (Field::ExtensionOid, "extension.oid"),
+    (Field::ExtensionMaxLength, "extension.max_length"),
+    (Field::Policy, "policy"),
+    (Field::PolicyName, "policy.name"),
+    (Field::PolicyOid, "policy.oid"),
+    (Field::PolicyAlgorithms, "policy.algorithms"),
+    (Field::PolicyExtensions, "policy.extensions"),
+    (Field::PolicyCertificate, "policy.certificate"),
+    (Field::Account, "account"),
+    (Field::AccountName, "account.name"),
+    (Field::AccountKeySha256, "account.key_sha256"),
+    (Field::AccountActive, "account.active"),
+    (Field::AccountAuditor, "account.auditor"),
+    (Field::AccountPolicies, "account.policies"),
+    (Field::AccountDailyQuota, "account.daily_quota"),
+];
+
+#[test]
+fn fields_have_paths(rt: HostRuntime) -> Result<(), Fail> {
+    for (field, path) in PATHS.iter() {
+        let shown = format!(in rt.alloc(); "{field}")?;
+        assert_eq!(rt; shown.as_str(), *path);
+    }
+    Ok(())
+}
+
 #[test]
 fn file_is_read(rt: HostRuntime) -> Result<(), Fail> {
     let policy = Policy::from_text(rt.alloc(), FILE)?;
     assert_eq!(rt; policy.algorithms.len(), 2);
     assert_eq!(rt; policy.extensions.len(), 1);
     assert_eq!(rt; policy.policies.len(), 2);
-    assert_eq!(rt; policy.accounts.len(), 5);
+    assert_eq!(rt; policy.accounts.len(), 6);
     assert_eq!(rt; policy.counter.accuracy_us, 1_000_000);
     assert_eq!(rt; policy.counter.max_age_us, 86_400_000_000);
     assert!(rt; !policy.counter.ordering);
@@ -531,7 +577,49 @@ fn accounts_are_found(rt: HostRuntime) -> Result<(), Fail> {
         None => assert!(rt; false, "no carol"),
     }
     assert!(rt; policy.account_named("carole").is_none());
+    for (name, object_identifier) in [("alice", [0x88, 0x37, 0x01]), ("dora", [0x88, 0x37, 0x02])] {
+        let account = policy.account_named(name).ok_or("no such account")?;
+        match policy.default_policy(account) {
+            Some(found) => assert_eq!(rt; found.oid.content(), object_identifier.as_slice()),
+            None => assert!(rt; false, "no default policy of {name}"),
+        }
+    }
     Ok(())
+}
+
+/// The octets of RFC 3370 2.1 and RFC 5754 2, and the lengths of FIPS 180-4.
+#[test]
+fn hash_algorithms_are_known(rt: HostRuntime) {
+    let cases: [(&[u8], HashAlgorithm, u8); 5] = [
+        (&[0x2b, 0x0e, 0x03, 0x02, 0x1a], HashAlgorithm::Sha1, 20),
+        (
+            &[0x60, 0x86, 0x48, 0x01, 0x65, 0x03, 0x04, 0x02, 0x04],
+            HashAlgorithm::Sha224,
+            28,
+        ),
+        (
+            &[0x60, 0x86, 0x48, 0x01, 0x65, 0x03, 0x04, 0x02, 0x01],
+            HashAlgorithm::Sha256,
+            32,
+        ),
+        (
+            &[0x60, 0x86, 0x48, 0x01, 0x65, 0x03, 0x04, 0x02, 0x02],
+            HashAlgorithm::Sha384,
+            48,
+        ),
+        (
+            &[0x60, 0x86, 0x48, 0x01, 0x65, 0x03, 0x04, 0x02, 0x03],
+            HashAlgorithm::Sha512,
+            64,
+        ),
+    ];
+    for (content, algorithm, length) in cases {
+        assert_eq!(rt; HashAlgorithm::of_identifier(content), Some(algorithm));
+        assert_eq!(rt; algorithm.identifier(), content);
+        assert_eq!(rt; algorithm.hash_length(), length);
+    }
+    assert!(rt; HashAlgorithm::of_identifier(&[0x2b, 0x0e, 0x03, 0x02]).is_none());
+    records_are_sound();
 }
 
 #[test]

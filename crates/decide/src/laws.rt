@@ -1,0 +1,47 @@
+//! What holds of all verdicts.
+ghost use Rattle.std.specs.Prelude.{◌≡◌, ℕ, Option, Some, None};
+ghost use Rattle.policy.specs.Record.{AccountValue, CounterValue, PolicyValue};
+ghost use Rattle.tsp.specs.Request.{RequestValue};
+ghost use Rattle.tsp.specs.declared.rule.Rule.{Rule};
+ghost use Rattle.tsp.specs.declared.rule.Rule.TheVariants.{Clock, Quota};
+ghost use Rattle.decide.specs.Clock.{IsGood, IsGoodAt};
+ghost use Rattle.decide.specs.Rules.{IsWithinQuota};
+ghost use Rattle.decide.specs.Verdict.{IsJudged, IsVerdict, IsPlan, PlanValue, VerdictValue, Allowed, Denied};
+ghost use Rattle.decide.specs.declared.facts.ClockFacts.{ClockFacts};
+ghost use Rattle.decide.specs.declared.facts.Facts.{Facts};
+
+/// A request has one verdict, and what is found out on the way to it is the verdict: the rules 2 to 9 are judged without the
+/// facts, rule 10 without the day's count.
+pub fn verdicts_are_one()
+    // The first rule of 2 to 9 that fails is the verdict, whatever the facts.
+    ensures judged { (file : PolicyValue) (account : Option AccountValue) (r : RequestValue) (facts : Facts) (rule : Rule)
+        → IsJudged file account r (Some rule) → IsVerdict file account r facts (Denied rule) }
+
+    // Where these hold and the clock isn't good, rule 10 is, whatever the count.
+    ensures clock { (file : PolicyValue) (account : Option AccountValue) (r : RequestValue) (facts : Facts)
+        → IsJudged file account r None → (IsGood file.counter facts.clock → ⊥)
+        → IsVerdict file account r facts (Denied Clock) }
+
+    // Where the clock is good too and the account has had its quota, rule 11 is.
+    ensures quota { (file : PolicyValue) (account : Option AccountValue) (r : RequestValue) (facts : Facts)
+        → IsJudged file account r None → IsGood file.counter facts.clock → (IsWithinQuota account facts.count → ⊥)
+        → IsVerdict file account r facts (Denied Quota) }
+
+    // Else the stamp is allowed.
+    ensures allowed { (file : PolicyValue) (account : Option AccountValue) (r : RequestValue) (facts : Facts) (plan : PlanValue)
+        → IsJudged file account r None → IsWithinQuota account facts.count → IsPlan file account r facts plan
+        → IsVerdict file account r facts (Allowed plan) }
+
+    // There is one verdict, and at most one first rule of 2 to 9 that fails.
+    ensures one { (file : PolicyValue) (account : Option AccountValue) (r : RequestValue) (facts : Facts)
+        (first second : VerdictValue) → IsVerdict file account r facts first → IsVerdict file account r facts second
+        → first ≡ second }
+    ensures one_judged { (file : PolicyValue) (account : Option AccountValue) (r : RequestValue) (first second : Option Rule)
+        → IsJudged file account r first → IsJudged file account r second → first ≡ second }
+{}
+
+/// A good clock gives one genTime.
+pub fn gen_times_are_one()
+    ensures { (counter : CounterValue) (facts : ClockFacts) (first second : ℕ) → IsGoodAt counter facts first
+        → IsGoodAt counter facts second → first ≡ second }
+{}

@@ -1,0 +1,14 @@
+use Rattle.std.proofs.Common.{[], ◌∷◌, option_map, ap, sym, ◌∙◌}
+use Rattle.std.specs.Str.{bytes_eq}
+use Rattle.der.specs.ObjectIdentifier.{oid_content}
+use Rattle.policy.specs.HashAlgorithms.{value_of, hash_algorithms}
+use Rattle.policy.specs.declared.hash_algorithm.HashAlgorithm.TheVariants.{Sha1, Sha224, Sha256, Sha384, Sha512}
+use Rattle.policy.proofs.Searches.{first_value}
+use Rattle.policy.proofs.hash_algorithm.HashAlgorithm.of_identifier.Goals as goal
+
+pub returns : goal.returns
+unfolding hash_algorithms
+returns c =
+    let all = Sha1 ∷ Sha224 ∷ Sha256 ∷ Sha384 ∷ Sha512 ∷ [] in
+    ap (option_map value_of) (c.copied.ensures ∙ c.find_by_identifier.ensures)
+    ∙ sym (first_value value_of (λ a. bytes_eq (oid_content a.oid) c.args.content.now) all)
