@@ -1,4 +1,5 @@
--- The rules of a written policy (in the manner of RFC 3628), each a sentence that stands by itself, and the first that fails.
+-- The rules of a written policy (in the manner of RFC 3628), each a sentence that stands by itself, and the first that
+-- fails.
 use Rattle.std.specs.Prelude.{◌≡◌, ℕ, ◌<◌, ◌≤◌, ◌⊎◌, true, false, List, [], ◌∷◌, map, length, Option, Some, None, option_map, Contains}
 use Rattle.std.specs.List.{AllByRecursion}
 use Rattle.policy.specs.LookUp as look_up
@@ -51,7 +52,8 @@ AllowsAlgorithm file asked r =
 -- the policy knows the extension, and the value is within its greatest length
 abbrev pub KnowsExtension : PolicyValue → TsaPolicyValue → tsp.ExtensionValue → Type 0
 KnowsExtension file p e =
-    (x : ExtensionValue) × Contains file.extensions x × (x.oid ≡ e.identifier) × Contains p.extensions x.name × (length e.value ≤ x.max_length)
+    (x : ExtensionValue) × Contains file.extensions x × (x.oid ≡ e.identifier)
+    × Contains p.extensions x.name × (length e.value ≤ x.max_length)
 
 -- none stands twice
 abbrev pub AreDistinct : List (List ℕ) → Type 0
@@ -75,7 +77,8 @@ abbrev pub IsWithinQuota : Option AccountValue → ℕ → Type 0
 IsWithinQuota None count = Unit {0}
 IsWithinQuota (Some a) count = count < a.daily_quota
 
--- Which rules hold of a request under a policy file. Whether the octets are a request, and what the clock, the day's count and
+-- Which rules hold of a request under a policy file. Whether the octets are a request, and what the clock, the day's
+-- count and
 -- the store say, isn't judged: these rules hold here.
 abbrev pub HoldsOf : PolicyValue → Option AccountValue → RequestValue → Rule → Type 0
 HoldsOf file account r Spelling = Unit {0}

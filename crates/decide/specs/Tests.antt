@@ -1,4 +1,5 @@
--- The tests by which the code judges the rules on extensions and algorithms: stepping stones of the proofs, no definitions.
+-- The tests by which the code judges the rules on extensions and algorithms: stepping stones of the proofs, no
+-- definitions.
 use Rattle.std.specs.Prelude.{ℕ, ◌&&◌, not, nat_le, Bool, true, List, [], ◌∷◌, map, length, string_bytes}
 use Rattle.std.specs.List.{list_all, list_any}
 use Rattle.std.specs.Str.{bytes_eq}

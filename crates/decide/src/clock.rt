@@ -71,9 +71,10 @@ fn follows(ordering: bool, last: Option<GenTime>, moment: GenTime) -> bool
     }
 }
 
-/// Whether a token may be given, and with which genTime (RFC 3628 7.3.1, RFC 3161 2.4.2): there is a calibration, not after the
-/// reading and at most the greatest age old; the deviation and the rounding are together within the accuracy; now is from 1970
-/// to 9999 and isn't held; and the genTime isn't before the last one, and after it where tokens are ordered.
+/// Whether a token may be given, and with which genTime (RFC 3628 7.3.1, RFC 3161 2.4.2): there is a calibration, not
+/// after the reading and at most the greatest age old; the deviation and the rounding are together within the accuracy;
+/// now is from 1970 to 9999 and isn't held; and the genTime isn't before the last one, and after it where tokens are
+/// ordered.
 pub fn clock_state(counter: &Counter, facts: &ClockFacts) -> ClockState
     ensures state { IsState (counter_view counter.now) facts.now result }
     ensures interval { (moment : ℕ) → result ≡ ClockState.Good moment

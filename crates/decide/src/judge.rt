@@ -19,8 +19,8 @@ use der::Oid;
 use policy::{Account, Policy};
 use tsp::{Request, Rule};
 
-/// The first of the rules 2 to 9 that a request fails; none where it fails none of them. They speak of the policy file, the
-/// account and the request alone (RFC 3161 2.4.1).
+/// The first of the rules 2 to 9 that a request fails; none where it fails none of them. They speak of the policy file,
+/// the account and the request alone (RFC 3161 2.4.1).
 pub fn judge_request(policy: &Policy, account: Option<&Account>, request: &Request) -> Option<Rule>
     ensures first { IsJudged (policy_view policy.now) (account_asked account.entry) (request_view request.now) result }
     ensures number { IfSome result (λ rule. (2 ≤ number_of rule) × (number_of rule ≤ 9)) }
@@ -39,8 +39,10 @@ fn judged<'p>(
 ) -> Result<&'p Oid, Rule>
     ensures { MatchResult result
         (λ oid. IsJudged (policy_view policy.now) (account_asked account.entry) (request_view request.now) None
-        × (policy_asked (policy_view policy.now) (account_asked account.entry) (request_view request.now) ≡ Some oid.now))
-        (λ rule. IsJudged (policy_view policy.now) (account_asked account.entry) (request_view request.now) (Some rule)) }
+        × (policy_asked (policy_view policy.now) (account_asked account.entry) (request_view request.now)
+        ≡ Some oid.now))
+        (λ rule. IsJudged (policy_view policy.now) (account_asked account.entry) (request_view request.now)
+        (Some rule)) }
 {
     if !request.has_version_one() {
         return Err(Rule::Version);
@@ -72,16 +74,17 @@ fn judged<'p>(
     Ok(oid)
 }
 
-/// The decision on a request, of the rules 2 to 11: the plan of the stamp where none fails, and else the first that fails. Where
-/// a stamp is allowed, each moment that is at most the deviation away from now is at most the accuracy away from its genTime
-/// (RFC 3161 2.4.2).
+/// The decision on a request, of the rules 2 to 11: the plan of the stamp where none fails, and else the first that
+/// fails. Where a stamp is allowed, each moment that is at most the deviation away from now is at most the accuracy
+/// away from its genTime (RFC 3161 2.4.2).
 pub fn decide<'p>(
     policy: &'p Policy,
     account: Option<&Account>,
     request: &Request,
     facts: &Facts,
 ) -> Verdict<'p>
-    ensures verdict { IsVerdict (policy_view policy.now) (account_asked account.entry) (request_view request.now) facts.now
+    ensures verdict { IsVerdict (policy_view policy.now) (account_asked account.entry)
+        (request_view request.now) facts.now
         (verdict_view result) }
     ensures interval { AllowsAccurately (policy_view policy.now) facts.now (verdict_view result) }
 {

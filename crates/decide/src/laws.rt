@@ -10,11 +10,12 @@ ghost use Rattle.decide.specs.Verdict.{IsJudged, IsVerdict, IsPlan, PlanValue, V
 ghost use Rattle.decide.specs.declared.facts.ClockFacts.{ClockFacts};
 ghost use Rattle.decide.specs.declared.facts.Facts.{Facts};
 
-/// A request has one verdict, and what is found out on the way to it is the verdict: the rules 2 to 9 are judged without the
-/// facts, rule 10 without the day's count.
+/// A request has one verdict, and what is found out on the way to it is the verdict: the rules 2 to 9 are judged
+/// without the facts, rule 10 without the day's count.
 pub fn verdicts_are_one()
     // The first rule of 2 to 9 that fails is the verdict, whatever the facts.
-    ensures judged { (file : PolicyValue) (account : Option AccountValue) (r : RequestValue) (facts : Facts) (rule : Rule)
+    ensures judged { (file : PolicyValue) (account : Option AccountValue) (r : RequestValue) (facts : Facts)
+        (rule : Rule)
         → IsJudged file account r (Some rule) → IsVerdict file account r facts (Denied rule) }
 
     // Where these hold and the clock isn't good, rule 10 is, whatever the count.
@@ -28,7 +29,8 @@ pub fn verdicts_are_one()
         → IsVerdict file account r facts (Denied Quota) }
 
     // Else the stamp is allowed.
-    ensures allowed { (file : PolicyValue) (account : Option AccountValue) (r : RequestValue) (facts : Facts) (plan : PlanValue)
+    ensures allowed { (file : PolicyValue) (account : Option AccountValue) (r : RequestValue) (facts : Facts)
+        (plan : PlanValue)
         → IsJudged file account r None → IsWithinQuota account facts.count → IsPlan file account r facts plan
         → IsVerdict file account r facts (Allowed plan) }
 
@@ -36,7 +38,8 @@ pub fn verdicts_are_one()
     ensures one { (file : PolicyValue) (account : Option AccountValue) (r : RequestValue) (facts : Facts)
         (first second : VerdictValue) → IsVerdict file account r facts first → IsVerdict file account r facts second
         → first ≡ second }
-    ensures one_judged { (file : PolicyValue) (account : Option AccountValue) (r : RequestValue) (first second : Option Rule)
+    ensures one_judged { (file : PolicyValue) (account : Option AccountValue) (r : RequestValue)
+        (first second : Option Rule)
         → IsJudged file account r first → IsJudged file account r second → first ≡ second }
 {}
 

@@ -1,5 +1,5 @@
-//! The decision on a time-stamp request (RFC 3161 2.4.1) under a written policy (in the manner of RFC 3628): the clock's state,
-//! the rules in their order, and the verdict. No call takes memory, and all succeed.
+//! The decision on a time-stamp request (RFC 3161 2.4.1) under a written policy (in the manner of RFC 3628): the
+//! clock's state, the rules in their order, and the verdict. No call takes memory, and all succeed.
 #![tactic(auto)]
 
 mod accounts;

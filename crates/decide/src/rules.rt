@@ -36,7 +36,8 @@ pub(crate) fn has_algorithm_length(policy: &Policy, request: &Request) -> bool
 
 /// Whether each algorithm with this identifier has that length.
 fn have_length(algorithms: &[Algorithm], identifier: &[u8], length: usize) -> bool
-    ensures { result ≡ list_all (λ a. not (bytes_eq (oid_content a.oid) identifier.now) || (a.length == length)) algorithms.now }
+    ensures { result ≡ list_all (λ a. not (bytes_eq (oid_content a.oid) identifier.now)
+        || (a.length == length)) algorithms.now }
 {
     algorithms.iter().all(|a| a.oid.content() != identifier || usize::from(a.length) == length)
 }
@@ -53,10 +54,12 @@ fn has_name(names: &[String], name: &str) -> bool
     false
 }
 
-/// The policy that is asked for, by the contents octets of its object identifier: the request's, and else the account's default.
+/// The policy that is asked for, by the contents octets of its object identifier: the request's, and else the account's
+/// default.
 fn policy_asked<'a>(policy: &'a Policy, account: &Account, request: &'a Request) -> Option<&'a [u8]>
     ensures { option_map (λ content. content.now) result
-        ≡ option_map oid_content (policy_asked (policy_view policy.now) (Some (account_view account.now)) (request_view request.now)) }
+        ≡ option_map oid_content (policy_asked (policy_view policy.now) (Some (account_view account.now))
+        (request_view request.now)) }
 {
     match request.policy() {
         Some(content) => Some(content),
@@ -74,7 +77,8 @@ pub(crate) fn accepted_policy<'p>(
         (IsAccepted (policy_view policy.now) (Some (account_view account.now))
         (policy_asked (policy_view policy.now) (Some (account_view account.now)) (request_view request.now)) → ⊥)
         (λ oid. IsAccepted (policy_view policy.now) (Some (account_view account.now)) (Some oid.now)
-        × (policy_asked (policy_view policy.now) (Some (account_view account.now)) (request_view request.now) ≡ Some oid.now)) }
+        × (policy_asked (policy_view policy.now) (Some (account_view account.now)) (request_view request.now)
+        ≡ Some oid.now)) }
 {
     oids_have_one_content_and_text();
     let content = policy_asked(policy, account, request)?;
@@ -88,7 +92,8 @@ pub(crate) fn accepted_policy<'p>(
 
 /// Whether a policy with that object identifier has one of the names.
 fn is_accepted(policies: &[TsaPolicy], names: &[String], content: &[u8]) -> bool
-    ensures { result ≡ list_any (λ p. bytes_eq (oid_content p.oid) content.now && is_among (map string_bytes names.now) (string_bytes p.name))
+    ensures { result ≡ list_any (λ p. bytes_eq (oid_content p.oid) content.now
+        && is_among (map string_bytes names.now) (string_bytes p.name))
         policies.now }
 {
     policies.iter().any(|p| p.oid.content() == content && has_name(names, p.name.as_str()))
@@ -104,7 +109,8 @@ pub(crate) fn allows_algorithm(policy: &Policy, oid: &Oid, request: &Request) ->
 
 /// Whether a policy with that object identifier lists an algorithm with this one.
 fn is_listed(policy: &Policy, content: &[u8], identifier: &[u8]) -> bool
-    ensures { result ≡ list_any (λ p. bytes_eq (oid_content p.oid) content.now && lists_algorithm policy.now.algorithms.items identifier.now p)
+    ensures { result ≡ list_any (λ p. bytes_eq (oid_content p.oid) content.now
+        && lists_algorithm policy.now.algorithms.items identifier.now p)
         policy.now.policies.items }
 {
     policy.policies.iter().any(|p| {
@@ -133,7 +139,8 @@ pub(crate) fn allows_extensions(policy: &Policy, oid: &Oid, request: &Request) -
 
 /// Whether a policy with that object identifier knows each extension.
 fn are_known(policy: &Policy, content: &[u8], extensions: &[Extension]) -> bool
-    ensures { result ≡ list_any (λ p. bytes_eq (oid_content p.oid) content.now && knows_extensions policy.now.extensions.items p extensions.now)
+    ensures { result ≡ list_any (λ p. bytes_eq (oid_content p.oid) content.now
+        && knows_extensions policy.now.extensions.items p extensions.now)
         policy.now.policies.items }
 {
     for tsa_policy in &policy.policies {

@@ -132,8 +132,8 @@ const BASE: Case = Case {
     expected: Ok("19700101000000Z"),
 };
 
-/// What the decision says on a request of the account with that name: the genTime and whether the certificate is wanted, or the
-/// rule that fails.
+/// What the decision says on a request of the account with that name: the genTime and whether the certificate is
+/// wanted, or the rule that fails.
 fn decided(
     policy: &Policy,
     name: Option<&str>,
@@ -573,7 +573,8 @@ fn holds(rt: HostRuntime) -> Result<(), Fail> {
     Ok(())
 }
 
-/// An account of another file, which differs in one field, isn't known; the request alone is judged as in the whole decision.
+/// An account of another file, which differs in one field, isn't known; the request alone is judged as in the whole
+/// decision.
 #[test]
 fn knows_its_own_accounts(rt: HostRuntime) -> Result<(), Fail> {
     let policy = Policy::from_text(rt.alloc(), FILE)?;

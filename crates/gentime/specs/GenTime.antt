@@ -12,7 +12,8 @@ last_moment = 253402300799999999
 abbrev pub round_down : ℕ → ℕ → ℕ
 round_down digits moment = moment / 10 ^ (6 - digits) * 10 ^ (6 - digits)
 
--- the parts of a time, whether or not there is such a time; the fraction has the octets of its digits, from the tenths on
+-- the parts of a time, whether or not there is such a time; the fraction has the octets of its digits, from the tenths
+-- on
 pub record GeneralizedTime : Type 0 where
   pub year : ℕ
   pub month : ℕ
@@ -65,7 +66,8 @@ fraction_of micros = without_trailing_zeros (six_digits micros)
 abbrev pub IsFraction : List ℕ → Type 0
 IsFraction octets = AllByRecursion IsAsciiDigit octets × (without_trailing_zeros octets ≡ octets)
 
--- parts that the form of a GeneralizedTime has room for, whether or not there is such a time: numbers of four and two digits,
+-- parts that the form of a GeneralizedTime has room for, whether or not there is such a time: numbers of four and two
+-- digits,
 -- and a fraction
 pub record HasParts (time : GeneralizedTime) : Type 0 where
   pub year : time.year < 10_000

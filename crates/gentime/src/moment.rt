@@ -32,10 +32,10 @@ impl Model for GenTime {
     ghost inverse = { λ micros. record { micros = micros } };
 }
 
-/// The moment whose genTime with six digits the octets are (RFC 3161 2.4.2, X.690 11.7). Of the refusals that hold it answers
-/// the first of these: `Form` where the octets haven't the form of a GeneralizedTime in DER, whether or not there is such a
-/// time; `Date` where the calendar has no such date or the day no such time (hour 24 and second 60 too); and `Range` where it is
-/// before 1970 or has more than six digits of a fraction.
+/// The moment whose genTime with six digits the octets are (RFC 3161 2.4.2, X.690 11.7). Of the refusals that hold it
+/// answers the first of these: `Form` where the octets haven't the form of a GeneralizedTime in DER, whether or not
+/// there is such a time; `Date` where the calendar has no such date or the day no such time (hour 24 and second 60
+/// too); and `Range` where it is before 1970 or has more than six digits of a fraction.
 pub fn read(octets: &[u8]) -> Result<GenTime, GenTimeFault>
     ensures text { IfOk result (λ moment. octets.now ≡ text_of 6 moment) }
     ensures moment { (moment : ℕ) → moment ≤ last_moment → octets.now ≡ text_of 6 moment → result ≡ Ok moment }
@@ -85,8 +85,8 @@ impl GenTime {
         self.micros / 86_400_000_000
     }
 
-    /// The octets of the moment's genTime with at most that many digits of a fraction, 0 to 6: the moment is rounded down
-    /// to them, and zeros at the end of the fraction are left away (RFC 3161 2.4.2, X.690 11.7). `Memory` where an
+    /// The octets of the moment's genTime with at most that many digits of a fraction, 0 to 6: the moment is rounded
+    /// down to them, and zeros at the end of the fraction are left away (RFC 3161 2.4.2, X.690 11.7). `Memory` where an
     /// allocation is refused.
     #[tactic(auto, unfolding(crate::specs::GenTime::text_of))]
     pub fn write(self, alloc: Global, digits: u8) -> Result<Vec<u8>, GenTimeFault>

@@ -44,7 +44,8 @@ impl<'a> Components<'a> {
         Date::new(self.year as i16, self.month as i8, self.day as i8).ok()
     }
 
-    /// The microseconds since 1970, where the time is 1970 or later and states whole microseconds. The date is the time's.
+    /// The microseconds since 1970, where the time is 1970 or later and states whole microseconds. The date is the
+    /// time's.
     pub(crate) fn micros(&self, date: Date) -> Option<u64>
         requires formed { HasParts (plain self.now) }
         requires time { IsTime (plain self.now) }
@@ -118,8 +119,10 @@ fn pairs(octets: &[u8]) -> Option<([u8; 7], &[u8])>
 
 /// The digits of the fraction, where the octets are a fraction in DER and `Z`.
 fn fraction(octets: &[u8]) -> Option<&[u8]>
-    ensures stated { IfSome result (λ digits. IsFraction digits.now × (octets.now ≡ point_and digits.now ++ 0x5A ∷ [])) }
-    ensures only { (digits : List ℕ) → IsFraction digits → octets.now ≡ point_and digits ++ 0x5A ∷ [] → option_map (λ x. x.now) result ≡ Some digits }
+    ensures stated { IfSome result (λ digits. IsFraction digits.now × (octets.now
+        ≡ point_and digits.now ++ 0x5A ∷ [])) }
+    ensures only { (digits : List ℕ) → IsFraction digits → octets.now ≡ point_and digits ++ 0x5A ∷ []
+        → option_map (λ x. x.now) result ≡ Some digits }
 {
     let (last, front) = octets.split_last()?;
     if *last != b'Z' {

@@ -131,7 +131,8 @@ new_hash_in field earlier d = do
   test (not (list_any (is_hash hash) earlier)) (Duplicate field) (Some hash)
 
 -- entries one after the other, each of which may look at those before it
-abbrev pub entries_after : {A : Type 0} → (List A → Data → Result A PolicyFault) → List A → Items → Result (List A) PolicyFault
+abbrev pub entries_after : {A : Type 0} → (List A → Data → Result A PolicyFault) → List A → Items
+    → Result (List A) PolicyFault
 entries_after read earlier no_items = Ok earlier
 entries_after read earlier (item d ds) = read earlier d >>= λ entry. entries_after read (earlier ++ entry ∷ []) ds
 
@@ -174,11 +175,13 @@ tables_in field most d = do
   test (nat_le (count_of ds) most) (TooMany field) ds
 
 -- an entry of such an array
-unfoldable pub entry_in : {A : Type 0} → Field → (List A → Members → Result A PolicyFault) → List A → Data → Result A PolicyFault
+unfoldable pub entry_in : {A : Type 0} → Field → (List A → Members → Result A PolicyFault) → List A → Data
+    → Result A PolicyFault
 entry_in field read earlier d = given field (as_table d) >>= read earlier
 
 -- an array of tables that may be absent, which means empty
-unfoldable pub array_in : {A : Type 0} → Field → ℕ → (List A → Members → Result A PolicyFault) → Option Data → Result (List A) PolicyFault
+unfoldable pub array_in : {A : Type 0} → Field → ℕ → (List A → Members → Result A PolicyFault) → Option Data
+    → Result (List A) PolicyFault
 array_in field most read d = do
   ds ← optional no_items (tables_in field most) d
   entries_after (entry_in field read) [] ds

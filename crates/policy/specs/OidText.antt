@@ -19,5 +19,6 @@ joined (first ∷ second ∷ others) = (40 * first + second) ∷ others
 -- the object identifier whose text this is, where it is any's
 unfoldable pub oid_of_text : List ℕ → Option (List ℕ)
 oid_of_text text =
-    if is_oid (joined (arcs_after 0 text)) && bytes_eq (oid_text (joined (arcs_after 0 text))) text then Some (joined (arcs_after 0 text))
+    if is_oid (joined (arcs_after 0 text)) && bytes_eq (oid_text (joined (arcs_after 0 text))) text
+    then Some (joined (arcs_after 0 text))
     else None

@@ -79,6 +79,7 @@ pub record IsSound (p : PolicyValue) : Type 0 where
   pub counter : IsCounter p.counter
   pub algorithms : AreEntries (λ e. e.name) (λ e. oid_content e.oid) IsAlgorithm p.algorithms
   pub extensions : AreEntries (λ e. e.name) (λ e. oid_content e.oid) IsExtension p.extensions
-  pub policies : AreEntries (λ e. e.name) (λ e. oid_content e.oid) (IsTsaPolicy (map (λ e. e.name) p.algorithms) (map (λ e. e.name) p.extensions)) p.policies
+  pub policies : AreEntries (λ e. e.name) (λ e. oid_content e.oid)
+      (IsTsaPolicy (map (λ e. e.name) p.algorithms) (map (λ e. e.name) p.extensions)) p.policies
   pub accounts : AreAccounts (map (λ e. e.name) p.policies) p.accounts
   pub anonymous : is_none_or_among (map (λ e. e.name) p.accounts) p.counter.anonymous ≡ true

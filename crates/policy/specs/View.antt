@@ -26,7 +26,11 @@ abbrev pub algorithm_view : Algorithm → AlgorithmValue
 algorithm_view algorithm = record { name = string_bytes algorithm.name; oid = algorithm.oid; length = algorithm.length }
 
 abbrev pub extension_view : Extension → ExtensionValue
-extension_view extension = record { name = string_bytes extension.name; oid = extension.oid; max_length = extension.max_length }
+extension_view extension = record {
+  name = string_bytes extension.name;
+  oid = extension.oid;
+  max_length = extension.max_length;
+}
 
 abbrev pub tsa_policy_view : TsaPolicy → TsaPolicyValue
 tsa_policy_view policy = record {

@@ -85,7 +85,8 @@ fn lengths(content: &[u8]) -> (u64, u64)
 #[tactic(auto, unfolding(crate::specs::Meaning::algorithm_of))]
 fn algorithm(alloc: Global, earlier: &[Algorithm], table: &Table) -> Result<Algorithm, PolicyFault>
     ensures { AnswersMeaning algorithm_view result
-        (algorithm_of (map (λ e. string_bytes e.name) earlier.now) (map (λ e. oid_content e.oid) earlier.now) (table_view table.now)) }
+        (algorithm_of (map (λ e. string_bytes e.name) earlier.now) (map (λ e. oid_content e.oid) earlier.now)
+        (table_view table.now)) }
 {
     only(table, &["name", "oid", "length"])?;
     let name = new_name(alloc, table, Field::AlgorithmName, earlier)?;
@@ -102,7 +103,8 @@ fn algorithm(alloc: Global, earlier: &[Algorithm], table: &Table) -> Result<Algo
 #[tactic(auto, unfolding(crate::specs::Meaning::extension_of))]
 fn extension(alloc: Global, earlier: &[Extension], table: &Table) -> Result<Extension, PolicyFault>
     ensures { AnswersMeaning extension_view result
-        (extension_of (map (λ e. string_bytes e.name) earlier.now) (map (λ e. oid_content e.oid) earlier.now) (table_view table.now)) }
+        (extension_of (map (λ e. string_bytes e.name) earlier.now) (map (λ e. oid_content e.oid) earlier.now)
+        (table_view table.now)) }
 {
     only(table, &["name", "oid", "max_length"])?;
     let name = new_name(alloc, table, Field::ExtensionName, earlier)?;
@@ -125,7 +127,8 @@ fn tsa_policy(
 ) -> Result<TsaPolicy, PolicyFault>
     ensures { AnswersMeaning tsa_policy_view result
         (tsa_policy_of (map (λ e. string_bytes e.name) algorithms.now) (map (λ e. string_bytes e.name) extensions.now)
-        (map (λ e. string_bytes e.name) earlier.now) (map (λ e. oid_content e.oid) earlier.now) (table_view table.now)) }
+        (map (λ e. string_bytes e.name) earlier.now) (map (λ e. oid_content e.oid) earlier.now)
+        (table_view table.now)) }
 {
     only(
         table,
@@ -263,7 +266,8 @@ fn algorithm_entry(
     earlier: &[Algorithm],
     value: &Value,
 ) -> Result<Algorithm, PolicyFault>
-    ensures { AnswersMeaning algorithm_view result (entry_in Field.Algorithm algorithm_in (map algorithm_view earlier.now) (view value.now)) }
+    ensures { AnswersMeaning algorithm_view result (entry_in Field.Algorithm algorithm_in
+        (map algorithm_view earlier.now) (view value.now)) }
 {
     let table = table_of(Field::Algorithm, value)?;
     algorithm(alloc, earlier, table)
@@ -275,7 +279,8 @@ fn extension_entry(
     earlier: &[Extension],
     value: &Value,
 ) -> Result<Extension, PolicyFault>
-    ensures { AnswersMeaning extension_view result (entry_in Field.Extension extension_in (map extension_view earlier.now) (view value.now)) }
+    ensures { AnswersMeaning extension_view result (entry_in Field.Extension extension_in
+        (map extension_view earlier.now) (view value.now)) }
 {
     let table = table_of(Field::Extension, value)?;
     extension(alloc, earlier, table)
@@ -290,7 +295,8 @@ fn tsa_policy_entry(
     value: &Value,
 ) -> Result<TsaPolicy, PolicyFault>
     ensures { AnswersMeaning tsa_policy_view result
-        (entry_in Field.Policy (tsa_policy_in (map (λ e. string_bytes e.name) algorithms.now) (map (λ e. string_bytes e.name) extensions.now))
+        (entry_in Field.Policy (tsa_policy_in (map (λ e. string_bytes e.name) algorithms.now) (map
+        (λ e. string_bytes e.name) extensions.now))
         (map tsa_policy_view earlier.now) (view value.now)) }
 {
     let table = table_of(Field::Policy, value)?;
@@ -305,7 +311,8 @@ fn account_entry(
     value: &Value,
 ) -> Result<Account, PolicyFault>
     ensures { AnswersMeaning account_view result
-        (entry_in Field.Account (account_in (map (λ e. string_bytes e.name) policies.now)) (map account_view earlier.now) (view value.now)) }
+        (entry_in Field.Account (account_in (map (λ e. string_bytes e.name) policies.now))
+        (map account_view earlier.now) (view value.now)) }
 {
     let table = table_of(Field::Account, value)?;
     account(alloc, policies, earlier, table)
@@ -360,7 +367,8 @@ fn account_entries(
     values: &[Value],
 ) -> Result<Vec<Account>, PolicyFault>
     ensures { AnswersMeaning (λ es. map account_view es.items) result
-        (entries_after (entry_in Field.Account (account_in (map (λ e. string_bytes e.name) policies.now))) [] (items_view values.now)) }
+        (entries_after (entry_in Field.Account (account_in (map (λ e. string_bytes e.name) policies.now))) []
+        (items_view values.now)) }
 {
     let mut entries = Vec::new(alloc);
     for value in values {

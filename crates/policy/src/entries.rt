@@ -5,7 +5,8 @@ use der::Oid;
 /// How the counter keeps time (the table `counter`).
 #[derive(Debug, Drop)]
 pub struct Counter {
-    /// How far the true moment may be away from a token's genTime, 1 to 1,000,000 microseconds (RFC 3161 2.4.2, accuracy).
+    /// How far the true moment may be away from a token's genTime, 1 to 1,000,000 microseconds (RFC 3161 2.4.2,
+    /// accuracy).
     pub accuracy_us: u32,
     /// How many fraction digits a genTime has at most, 0 to 6.
     pub fraction_digits: u8,

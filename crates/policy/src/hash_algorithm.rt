@@ -25,14 +25,16 @@ impl HashAlgorithm {
         HashAlgorithm::Sha512,
     ];
 
-    /// The algorithm whose object identifier has these contents octets (X.690 8.19). None where none of the five has them.
+    /// The algorithm whose object identifier has these contents octets (X.690 8.19). None where none of the five has
+    /// them.
     pub fn of_identifier(content: &[u8]) -> Option<HashAlgorithm>
         ensures { option_map value_of result ≡ find (λ a. bytes_eq (oid_content a.oid) content.now) hash_algorithms }
     {
         find_by_identifier(&HashAlgorithm::ALL, content).copied()
     }
 
-    /// The contents octets of its object identifier (X.690 8.19): RFC 3370 2.1 gives that of SHA-1, and RFC 5754 2 the others.
+    /// The contents octets of its object identifier (X.690 8.19): RFC 3370 2.1 gives that of SHA-1, and RFC 5754 2 the
+    /// others.
     #[tactic(auto, unfolding(der::specs::ObjectIdentifier::subidentifier_octets))]
     pub fn identifier(self) -> &'static [u8]
         ensures { result.now ≡ oid_content (value_of self).oid }
@@ -66,7 +68,8 @@ fn find_by_identifier<'e>(
     algorithms: &'e [HashAlgorithm],
     content: &[u8],
 ) -> Option<&'e HashAlgorithm>
-    ensures { option_map (λ a. a.now) result ≡ find (λ a. bytes_eq (oid_content (value_of a).oid) content.now) algorithms.now }
+    ensures { option_map (λ a. a.now) result
+        ≡ find (λ a. bytes_eq (oid_content (value_of a).oid) content.now) algorithms.now }
 {
     algorithms
         .iter()

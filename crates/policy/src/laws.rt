@@ -3,8 +3,9 @@ ghost use Rattle.policy.specs.Meaning.{meaning_of};
 ghost use Rattle.policy.specs.Record.{PolicyValue};
 ghost use Rattle.policy.specs.Sound.{IsSound};
 
-/// What holds of each record that a policy file means: within an array the names differ, and so do the object identifiers
-/// and the key hashes; each listed name stands once in its list and exists; each number is in its range.
+/// What holds of each record that a policy file means: within an array the names differ, and so do the object
+/// identifiers and the key hashes; each listed name stands once in its list and exists; each number is in its range,
+/// object identifiers are such, a key hash has 32 octets; and no array has more entries than it may.
 pub fn records_are_sound()
     ensures { (text : List ℕ) (record_meant : PolicyValue) → meaning_of text ≡ Ok record_meant → IsSound record_meant }
 {}

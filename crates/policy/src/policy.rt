@@ -50,8 +50,8 @@ impl Policy {
         }
     }
 
-    /// The account whose key these octets are: its `key_sha256` is their SHA-256. Whether it is active isn't asked. None
-    /// where no account has that key. Takes no memory.
+    /// The account whose key these octets are: its `key_sha256` is their SHA-256. Whether it is active isn't asked.
+    /// None where no account has that key. Takes no memory.
     pub fn account_of_key(&self, key: &[u8]) -> Option<&Account>
         ensures { option_map (λ a. account_view a.now) result ≡ account_of_key (policy_view self.now) key.now }
     {
@@ -91,25 +91,26 @@ impl Policy {
         find_by_oid(&self.policies, content)
     }
 
-    /// The account's default policy: its first. None where it has no policy, or where no policy has that name; neither is so for
-    /// an account of a policy file. Takes no memory.
+    /// The account's default policy: its first. None where it has no policy, or where no policy has that name; neither
+    /// is so for an account of a policy file. Takes no memory.
     pub fn default_policy(&self, account: &Account) -> Option<&TsaPolicy>
-        ensures { option_map (λ p. tsa_policy_view p.now) result ≡ default_policy (policy_view self.now) (account_view account.now) }
+        ensures { option_map (λ p. tsa_policy_view p.now) result
+            ≡ default_policy (policy_view self.now) (account_view account.now) }
     {
         let name = account.policies.first()?;
         self.policy_named(name.as_str())
     }
 
-    /// The hash algorithm whose object identifier has these contents octets (X.690 8.19). None where no algorithm has it.
-    /// Takes no memory.
+    /// The hash algorithm whose object identifier has these contents octets (X.690 8.19). None where no algorithm has
+    /// it. Takes no memory.
     pub fn algorithm_of_oid(&self, content: &[u8]) -> Option<&Algorithm>
         ensures { option_map (λ a. algorithm_view a.now) result ≡ algorithm_of_oid (policy_view self.now) content.now }
     {
         find_by_oid(&self.algorithms, content)
     }
 
-    /// The extension whose object identifier has these contents octets (X.690 8.19). None where no extension has it. Takes
-    /// no memory.
+    /// The extension whose object identifier has these contents octets (X.690 8.19). None where no extension has it.
+    /// Takes no memory.
     pub fn extension_of_oid(&self, content: &[u8]) -> Option<&Extension>
         ensures { option_map (λ e. extension_view e.now) result ≡ extension_of_oid (policy_view self.now) content.now }
     {
@@ -119,7 +120,8 @@ impl Policy {
 
 /// Whether the anonymous account exists, where one is named.
 fn anonymous_exists(counter: &Counter, accounts: &[Account]) -> bool
-    ensures { result ≡ is_none_or_among (map (λ e. string_bytes e.name) accounts.now) (option_map string_bytes counter.now.anonymous) }
+    ensures { result ≡ is_none_or_among (map (λ e. string_bytes e.name) accounts.now)
+        (option_map string_bytes counter.now.anonymous) }
 {
     match &counter.anonymous {
         Some(name) => has_name(accounts, name.as_str()),

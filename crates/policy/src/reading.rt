@@ -177,7 +177,8 @@ pub(crate) fn new_name<T: Named>(
     field: Field,
     earlier: &[T],
 ) -> Result<String, PolicyFault>
-    ensures { AnswersMeaning string_bytes result (new_name_in field (map T.name_of earlier.now) (table_view table.now)) }
+    ensures { AnswersMeaning string_bytes result (new_name_in field (map T.name_of earlier.now)
+        (table_view table.now)) }
 {
     let Some(value) = member(table, "name") else {
         return Err(PolicyFault::Missing(field));
