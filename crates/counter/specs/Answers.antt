@@ -1,12 +1,12 @@
 -- What the words write for the text that they read.
-use Rattle.std.specs.Prelude.{◌≡◌, ℕ, List, Option, IfSome, ⊤}
+use Rattle.std.specs.Prelude.{◌≡◌, ℕ, List, Option, IfSome}
 use Rattle.counter.specs.Counts.{Counts}
 use Rattle.counter.specs.Hexadecimal.{IsHexadecimal, line}
 use Rattle.counter.specs.Settings.{SettingsValue, States}
 use Rattle.counter.specs.Tst.{IsReply}
-use Rattle.counter.specs.declared.words.TstWords.{TstWords}
-use Rattle.counter.specs.declared.words.Word.{Word}
-use Rattle.counter.specs.declared.words.Word.TheVariants.{Tst, Check}
+use Rattle.command_line.specs.declared.words.TstWords.{TstWords}
+use Rattle.command_line.specs.declared.words.Word.{Word}
+use Rattle.command_line.specs.declared.words.Word.TheVariants.{Tst, Check}
 
 -- The text spells a request's octets, the words state settings, and what is written is the line of a reply to the one by the other.
 pub record Answers (words : TstWords) (text written : List ℕ) : Type 0 where
@@ -22,7 +22,3 @@ pub record Answers (words : TstWords) (text written : List ℕ) : Type 0 where
 abbrev pub Does : Word → Option (List ℕ) → (List ℕ → Type 0) → Type 0
 Does (Tst words) input IsWritten = IfSome input (λ text. (written : List ℕ) × Answers words text written × IsWritten written)
 Does (Check words) input IsWritten = (written : List ℕ) × Counts written × IsWritten written
-
--- What was asked for has an answer, that can be written.
-abbrev pub HasAnswer : Word → Option (List ℕ) → Type 0
-HasAnswer word input = Does word input (λ _. ⊤)

@@ -1,7 +1,13 @@
--- The numbers of the program's own refusals.
-use Rattle.std.specs.Prelude.{ℕ}
+-- The numbers of the program's own refusals, and the line that it prints of a refusal.
+use Rattle.std.specs.Prelude.{ℕ, List, [], ◌∷◌, ◌++◌, codes}
+use Rattle.std.specs.Fmt.{decimal}
+use Rattle.der.specs.Fault as der
 use Rattle.hex.specs.declared.error.FromHexError.{FromHexError}
 use Rattle.hex.specs.declared.error.FromHexError.TheVariants.{InvalidHexCharacter, OddLength, InvalidStringLength, OutOfMemory}
+use Rattle.policy.specs.Fault as policy
+use Rattle.tsp.specs.Fault as tsp
+use Rattle.counter.specs.declared.fault.Fault.{Fault}
+use Rattle.counter.specs.declared.fault.Fault.TheVariants.{Der, Tsp, Policy, Input}
 use Rattle.counter.specs.declared.fault.InputFault.{InputFault}
 use Rattle.counter.specs.declared.fault.InputFault.TheVariants.{NotHexadecimal, File, Hold, Account, Failed, Address, Memory}
 
@@ -20,3 +26,20 @@ fault_of (InvalidHexCharacter c index) = NotHexadecimal
 fault_of OddLength = NotHexadecimal
 fault_of InvalidStringLength = NotHexadecimal
 fault_of OutOfMemory = Memory
+
+abbrev pub number_of_fault : Fault → ℕ
+number_of_fault (Der fault) = der.number_of fault
+number_of_fault (Tsp fault) = tsp.number_of fault
+number_of_fault (Policy fault) = policy.number_of fault
+number_of_fault (Input fault) = number_of fault
+
+-- the part that refused
+abbrev pub line_beginning : Fault → List ℕ
+line_beginning (Der fault) = codes "counter: der "
+line_beginning (Tsp fault) = codes "counter: tsp "
+line_beginning (Policy fault) = codes "counter: policy "
+line_beginning (Input fault) = codes "counter: input "
+
+-- the line of a refusal: who refused, and the refusal's number in decimal
+abbrev pub fault_line : Fault → List ℕ
+fault_line fault = line_beginning fault ++ (decimal (number_of_fault fault) ++ 10 ∷ [])

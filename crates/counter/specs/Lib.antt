@@ -5,4 +5,4 @@ pub mod Hexadecimal
 pub mod Known
 pub mod Settings
 pub mod Tst
-pub mod Words
+pub mod Writing

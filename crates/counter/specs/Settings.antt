@@ -2,7 +2,7 @@
 use Rattle.std.specs.Prelude.{◌≡◌, ℕ, Bool, List}
 use Rattle.der.specs.ObjectIdentifier.{IsOid, oid_text}
 use Rattle.counter.specs.declared.settings.Settings.{Settings}
-use Rattle.counter.specs.declared.words.TstWords.{TstWords}
+use Rattle.command_line.specs.declared.words.TstWords.{TstWords}
 
 -- moment and accuracy are in microseconds
 pub record SettingsValue : Type 0 where

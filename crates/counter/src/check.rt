@@ -6,9 +6,10 @@ ghost use Rattle.policy.specs.Meaning.{meaning_of};
 ghost use Rattle.policy.specs.View.{policy_view};
 ghost use Rattle.policy.specs.declared.fault.PolicyFault.{PolicyFault};
 ghost use Rattle.counter.specs.Counts.{counts_line};
+ghost use Rattle.counter.specs.Writing.{Begins};
 
 use crate::fault::{Fault, InputFault};
-use crate::output::write_line;
+use crate::output::write_text;
 use policy::Policy;
 use std::alloc::{AllocError, Global};
 use std::io::Write;
@@ -37,19 +38,20 @@ fn read_text(rt: &HostRuntime, path: &str) -> Result<String, InputFault>
     }
 }
 
-/// Writes the numbers of algorithms, extensions, policies and accounts as one line. A write that fails is `Failed`: the line's
-/// beginning may have been written then. `Memory` where memory runs out, before anything is written.
+/// Writes the numbers of algorithms, extensions, policies and accounts as one line. A write that fails is `Failed`: a beginning
+/// of the line was written then. `Memory` where memory runs out, before anything is written.
 pub fn write_counts<W: Write>(
     alloc: Global,
     policy: &Policy,
     output: &mut W,
 ) -> Result<(), InputFault>
     ensures written { OnOk result (Appends (W.contents output.old) (W.contents output.new) (counts_line policy.now)) }
+    ensures begun { result ≡ Err InputFault.Failed → Begins (W.contents output.old) (W.contents output.new) (counts_line policy.now) }
     ensures kept { result ≡ Err InputFault.Memory → W.contents output.new ≡ W.contents output.old }
     ensures faults { IfErr result (λ fault. (fault ≡ InputFault.Failed) ⊎ (fault ≡ InputFault.Memory)) }
 {
     let line = counts(alloc, policy)?;
-    write_line(line.as_str(), output)
+    write_text(line.as_str(), output)
 }
 
 fn counts(alloc: Global, policy: &Policy) -> Result<String, AllocError>

@@ -1,31 +1,71 @@
-ghost use Rattle.std.specs.Prelude.{◌≡◌};
+ghost use Rattle.std.specs.Prelude.{◌≡◌, ◌≤◌, ◌++◌, ◌∷◌, []};
+ghost use Rattle.std.specs.Fmt.{decimal};
 ghost use Rattle.counter.specs.declared.fault.Fault.TheVariants.{Der, Tsp, Policy, Input};
 ghost use Rattle.counter.specs.declared.fault.InputFault.TheVariants.{Memory};
 ghost use Rattle.counter.specs.Fault.{fault_of};
 
+use crate::output::write_text;
 use der::DerFault;
 use hex::FromHexError;
 use policy::PolicyFault;
 use std::alloc::{AllocError, AllocFailed};
-use thiserror::Error;
+use std::io::Write;
 use tsp::TspFault;
 
-/// Why the program did not do what its words ask for: the part that refused, and its refusal. Shown as the line that the
-/// program prints.
-#[derive(Clone, Copy, Debug, PartialEq, Eq, Error)]
+/// Why the program did not do what its words ask for: the part that refused, and its refusal.
+#[derive(Clone, Copy, Debug, PartialEq, Eq)]
 pub enum Fault {
     /// An object identifier is malformed, or memory ran out over it.
-    #[error("counter: der {}", .0.number())]
     Der(DerFault),
     /// Memory ran out over a request or a TSTInfo.
-    #[error("counter: tsp {}", .0.number())]
     Tsp(TspFault),
     /// The policy file isn't one.
-    #[error("counter: policy {}", .0.number())]
     Policy(PolicyFault),
     /// The inputs of the program itself.
-    #[error("counter: input {}", .0.number())]
     Input(InputFault),
+}
+
+impl Fault {
+    ghost use Rattle.counter.specs.Fault.{fault_line, line_beginning, number_of_fault};
+    ghost use Rattle.counter.specs.Writing.{Begins};
+
+    /// Writes the fault's line, as much of it as standard error takes. It takes no memory.
+    pub fn write_line<W: Write>(self, errors: &mut W)
+        ensures { Begins (W.contents errors.old) (W.contents errors.new) (fault_line self) }
+    {
+        // Where standard error fails, the status alone tells.
+        match write_text(self.line_beginning(), errors) {
+            Ok(()) => {
+                let _ = write_text(line_end(self.number()), errors);
+            }
+            Err(_) => {}
+        }
+    }
+
+    /// How the line begins: the part that refused. The refusal's number and LF follow.
+    fn line_beginning(self) -> &'static str
+        ensures { result.now ≡ line_beginning self }
+    {
+        match self {
+            Fault::Der(_) => "counter: der ",
+            Fault::Tsp(_) => "counter: tsp ",
+            Fault::Policy(_) => "counter: policy ",
+            Fault::Input(_) => "counter: input ",
+        }
+    }
+
+    /// The refusal's number.
+    fn number(self) -> u8
+        ensures number { result ≡ number_of_fault self }
+        ensures most { result ≤ 10 }
+    {
+        match self {
+            Fault::Der(fault) => fault.number(),
+            Fault::Tsp(fault) => fault.number(),
+            Fault::Policy(fault) => fault.number(),
+            Fault::Input(fault) => fault.number(),
+        }
+    }
 }
 
 impl From<DerFault> for Fault {
@@ -57,6 +97,26 @@ impl From<InputFault> for Fault {
 
     fn from(fault: InputFault) -> Fault {
         Fault::Input(fault)
+    }
+}
+
+/// The number in decimal, and LF.
+fn line_end(number: u8) -> &'static str
+    requires { number ≤ 10 }
+    ensures { result.now ≡ decimal number ++ 10 ∷ [] }
+{
+    match number {
+        0 => "0\n",
+        1 => "1\n",
+        2 => "2\n",
+        3 => "3\n",
+        4 => "4\n",
+        5 => "5\n",
+        6 => "6\n",
+        7 => "7\n",
+        8 => "8\n",
+        9 => "9\n",
+        _ => "10\n",
     }
 }
 
@@ -110,7 +170,7 @@ impl InputFault {
     ghost use Rattle.counter.specs.Fault.{number_of};
 
     /// The refusal's number, 1 to 7.
-    pub fn number(self) -> u8
+    fn number(self) -> u8
         ensures { result ≡ number_of self }
     {
         self as u8

@@ -2,17 +2,16 @@
 #![tactic(auto)]
 
 mod check;
-mod command;
 mod fault;
 mod hexadecimal;
 mod input;
 mod known;
+mod outcome;
 mod output;
 mod rules;
 mod run;
 mod settings;
 mod tst;
-mod words;
 
 use std::process::ExitCode;
 

@@ -1,9 +1,12 @@
-ghost use Rattle.std.specs.Prelude.{◌≡◌, ◌≢◌, ◌≤◌, ◌⊎◌, List, ℕ, OnOk, IfSome, IfErr, map, string_bytes};
+ghost use Rattle.std.specs.Prelude.{◌≡◌, ◌≤◌, ◌⊎◌, List, ℕ, OnOk, IfSome, IfErr, String, map, string_bytes};
 ghost use Rattle.std.specs.Io.KnownBytes.{Appends};
-ghost use Rattle.counter.specs.Answers.{Answers, Does, HasAnswer};
+ghost use Rattle.std.specs.declared.alloc.Global.{Global};
+ghost use Rattle.command_line.specs.Words.{AreRefused, AreTaken, Asks, AsksHelp};
+ghost use Rattle.command_line.specs.declared.refusal.Refusal.TheVariants.{Help, Mistake};
+ghost use Rattle.counter.specs.Answers.{Answers, Does};
 ghost use Rattle.counter.specs.Counts.{Counts};
-ghost use Rattle.counter.specs.Words.{AreRefused, AreTaken, Asks, AsksHelp};
-ghost use Rattle.clap.specs.Words.{kind_of};
+ghost use Rattle.counter.specs.Fault.{fault_line};
+ghost use Rattle.counter.specs.Writing.{Begins};
 
 #[cfg(test)]
 mod tests;
@@ -11,11 +14,11 @@ mod tests;
 use crate::check::{read_policy, write_counts};
 use crate::fault::{Fault, InputFault};
 use crate::input::read_octets;
-use crate::output::write_octets;
+use crate::outcome::Outcome;
+use crate::output::{write_octets, write_text};
 use crate::settings::Settings;
 use crate::tst::tst_reply;
-use crate::words::{CheckWords, TstWords, Word};
-use clap::error::ErrorKind;
+use command_line::{CheckWords, Refusal, TstWords, Word};
 use std::alloc::Global;
 use std::io::{Read, Write};
 use std::rt::HostRuntime;
@@ -61,7 +64,7 @@ fn process_words(rt: &HostRuntime) -> io::Result<Vec<String>> {
 /// `tsp` and `policy` with the number of those crates' refusals, and `input` 1 where the input isn't hexadecimal, 2 where the
 /// policy file can't be read or isn't UTF-8, 5 where the input or the output fails, and 7 where memory runs out. 2 where the
 /// words are refused; why is written to `errors`. Where the status isn't 0 nothing is written to `output`, but where writing
-/// an answer or help fails: then its beginning may stand there.
+/// an answer or help fails: then a beginning of it stands there.
 pub fn run_words<I: Read, O: Write, E: Write>(
     rt: &HostRuntime,
     words: &[String],
@@ -87,17 +90,22 @@ pub fn run_words<I: Read, O: Write, E: Write>(
     ensures unread { (result ≡ 2) ⊎ (AreTaken (map (λ word. string_bytes word) words.now) → ⊥)
         → I.remaining input.new ≡ I.remaining input.old }
 
-    // Where a fault stopped it, something is written only where there is help or an answer to write.
+    // Where a fault stopped it, its line is written, as much of it as `errors` takes.
+    ensures told { result ≡ 1 → (fault : Fault) × Begins (E.contents errors.old) (E.contents errors.new) (fault_line fault) }
+
+    // Nothing but help or a beginning of an answer is written to the output then, and an answer's only where the fault is `input` 5.
     ensures kept { result ≡ 1 → (O.contents output.new ≡ O.contents output.old)
         ⊎ (AsksHelp (map (λ word. string_bytes word) words.now)
-        ⊎ ((word : Word) × Asks (map (λ word. string_bytes word) words.now) word × HasAnswer word (I.remaining input.old))) }
+        ⊎ ((word : Word) × Asks (map (λ word. string_bytes word) words.now) word
+        × Does word (I.remaining input.old) (Begins (O.contents output.old) (O.contents output.new))
+        × Begins (E.contents errors.old) (E.contents errors.new) (fault_line (Fault.Input InputFault.Failed)))) }
 {
     match Word::parse(rt.alloc(), words) {
         Ok(word) => match run_word(rt, &word, input, output) {
-            Ok(()) => DONE,
+            Ok(outcome) => outcome.status(),
             Err(fault) => report(fault, errors),
         },
-        Err(error) => explain(&error, output, errors),
+        Err(refusal) => explain(&refusal, output, errors),
     }
 }
 
@@ -106,12 +114,13 @@ fn run_word<I: Read, O: Write>(
     word: &Word<'_>,
     input: &mut I,
     output: &mut O,
-) -> Result<(), Fault>
+) -> Result<Outcome, Fault>
     ensures done { OnOk result (Does word.now (I.remaining input.old) (Appends (O.contents output.old) (O.contents output.new))) }
 
     // Before a fault nothing is written, but where there is an answer and writing it fails.
     ensures kept { IfErr result (λ fault. (O.contents output.new ≡ O.contents output.old)
-        ⊎ ((fault ≡ Fault.Input InputFault.Failed) × HasAnswer word.now (I.remaining input.old))) }
+        ⊎ ((fault ≡ Fault.Input InputFault.Failed)
+        × Does word.now (I.remaining input.old) (Begins (O.contents output.old) (O.contents output.new)))) }
 {
     match word {
         Word::Tst(words) => tst(rt.alloc(), words, input, output),
@@ -120,16 +129,21 @@ fn run_word<I: Read, O: Write>(
 }
 
 /// Reads a policy file, and writes how many entries it has.
-fn check<O: Write>(rt: &HostRuntime, words: &CheckWords<'_>, output: &mut O) -> Result<(), Fault>
+fn check<O: Write>(
+    rt: &HostRuntime,
+    words: &CheckWords<'_>,
+    output: &mut O,
+) -> Result<Outcome, Fault>
     ensures counted { OnOk result ((written : List ℕ) × Counts written × Appends (O.contents output.old) (O.contents output.new) written) }
 
     // Before a fault nothing is written, but where there are counts and writing them fails.
     ensures kept { IfErr result (λ fault. (O.contents output.new ≡ O.contents output.old)
-        ⊎ ((fault ≡ Fault.Input InputFault.Failed) × ((written : List ℕ) × Counts written))) }
+        ⊎ ((fault ≡ Fault.Input InputFault.Failed)
+        × ((written : List ℕ) × Counts written × Begins (O.contents output.old) (O.contents output.new) written))) }
 {
     let policy = read_policy(rt, words.rules)?;
     write_counts(rt.alloc(), &policy, output)?;
-    Ok(())
+    Ok(Outcome::Counted)
 }
 
 /// Reads a request, and writes the reply to it.
@@ -138,7 +152,7 @@ fn tst<I: Read, O: Write>(
     words: &TstWords<'_>,
     input: &mut I,
     output: &mut O,
-) -> Result<(), Fault>
+) -> Result<Outcome, Fault>
     // The reply to the request that the input spells is written, by the settings that the words state.
     ensures answered { OnOk result (IfSome (I.remaining input.old) (λ text.
         (written : List ℕ) × Answers words.now text written × Appends (O.contents output.old) (O.contents output.new) written)) }
@@ -146,49 +160,45 @@ fn tst<I: Read, O: Write>(
     // Before a fault nothing is written, but where there is a reply and writing it fails.
     ensures kept { IfErr result (λ fault. (O.contents output.new ≡ O.contents output.old)
         ⊎ ((fault ≡ Fault.Input InputFault.Failed) × IfSome (I.remaining input.old) (λ text.
-        (written : List ℕ) × Answers words.now text written))) }
+        (written : List ℕ) × Answers words.now text written × Begins (O.contents output.old) (O.contents output.new) written))) }
 {
     let settings = Settings::of_words(alloc, words)?;
     let query = read_octets(alloc, input)?;
     let reply = tst_reply(alloc, query.as_slice(), &settings)?;
     write_octets(alloc, reply.as_slice(), output)?;
-    Ok(())
+    Ok(Outcome::Replied)
 }
 
 /// Writes the fault's line.
 fn report<E: Write>(fault: Fault, errors: &mut E) -> u8
-    ensures { result ≡ 1 }
+    ensures status { result ≡ 1 }
+    ensures told { Begins (E.contents errors.old) (E.contents errors.new) (fault_line fault) }
 {
-    // Where standard error fails, the status alone tells.
-    let _ = writeln!(errors, "{fault}");
+    fault.write_line(errors);
     FAULT
 }
 
-/// Writes why there are no words to run: help to standard output, a mistake to standard error.
-fn explain<O: Write, E: Write>(error: &clap::Error, output: &mut O, errors: &mut E) -> u8
+/// Writes why there are no words to do: help to standard output, a mistake to standard error.
+fn explain<O: Write, E: Write>(refusal: &Refusal, output: &mut O, errors: &mut E) -> u8
     ensures status { result ≤ 2 }
     ensures silent { result ≡ 0 → E.contents errors.new ≡ E.contents errors.old }
 
     // Nothing but help is written to the output.
-    ensures unwritten { (O.contents output.new ≡ O.contents output.old) ⊎ ((kind_of error.now ≡ ErrorKind.DisplayHelp)
-        ⊎ (kind_of error.now ≡ ErrorKind.DisplayVersion)) }
-
-    // Words are refused where clap says so, and help is shown where it was asked for.
-    ensures refused { result ≡ 2 → (kind_of error.now ≢ ErrorKind.DisplayHelp)
-        × (kind_of error.now ≢ ErrorKind.DisplayVersion) }
-    ensures shown { result ≡ 0 → (kind_of error.now ≡ ErrorKind.DisplayHelp)
-        ⊎ (kind_of error.now ≡ ErrorKind.DisplayVersion) }
-    ensures memory { kind_of error.now ≡ ErrorKind.OutOfMemory → result ≡ 1 }
+    ensures unwritten { (O.contents output.new ≡ O.contents output.old) ⊎ ((text : String Global) × (refusal.now ≡ Help text)) }
+    ensures refused { result ≡ 2 → (text : String Global) × (refusal.now ≡ Mistake text) }
+    ensures shown { result ≡ 0 → (text : String Global) × (refusal.now ≡ Help text) }
+    ensures told { result ≡ 1 → (fault : Fault) × Begins (E.contents errors.old) (E.contents errors.new) (fault_line fault) }
 {
-    if error.kind() == ErrorKind::OutOfMemory {
-        return report(Fault::Input(InputFault::Memory), errors);
-    }
-    if error.use_stderr() {
-        let _ = write!(errors, "{error}");
-        return WORDS_REFUSED;
-    }
-    match write!(output, "{error}") {
-        Ok(()) => DONE,
-        Err(_) => report(Fault::Input(InputFault::Failed), errors),
+    match refusal {
+        Refusal::Help(text) => match write_text(text.as_str(), output) {
+            Ok(()) => DONE,
+            Err(fault) => report(Fault::Input(fault), errors),
+        },
+        Refusal::Mistake(text) => {
+            // Where standard error fails, the status alone tells.
+            let _ = write_text(text.as_str(), errors);
+            WORDS_REFUSED
+        }
+        Refusal::Memory => report(Fault::Input(InputFault::Memory), errors),
     }
 }

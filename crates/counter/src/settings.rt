@@ -4,7 +4,7 @@ ghost use Rattle.der.specs.declared.fault.DerFault.TheVariants.{BadValue, Memory
 ghost use Rattle.gentime.specs.GenTime.{last_moment, round_down};
 
 use crate::fault::Fault;
-use crate::words::TstWords;
+use command_line::TstWords;
 use der::Oid;
 use gentime::GenTime;
 use std::alloc::Global;

@@ -16,6 +16,7 @@ returns-in_err-write_counts-clause-kept g c =
     } in
     rw failing.1
     (elim c.in_err-write_counts.ensures.faults [
-      | inl failed ↦ inr (failing.2 ∙ ap Input failed, (counts_line c.in_ok-policy.policy, counts))
+      | inl failed ↦
+          inr (failing.2 ∙ ap Input failed, (counts_line c.in_ok-policy.policy, counts, c.in_err-write_counts.ensures.begun (ap Err failed)))
       | inr memory ↦ inl (c.in_err-write_counts.ensures.kept (ap Err memory))
     ])

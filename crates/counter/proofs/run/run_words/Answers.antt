@@ -1,16 +1,10 @@
-use Rattle.std.proofs.Common.{◌≡◌, arith, inl, inr}
-use Rattle.clap.specs.Words.{kind_of}
+use Rattle.std.proofs.Common.{inl, inr}
 use Rattle.counter.proofs.run.run_words.Goals as goal
 
-pub returns-in-Err-clause-refused : goal.returns-in-Err-clause-refused
-returns-in-Err-clause-refused g c =
-    λ two.
-    elim c.in-Err.ensures.refused [
-      | inl (inl memory) ↦
-          let one : c.explain.result ≡ 1 = c.explain.ensures.memory memory in
-          absurd (omega arith)
-      | inl (inr among) ↦
-          let other = c.explain.ensures.refused two in
-          inl (kind_of c.in-Err.error, among, other.0, other.1)
-      | inr none ↦ inr none
+pub returns-in-Err-run_word-clause-kept : goal.returns-in-Err-run_word-clause-kept
+returns-in-Err-run_word-clause-kept g c =
+    λ _.
+    elim c.in-Err-run_word.ensures.kept [
+      | inl same ↦ inl same
+      | inr failed ↦ inr (inr (c.in-Ok.word, c.in-Ok.ensures.asked, failed.1, rw failed.0 at c.report.ensures.told))
     ]

@@ -10,21 +10,26 @@ pub returns-in_err-write_octets-clause-kept : goal.returns-in_err-write_octets-c
 returns-in_err-write_octets-clause-kept g c =
     let failing = err_from_is_err_and c.from_residual-in_err-write_octets.result c.from_residual-in_err-write_octets.ensures.1 in
     let reply = c.in_ok-reply.reply.items in
-    let answers = IfSome_then (g.I.Read.remaining c.args.input.now) c.in_ok-query.ensures.found
-    (λ text spelled. (
-      line reply,
-      record {
-        settings = settings_value c.in_ok-settings.settings;
-        stated = c.in_ok-settings.ensures.found;
-        query = c.in_ok-query.query.items;
-        spelled = spelled;
-        reply = reply;
-        replied = rw c.as_slice.ensures.value at c.in_ok-reply.ensures.reply;
-        digits = refl;
-      },
-    )) in
     rw failing.1
     (elim c.in_err-write_octets.ensures.faults [
-      | inl failed ↦ inr (failing.2 ∙ ap Input failed, answers)
+      | inl failed ↦
+          let begun = rw c.as_slice-2.ensures.value at c.in_err-write_octets.ensures.begun (ap Err failed) in
+          inr (
+            failing.2 ∙ ap Input failed,
+            IfSome_then (g.I.Read.remaining c.args.input.now) c.in_ok-query.ensures.found
+                (λ text spelled. (
+                  line reply,
+                  record {
+                    settings = settings_value c.in_ok-settings.settings;
+                    stated = c.in_ok-settings.ensures.found;
+                    query = c.in_ok-query.query.items;
+                    spelled = spelled;
+                    reply = reply;
+                    replied = rw c.as_slice.ensures.value at c.in_ok-reply.ensures.reply;
+                    digits = refl;
+                  },
+                  begun,
+                )),
+          )
       | inr memory ↦ inl (c.in_err-write_octets.ensures.kept (ap Err memory))
     ])

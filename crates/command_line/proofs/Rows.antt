@@ -1,0 +1,70 @@
+-- The command line, computed on words.
+use Rattle.std.proofs.Common.{◌≡◌, List, [], ◌∷◌, ◌++◌, Some, codes, inl, refl}
+use Rattle.std.specs.Prelude.{option_map}
+use Rattle.clap.specs.Words.{Text, fault_of, first_of, one_of, subcommand_of}
+use Rattle.clap.specs.declared.error.kind.ErrorKind.TheVariants.{ArgumentConflict, DisplayHelp, MissingRequiredArgument, MissingSubcommand, TooManyValues, UnknownArgument, ValueValidation}
+use Rattle.clap.proofs.OnLiterals.{clap_on_literals}
+use Rattle.command_line.specs.Words.{AreTaken, AsksHelp, counter_command}
+
+abbrev tst_words : Text → List Text
+tst_words digits =
+    codes "counter" ∷ codes "tst" ∷ codes "--policy" ∷ codes "2.999.1" ∷ codes "--moment=5" ∷ codes "--digits" ∷ digits
+    ∷ codes "--serial" ∷ codes "1" ∷ codes "--accuracy" ∷ codes "1000000" ∷ codes "--ordering" ∷ []
+
+pub tst_is_taken : AreTaken (tst_words (codes "6"))
+unfolding clap_on_literals
+tst_is_taken = refl
+
+pub policy_of_tst : option_map (λ p. first_of (codes "policy") p.1) (subcommand_of counter_command (tst_words (codes "6"))) ≡ Some (Some (codes "2.999.1"))
+unfolding clap_on_literals
+policy_of_tst = refl
+
+pub moment_of_tst : option_map (λ p. one_of (codes "moment") p.1) (subcommand_of counter_command (tst_words (codes "6"))) ≡ Some (Some (codes "5"))
+unfolding clap_on_literals
+moment_of_tst = refl
+
+pub ordering_of_tst : option_map (λ p. one_of (codes "ordering") p.1) (subcommand_of counter_command (tst_words (codes "6"))) ≡ Some (Some (codes "true"))
+unfolding clap_on_literals
+ordering_of_tst = refl
+
+pub seven_digits_are_refused : fault_of counter_command (tst_words (codes "7")) ≡ ValueValidation ∷ []
+unfolding clap_on_literals
+seven_digits_are_refused = refl
+
+-- a number below the least, an option that stands twice, a word too many, an unknown option, a value of a flag, help among all
+-- that is needed
+pub minus_is_refused : fault_of counter_command (codes "counter" ∷ codes "tst" ∷ codes "--serial=-5" ∷ []) ≡ ValueValidation ∷ []
+unfolding clap_on_literals
+minus_is_refused = refl
+
+pub twice_is_refused : fault_of counter_command (tst_words (codes "6") ++ (codes "--digits" ∷ codes "6" ∷ [])) ≡ ArgumentConflict ∷ []
+unfolding clap_on_literals
+twice_is_refused = refl
+
+pub word_too_many_is_refused : fault_of counter_command (tst_words (codes "6") ++ (codes "3" ∷ [])) ≡ UnknownArgument ∷ []
+unfolding clap_on_literals
+word_too_many_is_refused = refl
+
+pub other_option_is_refused : fault_of counter_command (tst_words (codes "6") ++ (codes "--colour" ∷ [])) ≡ UnknownArgument ∷ []
+unfolding clap_on_literals
+other_option_is_refused = refl
+
+pub value_of_flag_is_refused : fault_of counter_command (codes "counter" ∷ codes "tst" ∷ codes "--ordering=true" ∷ []) ≡ TooManyValues ∷ []
+unfolding clap_on_literals
+value_of_flag_is_refused = refl
+
+pub help_among_settings_is_asked : fault_of counter_command (tst_words (codes "6") ++ (codes "--help" ∷ [])) ≡ DisplayHelp ∷ []
+unfolding clap_on_literals
+help_among_settings_is_asked = refl
+
+pub check_needs_rules : fault_of counter_command (codes "counter" ∷ codes "check" ∷ []) ≡ MissingRequiredArgument ∷ []
+unfolding clap_on_literals
+check_needs_rules = refl
+
+pub one_subcommand_is_needed : fault_of counter_command (codes "counter" ∷ []) ≡ MissingSubcommand ∷ []
+unfolding clap_on_literals
+one_subcommand_is_needed = refl
+
+pub help_is_asked : AsksHelp (codes "counter" ∷ codes "tst" ∷ codes "--help" ∷ [])
+unfolding clap_on_literals
+help_is_asked = inl (inl refl)

@@ -1,0 +1,102 @@
+-- What a parse found, as the values that the words state.
+use Rattle.std.proofs.Common.{◌≡◌, ◌∙◌, ◌<◌, ◌^◌, ℕ, List, Bor, Result, Option, Ok, Err, Some, None, ap, codes, sym, refl}
+use Rattle.std.specs.Prelude.{option_map, unwrap_or}
+use Rattle.std.specs.Str.Parse.{ParsesUnsigned, digits_value, without_leading_plus}
+use Rattle.clap.specs.Words.{ReadsOne, Row, Text, first_of, first_value, one_text, rows_of, subcommand_name_of, subcommand_rows_of}
+use Rattle.clap.specs.declared.parser.matches.ArgMatches.{ArgMatches}
+use Rattle.clap.specs.declared.parser.matches.Found.{Found}
+use Rattle.clap.proofs.WalkLemmas.{first_value-rows, one_text-rows}
+use Rattle.command_line.specs.Words.{IsAsked, StatesCheck, StatesNumber, StatesTst}
+use Rattle.command_line.specs.declared.words.CheckWords.{CheckWords}
+use Rattle.command_line.specs.declared.words.TstWords.{TstWords}
+use Rattle.command_line.specs.declared.words.Word.{Word}
+use Rattle.command_line.specs.declared.words.Word.TheVariants.{Tst, Check}
+
+pub reads_text : (f : Found) (name : Text) (result : Option (Bor Text)) (text : Bor Text)
+    → option_map (λ s. s.now) result ≡ first_value f name → result ≡ Some text → first_of name (rows_of f) ≡ Some text.now
+reads_text f name result text same is =
+    sym (first_value-rows f name) ∙ sym same ∙ ap (option_map (λ (s : Bor Text). s.now)) is
+
+pub reads_number : {E : Type 0} (G : List ℕ → Result ℕ E → Type 0) (f : Found) (name : Text) (result : Option ℕ) (number : ℕ)
+    → (one_text f name ≡ None → result ≡ None) → ((t : List ℕ) → one_text f name ≡ Some t → ReadsOne G t result)
+    → ((t : List ℕ) (r : Result ℕ E) → G t r → ParsesUnsigned 64 10 t r) → result ≡ Some number
+    → StatesNumber (rows_of f) name number
+reads_number {E} G f name result number none value only is = go (one_text f name) refl
+  where
+    go : (o : Option Text) → one_text f name ≡ o → StatesNumber (rows_of f) name number
+    go None e =
+        let missing : result ≡ None = none e in
+        cc
+    go (Some t) e =
+        let read : ReadsOne G t (Some number) = rw is at value t e in
+        let parsed = only t (Ok number) read in
+        record {
+          text = t;
+          given = sym (one_text-rows f name) ∙ e;
+          numeral = parsed.0.0;
+          value = parsed.1;
+        }
+
+pub unread_number : {E : Type 0} (G : List ℕ → Result ℕ E → Type 0) (f : Found) (name : Text) (result : Option ℕ) (number : ℕ)
+    → ((t : List ℕ) → one_text f name ≡ Some t → ReadsOne G t result)
+    → ((t : List ℕ) (r : Result ℕ E) → G t r → ParsesUnsigned 64 10 t r) → result ≡ None
+    → StatesNumber (rows_of f) name number → number < 2 ^ 64 → ⊥
+unread_number {E} G f name result number value only is states small =
+    let read : ReadsOne G states.text None = rw is at value states.text (one_text-rows f name ∙ states.given) in
+    only states.text (Err read.0) read.1 (states.numeral, rw states.value at small)
+
+pub one_number : (rows : List Row) (name : Text) (a b : ℕ) → StatesNumber rows name a → StatesNumber rows name b → a ≡ b
+one_number rows name a b first second =
+    let same : first.text ≡ second.text = ap (λ (o : Option Text). unwrap_or o first.text) (sym first.given ∙ second.given) in
+    first.value ∙ ap (λ t. digits_value 10 (without_leading_plus t)) same ∙ sym second.value
+
+pub unread_text : (f : Found) (name : Text) (result : Option (Bor Text)) (text : Text)
+    → option_map (λ s. s.now) result ≡ first_value f name → result ≡ None → first_of name (rows_of f) ≡ Some text → ⊥
+unread_text f name result text same is given =
+    let missing : first_of name (rows_of f) ≡ None = sym (first_value-rows f name) ∙ sym same ∙ ap (option_map (λ (s : Bor Text). s.now)) is in
+    cc
+
+mapped_twice : {X Y Z : Type 0} (f : Y → Z) (g : X → Y) (o : Option X) → option_map f (option_map g o) ≡ option_map (λ x. f (g x)) o
+mapped_twice f g None = refl
+mapped_twice f g (Some x) = refl
+
+joined : (o : Option (Text × List Row)) (name : Text) (rows : List Row) → Some name ≡ option_map (λ p. p.0) o
+    → Some rows ≡ option_map (λ p. p.1) o → o ≡ Some (name, rows)
+joined None name rows first second = cc
+joined (Some p) name rows first second =
+    let is_name : name ≡ p.0 = ap (λ (o : Option Text). unwrap_or o name) first in
+    let are_rows : rows ≡ p.1 = ap (λ (o : Option (List Row)). unwrap_or o rows) second in
+    rw (is_name, are_rows) refl
+
+pub found_rows : (m : ArgMatches) (name : Text) (rows : List Row) → Some name ≡ subcommand_name_of m
+    → Some rows ≡ option_map (λ p. p.1) (subcommand_rows_of m) → subcommand_rows_of m ≡ Some (name, rows)
+found_rows m name rows first second =
+    joined (subcommand_rows_of m) name rows (first ∙ sym (mapped_twice (λ (p : Text × List Row). p.0) _ _)) second
+
+-- the subcommand that a parse met is the one
+pub one_subcommand : (m : ArgMatches) (name other : Text) (rows others : List Row) → Some name ≡ subcommand_name_of m
+    → Some rows ≡ option_map (λ p. p.1) (subcommand_rows_of m) → subcommand_rows_of m ≡ Some (other, others)
+    → (other ≡ name) × (others ≡ rows)
+one_subcommand m name other rows others first second is =
+    let pairs : Some (other, others) ≡ Some (name, rows) = sym is ∙ found_rows m name rows first second in
+    let pair : (other, others) ≡ (name, rows) = ap (λ (o : Option (Text × List Row)). unwrap_or o (other, others)) pairs in
+    (ap (λ (p : Text × List Row). p.0) pair, ap (λ (p : Text × List Row). p.1) pair)
+
+pub not_tst : (name : Text) (rows : List Row) (word : Word) → name ≡ codes "tst" → ((words : TstWords) → StatesTst rows words → ⊥)
+    → IsAsked name rows word → ⊥
+not_tst name rows (Tst words) is none asked = none words asked.1
+not_tst name rows (Check words) is none asked =
+    let bad : codes "tst" ≡ codes "check" = sym is ∙ asked.0 in
+    cc
+
+pub not_check : (name : Text) (rows : List Row) (word : Word) → name ≡ codes "check" → ((words : CheckWords) → StatesCheck rows words → ⊥)
+    → IsAsked name rows word → ⊥
+not_check name rows (Check words) is none asked = none words asked.1
+not_check name rows (Tst words) is none asked =
+    let bad : codes "check" ≡ codes "tst" = sym is ∙ asked.0 in
+    cc
+
+pub neither : (name : Text) (rows : List Row) (word : Word) → (name ≡ codes "tst" → ⊥) → (name ≡ codes "check" → ⊥)
+    → IsAsked name rows word → ⊥
+neither name rows (Tst words) no_tst no_check asked = no_tst asked.0
+neither name rows (Check words) no_tst no_check asked = no_check asked.0

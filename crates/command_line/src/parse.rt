@@ -1,0 +1,103 @@
+//! What the words ask for, by what `clap` finds in them.
+ghost use Rattle.std.specs.Prelude.{◌≡◌, ◌≤◌, ◌⊎◌, ℕ, List, Some, IfOk, IfErr, IfSome, IsNone, map, string_bytes};
+ghost use Rattle.clap.specs.Words.{Row, Text, HasKind, fault_of, found_of, kind_of, rows_of, subcommand_rows_of};
+ghost use Rattle.command_line.specs.Words.{AskNothing, Asks, IsAsked, IsRefusal, IsShown, StatesNumber, StatesTst, counter_command};
+
+use crate::command::{ACCURACIES, DIGITS, MOMENTS, Numbers, SERIALS, command};
+use crate::refusal::Refusal;
+use crate::words::{CheckWords, TstWords, Word};
+use clap::error::ErrorKind;
+use clap::{ArgMatches, Error};
+use std::alloc::{AllocError, Global};
+
+impl<'a> Word<'a> {
+    /// Reads the words, of which the first is the program's name. They are a `Mistake` where they aren't understood, and `Help`
+    /// where they ask for help; `Memory` where memory runs out.
+    pub fn parse(alloc: Global, words: &'a [String]) -> Result<Word<'a>, Refusal>
+        ensures asked { IfOk result (Asks (map (λ word. string_bytes word) words.now)) }
+        ensures refused { IfErr result (IsRefusal (map (λ word. string_bytes word) words.now)) }
+    {
+        match matched(alloc, words) {
+            Ok(word) => Ok(word),
+            Err(error) => match refusal_of(alloc, &error) {
+                Ok(refusal) => Err(refusal),
+                Err(_) => Err(Refusal::Memory),
+            },
+        }
+    }
+}
+
+/// The word, or `clap`'s error.
+fn matched<'a>(alloc: Global, words: &'a [String]) -> Result<Word<'a>, Error>
+    ensures asked { IfOk result (Asks (map (λ word. string_bytes word) words.now)) }
+
+    // Words are refused as `clap` says, for want of memory, or where they ask for nothing.
+    ensures refused { IfErr result (λ error. HasKind (fault_of counter_command (map (λ word. string_bytes word) words.now)) error
+        ⊎ ((kind_of error ≡ ErrorKind.MissingRequiredArgument) × AskNothing (map (λ word. string_bytes word) words.now))) }
+{
+    let mut command = command(alloc)?;
+    let matches = command.try_get_matches_from_mut(words)?;
+    match word_of(&matches) {
+        Some(word) => Ok(word),
+        None => Err(command.error(ErrorKind::MissingRequiredArgument, "a value is missing")?),
+    }
+}
+
+/// What `clap` shows on standard output is help, and anything else is a mistake.
+fn refusal_of(alloc: Global, error: &Error) -> Result<Refusal, AllocError>
+    ensures { IfOk result (IsShown (kind_of error.now)) }
+{
+    if error.kind() == ErrorKind::OutOfMemory {
+        return Ok(Refusal::Memory);
+    }
+    let text = format!(in alloc; "{error}")?;
+    if error.use_stderr() {
+        Ok(Refusal::Mistake(text))
+    } else {
+        Ok(Refusal::Help(text))
+    }
+}
+
+fn word_of<'a>(matches: &ArgMatches<'a>) -> Option<Word<'a>>
+    ensures found { IfSome result (λ word. (name : Text) × ((rows : List Row)
+        × (subcommand_rows_of matches.now ≡ Some (name, rows)) × IsAsked name rows word)) }
+    ensures none { IsNone result → (name : Text) → (rows : List Row) → (word : Word)
+        → subcommand_rows_of matches.now ≡ Some (name, rows) → IsAsked name rows word → ⊥ }
+{
+    match matches.subcommand()? {
+        ("tst", words) => Some(Word::Tst(tst_words(words)?)),
+        ("check", words) => Some(Word::Check(CheckWords {
+            rules: words.get_str("rules")?,
+        })),
+        _ => None,
+    }
+}
+
+fn tst_words<'a>(matches: &ArgMatches<'a>) -> Option<TstWords<'a>>
+    ensures found { IfSome result (StatesTst (rows_of (found_of matches.now))) }
+    ensures none { IsNone result → (words : TstWords) → StatesTst (rows_of (found_of matches.now)) words → ⊥ }
+{
+    Some(TstWords {
+        policy: matches.get_str("policy")?,
+        moment: number(matches, "moment", MOMENTS)?,
+        digits: number(matches, "digits", DIGITS)? as u8,
+        serial: number(matches, "serial", SERIALS)?,
+        accuracy: number(matches, "accuracy", ACCURACIES)? as u32,
+        ordering: matches.get_flag("ordering"),
+    })
+}
+
+fn number(matches: &ArgMatches<'_>, name: &str, numbers: Numbers) -> Option<u64>
+    ensures least { IfSome result (λ number. numbers.least ≤ number) }
+    ensures most { IfSome result (λ number. number ≤ numbers.most) }
+    ensures stated { IfSome result (StatesNumber (rows_of (found_of matches.now)) name.now) }
+    ensures none { IsNone result → (number : ℕ) → StatesNumber (rows_of (found_of matches.now)) name.now number
+        → numbers.least ≤ number → number ≤ numbers.most → ⊥ }
+{
+    let number = matches.get_one::<u64>(name)?;
+    if numbers.least <= number && number <= numbers.most {
+        Some(number)
+    } else {
+        None
+    }
+}

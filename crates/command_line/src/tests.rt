@@ -1,0 +1,146 @@
+use crate::{CheckWords, Refusal, TstWords, Word};
+use std::alloc::{AllocError, Global};
+use std::test::Fail;
+
+/// The words of a line, parted by spaces; `''` is the empty word.
+fn words_of(alloc: Global, line: &str) -> Result<Vec<String>, AllocError> {
+    let mut words = Vec::new(alloc);
+    for word in line.split(' ') {
+        let word = if word == "''" { "" } else { word };
+        words.push(String::from_str(alloc, word)?)?;
+    }
+    Ok(words)
+}
+
+const TST: TstWords<'static> = TstWords {
+    policy: "2.999.1",
+    moment: 0,
+    digits: 0,
+    serial: 1,
+    accuracy: 1_000_000,
+    ordering: false,
+};
+
+const TAKEN: [(&str, Word<'static>); 5] = [
+    (
+        "counter tst --policy 2.999.1 --moment 0 --digits 0 --serial 1 --accuracy 1000000",
+        Word::Tst(TST),
+    ),
+    (
+        "counter tst --ordering --accuracy=+1 --serial 009223372036854775807 --digits 6 --moment 253402300799999999 --policy ''",
+        Word::Tst(TstWords {
+            policy: "",
+            moment: 253_402_300_799_999_999,
+            digits: 6,
+            serial: 9_223_372_036_854_775_807,
+            accuracy: 1,
+            ordering: true,
+        }),
+    ),
+    (
+        "counter tst --policy=2.999.1 --moment=-0 --digits=+0 --serial=1 --accuracy=1000000",
+        Word::Tst(TST),
+    ),
+    (
+        "counter check --rules a.toml",
+        Word::Check(CheckWords { rules: "a.toml" }),
+    ),
+    (
+        "counter check --rules=",
+        Word::Check(CheckWords { rules: "" }),
+    ),
+];
+
+#[test]
+fn words_are_taken(rt: HostRuntime) -> Result<(), Fail> {
+    for (line, asked) in &TAKEN {
+        let words = words_of(rt.alloc(), line)?;
+        match Word::parse(rt.alloc(), words.as_slice()) {
+            Ok(word) => assert_eq!(rt; word, *asked, "{line}"),
+            Err(_) => return Err(Fail::from(*line)),
+        }
+    }
+    Ok(())
+}
+
+const REFUSED: [&str; 32] = [
+    "counter",
+    "counter check",
+    "counter TST --policy 2.999.1 --moment 0 --digits 0 --serial 1 --accuracy 1",
+    "counter tst",
+    "counter tst --moment 0 --digits 0 --serial 1 --accuracy 1",
+    "counter tst --policy 2.999.1 --moment 0 --digits 7 --serial 1 --accuracy 1",
+    "counter tst --policy 2.999.1 --moment 0 --digits '' --serial 1 --accuracy 1",
+    "counter tst --policy 2.999.1 --moment 0 --digits 0 --serial 0 --accuracy 1",
+    "counter tst --policy 2.999.1 --moment 0 --digits 0 --serial 9223372036854775808 --accuracy 1",
+    "counter tst --policy 2.999.1 --moment 0 --digits 0 --serial 1_0 --accuracy 1",
+    "counter tst --policy 2.999.1 --moment 0 --digits 0 --serial 0x1 --accuracy 1",
+    "counter tst --policy 2.999.1 --moment 0 --digits 0 --serial 1.0 --accuracy 1",
+    "counter tst --policy 2.999.1 --moment 0 --digits 0 --serial 1\t --accuracy 1",
+    "counter tst --policy 2.999.1 --moment 0 --digits 0 --serial \u{0661} --accuracy 1",
+    "counter tst --policy 2.999.1 --moment 0 --digits 0 --serial 1 --accuracy 0",
+    "counter tst --policy 2.999.1 --moment 0 --digits 0 --serial 1 --accuracy 1000001",
+    "counter tst --policy 2.999.1 --moment 253402300800000000 --digits 0 --serial 1 --accuracy 1",
+    "counter tst --policy 2.999.1 --moment -1 --digits 0 --serial 1 --accuracy 1",
+    "counter tst --policy 2.999.1 --moment 0 --moment 0 --digits 0 --serial 1 --accuracy 1",
+    "counter tst --policy 2.999.1 --moment 0 --digits 0 --serial 1 --accuracy",
+    "counter tst --policy 2.999.1 --moment 0 --digits 0 --serial 1 --accuracy 1 3",
+    "counter tst --policy 2.999.1 --moment 0 --digits 0 --serial=-5 --accuracy 1",
+    "counter tst --policy 2.999.1 --moment 0 --digits 0 --serial 1 --accuracy 1 --ordering --ordering",
+    "counter tst --policy 2.999.1 --moment 0 --digits 0 --serial 1 --accuracy 1 --ordering=true",
+    "counter tst --policy 2.999.1 --moment 0 --digits 0 --serial 1 --accuracy 1 --colour red",
+    "counter tst --policy 2.999.1 --moment 0 --digits 0 --serial 1 --accuracy 1 --rules a",
+    "counter check --rules a --rules a",
+    "counter check --rules a b",
+    "counter check a",
+    "counter help nosuch",
+    "counter ''",
+    "counter --version",
+];
+
+#[test]
+fn words_are_refused(rt: HostRuntime) -> Result<(), Fail> {
+    for line in REFUSED {
+        let words = words_of(rt.alloc(), line)?;
+        match Word::parse(rt.alloc(), words.as_slice()) {
+            Err(Refusal::Mistake(text)) => assert!(rt; !text.is_empty(), "{line}"),
+            _ => return Err(Fail::from(line)),
+        }
+    }
+    Ok(())
+}
+
+/// What is to be found in each text of help.
+const HELP: [(&str, &[&str]); 5] = [
+    ("counter --help", &["tst", "check", "--help"]),
+    ("counter help", &["tst", "check", "--help"]),
+    ("counter tst --help", &OPTIONS),
+    ("counter help tst", &OPTIONS),
+    ("counter check --help", &["--rules", "--help"]),
+];
+
+const OPTIONS: [&str; 7] = [
+    "--policy",
+    "--moment",
+    "--digits",
+    "--serial",
+    "--accuracy",
+    "--ordering",
+    "--help",
+];
+
+#[test]
+fn help_is_asked(rt: HostRuntime) -> Result<(), Fail> {
+    for (line, named) in HELP {
+        let words = words_of(rt.alloc(), line)?;
+        match Word::parse(rt.alloc(), words.as_slice()) {
+            Err(Refusal::Help(text)) => {
+                for name in named {
+                    assert!(rt; text.contains(*name), "{line}: {name}");
+                }
+            }
+            _ => return Err(Fail::from(line)),
+        }
+    }
+    Ok(())
+}
