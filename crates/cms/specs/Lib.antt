@@ -1,6 +1,11 @@
+pub mod Certificate
 pub mod Fault
+pub mod Framed
 pub mod Grammar
 pub mod Identity
 pub mod KeyedHash
+pub mod Outline
+pub mod OutlineView
+pub mod Place
 pub mod SignedData
 pub mod Signer

@@ -4,13 +4,20 @@
 mod algorithm;
 mod encode;
 mod fault;
+mod framed_signer;
+mod frames;
 mod identity;
 mod keyed_hash;
+mod outline;
+mod place;
 mod signed_data;
 mod signer;
+#[cfg(test)]
+mod tests;
 
 pub use algorithm::Algorithm;
 pub use fault::CmsFault;
+pub use framed_signer::FramedSigner;
 pub use identity::Identity;
 pub use keyed_hash::KeyedHash;
 pub use signed_data::{attribute_text, token};

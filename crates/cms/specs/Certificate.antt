@@ -1,0 +1,74 @@
+-- A certificate, as far as it is read: whose it is, and under which number (RFC 5280 4.1).
+use Rattle.std.specs.Prelude.{◌≡◌, ℕ, true, List, Option, Some, None}
+use Rattle.der.specs.Node.{Node, primitive, constructed, Nodes, no_nodes, node, encoding, IsLawful}
+use Rattle.der.specs.Number.{is_shortest}
+use Rattle.der.specs.ObjectIdentifier.{IsOid, oid_content}
+use Rattle.cms.specs.Identity.{IdentityValue}
+
+-- The parts of a certificate: what is in its version, if one stands, its serial number's contents octets, what is in its
+-- four SEQUENCEs, the further members of its TBSCertificate, and its own further members.
+pub record CertificateParts : Type 0 where
+  pub version : Option Nodes
+  pub serial : List ℕ
+  pub signature : Nodes
+  pub issuer : Nodes
+  pub validity : Nodes
+  pub subject : Nodes
+  pub further : Nodes
+  pub after : Nodes
+
+-- version: under [0], where it stands
+abbrev pub with_version : Option Nodes → Nodes → Nodes
+with_version None others = others
+with_version (Some version) others = node (constructed 160 version) others
+
+-- CertificateSerialNumber: an INTEGER
+abbrev pub serial_number : CertificateParts → Node
+serial_number p = primitive 2 p.serial
+
+-- issuer: a Name, which is a SEQUENCE
+abbrev pub issuer_name : CertificateParts → Node
+issuer_name p = constructed 48 p.issuer
+
+-- the members from signature on
+abbrev pub after_serial : CertificateParts → Nodes
+after_serial p = node (constructed 48 p.signature) (node (issuer_name p) (node (constructed 48 p.validity) (node (constructed 48 p.subject) p.further)))
+
+-- the members from validity on
+abbrev pub after_issuer : CertificateParts → Nodes
+after_issuer p = node (constructed 48 p.validity) (node (constructed 48 p.subject) p.further)
+
+-- TBSCertificate
+abbrev pub tbs_certificate : CertificateParts → Node
+tbs_certificate p = constructed 48 (with_version p.version (node (serial_number p) (after_serial p)))
+
+-- Certificate
+abbrev pub certificate : CertificateParts → Node
+certificate p = constructed 48 (node (tbs_certificate p) p.after)
+
+-- The octets are the certificate of these parts, a lawful value, whose serial number is in the shortest form.
+pub record IsCertificate (octets : List ℕ) (p : CertificateParts) : Type 0 where
+  pub lawful : IsLawful (certificate p)
+  pub encoded : octets ≡ encoding (certificate p)
+  pub shortest : is_shortest p.serial ≡ true
+
+-- whose certificate it is
+abbrev pub identity_of : List ℕ → CertificateParts → IdentityValue
+identity_of octets p = record { certificate = octets; issuer = encoding (issuer_name p); serial = encoding (serial_number p) }
+
+-- the parameters of an AlgorithmIdentifier, where there are any
+abbrev pub optional : Option Node → Nodes
+optional None = no_nodes
+optional (Some value) = node value no_nodes
+
+-- AlgorithmIdentifier: an object identifier, and parameters of any kind where there are any (RFC 5280 4.1.1.2)
+abbrev pub algorithm_identifier : List ℕ → Option Node → Node
+algorithm_identifier subidentifiers parameters = constructed 48 (node (primitive 6 (oid_content subidentifiers)) (optional parameters))
+
+-- The octets are an AlgorithmIdentifier, a lawful value.
+pub record IsAlgorithm (octets : List ℕ) : Type 0 where
+  pub subidentifiers : List ℕ
+  pub parameters : Option Node
+  pub oid : IsOid subidentifiers
+  pub lawful : IsLawful (algorithm_identifier subidentifiers parameters)
+  pub encoded : octets ≡ encoding (algorithm_identifier subidentifiers parameters)
