@@ -1,5 +1,5 @@
 //! The hash algorithms whose hashes have one length.
-ghost use Rattle.std.specs.Prelude.{◌≡◌, ◌≤◌, option_map};
+ghost use Rattle.std.specs.Prelude.{◌≡◌, ◌≤◌, option_map, IfSome, IsNone};
 ghost use Rattle.std.specs.List.{find};
 ghost use Rattle.std.specs.Str.{bytes_eq};
 ghost use Rattle.der.specs.ObjectIdentifier.{oid_content};
@@ -28,7 +28,10 @@ impl HashAlgorithm {
     /// The algorithm whose object identifier has these contents octets (X.690 8.19). None where none of the five has
     /// them.
     pub fn of_identifier(content: &[u8]) -> Option<HashAlgorithm>
-        ensures { option_map value_of result ≡ find (λ a. bytes_eq (oid_content a.oid) content.now) hash_algorithms }
+        ensures look_up { option_map value_of result
+            ≡ find (λ a. bytes_eq (oid_content a.oid) content.now) hash_algorithms }
+        ensures found { IfSome result (λ algorithm. content.now ≡ oid_content (value_of algorithm).oid) }
+        ensures none { IsNone result → (algorithm : HashAlgorithm) → content.now ≡ oid_content (value_of algorithm).oid → ⊥ }
     {
         find_by_identifier(&HashAlgorithm::ALL, content).copied()
     }
