@@ -1,12 +1,15 @@
 pub mod Components
-pub mod Extensions
+pub mod ExtensionRuns
+pub mod GrantedText
 pub mod Natural
+pub mod ObjectIdentifiers
 pub mod RequestReads
 pub mod RequestTakes
 pub mod RequestText
 pub mod Rows
 pub mod Sizes
 pub mod Spelled
+pub mod SpellingsOf
 pub mod TstLawful
 pub mod TstRead
 pub mod TstReads

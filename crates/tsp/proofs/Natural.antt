@@ -10,7 +10,7 @@ use Rattle.std.proofs.lemmas.List.{length-take-le}
 use Rattle.der.specs.Node.{AreOctets}
 use Rattle.der.proofs.Octets.{AreOctets-take, AreOctets-at}
 use Rattle.der.specs.Number.{is_shortest, twos_value}
-use Rattle.tsp.specs.Reading.{number_of}
+use Rattle.tsp.specs.Reading.{integer_value_of}
 use Rattle.tsp.specs.TstReading.{natural, natural_of}
 
 -- fewer than eight octets are a number below 2 ^ 56
@@ -54,12 +54,12 @@ if_shortest true z h = h refl
 if_shortest false z h = refl
 
 pub natural_of-others : (os : List ℕ) → is_shortest os ≡ false → natural_of os ≡ None
-unfolding natural_of number_of
+unfolding natural_of integer_value_of
 natural_of-others os e = rw (e) refl
 
 -- a negative number
 pub natural_of-negative : (first : ℕ) (others : List ℕ) → 128 ≤ first → natural_of (first ∷ others) ≡ None
-unfolding natural_of number_of
+unfolding natural_of integer_value_of
 natural_of-negative first others big = if_shortest (is_shortest (first ∷ others)) (twos_value (first ∷ others)) (λ q. natural_negative first others big)
 
 shortest_front : (first second : ℕ) (others : List ℕ) → is_shortest (first ∷ second ∷ others) ≡ true → 128 ≤ first * 256 + second
@@ -68,7 +68,7 @@ shortest_front (suc first) second others e = omega arith
 
 -- a number of 2 ^ 63 or more
 pub natural_of-long : (first : ℕ) (others : List ℕ) → first < 128 → 8 ≤ length others → natural_of (first ∷ others) ≡ None
-unfolding natural_of number_of
+unfolding natural_of integer_value_of
 natural_of-long first [] small long = absurd (omega arith)
 natural_of-long first (second ∷ others) small long = if_shortest (is_shortest (first ∷ second ∷ others)) (twos_value (first ∷ second ∷ others)) (λ q.
     ap natural (twos_positive first (second ∷ others) small) ∙ natural_large (number_from_digits 256 (first ∷ second ∷ others)) (large first second others (shortest_front first second others q) (omega arith)))
@@ -82,7 +82,7 @@ below first others octets small short =
 
 -- a number from 0 to 2 ^ 63 - 1
 pub natural_of-some : (first : ℕ) (others : List ℕ) → is_shortest (first ∷ others) ≡ true → AreOctets others → first < 128 → length others ≤ 7 → natural_of (first ∷ others) ≡ Some (number_from_digits 256 (first ∷ others))
-unfolding natural_of number_of
+unfolding natural_of integer_value_of
 natural_of-some first others shortest octets small short =
     ap (λ b. option_and_then natural (cond b (Some (twos_value (first ∷ others))) None)) shortest
     ∙ ap natural (twos_positive first others small) ∙ natural_small (number_from_digits 256 (first ∷ others)) (below first others octets small short)

@@ -8,15 +8,15 @@ use Rattle.der.specs.ObjectIdentifier.{IsOid}
 use Rattle.der.proofs.NumberContents.{twos_value-number_content, is_shortest-number_content}
 use Rattle.der.proofs.OidContents.{oid_of-content}
 use Rattle.tsp.specs.Grammar.{integer, boolean, octet_string, object_identifier, sequence, optional, false_by_default}
-use Rattle.tsp.specs.Request.{ImprintValue, ExtensionValue, RequestValue, IsRequest, Stated, message_imprint, extension, extension_nodes, extensions_under, request}
-use Rattle.tsp.specs.Reading.{number_of, integer_of, truth_of, boolean_of, stated_of, oid_in, only, end_of, optional_at, flag_at, parameters_of, algorithm_of, imprint_of, extension_of, extensions_of, some_extensions, extension_list_of, extensions_at, request_of}
+use Rattle.tsp.specs.Request.{ImprintValue, ExtensionValue, RequestValue, IsRequest, Stated, message_imprint, extension, extension_nodes, extensions_under, time_stamp_req}
+use Rattle.tsp.specs.Reading.{integer_value_of, integer_of, truth_of, boolean_of, stated_of, oid_in, only, end_of, optional_at, flag_at, parameters_of, algorithm_of, imprint_of, extension_of, extensions_of, some_extensions, extension_list_of, extensions_at, request_of}
 use Rattle.std.proofs.Common.{arith}
 use Rattle.std.proofs.lemmas.Bool.{eq-eqb}
 use borrow.Author.Tests.{ne_eqb}
 use Rattle.tsp.proofs.Components.{before, nodes-append}
 
 pub integer_of-integer : (z : ℤ) → integer_of (integer z) ≡ Some z
-unfolding integer_of number_of
+unfolding integer_of integer_value_of
 integer_of-integer z = rw (is_shortest-number_content z, twos_value-number_content z) refl
 
 pub boolean_of-boolean : (b : Bool) → boolean_of (boolean b) ≡ Some b
@@ -105,7 +105,7 @@ extensions_at-extensions_under may tag stated (e ∷ es) allowed h =
     unfold extension_list_of some_extensions in rw (eq-eqb tag tag refl, all) refl in
     rw (optional_at-some tag (extension_list_of may tag) (constructed tag (nodes (extension_nodes stated (e ∷ es)))) (e ∷ es) no_nodes refl list) refl
 
-all_allowed : (stated : List Bool) → AllByRecursion (IsAllowed true) stated
+pub all_allowed : (stated : List Bool) → AllByRecursion (IsAllowed true) stated
 all_allowed [] = tt
 all_allowed (s ∷ ss) = (λ q. refl, all_allowed ss)
 
@@ -141,7 +141,7 @@ pub any : {A : Type 0} (Q : A → Type 0) (o : Option A) → ((x : A) → Q x) �
 any Q None f = tt
 any Q (Some x) f = f x
 
-pub request_of-request : (s : Stated) (r : RequestValue) → IsRequest r → request_of (request s r) ≡ Some r
+pub request_of-request : (s : Stated) (r : RequestValue) → IsRequest r → request_of (time_stamp_req s r) ≡ Some r
 unfolding request_of only end_of
 request_of-request s r h =
     let ext = nodes (extensions_under 160 s.critical r.extensions) in

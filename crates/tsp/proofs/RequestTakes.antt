@@ -12,20 +12,20 @@ use Rattle.der.specs.ObjectIdentifier.{IsOid, oid_of}
 use Rattle.der.proofs.NumberContents.{number_content-twos_value}
 use Rattle.der.proofs.OidContents.{oid_of-some}
 use Rattle.tsp.specs.Grammar.{integer, boolean, octet_string, object_identifier, sequence, optional, false_by_default}
-use Rattle.tsp.specs.Request.{ImprintValue, ExtensionValue, RequestValue, IsRequest, Stated, message_imprint, extension, extension_nodes, extensions_under, request}
-use Rattle.tsp.specs.Reading.{number_of, integer_of, truth_of, boolean_of, stated_of, oid_in, only, end_of, optional_of, optional_at, flag_at, parameters_of, algorithm_of, imprint_of, extension_of, extensions_of, some_extensions, extension_list_of, extensions_at, request_of}
+use Rattle.tsp.specs.Request.{ImprintValue, ExtensionValue, RequestValue, IsRequest, Stated, message_imprint, extension, extension_nodes, extensions_under, time_stamp_req}
+use Rattle.tsp.specs.Reading.{integer_value_of, integer_of, truth_of, boolean_of, stated_of, oid_in, only, end_of, optional_of, optional_at, flag_at, parameters_of, algorithm_of, imprint_of, extension_of, extensions_of, some_extensions, extension_list_of, extensions_at, request_of}
 use Rattle.tsp.proofs.Components.{before, nodes-append, contents_takes, components_takes, front_takes}
 use Rattle.tsp.proofs.RequestReads.{before-none, request_tail, IsAllowed}
 
-pub number_takes : (octets : List ℕ) (z : ℤ) → AreOctets octets → number_of octets ≡ Some z → octets ≡ number_content z
-unfolding number_of
+pub number_takes : (octets : List ℕ) (z : ℤ) → AreOctets octets → integer_value_of octets ≡ Some z → octets ≡ number_content z
+unfolding integer_value_of
 number_takes octets z bytes e =
     let p = cond_some (is_shortest octets) (twos_value octets) z e in
     sym (number_content-twos_value octets bytes p.0) ∙ ap number_content p.1
 
 pub integer_takes : (n : Node) (z : ℤ) → IsFormed n → integer_of n ≡ Some z → n ≡ integer z
 unfolding integer_of
-integer_takes n z formed e = option_and_then_some number_of (contents_of 2 n) z e (λ octets p q.
+integer_takes n z formed e = option_and_then_some integer_value_of (contents_of 2 n) z e (λ octets p q.
     let is = contents_takes 2 n octets p in
     let parts = subst IsFormed is formed in
     is ∙ ap (primitive 2) (number_takes octets z parts.2 q))
@@ -213,7 +213,7 @@ pub formed_after : (xs : List Node) (rest : Nodes) → AreFormed (before xs rest
 formed_after [] rest formed = formed
 formed_after (x ∷ xs) rest formed = formed_after xs rest formed.1
 
-pub request_takes : (n : Node) (r : RequestValue) → IsFormed n → request_of n ≡ Some r → IsRequest r × ((s : Stated) × (n ≡ request s r))
+pub request_takes : (n : Node) (r : RequestValue) → IsFormed n → request_of n ≡ Some r → IsRequest r × ((s : Stated) × (n ≡ time_stamp_req s r))
 unfolding request_of
 request_takes n r formed e =
     option_and_then_some _ (components_of 48 n) r e (λ members e1 r1.
@@ -241,11 +241,11 @@ request_takes n r formed e =
     let end = only_takes extensions.1 _ r r9 in
     let found : RequestValue = record { version = version; imprint = imprint; policy = policy.0; nonce = nonce.0; cert_req = cert_req.0; extensions = extensions.0 } in
     let s : Stated = record { cert_req = of_flag.0; critical = of_extensions.1.0 } in
-    let whole : n ≡ request s found =
+    let whole : n ≡ time_stamp_req s found =
     is_n ∙ ap (constructed 48) (is_members ∙ ap (λ x. node x first.1) is_version ∙ ap (node (integer version)) (is_rest
     ∙ ap (λ x. node x second.1) of_imprint.1 ∙ ap (node (message_imprint imprint)) (of_policy.1
     ∙ ap (before (optional object_identifier policy.0)) (of_nonce.1 ∙ ap (before (optional integer nonce.0)) (of_flag.1.1
     ∙ ap (before (false_by_default of_flag.0 cert_req.0)) (of_extensions.1.1.1 ∙ ap (before (extensions_under 160 of_extensions.1.0 extensions.0)) end.0
     ∙ before-none (extensions_under 160 of_extensions.1.0 extensions.0)))) ∙ sym (request_tail s found)))) in
     let proper : IsRequest found = record { algorithm = of_imprint.0; policy = of_policy.0; extensions = of_extensions.0 } in
-    (subst IsRequest end.1 proper, (s, whole ∙ ap (request s) end.1)))))))))))
+    (subst IsRequest end.1 proper, (s, whole ∙ ap (time_stamp_req s) end.1)))))))))))

@@ -5,7 +5,7 @@ use Rattle.der.specs.Number.{number_content}
 use Rattle.der.specs.ObjectIdentifier.{subidentifier_octets}
 use Rattle.gentime.specs.Calendar.{civil_date}
 use Rattle.gentime.specs.GenTime.{spelling, text_of, time_of}
-use Rattle.tsp.specs.Request.{ImprintValue, ExtensionValue, RequestValue, request}
+use Rattle.tsp.specs.Request.{ImprintValue, ExtensionValue, RequestValue, time_stamp_req}
 use Rattle.tsp.specs.Tst.{answer, tst_info}
 
 -- SHA-256 with NULL parameters, and three octets for a hash
@@ -32,7 +32,7 @@ asked = record {
 }
 
 -- with the extension's FALSE stated
-request_octets : encoding (request (record { cert_req = false; critical = true ∷ [] }) asked) ≡
+request_octets : encoding (time_stamp_req (record { cert_req = false; critical = true ∷ [] }) asked) ≡
     48 ∷ 52 ∷ 2 ∷ 1 ∷ 1 ∷ 48 ∷ 20 ∷ 48 ∷ 13 ∷ 6 ∷ 9 ∷ 96 ∷ 134 ∷ 72 ∷ 1 ∷ 101 ∷ 3 ∷ 4 ∷ 2 ∷ 1 ∷ 5 ∷ 0 ∷ 4 ∷ 3 ∷ 1 ∷ 2 ∷ 3 ∷ 6 ∷ 3 ∷ 136 ∷
     55 ∷ 1 ∷ 2 ∷ 2 ∷ 1 ∷ 2 ∷ 1 ∷ 1 ∷ 255 ∷ 160 ∷ 13 ∷ 48 ∷ 11 ∷ 6 ∷ 3 ∷ 136 ∷ 55 ∷ 7 ∷ 1 ∷ 1 ∷ 0 ∷ 4 ∷ 1 ∷ 42 ∷ []
 unfolding length_octets number_content subidentifier_octets

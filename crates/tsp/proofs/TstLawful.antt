@@ -9,8 +9,9 @@ use Rattle.der.proofs.OidContents.{octets-oid_content, length-oid_content}
 use Rattle.gentime.specs.GenTime.{text_of, last_moment}
 use Rattle.gentime.proofs.Texts.{text_of_short}
 use Rattle.tsp.specs.Grammar.{integer, boolean, octet_string, object_identifier, sequence, optional, false_by_default}
-use Rattle.tsp.specs.Request.{ExtensionValue, RequestValue, Stated, Spells, message_imprint, extension, extension_nodes, extensions_under, unstated, request}
+use Rattle.tsp.specs.Request.{ExtensionValue, RequestValue, IsRequest, Stated, Spells, sha256_identifier, sha256_request, message_imprint, extension, extension_nodes, extensions_under, unstated, time_stamp_req}
 use Rattle.tsp.specs.Tst.{TstValue, IsTst, accuracy_part, accuracy, generalized_time, tst_info, answer}
+use Rattle.tsp.proofs.ObjectIdentifiers.{sha256_is_oid}
 use Rattle.tsp.proofs.Components.{before, nodes-append}
 use Rattle.tsp.proofs.Sizes.{IsWithin, AreWithin, wider, within_none, within_node, within_before, within_primitive, within_constructed, within_components, within_first, within_parts, length-element}
 use Rattle.tsp.proofs.RequestReads.{request_tail}
@@ -111,9 +112,9 @@ record Repeats (r : RequestValue) : Type 0 where
   nonce : AreWithin 31 65536 (nodes (optional integer r.nonce))
   extensions : AreWithin 31 65541 (nodes (extensions_under 161 [] r.extensions))
 
-repeats : (s : Stated) (r : RequestValue) → IsLawful (request s r) → length (encoding (request s r)) ≤ 65536 → Repeats r
+repeats : (s : Stated) (r : RequestValue) → IsLawful (time_stamp_req s r) → length (encoding (time_stamp_req s r)) ≤ 65536 → Repeats r
 repeats s r lawful short =
-    let whole : IsWithin 32 65536 (request s r) = record { formed = lawful.formed; deep = lawful.depth; long = short } in
+    let whole : IsWithin 32 65536 (time_stamp_req s r) = record { formed = lawful.formed; deep = lawful.depth; long = short } in
     let inside = within_components 48 31 65536 _ whole in
     let first = within_first 31 65536 (integer r.version) _ inside in
     let second = within_first 31 65536 (message_imprint r.imprint) _ first.1 in
@@ -196,10 +197,10 @@ within_extension_list_request stated depth size (e ∷ es) small h =
     record { formed = one.formed; deep = one.deep; long = omega (arith, one.long) }
 
 -- what is read from at most 65,536 octets is lawful without its stated FALSEs
-pub unstated_is_lawful : (octets : List ℕ) (r : RequestValue) → Spells octets r → length octets ≤ 65536 → IsLawful (request unstated r)
+pub unstated_is_lawful : (octets : List ℕ) (r : RequestValue) → Spells octets r → length octets ≤ 65536 → IsLawful (time_stamp_req unstated r)
 unstated_is_lawful octets r spells short =
     let s = spells.stated in
-    let whole : IsWithin 32 65536 (request s r) = record { formed = spells.lawful.formed; deep = spells.lawful.depth; long = omega (arith, short, ap length spells.spelled) } in
+    let whole : IsWithin 32 65536 (time_stamp_req s r) = record { formed = spells.lawful.formed; deep = spells.lawful.depth; long = omega (arith, short, ap length spells.spelled) } in
     let inside = within_components 48 31 65536 _ whole in
     let first = within_first 31 65536 (integer r.version) _ inside in
     let second = within_first 31 65536 (message_imprint r.imprint) _ first.1 in
@@ -216,3 +217,35 @@ unstated_is_lawful octets r spells short =
     let f = within_node 31 65536 262155 (integer r.version) _ first.0 e in
     let all = within_constructed 48 31 327691 _ (omega arith, omega arith) refl f (omega arith) in
     record { formed = all.formed; depth = all.deep }
+
+-- ---- the request of a SHA-256
+
+within_flag_alone : (cert_req : Bool) → AreWithin 3 6 (nodes (false_by_default false cert_req ++ []))
+within_flag_alone true = deeper 1 3 6 _ (within_flag false true) (omega arith)
+within_flag_alone false = deeper 1 3 6 _ (within_flag false false) (omega arith)
+
+within_sha256 : (digest : List ℕ) (cert_req : Bool) → AreOctets digest → length digest ≤ 32 → IsWithin 4 689 (time_stamp_req unstated (sha256_request digest cert_req))
+within_sha256 digest cert_req octets short =
+    let null = within_primitive 5 0 [] (omega arith, omega arith) refl tt (omega arith) (omega arith) in
+    let parameters = within_node 1 5 0 (primitive 5 []) no_nodes null (within_none 1) in
+    let identifier = within_node 1 613 5 (object_identifier sha256_identifier) _ (within_oid sha256_identifier sha256_is_oid) parameters in
+    let algorithm = within_constructed 48 1 618 _ (omega arith, omega arith) refl identifier (omega arith) in
+    let string = within_primitive 4 32 digest (omega arith, omega arith) refl octets short (omega arith) in
+    let hash = within_node 2 37 0 (octet_string digest) no_nodes (wider 1 37 2 37 _ string (omega arith) (omega arith)) (within_none 2) in
+    let both = within_node 2 623 37 (sequence (object_identifier sha256_identifier ∷ primitive 5 [] ∷ [])) _ algorithm hash in
+    let imprint = within_constructed 48 2 660 _ (omega arith, omega arith) refl both (omega arith) in
+    let rest = within_node 3 665 6 (message_imprint (sha256_request digest cert_req).imprint) _ imprint (within_flag_alone cert_req) in
+    let version = wider 1 13 3 13 _ (within_number 2 1 (inl refl) (omega arith)) (omega arith) (omega arith) in
+    let all = within_node 3 13 671 (integer (pos 1)) _ version rest in
+    within_constructed 48 3 684 _ (omega arith, omega arith) refl all (omega arith)
+
+-- the request of a SHA-256, without a stated FALSE, is lawful and short
+pub sha256_is_spelled : (digest : List ℕ) (cert_req : Bool) → AreOctets digest → length digest ≤ 32
+    → Spells (encoding (time_stamp_req unstated (sha256_request digest cert_req))) (sha256_request digest cert_req)
+    × (length (encoding (time_stamp_req unstated (sha256_request digest cert_req))) ≤ 65536)
+sha256_is_spelled digest cert_req octets short =
+    let whole = within_sha256 digest cert_req octets short in
+    let proper : IsRequest (sha256_request digest cert_req) = record { algorithm = sha256_is_oid; policy = tt; extensions = tt } in (
+      record { proper = proper; stated = unstated; lawful = record { formed = whole.formed; depth = omega (arith, whole.deep) }; spelled = refl },
+      omega (arith, whole.long),
+    )

@@ -12,13 +12,13 @@ use Rattle.der.proofs.NumberContents.{twos_value-number_content, is_shortest-num
 use Rattle.tsp.specs.Grammar.{integer, object_identifier, optional, false_by_default}
 use Rattle.tsp.specs.Request.{message_imprint, extensions_under}
 use Rattle.tsp.specs.Tst.{accuracy_part, accuracy}
-use Rattle.tsp.specs.Reading.{number_of, integer_of, only, end_of}
+use Rattle.tsp.specs.Reading.{integer_value_of, integer_of, only, end_of}
 use Rattle.tsp.specs.TstReading.{TstHead, TstParts, natural, natural_of, up_to, number_in, part_at, accuracy_of, head_of, parts_of, info_of}
 use Rattle.tsp.proofs.Components.{before, nodes-append}
 use Rattle.tsp.proofs.RequestReads.{before-none, integer_of-integer, oid_in-object_identifier, imprint_of-message_imprint, optional_at-some, optional_at-none, optional_at-optional, StartsApart, flag_at-false_by_default, extensions_at-extensions_under, apart-optional, apart-extensions_under, any, never}
 
 pub natural_of-number_content : (n : ℕ) → n < 9223372036854775808 → natural_of (number_content (pos n)) ≡ Some n
-unfolding natural_of number_of natural
+unfolding natural_of integer_value_of natural
 natural_of-number_content n small =
     let test : ltb n 9223372036854775808 ≡ true = grind (arith, nat_tests) in
     rw (is_shortest-number_content (pos n), twos_value-number_content (pos n), test) refl

@@ -11,7 +11,7 @@ use Rattle.der.specs.ObjectIdentifier.{IsOid}
 use Rattle.tsp.specs.Grammar.{integer, object_identifier, sequence, optional, false_by_default}
 use Rattle.tsp.specs.Request.{ExtensionValue, message_imprint, extension, extension_nodes, extensions_under}
 use Rattle.tsp.specs.Tst.{accuracy_part, accuracy}
-use Rattle.tsp.specs.Reading.{number_of, integer_of, oid_in, only, imprint_of, optional_at, flag_at, extensions_at}
+use Rattle.tsp.specs.Reading.{integer_value_of, integer_of, oid_in, only, imprint_of, optional_at, flag_at, extensions_at}
 use Rattle.tsp.specs.TstReading.{TstHead, TstParts, natural, natural_of, up_to, number_in, part_at, accuracy_of, head_of, parts_of, info_of}
 use Rattle.tsp.proofs.Components.{before, contents_takes, components_takes, front_takes}
 use Rattle.tsp.proofs.RequestReads.{before-none, IsAllowed}
@@ -41,8 +41,8 @@ pub number_in_takes : (tag most : ℕ) (n : Node) (m : ℕ) → IsFormed n → n
 unfolding number_in natural_of
 number_in_takes tag most n m formed e =
     option_and_then_some _ (contents_of tag n) m e (λ octets e1 r1.
-    option_and_then_some _ (option_and_then natural (number_of octets)) m r1 (λ k e2 r2.
-    option_and_then_some natural (number_of octets) k e2 (λ z e3 r3.
+    option_and_then_some _ (option_and_then natural (integer_value_of octets)) m r1 (λ k e2 r2.
+    option_and_then_some natural (integer_value_of octets) k e2 (λ z e3 r3.
     let is = contents_takes tag n octets e1 in
     let parts = subst IsFormed is formed in
     let content = number_takes octets z parts.2 e3 in

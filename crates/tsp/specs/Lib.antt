@@ -1,10 +1,13 @@
+pub mod ExtensionsInPlace
 pub mod Fault
-pub mod Gives
 pub mod Grammar
+pub mod Granted
 pub mod Reading
 pub mod Rejection
 pub mod Request
 pub mod Rules
+pub mod RulesOfOctets
+pub mod Spellings
 pub mod Tst
 pub mod TstReading
 pub mod TstView

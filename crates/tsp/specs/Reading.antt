@@ -9,11 +9,11 @@ infixl 10 ◌>>=◌
 abbrev pub ◌>>=◌ : {A B : Type 0} → Option A → (A → Option B) → Option B
 o >>= f = option_and_then f o
 
-unfoldable pub number_of : List ℕ → Option ℤ
-number_of octets = if is_shortest octets then Some (twos_value octets) else None
+unfoldable pub integer_value_of : List ℕ → Option ℤ
+integer_value_of octets = if is_shortest octets then Some (twos_value octets) else None
 
 unfoldable pub integer_of : Node → Option ℤ
-integer_of n = contents_of 2 n >>= number_of
+integer_of n = contents_of 2 n >>= integer_value_of
 
 -- 00 is FALSE and FF is TRUE
 unfoldable pub truth_of : List ℕ → Option Bool

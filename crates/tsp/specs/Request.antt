@@ -1,11 +1,11 @@
 -- Time-stamp requests, and the octets that spell them (RFC 3161 2.4.1).
-use Rattle.std.specs.Prelude.{◌≡◌, ℕ, Bool, false, ℤ, List, [], ◌∷◌, ◌++◌, Option, IfSome}
+use Rattle.std.specs.Prelude.{◌≡◌, ℕ, Bool, false, ℤ, pos, List, [], ◌∷◌, ◌++◌, Option, Some, None, IfSome}
 use Rattle.std.specs.List.{AllByRecursion}
 use Rattle.der.specs.Node.{Node, encoding, IsLawful}
 use Rattle.der.specs.ObjectIdentifier.{IsOid}
 use Rattle.tsp.specs.Grammar.{sequence, integer, object_identifier, octet_string, optional, false_by_default}
 use Rattle.der.specs.Tree.{nodes}
-use Rattle.der.specs.Node.{constructed}
+use Rattle.der.specs.Node.{primitive, constructed}
 
 -- what was hashed is known by its digest: MessageImprint, with the algorithm of an AlgorithmIdentifier and its parameters
 pub record ImprintValue : Type 0 where
@@ -63,8 +63,8 @@ extensions_under tag stated [] = []
 extensions_under tag stated (e ∷ es) = constructed tag (nodes (extension_nodes stated (e ∷ es))) ∷ []
 
 -- TimeStampReq, whose extensions are under [0]
-abbrev pub request : Stated → RequestValue → Node
-request stated r =
+abbrev pub time_stamp_req : Stated → RequestValue → Node
+time_stamp_req stated r =
     sequence (integer r.version ∷ message_imprint r.imprint ∷ (optional object_identifier r.policy ++ (optional integer r.nonce
     ++ (false_by_default stated.cert_req r.cert_req ++ extensions_under 160 stated.critical r.extensions))))
 
@@ -77,5 +77,20 @@ unstated = record { cert_req = false; critical = [] }
 pub record Spells (octets : List ℕ) (r : RequestValue) : Type 0 where
   pub proper : IsRequest r
   pub stated : Stated
-  pub lawful : IsLawful (request stated r)
-  pub spelled : octets ≡ encoding (request stated r)
+  pub lawful : IsLawful (time_stamp_req stated r)
+  pub spelled : octets ≡ encoding (time_stamp_req stated r)
+
+-- id-sha256 (RFC 5754 2.2), 2.16.840.1.101.3.4.2.1, by its subidentifiers
+abbrev pub sha256_identifier : List ℕ
+sha256_identifier = 96 ∷ 840 ∷ 1 ∷ 101 ∷ 3 ∷ 4 ∷ 2 ∷ 1 ∷ []
+
+-- the request of version 1 for a SHA-256 digest, with NULL parameters, without policy, nonce and extensions
+abbrev pub sha256_request : List ℕ → Bool → RequestValue
+sha256_request digest cert_req = record {
+  version = pos 1;
+  imprint = record { algorithm = sha256_identifier; parameters = Some (primitive 5 []); hash = digest };
+  policy = None;
+  nonce = None;
+  cert_req = cert_req;
+  extensions = [];
+}

@@ -1,7 +1,7 @@
 -- TSTInfo (RFC 3161 2.4.2).
-use Rattle.std.specs.Prelude.{ℕ, ◌/◌, ◌%◌, ◌^◌, ◌<◌, ◌≤◌, ◌==◌, Bool, false, if◌then◌else◌, ℤ, pos, List, [], ◌∷◌, ◌++◌, Option}
+use Rattle.std.specs.Prelude.{◌≡◌, ℕ, ◌/◌, ◌%◌, ◌^◌, ◌<◌, ◌≤◌, ◌==◌, Bool, false, if◌then◌else◌, ℤ, pos, List, [], ◌∷◌, ◌++◌, Option}
 use Rattle.std.specs.List.{AllByRecursion}
-use Rattle.der.specs.Node.{Node, primitive}
+use Rattle.der.specs.Node.{Node, primitive, encoding, IsLawful}
 use Rattle.der.specs.Number.{number_content}
 use Rattle.der.specs.ObjectIdentifier.{IsOid}
 use Rattle.gentime.specs.GenTime.{text_of}
@@ -47,6 +47,12 @@ tst_info t =
     sequence (integer (pos 1) ∷ object_identifier t.policy ∷ message_imprint t.imprint ∷ integer (pos t.serial)
     ∷ generalized_time t.gen_time ∷ accuracy t.accuracy ∷ (false_by_default false t.ordering
     ++ (optional integer t.nonce ++ extensions_under 161 [] t.extensions)))
+
+-- The octets are the encoding of the TSTInfo, whose parts are in their ranges and which is a lawful value.
+pub record SpellsTst (octets : List ℕ) (t : TstValue) : Type 0 where
+  pub ranges : IsTst t
+  pub lawful : IsLawful (tst_info t)
+  pub spelled : octets ≡ encoding (tst_info t)
 
 -- the TSTInfo that answers a request
 abbrev pub answer : RequestValue → List ℕ → ℕ → ℕ → ℕ → Bool → TstValue

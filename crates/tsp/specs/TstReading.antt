@@ -3,7 +3,7 @@ use Rattle.std.specs.Prelude.{ℕ, ◌+◌, ◌*◌, ◌-◌, ◌^◌, ◌&&◌,
 use Rattle.der.specs.Node.{Node, primitive, Nodes, contents_of, components_of, first_of}
 use Rattle.gentime.specs.GenTime.{text_of}
 use Rattle.tsp.specs.Grammar.{sequence, integer, object_identifier, optional, false_by_default}
-use Rattle.tsp.specs.Reading.{◌>>=◌, only, optional_at, number_of, integer_of, oid_in, imprint_of, flag_at, extensions_at}
+use Rattle.tsp.specs.Reading.{◌>>=◌, only, optional_at, integer_value_of, integer_of, oid_in, imprint_of, flag_at, extensions_at}
 use Rattle.tsp.specs.Request.{ImprintValue, ExtensionValue, message_imprint, extensions_under}
 use Rattle.tsp.specs.Tst.{TstValue, accuracy}
 
@@ -21,7 +21,7 @@ natural (pos n) = if nat_lt n (2 ^ 63) then Some n else None
 natural (negsuc n) = None
 
 unfoldable pub natural_of : List ℕ → Option ℕ
-natural_of octets = number_of octets >>= natural
+natural_of octets = integer_value_of octets >>= natural
 
 -- from 1 to a greatest number
 unfoldable pub up_to : ℕ → ℕ → Option ℕ

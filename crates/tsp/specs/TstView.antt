@@ -1,6 +1,6 @@
 -- What the parts of a TSTInfo stand for while it is read.
 use Rattle.tsp.specs.TstReading.{TstHead, TstParts}
-use Rattle.tsp.specs.View.{imprint_view, extensions_view}
+use Rattle.tsp.specs.View.{imprint_view}
 use Rattle.tsp.specs.declared.tst_reading.Head.{Head}
 use Rattle.tsp.specs.declared.tst_reading.Parts.{Parts}
 
@@ -9,7 +9,7 @@ head_view head = record {
   policy = head.policy;
   imprint = imprint_view head.imprint;
   serial = head.serial;
-  time = head.time.items;
+  time = head.time.now;
   accuracy = head.accuracy;
 }
 
@@ -18,5 +18,5 @@ parts_view parts = record {
   head = head_view parts.head;
   ordering = parts.ordering;
   nonce = parts.nonce;
-  extensions = extensions_view parts.extensions;
+  extensions = parts.extensions;
 }

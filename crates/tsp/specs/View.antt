@@ -1,30 +1,26 @@
 -- What the types stand for.
-use Rattle.std.specs.Prelude.{List, option_map, map, Vec}
-use Rattle.std.specs.declared.alloc.Global.{Global}
-use Rattle.der.specs.Tree.{view}
+use Rattle.std.specs.Prelude.{option_map}
+use Rattle.der.specs.DataValueView.{value_view}
 use Rattle.tsp.specs.Request.{ImprintValue, ExtensionValue, RequestValue}
 use Rattle.tsp.specs.Tst.{TstValue}
 use Rattle.tsp.specs.declared.imprint.MessageImprint.{MessageImprint}
-use Rattle.tsp.specs.declared.imprint.Extension.{Extension}
+use Rattle.tsp.specs.declared.extensions.Extension.{Extension}
 use Rattle.tsp.specs.declared.request.Request.{Request}
 use Rattle.tsp.specs.declared.tst.TstInfo.{TstInfo}
 
 abbrev pub imprint_view : MessageImprint → ImprintValue
 imprint_view imprint = record {
   algorithm = imprint.algorithm;
-  parameters = option_map view imprint.parameters;
-  hash = imprint.hash.items;
+  parameters = option_map value_view imprint.parameters;
+  hash = imprint.hash.now;
 }
 
 abbrev pub extension_view : Extension → ExtensionValue
 extension_view extension = record {
   identifier = extension.identifier;
   critical = extension.critical;
-  value = extension.value.items;
+  value = extension.value.now;
 }
-
-abbrev pub extensions_view : Vec Extension Global → List ExtensionValue
-extensions_view extensions = map extension_view extensions.items
 
 abbrev pub request_view : Request → RequestValue
 request_view request = record {
@@ -33,7 +29,7 @@ request_view request = record {
   policy = request.policy;
   nonce = request.nonce;
   cert_req = request.cert_req;
-  extensions = extensions_view request.extensions;
+  extensions = request.extensions;
 }
 
 abbrev pub tst_view : TstInfo → TstValue
@@ -45,5 +41,5 @@ tst_view tst = record {
   accuracy = tst.accuracy;
   ordering = tst.ordering;
   nonce = tst.nonce;
-  extensions = extensions_view tst.extensions;
+  extensions = tst.extensions;
 }

@@ -1,44 +1,52 @@
-ghost use Rattle.std.specs.Prelude.{◌≡◌};
+//! Integers where their contents octets lie.
+ghost use Rattle.std.specs.Prelude.{◌≡◌, pos};
 ghost use Rattle.der.specs.Number.{number_content};
-ghost use Rattle.tsp.specs.Reading.{number_of};
+ghost use Rattle.tsp.specs.Reading.{integer_value_of};
 
 use der::is_number_content;
 use std::marker::Model;
 
-/// An INTEGER of any size, by its contents octets (X.690 8.3).
+/// An INTEGER of any size, by its contents octets where they lie (X.690 8.3).
 #[derive(Debug, Drop)]
-pub struct Integer {
-    content: Vec<u8>,
+pub struct Integer<'a> {
+    content: &'a [u8],
 }
 
-impl Model for Integer {
+impl<'a> Model for Integer<'a> {
     ghost use Rattle.std.specs.Prelude.{◌≡◌, ℤ};
     ghost use Rattle.der.specs.Number.{number_content, twos_value};
 
     ghost Value = { ℤ };
 
-    ghost view = { λ integer. twos_value integer.content.items };
+    ghost view = { λ integer. twos_value integer.content.now };
 
-    ghost invariant = { λ integer. number_content (twos_value integer.content.items) ≡ integer.content.items };
+    ghost invariant = { λ integer. number_content (twos_value integer.content.now) ≡ integer.content.now };
 }
 
-impl Integer {
-    /// The number whose contents octets these are, moved in; none where they are not the fewest that have its value.
-    #[tactic(auto, unfolding(crate::specs::Reading::number_of))]
-    pub fn from_owned_content(content: Vec<u8>) -> Option<Integer>
-        ensures { result ≡ number_of content.items }
+impl<'a> Integer<'a> {
+    /// The number whose contents octets these are; none where they are not the fewest that have its value.
+    #[tactic(auto, unfolding(crate::specs::Reading::integer_value_of))]
+    pub fn from_content(content: &'a [u8]) -> Option<Integer<'a>>
+        ensures { result ≡ integer_value_of content.now }
     {
-        if is_number_content(&content) {
+        if is_number_content(content) {
             Some(Integer { content })
         } else {
             None
         }
     }
 
+    /// The number 1.
+    pub(crate) fn one() -> Integer<'a>
+        ensures { result ≡ pos 1 }
+    {
+        Integer { content: &[1] }
+    }
+
     /// The contents octets: two's complement, most significant octet first, in the fewest octets.
-    pub fn content(&self) -> &[u8]
+    pub fn content(&self) -> &'a [u8]
         ensures { result.now ≡ number_content self.now }
     {
-        self.content.as_slice()
+        self.content
     }
 }

@@ -1,22 +1,29 @@
 //! Time-stamp requests, TSTInfo and replies (RFC 3161 2.4).
 #![tactic(auto)]
 
+mod extensions;
 mod fault;
+mod granted;
 mod imprint;
 mod integer;
+mod object_identifier;
 mod reading;
 mod rejection;
 mod request;
 mod rule;
+mod tags;
 #[cfg(test)]
 mod tests;
 mod tst;
 mod tst_reading;
 mod writing;
 
+pub use extensions::{Extension, Extensions};
 pub use fault::TspFault;
-pub use imprint::{Extension, MessageImprint};
+pub use granted::write_granted;
+pub use imprint::MessageImprint;
 pub use integer::Integer;
+pub use object_identifier::ObjectIdentifier;
 pub use rejection::Rejection;
 pub use request::{Request, read_request, requests_have_one_reading};
 pub use rule::Rule;

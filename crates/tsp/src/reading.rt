@@ -1,21 +1,21 @@
-//! From values to messages: each reader answers what its definition reads, and takes the value apart without copying it.
+//! From values to messages: each reader answers what its definition reads, and lends it from where it lies.
 ghost use Rattle.std.specs.Prelude.{◌≡◌, ℕ, List, Option, Some, None, option_map, map};
-ghost use Rattle.der.specs.Tree.{view, components_view};
-ghost use Rattle.tsp.specs.Reading.{number_of, integer_of, truth_of, boolean_of, stated_of, oid_in, optional_of, optional_at, flag_at, parameters_of, algorithm_of, imprint_of, only, end_of, extension_of, extensions_of, some_extensions, extension_list_of, extensions_at};
-ghost use Rattle.tsp.specs.View.{imprint_view, extension_view, extensions_view};
-ghost use Rattle.tsp.specs.Gives.{Gives};
+ghost use Rattle.der.specs.DataValueView.{value_view, values_view};
+ghost use Rattle.tsp.specs.Reading.{integer_value_of, integer_of, truth_of, boolean_of, stated_of, oid_in, optional_of, optional_at, flag_at, parameters_of, algorithm_of, imprint_of, only, end_of, extension_of, extensions_of, some_extensions, extension_list_of, extensions_at};
+ghost use Rattle.tsp.specs.View.{imprint_view, extension_view};
+ghost use Rattle.std.specs.Option.{is_some};
 
-use crate::fault::TspFault;
-use crate::imprint::{Extension, MessageImprint};
+use crate::extensions::{Extension, Extensions};
+use crate::imprint::MessageImprint;
 use crate::integer::Integer;
-use der::{Components, Oid, Tag, Tree, components_under, contents_under};
-use std::alloc::Global;
+use crate::object_identifier::ObjectIdentifier;
+use der::{DataValue, DataValues, Tag};
 
 #[tactic(auto, unfolding(crate::specs::Reading::integer_of))]
-pub(crate) fn integer_from(tree: Tree) -> Option<Integer>
-    ensures { result ≡ integer_of (view tree) }
+pub(crate) fn integer_from(value: DataValue<'_>) -> Option<Integer<'_>>
+    ensures { result ≡ integer_of (value_view value.entry) }
 {
-    Integer::from_owned_content(contents_under(Tag::INTEGER, tree)?)
+    Integer::from_content(value.contents_under(Tag::INTEGER)?)
 }
 
 #[tactic(auto, unfolding(crate::specs::Reading::truth_of))]
@@ -30,47 +30,47 @@ fn truth(octets: &[u8]) -> Option<bool>
 }
 
 #[tactic(auto, unfolding(crate::specs::Reading::boolean_of))]
-fn boolean_from(tree: Tree) -> Option<bool>
-    ensures { result ≡ boolean_of (view tree) }
+fn boolean_from(value: DataValue<'_>) -> Option<bool>
+    ensures { result ≡ boolean_of (value_view value.entry) }
 {
-    truth(&contents_under(Tag::BOOLEAN, tree)?)
+    truth(value.contents_under(Tag::BOOLEAN)?)
 }
 
 #[tactic(auto, unfolding(crate::specs::Reading::oid_in))]
-pub(crate) fn oid_from(tree: Tree) -> Option<Oid>
-    ensures { result ≡ oid_in (view tree) }
+pub(crate) fn oid_from(value: DataValue<'_>) -> Option<ObjectIdentifier<'_>>
+    ensures { result ≡ oid_in (value_view value.entry) }
 {
-    Oid::from_owned_content(contents_under(Tag::OBJECT_IDENTIFIER, tree)?)
+    ObjectIdentifier::from_content(value.contents_under(Tag::OBJECT_IDENTIFIER)?)
 }
 
 #[tactic(auto, unfolding(crate::specs::Reading::optional_at))]
-pub(crate) fn optional_oid(members: &mut Components) -> Option<Option<Oid>>
-    ensures { option_map (λ found. (found, components_view members.new)) result
-        ≡ optional_at 6 oid_in (components_view members.old) }
+pub(crate) fn optional_oid<'a>(members: &mut DataValues<'a>) -> Option<Option<ObjectIdentifier<'a>>>
+    ensures { option_map (λ found. (found, values_view members.new)) result
+        ≡ optional_at 6 oid_in (values_view members.old) }
 {
     match members.next_under(Tag::OBJECT_IDENTIFIER) {
         None => Some(None),
-        Some(tree) => Some(Some(oid_from(tree)?)),
+        Some(value) => Some(Some(oid_from(value)?)),
     }
 }
 
 #[tactic(auto, unfolding(crate::specs::Reading::optional_at))]
-pub(crate) fn optional_integer(members: &mut Components) -> Option<Option<Integer>>
-    ensures { option_map (λ found. (found, components_view members.new)) result
-        ≡ optional_at 2 integer_of (components_view members.old) }
+pub(crate) fn optional_integer<'a>(members: &mut DataValues<'a>) -> Option<Option<Integer<'a>>>
+    ensures { option_map (λ found. (found, values_view members.new)) result
+        ≡ optional_at 2 integer_of (values_view members.old) }
 {
     match members.next_under(Tag::INTEGER) {
         None => Some(None),
-        Some(tree) => Some(Some(integer_from(tree)?)),
+        Some(value) => Some(Some(integer_from(value)?)),
     }
 }
 
 /// The BOOLEAN of a component DEFAULT FALSE: FALSE only where it may be stated, since DER leaves it away (X.690 11.5).
 #[tactic(auto, unfolding(crate::specs::Reading::stated_of))]
-fn stated_from(may_state_false: bool, tree: Tree) -> Option<bool>
-    ensures { result ≡ stated_of may_state_false (view tree) }
+fn stated_from(may_state_false: bool, value: DataValue<'_>) -> Option<bool>
+    ensures { result ≡ stated_of may_state_false (value_view value.entry) }
 {
-    let flag = boolean_from(tree)?;
+    let flag = boolean_from(value)?;
     if flag || may_state_false {
         Some(flag)
     } else {
@@ -80,19 +80,19 @@ fn stated_from(may_state_false: bool, tree: Tree) -> Option<bool>
 
 /// A BOOLEAN DEFAULT FALSE, whose FALSE may be stated or not.
 #[tactic(auto, unfolding(crate::specs::Reading::optional_at, crate::specs::Reading::flag_at))]
-pub(crate) fn flag(may_state_false: bool, members: &mut Components) -> Option<bool>
-    ensures { option_map (λ found. (found, components_view members.new)) result ≡ flag_at may_state_false (components_view members.old) }
+pub(crate) fn flag(may_state_false: bool, members: &mut DataValues<'_>) -> Option<bool>
+    ensures { option_map (λ found. (found, values_view members.new)) result ≡ flag_at may_state_false (values_view members.old) }
 {
     match members.next_under(Tag::BOOLEAN) {
         None => Some(false),
-        Some(tree) => Some(stated_from(may_state_false, tree)?),
+        Some(value) => Some(stated_from(may_state_false, value)?),
     }
 }
 
 /// The parameters of an AlgorithmIdentifier: the one value that is left, if any.
 #[tactic(auto, unfolding(crate::specs::Reading::parameters_of))]
-fn parameters_from(mut members: Components) -> Option<Option<Tree>>
-    ensures { option_map (λ found. option_map view found) result ≡ parameters_of (components_view members) }
+fn parameters_from(mut members: DataValues<'_>) -> Option<Option<DataValue<'_>>>
+    ensures { option_map (λ found. option_map value_view found) result ≡ parameters_of (values_view members.entry) }
 {
     let parameters = members.next();
     if members.is_empty() {
@@ -104,29 +104,29 @@ fn parameters_from(mut members: Components) -> Option<Option<Tree>>
 
 /// Whether no value is left, where none may be.
 #[tactic(auto, unfolding(crate::specs::Reading::end_of))]
-pub(crate) fn end(members: &Components) -> Option<()>
-    ensures { result ≡ end_of (components_view members.now) }
+pub(crate) fn end(members: &DataValues<'_>) -> Option<()>
+    ensures { result ≡ end_of (values_view members.now) }
 {
     if members.is_empty() { Some(()) } else { None }
 }
 
 #[tactic(auto, unfolding(crate::specs::Reading::algorithm_of))]
-fn algorithm_from(tree: Tree) -> Option<(Oid, Option<Tree>)>
-    ensures { option_map (λ found. (found.0, option_map view found.1)) result ≡ algorithm_of (view tree) }
+fn algorithm_from(value: DataValue<'_>) -> Option<(ObjectIdentifier<'_>, Option<DataValue<'_>>)>
+    ensures { option_map (λ found. (found.0, option_map value_view found.1)) result ≡ algorithm_of (value_view value.entry) }
 {
-    let mut members = components_under(Tag::SEQUENCE, tree)?;
+    let mut members = value.components_under(Tag::SEQUENCE)?;
     let identifier = oid_from(members.next()?)?;
     let parameters = parameters_from(members)?;
     Some((identifier, parameters))
 }
 
 #[tactic(auto, unfolding(crate::specs::Reading::imprint_of, crate::specs::Reading::only))]
-pub(crate) fn imprint_from(tree: Tree) -> Option<MessageImprint>
-    ensures { option_map imprint_view result ≡ imprint_of (view tree) }
+pub(crate) fn imprint_from(value: DataValue<'_>) -> Option<MessageImprint<'_>>
+    ensures { option_map imprint_view result ≡ imprint_of (value_view value.entry) }
 {
-    let mut members = components_under(Tag::SEQUENCE, tree)?;
+    let mut members = value.components_under(Tag::SEQUENCE)?;
     let (algorithm, parameters) = algorithm_from(members.next()?)?;
-    let hash = contents_under(Tag::OCTET_STRING, members.next()?)?;
+    let hash = members.next()?.contents_under(Tag::OCTET_STRING)?;
     end(&members)?;
     Some(MessageImprint {
         algorithm,
@@ -136,13 +136,13 @@ pub(crate) fn imprint_from(tree: Tree) -> Option<MessageImprint>
 }
 
 #[tactic(auto, unfolding(crate::specs::Reading::extension_of, crate::specs::Reading::only))]
-fn extension_from(may_state_false: bool, tree: Tree) -> Option<Extension>
-    ensures { option_map extension_view result ≡ extension_of may_state_false (view tree) }
+pub(crate) fn extension_from(may_state_false: bool, value: DataValue<'_>) -> Option<Extension<'_>>
+    ensures { option_map extension_view result ≡ extension_of may_state_false (value_view value.entry) }
 {
-    let mut members = components_under(Tag::SEQUENCE, tree)?;
+    let mut members = value.components_under(Tag::SEQUENCE)?;
     let identifier = oid_from(members.next()?)?;
     let critical = flag(may_state_false, &mut members)?;
-    let value = contents_under(Tag::OCTET_STRING, members.next()?)?;
+    let value = members.next()?.contents_under(Tag::OCTET_STRING)?;
     end(&members)?;
     Some(Extension {
         identifier,
@@ -151,55 +151,49 @@ fn extension_from(may_state_false: bool, tree: Tree) -> Option<Extension>
     })
 }
 
-/// One Extension after the other.
-fn extensions_from(
-    alloc: Global,
-    may_state_false: bool,
-    mut members: Components,
-) -> Result<Vec<Extension>, TspFault>
-    ensures { Gives extensions_view result (extensions_of may_state_false (components_view members)) }
+/// Whether each value is an Extension.
+fn are_extensions(may_state_false: bool, mut members: DataValues<'_>) -> bool
+    ensures { result ≡ is_some (extensions_of may_state_false (values_view members.entry)) }
 {
-    let mut extensions = Vec::new(alloc);
-    while let Some(tree) = members.next() {
-        let Some(extension) = extension_from(may_state_false, tree) else {
-            return Err(TspFault::Form);
-        };
-        extensions.push(extension)?;
+    while let Some(value) = members.next() {
+        if extension_from(may_state_false, value).is_none() {
+            return false;
+        }
     }
-    Ok(extensions)
+    true
 }
 
 /// Extensions, at least one, under an implicit tag.
 #[tactic(auto, unfolding(crate::specs::Reading::extension_list_of, crate::specs::Reading::some_extensions))]
 fn extension_list_from(
-    alloc: Global,
     may_state_false: bool,
     tag: Tag,
-    tree: Tree,
-) -> Result<Vec<Extension>, TspFault>
-    ensures { Gives extensions_view result (extension_list_of may_state_false tag.octet (view tree)) }
+    value: DataValue<'_>,
+) -> Option<Extensions<'_>>
+    ensures { result ≡ extension_list_of may_state_false tag.octet (value_view value.entry) }
 {
-    let members = components_under(tag, tree).ok_or(TspFault::Form)?;
-    let extensions = extensions_from(alloc, may_state_false, members)?;
-    if extensions.is_empty() {
-        return Err(TspFault::Form);
+    let members = value.components_under(tag)?;
+    if members.is_empty() {
+        return None;
     }
-    Ok(extensions)
+    if !are_extensions(may_state_false, members) {
+        return None;
+    }
+    Some(Extensions::of(members))
 }
 
 /// Extensions under an implicit tag; none where they are left away.
 #[tactic(auto, unfolding(crate::specs::Reading::optional_at, crate::specs::Reading::extensions_at))]
-pub(crate) fn extensions(
-    alloc: Global,
+pub(crate) fn extensions<'a>(
     may_state_false: bool,
     tag: Tag,
-    members: &mut Components,
-) -> Result<Vec<Extension>, TspFault>
-    ensures { Gives (λ found. (extensions_view found, components_view members.new)) result
-        (extensions_at may_state_false tag.octet (components_view members.old)) }
+    members: &mut DataValues<'a>,
+) -> Option<Extensions<'a>>
+    ensures { option_map (λ found. (found, values_view members.new)) result
+        ≡ extensions_at may_state_false tag.octet (values_view members.old) }
 {
     match members.next_under(tag) {
-        None => Ok(Vec::new(alloc)),
-        Some(tree) => Ok(extension_list_from(alloc, may_state_false, tag, tree)?),
+        None => Some(Extensions::none()),
+        Some(value) => Some(extension_list_from(may_state_false, tag, value)?),
     }
 }

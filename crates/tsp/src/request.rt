@@ -1,75 +1,87 @@
-ghost use Rattle.std.specs.Prelude.{◌≡◌, ◌≢◌, ◌↔◌, ◌<◌, ◌≤◌, ◌^◌, ℕ, Bool, List, Option, Some, None, Err, option_map, length, map, unwrap_or, IfOk, IsTrue, MatchResult};
-ghost use Rattle.std.specs.Option.{option_copied};
+ghost use Rattle.std.specs.Prelude.{◌≡◌, ◌≢◌, ◌↔◌, ◌<◌, ◌≤◌, ◌^◌, ℕ, Bool, List, [], Option, Some, None, Err, option_map, length, map, unwrap_or, IfOk, IfErr, IsTrue, ◌⊎◌, MatchResult};
+ghost use Rattle.der.specs.Node.{primitive, encoding, AreOctets, IsLawful};
 ghost use Rattle.der.specs.Number.{number_content};
 ghost use Rattle.der.specs.ObjectIdentifier.{IsOid, oid_content};
-ghost use Rattle.der.specs.Tree.{view};
-ghost use Rattle.tsp.specs.Gives.{Gives};
+ghost use Rattle.der.specs.DataValueView.{value_view};
 ghost use Rattle.tsp.specs.Reading.{request_of, only};
-ghost use Rattle.der.specs.Node.{encoding, IsLawful};
-ghost use Rattle.tsp.specs.Request.{RequestValue, IsRequest, Stated, unstated, request as spelled, Spells};
+ghost use Rattle.tsp.specs.Request.{RequestValue, IsRequest, unstated, time_stamp_req, sha256_request, Spells};
 ghost use Rattle.tsp.specs.Rules.{HasVersionOne, HasPlainParameters};
+ghost use Rattle.tsp.specs.Spellings.{HasNoFalse, AreRequest};
 ghost use Rattle.tsp.specs.Tst.{TstValue, IsTst, tst_info, answer};
-ghost use Rattle.tsp.specs.View.{request_view, extension_view, tst_view};
-ghost use Rattle.tsp.specs.declared.fault.TspFault.TheVariants.{Form, TooLong, Memory};
+ghost use Rattle.tsp.specs.View.{request_view, tst_view};
+ghost use Rattle.tsp.specs.declared.fault.TspFault.TheVariants.{Form, TooLong};
 
+use crate::extensions::Extensions;
 use crate::fault::TspFault;
-use crate::imprint::{Extension, MessageImprint};
+use crate::imprint::MessageImprint;
 use crate::integer::Integer;
+use crate::object_identifier::ObjectIdentifier;
 use crate::reading::{
     end, extensions, flag, imprint_from, integer_from, optional_integer, optional_oid,
 };
+use crate::tags::REQUEST_EXTENSIONS;
 use crate::tst::TstInfo;
-use der::{DerFault, Oid, Tag, Tree, components_under, numbers_have_one_content, read_tree};
+use der::{DataValue, Tag, numbers_have_one_content, read_value};
 use gentime::GenTime;
-use std::alloc::Global;
 
 /// How many octets a request may have.
 const MAX_OCTETS: usize = 65_536;
-/// The extensions of a request, under [0].
-pub(crate) const REQUEST_EXTENSIONS: Tag = Tag { octet: 0xa0 };
 
-/// A time-stamp request (RFC 3161 2.4.1, TimeStampReq), as `read_request` reads it.
+/// A time-stamp request (RFC 3161 2.4.1, TimeStampReq), whose parts lie in the octets that `read_request` read.
 #[derive(Debug, Drop)]
-pub struct Request {
-    pub(crate) version: Integer,
-    pub(crate) imprint: MessageImprint,
-    pub(crate) policy: Option<Oid>,
-    pub(crate) nonce: Option<Integer>,
+pub struct Request<'a> {
+    pub(crate) version: Integer<'a>,
+    pub(crate) imprint: MessageImprint<'a>,
+    pub(crate) policy: Option<ObjectIdentifier<'a>>,
+    pub(crate) nonce: Option<Integer<'a>>,
     pub(crate) cert_req: bool,
-    pub(crate) extensions: Vec<Extension>,
+    pub(crate) extensions: Extensions<'a>,
 }
 
-impl Request {
+impl<'a> Request<'a> {
+    /// The request of version 1 for a SHA-256 digest, whose algorithm has NULL parameters (RFC 3161 2.4.1, RFC 5754 2.2):
+    /// no policy, no nonce and no extensions.
+    pub fn of_sha256(digest: &'a [u8; 32], cert_req: bool) -> Request<'a>
+        ensures made { request_view result ≡ sha256_request digest.now cert_req }
+        ensures spelled { Spells (encoding (time_stamp_req unstated (request_view result))) (request_view result) }
+        ensures short { length (encoding (time_stamp_req unstated (request_view result))) ≤ 65536 }
+    {
+        sha256_parts(digest, cert_req)
+    }
+
     /// The contents octets of the version (RFC 3161 2.4.1).
-    pub fn version(&self) -> &[u8]
+    pub fn version(&self) -> &'a [u8]
         ensures { result.now ≡ number_content (request_view self.now).version }
     {
         self.version.content()
     }
 
     /// The contents octets of the hash algorithm's object identifier (RFC 3161 2.4.1, X.690 8.19).
-    pub fn algorithm(&self) -> &[u8]
+    pub fn algorithm(&self) -> &'a [u8]
         ensures { result.now ≡ oid_content (request_view self.now).imprint.algorithm }
     {
         self.imprint.algorithm.content()
     }
 
-    /// The algorithm's parameters, where there are any (RFC 5280 4.1.1.2).
-    pub fn parameters(&self) -> Option<&Tree>
-        ensures { option_map (λ tree. view tree.now) result ≡ (request_view self.now).imprint.parameters }
+    /// The encoding of the algorithm's parameters, where there are any (RFC 5280 4.1.1.2).
+    pub fn parameters(&self) -> Option<&'a [u8]>
+        ensures { option_map (λ octets. octets.now) result ≡ option_map encoding (request_view self.now).imprint.parameters }
     {
-        self.imprint.parameters.as_ref()
+        match &self.imprint.parameters {
+            None => None,
+            Some(parameters) => Some(parameters.octets()),
+        }
     }
 
     /// The octets of the hash of what is to be stamped (RFC 3161 2.4.1, hashedMessage).
-    pub fn hash(&self) -> &[u8]
+    pub fn hash(&self) -> &'a [u8]
         ensures { result.now ≡ (request_view self.now).imprint.hash }
     {
-        &self.imprint.hash
+        self.imprint.hash
     }
 
     /// The contents octets of the object identifier of the policy that is asked for, where one is (RFC 3161 2.4.1, reqPolicy).
-    pub fn policy(&self) -> Option<&[u8]>
+    pub fn policy(&self) -> Option<&'a [u8]>
         ensures { option_map (λ content. content.now) result ≡ option_map oid_content (request_view self.now).policy }
     {
         match &self.policy {
@@ -79,7 +91,7 @@ impl Request {
     }
 
     /// The contents octets of the nonce, where there is one (RFC 3161 2.4.1).
-    pub fn nonce(&self) -> Option<&[u8]>
+    pub fn nonce(&self) -> Option<&'a [u8]>
         ensures { option_map (λ content. content.now) result ≡ option_map number_content (request_view self.now).nonce }
     {
         match &self.nonce {
@@ -109,32 +121,29 @@ impl Request {
     {
         match &self.imprint.parameters {
             None => true,
-            Some(Tree::Primitive(tag, contents)) => *tag == Tag::NULL && contents.is_empty(),
-            Some(Tree::Constructed(_, _)) => false,
+            Some(parameters) => matches!(parameters.contents_under(Tag::NULL), Some([])),
         }
     }
 
     /// The extensions, in their order (RFC 3161 2.4.1); none where they are absent.
-    pub fn extensions(&self) -> &[Extension]
-        ensures { map extension_view result.now ≡ (request_view self.now).extensions }
+    pub fn extensions(&self) -> Extensions<'a>
+        ensures { result ≡ (request_view self.now).extensions }
     {
-        &self.extensions
+        self.extensions.again()
     }
-}
 
-impl Request {
     /// The TSTInfo that answers the request under a policy: imprint, nonce and extensions as they stand in it.
     ///
     /// The serial number is 1 to 2^63 - 1, and the accuracy 1 to 1,000,000 microseconds.
     pub fn into_tst_info(
         self,
-        policy: Oid,
+        policy: ObjectIdentifier<'a>,
         serial: u64,
         gen_time: GenTime,
         accuracy: u32,
         ordering: bool,
-    ) -> TstInfo
-        ensures { tst_view result ≡ answer (request_view self) policy serial gen_time accuracy ordering }
+    ) -> TstInfo<'a>
+        ensures { tst_view result ≡ answer (request_view self.entry) policy.entry serial gen_time accuracy ordering }
     {
         TstInfo {
             policy,
@@ -149,19 +158,51 @@ impl Request {
     }
 }
 
+/// The value NULL (X.690 8.8).
+fn null<'a>() -> DataValue<'a>
+    ensures { value_view result ≡ primitive 5 [] }
+{
+    match read_value(&[0x05, 0x00]) {
+        Ok(value) => value,
+        Err(_) => unreachable!(),
+    }
+}
+
+/// The parts of the request for a SHA-256 digest.
+fn sha256_parts(digest: &[u8; 32], cert_req: bool) -> Request<'_>
+    ensures { request_view result ≡ sha256_request digest.now cert_req }
+{
+    Request {
+        version: Integer::one(),
+        imprint: MessageImprint {
+            algorithm: ObjectIdentifier::sha256(),
+            parameters: Some(null()),
+            hash: digest,
+        },
+        policy: None,
+        nonce: None,
+        cert_req,
+        extensions: Extensions::none(),
+    }
+}
+
 /// Requests and what is said of them: octets spell one request; the TSTInfo that answers a request of at most 65,536
 /// octets is lawful, so that `write_tst` writes it.
 pub fn requests_have_one_reading()
     ensures one { (octets : List ℕ) (r s : RequestValue) → Spells octets r → Spells octets s → r ≡ s }
 
-    // Two spellings of one request differ only in stated FALSEs.
-    ensures spellings { (octets others : List ℕ) (r : RequestValue) → Spells octets r → Spells others r →
-        (s : Stated) × ((t : Stated) × ((octets ≡ encoding (spelled s r)) × (others ≡ encoding (spelled t r)))) }
+    // Spellings of one request differ in the octets of its FALSEs alone, which may be stated or left away, and in the lengths that
+    // count them; a request without a FALSE has one spelling.
+    ensures parts { (octets : List ℕ) (r : RequestValue) → Spells octets r → AreRequest octets r }
+    ensures one_spelling { (octets others : List ℕ) (r : RequestValue) → HasNoFalse r → Spells octets r → Spells others r → octets ≡ others }
 
     // Without its stated FALSEs a request of at most 65,536 octets is lawful too. What `write_request` writes spells it, so
     // it is read back.
-    ensures unstated { (octets : List ℕ) (r : RequestValue) → Spells octets r → length octets ≤ 65536 → IsLawful (spelled unstated r) }
-    ensures written { (r : RequestValue) → IsRequest r → IsLawful (spelled unstated r) → Spells (encoding (spelled unstated r)) r }
+    ensures unstated { (octets : List ℕ) (r : RequestValue) → Spells octets r → length octets ≤ 65536 → IsLawful (time_stamp_req unstated r) }
+    ensures written { (r : RequestValue) → IsRequest r → IsLawful (time_stamp_req unstated r) → Spells (encoding (time_stamp_req unstated r)) r }
+    ensures sha256 { (digest : List ℕ) (cert_req : Bool) → AreOctets digest → length digest ≤ 32
+        → Spells (encoding (time_stamp_req unstated (sha256_request digest cert_req))) (sha256_request digest cert_req)
+        × (length (encoding (time_stamp_req unstated (sha256_request digest cert_req))) ≤ 65536) }
     ensures lawful { (octets : List ℕ) (r : RequestValue) (t : TstValue) → Spells octets r → length octets ≤ 65536 → IsTst t
         → t.imprint ≡ r.imprint → t.nonce ≡ r.nonce → t.extensions ≡ r.extensions → IsLawful (tst_info t) }
     ensures answer { (octets : List ℕ) (r : RequestValue) → Spells octets r → length octets ≤ 65536
@@ -170,45 +211,43 @@ pub fn requests_have_one_reading()
         → IsTst (answer r policy serial gen_time accuracy ordering) × IsLawful (tst_info (answer r policy serial gen_time accuracy ordering)) }
 {}
 
-/// Reads a TimeStampReq (RFC 3161 2.4.1) in its distinguished encoding, but that certReq's and each `critical`'s FALSE
-/// may be stated.
+/// Reads a TimeStampReq (RFC 3161 2.4.1) in its distinguished encoding where it lies, but that certReq's and each
+/// `critical`'s FALSE may be stated. It takes no memory, and its work grows as the number of the octets.
 ///
-/// Refused as `TooLong` where there are more than 65,536 octets, which is judged first; as `Form` where no request has
-/// these octets; and as `Memory`.
-pub fn read_request(alloc: Global, octets: &[u8]) -> Result<Request, TspFault>
+/// Refused as `TooLong` where there are more than 65,536 octets, which is judged first, and as `Form` where no request has
+/// these octets.
+pub fn read_request(octets: &[u8]) -> Result<Request<'_>, TspFault>
     ensures found { IfOk result (λ request. Spells octets.now (request_view request)) }
     ensures short { IfOk result (λ request. length octets.now ≤ 65536) }
     ensures only { (r : RequestValue) → Spells octets.now r → length octets.now ≤ 65536 →
-        MatchResult result (λ request. request_view request ≡ r) (λ fault. fault ≡ Memory) }
+        MatchResult result (λ request. request_view request ≡ r) (λ fault. ⊥) }
     ensures form { result ≡ Err Form → (r : RequestValue) → Spells octets.now r → ⊥ }
     ensures too_long { (result ≡ Err TooLong) ↔ (65536 < length octets.now) }
+    ensures refusals { IfErr result (λ fault. (fault ≡ Form) ⊎ (fault ≡ TooLong)) }
 {
     if octets.len() > MAX_OCTETS {
         return Err(TspFault::TooLong);
     }
-    match read_tree(alloc, octets) {
-        Ok(tree) => request_from(alloc, tree),
-        Err(fault) => match fault {
-            DerFault::Memory => Err(TspFault::Memory),
-            _ => Err(TspFault::Form),
-        },
+    match read_value(octets) {
+        Ok(value) => request_from(value).ok_or(TspFault::Form),
+        Err(_) => Err(TspFault::Form),
     }
 }
 
 /// The request that a value is.
 #[tactic(auto, unfolding(crate::specs::Reading::request_of, crate::specs::Reading::only))]
-fn request_from(alloc: Global, tree: Tree) -> Result<Request, TspFault>
-    ensures { Gives request_view result (request_of (view tree)) }
+fn request_from(value: DataValue<'_>) -> Option<Request<'_>>
+    ensures { option_map request_view result ≡ request_of (value_view value.entry) }
 {
-    let mut members = components_under(Tag::SEQUENCE, tree).ok_or(TspFault::Form)?;
-    let version = integer_from(members.next().ok_or(TspFault::Form)?).ok_or(TspFault::Form)?;
-    let imprint = imprint_from(members.next().ok_or(TspFault::Form)?).ok_or(TspFault::Form)?;
-    let policy = optional_oid(&mut members).ok_or(TspFault::Form)?;
-    let nonce = optional_integer(&mut members).ok_or(TspFault::Form)?;
-    let cert_req = flag(true, &mut members).ok_or(TspFault::Form)?;
-    let extensions = extensions(alloc, true, REQUEST_EXTENSIONS, &mut members)?;
-    end(&members).ok_or(TspFault::Form)?;
-    Ok(Request {
+    let mut members = value.components_under(Tag::SEQUENCE)?;
+    let version = integer_from(members.next()?)?;
+    let imprint = imprint_from(members.next()?)?;
+    let policy = optional_oid(&mut members)?;
+    let nonce = optional_integer(&mut members)?;
+    let cert_req = flag(true, &mut members)?;
+    let extensions = extensions(true, REQUEST_EXTENSIONS, &mut members)?;
+    end(&members)?;
+    Some(Request {
         version,
         imprint,
         policy,

@@ -1,15 +1,17 @@
-use crate::imprint::{Extension, MessageImprint};
+use crate::extensions::Extensions;
+use crate::imprint::MessageImprint;
 use crate::integer::Integer;
-use der::Oid;
+use crate::object_identifier::ObjectIdentifier;
 use gentime::GenTime;
 
-/// What a token says (RFC 3161 2.4.2, TSTInfo), of version 1 and without the field tsa.
+/// What a token says (RFC 3161 2.4.2, TSTInfo), of version 1 and without the field tsa. Its parts lie in a request, or in the
+/// octets that `read_tst` read.
 #[derive(Debug, Drop)]
-pub struct TstInfo {
+pub struct TstInfo<'a> {
     /// The policy under which the token was given.
-    pub policy: Oid,
+    pub policy: ObjectIdentifier<'a>,
     /// What was stamped, as it stands in the request.
-    pub imprint: MessageImprint,
+    pub imprint: MessageImprint<'a>,
     /// The serial number, 1 to 2^63 - 1.
     pub serial: u64,
     /// The moment, in microseconds since 1970.
@@ -19,7 +21,7 @@ pub struct TstInfo {
     /// Whether tokens are ordered by their `gen_time` alone.
     pub ordering: bool,
     /// The request's nonce.
-    pub nonce: Option<Integer>,
+    pub nonce: Option<Integer<'a>>,
     /// The request's extensions, in their order.
-    pub extensions: Vec<Extension>,
+    pub extensions: Extensions<'a>,
 }

@@ -1,83 +1,76 @@
-//! Reading a TSTInfo: what its one encoding gives, and nothing else.
-ghost use Rattle.std.specs.Prelude.{◌≡◌, ℕ, ◌≤◌, ◌<◌, ◌^◌, ◌⊎◌, length, List, Option, Some, None, IsOk, IfOk, IfErr, IfSome, MatchResult, option_map};
+//! From octets to a TSTInfo.
+ghost use Rattle.std.specs.Prelude.{◌≡◌, ◌≤◌, ◌<◌, ◌^◌, ℕ, List, length, Option, Some, None, option_map, unwrap_or, IfOk, IfErr, IfSome, MatchOption, MatchResult};
 ghost use Rattle.std.specs.Int.Digits.{number_from_digits};
-ghost use Rattle.der.specs.Node.{encoding, IsLawful};
-ghost use Rattle.der.specs.Tree.{view, components_view};
-ghost use Rattle.tsp.specs.Gives.{Gives};
-ghost use Rattle.tsp.specs.Reading.{only, end_of, optional_at, number_of};
-ghost use Rattle.tsp.specs.Tst.{TstValue, IsTst, tst_info};
+ghost use Rattle.der.specs.Node.{IsFormed};
+ghost use Rattle.der.specs.DataValueView.{value_view, values_view};
 ghost use Rattle.gentime.specs.GenTime.{last_moment, text_of};
+ghost use Rattle.tsp.specs.Reading.{only, optional_at, integer_value_of};
+ghost use Rattle.tsp.specs.Tst.{TstValue, IsTst, SpellsTst, tst_info};
 ghost use Rattle.tsp.specs.TstReading.{parts_in, natural, natural_of, up_to, number_in, part_at, accuracy_of, head_of, parts_of};
 ghost use Rattle.tsp.specs.TstView.{head_view, parts_view};
 ghost use Rattle.tsp.specs.View.{tst_view};
-ghost use Rattle.tsp.specs.declared.fault.TspFault.TheVariants.{Form, Memory};
+ghost use Rattle.tsp.specs.declared.fault.TspFault.TheVariants.{Form};
 
+use crate::extensions::Extensions;
 use crate::fault::TspFault;
-use crate::imprint::{Extension, MessageImprint};
+use crate::imprint::MessageImprint;
 use crate::integer::Integer;
+use crate::object_identifier::ObjectIdentifier;
 use crate::reading::{end, extensions, flag, imprint_from, oid_from, optional_integer};
+use crate::tags::{MICROS, MILLIS, TST_EXTENSIONS};
 use crate::tst::TstInfo;
-use crate::writing::{EXTENSIONS, MICROS, MILLIS};
-use der::{
-    Components, DerFault, Oid, Tag, Tree, components_under, contents_under, is_number_content,
-    read_tree,
-};
-use std::alloc::Global;
+use der::{DataValue, DataValues, Tag, is_number_content, read_value};
 
 /// The first parts of a TSTInfo after its version. The time is still its octets.
 #[derive(Drop)]
-struct Head {
-    policy: Oid,
-    imprint: MessageImprint,
+struct Head<'a> {
+    policy: ObjectIdentifier<'a>,
+    imprint: MessageImprint<'a>,
     serial: u64,
-    time: Vec<u8>,
+    time: &'a [u8],
     accuracy: u32,
 }
 
 /// The parts of a TSTInfo.
 #[derive(Drop)]
-struct Parts {
-    head: Head,
+struct Parts<'a> {
+    head: Head<'a>,
     ordering: bool,
-    nonce: Option<Integer>,
-    extensions: Vec<Extension>,
+    nonce: Option<Integer<'a>>,
+    extensions: Extensions<'a>,
 }
 
-/// Reads a TSTInfo (RFC 3161 2.4.2): accepts exactly what `write_tst` writes, of any length.
-///
-/// Refused as `Form` where no TSTInfo has these octets, and as `Memory`.
-pub fn read_tst(alloc: Global, octets: &[u8]) -> Result<TstInfo, TspFault>
-    ensures found { IfOk result (λ tst. IsTst (tst_view tst) × IsLawful (tst_info (tst_view tst))
-        × (octets.now ≡ encoding (tst_info (tst_view tst)))) }
-    ensures only { (t : TstValue) → IsTst t → IsLawful (tst_info t) → octets.now ≡ encoding (tst_info t) →
-        MatchResult result (λ tst. tst_view tst ≡ t) (λ fault. fault ≡ Memory) }
-    ensures refusals { IfErr result (λ fault. (fault ≡ Form) ⊎ (fault ≡ Memory)) }
+/// Reads a TSTInfo (RFC 3161 2.4.2) where it lies: accepts exactly what `write_tst` writes, of any length. It takes no
+/// memory. Refused only as `Form`, where no TSTInfo has these octets.
+pub fn read_tst(octets: &[u8]) -> Result<TstInfo<'_>, TspFault>
+    ensures found { IfOk result (λ tst. SpellsTst octets.now (tst_view tst)) }
+    ensures only { (t : TstValue) → SpellsTst octets.now t → MatchResult result (λ tst. tst_view tst ≡ t) (λ fault. ⊥) }
+    ensures refusals { IfErr result (λ fault. fault ≡ Form) }
 {
-    match read_tree(alloc, octets) {
-        Ok(tree) => match parts_from(alloc, tree) {
-            Ok(parts) => tst_from(parts),
-            Err(fault) => Err(fault),
-        },
-        Err(fault) => match fault {
-            DerFault::Memory => Err(TspFault::Memory),
-            _ => Err(TspFault::Form),
-        },
+    match read_value(octets) {
+        Ok(value) => tst_info_from(value).ok_or(TspFault::Form),
+        Err(_) => Err(TspFault::Form),
     }
+}
+
+/// The TSTInfo that a value is.
+fn tst_info_from(value: DataValue<'_>) -> Option<TstInfo<'_>>
+    ensures found { IfSome result (λ tst. IsFormed (value_view value.entry) → IsTst (tst_view tst) × (value_view value.entry ≡ tst_info (tst_view tst))) }
+    ensures only { (t : TstValue) → IsTst t → value_view value.entry ≡ tst_info t → MatchOption result ⊥ (λ tst. tst_view tst ≡ t) }
+{
+    tst_from(parts_from(value)?)
 }
 
 /// TSTInfo and what is said of them: octets are one TSTInfo's.
 pub fn tst_infos_have_one_reading()
-    ensures { (octets : List ℕ) (s t : TstValue) → IsTst s → IsLawful (tst_info s) → octets ≡ encoding (tst_info s)
-        → IsTst t → IsLawful (tst_info t) → octets ≡ encoding (tst_info t) → s ≡ t }
+    ensures one { (octets : List ℕ) (s t : TstValue) → SpellsTst octets s → SpellsTst octets t → s ≡ t }
 {}
 
 /// The TSTInfo of its parts, where the time is a moment's text.
-fn tst_from(parts: Parts) -> Result<TstInfo, TspFault>
-    ensures found { IfOk result (λ tst. (parts_in (tst_view tst) ≡ parts_view parts) × (tst.gen_time ≤ last_moment)) }
-    ensures only { (moment : ℕ) → moment ≤ last_moment → parts.head.time.items ≡ text_of 6 moment →
-        IfOk result (λ tst. tst.gen_time ≡ moment) }
-    ensures form { (moment : ℕ) → moment ≤ last_moment → parts.head.time.items ≡ text_of 6 moment → IsOk result }
-    ensures refusals { IfErr result (λ fault. fault ≡ Form) }
+fn tst_from(parts: Parts<'_>) -> Option<TstInfo<'_>>
+    ensures found { IfSome result (λ tst. (parts_in (tst_view tst) ≡ parts_view parts.entry) × (tst.gen_time ≤ last_moment)) }
+    ensures only { (moment : ℕ) → moment ≤ last_moment → parts.entry.head.time.now ≡ text_of 6 moment →
+        MatchOption result ⊥ (λ tst. tst.gen_time ≡ moment) }
 {
     let Parts {
         head,
@@ -85,23 +78,14 @@ fn tst_from(parts: Parts) -> Result<TstInfo, TspFault>
         nonce,
         extensions,
     } = parts;
-    let Head {
-        policy,
-        imprint,
-        serial,
-        time,
-        accuracy,
-    } = head;
-    let Ok(gen_time) = gentime::read(&time) else {
-        return Err(TspFault::Form);
-    };
+    let gen_time = gentime::read(head.time).ok()?;
     let _bound = gen_time.micros();
-    Ok(TstInfo {
-        policy,
-        imprint,
-        serial,
+    Some(TstInfo {
+        policy: head.policy,
+        imprint: head.imprint,
+        serial: head.serial,
         gen_time,
-        accuracy,
+        accuracy: head.accuracy,
         ordering,
         nonce,
         extensions,
@@ -150,32 +134,32 @@ fn up_to(most: u64, number: u64) -> Option<u64>
 
 /// A number under a tag, from 1 to a greatest one.
 #[tactic(auto, unfolding(crate::specs::TstReading::number_in))]
-fn number_in(tag: Tag, most: u64, tree: Tree) -> Option<u64>
-    ensures { result ≡ number_in tag.octet most (view tree) }
+fn number_in(tag: Tag, most: u64, value: DataValue<'_>) -> Option<u64>
+    ensures { result ≡ number_in tag.octet most (value_view value.entry) }
 {
-    let octets = contents_under(tag, tree)?;
-    let number = natural(&octets)?;
+    let octets = value.contents_under(tag)?;
+    let number = natural(octets)?;
     up_to(most, number)
 }
 
 /// A part of an accuracy, 0 where it is left away.
 #[tactic(auto, unfolding(crate::specs::Reading::optional_at, crate::specs::TstReading::part_at))]
-fn read_part(tag: Tag, most: u64, members: &mut Components) -> Option<u64>
-    ensures read { option_map (λ found. (found, components_view members.new)) result ≡ part_at tag.octet most (components_view members.old) }
+fn read_part(tag: Tag, most: u64, members: &mut DataValues<'_>) -> Option<u64>
+    ensures read { option_map (λ found. (found, values_view members.new)) result ≡ part_at tag.octet most (values_view members.old) }
     ensures bound { IfSome result (λ found. found ≤ most) }
 {
     match members.next_under(tag) {
         None => Some(0),
-        Some(tree) => Some(number_in(tag, most, tree)?),
+        Some(value) => Some(number_in(tag, most, value)?),
     }
 }
 
 /// An Accuracy, in microseconds.
 #[tactic(auto, unfolding(crate::specs::TstReading::accuracy_of, crate::specs::Reading::only))]
-fn accuracy_from(tree: Tree) -> Option<u32>
-    ensures { result ≡ accuracy_of (view tree) }
+fn accuracy_from(value: DataValue<'_>) -> Option<u32>
+    ensures { result ≡ accuracy_of (value_view value.entry) }
 {
-    let mut members = components_under(Tag::SEQUENCE, tree)?;
+    let mut members = value.components_under(Tag::SEQUENCE)?;
     let seconds = read_part(Tag::INTEGER, 1, &mut members)?;
     let millis = read_part(MILLIS, 999, &mut members)?;
     let micros = read_part(MICROS, 999, &mut members)?;
@@ -185,14 +169,14 @@ fn accuracy_from(tree: Tree) -> Option<u32>
 }
 
 #[tactic(auto, unfolding(crate::specs::TstReading::head_of))]
-fn read_head(members: &mut Components) -> Option<Head>
-    ensures { option_map (λ found. (head_view found, components_view members.new)) result ≡ head_of (components_view members.old) }
+fn read_head<'a>(members: &mut DataValues<'a>) -> Option<Head<'a>>
+    ensures { option_map (λ found. (head_view found, values_view members.new)) result ≡ head_of (values_view members.old) }
 {
     number_in(Tag::INTEGER, 1, members.next()?)?;
     let policy = oid_from(members.next()?)?;
     let imprint = imprint_from(members.next()?)?;
     let serial = number_in(Tag::INTEGER, i64::MAX as u64, members.next()?)?;
-    let time = contents_under(Tag::GENERALIZED_TIME, members.next()?)?;
+    let time = members.next()?.contents_under(Tag::GENERALIZED_TIME)?;
     let accuracy = accuracy_from(members.next()?)?;
     Some(Head {
         policy,
@@ -204,16 +188,16 @@ fn read_head(members: &mut Components) -> Option<Head>
 }
 
 #[tactic(auto, unfolding(crate::specs::TstReading::parts_of, crate::specs::Reading::only))]
-fn parts_from(alloc: Global, tree: Tree) -> Result<Parts, TspFault>
-    ensures { Gives parts_view result (parts_of (view tree)) }
+fn parts_from(value: DataValue<'_>) -> Option<Parts<'_>>
+    ensures { option_map parts_view result ≡ parts_of (value_view value.entry) }
 {
-    let mut members = components_under(Tag::SEQUENCE, tree).ok_or(TspFault::Form)?;
-    let head = read_head(&mut members).ok_or(TspFault::Form)?;
-    let ordering = flag(false, &mut members).ok_or(TspFault::Form)?;
-    let nonce = optional_integer(&mut members).ok_or(TspFault::Form)?;
-    let extensions = extensions(alloc, false, EXTENSIONS, &mut members)?;
-    end(&members).ok_or(TspFault::Form)?;
-    Ok(Parts {
+    let mut members = value.components_under(Tag::SEQUENCE)?;
+    let head = read_head(&mut members)?;
+    let ordering = flag(false, &mut members)?;
+    let nonce = optional_integer(&mut members)?;
+    let extensions = extensions(false, TST_EXTENSIONS, &mut members)?;
+    end(&members)?;
+    Some(Parts {
         head,
         ordering,
         nonce,

@@ -1,30 +1,25 @@
 //! From messages to octets, from the inside outwards.
-ghost use Rattle.std.specs.Prelude.{◌≡◌, ◌<◌, ◌≤◌, ◌^◌, ◌++◌, ◌⊎◌, Bool, false, [], pos, length, List, map, OnOk, IfOk, IfErr};
+ghost use Rattle.std.specs.Prelude.{◌≡◌, ◌<◌, ◌≤◌, ◌^◌, ◌++◌, Bool, false, [], pos, length, List, OnOk, IfOk, IfErr};
 ghost use Rattle.der.specs.Node.{element, encoding, encodings, IsFormed, AreFormed, IsLawful};
-ghost use Rattle.der.specs.Tree.{nodes, view};
+ghost use Rattle.der.specs.Tree.{nodes};
 ghost use Rattle.der.specs.Number.{number_content};
 ghost use Rattle.tsp.specs.Grammar.{integer, object_identifier, optional, false_by_default};
-ghost use Rattle.tsp.specs.Request.{request as tsp_request, unstated, algorithm_identifier, message_imprint, extension, extension_nodes, extensions_under};
+ghost use Rattle.tsp.specs.Request.{time_stamp_req, unstated, algorithm_identifier, message_imprint, extension, extension_nodes, extensions_under};
 ghost use Rattle.tsp.specs.Tst.{IsTst, accuracy, accuracy_part, generalized_time, tst_info};
-ghost use Rattle.tsp.specs.View.{request_view, imprint_view, extension_view, extensions_view, tst_view};
+ghost use Rattle.tsp.specs.View.{request_view, imprint_view, extension_view, tst_view};
 ghost use Rattle.tsp.specs.declared.fault.TspFault.TheVariants.{Memory};
 
+use crate::extensions::{Extension, Extensions};
 use crate::fault::TspFault;
-use crate::imprint::{Extension, MessageImprint};
+use crate::imprint::MessageImprint;
 use crate::integer::Integer;
-use crate::request::{REQUEST_EXTENSIONS, Request};
+use crate::object_identifier::ObjectIdentifier;
+use crate::request::Request;
+use crate::tags::{MICROS, MILLIS, REQUEST_EXTENSIONS, TST_EXTENSIONS};
 use crate::tst::TstInfo;
-use der::{DerFault, Oid, Tag, Tree, Writer, whole_number_content};
+use der::{DerFault, Tag, Writer, whole_number_content};
 use gentime::{GenTime, GenTimeFault, texts_are_short};
 use std::alloc::Global;
-
-/// The part of an accuracy in milliseconds, under [0].
-pub(crate) const MILLIS: Tag = Tag { octet: 0x80 };
-/// The part of an accuracy in microseconds, under [1].
-pub(crate) const MICROS: Tag = Tag { octet: 0x81 };
-
-/// The extensions of a TSTInfo, under [1].
-pub(crate) const EXTENSIONS: Tag = Tag { octet: 0xa1 };
 
 /// Puts what was written under a tag. The caller's contents are fewer than 2^24 octets, so only memory can be wanting.
 fn wrap(writer: &mut Writer, tag: Tag) -> Result<(), TspFault>
@@ -133,24 +128,11 @@ fn append_flag(alloc: Global, writer: &mut Writer, flag: bool) -> Result<(), Tsp
     }
 }
 
-/// Appends a value as it was read.
-fn append_tree(writer: &mut Writer, tree: &Tree) -> Result<(), TspFault>
-    requires { IsFormed (view tree.now) }
-    ensures ok { OnOk result (writer.new ≡ writer.old ++ encoding (view tree.now)) }
-    ensures memory { IfErr result (λ fault. fault ≡ Memory) }
-{
-    match writer.append_tree(tree) {
-        Ok(()) => Ok(()),
-        Err(DerFault::Memory) => Err(TspFault::Memory),
-        Err(_) => unreachable!(),
-    }
-}
-
 /// Appends an AlgorithmIdentifier (RFC 5280 4.1.1.2).
 fn append_algorithm(
     alloc: Global,
     writer: &mut Writer,
-    imprint: &MessageImprint,
+    imprint: &MessageImprint<'_>,
 ) -> Result<(), TspFault>
     requires { IsFormed (algorithm_identifier (imprint_view imprint.now)) }
     ensures ok { OnOk result (writer.new ≡ writer.old ++ encoding (algorithm_identifier (imprint_view imprint.now))) }
@@ -164,7 +146,7 @@ fn append_algorithm(
         imprint.algorithm.content(),
     )?;
     if let Some(parameters) = &imprint.parameters {
-        append_tree(&mut members, parameters)?;
+        append(&mut members, parameters.octets())?;
     }
     wrap(&mut members, Tag::SEQUENCE)?;
     append(writer, members.as_slice())
@@ -174,7 +156,7 @@ fn append_algorithm(
 fn append_imprint(
     alloc: Global,
     writer: &mut Writer,
-    imprint: &MessageImprint,
+    imprint: &MessageImprint<'_>,
 ) -> Result<(), TspFault>
     requires { IsFormed (message_imprint (imprint_view imprint.now)) }
     ensures ok { OnOk result (writer.new ≡ writer.old ++ encoding (message_imprint (imprint_view imprint.now))) }
@@ -182,13 +164,17 @@ fn append_imprint(
 {
     let mut members = Writer::new(alloc);
     append_algorithm(alloc, &mut members, imprint)?;
-    append_value(alloc, &mut members, Tag::OCTET_STRING, &imprint.hash)?;
+    append_value(alloc, &mut members, Tag::OCTET_STRING, imprint.hash)?;
     wrap(&mut members, Tag::SEQUENCE)?;
     append(writer, members.as_slice())
 }
 
 /// Appends an Extension (RFC 5280 4.1), `critical` only where it is TRUE.
-fn append_extension(alloc: Global, writer: &mut Writer, item: &Extension) -> Result<(), TspFault>
+fn append_extension(
+    alloc: Global,
+    writer: &mut Writer,
+    item: &Extension<'_>,
+) -> Result<(), TspFault>
     requires { IsFormed (extension false (extension_view item.now)) }
     ensures ok { OnOk result (writer.new ≡ writer.old ++ encoding (extension false (extension_view item.now))) }
     ensures memory { IfErr result (λ fault. fault ≡ Memory) }
@@ -201,19 +187,23 @@ fn append_extension(alloc: Global, writer: &mut Writer, item: &Extension) -> Res
         item.identifier.content(),
     )?;
     append_flag(alloc, &mut members, item.critical)?;
-    append_value(alloc, &mut members, Tag::OCTET_STRING, &item.value)?;
+    append_value(alloc, &mut members, Tag::OCTET_STRING, item.value)?;
     wrap(&mut members, Tag::SEQUENCE)?;
     append(writer, members.as_slice())
 }
 
 /// Appends Extension after Extension.
-fn append_all(alloc: Global, writer: &mut Writer, extensions: &[Extension]) -> Result<(), TspFault>
-    requires { AreFormed (nodes (extension_nodes [] (map extension_view extensions.now))) }
-    ensures ok { OnOk result (writer.new ≡ writer.old ++ encodings (nodes (extension_nodes [] (map extension_view extensions.now)))) }
+fn append_all(
+    alloc: Global,
+    writer: &mut Writer,
+    extensions: Extensions<'_>,
+) -> Result<(), TspFault>
+    requires { AreFormed (nodes (extension_nodes [] extensions)) }
+    ensures ok { OnOk result (writer.new ≡ writer.old ++ encodings (nodes (extension_nodes [] extensions.entry))) }
     ensures memory { IfErr result (λ fault. fault ≡ Memory) }
 {
     for item in extensions {
-        append_extension(alloc, writer, item)?;
+        append_extension(alloc, writer, &item)?;
     }
     Ok(())
 }
@@ -223,10 +213,10 @@ fn append_extensions(
     alloc: Global,
     writer: &mut Writer,
     tag: Tag,
-    extensions: &[Extension],
+    extensions: Extensions<'_>,
 ) -> Result<(), TspFault>
-    requires { AreFormed (nodes (extensions_under tag.octet [] (map extension_view extensions.now))) }
-    ensures ok { OnOk result (writer.new ≡ writer.old ++ encodings (nodes (extensions_under tag.octet [] (map extension_view extensions.now)))) }
+    requires { AreFormed (nodes (extensions_under tag.octet [] extensions)) }
+    ensures ok { OnOk result (writer.new ≡ writer.old ++ encodings (nodes (extensions_under tag.octet [] extensions.entry))) }
     ensures memory { IfErr result (λ fault. fault ≡ Memory) }
 {
     if extensions.is_empty() {
@@ -239,7 +229,11 @@ fn append_extensions(
 }
 
 /// Appends an INTEGER where there is one.
-fn append_nonce(alloc: Global, writer: &mut Writer, nonce: &Option<Integer>) -> Result<(), TspFault>
+fn append_nonce(
+    alloc: Global,
+    writer: &mut Writer,
+    nonce: &Option<Integer<'_>>,
+) -> Result<(), TspFault>
     requires { AreFormed (nodes (optional integer nonce.now)) }
     ensures ok { OnOk result (writer.new ≡ writer.old ++ encodings (nodes (optional integer nonce.now))) }
     ensures memory { IfErr result (λ fault. fault ≡ Memory) }
@@ -254,7 +248,7 @@ fn append_nonce(alloc: Global, writer: &mut Writer, nonce: &Option<Integer>) -> 
 /// extensions only where there is one, `critical` only where it is TRUE. The caller hands in parts within their ranges,
 /// of which the TSTInfo is a lawful value; `requests_have_one_reading` says so of what answers a request. Refused only for
 /// want of memory, as `Memory`.
-pub fn write_tst(alloc: Global, tst: &TstInfo) -> Result<Vec<u8>, TspFault>
+pub fn write_tst(alloc: Global, tst: &TstInfo<'_>) -> Result<Vec<u8>, TspFault>
     requires ranges { IsTst (tst_view tst.now) }
     requires lawful { IsLawful (tst_info (tst_view tst.now)) }
     ensures text { IfOk result (λ octets. octets.items ≡ encoding (tst_info (tst_view tst.now))) }
@@ -274,13 +268,17 @@ pub fn write_tst(alloc: Global, tst: &TstInfo) -> Result<Vec<u8>, TspFault>
     append_accuracy(alloc, &mut members, tst.accuracy)?;
     append_flag(alloc, &mut members, tst.ordering)?;
     append_nonce(alloc, &mut members, &tst.nonce)?;
-    append_extensions(alloc, &mut members, EXTENSIONS, &tst.extensions)?;
+    append_extensions(alloc, &mut members, TST_EXTENSIONS, tst.extensions.again())?;
     wrap(&mut members, Tag::SEQUENCE)?;
     Ok(members.into_octets())
 }
 
 /// Appends an OBJECT IDENTIFIER where there is one.
-fn append_policy(alloc: Global, writer: &mut Writer, policy: &Option<Oid>) -> Result<(), TspFault>
+fn append_policy(
+    alloc: Global,
+    writer: &mut Writer,
+    policy: &Option<ObjectIdentifier<'_>>,
+) -> Result<(), TspFault>
     requires { AreFormed (nodes (optional object_identifier policy.now)) }
     ensures ok { OnOk result (writer.new ≡ writer.old ++ encodings (nodes (optional object_identifier policy.now))) }
     ensures memory { IfErr result (λ fault. fault ≡ Memory) }
@@ -293,9 +291,9 @@ fn append_policy(alloc: Global, writer: &mut Writer, policy: &Option<Oid>) -> Re
 
 /// Writes a request without stated FALSEs (RFC 3161 2.4.1). The caller hands in a request that is a lawful value so; one
 /// that `read_request` read is. Refused only for want of memory, as `Memory`.
-pub fn write_request(alloc: Global, request: &Request) -> Result<Vec<u8>, TspFault>
-    requires { IsLawful (tsp_request unstated (request_view request.now)) }
-    ensures text { IfOk result (λ octets. octets.items ≡ encoding (tsp_request unstated (request_view request.now))) }
+pub fn write_request(alloc: Global, request: &Request<'_>) -> Result<Vec<u8>, TspFault>
+    requires { IsLawful (time_stamp_req unstated (request_view request.now)) }
+    ensures text { IfOk result (λ octets. octets.items ≡ encoding (time_stamp_req unstated (request_view request.now))) }
     ensures memory { IfErr result (λ fault. fault ≡ Memory) }
 {
     let mut members = Writer::new(alloc);
@@ -304,7 +302,12 @@ pub fn write_request(alloc: Global, request: &Request) -> Result<Vec<u8>, TspFau
     append_policy(alloc, &mut members, &request.policy)?;
     append_nonce(alloc, &mut members, &request.nonce)?;
     append_flag(alloc, &mut members, request.cert_req)?;
-    append_extensions(alloc, &mut members, REQUEST_EXTENSIONS, &request.extensions)?;
+    append_extensions(
+        alloc,
+        &mut members,
+        REQUEST_EXTENSIONS,
+        request.extensions(),
+    )?;
     wrap(&mut members, Tag::SEQUENCE)?;
     Ok(members.into_octets())
 }

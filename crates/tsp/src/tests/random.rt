@@ -127,7 +127,7 @@ fn request(alloc: Global, rng: &mut Pcg32) -> Result<Writer, DerFault> {
 /// Whether a request is written as it was read.
 fn is_written_again(alloc: Global, octets: &[u8]) -> Result<bool, TspFault> {
     requests_have_one_reading();
-    let request = read_request(alloc, octets)?;
+    let request = read_request(octets)?;
     let written = write_request(alloc, &request)?;
     Ok(written.as_slice() == octets)
 }
@@ -136,7 +136,7 @@ fn is_written_again(alloc: Global, octets: &[u8]) -> Result<bool, TspFault> {
 fn is_read_again(
     alloc: Global,
     octets: &[u8],
-    policy: Oid,
+    policy: &Oid,
     serial: u64,
     gen_time: GenTime,
     accuracy: u32,
@@ -148,10 +148,16 @@ fn is_read_again(
     requires most_accuracy { accuracy ≤ 1000000 }
 {
     requests_have_one_reading();
-    let request = read_request(alloc, octets)?;
-    let tst = request.into_tst_info(policy, serial, gen_time, accuracy, ordering);
+    let request = read_request(octets)?;
+    let tst = request.into_tst_info(
+        ObjectIdentifier::of(policy),
+        serial,
+        gen_time,
+        accuracy,
+        ordering,
+    );
     let written = write_tst(alloc, &tst)?;
-    let read = read_tst(alloc, &written)?;
+    let read = read_tst(&written)?;
     let same = read.serial == serial
         && read.gen_time == gen_time
         && read.accuracy == accuracy
@@ -183,7 +189,7 @@ fn reads_random_tst_infos_again(rt: HostRuntime) -> Result<(), Fail> {
         let same = is_read_again(
             rt.alloc(),
             octets.as_slice(),
-            policy,
+            &policy,
             serial,
             gen_time,
             accuracy,

@@ -1,8 +1,8 @@
-use Rattle.std.proofs.Common.{[], ◌++◌, map, length, arith, ap, ◌∙◌}
+use Rattle.std.proofs.Common.{[], ◌++◌, length, arith, ap, ◌∙◌}
 use Rattle.der.specs.Node.{element, encodings}
 use Rattle.der.specs.Tree.{nodes}
 use Rattle.tsp.specs.Request.{extensions_under}
-use Rattle.tsp.specs.View.{request_view, extension_view}
+use Rattle.tsp.specs.View.{request_view}
 use Rattle.tsp.proofs.RequestText.{request_text}
 use Rattle.tsp.proofs.writing.write_request.Goals as goal
 
@@ -11,7 +11,7 @@ pub wrap-requires : goal.wrap-requires
 wrap-requires c =
     let text = request_text (request_view c.args.request.now) _ _ _ _ _ _ _ c.new-members.ensures (c.in_ok-append_value.ensures.ok ∙ ap (λ x. c.new-members.result ++ element 2 x) c.content.ensures) c.in_ok-append_imprint.ensures.ok
     c.in_ok-append_policy.ensures.ok c.in_ok-append_nonce.ensures.ok c.in_ok-append_flag.ensures.ok
-    (c.in_ok-append_extensions.ensures.ok ∙ ap (λ xs. c.append_flag.new.writer ++ encodings (nodes (extensions_under 160 [] (map extension_view xs)))) c.deref.ensures.value) in
+    (c.in_ok-append_extensions.ensures.ok ∙ ap (λ xs. c.append_flag.new.writer ++ encodings (nodes (extensions_under 160 [] xs))) c.extensions.ensures) in
     omega (arith, ap length text, c.requires.formed.3)
 
 -- the parts, one after the other, under the tag of a SEQUENCE
@@ -19,5 +19,5 @@ pub returns-clause-text : goal.returns-clause-text
 returns-clause-text c =
     let text = request_text (request_view c.args.request.now) _ _ _ _ _ _ _ c.new-members.ensures (c.in_ok-append_value.ensures.ok ∙ ap (λ x. c.new-members.result ++ element 2 x) c.content.ensures) c.in_ok-append_imprint.ensures.ok
     c.in_ok-append_policy.ensures.ok c.in_ok-append_nonce.ensures.ok c.in_ok-append_flag.ensures.ok
-    (c.in_ok-append_extensions.ensures.ok ∙ ap (λ xs. c.append_flag.new.writer ++ encodings (nodes (extensions_under 160 [] (map extension_view xs)))) c.deref.ensures.value) in
+    (c.in_ok-append_extensions.ensures.ok ∙ ap (λ xs. c.append_flag.new.writer ++ encodings (nodes (extensions_under 160 [] xs))) c.extensions.ensures) in
     c.into_octets.ensures ∙ c.in_ok-wrap.ensures.ok ∙ ap (element 48) text
