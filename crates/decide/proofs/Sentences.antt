@@ -19,10 +19,8 @@ use Rattle.policy.specs.declared.entries.TsaPolicy.{TsaPolicy}
 use Rattle.policy.specs.declared.policy.Policy.{Policy}
 use Rattle.tsp.specs.Rules.{AlgorithmValue}
 use Rattle.tsp.specs.Request.{ExtensionValue}
-use Rattle.tsp.specs.View as tsp_view
-use Rattle.tsp.specs.declared.imprint.Extension as tsp
 use Rattle.decide.specs.Rules.{algorithms_of, IsAccepted, KnowsExtension, AreDistinct}
-use Rattle.decide.specs.Tests.{lists_algorithm, knows_extension, knows_extensions, are_distinct}
+use Rattle.decide.specs.Tests.{lists_algorithm, knows_extension, knows_extensions, stands_once, stand_once}
 use Rattle.decide.proofs.Lists.{contains_here, contains_there, contains_none, contains_first_or_other, decides_any, decides_all, decides_each, decides_found, found_passes, map_id}
 
 -- the contents of an object identifier tell it
@@ -112,43 +110,22 @@ decides_lists one algorithms content identifier e p =
 decides_le : (a b : ℕ) → Decides (nat_le a b) (a ≤ b)
 decides_le a b = (leb-true a b, le-leb a b)
 
-decides_knows : OneContent → (policy : Policy) (p : TsaPolicy) (e : tsp.Extension)
-    → Decides (knows_extension policy.extensions.items p e) (KnowsExtension (policy_view policy) (tsa_policy_view p) (tsp_view.extension_view e))
+decides_knows : OneContent → (policy : Policy) (p : TsaPolicy) (e : ExtensionValue)
+    → Decides (knows_extension policy.extensions.items p e) (KnowsExtension (policy_view policy) (tsa_policy_view p) e)
 decides_knows one policy p e =
     Decides-like (knows_extension policy.extensions.items p e) (λ w. (w.0, w.1, w.2.0, w.2.1.0, w.2.1.1)) (λ w. (w.0, w.1, (w.2, (w.3, w.4))))
     (decides_any extension_view
     (λ x. bytes_eq (oid_content x.oid) (oid_content e.identifier)
-    && (is_among (map string_bytes p.extensions.items) (string_bytes x.name) && nat_le (length e.value.items) x.max_length))
-    (λ x. (x.oid ≡ e.identifier) × (Contains (tsa_policy_view p).extensions x.name × (length e.value.items ≤ x.max_length)))
+    && (is_among (map string_bytes p.extensions.items) (string_bytes x.name) && nat_le (length e.value) x.max_length))
+    (λ x. (x.oid ≡ e.identifier) × (Contains (tsa_policy_view p).extensions x.name × (length e.value ≤ x.max_length)))
     (λ x. Decides-and _ _ (decides_oid one x.oid e.identifier (oid_content e.identifier) refl)
-    (Decides-and _ _ (decides_among (map string_bytes p.extensions.items) (string_bytes x.name)) (decides_le (length e.value.items) x.max_length)))
+    (Decides-and _ _ (decides_among (map string_bytes p.extensions.items) (string_bytes x.name)) (decides_le (length e.value) x.max_length)))
     policy.extensions.items)
 
-pub decides_all_known : OneContent → (policy : Policy) (es : List tsp.Extension) (p : TsaPolicy)
-    → Decides (knows_extensions policy.extensions.items p es)
-    (AllByRecursion (KnowsExtension (policy_view policy) (tsa_policy_view p)) (map tsp_view.extension_view es))
-decides_all_known one policy es p =
-    decides_each tsp_view.extension_view (knows_extension policy.extensions.items p) (KnowsExtension (policy_view policy) (tsa_policy_view p))
-    (decides_knows one policy p) es
-
-identifier_in : OneContent → (e : tsp.Extension) (es : List tsp.Extension)
-    → Decides (list_any (λ other. bytes_eq (oid_content other.identifier) (oid_content e.identifier)) es)
-    (Contains (map (λ x. x.identifier) (map tsp_view.extension_view es)) e.identifier)
-identifier_in one e es =
-    let identifier : tsp.Extension → List ℕ = λ x. x.identifier in
-    let found =
-    decides_any identifier (λ other. bytes_eq (oid_content other.identifier) (oid_content e.identifier)) (λ y. y ≡ e.identifier)
-    (λ x. decides_oid one x.identifier e.identifier (oid_content e.identifier) refl) es in
-    let names = map_map (λ (x : ExtensionValue). x.identifier) tsp_view.extension_view es in
-    Decides-like (list_any (λ other. bytes_eq (oid_content other.identifier) (oid_content e.identifier)) es)
-    (λ w. subst (λ xs. Contains xs e.identifier) (sym names) (subst (λ y. Contains (map identifier es) y) w.2 w.1))
-    (λ h. (e.identifier, subst (λ xs. Contains xs e.identifier) names h, refl))
-    found
-
-pub decides_distinct : OneContent → (es : List tsp.Extension)
-    → Decides (are_distinct es) (AreDistinct (map (λ x. x.identifier) (map tsp_view.extension_view es)))
-decides_distinct one [] = (λ h. tt, λ w. refl)
-decides_distinct one (e ∷ es) = Decides-and _ _ (Decides-not _ (identifier_in one e es)) (decides_distinct one es)
+pub decides_all_known : OneContent → (policy : Policy) (es : List ExtensionValue) (p : TsaPolicy)
+    → Decides (knows_extensions policy.extensions.items p es) (AllByRecursion (KnowsExtension (policy_view policy) (tsa_policy_view p)) es)
+decides_all_known one policy [] p = (λ h. tt, λ w. refl)
+decides_all_known one policy (e ∷ es) p = Decides-and _ _ (decides_knows one policy p e) (decides_all_known one policy es p)
 
 wanted_at : {P : Type 0} (asked given : Bool) → asked ≡ true → Decides given P → (asked ≡ false) ⊎ P → given ≡ true
 wanted_at asked given e d (inl off) = let bad : true ≡ false = sym e ∙ off in cc bad
@@ -158,55 +135,132 @@ wanted_at asked given e d (inr p) = d.1 p
 pub wanted_given : {P : Type 0} (asked given : Bool) → asked ≡ true → Decides given P → Decides given ((asked ≡ false) ⊎ P)
 wanted_given asked given e d = (λ t. inr (d.0 t), λ w. wanted_at asked given e d w)
 
-abbrev pub Known : Policy → List ℕ → List ExtensionValue → Type 0
-Known policy oid values =
-    (p : TsaPolicyValue) × (Contains (map tsa_policy_view policy.policies.items) p × (Some oid ≡ Some p.oid))
-    × AllByRecursion (KnowsExtension (policy_view policy) p) values
+-- ---- no identifier stands twice
 
-knowing : OneContent → (policy : Policy) (es : List tsp.Extension) (content oid : List ℕ) → content ≡ oid_content oid
-    → Decides (list_any (λ p. bytes_eq (oid_content p.oid) content && knows_extensions policy.extensions.items p es) policy.policies.items)
-    (Known policy oid (map tsp_view.extension_view es))
-knowing one policy es content oid e =
-    asked_any one policy.policies.items content oid e (λ p. knows_extensions policy.extensions.items p es)
-    (λ p. AllByRecursion (KnowsExtension (policy_view policy) p) (map tsp_view.extension_view es)) (decides_all_known one policy es)
+absent_from : (x oid : List ℕ) (xs : List (List ℕ)) → (x ≡ oid → ⊥) × (Contains xs oid → ⊥) → (x ≡ oid) ⊎ Contains xs oid → ⊥
+absent_from x oid xs w (inl e) = w.0 e
+absent_from x oid xs w (inr h) = w.1 h
 
-distinct_at : {P Q : Type 0} (all : List tsp.Extension) (x : tsp.Extension) (es : List tsp.Extension) → all ≡ x ∷ es → (answer : Bool)
-    → (Q → answer ≡ true) → (map tsp_view.extension_view all ≡ []) ⊎ (P × Q) → answer ≡ true
-distinct_at all x es e answer f (inl none) = cc (none, e)
-distinct_at all x es e answer f (inr w) = f w.1
+-- an identifier that was seen stands no more
+decides_absent : OneContent → (oid : List ℕ) (es : List ExtensionValue)
+    → Decides (stands_once (oid_content oid) true es) (Contains (map (λ e. e.identifier) es) oid → ⊥)
+decides_absent one oid [] = (λ t h. contains_none oid h, λ f. refl)
+decides_absent one oid (e ∷ es) =
+    let others = map (λ (x : ExtensionValue). x.identifier) es in
+    Decides-like (stands_once (oid_content oid) true (e ∷ es))
+    (λ w h. absent_from e.identifier oid others w (contains_first_or_other e.identifier oid others h))
+    (λ f. (
+      λ same. f (subst (λ y. Contains (e.identifier ∷ others) y) same (contains_here e.identifier others)),
+      λ h. f (contains_there e.identifier oid others h),
+    ))
+    (Decides-and _ _ (Decides-not _ (decides_oid one e.identifier oid (oid_content oid) refl)) (decides_absent one oid es))
 
--- there are extensions, and the policy knows them
-pub extensions_known : OneContent → (policy : Policy) (es : List tsp.Extension) (content oid : List ℕ) → content ≡ oid_content oid
-    → (values : List ExtensionValue) → map tsp_view.extension_view es ≡ values → (length es == 0) ≡ false
-    → (answer : Bool) → answer ≡ list_any (λ p. bytes_eq (oid_content p.oid) content && knows_extensions policy.extensions.items p es) policy.policies.items
-    → answer ≡ true → (distinct : Bool) → distinct ≡ are_distinct es
-    → Decides distinct ((values ≡ []) ⊎ (Known policy oid values × AreDistinct (map (λ x. x.identifier) values)))
-extensions_known one policy [] content oid e values same some answer is knows distinct is_distinct = cc some
-extensions_known one policy (x ∷ es) content oid e values same some answer is knows distinct is_distinct =
-    let known = (knowing one policy (x ∷ es) content oid e).0 (sym is ∙ knows) in
-    let apart = decides_distinct one (x ∷ es) in
-    rw (← same) (
-      λ t. inr (known, apart.0 (sym is_distinct ∙ t)),
-      λ w. distinct_at (x ∷ es) x es refl distinct (λ k. is_distinct ∙ apart.1 k) w,
+once_at : (identifier : List ℕ) (es : List ExtensionValue) (here : Bool) → (stands_once identifier true es ≡ true → stands_once identifier false es ≡ true)
+    → (not here && stands_once identifier true es) ≡ true → stands_once identifier here es ≡ true
+once_at identifier es true ih t = absurd (cc t)
+once_at identifier es false ih t = ih t
+
+-- one that doesn't stand stands once at most
+once_where_absent : (identifier : List ℕ) (es : List ExtensionValue) → stands_once identifier true es ≡ true → stands_once identifier false es ≡ true
+once_where_absent identifier [] t = refl
+once_where_absent identifier (e ∷ es) t =
+    once_at identifier es (bytes_eq (oid_content e.identifier) identifier) (once_where_absent identifier es) t
+
+once_after : (identifier : List ℕ) (es : List ExtensionValue) (here : Bool) → stands_once identifier here es ≡ true → stands_once identifier false es ≡ true
+once_after identifier es true t = once_where_absent identifier es t
+once_after identifier es false t = t
+
+-- each of the known identifiers stands once at most
+abbrev AreOnce : List record_of.ExtensionValue → List ExtensionValue → Type 0
+AreOnce known es = (x : record_of.ExtensionValue) → Contains known x → stands_once (oid_content x.oid) false es ≡ true
+
+seen_here : (identifier : List ℕ) (es : List ExtensionValue) (here : Bool) → here ≡ true → stands_once identifier here es ≡ true → stands_once identifier true es ≡ true
+seen_here identifier es true h t = t
+seen_here identifier es false h t = absurd (cc h)
+
+distinct_where_once : OneContent → (file : PolicyValue) (p : TsaPolicyValue) (es : List ExtensionValue) → AllByRecursion (KnowsExtension file p) es
+    → AreOnce file.extensions es → AreDistinct (map (λ e. e.identifier) es)
+distinct_where_once one file p [] known once = tt
+distinct_where_once one file p (e ∷ es) known once =
+    let x = known.0.0 in
+    let same : x.oid ≡ e.identifier = known.0.2 in
+    let here : bytes_eq (oid_content e.identifier) (oid_content x.oid) ≡ true = (decides_oid one e.identifier x.oid (oid_content x.oid) refl).1 (sym same) in
+    let seen = seen_here (oid_content x.oid) es (bytes_eq (oid_content e.identifier) (oid_content x.oid)) here (once x known.0.1) in
+    let absent = (decides_absent one x.oid es).0 seen in (
+      λ h. absent (subst (λ y. Contains (map (λ (z : ExtensionValue). z.identifier) es) y) (sym same) h),
+      distinct_where_once one file p es known.1 (λ y h. once_after (oid_content y.oid) es (bytes_eq (oid_content e.identifier) (oid_content y.oid)) (once y h)),
     )
 
-unknown_at : {P Q : Type 0} (x : tsp.Extension) (es : List tsp.Extension) (answer : Bool)
-    → (P → answer ≡ true) → (map tsp_view.extension_view (x ∷ es) ≡ []) ⊎ (P × Q) → answer ≡ true
-unknown_at x es answer f (inl none) = cc none
-unknown_at x es answer f (inr w) = f w.0
+once_where_distinct_at : OneContent → (oid : List ℕ) (e : ExtensionValue) (es : List ExtensionValue) → (Contains (map (λ x. x.identifier) es) e.identifier → ⊥)
+    → stands_once (oid_content oid) false es ≡ true → (here : Bool) → bytes_eq (oid_content e.identifier) (oid_content oid) ≡ here
+    → stands_once (oid_content oid) here es ≡ true
+once_where_distinct_at one oid e es absent ih true h =
+    let same : e.identifier ≡ oid = (decides_oid one e.identifier oid (oid_content oid) refl).0 h in
+    (decides_absent one oid es).1 (λ k. absent (subst (λ y. Contains (map (λ (x : ExtensionValue). x.identifier) es) y) (sym same) k))
+once_where_distinct_at one oid e es absent ih false h = ih
+
+once_where_distinct : OneContent → (oid : List ℕ) (es : List ExtensionValue) → AreDistinct (map (λ e. e.identifier) es)
+    → stands_once (oid_content oid) false es ≡ true
+once_where_distinct one oid [] w = refl
+once_where_distinct one oid (e ∷ es) w =
+    once_where_distinct_at one oid e es w.0 (once_where_distinct one oid es w.1) (bytes_eq (oid_content e.identifier) (oid_content oid)) refl
+
+-- where each is known, it suffices to look at the known ones
+decides_distinct : OneContent → (policy : Policy) (p : TsaPolicyValue) (es : List ExtensionValue) → AllByRecursion (KnowsExtension (policy_view policy) p) es
+    → Decides (stand_once policy.extensions.items es) (AreDistinct (map (λ e. e.identifier) es))
+decides_distinct one policy p es known =
+    Decides-like (stand_once policy.extensions.items es)
+    (distinct_where_once one (policy_view policy) p es known)
+    (λ distinct x h. once_where_distinct one x.oid es distinct)
+    (decides_all extension_view (λ x. stands_once (oid_content x.oid) false es) (λ x. stands_once (oid_content x.oid) false es ≡ true)
+    (λ x. (λ t. t, λ t. t)) policy.extensions.items)
+
+-- ---- the rule on extensions
+
+abbrev pub Known : Policy → List ℕ → List ExtensionValue → Type 0
+Known policy oid es =
+    (p : TsaPolicyValue) × (Contains (map tsa_policy_view policy.policies.items) p × (Some oid ≡ Some p.oid))
+    × AllByRecursion (KnowsExtension (policy_view policy) p) es
+
+knowing : OneContent → (policy : Policy) (es : List ExtensionValue) (content oid : List ℕ) → content ≡ oid_content oid
+    → Decides (list_any (λ p. bytes_eq (oid_content p.oid) content && knows_extensions policy.extensions.items p es) policy.policies.items)
+    (Known policy oid es)
+knowing one policy es content oid e =
+    asked_any one policy.policies.items content oid e (λ p. knows_extensions policy.extensions.items p es)
+    (λ p. AllByRecursion (KnowsExtension (policy_view policy) p) es) (decides_all_known one policy es)
+
+distinct_at : {P Q : Type 0} (es : List ExtensionValue) → (es ≡ [] → ⊥) → (answer : Bool)
+    → (Q → answer ≡ true) → (es ≡ []) ⊎ (P × Q) → answer ≡ true
+distinct_at es some answer f (inl none) = absurd (some none)
+distinct_at es some answer f (inr w) = f w.1
+
+-- there are extensions, and the policy knows them
+pub extensions_known : OneContent → (policy : Policy) (es : List ExtensionValue) (content oid : List ℕ) → content ≡ oid_content oid
+    → (es ≡ [] → ⊥)
+    → (answer : Bool) → answer ≡ list_any (λ p. bytes_eq (oid_content p.oid) content && knows_extensions policy.extensions.items p es) policy.policies.items
+    → answer ≡ true → (distinct : Bool) → distinct ≡ stand_once policy.extensions.items es
+    → Decides distinct ((es ≡ []) ⊎ (Known policy oid es × AreDistinct (map (λ x. x.identifier) es)))
+extensions_known one policy es content oid e some answer is knows distinct is_distinct =
+    let known = (knowing one policy es content oid e).0 (sym is ∙ knows) in
+    let apart = decides_distinct one policy known.0 es known.2 in (
+      λ t. inr (known, apart.0 (sym is_distinct ∙ t)),
+      λ w. distinct_at es some distinct (λ k. is_distinct ∙ apart.1 k) w,
+    )
+
+unknown_at : {P Q : Type 0} (es : List ExtensionValue) → (es ≡ [] → ⊥) → (answer : Bool)
+    → (P → answer ≡ true) → (es ≡ []) ⊎ (P × Q) → answer ≡ true
+unknown_at es some answer f (inl none) = absurd (some none)
+unknown_at es some answer f (inr w) = f w.0
 
 -- there are extensions, and no policy knows them
-pub extensions_unknown : OneContent → (policy : Policy) (es : List tsp.Extension) (content oid : List ℕ) → content ≡ oid_content oid
-    → (values : List ExtensionValue) → map tsp_view.extension_view es ≡ values → (length es == 0) ≡ false
+pub extensions_unknown : OneContent → (policy : Policy) (es : List ExtensionValue) (content oid : List ℕ) → content ≡ oid_content oid
+    → (es ≡ [] → ⊥)
     → (answer : Bool) → answer ≡ list_any (λ p. bytes_eq (oid_content p.oid) content && knows_extensions policy.extensions.items p es) policy.policies.items
-    → answer ≡ false
-    → Decides answer ((values ≡ []) ⊎ (Known policy oid values × AreDistinct (map (λ x. x.identifier) values)))
-extensions_unknown one policy [] content oid e values same some answer is no_policy = cc some
-extensions_unknown one policy (x ∷ es) content oid e values same some answer is no_policy =
-    let known = knowing one policy (x ∷ es) content oid e in
-    rw (← same) (
+    → answer ≡ false → Decides answer ((es ≡ []) ⊎ (Known policy oid es × AreDistinct (map (λ x. x.identifier) es)))
+extensions_unknown one policy es content oid e some answer is no_policy =
+    let known = knowing one policy es content oid e in (
       λ t. let bad : true ≡ false = sym t ∙ no_policy in cc bad,
-      λ w. unknown_at x es answer (λ k. is ∙ known.1 k) w,
+      λ w. unknown_at es some answer (λ k. is ∙ known.1 k) w,
     )
 
 -- the contents that a look-up answered are an object identifier's

@@ -21,7 +21,11 @@ use tsp::{Request, Rule};
 
 /// The first of the rules 2 to 9 that a request fails; none where it fails none of them. They speak of the policy file,
 /// the account and the request alone (RFC 3161 2.4.1).
-pub fn judge_request(policy: &Policy, account: Option<&Account>, request: &Request) -> Option<Rule>
+pub fn judge_request(
+    policy: &Policy,
+    account: Option<&Account>,
+    request: &Request<'_>,
+) -> Option<Rule>
     ensures first { IsJudged (policy_view policy.now) (account_asked account.entry) (request_view request.now) result }
     ensures number { IfSome result (λ rule. (2 ≤ number_of rule) × (number_of rule ≤ 9)) }
 {
@@ -35,7 +39,7 @@ pub fn judge_request(policy: &Policy, account: Option<&Account>, request: &Reque
 fn judged<'p>(
     policy: &'p Policy,
     account: Option<&Account>,
-    request: &Request,
+    request: &Request<'_>,
 ) -> Result<&'p Oid, Rule>
     ensures { MatchResult result
         (λ oid. IsJudged (policy_view policy.now) (account_asked account.entry) (request_view request.now) None
@@ -80,7 +84,7 @@ fn judged<'p>(
 pub fn decide<'p>(
     policy: &'p Policy,
     account: Option<&Account>,
-    request: &Request,
+    request: &Request<'_>,
     facts: &Facts,
 ) -> Verdict<'p>
     ensures verdict { IsVerdict (policy_view policy.now) (account_asked account.entry)

@@ -1,21 +1,21 @@
 //! The rules, each judged by itself.
-ghost use Rattle.std.specs.Prelude.{◌≡◌, ◌↔◌, ◌==◌, ◌||◌, ◌&&◌, not, Some, option_map, map, string_bytes, IsTrue, MatchOption};
+ghost use Rattle.std.specs.Prelude.{◌≡◌, ◌↔◌, ◌==◌, ◌||◌, ◌&&◌, not, false, Some, option_map, map, string_bytes, IsTrue, MatchOption};
 ghost use Rattle.std.specs.List.{list_all, list_any};
 ghost use Rattle.std.specs.Str.{bytes_eq};
 ghost use Rattle.der.specs.ObjectIdentifier.{oid_content};
 ghost use Rattle.policy.specs.Kinds.{is_among};
 ghost use Rattle.policy.specs.View.{policy_view, account_view};
 ghost use Rattle.tsp.specs.Rules.{HasKnownAlgorithm, HasAlgorithmLength};
-ghost use Rattle.tsp.specs.View.{request_view};
+ghost use Rattle.tsp.specs.View.{extension_view, request_view};
 ghost use Rattle.decide.specs.Rules.{algorithms_of, policy_asked, IsAccepted, AllowsAlgorithm, AllowsExtensions, GivesCertificate, IsWithinQuota};
-ghost use Rattle.decide.specs.Tests.{lists_algorithm, knows_extension, knows_extensions, are_distinct};
+ghost use Rattle.decide.specs.Tests.{lists_algorithm, knows_extension, knows_extensions, stands_once, stand_once};
 
 use der::{Oid, oids_have_one_content_and_text};
 use policy::{Account, Algorithm, Extension as KnownExtension, Policy, TsaPolicy};
-use tsp::{Extension, Request};
+use tsp::{Extension, Extensions, Request};
 
 /// Whether an algorithm of the file has the request's identifier, with plain parameters.
-pub(crate) fn has_known_algorithm(policy: &Policy, request: &Request) -> bool
+pub(crate) fn has_known_algorithm(policy: &Policy, request: &Request<'_>) -> bool
     ensures { IsTrue result ↔ HasKnownAlgorithm (algorithms_of (policy_view policy.now)) (request_view request.now) }
 {
     oids_have_one_content_and_text();
@@ -23,7 +23,7 @@ pub(crate) fn has_known_algorithm(policy: &Policy, request: &Request) -> bool
 }
 
 /// Whether the hash has the length of each algorithm of the file with the request's identifier.
-pub(crate) fn has_algorithm_length(policy: &Policy, request: &Request) -> bool
+pub(crate) fn has_algorithm_length(policy: &Policy, request: &Request<'_>) -> bool
     ensures { IsTrue result ↔ HasAlgorithmLength (algorithms_of (policy_view policy.now)) (request_view request.now) }
 {
     oids_have_one_content_and_text();
@@ -56,7 +56,11 @@ fn has_name(names: &[String], name: &str) -> bool
 
 /// The policy that is asked for, by the contents octets of its object identifier: the request's, and else the account's
 /// default.
-fn policy_asked<'a>(policy: &'a Policy, account: &Account, request: &'a Request) -> Option<&'a [u8]>
+fn policy_asked<'a>(
+    policy: &'a Policy,
+    account: &Account,
+    request: &Request<'a>,
+) -> Option<&'a [u8]>
     ensures { option_map (λ content. content.now) result
         ≡ option_map oid_content (policy_asked (policy_view policy.now) (Some (account_view account.now))
         (request_view request.now)) }
@@ -71,7 +75,7 @@ fn policy_asked<'a>(policy: &'a Policy, account: &Account, request: &'a Request)
 pub(crate) fn accepted_policy<'p>(
     policy: &'p Policy,
     account: &Account,
-    request: &Request,
+    request: &Request<'_>,
 ) -> Option<&'p Oid>
     ensures { MatchOption result
         (IsAccepted (policy_view policy.now) (Some (account_view account.now))
@@ -100,7 +104,7 @@ fn is_accepted(policies: &[TsaPolicy], names: &[String], content: &[u8]) -> bool
 }
 
 /// Whether the policy allows the request's algorithm.
-pub(crate) fn allows_algorithm(policy: &Policy, oid: &Oid, request: &Request) -> bool
+pub(crate) fn allows_algorithm(policy: &Policy, oid: &Oid, request: &Request<'_>) -> bool
     ensures { IsTrue result ↔ AllowsAlgorithm (policy_view policy.now) (Some oid.now) (request_view request.now) }
 {
     oids_have_one_content_and_text();
@@ -128,41 +132,37 @@ fn lists_algorithm(algorithms: &[Algorithm], identifier: &[u8], tsa_policy: &Tsa
 }
 
 /// Whether there are no extensions, or the policy knows each and none stands twice.
-pub(crate) fn allows_extensions(policy: &Policy, oid: &Oid, request: &Request) -> bool
+pub(crate) fn allows_extensions(policy: &Policy, oid: &Oid, request: &Request<'_>) -> bool
     ensures { IsTrue result ↔ AllowsExtensions (policy_view policy.now) (Some oid.now) (request_view request.now) }
 {
     oids_have_one_content_and_text();
     let extensions = request.extensions();
     extensions.is_empty()
-        || (are_known(policy, oid.content(), extensions) && are_distinct(extensions))
+        || (are_known(policy, oid.content(), &extensions)
+            && stand_once(&policy.extensions, &extensions))
 }
 
 /// Whether a policy with that object identifier knows each extension.
-fn are_known(policy: &Policy, content: &[u8], extensions: &[Extension]) -> bool
+fn are_known(policy: &Policy, content: &[u8], extensions: &Extensions<'_>) -> bool
     ensures { result ≡ list_any (λ p. bytes_eq (oid_content p.oid) content.now
         && knows_extensions policy.now.extensions.items p extensions.now)
         policy.now.policies.items }
 {
-    for tsa_policy in &policy.policies {
-        if tsa_policy.oid.content() == content
-            && knows_extensions(&policy.extensions, tsa_policy, extensions)
-        {
-            return true;
-        }
-    }
-    false
+    policy.policies.iter().any(|p| {
+        p.oid.content() == content && knows_extensions(&policy.extensions, p, extensions)
+    })
 }
 
 /// Whether a policy knows each extension.
 fn knows_extensions(
     known: &[KnownExtension],
     tsa_policy: &TsaPolicy,
-    extensions: &[Extension],
+    extensions: &Extensions<'_>,
 ) -> bool
     ensures { result ≡ knows_extensions known.now tsa_policy.now extensions.now }
 {
-    for extension in extensions {
-        if !knows_extension(known, tsa_policy, extension) {
+    for extension in extensions.again() {
+        if !knows_extension(known, tsa_policy, &extension) {
             return false;
         }
     }
@@ -170,48 +170,47 @@ fn knows_extensions(
 }
 
 /// Whether a policy lists a known extension with this identifier, and its value isn't too long.
-fn knows_extension(known: &[KnownExtension], tsa_policy: &TsaPolicy, extension: &Extension) -> bool
-    ensures { result ≡ knows_extension known.now tsa_policy.now extension.now }
+fn knows_extension(
+    known: &[KnownExtension],
+    tsa_policy: &TsaPolicy,
+    extension: &Extension<'_>,
+) -> bool
+    ensures { result ≡ knows_extension known.now tsa_policy.now (extension_view extension.now) }
 {
-    for entry in known {
-        if entry.oid.content() == extension.identifier.content()
-            && has_name(&tsa_policy.extensions, entry.name.as_str())
-            && extension.value.len() <= usize::from(entry.max_length)
-        {
-            return true;
-        }
-    }
-    false
+    known.iter().any(|x| {
+        x.oid.content() == extension.identifier.content()
+            && has_name(&tsa_policy.extensions, x.name.as_str())
+            && extension.value.len() <= usize::from(x.max_length)
+    })
 }
 
-/// Whether no identifier stands twice.
-fn are_distinct(extensions: &[Extension]) -> bool
-    ensures { result ≡ are_distinct extensions.now }
+/// Whether each known identifier stands once at most. Where each extension is known, none stands twice then; so the
+/// work grows as the number of extensions times that of the known ones, which the policy file bounds.
+fn stand_once(known: &[KnownExtension], extensions: &Extensions<'_>) -> bool
+    ensures { result ≡ stand_once known.now extensions.now }
 {
-    let mut rest = extensions;
-    while let Some((first, others)) = rest.split_first() {
-        if has_identifier(others, first.identifier.content()) {
+    known
+        .iter()
+        .all(|x| stands_once(x.oid.content(), extensions))
+}
+
+/// Whether one extension at most has this identifier.
+fn stands_once(identifier: &[u8], extensions: &Extensions<'_>) -> bool
+    ensures { result ≡ stands_once identifier.now false extensions.now }
+{
+    let mut seen = false;
+    for extension in extensions.again() {
+        let here = extension.identifier.content() == identifier;
+        if seen && here {
             return false;
         }
-        rest = others;
+        seen = seen || here;
     }
     true
 }
 
-/// Whether an extension has this identifier.
-fn has_identifier(extensions: &[Extension], identifier: &[u8]) -> bool
-    ensures { result ≡ list_any (λ e. bytes_eq (oid_content e.identifier) identifier.now) extensions.now }
-{
-    for extension in extensions {
-        if extension.identifier.content() == identifier {
-            return true;
-        }
-    }
-    false
-}
-
 /// Whether the certificate isn't asked for, or the policy gives it out.
-pub(crate) fn gives_certificate(policy: &Policy, oid: &Oid, request: &Request) -> bool
+pub(crate) fn gives_certificate(policy: &Policy, oid: &Oid, request: &Request<'_>) -> bool
     ensures { IsTrue result ↔ GivesCertificate (policy_view policy.now) (Some oid.now) (request_view request.now) }
 {
     oids_have_one_content_and_text();

@@ -137,7 +137,7 @@ const BASE: Case = Case {
 fn decided(
     policy: &Policy,
     name: Option<&str>,
-    request: &Request,
+    request: &Request<'_>,
     facts: &Facts,
 ) -> Result<(GenTime, bool), Rule> {
     let account = match name {
@@ -154,7 +154,7 @@ fn decided(
 fn is_met(alloc: Global, case: &Case) -> Result<bool, Fail> {
     let text = changed(alloc, case.change.0, case.change.1)?;
     let policy = Policy::from_text(alloc, text.as_str())?;
-    let request = read_request(alloc, case.request)?;
+    let request = read_request(case.request)?;
     let last_gen_time = match case.last {
         Some(micros) => Some(GenTime::from_micros(micros)?),
         None => None,
@@ -543,7 +543,7 @@ fn judges_the_clock(rt: HostRuntime) -> Result<(), Fail> {
 #[test]
 fn holds(rt: HostRuntime) -> Result<(), Fail> {
     let policy = Policy::from_text(rt.alloc(), FILE)?;
-    let request = read_request(rt.alloc(), PLAIN)?;
+    let request = read_request(PLAIN)?;
     let hold = Hold {
         from: 0,
         to: 1_000_000,
@@ -584,7 +584,7 @@ fn knows_its_own_accounts(rt: HostRuntime) -> Result<(), Fail> {
         "daily_quota = 1001\n[[account]]\nname = \"alice\"",
     )?;
     let other = Policy::from_text(rt.alloc(), text.as_str())?;
-    let request = read_request(rt.alloc(), PLAIN)?;
+    let request = read_request(PLAIN)?;
     assert_eq!(rt; judge_request(&policy, policy.anonymous(), &request), None);
     assert_eq!(rt;
         judge_request(&policy, other.anonymous(), &request),
