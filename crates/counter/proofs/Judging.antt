@@ -4,6 +4,7 @@ use Rattle.der.specs.Node.{encoding}
 use Rattle.tsp.specs.Request.{RequestValue, Spells}
 use Rattle.tsp.specs.Rejection.{number_of, rejection}
 use Rattle.tsp.specs.Rules.{IsSpelled, HasVersionOne, HasKnownAlgorithm, HasAlgorithmLength, IsFirstFailing}
+use Rattle.tsp.specs.RulesOfOctets.{to_octets, first_of_octets}
 use Rattle.tsp.specs.Tst.{tst_info}
 use Rattle.tsp.specs.declared.rule.Rule.{Rule}
 use Rattle.tsp.specs.declared.rule.Rule.TheVariants.{Spelling, Version, Account, Algorithm, HashLength, Policy, PolicyAlgorithm, Extensions, Certificate, Clock, Quota, System}
@@ -18,30 +19,11 @@ pub record IsOnlyRequest (query : List ℕ) (r : RequestValue) : Type 0 where
   pub short : length query ≤ 65536
 
 pub lifted : (query : List ℕ) (r : RequestValue) → IsOnlyRequest query r → (rule : Rule) → HoldsOf r rule → Holds query rule
-lifted query r h Spelling k = ((r, h.spelled), h.short)
-lifted query r h Version k = λ other s. let P : RequestValue → Type 0 = λ x. HoldsOf x Version in subst P (h.only other s) k
-lifted query r h Account k = λ other s. tt
-lifted query r h Algorithm k = λ other s. let P : RequestValue → Type 0 = λ x. HoldsOf x Algorithm in subst P (h.only other s) k
-lifted query r h HashLength k = λ other s. let P : RequestValue → Type 0 = λ x. HoldsOf x HashLength in subst P (h.only other s) k
-lifted query r h Policy k = λ other s. tt
-lifted query r h PolicyAlgorithm k = λ other s. tt
-lifted query r h Extensions k = λ other s. tt
-lifted query r h Certificate k = λ other s. tt
-lifted query r h Clock k = λ other s. tt
-lifted query r h Quota k = λ other s. tt
-lifted query r h System k = λ other s. tt
-
-pub lowered : (query : List ℕ) (r : RequestValue) → IsOnlyRequest query r → (rule : Rule) → Holds query rule → HoldsOf r rule
-lowered query r h Spelling k = tt
-lowered query r h rule k = k r h.spelled
+lifted query r h rule k = to_octets HoldsOf query r h.spelled h.only h.short rule k
 
 pub first_lifted : (query : List ℕ) (r : RequestValue) → IsOnlyRequest query r → (rule : Rule)
     → IsFirstFailing (HoldsOf r) rule → IsFirstFailing (Holds query) rule
-first_lifted query r h rule first =
-    record {
-      fails = λ k. first.fails (lowered query r h rule k);
-      before = λ earlier lower. lifted query r h earlier (first.before earlier lower);
-    }
+first_lifted query r h rule first = first_of_octets HoldsOf query r h.spelled h.only h.short tt rule first
 
 none_lower : (P : Rule → Type 0) (earlier : Rule) → number_of earlier < 1 → P earlier
 none_lower P Spelling h = absurd (omega arith)

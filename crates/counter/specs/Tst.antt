@@ -5,7 +5,7 @@ use Rattle.der.specs.Node.{encoding, IsLawful}
 use Rattle.gentime.specs.GenTime.{round_down}
 use Rattle.tsp.specs.Request.{RequestValue, Spells}
 use Rattle.tsp.specs.Rejection.{rejection}
-use Rattle.tsp.specs.Rules.{IsSpelled, HasVersionOne, HasKnownAlgorithm, HasAlgorithmLength, IsFirstFailing}
+use Rattle.tsp.specs.Rules.{HoldsOfOctets, HasVersionOne, HasKnownAlgorithm, HasAlgorithmLength, IsFirstFailing}
 use Rattle.tsp.specs.Tst.{TstValue, IsTst, tst_info}
 use Rattle.tsp.specs.declared.rule.Rule.{Rule}
 use Rattle.tsp.specs.declared.rule.Rule.TheVariants.{Spelling, Version, Account, Algorithm, HashLength, Policy, PolicyAlgorithm, Extensions, Certificate, Clock, Quota, System}
@@ -47,8 +47,7 @@ HoldsOf r System = Unit {0}
 
 -- Which rules hold of octets: that they are a request, and what holds of each request that they spell.
 abbrev pub Holds : List ℕ → Rule → Type 0
-Holds query Spelling = IsSpelled query
-Holds query rule = (r : RequestValue) → Spells query r → HoldsOf r rule
+Holds = HoldsOfOctets HoldsOf
 
 -- each rule holds, and the reply is the TSTInfo of the request that the octets spell
 pub record IsGranted (settings : SettingsValue) (query octets : List ℕ) : Type 0 where

@@ -10,7 +10,7 @@ use der::oids_have_one_content_and_text;
 use tsp::{Request, Rule};
 
 /// The first rule that the request fails; none where it fails no rule.
-pub fn first_failing(request: &Request) -> Option<Rule>
+pub fn first_failing(request: &Request<'_>) -> Option<Rule>
     ensures { MatchOption result ((rule : Rule) → HoldsOf (request_view request.now) rule)
         (λ rule. IsFirstFailing (HoldsOf (request_view request.now)) rule) }
 {
@@ -26,14 +26,14 @@ pub fn first_failing(request: &Request) -> Option<Rule>
     None
 }
 
-fn has_known_algorithm(request: &Request) -> bool
+fn has_known_algorithm(request: &Request<'_>) -> bool
     ensures { IsTrue result ↔ HasKnownAlgorithm five_algorithms (request_view request.now) }
 {
     oids_have_one_content_and_text();
     is_known(request.algorithm()) && request.has_plain_parameters()
 }
 
-fn has_algorithm_length(request: &Request) -> bool
+fn has_algorithm_length(request: &Request<'_>) -> bool
     ensures { IsTrue result ↔ HasAlgorithmLength five_algorithms (request_view request.now) }
 {
     oids_have_one_content_and_text();

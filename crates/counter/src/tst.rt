@@ -12,9 +12,12 @@ ghost use Rattle.counter.specs.Tst.{HasLawfulAnswers, IsReply, tst_of};
 
 use crate::rules::first_failing;
 use crate::settings::Settings;
-use der::Oid;
+use der::oids_have_one_content_and_text;
 use std::alloc::Global;
-use tsp::{Rejection, Request, Rule, TspFault, read_request, requests_have_one_reading, write_tst};
+use tsp::{
+    ObjectIdentifier, Rejection, Request, Rule, TspFault, read_request, requests_have_one_reading,
+    write_tst,
+};
 
 /// The reply to a request: its TSTInfo (RFC 3161 2.4.2) by these settings, where every rule holds, and else the rejection
 /// by the first rule that fails. Judged are the rules on the request's spelling, its version, its hash algorithm, of the
@@ -24,27 +27,28 @@ pub fn tst_reply(alloc: Global, query: &[u8], settings: &Settings) -> Result<Vec
     ensures memory { IfErr result (λ fault. fault ≡ Memory) }
 {
     requests_have_one_reading();
-    match read_request(alloc, query) {
+    match read_request(query) {
         Ok(request) => match first_failing(&request) {
             None => write_reply(alloc, request, settings),
             Some(rule) => write_rejection(alloc, rule),
         },
-        Err(fault) => match fault {
-            TspFault::Memory => Err(fault),
-            TspFault::Form | TspFault::TooLong => write_rejection(alloc, Rule::Spelling),
-        },
+        Err(_) => write_rejection(alloc, Rule::Spelling),
     }
 }
 
 /// The octets of the TSTInfo that answers the request.
-fn write_reply(alloc: Global, request: Request, settings: &Settings) -> Result<Vec<u8>, TspFault>
+fn write_reply(
+    alloc: Global,
+    request: Request<'_>,
+    settings: &Settings,
+) -> Result<Vec<u8>, TspFault>
     requires proper { IsRequest (request_view request) }
     requires lawful { HasLawfulAnswers (request_view request) }
     ensures text { IfOk result (λ reply. reply.items
-        ≡ encoding (tst_info (tst_of (settings_value settings.now) (request_view request)))) }
+        ≡ encoding (tst_info (tst_of (settings_value settings.now) (request_view request.entry)))) }
     ensures memory { IfErr result (λ fault. fault ≡ Memory) }
 {
-    let policy = policy_of(alloc, &request, settings)?;
+    let policy = policy_of(&request, settings);
     let gen_time = settings.gen_time();
     let tst = request.into_tst_info(
         policy,
@@ -57,19 +61,17 @@ fn write_reply(alloc: Global, request: Request, settings: &Settings) -> Result<V
 }
 
 /// The policy that the request asks for, and where it asks for none, the one of the settings.
-fn policy_of(alloc: Global, request: &Request, settings: &Settings) -> Result<Oid, TspFault>
+fn policy_of<'a>(request: &Request<'a>, settings: &'a Settings) -> ObjectIdentifier<'a>
     requires { IfSome (request_view request.now).policy IsOid }
-    ensures policy { IfOk result (λ policy. policy
-        ≡ unwrap_or (request_view request.now).policy settings.now.policy) }
-    ensures memory { IfErr result (λ fault. fault ≡ Memory) }
+    ensures { result ≡ unwrap_or (request_view request.now).policy settings.now.policy }
 {
-    let content = match request.policy() {
-        Some(content) => content,
-        None => settings.policy.content(),
+    oids_have_one_content_and_text();
+    let Some(content) = request.policy() else {
+        return ObjectIdentifier::of(&settings.policy);
     };
-    match Oid::from_content(alloc, content) {
-        Ok(policy) => Ok(policy),
-        Err(_) => Err(TspFault::Memory),
+    match ObjectIdentifier::from_content(content) {
+        Some(policy) => policy,
+        None => unreachable!(),
     }
 }
 

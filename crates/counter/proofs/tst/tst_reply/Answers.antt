@@ -1,4 +1,3 @@
-use Rattle.std.proofs.Common.{◌<◌, Err, inl, inr, length, ap, ◌∙◌, arith}
 use Rattle.tsp.specs.Rules.{IsSpelled}
 use Rattle.tsp.specs.View.{request_view}
 use Rattle.tsp.specs.declared.rule.Rule.TheVariants.{Spelling}
@@ -36,19 +35,10 @@ returns-in-Some-clause-reply c =
     (λ reply. rejected (settings_value c.args.settings.now) query c.in-Some.rule reply.items (first_lifted query r only c.in-Some.rule c.in-Some.ensures))
     c.write_rejection.ensures.text
 
-pub returns-in-Form : goal.returns-in-Form
-returns-in-Form c =
+pub returns-in-Err-clause-reply : goal.returns-in-Err-clause-reply
+returns-in-Err-clause-reply c =
     let query = c.args.query.now in
-    let fails : IsSpelled query → ⊥ = λ spelled. elim c.in-Form.is [
-      | inl form ↦ c.read_request.ensures.form (c.in-Err.is ∙ ap Err form) spelled.0.0 spelled.0.1
-      | inr long ↦
-          let above : 65536 < length query = c.read_request.ensures.too_long.0 (c.in-Err.is ∙ ap Err long) in
-          absurd (omega (arith, spelled.1))
-    ] in
-    record {
-      reply =
-          if_ok c.write_rejection-in-Form.result
-          (λ reply. rejected (settings_value c.args.settings.now) query Spelling reply.items (spelling_fails query fails))
-          c.write_rejection-in-Form.ensures.text;
-      memory = c.write_rejection-in-Form.ensures.memory;
-    }
+    let fails : IsSpelled query → ⊥ = λ spelled. c.in-Err.ensures.only spelled.0.0 spelled.0.1 spelled.1 in
+    if_ok c.write_rejection-in-Err.result
+    (λ reply. rejected (settings_value c.args.settings.now) query Spelling reply.items (spelling_fails query fails))
+    c.write_rejection-in-Err.ensures.text

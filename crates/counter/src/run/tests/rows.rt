@@ -38,7 +38,7 @@ struct Row {
 
 const USUAL: &str = "--moment 0 --digits 0 --serial 1 --accuracy 1000000";
 
-const ROWS: [Row; 21] = [
+const ROWS: [Row; 23] = [
     Row {
         name: "numbers with a plus or zeros before them",
         settings: "--moment +0 --digits 00 --serial 001 --accuracy=+1000000",
@@ -49,6 +49,18 @@ const ROWS: [Row; 21] = [
         name: "no octets",
         settings: USUAL,
         request: "",
+        reply: "3014 3012 020102 3009 0c07 72756c65203031 03020204",
+    },
+    Row {
+        name: "an empty SEQUENCE as parameters",
+        settings: USUAL,
+        request: "3036 020101 3031300d0609608648016503040201 3000 0420 H",
+        reply: "3014 3012 020102 3009 0c07 72756c65203034 03020780",
+    },
+    Row {
+        name: "a tag number of 31 as parameters",
+        settings: USUAL,
+        request: "3036 020101 3031300d0609608648016503040201 1f00 0420 H",
         reply: "3014 3012 020102 3009 0c07 72756c65203031 03020204",
     },
     Row {
