@@ -5,7 +5,8 @@ use Rattle.der.specs.Number.{is_shortest}
 use Rattle.der.specs.ObjectIdentifier.{IsOid, oid_content}
 use Rattle.cms.specs.Identity.{IdentityValue}
 
--- The parts of a certificate: what is in its version, if one stands, its serial number's contents octets, what is in its
+-- The parts of a certificate: what is in its version, if one stands, its serial number's contents octets, what is in
+-- its
 -- four SEQUENCEs, the further members of its TBSCertificate, and its own further members.
 pub record CertificateParts : Type 0 where
   pub version : Option Nodes
@@ -32,7 +33,9 @@ issuer_name p = constructed 48 p.issuer
 
 -- the members from signature on
 abbrev pub after_serial : CertificateParts → Nodes
-after_serial p = node (constructed 48 p.signature) (node (issuer_name p) (node (constructed 48 p.validity) (node (constructed 48 p.subject) p.further)))
+after_serial p =
+    node (constructed 48 p.signature) (node (issuer_name p) (node (constructed 48 p.validity)
+    (node (constructed 48 p.subject) p.further)))
 
 -- the members from validity on
 abbrev pub after_issuer : CertificateParts → Nodes
@@ -54,7 +57,8 @@ pub record IsCertificate (octets : List ℕ) (p : CertificateParts) : Type 0 whe
 
 -- whose certificate it is
 abbrev pub identity_of : List ℕ → CertificateParts → IdentityValue
-identity_of octets p = record { certificate = octets; issuer = encoding (issuer_name p); serial = encoding (serial_number p) }
+identity_of octets p =
+    record { certificate = octets; issuer = encoding (issuer_name p); serial = encoding (serial_number p) }
 
 -- the parameters of an AlgorithmIdentifier, where there are any
 abbrev pub optional : Option Node → Nodes
@@ -63,7 +67,8 @@ optional (Some value) = node value no_nodes
 
 -- AlgorithmIdentifier: an object identifier, and parameters of any kind where there are any (RFC 5280 4.1.1.2)
 abbrev pub algorithm_identifier : List ℕ → Option Node → Node
-algorithm_identifier subidentifiers parameters = constructed 48 (node (primitive 6 (oid_content subidentifiers)) (optional parameters))
+algorithm_identifier subidentifiers parameters =
+    constructed 48 (node (primitive 6 (oid_content subidentifiers)) (optional parameters))
 
 -- The octets are an AlgorithmIdentifier, a lawful value.
 pub record IsAlgorithm (octets : List ℕ) : Type 0 where

@@ -6,7 +6,8 @@ use Rattle.cms.specs.declared.signer.SignerFault.TheVariants.{Memory}
 
 -- SHA-256 of the key followed by the text, or want of memory; the key stays
 abbrev pub SignsByHash : List ℕ → List ℕ → Result (List ℕ) SignerFault → List ℕ → Type 0
-SignsByHash before text answer after = ((answer ≡ Ok (sha256 (before ++ text))) ⊎ (answer ≡ Err Memory)) × (after ≡ before)
+SignsByHash before text answer after =
+    ((answer ≡ Ok (sha256 (before ++ text))) ⊎ (answer ≡ Err Memory)) × (after ≡ before)
 
 -- the AlgorithmIdentifier of 2.999.9, without parameters
 abbrev pub keyed_hash_algorithm : List ℕ

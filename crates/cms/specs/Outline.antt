@@ -55,7 +55,13 @@ outline_of n = do
   issuer ← sequence_at signature.1
   validity ← sequence_at issuer.1
   subject ← sequence_at validity.1
-  Some (record { serial = serial.0; after_serial = serial.1; issuer = issuer.0; after_issuer = issuer.1; after = tbs.1 })
+  Some (record {
+    serial = serial.0;
+    after_serial = serial.1;
+    issuer = issuer.0;
+    after_issuer = issuer.1;
+    after = tbs.1;
+  })
 
 -- one value at most
 unfoldable pub is_optional : Nodes → Bool

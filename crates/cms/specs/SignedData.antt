@@ -61,7 +61,8 @@ signing_certificate certificate = attribute id_signing_certificate_v2 (signing_c
 unfoldable pub signed_attributes : IdentityValue → List ℕ → List (List ℕ)
 signed_attributes identity tst = content_type ∷ message_digest tst ∷ signing_certificate identity.certificate ∷ []
 
--- What is signed: the attributes under SET OF's own tag, and not under the [0] that they have in the token (RFC 5652 5.4)
+-- What is signed: the attributes under SET OF's own tag, and not under the [0] that they have in the token (RFC 5652
+-- 5.4)
 unfoldable pub attribute_text : IdentityValue → List ℕ → List ℕ
 attribute_text identity tst = set (signed_attributes identity tst)
 
@@ -69,12 +70,13 @@ attribute_text identity tst = set (signed_attributes identity tst)
 unfoldable pub issuer_and_serial_number : IdentityValue → List ℕ
 issuer_and_serial_number identity = sequence (identity.issuer ∷ identity.serial ∷ [])
 
--- SignerInfo of version 1: who signs, the digest algorithm, the signed attributes under [0], the signature algorithm and
+-- SignerInfo of version 1: who signs, the digest algorithm, the signed attributes under [0], the signature algorithm
+-- and
 -- the signature; no unsigned attribute (RFC 5652 5.3)
 unfoldable pub signer_info : IdentityValue → List ℕ → List ℕ → List ℕ → List ℕ
 signer_info identity algorithm tst signature =
-    sequence (integer 1 ∷ issuer_and_serial_number identity ∷ sha256_identifier ∷ under_zero (signed_attributes identity tst)
-    ∷ algorithm ∷ octet_string signature ∷ [])
+    sequence (integer 1 ∷ issuer_and_serial_number identity ∷ sha256_identifier
+    ∷ under_zero (signed_attributes identity tst) ∷ algorithm ∷ octet_string signature ∷ [])
 
 -- EncapsulatedContentInfo: the TSTInfo's octets in an OCTET STRING (RFC 5652 5.2)
 unfoldable pub encapsulated_content_info : List ℕ → List ℕ
@@ -87,14 +89,16 @@ certificates with_certificate identity = if with_certificate then under_zero (id
 -- SignedData of version 3, since its content isn't plain data (RFC 5652 5.1)
 unfoldable pub signed_data : IdentityValue → List ℕ → List ℕ → List ℕ → Bool → List ℕ
 signed_data identity algorithm tst signature with_certificate =
-    sequence (integer 3 ∷ set (sha256_identifier ∷ []) ∷ encapsulated_content_info tst ∷ (certificates with_certificate identity
+    sequence (integer 3 ∷ set (sha256_identifier ∷ []) ∷ encapsulated_content_info tst
+    ∷ (certificates with_certificate identity
     ++ (set (signer_info identity algorithm tst signature ∷ []) ∷ [])))
 
 -- ContentInfo over signed data (RFC 5652 3)
 unfoldable pub content_info : List ℕ → List ℕ
 content_info content = sequence (object_identifier id_signed_data ∷ under_zero (content ∷ []) ∷ [])
 
--- a time-stamp token: of which identity, under which algorithm, over which TSTInfo, with which signature, and whether with
+-- a time-stamp token: of which identity, under which algorithm, over which TSTInfo, with which signature, and whether
+-- with
 -- the certificate
 unfoldable pub token : IdentityValue → List ℕ → List ℕ → List ℕ → Bool → List ℕ
 token identity algorithm tst signature with_certificate =

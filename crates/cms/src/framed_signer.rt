@@ -10,11 +10,13 @@ use std::alloc::Global;
 use std::io::{Read, Write};
 use std::marker::Model;
 
-/// Asks a key holder over any reader and writer: writes the text's frame, and reads the answer's. A frame is octets with
+/// Asks a key holder over any reader and writer: writes the text's frame, and reads the answer's. A frame is octets
+/// with
 /// their number in front, in four octets, most significant first.
 ///
 /// Text of 2^32 octets or more, an answer of none or of more than 4,096 octets, an end of the input, a read or a write
-/// that fails or takes nothing: each is `Failed`, and closes the session. From then on each call is `Failed` and touches
+/// that fails or takes nothing: each is `Failed`, and closes the session. From then on each call is `Failed` and
+/// touches
 /// neither end. Want of memory is met first, and leaves the session open.
 #[derive(Drop)]
 pub struct FramedSigner<R, W> {
@@ -31,7 +33,13 @@ impl<R, W> Model for FramedSigner<R, W> {
 
     ghost Value = { FramedState R W };
 
-    ghost view = { λ s. record { reader = s.reader; writer = s.writer; algorithm = s.algorithm; faults = s.faults; is_closed = s.is_closed } };
+    ghost view = { λ s. record {
+      reader = s.reader;
+      writer = s.writer;
+      algorithm = s.algorithm;
+      faults = s.faults;
+      is_closed = s.is_closed;
+    } };
 }
 
 /// Asks for the signature of a text over an open session.
@@ -65,7 +73,13 @@ impl<R, W> FramedSigner<R, W> {
     ///
     /// What the writer takes has to reach the key holder without a `flush`.
     pub fn new(alloc: Global, reader: R, writer: W, algorithm: Algorithm) -> FramedSigner<R, W>
-        ensures { result ≡ record { reader = reader; writer = writer; algorithm = algorithm; faults = 0; is_closed = false } }
+        ensures { result ≡ record {
+          reader = reader;
+          writer = writer;
+          algorithm = algorithm;
+          faults = 0;
+          is_closed = false;
+        } }
     {
         FramedSigner {
             alloc,

@@ -33,7 +33,8 @@ fn write_octets<W: Write>(writer: &mut W, octets: &[u8]) -> Result<(), Stopped>
 fn read_octets<R: Read>(reader: &mut R, octets: &mut [u8]) -> Result<(), Stopped>
     ensures octets { (i : ℕ) → slice_index octets.new i < 256 }
     ensures ok { OnOk result (Consumes (R.remaining reader.old) (R.remaining reader.new) octets.new) }
-    ensures err { OnErr result ((taken : List ℕ) × (length taken < length octets.old) × Consumes (R.remaining reader.old) (R.remaining reader.new) taken) }
+    ensures err { OnErr result ((taken : List ℕ) × (length taken < length octets.old)
+        × Consumes (R.remaining reader.old) (R.remaining reader.new) taken) }
 {
     let mut filled = 0;
     while filled < octets.len() {
@@ -48,7 +49,8 @@ fn read_octets<R: Read>(reader: &mut R, octets: &mut [u8]) -> Result<(), Stopped
 
 /// Reads a number in four octets, most significant first.
 fn read_count<R: Read>(reader: &mut R) -> Result<u32, Stopped>
-    ensures ok { IfOk result (λ count. Consumes (R.remaining reader.old) (R.remaining reader.new) (to_be_bytes w32 count)) }
+    ensures ok { IfOk result (λ count.
+        Consumes (R.remaining reader.old) (R.remaining reader.new) (to_be_bytes w32 count)) }
     ensures err { OnErr result (ReceivesNoAnswer (R.remaining reader.old) (R.remaining reader.new)) }
 {
     let mut octets = [0; 4];
@@ -62,7 +64,8 @@ fn read_count<R: Read>(reader: &mut R) -> Result<u32, Stopped>
 fn fill<R: Read>(reader: &mut R, room: &mut Vec<u8>) -> Result<(), Stopped>
     ensures same_len { vec_len room.new ≡ vec_len room.old }
     ensures ok { OnOk result (Consumes (R.remaining reader.old) (R.remaining reader.new) room.new.items) }
-    ensures err { OnErr result ((taken : List ℕ) × (length taken < vec_len room.old) × Consumes (R.remaining reader.old) (R.remaining reader.new) taken) }
+    ensures err { OnErr result ((taken : List ℕ) × (length taken < vec_len room.old)
+        × Consumes (R.remaining reader.old) (R.remaining reader.new) taken) }
 {
     match read_octets(reader, room.as_mut_slice()) {
         Ok(()) => Ok(()),

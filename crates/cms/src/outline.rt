@@ -27,7 +27,8 @@ pub(crate) struct Outline<'a> {
 /// Takes a SEQUENCE off.
 #[tactic(auto, unfolding(crate::specs::Outline::sequence_at))]
 fn sequence<'a>(members: &mut DataValues<'a>) -> Option<DataValue<'a>>
-    ensures { option_map (λ value. (value_view value, values_view members.new)) result ≡ sequence_at (values_view members.old) }
+    ensures { option_map (λ value. (value_view value, values_view members.new)) result
+        ≡ sequence_at (values_view members.old) }
 {
     let first = members.next()?;
     first.components_under(Tag::SEQUENCE)?;
@@ -37,7 +38,8 @@ fn sequence<'a>(members: &mut DataValues<'a>) -> Option<DataValue<'a>>
 /// Takes a serial number off, an INTEGER in the shortest form.
 #[tactic(auto, unfolding(crate::specs::Outline::serial_at))]
 fn serial<'a>(members: &mut DataValues<'a>) -> Option<DataValue<'a>>
-    ensures { option_map (λ value. (value_view value, values_view members.new)) result ≡ serial_at (values_view members.old) }
+    ensures { option_map (λ value. (value_view value, values_view members.new)) result
+        ≡ serial_at (values_view members.old) }
 {
     let first = members.next()?;
     if is_number_content(first.contents_under(Tag::INTEGER)?) {
@@ -82,8 +84,10 @@ fn outline_from(certificate: DataValue<'_>) -> Option<Outline<'_>>
 
 /// The outline of the certificate that octets are; none where they are none.
 pub(crate) fn outline_in(octets: &[u8]) -> Option<Outline<'_>>
-    ensures found { IfSome result (λ found. (p : CertificateParts) × (IsCertificate octets.now p × (outline_view found ≡ outline p))) }
-    ensures only { (p : CertificateParts) → IsCertificate octets.now p → MatchOption result ⊥ (λ found. outline_view found ≡ outline p) }
+    ensures found { IfSome result (λ found. (p : CertificateParts)
+        × (IsCertificate octets.now p × (outline_view found ≡ outline p))) }
+    ensures only { (p : CertificateParts) → IsCertificate octets.now p
+        → MatchOption result ⊥ (λ found. outline_view found ≡ outline p) }
 {
     match read_value(octets) {
         Ok(value) => outline_from(value),

@@ -40,8 +40,10 @@ fn place_of(
 
 /// The places in the certificate that octets are; none where they are none.
 pub(crate) fn places_in(octets: &[u8]) -> Option<Places>
-    ensures found { IfSome result (λ found. (p : CertificateParts) × (IsCertificate octets.now p × ArePlaces octets.now p found.issuer found.serial)) }
-    ensures only { (p : CertificateParts) → IsCertificate octets.now p → MatchOption result ⊥ (λ found. ArePlaces octets.now p found.issuer found.serial) }
+    ensures found { IfSome result (λ found. (p : CertificateParts)
+        × (IsCertificate octets.now p × ArePlaces octets.now p found.issuer found.serial)) }
+    ensures only { (p : CertificateParts) → IsCertificate octets.now p
+        → MatchOption result ⊥ (λ found. ArePlaces octets.now p found.issuer found.serial) }
 {
     let outline = outline_in(octets)?;
     encodings_are_read();

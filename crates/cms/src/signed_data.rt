@@ -36,7 +36,8 @@ fn append_attribute(
     kind: &[u8],
     value: &[u8],
 ) -> Result<(), AllocError>
-    ensures { OnOk result (octets.new.items ≡ octets.old.items ++ element 48 (([] ++ element 6 kind.now) ++ element 49 value.now)) }
+    ensures { OnOk result (octets.new.items
+        ≡ octets.old.items ++ element 48 (([] ++ element 6 kind.now) ++ element 49 value.now)) }
 {
     let mut members = Vec::new(alloc);
     append_element(&mut members, Tag::OBJECT_IDENTIFIER, kind)?;
@@ -160,7 +161,8 @@ fn signed_data(
     signature: &[u8],
     with_certificate: bool,
 ) -> Result<Vec<u8>, AllocError>
-    ensures { IfOk result (λ octets. octets.items ≡ data_signed identity.now algorithm.now tst.now signature.now with_certificate) }
+    ensures { IfOk result (λ octets. octets.items
+        ≡ data_signed identity.now algorithm.now tst.now signature.now with_certificate) }
 {
     let algorithms = digest_algorithm(alloc)?;
     let content = encapsulated(alloc, tst)?;
@@ -184,7 +186,8 @@ pub fn attribute_text(alloc: Global, identity: &Identity, tst: &[u8]) -> Result<
     Ok(element_of(alloc, Tag::SET, &attributes)?)
 }
 
-/// A time-stamp token (RFC 3161 2.4.2, RFC 5652 5): the TSTInfo, signed under an algorithm, with the certificate where it
+/// A time-stamp token (RFC 3161 2.4.2, RFC 5652 5): the TSTInfo, signed under an algorithm, with the certificate where
+/// it
 /// is asked for. `tst` is the TSTInfo's encoding, and the signature has 1 to 4,096 octets. Refused only for want of
 /// memory, as `Memory`.
 pub fn token(
@@ -197,7 +200,8 @@ pub fn token(
 ) -> Result<Vec<u8>, CmsFault>
     requires some { 1 ≤ length signature.now }
     requires few { length signature.now ≤ 4096 }
-    ensures text { IfOk result (λ octets. octets.items ≡ text_of_token identity.now algorithm.now tst.now signature.now with_certificate) }
+    ensures text { IfOk result (λ octets. octets.items
+        ≡ text_of_token identity.now algorithm.now tst.now signature.now with_certificate) }
     ensures memory { IfErr result (λ fault. fault ≡ Memory) }
 {
     let content = signed_data(alloc, identity, algorithm, tst, signature, with_certificate)?;

@@ -1,0 +1,73 @@
+use super::*;
+use cms::{Algorithm, FramedSigner, KeyedHash, Signer, SignerFault};
+use std::alloc::Global;
+use std::io::{Read, Write};
+use std::test::Fail;
+
+/// 2.999.9, without parameters.
+static ALGORITHM: &[u8] = b"\x30\x05\x06\x03\x88\x37\x09";
+
+#[test]
+fn signer_fails_at_chosen_calls(rt: HostRuntime) -> Result<(), Fail> {
+    let alloc = rt.alloc();
+    let behind = KeyedHash::new(alloc, b"k")?;
+    let mut signer = FailingSigner::new(behind, vec![in alloc; 1, 3]?);
+    assert_eq!(rt; signer.algorithm().as_slice(), ALGORITHM);
+    let answers = [false, true, false, true];
+    for (answered, calls) in answers.into_iter().zip(1..) {
+        assert_eq!(rt; signer.sign(b"abc").is_ok(), answered);
+        assert_eq!(rt; signer.calls, calls);
+    }
+    assert_eq!(rt; signer.faults(), 2);
+    Ok(())
+}
+
+#[test]
+fn reader_and_writer_fail_when_told(rt: HostRuntime) -> Result<(), Fail> {
+    let alloc = rt.alloc();
+    let mut octets = [0; 4];
+    let mut reader = FailingReader::new(b"abcdef".as_slice(), vec![in alloc; 2]?, 5);
+    assert_eq!(rt; reader.read(&mut octets)?, 4);
+    assert!(rt; reader.read(&mut octets).is_err());
+    assert_eq!(rt; reader.read(&mut octets)?, 1);
+    assert!(rt; reader.read(&mut octets).is_err());
+    assert_eq!(rt; reader.calls, 4);
+    let mut writer = FailingWriter::new(Vec::new(alloc), vec![in alloc; 2]?, 5);
+    assert_eq!(rt; writer.write(b"abcd")?, 4);
+    assert!(rt; writer.write(b"ef").is_err());
+    assert_eq!(rt; writer.write(b"ef")?, 1);
+    assert!(rt; writer.write(b"f").is_err());
+    assert_eq!(rt; writer.calls, 4);
+    assert_eq!(rt; writer.writer.as_slice(), b"abcde".as_slice());
+    Ok(())
+}
+
+/// How a framed signer fares whose ends give and take so many octets: whether it answers, how many faults it has counted
+/// after one more call, and how many octets were written.
+fn framed(alloc: Global, given: u64, taken: usize) -> Result<(bool, u64, usize), Fail> {
+    let reader = FailingReader::new(b"\x00\x00\x00\x03sig".as_slice(), Vec::new(alloc), given);
+    let mut writer = FailingWriter::new(Vec::new(alloc), Vec::new(alloc), taken);
+    let algorithm = Algorithm::from_bytes(alloc, ALGORITHM)?;
+    let mut signer = FramedSigner::new(alloc, reader, &mut writer, algorithm);
+    let answered = signer.sign(b"abc").is_ok();
+    let again = signer.sign(b"abc").err();
+    let faults = signer.faults();
+    drop(signer);
+    if again != Some(SignerFault::Failed) {
+        return Ok((true, faults, 0));
+    }
+    Ok((answered, faults, writer.writer.len()))
+}
+
+// A frame of three octets has seven, and so has its answer's.
+#[test]
+fn framed_signer_meets_each_failure(rt: HostRuntime) -> Result<(), Fail> {
+    for taken in 0..7 {
+        assert_eq!(rt; framed(rt.alloc(), 7, taken)?, (false, 2, taken));
+    }
+    for given in 0..7 {
+        assert_eq!(rt; framed(rt.alloc(), given, 7)?, (false, 2, 7));
+    }
+    assert_eq!(rt; framed(rt.alloc(), 7, 7)?, (true, 1, 7));
+    Ok(())
+}
