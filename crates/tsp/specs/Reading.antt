@@ -1,5 +1,6 @@
 -- Reading messages from values: the answer, or none where the value isn't of the grammar.
-use Rattle.std.specs.Prelude.{ℕ, ◌==◌, ◌||◌, Bool, true, false, if◌then◌else◌, ℤ, List, [], ◌∷◌, Option, Some, None, option_and_then, unwrap_or}
+use Rattle.std.specs.Prelude.{ℕ, ◌==◌, ◌||◌, Bool, true, false, if◌then◌else◌, ℤ, List, [], ◌∷◌, Option, Some, None}
+use Rattle.std.specs.Prelude.{option_and_then, unwrap_or}
 use Rattle.der.specs.Node.{Node, Nodes, no_nodes, node, contents_of, components_of, first_of, take_under}
 use Rattle.der.specs.Number.{is_shortest, twos_value}
 use Rattle.der.specs.ObjectIdentifier.{oid_of}
@@ -108,7 +109,8 @@ extension_list_of may tag n = do
 
 -- extensions under a tag, none where they are left away, and what is left
 unfoldable pub extensions_at : Bool → ℕ → Nodes → Option (List ExtensionValue × Nodes)
-extensions_at may tag ns = optional_at tag (extension_list_of may tag) ns >>= λ found. Some (unwrap_or found.0 [], found.1)
+extensions_at may tag ns =
+    optional_at tag (extension_list_of may tag) ns >>= λ found. Some (unwrap_or found.0 [], found.1)
 
 -- a TimeStampReq
 unfoldable pub request_of : Node → Option RequestValue
@@ -122,4 +124,11 @@ request_of n = do
   nonce ← optional_at 2 integer_of policy.1
   cert_req ← flag_at true nonce.1
   extensions ← extensions_at true 160 cert_req.1
-  only extensions.1 (record { version = version; imprint = imprint; policy = policy.0; nonce = nonce.0; cert_req = cert_req.0; extensions = extensions.0 })
+  only extensions.1 (record {
+    version = version;
+    imprint = imprint;
+    policy = policy.0;
+    nonce = nonce.0;
+    cert_req = cert_req.0;
+    extensions = extensions.0;
+  })

@@ -3,7 +3,8 @@ use Rattle.std.specs.Prelude.{ℕ, ◌+◌, ◌-◌, ◌/◌, ◌%◌, ◌^◌, 
 use Rattle.der.specs.Node.{Node, primitive}
 use Rattle.tsp.specs.Grammar.{sequence, integer}
 use Rattle.tsp.specs.declared.rule.Rule.{Rule}
-use Rattle.tsp.specs.declared.rule.Rule.TheVariants.{Spelling, Version, Account, Algorithm, HashLength, Policy, PolicyAlgorithm, Extensions, Certificate, Clock, Quota, System}
+use Rattle.tsp.specs.declared.rule.Rule.TheVariants.{Spelling, Version, Account, Algorithm, HashLength, Policy}
+use Rattle.tsp.specs.declared.rule.Rule.TheVariants.{PolicyAlgorithm, Extensions, Certificate, Clock, Quota, System}
 
 -- the rule's number, 1 to 12
 abbrev pub number_of : Rule → ℕ
@@ -36,8 +37,8 @@ failure_bit Clock = 14
 failure_bit Quota = 2
 failure_bit System = 25
 
--- a named bit list with that bit alone: how many bits of the last octet are unused, and the bits, bit 0 the first of the
--- first octet (X.690 8.6.2, 11.2)
+-- a named bit list with that bit alone: how many bits of the last octet are unused, and the bits, bit 0 the first of
+-- the first octet (X.690 8.6.2, 11.2)
 abbrev pub one_bit : ℕ → Node
 one_bit bit = primitive 3 ((7 - bit % 8) ∷ (replicate (bit / 8) 0 ++ (2 ^ (7 - bit % 8) ∷ [])))
 
@@ -48,4 +49,8 @@ reason number = codes "rule " ++ ((48 + number / 10) ∷ (48 + number % 10) ∷ 
 -- status 2 (rejection), the one string, and the bit
 abbrev pub rejection : Rule → Node
 rejection rule =
-    sequence (sequence (integer (pos 2) ∷ sequence (primitive 12 (reason (number_of rule)) ∷ []) ∷ one_bit (failure_bit rule) ∷ []) ∷ [])
+    sequence (sequence (
+    integer (pos 2)
+    ∷ sequence (primitive 12 (reason (number_of rule)) ∷ [])
+    ∷ one_bit (failure_bit rule)
+    ∷ []) ∷ [])

@@ -7,7 +7,8 @@ use Rattle.tsp.specs.Grammar.{sequence, integer, object_identifier, octet_string
 use Rattle.der.specs.Tree.{nodes}
 use Rattle.der.specs.Node.{primitive, constructed}
 
--- what was hashed is known by its digest: MessageImprint, with the algorithm of an AlgorithmIdentifier and its parameters
+-- what was hashed is known by its digest: MessageImprint, with the algorithm of an AlgorithmIdentifier and its
+-- parameters
 pub record ImprintValue : Type 0 where
   pub algorithm : List ℕ
   pub parameters : Option Node
@@ -65,15 +66,20 @@ extensions_under tag stated (e ∷ es) = constructed tag (nodes (extension_nodes
 -- TimeStampReq, whose extensions are under [0]
 abbrev pub time_stamp_req : Stated → RequestValue → Node
 time_stamp_req stated r =
-    sequence (integer r.version ∷ message_imprint r.imprint ∷ (optional object_identifier r.policy ++ (optional integer r.nonce
-    ++ (false_by_default stated.cert_req r.cert_req ++ extensions_under 160 stated.critical r.extensions))))
+    sequence (
+    integer r.version
+    ∷ message_imprint r.imprint
+    ∷ (optional object_identifier r.policy
+    ++ (optional integer r.nonce
+    ++ (false_by_default stated.cert_req r.cert_req
+    ++ extensions_under 160 stated.critical r.extensions))))
 
 -- no FALSE is stated
 abbrev pub unstated : Stated
 unstated = record { cert_req = false; critical = [] }
 
--- The octets are the encoding of a lawful value that the grammar gives for the request. Which FALSEs are stated is free,
--- and nothing else.
+-- The octets are the encoding of a lawful value that the grammar gives for the request. Which FALSEs are stated is
+-- free, and nothing else.
 pub record Spells (octets : List ℕ) (r : RequestValue) : Type 0 where
   pub proper : IsRequest r
   pub stated : Stated

@@ -1,11 +1,12 @@
--- The rules of a written policy that speak of a request and of hash algorithms alone, each a sentence that stands by itself,
--- and the first of them that fails.
+-- The rules of a written policy that speak of a request and of hash algorithms alone, each a sentence that stands by
+-- itself, and the first of them that fails.
 use Rattle.std.specs.Prelude.{◌≡◌, ℕ, ◌<◌, ◌≤◌, ◌⊎◌, pos, List, [], Some, None, length, Contains}
 use Rattle.der.specs.Node.{primitive}
 use Rattle.tsp.specs.Request.{RequestValue, Spells}
 use Rattle.tsp.specs.Rejection.{number_of}
 use Rattle.tsp.specs.declared.rule.Rule.{Rule}
-use Rattle.tsp.specs.declared.rule.Rule.TheVariants.{Spelling, Version, Account, Algorithm, HashLength, Policy, PolicyAlgorithm, Extensions, Certificate, Clock, Quota, System}
+use Rattle.tsp.specs.declared.rule.Rule.TheVariants.{Spelling, Version, Account, Algorithm, HashLength, Policy}
+use Rattle.tsp.specs.declared.rule.Rule.TheVariants.{PolicyAlgorithm, Extensions, Certificate, Clock, Quota, System}
 
 -- a known hash algorithm, and how many octets its hashes have
 pub record AlgorithmValue : Type 0 where
@@ -31,10 +32,11 @@ HasKnownAlgorithm algorithms r =
 -- each algorithm that is known by the request's identifier has the hash's length
 abbrev pub HasAlgorithmLength : List AlgorithmValue → RequestValue → Type 0
 HasAlgorithmLength algorithms r =
-    (a : AlgorithmValue) → Contains algorithms a → a.identifier ≡ r.imprint.algorithm → length r.imprint.hash ≡ a.hash_length
+    (a : AlgorithmValue) → Contains algorithms a → a.identifier ≡ r.imprint.algorithm
+    → length r.imprint.hash ≡ a.hash_length
 
--- Which rules hold of octets, where it is given which hold of a request: that the octets are a request, and else what holds of
--- each request that they spell.
+-- Which rules hold of octets, where it is given which hold of a request: that the octets are a request, and else what
+-- holds of each request that they spell.
 abbrev pub HoldsOfOctets : (RequestValue → Rule → Type 0) → List ℕ → Rule → Type 0
 HoldsOfOctets HoldsOf octets Spelling = IsSpelled octets
 HoldsOfOctets HoldsOf octets rule = (r : RequestValue) → Spells octets r → HoldsOf r rule

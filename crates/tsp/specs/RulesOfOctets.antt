@@ -1,11 +1,13 @@
--- Rules that are judged of a request, whichever they are, and of the octets that spell it: the law that carries the first failing
--- rule from the one to the other. Its premise that the octets spell one request is a clause of `requests_have_one_reading`.
+-- Rules that are judged of a request, whichever they are, and of the octets that spell it: the law that carries the
+-- first failing rule from the one to the other. Its premise that the octets spell one request is a clause of
+-- `requests_have_one_reading`.
 use Rattle.std.specs.Prelude.{◌≡◌, ℕ, ◌≤◌, List, length}
 use Rattle.std.proofs.Common.{subst}
 use Rattle.tsp.specs.Request.{RequestValue, Spells}
 use Rattle.tsp.specs.Rules.{HoldsOfOctets, IsFirstFailing}
 use Rattle.tsp.specs.declared.rule.Rule.{Rule}
-use Rattle.tsp.specs.declared.rule.Rule.TheVariants.{Spelling, Version, Account, Algorithm, HashLength, Policy, PolicyAlgorithm, Extensions, Certificate, Clock, Quota, System}
+use Rattle.tsp.specs.declared.rule.Rule.TheVariants.{Spelling, Version, Account, Algorithm, HashLength, Policy}
+use Rattle.tsp.specs.declared.rule.Rule.TheVariants.{PolicyAlgorithm, Extensions, Certificate, Clock, Quota, System}
 
 -- the octets spell no other request
 abbrev pub SpellsOnly : List ℕ → RequestValue → Type 0

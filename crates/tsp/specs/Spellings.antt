@@ -20,18 +20,21 @@ AreFlag false octets = (octets ≡ []) ⊎ (octets ≡ 0x01 ∷ 0x01 ∷ 0x00 �
 pub record AreExtension (octets : List ℕ) (e : ExtensionValue) : Type 0 where
   pub flag : List ℕ
   pub is_flag : AreFlag e.critical flag
-  pub same : octets ≡ element 0x30 (encoding (object_identifier e.identifier) ++ (flag ++ encoding (octet_string e.value)))
+  pub same : octets
+      ≡ element 0x30 (encoding (object_identifier e.identifier) ++ (flag ++ encoding (octet_string e.value)))
 
 -- those of Extension after Extension
 abbrev pub AreExtensionList : List ℕ → List ExtensionValue → Type 0
 AreExtensionList octets [] = octets ≡ []
 AreExtensionList octets (e ∷ es) =
-    (first : List ℕ) × (others : List ℕ) × (octets ≡ first ++ others) × AreExtension first e × AreExtensionList others es
+    (first : List ℕ) × (others : List ℕ) × (octets ≡ first ++ others)
+    × AreExtension first e × AreExtensionList others es
 
 -- those of Extensions under [0]; none where there is no extension
 abbrev pub AreExtensions : List ℕ → List ExtensionValue → Type 0
 AreExtensions octets [] = octets ≡ []
-AreExtensions octets (e ∷ es) = (contents : List ℕ) × (octets ≡ element 0xa0 contents) × AreExtensionList contents (e ∷ es)
+AreExtensions octets (e ∷ es) =
+    (contents : List ℕ) × (octets ≡ element 0xa0 contents) × AreExtensionList contents (e ∷ es)
 
 -- those of a TimeStampReq, of which those of the flags alone are free
 pub record AreRequest (octets : List ℕ) (r : RequestValue) : Type 0 where

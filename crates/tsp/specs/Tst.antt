@@ -1,5 +1,6 @@
 -- TSTInfo (RFC 3161 2.4.2).
-use Rattle.std.specs.Prelude.{◌≡◌, ℕ, ◌/◌, ◌%◌, ◌^◌, ◌<◌, ◌≤◌, ◌==◌, Bool, false, if◌then◌else◌, ℤ, pos, List, [], ◌∷◌, ◌++◌, Option}
+use Rattle.std.specs.Prelude.{◌≡◌, ℕ, ◌/◌, ◌%◌, ◌^◌, ◌<◌, ◌≤◌, ◌==◌, Bool, false, if◌then◌else◌, ℤ, pos, List, [], ◌∷◌}
+use Rattle.std.specs.Prelude.{◌++◌, Option}
 use Rattle.std.specs.List.{AllByRecursion}
 use Rattle.der.specs.Node.{Node, primitive, encoding, IsLawful}
 use Rattle.der.specs.Number.{number_content}
@@ -36,7 +37,11 @@ accuracy_part tag n = if n == 0 then [] else primitive tag (number_content (pos 
 
 -- Accuracy: whole seconds, then milliseconds under [0] and microseconds under [1], each 1 to 999 where it stands
 abbrev pub accuracy : ℕ → Node
-accuracy n = sequence (accuracy_part 2 (n / 1000000) ++ (accuracy_part 128 (n / 1000 % 1000) ++ accuracy_part 129 (n % 1000)))
+accuracy n =
+    sequence (
+    accuracy_part 2 (n / 1000000)
+    ++ (accuracy_part 128 (n / 1000 % 1000)
+    ++ accuracy_part 129 (n % 1000)))
 
 abbrev pub generalized_time : ℕ → Node
 generalized_time moment = primitive 24 (text_of 6 moment)
@@ -44,9 +49,16 @@ generalized_time moment = primitive 24 (text_of 6 moment)
 -- TSTInfo: version 1, accuracy always stated, no FALSE stated, extensions under [1]
 abbrev pub tst_info : TstValue → Node
 tst_info t =
-    sequence (integer (pos 1) ∷ object_identifier t.policy ∷ message_imprint t.imprint ∷ integer (pos t.serial)
-    ∷ generalized_time t.gen_time ∷ accuracy t.accuracy ∷ (false_by_default false t.ordering
-    ++ (optional integer t.nonce ++ extensions_under 161 [] t.extensions)))
+    sequence (
+    integer (pos 1)
+    ∷ object_identifier t.policy
+    ∷ message_imprint t.imprint
+    ∷ integer (pos t.serial)
+    ∷ generalized_time t.gen_time
+    ∷ accuracy t.accuracy
+    ∷ (false_by_default false t.ordering
+    ++ (optional integer t.nonce
+    ++ extensions_under 161 [] t.extensions)))
 
 -- The octets are the encoding of the TSTInfo, whose parts are in their ranges and which is a lawful value.
 pub record SpellsTst (octets : List ℕ) (t : TstValue) : Type 0 where

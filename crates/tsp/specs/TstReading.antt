@@ -1,9 +1,11 @@
 -- Reading a TSTInfo from a value: the answer, or none where the value isn't of the grammar.
-use Rattle.std.specs.Prelude.{ℕ, ◌+◌, ◌*◌, ◌-◌, ◌^◌, ◌&&◌, Bool, false, if◌then◌else◌, nat_lt, nat_le, ℤ, pos, negsuc, List, [], ◌∷◌, ◌++◌, Option, Some, None, unwrap_or}
+use Rattle.std.specs.Prelude.{ℕ, ◌+◌, ◌*◌, ◌-◌, ◌^◌, ◌&&◌, Bool, false, if◌then◌else◌, nat_lt, nat_le, ℤ, pos, negsuc}
+use Rattle.std.specs.Prelude.{List, [], ◌∷◌, ◌++◌, Option, Some, None, unwrap_or}
 use Rattle.der.specs.Node.{Node, primitive, Nodes, contents_of, components_of, first_of}
 use Rattle.gentime.specs.GenTime.{text_of}
 use Rattle.tsp.specs.Grammar.{sequence, integer, object_identifier, optional, false_by_default}
-use Rattle.tsp.specs.Reading.{◌>>=◌, only, optional_at, integer_value_of, integer_of, oid_in, imprint_of, flag_at, extensions_at}
+use Rattle.tsp.specs.Reading.{◌>>=◌, only, optional_at, integer_value_of, integer_of, oid_in, imprint_of, flag_at}
+use Rattle.tsp.specs.Reading.{extensions_at}
 use Rattle.tsp.specs.Request.{ImprintValue, ExtensionValue, message_imprint, extensions_under}
 use Rattle.tsp.specs.Tst.{TstValue, accuracy}
 
@@ -83,14 +85,21 @@ parts_of n = do
 -- the TSTInfo of its parts
 abbrev pub info_of : TstParts → Node
 info_of p =
-    sequence (integer (pos 1) ∷ object_identifier p.head.policy ∷ message_imprint p.head.imprint ∷ integer (pos p.head.serial)
+    sequence (integer (pos 1) ∷ object_identifier p.head.policy ∷ message_imprint p.head.imprint
+    ∷ integer (pos p.head.serial)
     ∷ primitive 24 p.head.time ∷ accuracy p.head.accuracy ∷ (false_by_default false p.ordering
     ++ (optional integer p.nonce ++ extensions_under 161 [] p.extensions)))
 
 -- the parts of a TSTInfo, with the time as its octets
 abbrev pub parts_in : TstValue → TstParts
 parts_in t = record {
-  head = record { policy = t.policy; imprint = t.imprint; serial = t.serial; time = text_of 6 t.gen_time; accuracy = t.accuracy };
+  head = record {
+    policy = t.policy;
+    imprint = t.imprint;
+    serial = t.serial;
+    time = text_of 6 t.gen_time;
+    accuracy = t.accuracy;
+  };
   ordering = t.ordering;
   nonce = t.nonce;
   extensions = t.extensions;

@@ -191,15 +191,18 @@ fn sha256_parts(digest: &[u8; 32], cert_req: bool) -> Request<'_>
 pub fn requests_have_one_reading()
     ensures one { (octets : List ℕ) (r s : RequestValue) → Spells octets r → Spells octets s → r ≡ s }
 
-    // Spellings of one request differ in the octets of its FALSEs alone, which may be stated or left away, and in the lengths that
-    // count them; a request without a FALSE has one spelling.
+    // Spellings of one request differ in the octets of its FALSEs alone, which may be stated or left away, and in the
+    // lengths that count them; a request without a FALSE has one spelling.
     ensures parts { (octets : List ℕ) (r : RequestValue) → Spells octets r → AreRequest octets r }
-    ensures one_spelling { (octets others : List ℕ) (r : RequestValue) → HasNoFalse r → Spells octets r → Spells others r → octets ≡ others }
+    ensures one_spelling { (octets others : List ℕ) (r : RequestValue) → HasNoFalse r → Spells octets r → Spells others r
+        → octets ≡ others }
 
     // Without its stated FALSEs a request of at most 65,536 octets is lawful too. What `write_request` writes spells it, so
     // it is read back.
-    ensures unstated { (octets : List ℕ) (r : RequestValue) → Spells octets r → length octets ≤ 65536 → IsLawful (time_stamp_req unstated r) }
-    ensures written { (r : RequestValue) → IsRequest r → IsLawful (time_stamp_req unstated r) → Spells (encoding (time_stamp_req unstated r)) r }
+    ensures unstated { (octets : List ℕ) (r : RequestValue) → Spells octets r → length octets ≤ 65536
+        → IsLawful (time_stamp_req unstated r) }
+    ensures written { (r : RequestValue) → IsRequest r → IsLawful (time_stamp_req unstated r)
+        → Spells (encoding (time_stamp_req unstated r)) r }
     ensures sha256 { (digest : List ℕ) (cert_req : Bool) → AreOctets digest → length digest ≤ 32
         → Spells (encoding (time_stamp_req unstated (sha256_request digest cert_req))) (sha256_request digest cert_req)
         × (length (encoding (time_stamp_req unstated (sha256_request digest cert_req))) ≤ 65536) }
@@ -208,7 +211,8 @@ pub fn requests_have_one_reading()
     ensures answer { (octets : List ℕ) (r : RequestValue) → Spells octets r → length octets ≤ 65536
         → (policy : List ℕ) (serial gen_time accuracy : ℕ) (ordering : Bool) → IsOid policy → 1 ≤ serial → serial < 2 ^ 63
         → gen_time ≤ 253402300799999999 → 1 ≤ accuracy → accuracy ≤ 1000000
-        → IsTst (answer r policy serial gen_time accuracy ordering) × IsLawful (tst_info (answer r policy serial gen_time accuracy ordering)) }
+        → IsTst (answer r policy serial gen_time accuracy ordering)
+        × IsLawful (tst_info (answer r policy serial gen_time accuracy ordering)) }
 {}
 
 /// Reads a TimeStampReq (RFC 3161 2.4.1) in its distinguished encoding where it lies, but that certReq's and each

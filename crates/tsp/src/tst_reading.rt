@@ -55,8 +55,10 @@ pub fn read_tst(octets: &[u8]) -> Result<TstInfo<'_>, TspFault>
 
 /// The TSTInfo that a value is.
 fn tst_info_from(value: DataValue<'_>) -> Option<TstInfo<'_>>
-    ensures found { IfSome result (λ tst. IsFormed (value_view value.entry) → IsTst (tst_view tst) × (value_view value.entry ≡ tst_info (tst_view tst))) }
-    ensures only { (t : TstValue) → IsTst t → value_view value.entry ≡ tst_info t → MatchOption result ⊥ (λ tst. tst_view tst ≡ t) }
+    ensures found { IfSome result (λ tst. IsFormed (value_view value.entry)
+        → IsTst (tst_view tst) × (value_view value.entry ≡ tst_info (tst_view tst))) }
+    ensures only { (t : TstValue) → IsTst t → value_view value.entry ≡ tst_info t
+        → MatchOption result ⊥ (λ tst. tst_view tst ≡ t) }
 {
     tst_from(parts_from(value)?)
 }
@@ -145,7 +147,8 @@ fn number_in(tag: Tag, most: u64, value: DataValue<'_>) -> Option<u64>
 /// A part of an accuracy, 0 where it is left away.
 #[tactic(auto, unfolding(crate::specs::Reading::optional_at, crate::specs::TstReading::part_at))]
 fn read_part(tag: Tag, most: u64, members: &mut DataValues<'_>) -> Option<u64>
-    ensures read { option_map (λ found. (found, values_view members.new)) result ≡ part_at tag.octet most (values_view members.old) }
+    ensures read { option_map (λ found. (found, values_view members.new)) result
+        ≡ part_at tag.octet most (values_view members.old) }
     ensures bound { IfSome result (λ found. found ≤ most) }
 {
     match members.next_under(tag) {

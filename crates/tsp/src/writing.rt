@@ -47,20 +47,16 @@ fn append(writer: &mut Writer, octets: &[u8]) -> Result<(), TspFault>
 }
 
 /// Appends a value with these contents octets, of which there are fewer than 2^24.
-fn append_value(
-    alloc: Global,
-    writer: &mut Writer,
-    tag: Tag,
-    contents: &[u8],
-) -> Result<(), TspFault>
+fn append_value(writer: &mut Writer, tag: Tag, contents: &[u8]) -> Result<(), TspFault>
     requires { length contents.now < 2 ^ 24 }
     ensures ok { OnOk result (writer.new ≡ writer.old ++ element tag.octet contents.now) }
     ensures memory { IfErr result (λ fault. fault ≡ Memory) }
 {
-    let mut value = Writer::new(alloc);
-    append(&mut value, contents)?;
-    wrap(&mut value, tag)?;
-    append(writer, value.as_slice())
+    match writer.append_element(tag, contents) {
+        Ok(()) => Ok(()),
+        Err(DerFault::Memory) => Err(TspFault::Memory),
+        Err(_) => unreachable!(),
+    }
 }
 
 /// Appends a number's contents under a tag.
@@ -71,7 +67,7 @@ fn append_number(alloc: Global, writer: &mut Writer, tag: Tag, number: u64) -> R
     ensures memory { IfErr result (λ fault. fault ≡ Memory) }
 {
     match whole_number_content(alloc, i128::from(number)) {
-        Ok(contents) => append_value(alloc, writer, tag, &contents),
+        Ok(contents) => append_value(writer, tag, &contents),
         Err(DerFault::Memory) => Err(TspFault::Memory),
         Err(_) => unreachable!(),
     }
@@ -85,7 +81,7 @@ fn append_time(alloc: Global, writer: &mut Writer, moment: GenTime) -> Result<()
     let _bound = moment.micros();
     texts_are_short();
     match moment.write(alloc, 6) {
-        Ok(text) => append_value(alloc, writer, Tag::GENERALIZED_TIME, &text),
+        Ok(text) => append_value(writer, Tag::GENERALIZED_TIME, &text),
         Err(GenTimeFault::Memory) => Err(TspFault::Memory),
         Err(_) => unreachable!(),
     }
@@ -117,12 +113,12 @@ fn append_accuracy(alloc: Global, writer: &mut Writer, micros: u32) -> Result<()
 }
 
 /// Appends a BOOLEAN DEFAULT FALSE: nothing for FALSE (X.690 11.5).
-fn append_flag(alloc: Global, writer: &mut Writer, flag: bool) -> Result<(), TspFault>
+fn append_flag(writer: &mut Writer, flag: bool) -> Result<(), TspFault>
     ensures ok { OnOk result (writer.new ≡ writer.old ++ encodings (nodes (false_by_default false flag))) }
     ensures memory { IfErr result (λ fault. fault ≡ Memory) }
 {
     if flag {
-        append_value(alloc, writer, Tag::BOOLEAN, &[0xff])
+        append_value(writer, Tag::BOOLEAN, &[0xff])
     } else {
         Ok(())
     }
@@ -140,7 +136,6 @@ fn append_algorithm(
 {
     let mut members = Writer::new(alloc);
     append_value(
-        alloc,
         &mut members,
         Tag::OBJECT_IDENTIFIER,
         imprint.algorithm.content(),
@@ -164,7 +159,7 @@ fn append_imprint(
 {
     let mut members = Writer::new(alloc);
     append_algorithm(alloc, &mut members, imprint)?;
-    append_value(alloc, &mut members, Tag::OCTET_STRING, imprint.hash)?;
+    append_value(&mut members, Tag::OCTET_STRING, imprint.hash)?;
     wrap(&mut members, Tag::SEQUENCE)?;
     append(writer, members.as_slice())
 }
@@ -181,13 +176,12 @@ fn append_extension(
 {
     let mut members = Writer::new(alloc);
     append_value(
-        alloc,
         &mut members,
         Tag::OBJECT_IDENTIFIER,
         item.identifier.content(),
     )?;
-    append_flag(alloc, &mut members, item.critical)?;
-    append_value(alloc, &mut members, Tag::OCTET_STRING, item.value)?;
+    append_flag(&mut members, item.critical)?;
+    append_value(&mut members, Tag::OCTET_STRING, item.value)?;
     wrap(&mut members, Tag::SEQUENCE)?;
     append(writer, members.as_slice())
 }
@@ -229,18 +223,14 @@ fn append_extensions(
 }
 
 /// Appends an INTEGER where there is one.
-fn append_nonce(
-    alloc: Global,
-    writer: &mut Writer,
-    nonce: &Option<Integer<'_>>,
-) -> Result<(), TspFault>
+fn append_nonce(writer: &mut Writer, nonce: &Option<Integer<'_>>) -> Result<(), TspFault>
     requires { AreFormed (nodes (optional integer nonce.now)) }
     ensures ok { OnOk result (writer.new ≡ writer.old ++ encodings (nodes (optional integer nonce.now))) }
     ensures memory { IfErr result (λ fault. fault ≡ Memory) }
 {
     match nonce {
         None => Ok(()),
-        Some(number) => append_value(alloc, writer, Tag::INTEGER, number.content()),
+        Some(number) => append_value(writer, Tag::INTEGER, number.content()),
     }
 }
 
@@ -255,37 +245,28 @@ pub fn write_tst(alloc: Global, tst: &TstInfo<'_>) -> Result<Vec<u8>, TspFault>
     ensures memory { IfErr result (λ fault. fault ≡ Memory) }
 {
     let mut members = Writer::new(alloc);
-    append_value(alloc, &mut members, Tag::INTEGER, &[1])?;
-    append_value(
-        alloc,
-        &mut members,
-        Tag::OBJECT_IDENTIFIER,
-        tst.policy.content(),
-    )?;
+    append_value(&mut members, Tag::INTEGER, &[1])?;
+    append_value(&mut members, Tag::OBJECT_IDENTIFIER, tst.policy.content())?;
     append_imprint(alloc, &mut members, &tst.imprint)?;
     append_number(alloc, &mut members, Tag::INTEGER, tst.serial)?;
     append_time(alloc, &mut members, tst.gen_time)?;
     append_accuracy(alloc, &mut members, tst.accuracy)?;
-    append_flag(alloc, &mut members, tst.ordering)?;
-    append_nonce(alloc, &mut members, &tst.nonce)?;
+    append_flag(&mut members, tst.ordering)?;
+    append_nonce(&mut members, &tst.nonce)?;
     append_extensions(alloc, &mut members, TST_EXTENSIONS, tst.extensions.again())?;
     wrap(&mut members, Tag::SEQUENCE)?;
     Ok(members.into_octets())
 }
 
 /// Appends an OBJECT IDENTIFIER where there is one.
-fn append_policy(
-    alloc: Global,
-    writer: &mut Writer,
-    policy: &Option<ObjectIdentifier<'_>>,
-) -> Result<(), TspFault>
+fn append_policy(writer: &mut Writer, policy: &Option<ObjectIdentifier<'_>>) -> Result<(), TspFault>
     requires { AreFormed (nodes (optional object_identifier policy.now)) }
     ensures ok { OnOk result (writer.new ≡ writer.old ++ encodings (nodes (optional object_identifier policy.now))) }
     ensures memory { IfErr result (λ fault. fault ≡ Memory) }
 {
     match policy {
         None => Ok(()),
-        Some(policy) => append_value(alloc, writer, Tag::OBJECT_IDENTIFIER, policy.content()),
+        Some(policy) => append_value(writer, Tag::OBJECT_IDENTIFIER, policy.content()),
     }
 }
 
@@ -297,11 +278,11 @@ pub fn write_request(alloc: Global, request: &Request<'_>) -> Result<Vec<u8>, Ts
     ensures memory { IfErr result (λ fault. fault ≡ Memory) }
 {
     let mut members = Writer::new(alloc);
-    append_value(alloc, &mut members, Tag::INTEGER, request.version.content())?;
+    append_value(&mut members, Tag::INTEGER, request.version.content())?;
     append_imprint(alloc, &mut members, &request.imprint)?;
-    append_policy(alloc, &mut members, &request.policy)?;
-    append_nonce(alloc, &mut members, &request.nonce)?;
-    append_flag(alloc, &mut members, request.cert_req)?;
+    append_policy(&mut members, &request.policy)?;
+    append_nonce(&mut members, &request.nonce)?;
+    append_flag(&mut members, request.cert_req)?;
     append_extensions(
         alloc,
         &mut members,
