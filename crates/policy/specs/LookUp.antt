@@ -1,6 +1,6 @@
 -- What look-ups find in the record that a policy file means. Object identifiers are asked for by their contents octets
 -- (X.690 8.19), and keys by their SHA-256.
-use Rattle.std.specs.Prelude.{ℕ, List, [], ◌∷◌, Option, Some, None, option_and_then}
+use Rattle.std.specs.Prelude.{ℕ, List, [], ◌∷◌, Option, None, option_and_then}
 use Rattle.std.specs.List.{find}
 use Rattle.std.specs.Str.{bytes_eq}
 use Rattle.der.specs.ObjectIdentifier.{oid_content}
