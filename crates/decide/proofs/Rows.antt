@@ -1,6 +1,5 @@
 -- The definitions, computed on a row: calibration (0, 250, 400), drift 1000, three digits, reading 1,000,000,000.
-use Rattle.std.proofs.Common.{◌≡◌, ℕ, ◌<◌, ◌≤◌, ◌+◌, ◌-◌, pos, List, [], ◌∷◌, Option, Some, None, true, false, refl, sym, subst, ◌∙◌, codes, arith}
-use Rattle.std.specs.Prelude.{◌≤ℤ◌}
+use Rattle.std.proofs.Common.{◌≡◌, ℕ, ◌≤◌, ◌+◌, ◌-◌, pos, [], ◌∷◌, Some, None, true, false, refl, sym, subst, codes, arith}
 use Rattle.std.proofs.lemmas.Int.{ints}
 use Rattle.std.proofs.lemmas.Option.{same_Some}
 use Rattle.policy.specs.Record.{AccountValue, CounterValue, PolicyValue}

@@ -1,5 +1,5 @@
 -- The code's tests tell the rules' sentences.
-use Rattle.std.proofs.Common.{◌≡◌, ℕ, ◌≤◌, Bool, true, false, Option, Some, None, is_some, List, [], ◌∷◌, map, length, ◌&&◌, ◌||◌, ◌==◌, not, nat_le, option_map, String, Global, string_bytes, slice_get, refl, sym, ap, ◌∙◌, subst, inl, inr, ◌⊎◌}
+use Rattle.std.proofs.Common.{◌≡◌, ℕ, ◌≤◌, Bool, true, false, Option, Some, None, is_some, List, [], ◌∷◌, map, length, ◌&&◌, ◌||◌, ◌==◌, not, nat_le, option_map, String, Global, string_bytes, refl, sym, ap, ◌∙◌, subst, inl, inr, ◌⊎◌}
 use Rattle.std.specs.Prelude.{Contains}
 use Rattle.std.specs.Bool.{Decides}
 use Rattle.std.specs.List.{list_any, list_all, find, AllByRecursion}
@@ -21,7 +21,7 @@ use Rattle.tsp.specs.Rules.{AlgorithmValue}
 use Rattle.tsp.specs.Request.{ExtensionValue}
 use Rattle.decide.specs.Rules.{algorithms_of, IsAccepted, KnowsExtension, AreDistinct}
 use Rattle.decide.specs.Tests.{lists_algorithm, knows_extension, knows_extensions, stands_once, stand_once}
-use Rattle.decide.proofs.Lists.{contains_here, contains_there, contains_none, contains_first_or_other, decides_any, decides_all, decides_each, decides_found, found_passes, map_id}
+use Rattle.decide.proofs.Lists.{contains_here, contains_there, contains_none, contains_first_or_other, decides_any, decides_all, decides_found, found_passes, map_id}
 
 -- the contents of an object identifier tell it
 abbrev pub OneContent : Type 0

@@ -1,4 +1,4 @@
-use Rattle.std.proofs.Common.{◌≡◌, true, false, List, [], map, sym, ◌∙◌, subst, ◌⊎◌}
+use Rattle.std.proofs.Common.{◌≡◌, List, [], map, sym, ◌∙◌, subst, ◌⊎◌}
 use Rattle.std.specs.Bool.{Decides}
 use Rattle.tsp.specs.Request.{ExtensionValue}
 use Rattle.decide.specs.Rules.{AreDistinct}
