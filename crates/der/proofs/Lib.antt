@@ -16,7 +16,6 @@ pub mod ReadingNodes
 pub mod ReadingRuns
 pub mod ReadingTree
 pub mod EncodingBounds
-pub mod TreeViews
 pub mod ValuesRead
 pub mod ValuesTaken
 pub mod Elements

@@ -10,7 +10,7 @@ use Rattle.std.proofs.lemmas.List.{append-nil, map-append, length-map, length_pu
 use Rattle.std.proofs.lemmas.Nat.{div-mul-add, mod-mul-add, div-add-mod'}
 use Rattle.std.proofs.lemmas.Slice.Eq.{bytes_eq-Decides}
 use Rattle.der.specs.Node.{AreOctets}
-use Rattle.der.specs.ObjectIdentifier.{IsOid, IsOidContent, with_continuation, subidentifier_octets, oid_content, subidentifiers_after, subidentifiers_of, is_oid, oid_of}
+use Rattle.der.specs.ObjectIdentifier.{IsOid, ReadsAsOid, with_continuation, subidentifier_octets, oid_content, subidentifiers_after, subidentifiers_of, is_oid, oid_of}
 use Rattle.der.proofs.Digits.{digits_of_push}
 use Rattle.der.proofs.DigitsElements.{all-append, all-map}
 
@@ -220,17 +220,17 @@ content-after n (octet ∷ os) octets h =
 
 -- ---- the test
 
-pub IsOidContent-from_fits : (os : List ℕ) → AreOctets os → fits 0 os ≡ true → 1 ≤ length (subidentifiers_of os) → length (subidentifiers_of os) ≤ 32 → IsOidContent os
+pub ReadsAsOid-from_fits : (os : List ℕ) → AreOctets os → fits 0 os ≡ true → 1 ≤ length (subidentifiers_of os) → length (subidentifiers_of os) ≤ 32 → ReadsAsOid os
 unfolding subidentifiers_of
-IsOidContent-from_fits os octets h some few =
+ReadsAsOid-from_fits os octets h some few =
     let rest = content-after 0 os octets h in
     record { oid = record { some = some; few = few; small = rest.1 }; same = rest.0 }
 
-pub fits-from_IsOidContent : (os : List ℕ) → IsOidContent os → fits 0 os ≡ true
-fits-from_IsOidContent os h = ap (fits 0) (sym h.same) ∙ fits-content (subidentifiers_of os) h.oid.small
+pub fits-from_ReadsAsOid : (os : List ℕ) → ReadsAsOid os → fits 0 os ≡ true
+fits-from_ReadsAsOid os h = ap (fits 0) (sym h.same) ∙ fits-content (subidentifiers_of os) h.oid.small
 
-pub IsOidContent-content : (ss : List ℕ) → IsOid ss → IsOidContent (oid_content ss)
-IsOidContent-content ss h =
+pub ReadsAsOid-content : (ss : List ℕ) → IsOid ss → ReadsAsOid (oid_content ss)
+ReadsAsOid-content ss h =
     let e = subidentifiers_of-content ss in
     record { oid = subst IsOid (sym e) h; same = ap oid_content e }
 
@@ -249,23 +249,23 @@ is_oid-decides ss =
     (Decides-and (leb 1 (length ss)) (leb (length ss) 32) (leb-decides 1 (length ss)) (leb-decides (length ss) 32)) (small_decides ss) in
     (λ t. let p = both.0 t in record { some = p.0.0; few = p.0.1; small = p.1 }, λ h. both.1 ((h.some, h.few), h.small))
 
-oid_of-decides : (os : List ℕ) → Decides (is_oid (subidentifiers_of os) && bytes_eq (oid_content (subidentifiers_of os)) os) (IsOidContent os)
+oid_of-decides : (os : List ℕ) → Decides (is_oid (subidentifiers_of os) && bytes_eq (oid_content (subidentifiers_of os)) os) (ReadsAsOid os)
 oid_of-decides os =
     let both = Decides-and (is_oid (subidentifiers_of os)) (bytes_eq (oid_content (subidentifiers_of os)) os) (is_oid-decides (subidentifiers_of os)) (bytes_eq-Decides (oid_content (subidentifiers_of os)) os) in
     (λ t. let p = both.0 t in record { oid = p.0; same = p.1 }, λ h. both.1 (h.oid, h.same))
 
-pub oid_of-contents : (os : List ℕ) → IsOidContent os → oid_of os ≡ Some (subidentifiers_of os)
+pub oid_of-contents : (os : List ℕ) → ReadsAsOid os → oid_of os ≡ Some (subidentifiers_of os)
 unfolding oid_of
 oid_of-contents os h = cond-true _ _ _ ((oid_of-decides os).1 h)
 
-pub oid_of-others : (os : List ℕ) → (IsOidContent os → ⊥) → oid_of os ≡ None
+pub oid_of-others : (os : List ℕ) → (ReadsAsOid os → ⊥) → oid_of os ≡ None
 unfolding oid_of
 oid_of-others os h = cond-false _ _ _ (false_from_ne_true _ (λ t. h ((oid_of-decides os).0 t)))
 
 pub oid_of-content : (ss : List ℕ) → IsOid ss → oid_of (oid_content ss) ≡ Some ss
-oid_of-content ss h = oid_of-contents (oid_content ss) (IsOidContent-content ss h) ∙ ap Some (subidentifiers_of-content ss)
+oid_of-content ss h = oid_of-contents (oid_content ss) (ReadsAsOid-content ss h) ∙ ap Some (subidentifiers_of-content ss)
 
-is_from_some : (os ss : List ℕ) (b : Bool) → Decides b (IsOidContent os) → cond b (Some (subidentifiers_of os)) None ≡ Some ss → IsOid ss × (os ≡ oid_content ss)
+is_from_some : (os ss : List ℕ) (b : Bool) → Decides b (ReadsAsOid os) → cond b (Some (subidentifiers_of os)) None ≡ Some ss → IsOid ss × (os ≡ oid_content ss)
 is_from_some os ss true decided e =
     let h = decided.0 refl in
     let same : subidentifiers_of os ≡ ss = cc in
@@ -310,8 +310,8 @@ same_answer a b x y r p q e =
     (λ t. same_from_content a b (sym p ∙ (at_contents.0 t ∙ q)), λ same. at_contents.1 (p ∙ (ap oid_content same ∙ sym q)))
     at_values
 
-pub IsOidContent-written : (os ss : List ℕ) → IsOid ss → os ≡ oid_content ss → IsOidContent os
-IsOidContent-written os ss h e = subst IsOidContent (sym e) (IsOidContent-content ss h)
+pub ReadsAsOid-written : (os ss : List ℕ) → IsOid ss → os ≡ oid_content ss → ReadsAsOid os
+ReadsAsOid-written os ss h e = subst ReadsAsOid (sym e) (ReadsAsOid-content ss h)
 
 pub subidentifiers_of-written : (os ss : List ℕ) → os ≡ oid_content ss → subidentifiers_of os ≡ ss
 subidentifiers_of-written os ss e = ap subidentifiers_of e ∙ subidentifiers_of-content ss

@@ -4,9 +4,9 @@ use Rattle.std.specs.Option.{is_some}
 use Rattle.std.proofs.lemmas.Bool.{eqb-true, eqb-false, eq-eqb, false≢true, le-ltb}
 use Rattle.std.proofs.lemmas.List.{drop_more, drop_all}
 use Rattle.der.specs.Node.{AreOctets}
-use Rattle.der.specs.ObjectIdentifier.{IsOidContent, subidentifiers_after, subidentifiers_of, oid_of}
+use Rattle.der.specs.ObjectIdentifier.{IsOidContent, ReadsAsOid, subidentifiers_after, subidentifiers_of, oid_of}
 use Rattle.der.proofs.DigitsElements.{all-from_places}
-use Rattle.der.proofs.OidContents.{fits, fits-last, fits-more, fits-large, fits-padded, subidentifiers_after-last, subidentifiers_after-more, IsOidContent-from_fits, fits-from_IsOidContent, oid_of-contents, oid_of-others}
+use Rattle.der.proofs.OidContents.{fits, fits-last, fits-more, fits-large, fits-padded, subidentifiers_after-last, subidentifiers_after-more, ReadsAsOid-from_fits, fits-from_ReadsAsOid, oid_of-contents, oid_of-others, ReadsAsOid-written}
 
 -- i octets are read: count subidentifiers, and n of the next
 pub record IsReadSoFar (os : List ℕ) (i n count : ℕ) : Type 0 where
@@ -54,15 +54,15 @@ pub record Tells (os : List ℕ) (b : Bool) : Type 0 where
   pub content : IsTrue b ↔ IsOidContent os
   pub read : b ≡ is_some (oid_of os)
 
-tells_others : (os : List ℕ) → (IsOidContent os → ⊥) → Tells os false
+tells_others : (os : List ℕ) → (ReadsAsOid os → ⊥) → Tells os false
 tells_others os h =
-    record { content = (λ e. absurd (false≢true e), λ k. absurd (h k)); read = sym (ap is_some (oid_of-others os h)) }
+    record { content = (λ e. absurd (false≢true e), λ k. absurd (h (ReadsAsOid-written os k.subidentifiers k.oid k.encoded))); read = sym (ap is_some (oid_of-others os h)) }
 
-tells_contents : (os : List ℕ) → IsOidContent os → Tells os true
-tells_contents os h = record { content = (λ _. h, λ _. refl); read = sym (ap is_some (oid_of-contents os h)) }
+tells_contents : (os : List ℕ) → ReadsAsOid os → Tells os true
+tells_contents os h = record { content = (λ _. record { subidentifiers = subidentifiers_of os; oid = h.oid; encoded = sym h.same }, λ _. refl); read = sym (ap is_some (oid_of-contents os h)) }
 
 pub tells_refused : (os : List ℕ) → fits 0 os ≡ false → Tells os false
-tells_refused os e = tells_others os (λ h. false≢true (sym e ∙ fits-from_IsOidContent os h))
+tells_refused os e = tells_others os (λ h. false≢true (sym e ∙ fits-from_ReadsAsOid os h))
 
 -- at the end of the octets
 ended : (os : List ℕ) (i n count : ℕ) → length os ≤ i → IsReadSoFar os i n count → (eqb n 0 ≡ fits 0 os) × (count ≡ length (subidentifiers_of os))
@@ -73,12 +73,12 @@ ended os i n count end so_far =
 tells_contents_at_end : (os : List ℕ) (i n count : ℕ) → AreOctets os → length os ≤ i → IsReadSoFar os i n count → n ≡ 0 → 1 ≤ count → count ≤ 32 → Tells os true
 tells_contents_at_end os i n count octets end so_far none some few =
     let is = ended os i n count end so_far in
-    tells_contents os (IsOidContent-from_fits os octets (sym is.0 ∙ eq-eqb n 0 none) (omega (arith, is.1)) (omega (arith, is.1)))
+    tells_contents os (ReadsAsOid-from_fits os octets (sym is.0 ∙ eq-eqb n 0 none) (omega (arith, is.1)) (omega (arith, is.1)))
 
 pub tells_others_at_end : (os : List ℕ) (i n count : ℕ) → length os ≤ i → IsReadSoFar os i n count → (n ≡ 0 → 1 ≤ count → count ≤ 32 → ⊥) → Tells os false
 tells_others_at_end os i n count end so_far h =
     let is = ended os i n count end so_far in
-    tells_others os (λ k. h (eqb-true n 0 (is.0 ∙ fits-from_IsOidContent os k)) (omega (arith, is.1, k.oid.some)) (omega (arith, is.1, k.oid.few)))
+    tells_others os (λ k. h (eqb-true n 0 (is.0 ∙ fits-from_ReadsAsOid os k)) (omega (arith, is.1, k.oid.some)) (omega (arith, is.1, k.oid.few)))
 
 tells_by : (os : List ℕ) (i n count : ℕ) (b : Bool) → AreOctets os → length os ≤ i → IsReadSoFar os i n count → 1 ≤ count → count ≤ 32 → eqb n 0 ≡ b → Tells os b
 tells_by os i n count true octets end so_far some few e = tells_contents_at_end os i n count octets end so_far (eqb-true n 0 e) some few

@@ -2,9 +2,9 @@
 use Rattle.std.proofs.Common.{◌≡◌, ℕ, ◌+◌, ◌-◌, ◌*◌, ◌^◌, ◌<◌, ◌≤◌, true, List, [], ◌∷◌, ◌++◌, length, drop, get_or, refl, sym, ap, subst, ◌∙◌, arith, append_assoc, length-append}
 use Rattle.std.specs.List.{flat_map}
 use Rattle.std.proofs.lemmas.List.{append-nil, drop_more, drop_all, flat_map_more, nil_from_length, length_push}
-use Rattle.der.specs.ObjectIdentifier.{IsOidContent, subidentifier_octets, oid_content, subidentifiers_after, subidentifiers_of, decimal, dotted, first_arc, oid_text, AreOthers, IsDottedNumberAt}
+use Rattle.der.specs.ObjectIdentifier.{ReadsAsOid, subidentifier_octets, oid_content, subidentifiers_after, subidentifiers_of, decimal, dotted, first_arc, oid_text, AreOthers, IsDottedNumberAt}
 use Rattle.der.proofs.DigitsElements.{all-append}
-use Rattle.der.proofs.OidContents.{AreSmall, fits, fits_parts, fits_parts_last, fits_parts_more, fits-from_IsOidContent, subidentifiers_after-last, subidentifiers_after-more}
+use Rattle.der.proofs.OidContents.{AreSmall, fits, fits_parts, fits_parts_last, fits_parts_more, fits-from_ReadsAsOid, subidentifiers_after-last, subidentifiers_after-more}
 use Rattle.der.proofs.OidTexts.{dotted_head, dotted_of}
 
 -- ---- reading
@@ -99,10 +99,10 @@ pub record IsWrittenSoFar (os text : List ℕ) (i n : ℕ) : Type 0 where
   pub readable : fits n (drop i os) ≡ true
   pub text_is : text_after text (subidentifiers_after n (drop i os)) ≡ oid_text (subidentifiers_of os)
 
-pub written_none : (os text : List ℕ) → IsOidContent os → text ≡ [] → IsWrittenSoFar os text 0 0
+pub written_none : (os text : List ℕ) → ReadsAsOid os → text ≡ [] → IsWrittenSoFar os text 0 0
 unfolding subidentifiers_of
 written_none os text h none =
-    record { readable = fits-from_IsOidContent os h; text_is = ap (λ k. text_after k (subidentifiers_after 0 os)) none }
+    record { readable = fits-from_ReadsAsOid os h; text_is = ap (λ k. text_after k (subidentifiers_after 0 os)) none }
 
 at_octet : (os : List ℕ) (i : ℕ) (c : ℕ) → i < length os → c ≡ get_or os i 0 → drop i os ≡ c ∷ drop (i + 1) os
 at_octet os i c within at = drop_more os i 0 within ∙ ap (λ k. k ∷ drop (i + 1) os) (sym at)

@@ -6,8 +6,8 @@ use Rattle.std.specs.Int.Digits.{digits_of}
 use Rattle.std.specs.List.{flat_map}
 use Rattle.std.proofs.lemmas.Int.Digits.{digits_of_step}
 use Rattle.std.proofs.lemmas.List.{map-append}
-use Rattle.der.specs.ObjectIdentifier.{IsOid, IsOidContent, subidentifiers_of, subidentifier_octets, oid_content, decimal, dotted, first_arc, oid_text, AreOthers, IsNumberAt, IsDottedNumberAt, BeginsWithoutDigit}
-use Rattle.der.proofs.OidContents.{continued, subidentifier_octets-split, AreSmall, IsOidContent-written, subidentifiers_of-written}
+use Rattle.der.specs.ObjectIdentifier.{IsOid, ReadsAsOid, subidentifiers_of, subidentifier_octets, oid_content, decimal, dotted, first_arc, oid_text, AreOthers, IsNumberAt, IsDottedNumberAt, BeginsWithoutDigit}
+use Rattle.der.proofs.OidContents.{continued, subidentifier_octets-split, AreSmall, ReadsAsOid-written, subidentifiers_of-written}
 use Rattle.der.proofs.OidNumbers.{same_number}
 
 -- ---- octets pushed
@@ -171,8 +171,8 @@ made_of text seen first rest second last s others empty mid content same h k sma
       written = back ∙ (ap (λ t. t ++ oid_content others) front ∙ ap (λ t. t ++ subidentifier_octets s ++ oid_content others) none);
     }
 
-pub IsOidContent-made : (text content : List ℕ) → IsMade text content → IsOidContent content
-IsOidContent-made text content h = IsOidContent-written content h.made h.oid h.written
+pub ReadsAsOid-made : (text content : List ℕ) → IsMade text content → ReadsAsOid content
+ReadsAsOid-made text content h = ReadsAsOid-written content h.made h.oid h.written
 
 pub made-found : (text content : List ℕ) → IsMade text content → IsOid (subidentifiers_of content) × (text ≡ oid_text (subidentifiers_of content))
 made-found text content h =

@@ -99,17 +99,6 @@ abbrev mutual
   AreFormed no_nodes = Unit {0}
   AreFormed (node first others) = IsFormed first × AreFormed others
 
-abbrev mutual
-  -- each value's contents are fewer than 2 ^ 24 octets
-  pub HasShortContents : Node → Type 0
-  HasShortContents (primitive identifier contents) = length contents < 2 ^ 24
-  HasShortContents (constructed identifier components) =
-      HaveShortContents components × (length (encodings components) < 2 ^ 24)
-
-  pub HaveShortContents : Nodes → Type 0
-  HaveShortContents no_nodes = Unit {0}
-  HaveShortContents (node first others) = HasShortContents first × HaveShortContents others
-
 -- formed, and at most 32 levels
 pub record IsLawful (n : Node) : Type 0 where
   pub formed : IsFormed n

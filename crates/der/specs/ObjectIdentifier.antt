@@ -36,20 +36,28 @@ subidentifiers_after n (octet ∷ octets) =
 unfoldable pub subidentifiers_of : List ℕ → List ℕ
 subidentifiers_of octets = subidentifiers_after 0 octets
 
--- The octets are the contents of an object identifier, the one of the subidentifiers that they are read as.
+-- some object identifier has these contents octets
 pub record IsOidContent (octets : List ℕ) : Type 0 where
+  pub subidentifiers : List ℕ
+  pub oid : IsOid subidentifiers
+  pub encoded : octets ≡ oid_content subidentifiers
+
+-- ..the one of the subidentifiers that the octets are read as
+pub record ReadsAsOid (octets : List ℕ) : Type 0 where
   pub oid : IsOid (subidentifiers_of octets)
   pub same : oid_content (subidentifiers_of octets) ≡ octets
 
 -- whether numbers are an object identifier
 abbrev pub is_oid : List ℕ → Bool
 is_oid subidentifiers =
-    nat_le 1 (length subidentifiers) && nat_le (length subidentifiers) 32 && list_all (λ subidentifier. nat_lt subidentifier (2 ^ 128)) subidentifiers
+    nat_le 1 (length subidentifiers) && nat_le (length subidentifiers) 32
+    && list_all (λ subidentifier. nat_lt subidentifier (2 ^ 128)) subidentifiers
 
 -- the object identifier whose contents the octets are, where they are any's
 unfoldable pub oid_of : List ℕ → Option (List ℕ)
 oid_of octets =
-    if is_oid (subidentifiers_of octets) && bytes_eq (oid_content (subidentifiers_of octets)) octets then Some (subidentifiers_of octets)
+    if is_oid (subidentifiers_of octets) && bytes_eq (oid_content (subidentifiers_of octets)) octets
+    then Some (subidentifiers_of octets)
     else None
 
 -- a number in decimal digits, without leading zeros
@@ -64,11 +72,19 @@ first_arc n = if nat_lt n 40 then 0 else (if nat_lt n 80 then 1 else 2)
 abbrev pub dotted : ℕ → List ℕ
 dotted n = 46 ∷ decimal n
 
--- the arcs in decimal, joined by dots
+-- the arcs of subidentifiers, of which the first is 40 * X + Y for the arcs X and Y
+abbrev pub arcs_of : List ℕ → List ℕ
+arcs_of [] = []
+arcs_of (first ∷ others) = first_arc first ∷ (first - 40 * first_arc first) ∷ others
+
+-- numbers in decimal, joined by dots
+abbrev pub joined_by_dots : List ℕ → List ℕ
+joined_by_dots [] = []
+joined_by_dots (first ∷ others) = decimal first ++ flat_map dotted others
+
+-- the text of an object identifier: its arcs in decimal, joined by dots
 abbrev pub oid_text : List ℕ → List ℕ
-oid_text [] = []
-oid_text (first ∷ others) =
-    decimal (first_arc first) ++ (dotted (first - 40 * first_arc first) ++ flat_map dotted others)
+oid_text subidentifiers = joined_by_dots (arcs_of subidentifiers)
 
 -- ---- reading a text from its front
 

@@ -1,5 +1,5 @@
 -- The value that a `Tree` is.
-use Rattle.std.specs.Prelude.{◌≡◌, List, [], ◌∷◌, map, Result, Ok, Err}
+use Rattle.std.specs.Prelude.{◌≡◌, List, [], ◌∷◌, Result, Ok, Err}
 use Rattle.der.specs.Node.{Node, primitive, constructed, Nodes, no_nodes, node}
 use Rattle.der.specs.declared.fault.DerFault.{DerFault}
 use Rattle.der.specs.declared.fault.DerFault.TheVariants.{Memory}
@@ -18,9 +18,6 @@ view_step (Tree-F.Constructed tag components) = constructed tag.octet (nodes com
 
 abbrev pub view : Tree → Node
 view = fold-Tree Node view_step
-
-abbrev pub components_view : List Tree → Nodes
-components_view trees = nodes (map view trees)
 
 -- a reader of octets that are this value's encoding answers the value, unless memory ran out
 abbrev pub IsRead : Result Tree DerFault → Node → Type 0

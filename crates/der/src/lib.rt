@@ -19,9 +19,6 @@ pub use number::{is_number_content, numbers_have_one_content, whole_number_conte
 pub use oid::{Oid, is_oid_content, oids_have_one_content_and_text};
 pub use read::read_tree;
 pub use tag::Tag;
-pub use tree::{
-    Components, Tree, components_under, contents_under, encodings_are_bounded,
-    trees_have_one_encoding,
-};
+pub use tree::{Tree, encodings_are_bounded, trees_have_one_encoding};
 pub use values::{check_values, encodings_are_read, read_value};
 pub use writer::Writer;

@@ -26,31 +26,16 @@ pub struct Oid {
 
 impl Model for Oid {
     ghost use Rattle.std.specs.Prelude.{ℕ, List};
-    ghost use Rattle.der.specs.ObjectIdentifier.{subidentifiers_of, IsOidContent};
+    ghost use Rattle.der.specs.ObjectIdentifier.{subidentifiers_of, ReadsAsOid};
 
     ghost Value = { List ℕ };
 
     ghost view = { λ oid. subidentifiers_of oid.content.items };
 
-    ghost invariant = { λ oid. IsOidContent oid.content.items };
+    ghost invariant = { λ oid. ReadsAsOid oid.content.items };
 }
 
 impl Oid {
-    /// The object identifier whose contents octets these are (X.690 8.19), moved in; none where they are no object
-    /// identifier's. Takes no memory.
-    pub fn from_owned_content(content: Vec<u8>) -> Option<Oid>
-        ensures read { result ≡ oid_of content.items }
-        ensures found { IfSome result (λ oid. IsOid oid × (content.items ≡ oid_content oid)) }
-        ensures none { IsNone result → (subidentifiers : List ℕ) → IsOid subidentifiers
-            → content.items ≡ oid_content subidentifiers → ⊥ }
-    {
-        if is_oid_content(&content) {
-            Some(Oid { content })
-        } else {
-            None
-        }
-    }
-
     /// The object identifier whose contents octets these are (X.690 8.19). Refused with `BadValue` where they are no
     /// object identifier's, and with `Memory` where memory runs out.
     pub fn from_content(alloc: Global, content: &[u8]) -> Result<Oid, DerFault>
@@ -213,8 +198,7 @@ mod tests {
         for (index, octets) in cases.iter().enumerate() {
             let oid = Oid::from_content(rt.alloc(), octets)?;
             assert_eq!(rt; oid.content(), *octets);
-            let owned = Oid::from_owned_content(Vec::from_slice(rt.alloc(), octets)?);
-            assert_eq!(rt; owned, Some(oid), "{index}");
+            assert!(rt; is_oid_content(octets), "{index}");
         }
         Ok(())
     }
@@ -241,8 +225,6 @@ mod tests {
                 Err(DerFault::BadValue),
                 "{index}"
             );
-            let owned = Oid::from_owned_content(Vec::from_slice(rt.alloc(), octets)?);
-            assert_eq!(rt; owned, None, "{index}");
         }
         Ok(())
     }

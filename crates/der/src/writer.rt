@@ -1,12 +1,10 @@
 //! Writing encodings from the inside outwards.
 ghost use Rattle.std.specs.Prelude.{◌≡◌, ℕ, ◌≤◌, ◌<◌, ◌^◌, ◌↔◌, ◌⊎◌, List, [], ◌++◌, length, OnOk, OnErr, IfOk, IfErr, IsTrue};
-ghost use Rattle.der.specs.Node.{element, length_octets, encoding, encodings, HasShortContents, HaveShortContents, IsFormed};
-ghost use Rattle.der.specs.Tree.{view, components_view};
+ghost use Rattle.der.specs.Node.{element, length_octets};
 ghost use Rattle.der.specs.declared.fault.DerFault.TheVariants.{TooLong, Memory};
 
 use crate::fault::DerFault;
 use crate::tag::Tag;
-use crate::tree::Tree;
 use std::alloc::{AllocError, Global};
 use std::marker::Model;
 
@@ -73,61 +71,6 @@ impl Writer {
     {
         let encoded = encoded_element(self.alloc, tag, contents)?;
         self.append(&encoded)
-    }
-
-    /// Puts a value's encoding after the octets written so far (X.690 8.1, 10.1).
-    ///
-    /// Refused as `TooLong` only where some contents in the value are 2^24 octets or more, and else only for want of
-    /// memory; a value with such contents is always refused.
-    pub fn append_tree(&mut self, tree: &Tree) -> Result<(), DerFault>
-        ensures ok { OnOk result (self.new ≡ self.old ++ encoding (view tree.now)) }
-        ensures short { OnOk result (HasShortContents (view tree.now)) }
-        ensures err { OnErr result (self.new ≡ self.old) }
-        ensures too_long { result ≡ Err TooLong → HasShortContents (view tree.now) → ⊥ }
-        ensures formed { result ≡ Err TooLong → IsFormed (view tree.now) → ⊥ }
-        ensures refusals { IfErr result (λ e. (e ≡ TooLong) ⊎ (e ≡ Memory)) }
-    {
-        let encoded = Writer::encoded(self.alloc, tree)?;
-        self.append(encoded.as_slice())
-    }
-
-    /// A value's encoding.
-    #[cycle(encode)]
-    fn encoded(alloc: Global, tree: &Tree) -> Result<Writer, DerFault>
-        ensures ok { IfOk result (λ writer. writer ≡ encoding (view tree.now)) }
-        ensures short { OnOk result (HasShortContents (view tree.now)) }
-        ensures too_long { result ≡ Err TooLong → HasShortContents (view tree.now) → ⊥ }
-        ensures refusals { IfErr result (λ e. (e ≡ TooLong) ⊎ (e ≡ Memory)) }
-    {
-        match tree {
-            Tree::Primitive(tag, contents) => {
-                let mut writer = Writer::new(alloc);
-                writer.append(contents)?;
-                writer.wrap(*tag)?;
-                Ok(writer)
-            }
-            Tree::Constructed(tag, components) => {
-                let mut writer = Writer::all_encoded(alloc, components)?;
-                writer.wrap(*tag)?;
-                Ok(writer)
-            }
-        }
-    }
-
-    /// The encodings of values, one after the other.
-    #[cycle(encode)]
-    fn all_encoded(alloc: Global, trees: &Vec<Tree>) -> Result<Writer, DerFault>
-        ensures ok { IfOk result (λ writer. writer ≡ encodings (components_view trees.now.items)) }
-        ensures short { OnOk result (HaveShortContents (components_view trees.now.items)) }
-        ensures too_long { result ≡ Err TooLong → HaveShortContents (components_view trees.now.items) → ⊥ }
-        ensures refusals { IfErr result (λ e. (e ≡ TooLong) ⊎ (e ≡ Memory)) }
-    {
-        let mut writer = Writer::new(alloc);
-        for tree in trees {
-            let encoded = Writer::encoded(alloc, tree)?;
-            writer.append(encoded.as_slice())?;
-        }
-        Ok(writer)
     }
 
     /// How many octets were written.

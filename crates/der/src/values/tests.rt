@@ -1,5 +1,8 @@
 use super::{check_values, encodings_are_read, read_value};
-use crate::{Cursor, DataValue, DataValues, DerFault, Tag, Tree, Writer, read_tree};
+use crate::{
+    Cursor, DataValue, DataValues, DerFault, Tag, Tree, Writer, encodings_are_bounded, read_tree,
+    trees_have_one_encoding,
+};
 use std::alloc::Global;
 use std::test::Fail;
 
@@ -39,6 +42,8 @@ fn takes_a_request_apart(rt: HostRuntime) -> Result<(), Fail> {
     assert!(rt; parts.next().is_none());
     assert!(rt; DataValues::none().is_empty());
     encodings_are_read();
+    trees_have_one_encoding();
+    encodings_are_bounded();
     Ok(())
 }
 

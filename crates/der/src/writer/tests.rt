@@ -1,5 +1,5 @@
 use super::Writer;
-use crate::{DerFault, Tag, Tree};
+use crate::{DerFault, Tag};
 use std::alloc::Global;
 use std::test::Fail;
 
@@ -44,31 +44,19 @@ fn refuses_to_wrap_2_24_octets(rt: HostRuntime) -> Result<(), Fail> {
         Err(DerFault::TooLong)
     );
     assert!(rt; element.is_empty());
-    let long = Tree::Primitive(Tag::OCTET_STRING, octets);
-    let mut writer = Writer::new(rt.alloc());
-    assert_eq!(rt; writer.append_tree(&long), Err(DerFault::TooLong));
-    assert!(rt; writer.is_empty());
     Ok(())
 }
 
-/// A SEQUENCE of the INTEGER 1 and the BOOLEAN TRUE.
-fn sample(alloc: Global) -> Result<Tree, DerFault> {
-    let mut number = Vec::new(alloc);
-    number.push(1)?;
-    let mut truth = Vec::new(alloc);
-    truth.push(0xff)?;
-    let mut components = Vec::new(alloc);
-    components.push(Tree::Primitive(Tag::INTEGER, number))?;
-    components.push(Tree::Primitive(Tag::BOOLEAN, truth))?;
-    Ok(Tree::Constructed(Tag::SEQUENCE, components))
-}
-
-/// A NULL, an OCTET STRING, and the sample after them.
+/// A NULL, an OCTET STRING, and a SEQUENCE of the INTEGER 1 and the BOOLEAN TRUE.
 fn written(alloc: Global) -> Result<Vec<u8>, DerFault> {
     let mut writer = Writer::new(alloc);
     writer.wrap(Tag::NULL)?;
     writer.append_element(Tag::OCTET_STRING, &[0x1f, 0x80])?;
-    writer.append_tree(&sample(alloc)?)?;
+    let mut sequence = Writer::new(alloc);
+    sequence.append_element(Tag::INTEGER, &[1])?;
+    sequence.append_element(Tag::BOOLEAN, &[0xff])?;
+    sequence.wrap(Tag::SEQUENCE)?;
+    writer.append(sequence.as_slice())?;
     Ok(writer.into_octets())
 }
 

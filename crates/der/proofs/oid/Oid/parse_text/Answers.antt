@@ -1,6 +1,6 @@
 use Rattle.std.proofs.Common.{Err, ap, ◌∙◌, ⊎_elim}
 use Rattle.std.proofs.lemmas.Result.{err_from_is_err_and}
-use Rattle.der.proofs.OidTexts.{has_second, has_arcs, has_others, IsMade, made_of, IsOidContent-made, made-found, made-only}
+use Rattle.der.proofs.OidTexts.{has_second, has_arcs, has_others, IsMade, made_of, ReadsAsOid-made, made-found, made-only}
 use Rattle.der.proofs.oid.Oid.parse_text.Goals as goal
 
 pub returns-in_default-dotted_number_at-clause-only : goal.returns-in_default-dotted_number_at-clause-only
@@ -24,7 +24,7 @@ is_made c =
     made_of _ _ _ _ _ _ _ _ _ _ _ c.as_bytes.ensures.value c.in-Some.ensures c.in-Some-dotted_number_at.ensures arcs.0 arcs.1 arcs.2 found.1 found.2 c.new-content.ensures.items c.in_ok-push_subidentifier.ensures found.3
 
 pub invariant_of-result : goal.invariant_of-result
-invariant_of-result c = IsOidContent-made c.args.text.now _ (is_made c)
+invariant_of-result c = ReadsAsOid-made c.args.text.now _ (is_made c)
 
 pub returns-clause-found : goal.returns-clause-found
 returns-clause-found c = made-found c.args.text.now _ (is_made c)

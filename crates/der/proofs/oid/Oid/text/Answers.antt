@@ -1,14 +1,14 @@
 use Rattle.std.proofs.Common.{◌≡◌, ◌<◌, length, sym, subst, ap, string_bytes, arith}
 use Rattle.std.specs.String.{string_len}
 use Rattle.std.proofs.lemmas.Bool.{eqb-true, eqb-false}
-use Rattle.der.specs.ObjectIdentifier.{IsOidContent}
+use Rattle.der.specs.ObjectIdentifier.{ReadsAsOid}
 use Rattle.der.proofs.OidTextLoops.{written_none, written_first, written_other, written_as}
 use Rattle.der.proofs.oid.Oid.text.Goals as goal
 use Rattle.der.proofs.oid.Oid.text.Goals.{then-is_empty+in_ok-push_first_arcs, else-is_empty+in_ok-push_dotted}
 
 pub loop-octet-init : goal.loop-octet-init
 loop-octet-init c =
-    written_none _ _ (subst IsOidContent (sym c.deref-octet-items.ensures.value) c.self.invariant) c.new-text.ensures.bytes
+    written_none _ _ (subst ReadsAsOid (sym c.deref-octet-items.ensures.value) c.self.invariant) c.new-text.ensures.bytes
 
 pub loop-octet-preserved : goal.loop-octet-preserved
 loop-octet-preserved c =
