@@ -4,9 +4,7 @@
 mod check;
 mod fault;
 mod hexadecimal;
-mod input;
 mod known;
-mod outcome;
 mod output;
 mod rules;
 mod run;

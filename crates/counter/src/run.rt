@@ -13,9 +13,8 @@ mod tests;
 
 use crate::check::{read_policy, write_counts};
 use crate::fault::{Fault, InputFault};
-use crate::input::read_octets;
-use crate::outcome::Outcome;
-use crate::output::{write_octets, write_text};
+use crate::hexadecimal::{read_octets, write_octets};
+use crate::output::write_text;
 use crate::settings::Settings;
 use crate::tst::tst_reply;
 use command_line::{CheckWords, Refusal, TstWords, Word};
@@ -29,6 +28,26 @@ const DONE: u8 = 0;
 const FAULT: u8 = 1;
 
 const WORDS_REFUSED: u8 = 2;
+
+/// What was done.
+#[derive(Clone, Copy, Debug, PartialEq, Eq)]
+pub enum Outcome {
+    /// A request was answered, by its TSTInfo or by a rejection.
+    Replied,
+    /// The entries of a policy file were counted.
+    Counted,
+}
+
+impl Outcome {
+    /// The exit status that tells of it.
+    fn status(self) -> u8
+        ensures { result ≡ 0 }
+    {
+        match self {
+            Outcome::Replied | Outcome::Counted => DONE,
+        }
+    }
+}
 
 /// The program with the process's own words and streams. It answers the exit status as `run_words` does. Words that aren't
 /// UTF-8 are refused, with status 2; where memory runs out over them it is `input` 7, with status 1.
