@@ -1,8 +1,9 @@
--- What the words ask for: the command line of the program, and what each subcommand's options state. `clap` says which words a
--- command takes, and what it finds in them.
+-- What the words ask for: the command line of the program, and what each subcommand's options state. `clap` says which
+-- words a command takes, and what it finds in them.
 use Rattle.std.specs.Prelude.{◌≡◌, ◌≢◌, ◌⊎◌, ⊤, ℕ, Bool, true, false, pos, List, [], ◌∷◌, Some, None, codes}
 use Rattle.std.specs.Str.Parse.{IsNumeral, digits_value, without_leading_plus}
-use Rattle.clap.specs.Words.{App, IsAmong, Row, Rule, Text, fault_of, first_of, new_app, new_rule, one_of, subcommand_of, with_subcommand}
+use Rattle.clap.specs.Words.{App, IsAmong, Row, Rule, Text, fault_of, first_of, new_app, new_rule, one_of}
+use Rattle.clap.specs.Words.{subcommand_of, with_subcommand}
 use Rattle.clap.specs.Simple.{on_top}
 use Rattle.clap.specs.declared.builder.action.ArgAction.TheVariants.{Set, SetTrue}
 use Rattle.clap.specs.declared.builder.value_parser.ValueParser.{ValueParser}
@@ -122,7 +123,9 @@ pub record Asks (texts : List Text) (word : Word) : Type 0 where
 
 -- that they ask for help is what `clap` may say of the words
 abbrev pub AsksHelp : List Text → Type 0
-AsksHelp texts = IsAmong DisplayHelp (fault_of counter_command texts) ⊎ IsAmong DisplayVersion (fault_of counter_command texts)
+AsksHelp texts =
+    IsAmong DisplayHelp (fault_of counter_command texts)
+    ⊎ IsAmong DisplayVersion (fault_of counter_command texts)
 
 -- the words are taken, and ask for nothing
 abbrev pub AskNothing : List Text → Type 0
@@ -131,7 +134,10 @@ AskNothing texts = AreTaken texts × ((word : Word) → Asks texts word → ⊥)
 -- a fault other than that they ask for help is what `clap` may say of the words, or they ask for nothing
 abbrev pub AreRefused : List Text → Type 0
 AreRefused texts =
-    ((kind : ErrorKind) × IsAmong kind (fault_of counter_command texts) × (kind ≢ DisplayHelp) × (kind ≢ DisplayVersion))
+    ((kind : ErrorKind)
+    × IsAmong kind (fault_of counter_command texts)
+    × (kind ≢ DisplayHelp)
+    × (kind ≢ DisplayVersion))
     ⊎ AskNothing texts
 
 -- the words ask for help, or aren't understood; of want of memory nothing is said

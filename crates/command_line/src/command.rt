@@ -1,7 +1,8 @@
 //! The command line, for `clap`.
 ghost use Rattle.std.specs.Prelude.{◌≡◌, ◌^◌, ◌<◌, IfOk, false};
 ghost use Rattle.clap.specs.Words.{app_of, rule_of};
-ghost use Rattle.command_line.specs.Words.{check_command, counter_command, number_between, required_option, tst_command};
+ghost use Rattle.command_line.specs.Words.{check_command, counter_command, number_between, required_option};
+ghost use Rattle.command_line.specs.Words.{tst_command};
 
 use clap::builder::ValueParser;
 use clap::{Arg, ArgAction, Command, value_parser};

@@ -8,7 +8,8 @@ use Rattle.command_line.specs.declared.words.TstWords.{TstWords}
 use Rattle.command_line.specs.declared.words.Word.{Word}
 use Rattle.command_line.specs.declared.words.Word.TheVariants.{Tst, Check}
 
--- The text spells a request's octets, the words state settings, and what is written is the line of a reply to the one by the other.
+-- The text spells a request's octets, the words state settings, and what is written is the line of a reply to the one
+-- by the other.
 pub record Answers (words : TstWords) (text written : List ℕ) : Type 0 where
   pub settings : SettingsValue
   pub stated : States words settings
@@ -20,5 +21,6 @@ pub record Answers (words : TstWords) (text written : List ℕ) : Type 0 where
 
 -- What is written is what was asked for. The text of standard input is none where a reader doesn't tell its octets.
 abbrev pub Does : Word → Option (List ℕ) → (List ℕ → Type 0) → Type 0
-Does (Tst words) input IsWritten = IfSome input (λ text. (written : List ℕ) × Answers words text written × IsWritten written)
+Does (Tst words) input IsWritten =
+    IfSome input (λ text. (written : List ℕ) × Answers words text written × IsWritten written)
 Does (Check words) input IsWritten = (written : List ℕ) × Counts written × IsWritten written

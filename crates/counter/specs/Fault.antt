@@ -3,13 +3,15 @@ use Rattle.std.specs.Prelude.{ℕ, List, [], ◌∷◌, ◌++◌, codes}
 use Rattle.std.specs.Fmt.{decimal}
 use Rattle.der.specs.Fault as der
 use Rattle.hex.specs.declared.error.FromHexError.{FromHexError}
-use Rattle.hex.specs.declared.error.FromHexError.TheVariants.{InvalidHexCharacter, OddLength, InvalidStringLength, OutOfMemory}
+use Rattle.hex.specs.declared.error.FromHexError.TheVariants.{InvalidHexCharacter, OddLength, InvalidStringLength}
+use Rattle.hex.specs.declared.error.FromHexError.TheVariants.{OutOfMemory}
 use Rattle.policy.specs.Fault as policy
 use Rattle.tsp.specs.Fault as tsp
 use Rattle.counter.specs.declared.fault.Fault.{Fault}
 use Rattle.counter.specs.declared.fault.Fault.TheVariants.{Der, Tsp, Policy, Input}
 use Rattle.counter.specs.declared.fault.InputFault.{InputFault}
-use Rattle.counter.specs.declared.fault.InputFault.TheVariants.{NotHexadecimal, File, Hold, Account, Failed, Address, Memory}
+use Rattle.counter.specs.declared.fault.InputFault.TheVariants.{NotHexadecimal, File, Hold, Account, Failed, Address}
+use Rattle.counter.specs.declared.fault.InputFault.TheVariants.{Memory}
 
 abbrev pub number_of : InputFault → ℕ
 number_of NotHexadecimal = 1

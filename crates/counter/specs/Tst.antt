@@ -1,5 +1,5 @@
--- The reply to a request where no account, policy file or clock is asked: the TSTInfo of the request, or the rejection by the
--- first rule that fails (RFC 3161 2.4.2).
+-- The reply to a request where no account, policy file or clock is asked: the TSTInfo of the request, or the rejection
+-- by the first rule that fails (RFC 3161 2.4.2).
 use Rattle.std.specs.Prelude.{◌≡◌, ℕ, ◌⊎◌, List, unwrap_or}
 use Rattle.der.specs.Node.{encoding, IsLawful}
 use Rattle.gentime.specs.GenTime.{round_down}
@@ -30,7 +30,8 @@ abbrev pub HasLawfulAnswers : RequestValue → Type 0
 HasLawfulAnswers r =
     (t : TstValue) → IsTst t → t.imprint ≡ r.imprint → t.nonce ≡ r.nonce → t.extensions ≡ r.extensions → IsLawful (tst_info t)
 
--- Which rules hold of a request. Those that speak of the request and of hash algorithms alone are judged; the others hold here.
+-- Which rules hold of a request. Those that speak of the request and of hash algorithms alone are judged; the others
+-- hold here.
 abbrev pub HoldsOf : RequestValue → Rule → Type 0
 HoldsOf r Spelling = Unit {0}
 HoldsOf r Version = HasVersionOne r

@@ -16,13 +16,17 @@ use std::io::Write;
 use std::rt::HostRuntime;
 use std::{fs, io};
 
-/// Reads a policy file. One that can't be read or isn't UTF-8 is `input` 2, and one that is no policy file `policy` with the
-/// number of its first fault. Where memory runs out it is `input` 7 over the file, and `policy` 7 over what the file says.
+/// Reads a policy file. One that can't be read or isn't UTF-8 is `input` 2, and one that is no policy file `policy`
+/// with the number of its first fault. Where memory runs out it is `input` 7 over the file, and `policy` 7 over what
+/// the file says.
 pub fn read_policy(rt: &HostRuntime, path: &str) -> Result<Policy, Fault>
-    // No contract says what a file holds. So the policy is the meaning of some text, and a fault the first of some text.
+    // No contract says what a file holds. So the policy is the meaning of some text, and a fault the first of some
+    // text.
     ensures meant { IfOk result (λ policy. (text : List ℕ) × (meaning_of text ≡ Ok (policy_view policy))) }
-    ensures faults { IfErr result (λ fault. (fault ≡ Fault.Input InputFault.File) ⊎ ((fault ≡ Fault.Input InputFault.Memory)
-        ⊎ ((text : List ℕ) × ((first : PolicyFault) × (fault ≡ Fault.Policy first) × IsFirstFault first (meaning_of text))))) }
+    ensures faults { IfErr result (λ fault. (fault ≡ Fault.Input InputFault.File)
+        ⊎ ((fault ≡ Fault.Input InputFault.Memory)
+        ⊎ ((text : List ℕ) × ((first : PolicyFault) × (fault ≡ Fault.Policy first)
+        × IsFirstFault first (meaning_of text))))) }
 {
     let text = read_text(rt, path)?;
     Ok(Policy::from_text(rt.alloc(), text.as_str())?)
@@ -38,15 +42,16 @@ fn read_text(rt: &HostRuntime, path: &str) -> Result<String, InputFault>
     }
 }
 
-/// Writes the numbers of algorithms, extensions, policies and accounts as one line. A write that fails is `Failed`: a beginning
-/// of the line was written then. `Memory` where memory runs out, before anything is written.
+/// Writes the numbers of algorithms, extensions, policies and accounts as one line. A write that fails is `Failed`: a
+/// beginning of the line was written then. `Memory` where memory runs out, before anything is written.
 pub fn write_counts<W: Write>(
     alloc: Global,
     policy: &Policy,
     output: &mut W,
 ) -> Result<(), InputFault>
     ensures written { OnOk result (Appends (W.contents output.old) (W.contents output.new) (counts_line policy.now)) }
-    ensures begun { result ≡ Err InputFault.Failed → Begins (W.contents output.old) (W.contents output.new) (counts_line policy.now) }
+    ensures begun { result ≡ Err InputFault.Failed
+        → Begins (W.contents output.old) (W.contents output.new) (counts_line policy.now) }
     ensures kept { result ≡ Err InputFault.Memory → W.contents output.new ≡ W.contents output.old }
     ensures faults { IfErr result (λ fault. (fault ≡ InputFault.Failed) ⊎ (fault ≡ InputFault.Memory)) }
 {

@@ -9,8 +9,8 @@ use crate::output::write_text;
 use std::alloc::{AllocError, Global};
 use std::io::{ErrorKind, Read, Write};
 
-/// The octets that a reader's hexadecimal text spells. All of it is read before it is judged. `Failed` where a read fails,
-/// `NotHexadecimal` where the text spells no octets, and `Memory` where memory runs out.
+/// The octets that a reader's hexadecimal text spells. All of it is read before it is judged. `Failed` where a read
+/// fails, `NotHexadecimal` where the text spells no octets, and `Memory` where memory runs out.
 pub fn read_octets<R: Read>(alloc: Global, input: &mut R) -> Result<Vec<u8>, InputFault>
     ensures found { IfOk result (λ v. IfSome (R.remaining input.old) (λ text.
         IsHexadecimal text v.items)) }
@@ -23,8 +23,8 @@ pub fn read_octets<R: Read>(alloc: Global, input: &mut R) -> Result<Vec<u8>, Inp
     decode(alloc, text)
 }
 
-/// Writes the octets as one line of hexadecimal digits in lower case. A write that fails is `Failed`: a beginning of the line
-/// was written then. `Memory` where memory runs out, before anything is written.
+/// Writes the octets as one line of hexadecimal digits in lower case. A write that fails is `Failed`: a beginning of
+/// the line was written then. `Memory` where memory runs out, before anything is written.
 pub fn write_octets<W: Write>(
     alloc: Global,
     octets: &[u8],
@@ -32,7 +32,8 @@ pub fn write_octets<W: Write>(
 ) -> Result<(), InputFault>
     ensures written { OnOk result
         (Appends (W.contents output.old) (W.contents output.new) (line octets.now)) }
-    ensures begun { result ≡ Err InputFault.Failed → Begins (W.contents output.old) (W.contents output.new) (line octets.now) }
+    ensures begun { result ≡ Err InputFault.Failed
+        → Begins (W.contents output.old) (W.contents output.new) (line octets.now) }
     ensures kept { result ≡ Err InputFault.Memory → W.contents output.new ≡ W.contents output.old }
     ensures faults { IfErr result (λ fault.
         (fault ≡ InputFault.Failed) ⊎ (fault ≡ InputFault.Memory)) }
@@ -55,9 +56,9 @@ fn read_all<R: Read>(alloc: Global, input: &mut R) -> Result<Vec<u8>, InputFault
     }
 }
 
-/// The octets that hexadecimal text spells, in digits of either case. Blanks (space, tab, CR, LF) may stand anywhere, also
-/// between the two digits of an octet; text without a digit spells no octets. An odd count of digits, or an octet that is
-/// neither digit nor blank, is `NotHexadecimal`. `Memory` where memory runs out.
+/// The octets that hexadecimal text spells, in digits of either case. Blanks (space, tab, CR, LF) may stand anywhere,
+/// also between the two digits of an octet; text without a digit spells no octets. An odd count of digits, or an octet
+/// that is neither digit nor blank, is `NotHexadecimal`. `Memory` where memory runs out.
 fn decode(alloc: Global, text: Vec<u8>) -> Result<Vec<u8>, InputFault>
     ensures found { IfOk result (λ octets. IsHexadecimal text.items octets.items) }
     ensures only { (octets : List ℕ) → IsHexadecimal text.items octets

@@ -49,8 +49,8 @@ impl Outcome {
     }
 }
 
-/// The program with the process's own words and streams. It answers the exit status as `run_words` does. Words that aren't
-/// UTF-8 are refused, with status 2; where memory runs out over them it is `input` 7, with status 1.
+/// The program with the process's own words and streams. It answers the exit status as `run_words` does. Words that
+/// aren't UTF-8 are refused, with status 2; where memory runs out over them it is `input` 7, with status 1.
 pub fn run(rt: &HostRuntime) -> u8
     ensures { result ≤ 2 }
 {
@@ -77,13 +77,14 @@ fn process_words(rt: &HostRuntime) -> io::Result<Vec<String>> {
     Ok(env::args(rt)?.collect(rt.alloc())?)
 }
 
-/// The whole program: does what the words ask for, of which the first is the program's name, and answers the exit status.
+/// The whole program: does what the words ask for, of which the first is the program's name, and answers the exit
+/// status.
 ///
-/// 0 where it is done; a rejection and help are done too. 1 where a fault stopped it, whose line it writes to `errors`: `der`,
-/// `tsp` and `policy` with the number of those crates' refusals, and `input` 1 where the input isn't hexadecimal, 2 where the
-/// policy file can't be read or isn't UTF-8, 5 where the input or the output fails, and 7 where memory runs out. 2 where the
-/// words are refused; why is written to `errors`. Where the status isn't 0 nothing is written to `output`, but where writing
-/// an answer or help fails: then a beginning of it stands there.
+/// 0 where it is done; a rejection and help are done too. 1 where a fault stopped it, whose line it writes to `errors`:
+/// `der`, `tsp` and `policy` with the number of those crates' refusals, and `input` 1 where the input isn't
+/// hexadecimal, 2 where the policy file can't be read or isn't UTF-8, 5 where the input or the output fails, and 7
+/// where memory runs out. 2 where the words are refused; why is written to `errors`. Where the status isn't 0 nothing
+/// is written to `output`, but where writing an answer or help fails: then a beginning of it stands there.
 pub fn run_words<I: Read, O: Write, E: Write>(
     rt: &HostRuntime,
     words: &[String],
@@ -110,9 +111,11 @@ pub fn run_words<I: Read, O: Write, E: Write>(
         → I.remaining input.new ≡ I.remaining input.old }
 
     // Where a fault stopped it, its line is written, as much of it as `errors` takes.
-    ensures told { result ≡ 1 → (fault : Fault) × Begins (E.contents errors.old) (E.contents errors.new) (fault_line fault) }
+    ensures told { result ≡ 1 → (fault : Fault)
+        × Begins (E.contents errors.old) (E.contents errors.new) (fault_line fault) }
 
-    // Nothing but help or a beginning of an answer is written to the output then, and an answer's only where the fault is `input` 5.
+    // Nothing but help or a beginning of an answer is written to the output then, and an answer's only where the fault
+    // is `input` 5.
     ensures kept { result ≡ 1 → (O.contents output.new ≡ O.contents output.old)
         ⊎ (AsksHelp (map (λ word. string_bytes word) words.now)
         ⊎ ((word : Word) × Asks (map (λ word. string_bytes word) words.now) word
@@ -134,7 +137,8 @@ fn run_word<I: Read, O: Write>(
     input: &mut I,
     output: &mut O,
 ) -> Result<Outcome, Fault>
-    ensures done { OnOk result (Does word.now (I.remaining input.old) (Appends (O.contents output.old) (O.contents output.new))) }
+    ensures done { OnOk result
+        (Does word.now (I.remaining input.old) (Appends (O.contents output.old) (O.contents output.new))) }
 
     // Before a fault nothing is written, but where there is an answer and writing it fails.
     ensures kept { IfErr result (λ fault. (O.contents output.new ≡ O.contents output.old)
@@ -153,7 +157,8 @@ fn check<O: Write>(
     words: &CheckWords<'_>,
     output: &mut O,
 ) -> Result<Outcome, Fault>
-    ensures counted { OnOk result ((written : List ℕ) × Counts written × Appends (O.contents output.old) (O.contents output.new) written) }
+    ensures counted { OnOk result ((written : List ℕ) × Counts written
+        × Appends (O.contents output.old) (O.contents output.new) written) }
 
     // Before a fault nothing is written, but where there are counts and writing them fails.
     ensures kept { IfErr result (λ fault. (O.contents output.new ≡ O.contents output.old)
@@ -174,12 +179,14 @@ fn tst<I: Read, O: Write>(
 ) -> Result<Outcome, Fault>
     // The reply to the request that the input spells is written, by the settings that the words state.
     ensures answered { OnOk result (IfSome (I.remaining input.old) (λ text.
-        (written : List ℕ) × Answers words.now text written × Appends (O.contents output.old) (O.contents output.new) written)) }
+        (written : List ℕ) × Answers words.now text written
+        × Appends (O.contents output.old) (O.contents output.new) written)) }
 
     // Before a fault nothing is written, but where there is a reply and writing it fails.
     ensures kept { IfErr result (λ fault. (O.contents output.new ≡ O.contents output.old)
         ⊎ ((fault ≡ Fault.Input InputFault.Failed) × IfSome (I.remaining input.old) (λ text.
-        (written : List ℕ) × Answers words.now text written × Begins (O.contents output.old) (O.contents output.new) written))) }
+        (written : List ℕ) × Answers words.now text written
+        × Begins (O.contents output.old) (O.contents output.new) written))) }
 {
     let settings = Settings::of_words(alloc, words)?;
     let query = read_octets(alloc, input)?;
@@ -203,10 +210,12 @@ fn explain<O: Write, E: Write>(refusal: &Refusal, output: &mut O, errors: &mut E
     ensures silent { result ≡ 0 → E.contents errors.new ≡ E.contents errors.old }
 
     // Nothing but help is written to the output.
-    ensures unwritten { (O.contents output.new ≡ O.contents output.old) ⊎ ((text : String Global) × (refusal.now ≡ Help text)) }
+    ensures unwritten { (O.contents output.new ≡ O.contents output.old)
+        ⊎ ((text : String Global) × (refusal.now ≡ Help text)) }
     ensures refused { result ≡ 2 → (text : String Global) × (refusal.now ≡ Mistake text) }
     ensures shown { result ≡ 0 → (text : String Global) × (refusal.now ≡ Help text) }
-    ensures told { result ≡ 1 → (fault : Fault) × Begins (E.contents errors.old) (E.contents errors.new) (fault_line fault) }
+    ensures told { result ≡ 1 → (fault : Fault)
+        × Begins (E.contents errors.old) (E.contents errors.new) (fault_line fault) }
 {
     match refusal {
         Refusal::Help(text) => match write_text(text.as_str(), output) {

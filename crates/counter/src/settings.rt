@@ -34,8 +34,8 @@ pub struct Settings {
 impl Settings {
     ghost use Rattle.counter.specs.Settings.{settings_value, States};
 
-    /// The settings that the words state. A policy that is no object identifier's text is refused as `der` 8, and `der` 9 is
-    /// want of memory.
+    /// The settings that the words state. A policy that is no object identifier's text is refused as `der` 8, and `der`
+    /// 9 is want of memory.
     pub fn of_words(alloc: Global, words: &TstWords<'_>) -> Result<Settings, Fault>
         ensures found { IfOk result (λ settings. States words.now (settings_value settings)) }
         ensures refused { result ≡ Err (Fault.Der BadValue) → (oid : List ℕ) → IsOid oid

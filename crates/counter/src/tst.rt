@@ -19,9 +19,9 @@ use tsp::{
     write_tst,
 };
 
-/// The reply to a request: its TSTInfo (RFC 3161 2.4.2) by these settings, where every rule holds, and else the rejection
-/// by the first rule that fails. Judged are the rules on the request's spelling, its version, its hash algorithm, of the
-/// five that are known, and its hash's length. Refused only for want of memory.
+/// The reply to a request: its TSTInfo (RFC 3161 2.4.2) by these settings, where every rule holds, and else the
+/// rejection by the first rule that fails. Judged are the rules on the request's spelling, its version, its hash
+/// algorithm, of the five that are known, and its hash's length. Refused only for want of memory.
 pub fn tst_reply(alloc: Global, query: &[u8], settings: &Settings) -> Result<Vec<u8>, TspFault>
     ensures reply { IfOk result (λ reply. IsReply (settings_value settings.now) query.now reply.items) }
     ensures memory { IfErr result (λ fault. fault ≡ Memory) }

@@ -285,7 +285,8 @@ fn blanks_and_both_cases_are_read(rt: HostRuntime) -> Result<(), Fail> {
 const RULES: &str =
     "[counter]\naccuracy_us = 1000000\nfraction_digits = 0\ndrift_ppb = 0\nmax_age_us = 86400000000\n";
 
-/// What `check` writes to the output and to the errors where the file has this text. `scripts/policy-files` has whole files.
+/// What `check` writes to the output and to the errors where the file has this text. `scripts/policy-files` has whole
+/// files.
 const FILES: [(&str, &[u8], &[u8]); 4] = [
     (RULES, b"0 0 0 0\n", b""),
     ("", b"", b"counter: policy 2\n"),

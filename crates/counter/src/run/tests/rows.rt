@@ -3,8 +3,8 @@ use super::{run_on, tst_words};
 use std::alloc::{AllocError, Global};
 use std::test::Fail;
 
-/// What letters stand for in the digits of a row: the hash of `abc` (FIPS 180-4), SHA-256's MessageImprint of it with NULL
-/// parameters, the genTime of 1970-01-01T00:00:00Z, and octets that are all the same.
+/// What letters stand for in the digits of a row: the hash of `abc` (FIPS 180-4), SHA-256's MessageImprint of it with
+/// NULL parameters, the genTime of 1970-01-01T00:00:00Z, and octets that are all the same.
 const PIECES: [(char, &str); 8] = [
     (
         'H',
