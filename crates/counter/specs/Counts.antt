@@ -1,19 +1,28 @@
 -- What `check` says of a policy file.
-use Rattle.std.specs.Prelude.{◌≡◌, ℕ, List, [], ◌∷◌, ◌++◌, Ok, vec_len}
+use Rattle.std.specs.Prelude.{◌≡◌, ℕ, List, [], ◌∷◌, ◌++◌, length, Ok}
 use Rattle.std.specs.Fmt.{decimal}
 use Rattle.policy.specs.Meaning.{meaning_of}
-use Rattle.policy.specs.View.{policy_view}
-use Rattle.policy.specs.declared.policy.Policy.{Policy}
+use Rattle.policy.specs.Record.{PolicyValue}
 
--- how many algorithms, extensions, policies and accounts there are, in decimal, joined by spaces
-abbrev pub counts_line : Policy → List ℕ
+-- a line of words, joined by spaces
+abbrev pub line_of_words : List (List ℕ) → List ℕ
+line_of_words [] = 10 ∷ []
+line_of_words (word ∷ []) = word ++ 10 ∷ []
+line_of_words (word ∷ next ∷ words) = word ++ 32 ∷ line_of_words (next ∷ words)
+
+-- how many algorithms, extensions, policies and accounts there are, in decimal
+abbrev pub counts_line : PolicyValue → List ℕ
 counts_line policy =
-    decimal (vec_len policy.algorithms) ++ (32 ∷ (decimal (vec_len policy.extensions) ++ (32 ∷ (decimal (vec_len policy.policies)
-    ++ (32 ∷ (decimal (vec_len policy.accounts) ++ 10 ∷ []))))))
+    line_of_words
+    (decimal (length policy.algorithms)
+    ∷ decimal (length policy.extensions)
+    ∷ decimal (length policy.policies)
+    ∷ decimal (length policy.accounts)
+    ∷ [])
 
 -- What is written is the line of a policy that some text means. Which text a file holds, no contract says.
 pub record Counts (written : List ℕ) : Type 0 where
-  pub policy : Policy
+  pub policy : PolicyValue
   pub text : List ℕ
-  pub meant : meaning_of text ≡ Ok (policy_view policy)
+  pub meant : meaning_of text ≡ Ok policy
   pub line : written ≡ counts_line policy

@@ -1,11 +1,12 @@
 //! What a policy file has.
-ghost use Rattle.std.specs.Prelude.{◌≡◌, ◌⊎◌, List, ℕ, Ok, Err, OnOk, IfOk, IfErr, vec_len, string_bytes};
+ghost use Rattle.std.specs.Prelude.{◌≡◌, ◌⊎◌, List, ℕ, Ok, Err, OnOk, IfOk, IfErr, ◌∷◌, [], string_bytes};
+ghost use Rattle.std.specs.Fmt.{decimal};
 ghost use Rattle.std.specs.Io.KnownBytes.{Appends};
 ghost use Rattle.policy.specs.Answers.{IsFirstFault};
 ghost use Rattle.policy.specs.Meaning.{meaning_of};
 ghost use Rattle.policy.specs.View.{policy_view};
 ghost use Rattle.policy.specs.declared.fault.PolicyFault.{PolicyFault};
-ghost use Rattle.counter.specs.Counts.{counts_line};
+ghost use Rattle.counter.specs.Counts.{counts_line, line_of_words};
 ghost use Rattle.counter.specs.Writing.{Begins};
 
 use crate::fault::{Fault, InputFault};
@@ -49,9 +50,9 @@ pub fn write_counts<W: Write>(
     policy: &Policy,
     output: &mut W,
 ) -> Result<(), InputFault>
-    ensures written { OnOk result (Appends (W.contents output.old) (W.contents output.new) (counts_line policy.now)) }
+    ensures written { OnOk result (Appends (W.contents output.old) (W.contents output.new) (counts_line (policy_view policy.now))) }
     ensures begun { result ≡ Err InputFault.Failed
-        → Begins (W.contents output.old) (W.contents output.new) (counts_line policy.now) }
+        → Begins (W.contents output.old) (W.contents output.new) (counts_line (policy_view policy.now)) }
     ensures kept { result ≡ Err InputFault.Memory → W.contents output.new ≡ W.contents output.old }
     ensures faults { IfErr result (λ fault. (fault ≡ InputFault.Failed) ⊎ (fault ≡ InputFault.Memory)) }
 {
@@ -60,11 +61,24 @@ pub fn write_counts<W: Write>(
 }
 
 fn counts(alloc: Global, policy: &Policy) -> Result<String, AllocError>
-    ensures { IfOk result (λ line. string_bytes line ≡ counts_line policy.now) }
+    ensures { IfOk result (λ line. string_bytes line ≡ counts_line (policy_view policy.now)) }
 {
-    let algorithms = policy.algorithms.len();
-    let extensions = policy.extensions.len();
-    let policies = policy.policies.len();
-    let accounts = policy.accounts.len();
-    format!(in alloc; "{algorithms} {extensions} {policies} {accounts}\n")
+    let algorithms = policy.algorithms.as_slice().len();
+    let extensions = policy.extensions.as_slice().len();
+    let policies = policy.policies.as_slice().len();
+    let accounts = policy.accounts.as_slice().len();
+    line_of_four(alloc, algorithms, extensions, policies, accounts)
+}
+
+fn line_of_four(
+    alloc: Global,
+    first: usize,
+    second: usize,
+    third: usize,
+    fourth: usize,
+) -> Result<String, AllocError>
+    ensures { IfOk result (λ line. string_bytes line
+        ≡ line_of_words (decimal first ∷ decimal second ∷ decimal third ∷ decimal fourth ∷ [])) }
+{
+    format!(in alloc; "{first} {second} {third} {fourth}\n")
 }

@@ -1,5 +1,6 @@
 use Rattle.std.proofs.Common.{◌∙◌, Err, refl, ap, inl, inr}
 use Rattle.std.proofs.lemmas.Result.{err_from_is_err_and}
+use Rattle.policy.specs.View.{policy_view}
 use Rattle.counter.specs.Counts.{Counts, counts_line}
 use Rattle.counter.specs.declared.fault.Fault.TheVariants.{Input}
 use Rattle.counter.proofs.run.check.Goals as goal
@@ -8,8 +9,9 @@ pub returns-in_err-write_counts-clause-kept : goal.returns-in_err-write_counts-c
 returns-in_err-write_counts-clause-kept g c =
     let failing = err_from_is_err_and c.from_residual-in_err-write_counts.result c.from_residual-in_err-write_counts.ensures.1 in
     let meant = c.in_ok-policy.ensures.meant in
-    let counts : Counts (counts_line c.in_ok-policy.policy) = record {
-      policy = c.in_ok-policy.policy;
+    let value = policy_view c.in_ok-policy.policy in
+    let counts : Counts (counts_line value) = record {
+      policy = value;
       text = meant.0;
       meant = meant.1;
       line = refl;
@@ -17,6 +19,6 @@ returns-in_err-write_counts-clause-kept g c =
     rw failing.1
     (elim c.in_err-write_counts.ensures.faults [
       | inl failed ↦
-          inr (failing.2 ∙ ap Input failed, (counts_line c.in_ok-policy.policy, counts, c.in_err-write_counts.ensures.begun (ap Err failed)))
+          inr (failing.2 ∙ ap Input failed, (counts_line value, counts, c.in_err-write_counts.ensures.begun (ap Err failed)))
       | inr memory ↦ inl (c.in_err-write_counts.ensures.kept (ap Err memory))
     ])
