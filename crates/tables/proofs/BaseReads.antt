@@ -1,0 +1,34 @@
+-- What a query makes of a connection that keeps tables.
+use Rattle.std.proofs.Common.{◌≡◌, ℕ, false, IsTrue, refl, sym, ap, ◌∙◌, subst}
+use Rattle.sqlite_trees.specs.Tree.{Trees}
+use Rattle.sqlite_trees.specs.declared.store.Store.{Ghosts}
+use Rattle.sqlite.specs.Effect.{Database}
+use Rattle.sqlite.specs.State.{State, HasCleanDisk}
+use Rattle.sqlite.specs.Held.{Held, state}
+use Rattle.tables.specs.Asking.{Looks}
+use Rattle.tables.specs.Base.{BaseValue, IsHonest, IsOpen, Keeps, StandsFor}
+use Rattle.tables.specs.Holding.{Holds, IsDatabaseOf}
+use Rattle.tables.specs.Queries.{OnlyReads}
+use Rattle.tables.specs.Schema.{the_schema}
+use Rattle.tables.specs.Tables.{Tables}
+
+-- it leaves what the tables are
+pub reads_only : {S : Type 0} (g : Ghosts S) (old new : BaseValue S) → new.conn.in_transaction ≡ false → Looks (state g old.conn) (state g new.conn) → OnlyReads g old new
+reads_only g old new closed looks = record {
+  honest = looks.clean;
+  kept = λ t keeps clean is_open.
+      let s = keeps (looks.clean clean) (looks.reopens clean is_open) in
+      let same = looks.kept clean is_open s.settled in
+      record {
+        schema = ap (λ (d : Database). d.schema) same.0 ∙ s.schema;
+        holds = subst (Holds t) (sym (ap (λ (d : Database). d.trees) same.0)) s.holds;
+        settled = same.1;
+        autocommit = closed;
+        leaves = λ db may. s.leaves db (looks.leaves clean db may);
+      };
+  leaves = looks.leaves;
+}
+
+-- the database that it reads is that of the tables
+pub database_of : {S : Type 0} (g : Ghosts S) (old : BaseValue S) (t : Tables) → Keeps g t old → IsHonest g old → IsOpen g old → IsDatabaseOf t (state g old.conn).now
+database_of g old t keeps honest is_open = let s = keeps honest is_open in record { schema = s.schema; holds = s.holds }

@@ -1,0 +1,36 @@
+-- What the tests of WHERE say of the cells of a row.
+use Rattle.std.proofs.Common.{◌≡◌, ℕ, ℤ, pos, Bool, true, false, not, ◌&&◌, ◌==◌, Some, List, [], ◌∷◌, refl, sym, ap, ◌∙◌, arith, is_eq, is_le, is_gt, int_cmp}
+use Rattle.std.specs.Prelude.{bytes_eq, int_le, int_lt}
+use Rattle.std.proofs.lemmas.Bool.Decides.{nat_tests}
+use Rattle.std.proofs.lemmas.Map.Text.{is_eq-slice_cmp}
+use Rattle.sqlite_value.specs.declared.value.Value.{Value}
+use Rattle.sqlite_value.specs.declared.value.Value.TheVariants.{Null, Int, Text, Blob}
+use Rattle.sqlite_value.specs.declared.keys.Collation.TheVariants.{Binary}
+use Rattle.sqlite_value.specs.Order.{value_cmp}
+use Rattle.sqlite_value.proofs.OrderLemmas.{value_cmp-Int, value_cmp-Text}
+use Rattle.sqlite_sql.specs.declared.ops.CompareOp.TheVariants.{Eq, Le, Gt, Lt, Ge}
+use Rattle.sqlite_sql.specs.declared.ops.BinaryOp.TheVariants.{Compare}
+use Rattle.sqlite_sql.specs.Ops.{binary, is_true, from_truth}
+
+said_truth : (b : Bool) → is_true (from_truth (Some b)) ≡ b
+said_truth true = refl
+said_truth false = refl
+
+same_number : (m n : ℕ) → is_eq (int_cmp (pos m) (pos n)) ≡ (m == n)
+same_number m n = grind (arith, nat_tests)
+
+pub test_number : (m n : ℕ) → is_true (binary (Compare Eq Binary) (Int (pos m)) (Int (pos n))) ≡ (m == n)
+unfolding binary
+test_number m n = said_truth _ ∙ ap is_eq (value_cmp-Int (pos m) (pos n)) ∙ same_number m n
+
+pub test_text : (a b : List ℕ) → is_true (binary (Compare Eq Binary) (Text a) (Text b)) ≡ bytes_eq a b
+unfolding binary
+test_text a b = said_truth _ ∙ ap is_eq (value_cmp-Text a b) ∙ is_eq-slice_cmp a b
+
+pub test_at_most : (m n : ℤ) → is_true (binary (Compare Le Binary) (Int m) (Int n)) ≡ int_le m n
+unfolding binary
+test_at_most m n = said_truth _ ∙ ap is_le (value_cmp-Int m n) ∙ grind (arith)
+
+pub test_above : (m n : ℤ) → is_true (binary (Compare Gt Binary) (Int m) (Int n)) ≡ int_lt n m
+unfolding binary
+test_above m n = said_truth _ ∙ ap is_gt (value_cmp-Int m n) ∙ grind (arith)

@@ -1,0 +1,5 @@
+use Rattle.tables.proofs.BaseLemmas.{created_keeps, adopted_keeps}
+use Rattle.tables.proofs.base.Base.adopt.Goals as goal
+
+pub returns-in-Ok-true-clause-keeps : goal.returns-in-Ok-true-clause-keeps
+returns-in-Ok-true-clause-keeps g c t found = adopted_keeps g.S.Store g.met.S.Store.settled c.args.conn c.is_ours.new.conn c.is_ours.ensures.closed c.is_ours.ensures.looks t found

@@ -1,0 +1,9 @@
+use Rattle.std.proofs.Common.{◌∙◌}
+use Rattle.tables.proofs.OpenLemmas.{version_text, version_row}
+use Rattle.tables.proofs.opening.has_version_one.Goals as goal
+
+pub rows_of-requires-clause-text : goal.rows_of-requires-clause-text
+rows_of-requires-clause-text g c = version_text
+
+pub returns-clause-ours : goal.returns-clause-ours
+returns-clause-ours g c clean t d = c.is_version_one.ensures (c.as_slice.ensures.value ∙ version_row t _ _ _ d (c.in_ok-rows.ensures.told clean d.schema))

@@ -1,0 +1,30 @@
+use Rattle.std.proofs.Common.{refl, subst, []}
+use Rattle.sqlite.specs.Held.{state}
+use Rattle.sqlite.specs.State.{IsNotRun}
+use Rattle.tables.specs.Opening.{all_columns}
+use Rattle.tables.proofs.OpenLemmas.{prepare_looks, never_unknown, outlined}
+use Rattle.tables.proofs.opening.understands_tables.Goals.{in-Ok, in-Err-SqlInputError, in-Err}
+use Rattle.tables.proofs.opening.understands_tables.Goals as goal
+
+pub returns-clause-looks : goal.returns-clause-looks
+returns-clause-looks g c =
+    let e = c.prepare.ensures in
+    prepare_looks _ _ _ _ c.prepare.result e.survives (λ clean. e.ok clean) (λ clean. e.err clean)
+
+pub returns-clause-ours : goal.returns-clause-ours
+returns-clause-ours g c clean has = elim c.match-prepare.branch [
+  | in-Ok w ↦ rw w.result-is refl
+  | in-Err-SqlInputError w ↦
+      let it = w.in-Err-SqlInputError in
+      let old = state g.S.Store c.args.conn.now in
+      let new = state g.S.Store c.prepare.new.self in
+      absurd (never_unknown old new it.field-0-0 (subst (IsNotRun old new all_columns []) it.field-0-is (it.ensures.err clean [])) has)
+  | in-Err w ↦ rw w.result-is tt
+]
+
+pub returns-clause-tables : goal.returns-clause-tables
+returns-clause-tables g c clean = elim c.match-prepare.branch [
+  | in-Ok w ↦ rw w.result-is (λ _. outlined _ _ (w.in-Ok.ensures.shape clean))
+  | in-Err-SqlInputError w ↦ rw w.result-is (λ yes. cc)
+  | in-Err w ↦ rw w.result-is tt
+]

@@ -1,0 +1,30 @@
+use Rattle.std.proofs.Common.{◌≡◌, ◌∙◌, refl, sym, ap, subst, rules, w64, SFits, to_z-of_z}
+use Rattle.std.proofs.Math.Facts.{to_z_pos}
+use Rattle.tables.proofs.QueryLemmas.{latest_calibration_found, latest_calibration_text, number_of, signed_of}
+use Rattle.tables.proofs.CellLemmas.{int_more, text_more, blob_more}
+use Rattle.tables.proofs.reading.latest_calibration.Goals as goal
+
+pub first_row-requires-clause-text : goal.first_row-requires-clause-text
+first_row-requires-clause-text g c = latest_calibration_text
+
+pub returns-in_ok-uncertainty-in-Some-clause-value : goal.returns-in_ok-uncertainty-in-Some-clause-value
+returns-in_ok-uncertainty-in-Some-clause-value g c honest t d =
+    let found = latest_calibration_found t _ _ _ d.holds refl (c.in_ok-found.ensures.told honest d.schema) in
+    let here = rw c.in-Some.is at found in
+    let reading : SFits w64 c.in_ok-reading-in-Some.reading = search rules in
+    let offset : SFits w64 c.in_ok-offset-in-Some.offset = search rules in (
+      here.0,
+      here.1,
+      here.2,
+      (
+        number_of _ _ 0 _ _ here.3 c.in_ok-n-in-Some.ensures.read refl,
+        to_z-of_z reading ∙ signed_of _ _ 1 _ _ here.3 c.in_ok-reading-in-Some.ensures refl,
+        to_z-of_z offset ∙ signed_of _ _ 2 _ _ here.3 c.in_ok-offset-in-Some.ensures refl,
+        number_of _ _ 3 _ _ here.3 c.in_ok-uncertainty-in-Some.ensures.read refl,
+      ),
+    )
+
+pub returns-in-None-clause-value : goal.returns-in-None-clause-value
+returns-in-None-clause-value g c honest t d =
+    let found = latest_calibration_found t _ _ _ d.holds refl (c.in_ok-found.ensures.told honest d.schema) in
+    rw c.in-None.is at found

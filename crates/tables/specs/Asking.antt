@@ -1,0 +1,32 @@
+-- What a query tells, asked in a transaction of its own that is undone.
+use Rattle.std.specs.Prelude.{◌≡◌, ℕ, false, List, IsTrue, Option}
+use Rattle.std.specs.List.{slice_get}
+use Rattle.sqlite_value.specs.Order.{Row}
+use Rattle.sqlite_trees.specs.Tree.{Trees}
+use Rattle.sqlite_schema.specs.declared.command.Command.{Command}
+use Rattle.sqlite.specs.Effect.{Reads}
+use Rattle.sqlite.specs.Given.{IsPlain}
+use Rattle.sqlite.specs.Listing.{understood, reads_listing}
+use Rattle.sqlite.specs.State.{State, HasCleanDisk}
+use Rattle.sqlite.proofs.Callers.{command_of}
+use Rattle.tables.specs.Schema.{the_schema}
+
+-- a text that reads our tables alone
+pub record IsQueryText (sql : List ℕ) : Type 0 where
+  pub plain : IsPlain (understood the_schema sql)
+  pub unlisted : reads_listing the_schema sql ≡ false
+
+-- the rows are an answer of the query over these trees
+abbrev pub TellsRows : List ℕ → Row → Trees → List Row → Type 0
+TellsRows sql params db rows = Reads (command_of (understood the_schema sql)) (record { schema = the_schema; trees = db }) params rows
+
+-- nothing changes, whatever the query answers
+pub record Looks (old new : State) : Type 0 where
+  pub clean : HasCleanDisk new → HasCleanDisk old
+  pub reopens : HasCleanDisk new → IsTrue new.is_open → IsTrue old.is_open
+  pub kept : HasCleanDisk new → IsTrue new.is_open → old.now ≡ old.committed → (new.now ≡ old.now) × (new.now ≡ new.committed)
+  pub leaves : HasCleanDisk new → (db : Trees) → new.may_leave db → old.may_leave db
+
+-- the first row of an answer, where there is one
+abbrev pub TellsFirst : List ℕ → Row → Trees → Option Row → Type 0
+TellsFirst sql params db row = (rows : List Row) × TellsRows sql params db rows × (slice_get rows 0 ≡ row)

@@ -1,0 +1,12 @@
+pub mod Asking
+pub mod Base
+pub mod Carrying
+pub mod Changes
+pub mod Found
+pub mod Holding
+pub mod Opening
+pub mod Queries
+pub mod Schema
+pub mod Statements
+pub mod Steps
+pub mod Tables

@@ -1,0 +1,81 @@
+-- What the queries show of a row.
+use Rattle.std.specs.Prelude.{◌≡◌, ◌==◌, ℕ, ℤ, ◌&&◌, Bool, List, int_le, int_lt, nat_le, nat_lt, bytes_eq, string_bytes, option_map}
+use Rattle.sqlite_trees.specs.Tree.{Trees}
+use Rattle.sqlite_trees.specs.declared.store.Store.{Ghosts}
+use Rattle.tables.specs.Tables.{Tables, StampRow, CalibrationRow, HoldRow, TallyRow, DepositRow, ReaderRow}
+use Rattle.tables.specs.Base.{BaseValue, IsHonest, Keeps, Recovers}
+use Rattle.tables.specs.declared.rows.LastStamp.{LastStamp}
+use Rattle.tables.specs.declared.rows.LatestCalibration.{LatestCalibration}
+use Rattle.tables.specs.declared.rows.Stamp.{Stamp}
+use Rattle.tables.specs.declared.rows.Deposit.{Deposit}
+use Rattle.tables.specs.declared.rows.Label.{Label}
+
+-- a look-up leaves what the tables are, and what a crash may leave
+pub record OnlyReads {S : Type 0} (g : Ghosts S) (old new : BaseValue S) : Type 0 where
+  pub honest : IsHonest g new → IsHonest g old
+  pub kept : (t : Tables) → Keeps g t old → Keeps g t new
+  pub leaves : IsHonest g new → (db : Trees) → Recovers g new db → Recovers g old db
+
+abbrev pub ShowsLast : StampRow → LastStamp → Type 0
+ShowsLast row last = last ≡ record { serial = row.serial; gen_time = row.gen_time }
+
+abbrev pub ShowsCalibration : CalibrationRow → LatestCalibration → Type 0
+ShowsCalibration row c = (c.n ≡ row.n) × (c.reading ≡ row.reading) × (c.offset ≡ row.offset) × (c.uncertainty ≡ row.uncertainty)
+
+abbrev pub ShowsNumber : HoldRow → ℕ → Type 0
+ShowsNumber row n = n ≡ row.n
+
+abbrev pub ShowsCount : TallyRow → ℕ → Type 0
+ShowsCount row count = count ≡ row.count
+
+abbrev pub holds_at : ℤ → HoldRow → Bool
+holds_at now row = int_le row.from now && int_lt now row.to
+
+-- whole rows, as the code has them
+abbrev pub stamp_view : Stamp → StampRow
+stamp_view s = record {
+  serial = s.serial;
+  account = string_bytes s.account;
+  day = s.day;
+  gen_time = s.gen_time;
+  policy = s.policy.items;
+  algorithm = s.algorithm.items;
+  digest = s.digest.items;
+  request = s.request.items;
+  tst = s.tst.items;
+  token = option_map (λ t. t.items) s.token;
+}
+
+abbrev pub deposit_view : Deposit → DepositRow
+deposit_view d = record { serial = d.serial; owner = string_bytes d.owner; reference = string_bytes d.reference; bytes = d.bytes.items }
+
+abbrev pub ShowsStamp : StampRow → Stamp → Type 0
+ShowsStamp row s = stamp_view s ≡ row
+
+abbrev pub ShowsDeposit : DepositRow → Deposit → Type 0
+ShowsDeposit row d = deposit_view d ≡ row
+
+-- a deposit without its bytes
+abbrev pub ShowsLabel : DepositRow → Label → Type 0
+ShowsLabel row label = (string_bytes label.owner ≡ row.owner) × (string_bytes label.reference ≡ row.reference)
+
+abbrev pub ShowsGenTime : StampRow → ℕ → Type 0
+ShowsGenTime row gen_time = gen_time ≡ row.gen_time
+
+abbrev pub ShowsDepositSerial : DepositRow → ℕ → Type 0
+ShowsDepositSerial row serial = serial ≡ row.serial
+
+abbrev pub ShowsReaderSerial : ReaderRow → ℕ → Type 0
+ShowsReaderSerial row serial = serial ≡ row.serial
+
+abbrev pub is_within : ℕ → ℕ → StampRow → Bool
+is_within from to row = nat_le from row.serial && nat_le row.serial to
+
+abbrev pub is_owned_after : List ℕ → ℕ → DepositRow → Bool
+is_owned_after owner after row = bytes_eq row.owner owner && nat_lt after row.serial
+
+abbrev pub is_readable_after : List ℕ → ℕ → ReaderRow → Bool
+is_readable_after account after row = bytes_eq row.account account && nat_lt after row.serial
+
+abbrev pub is_owned : ℕ → List ℕ → DepositRow → Bool
+is_owned serial owner row = (row.serial == serial) && bytes_eq row.owner owner

@@ -1,0 +1,18 @@
+-- The step of each statement, of which a change may take several.
+use Rattle.std.specs.Prelude.{ℕ, List, ◌∷◌, map}
+use Rattle.tables.specs.Tables.{Tables, StampRow, raised_row, with_one_more}
+
+abbrev pub with_stamp_alone : StampRow → Tables → Tables
+with_stamp_alone row t = record t { stamps = row ∷ t.stamps }
+
+abbrev pub with_raised : List ℕ → ℕ → Tables → Tables
+with_raised account day t = record t { tallies = map (raised_row account day) t.tallies }
+
+abbrev pub with_first_tally : List ℕ → ℕ → Tables → Tables
+with_first_tally account day t = record t { tallies = record { account = account; day = day; count = 1 } ∷ t.tallies }
+
+abbrev pub with_count : List ℕ → ℕ → Tables → Tables
+with_count account day t = record t { tallies = with_one_more account day t.tallies }
+
+abbrev pub with_reader_alone : ℕ → List ℕ → Tables → Tables
+with_reader_alone serial account t = record t { readers = record { serial = serial; account = account } ∷ t.readers }

@@ -1,0 +1,115 @@
+-- What the tables of the database hold: a record for each row, a list for each table, and the step that each change takes.
+-- The order of a list says nothing. Moments and offsets are whole microseconds from 1970-01-01T00:00:00Z, days whole days from it,
+-- and texts, object identifiers and blobs are their octets.
+use Rattle.std.specs.Prelude.{ℕ, ◌+◌, ℤ, Bool, not, ◌&&◌, ◌==◌, if◌then◌else◌, List, [], ◌∷◌, map, filter, bytes_eq, Option, Some, None}
+use Rattle.std.specs.List.{list_any}
+
+-- a reservation of a serial number, and its token once it is sealed
+pub record StampRow : Type 0 where
+  pub serial : ℕ
+  pub account : List ℕ
+  -- the UTC day of its genTime
+  pub day : ℕ
+  pub gen_time : ℕ
+  -- the contents of the policy's and the hash algorithm's object identifiers
+  pub policy : List ℕ
+  pub algorithm : List ℕ
+  pub digest : List ℕ
+  pub request : List ℕ
+  pub tst : List ℕ
+  pub token : Option (List ℕ)
+
+pub record CalibrationRow : Type 0 where
+  pub n : ℕ
+  pub reading : ℤ
+  pub offset : ℤ
+  pub uncertainty : ℕ
+
+-- the clock isn't to be relied on from one moment on and before the other
+pub record HoldRow : Type 0 where
+  pub n : ℕ
+  pub from : ℤ
+  pub to : ℤ
+
+pub record DepositRow : Type 0 where
+  pub serial : ℕ
+  pub owner : List ℕ
+  pub reference : List ℕ
+  pub bytes : List ℕ
+
+-- an account that may read a deposit
+pub record ReaderRow : Type 0 where
+  pub serial : ℕ
+  pub account : List ℕ
+
+-- how many stamps an account has reserved on a day
+pub record TallyRow : Type 0 where
+  pub account : List ℕ
+  pub day : ℕ
+  pub count : ℕ
+
+-- `meta` is left out: it has one row, with version 1
+pub record Tables : Type 0 where
+  pub stamps : List StampRow
+  pub calibrations : List CalibrationRow
+  pub holds : List HoldRow
+  pub deposits : List DepositRow
+  pub readers : List ReaderRow
+  pub tallies : List TallyRow
+
+abbrev pub no_rows : Tables
+no_rows = record { stamps = []; calibrations = []; holds = []; deposits = []; readers = []; tallies = [] }
+
+-- ---- which row
+
+abbrev pub is_stamp : ℕ → StampRow → Bool
+is_stamp serial row = row.serial == serial
+
+abbrev pub is_tally_of : List ℕ → ℕ → TallyRow → Bool
+is_tally_of account day row = bytes_eq row.account account && (row.day == day)
+
+abbrev pub is_reader_row : ℕ → List ℕ → ReaderRow → Bool
+is_reader_row serial account row = (row.serial == serial) && bytes_eq row.account account
+
+abbrev pub is_deposit : ℕ → DepositRow → Bool
+is_deposit serial row = row.serial == serial
+
+abbrev pub is_deposit_of : List ℕ → List ℕ → DepositRow → Bool
+is_deposit_of owner reference row = bytes_eq row.owner owner && bytes_eq row.reference reference
+
+-- ---- the steps
+
+abbrev pub raised_row : List ℕ → ℕ → TallyRow → TallyRow
+raised_row account day row = if is_tally_of account day row then record row { count = row.count + 1 } else row
+
+-- one more for the account on the day, which may have been the first
+abbrev pub with_one_more : List ℕ → ℕ → List TallyRow → List TallyRow
+with_one_more account day rows =
+    if list_any (is_tally_of account day) rows then map (raised_row account day) rows else record { account = account; day = day; count = 1 } ∷ rows
+
+-- a reservation, which counts for its account and day
+abbrev pub with_stamp : StampRow → Tables → Tables
+with_stamp row t = record t { stamps = row ∷ t.stamps; tallies = with_one_more row.account row.day t.tallies }
+
+abbrev pub sealed_row : ℕ → List ℕ → StampRow → StampRow
+sealed_row serial token row = if is_stamp serial row then record row { token = Some token } else row
+
+abbrev pub with_token : ℕ → List ℕ → Tables → Tables
+with_token serial token t = record t { stamps = map (sealed_row serial token) t.stamps }
+
+abbrev pub with_deposit : DepositRow → Tables → Tables
+with_deposit row t = record t { deposits = row ∷ t.deposits }
+
+abbrev pub with_calibration : CalibrationRow → Tables → Tables
+with_calibration row t = record t { calibrations = row ∷ t.calibrations }
+
+abbrev pub with_hold : HoldRow → Tables → Tables
+with_hold row t = record t { holds = row ∷ t.holds }
+
+abbrev pub without_reader : ℕ → List ℕ → Tables → Tables
+without_reader serial account t = record t { readers = filter (λ row. not (is_reader_row serial account row)) t.readers }
+
+-- a right is there once, however often it is granted
+abbrev pub with_reader : ℕ → List ℕ → Tables → Tables
+with_reader serial account t =
+    let others = without_reader serial account t in record others { readers = record { serial = serial; account = account } ∷ others.readers }

@@ -1,0 +1,70 @@
+//! Queries, each asked in a transaction of its own that is undone.
+ghost use Rattle.std.specs.Prelude.{◌≡◌, ◌<◌, ◌^◌, pos, false, IfOk, OnOk, IsTrue};
+ghost use Rattle.sqlite_value.specs.Order.{column};
+ghost use Rattle.sqlite_value.specs.declared.value.Value.TheVariants.{Int};
+ghost use Rattle.sqlite.specs.Held.{state};
+ghost use Rattle.sqlite.specs.State.{HasCleanDisk};
+ghost use Rattle.sqlite.specs.Values.{bound};
+ghost use Rattle.tables.specs.Schema.{the_schema};
+ghost use Rattle.tables.specs.Asking.{IsQueryText, TellsRows, TellsFirst, Looks};
+
+use sqlite::types::ValueRef;
+use sqlite::{Alter, Connection, Error, Row};
+
+/// The rows that a query answers.
+pub(crate) fn rows_of<S: Alter>(
+    conn: &mut Connection<S>,
+    sql: &str,
+    params: &[ValueRef<'_>],
+) -> Result<Vec<Row>, Error>
+    requires autocommit { conn.old.in_transaction ≡ false }
+    requires text { IsQueryText sql.now }
+    ensures closed { conn.new.in_transaction ≡ false }
+    ensures looks { Looks (state S.Store conn.old) (state S.Store conn.new) }
+    ensures opened { HasCleanDisk (state S.Store conn.new) → OnOk result (IsTrue (state S.Store conn.old).is_open) }
+    ensures told { HasCleanDisk (state S.Store conn.new) → (state S.Store conn.old).now.schema ≡ the_schema
+        → IfOk result (λ rows. TellsRows sql.now (bound params.now) (state S.Store conn.old).now.trees rows.items) }
+{
+    let mut tx = conn.transaction();
+    let rows = tx.query_all(sql, params);
+    tx.rollback();
+    rows
+}
+
+/// The first row that a query answers, if any.
+pub(crate) fn first_row<S: Alter>(
+    conn: &mut Connection<S>,
+    sql: &str,
+    params: &[ValueRef<'_>],
+) -> Result<Option<Row>, Error>
+    requires autocommit { conn.old.in_transaction ≡ false }
+    requires text { IsQueryText sql.now }
+    ensures closed { conn.new.in_transaction ≡ false }
+    ensures looks { Looks (state S.Store conn.old) (state S.Store conn.new) }
+    ensures opened { HasCleanDisk (state S.Store conn.new) → OnOk result (IsTrue (state S.Store conn.old).is_open) }
+    ensures told { HasCleanDisk (state S.Store conn.new) → (state S.Store conn.old).now.schema ≡ the_schema
+        → IfOk result (λ row. TellsFirst sql.now (bound params.now) (state S.Store conn.old).now.trees row) }
+{
+    let mut rows = rows_of(conn, sql, params)?;
+    if rows.is_empty() {
+        return Ok(None);
+    }
+    Ok(Some(rows.swap_remove(0)))
+}
+
+/// A whole number of a row, at least 0.
+pub(crate) fn number(row: &Row, at: usize) -> Result<u64, Error>
+    ensures read { IfOk result (λ n. column row.now at ≡ Int (pos n)) }
+    ensures small { IfOk result (λ n. n < 2 ^ 63) }
+{
+    let number: i64 = row.get(at)?;
+    u64::try_from(number).map_err(|_| Error::IntegralValueOutOfRange(at))
+}
+
+/// A whole number of a row.
+pub(crate) fn signed(row: &Row, at: usize) -> Result<i64, Error>
+    ensures { IfOk result (λ n. column row.now at ≡ Int n) }
+{
+    let number: i64 = row.get(at)?;
+    Ok(number)
+}

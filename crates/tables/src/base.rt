@@ -1,0 +1,139 @@
+//! A connection to the tables' database, with the count of its faults.
+
+ghost use Rattle.std.specs.Prelude.{◌≡◌, ◌≢◌, ◌⊎◌, false, Ok, Err, IfOk, IfErr, OnOk, OnErr};
+ghost use Rattle.sqlite.specs.Held.{state};
+ghost use Rattle.sqlite.specs.State.{HasCleanDisk};
+ghost use Rattle.tables.specs.Asking.{Looks};
+ghost use Rattle.tables.specs.Opening.{IsFound, Creates};
+ghost use Rattle.tables.specs.Schema.{no_schema};
+ghost use Rattle.sqlite_trees.specs.Tree.{Trees};
+ghost use Rattle.tables.specs.Tables.{Tables, no_rows};
+ghost use Rattle.tables.specs.Base.{IsHonest, IsOpen, Keeps, Recovers, Holds};
+ghost use Rattle.tables.specs.Changes.{applied, IsCounted};
+
+mod queries;
+
+use crate::change::Change;
+use crate::creating::make_tables;
+use crate::fault::{OpenFault, TableFault};
+use crate::opening::is_ours;
+use crate::writing::commit_change;
+use sqlite::{Alter, Connection, Error, ErrorCode};
+use std::marker::Model;
+
+/// A connection, and how many of its calls were refused for another cause than memory.
+#[derive(Drop)]
+pub struct Base<S: Alter + Drop> {
+    conn: Connection<S>,
+    faults: u64,
+}
+
+impl<S: Alter + Drop> Model for Base<S> {
+    ghost use Rattle.std.specs.Prelude.{◌≡◌, false};
+    ghost use Rattle.tables.specs.Base.{BaseValue, base_code};
+
+    ghost Value = { BaseValue S };
+
+    ghost coded = { base_code S.code };
+
+    ghost view = { λ b. record { conn = b.conn; faults = b.faults } };
+
+    ghost invariant = { λ b. b.conn.in_transaction ≡ false };
+}
+
+fn create_fault(error: Error) -> OpenFault {
+    match error {
+        Error::SqliteFailure(ErrorCode::OutOfMemory) => OpenFault::Memory,
+        Error::SqliteFailure(ErrorCode::NameTaken) | Error::SqlInputError(_) => OpenFault::NotOurs,
+        _ => OpenFault::Database,
+    }
+}
+
+fn open_fault(error: Error) -> OpenFault
+    ensures { result ≢ OpenFault.NotOurs }
+{
+    match error {
+        Error::SqliteFailure(ErrorCode::OutOfMemory) => OpenFault::Memory,
+        _ => OpenFault::Database,
+    }
+}
+
+impl<S: Alter + Drop> Base<S> {
+    /// Makes the tables in a database that has none, all in one commit, and gives the connection back with a refusal.
+    pub fn create(mut conn: Connection<S>) -> Result<Base<S>, (OpenFault, Connection<S>)>
+        requires { conn.in_transaction ≡ false }
+        ensures made { IfOk result (λ base. Creates (state S.Store conn) (state S.Store base.conn) (Ok tt)) }
+        ensures keeps { IfOk result (λ base. (state S.Store conn).now.schema ≡ no_schema → Keeps S.Store no_rows base) }
+        ensures uncounted { IfOk result (λ base. base.faults ≡ 0) }
+        ensures undone { IfErr result (λ e. (error : _) × Creates (state S.Store conn) (state S.Store e.1) (Err error)) }
+        ensures closed { IfErr result (λ e. e.1.in_transaction ≡ false) }
+    {
+        match make_tables(&mut conn) {
+            Ok(()) => Ok(Base { conn, faults: 0 }),
+            Err(error) => Err((create_fault(error), conn)),
+        }
+    }
+
+    /// Takes a connection to tables that were made before, and gives it back with a refusal.
+    pub fn adopt(mut conn: Connection<S>) -> Result<Base<S>, (OpenFault, Connection<S>)>
+        requires { conn.in_transaction ≡ false }
+        ensures looks { IfOk result (λ base. Looks (state S.Store conn) (state S.Store base.conn)) }
+        ensures keeps { IfOk result (λ base. (t : Tables) → IsFound t (state S.Store conn) → Keeps S.Store t base) }
+        ensures uncounted { IfOk result (λ base. base.faults ≡ 0) }
+        ensures unchanged { IfErr result (λ e. Looks (state S.Store conn) (state S.Store e.1)) }
+        ensures not_ours { IfErr result (λ e. e.0 ≡ OpenFault.NotOurs → HasCleanDisk (state S.Store e.1) → (t : Tables) → ¬ IsFound t (state S.Store conn)) }
+        ensures closed { IfErr result (λ e. e.1.in_transaction ≡ false) }
+    {
+        match is_ours(&mut conn) {
+            Ok(true) => Ok(Base { conn, faults: 0 }),
+            Ok(false) => Err((OpenFault::NotOurs, conn)),
+            Err(error) => Err((open_fault(error), conn)),
+        }
+    }
+
+    /// Want of memory as it is, and any other refusal as a fault that is counted.
+    fn fault(&mut self, error: Error) -> TableFault
+        ensures same { self.new.conn ≡ self.old.conn }
+        ensures counted { IsCounted result self.old.faults self.new.faults }
+    {
+        match error {
+            Error::SqliteFailure(ErrorCode::OutOfMemory) => TableFault::Memory,
+            _ => {
+                self.faults = self.faults.wrapping_add(1);
+                TableFault::Database
+            }
+        }
+    }
+
+    /// Makes the change in one commit.
+    pub fn commit(&mut self, change: &Change<'_>) -> Result<(), TableFault>
+        ensures honest { IsHonest S.Store self.new → IsHonest S.Store self.old }
+        ensures opened { IsHonest S.Store self.new → OnOk result (IsOpen S.Store self.old × IsOpen S.Store self.new) }
+        ensures ok { (t : Tables) → Keeps S.Store t self.old → OnOk result (Keeps S.Store (applied change.now t) self.new) }
+        ensures err { (t : Tables) → Keeps S.Store t self.old → OnErr result (Keeps S.Store t self.new) }
+        ensures crash { IsHonest S.Store self.new → (db : Trees) → Recovers S.Store self.new db
+            → Recovers S.Store self.old db ⊎ ((t : Tables) → Keeps S.Store t self.old → Holds (applied change.now t) db) }
+        ensures counted { IfErr result (λ e. IsCounted e self.old.faults self.new.faults) }
+        ensures uncounted { OnOk result (self.new.faults ≡ self.old.faults) }
+    {
+        match commit_change(&mut self.conn, change) {
+            Ok(()) => Ok(()),
+            Err(error) => Err(self.fault(error)),
+        }
+    }
+
+    /// How many calls were refused for another cause than memory, modulo 2^64.
+    pub fn faults(&self) -> u64
+        ensures { result ≡ self.now.faults }
+    {
+        self.faults
+    }
+
+    /// The connection.
+    pub fn into_connection(self) -> Connection<S>
+        ensures { result ≡ self.conn }
+    {
+        let Base { conn, faults: _ } = self;
+        conn
+    }
+}

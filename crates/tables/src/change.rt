@@ -1,0 +1,52 @@
+/// A change of the tables, committed at once.
+#[derive(Clone, Copy, Debug)]
+pub enum Change<'a> {
+    /// A stamp without a token, counted on its day.
+    Reserve {
+        serial: u64,
+        account: &'a str,
+        day: u64,
+        gen_time: u64,
+        policy: &'a [u8],
+        algorithm: &'a [u8],
+        digest: &'a [u8],
+        request: &'a [u8],
+        tst: &'a [u8],
+    },
+    /// The token of a stamp.
+    Seal {
+        serial: u64,
+        token: &'a [u8],
+    },
+    /// The token of a stamp, and its deposit.
+    Deposit {
+        serial: u64,
+        token: &'a [u8],
+        owner: &'a str,
+        reference: &'a str,
+        bytes: &'a [u8],
+    },
+    /// A calibration.
+    Calibrate {
+        n: u64,
+        reading: i64,
+        offset: i64,
+        uncertainty: u64,
+    },
+    /// A hold.
+    Hold {
+        n: u64,
+        from: i64,
+        to: i64,
+    },
+    /// A right.
+    Grant {
+        serial: u64,
+        account: &'a str,
+    },
+    /// A right taken back.
+    Revoke {
+        serial: u64,
+        account: &'a str,
+    },
+}

@@ -1,0 +1,20 @@
+//! The tables of the time-stamping counter's database: their schema, the statements on them, and what each change and query
+//! means of their rows.
+#![tactic(auto)]
+
+mod asking;
+mod base;
+mod change;
+mod creating;
+mod fault;
+mod opening;
+mod reading;
+mod rows;
+#[cfg(test)]
+mod tests;
+mod writing;
+
+pub use base::Base;
+pub use change::Change;
+pub use fault::{OpenFault, TableFault};
+pub use rows::{Deposit, Label, LastStamp, LatestCalibration, Stamp};
