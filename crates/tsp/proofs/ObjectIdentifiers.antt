@@ -1,12 +1,12 @@
 -- Object identifiers by their contents octets.
 use Rattle.std.proofs.Common.{◌≡◌, ℕ, List, [], ◌∷◌, refl, sym, ap, ◌∙◌, subst, arith}
-use Rattle.der.specs.ObjectIdentifier.{IsOid, IsOidContent, oid_content, subidentifiers_of, subidentifier_octets}
+use Rattle.der.specs.ObjectIdentifier.{IsOid, ReadsAsOid, oid_content, subidentifiers_of, subidentifier_octets}
 use Rattle.tsp.specs.Request.{sha256_identifier}
 
 pub same_oid : (octets oid : List ℕ) → octets ≡ oid_content oid → subidentifiers_of (oid_content oid) ≡ oid → subidentifiers_of octets ≡ oid
 same_oid octets oid same read = ap subidentifiers_of same ∙ read
 
-pub content_is : (octets oid : List ℕ) → IsOid oid → octets ≡ oid_content oid → subidentifiers_of (oid_content oid) ≡ oid → IsOidContent octets
+pub content_is : (octets oid : List ℕ) → IsOid oid → octets ≡ oid_content oid → subidentifiers_of (oid_content oid) ≡ oid → ReadsAsOid octets
 content_is octets oid proper same read =
     let is = same_oid octets oid same read in
     record { oid = subst IsOid (sym is) proper; same = ap oid_content is ∙ sym same }

@@ -17,13 +17,13 @@ pub struct ObjectIdentifier<'a> {
 
 impl<'a> Model for ObjectIdentifier<'a> {
     ghost use Rattle.std.specs.Prelude.{ℕ, List};
-    ghost use Rattle.der.specs.ObjectIdentifier.{subidentifiers_of, IsOidContent};
+    ghost use Rattle.der.specs.ObjectIdentifier.{subidentifiers_of, ReadsAsOid};
 
     ghost Value = { List ℕ };
 
     ghost view = { λ oid. subidentifiers_of oid.content.now };
 
-    ghost invariant = { λ oid. IsOidContent oid.content.now };
+    ghost invariant = { λ oid. ReadsAsOid oid.content.now };
 }
 
 impl<'a> ObjectIdentifier<'a> {
@@ -32,6 +32,7 @@ impl<'a> ObjectIdentifier<'a> {
     pub fn from_content(content: &'a [u8]) -> Option<ObjectIdentifier<'a>>
         ensures { result ≡ oid_of content.now }
     {
+        oids_have_one_content_and_text();
         if is_oid_content(content) {
             Some(ObjectIdentifier { content })
         } else {
