@@ -1,0 +1,7 @@
+mod Rows
+pub mod Calls
+pub mod Falling
+pub mod Members
+pub mod Numbered
+pub mod Stamps
+pub mod Tallies

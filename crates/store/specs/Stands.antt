@@ -1,0 +1,29 @@
+-- Which histories a store stands for, and what its calls leave.
+use Rattle.std.specs.Prelude.{◌≡◌, ◌≢◌, ◌⊎◌, ℕ, ◌<◌, ◌∷◌}
+use Rattle.sqlite_trees.specs.Tree.{Trees}
+use Rattle.sqlite_trees.specs.declared.store.Store.{Ghosts}
+use Rattle.tables.specs.Base.{BaseValue, IsHonest, Keeps, Recovers, Holds}
+use Rattle.store.specs.History.{Entry, History}
+use Rattle.store.specs.Sound.{Fits, IsSound}
+use Rattle.store.specs.TablesOf.{tables_of}
+
+-- the history is sound, and while the connection is open and its disk returns what was written, the database holds its tables and a
+-- crash leaves nothing else
+pub record Stands {S : Type 0} (g : Ghosts S) (b : History) (store : BaseValue S) : Type 0 where
+  pub sound : IsSound b
+  pub kept : Keeps g (tables_of b) store
+
+-- a look-up: the store stands for what it stood for, and a crash leaves what it could leave before
+pub record OnlyLooks {S : Type 0} (g : Ghosts S) (old new : BaseValue S) : Type 0 where
+  pub honest : IsHonest g new → IsHonest g old
+  pub stands : (b : History) → Stands g b old → Stands g b new
+  pub leaves : IsHonest g new → (db : Trees) → Recovers g new db → Recovers g old db
+
+-- after a crash in the call or at its end: what could be left before, or the tables with the entry
+abbrev pub LeavesOrAdds : {S : Type 0} → Ghosts S → Entry → BaseValue S → BaseValue S → Type 0
+LeavesOrAdds g entry old new =
+    IsHonest g new → (db : Trees) → Recovers g new db
+    → Recovers g old db ⊎ ((b : History) → Stands g b old → Fits entry b → Holds (tables_of (entry ∷ b)) db)
+
+abbrev pub LeavesAsBefore : {S : Type 0} → Ghosts S → BaseValue S → BaseValue S → Type 0
+LeavesAsBefore g old new = (db : Trees) → Recovers g new db → Recovers g old db

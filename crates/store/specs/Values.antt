@@ -1,0 +1,31 @@
+-- The calls' arguments and answers, as the entries and views of a history.
+use Rattle.std.specs.Prelude.{Option, option_map}
+use Rattle.store.specs.History.{ReservationValue, CalibrationValue, HoldValue, History, greatest_serial, last_gen_time}
+use Rattle.store.specs.declared.values.Reservation.{Reservation}
+use Rattle.store.specs.declared.values.Calibration.{Calibration}
+use Rattle.store.specs.declared.values.Hold.{Hold}
+use Rattle.store.specs.declared.values.Last.{Last}
+
+abbrev pub reservation_view : Reservation → ReservationValue
+reservation_view r = record {
+  serial = r.serial;
+  account = r.account.now;
+  gen_time = r.gen_time;
+  policy = r.policy.now;
+  algorithm = r.algorithm.now;
+  digest = r.digest.now;
+  request = r.request.now;
+  tst = r.tst.now;
+}
+
+abbrev pub calibration_view : Calibration → CalibrationValue
+calibration_view c = record { reading = c.reading; offset = c.offset; uncertainty = c.uncertainty }
+
+abbrev pub hold_view : Hold → HoldValue
+hold_view h = record { from = h.from; to = h.to }
+
+abbrev pub last_of : History → Last
+last_of b = record { serial = greatest_serial b; gen_time = last_gen_time b }
+
+abbrev pub calibration_option : Option Calibration → Option CalibrationValue
+calibration_option found = option_map calibration_view found

@@ -1,0 +1,60 @@
+ghost use Rattle.std.specs.Prelude.{◌≡◌};
+ghost use Rattle.tables.specs.declared.fault.TableFault.{TableFault};
+ghost use Rattle.store.specs.Fault.{fault_of, opening_fault_of};
+
+use tables::{OpenFault, TableFault};
+use thiserror::Error;
+
+/// Why a call of the store is refused. Each refusal has a number, which the program prints.
+#[derive(Clone, Copy, Debug, PartialEq, Eq, Error)]
+pub enum StoreFault {
+    /// Memory ran out: a growth was refused, or the database answered that it found none.
+    #[error("out of memory")]
+    Memory = 1,
+    /// The database refused for another cause; the store's count of such refusals rose.
+    #[error("the database refused")]
+    Database = 2,
+    /// The database's tables aren't the counter's; for a new database, a table's name is taken.
+    #[error("the database is not one of this counter")]
+    NotOurs = 3,
+    /// All serial numbers are used up.
+    #[error("the serial numbers are used up")]
+    Full = 4,
+    /// A calibration whose reading is before the last one's.
+    #[error("the reading is before that of the last calibration")]
+    Backwards = 5,
+}
+
+impl From<TableFault> for StoreFault {
+    ghost from_gives = { λ fault e. e ≡ fault_of fault };
+
+    fn from(fault: TableFault) -> StoreFault {
+        match fault {
+            TableFault::Memory => StoreFault::Memory,
+            TableFault::Database => StoreFault::Database,
+        }
+    }
+}
+
+impl From<OpenFault> for StoreFault {
+    ghost from_gives = { λ fault e. e ≡ opening_fault_of fault };
+
+    fn from(fault: OpenFault) -> StoreFault {
+        match fault {
+            OpenFault::Memory => StoreFault::Memory,
+            OpenFault::Database => StoreFault::Database,
+            OpenFault::NotOurs => StoreFault::NotOurs,
+        }
+    }
+}
+
+impl StoreFault {
+    ghost use Rattle.store.specs.Fault.{number_of};
+
+    /// The refusal's number, 1 to 5.
+    pub fn number(self) -> u8
+        ensures { result ≡ number_of self }
+    {
+        self as u8
+    }
+}

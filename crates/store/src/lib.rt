@@ -1,0 +1,11 @@
+//! The history of what the counter accepted, kept in tables.
+#![tactic(auto)]
+
+mod fault;
+mod opening;
+mod store;
+mod values;
+
+pub use fault::StoreFault;
+pub use store::Store;
+pub use values::{Calibration, Hold, Last, Reservation};

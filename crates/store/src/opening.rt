@@ -1,0 +1,106 @@
+//! How a store is made, opened and closed.
+ghost use Rattle.std.specs.Prelude.{◌≡◌, ◌⊎◌, ℕ, [], false, Ok, Err, IfOk, IfErr};
+ghost use Rattle.sqlite.specs.Held.{state};
+ghost use Rattle.sqlite.specs.State.{HasCleanDisk};
+ghost use Rattle.tables.specs.Asking.{Looks};
+ghost use Rattle.tables.specs.Opening.{IsFound, Creates};
+ghost use Rattle.tables.specs.Schema.{no_schema};
+ghost use Rattle.store.specs.History.{History};
+ghost use Rattle.store.specs.Sound.{IsSound};
+ghost use Rattle.store.specs.Stands.{Stands};
+ghost use Rattle.store.specs.TablesOf.{tables_of};
+
+use crate::fault::StoreFault;
+use crate::store::Store;
+use sqlite::{Alter, Connection, Error, ErrorCode, FileFrom, FileStore, Start};
+use sqlite_disk::Disk;
+use std::alloc::Global;
+use tables::Base;
+
+impl<S: Alter + Drop> Store<S> {
+    /// Makes all tables in an empty database, in one commit. The caller's condition is a connection outside any transaction, which
+    /// comes back with a refusal: `Memory`, `Database`, or `NotOurs` where a table's name is taken.
+    pub fn create(
+        alloc: Global,
+        conn: Connection<S>,
+    ) -> Result<Store<S>, (StoreFault, Connection<S>)>
+        requires { conn.in_transaction ≡ false }
+        ensures stands { IfOk result (λ store. (state S.Store conn).now.schema ≡ no_schema → Stands S.Store [] store) }
+        ensures made { IfOk result (λ store. Creates (state S.Store conn) (state S.Store store.conn) (Ok tt)) }
+        ensures undone { IfErr result (λ e. (error : _) × Creates (state S.Store conn) (state S.Store e.1) (Err error)) }
+        ensures closed { IfErr result (λ e. e.1.in_transaction ≡ false) }
+        ensures uncounted { IfOk result (λ store. store.faults ≡ 0) }
+        ensures refusals { IfErr result (λ e. (e.0 ≡ StoreFault.Memory) ⊎ ((e.0 ≡ StoreFault.Database) ⊎ (e.0 ≡ StoreFault.NotOurs))) }
+    {
+        match Base::create(conn) {
+            Ok(base) => Ok(Store { base, alloc }),
+            Err((fault, conn)) => Err((StoreFault::from(fault), conn)),
+        }
+    }
+
+    /// Takes a connection to tables that were made before. The caller's condition is a connection outside any transaction, which
+    /// comes back with a refusal: `Memory`, `Database`, or `NotOurs` where a query over the tables and columns isn't understood, or
+    /// `meta` isn't its one row.
+    pub fn adopt(
+        alloc: Global,
+        conn: Connection<S>,
+    ) -> Result<Store<S>, (StoreFault, Connection<S>)>
+        requires { conn.in_transaction ≡ false }
+        ensures stands { IfOk result (λ store. (b : History) → IsSound b → IsFound (tables_of b) (state S.Store conn) → Stands S.Store b store) }
+        ensures looks { IfOk result (λ store. Looks (state S.Store conn) (state S.Store store.conn)) }
+        ensures unchanged { IfErr result (λ e. Looks (state S.Store conn) (state S.Store e.1)) }
+        ensures not_ours { IfErr result (λ e. e.0 ≡ StoreFault.NotOurs → HasCleanDisk (state S.Store e.1)
+            → (b : History) → ¬ IsFound (tables_of b) (state S.Store conn)) }
+        ensures closed { IfErr result (λ e. e.1.in_transaction ≡ false) }
+        ensures uncounted { IfOk result (λ store. store.faults ≡ 0) }
+        ensures refusals { IfErr result (λ e. (e.0 ≡ StoreFault.Memory) ⊎ ((e.0 ≡ StoreFault.Database) ⊎ (e.0 ≡ StoreFault.NotOurs))) }
+    {
+        match Base::adopt(conn) {
+            Ok(base) => Ok(Store { base, alloc }),
+            Err((fault, conn)) => Err((StoreFault::from(fault), conn)),
+        }
+    }
+}
+
+impl<D: Disk + Drop> Store<FileStore<D>> {
+    /// Copies what was committed into the database file and closes the files. Refused with `Memory` or `Database`; what was committed
+    /// stays then.
+    pub fn close(self) -> Result<(), StoreFault>
+        ensures { IfErr result (λ e. (e ≡ StoreFault.Memory) ⊎ (e ≡ StoreFault.Database)) }
+    {
+        match self.into_connection().close() {
+            Ok(()) => Ok(()),
+            Err(error) => Err(closing_fault(error)),
+        }
+    }
+}
+
+impl<T: Start + Drop> Store<FileStore<FileFrom<T>>> {
+    /// Opens the files at a path. Refused with `Memory`, with `Database` where they can't be opened, and with `NotOurs` as `adopt`.
+    pub fn open(
+        rt: &HostRuntime,
+        path: &str,
+        start: T,
+    ) -> Result<Store<FileStore<FileFrom<T>>>, StoreFault>
+        ensures { IfErr result (λ e. (e ≡ StoreFault.Memory) ⊎ ((e ≡ StoreFault.Database) ⊎ (e ≡ StoreFault.NotOurs))) }
+    {
+        let conn = match Connection::open_from(rt, path, true, start) {
+            Ok(conn) => conn,
+            Err((error, _left)) => return Err(closing_fault(error)),
+        };
+        match Store::adopt(rt.alloc(), conn) {
+            Ok(store) => Ok(store),
+            Err((fault, _conn)) => Err(fault),
+        }
+    }
+}
+
+/// Want of memory as it is, and any other refusal as the database's.
+fn closing_fault(error: Error) -> StoreFault
+    ensures { (result ≡ StoreFault.Memory) ⊎ (result ≡ StoreFault.Database) }
+{
+    match error {
+        Error::SqliteFailure(ErrorCode::OutOfMemory) => StoreFault::Memory,
+        _ => StoreFault::Database,
+    }
+}
