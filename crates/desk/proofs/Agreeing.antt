@@ -1,0 +1,442 @@
+-- Histories that agree for an account agree again after its commands.
+use Rattle.std.proofs.Common.{◌≡◌, ℕ, ◌<◌, ◌≤◌, ◌+◌, ◌==◌, ◌&&◌, ◌||◌, ◌⊎◌, max, nat_le, cond, ℤ, Bool, true, false, List, [], ◌∷◌, ◌++◌, length, Option, Some, None, Result, Ok, Err, refl, sym, ◌∙◌, ap, subst, inl, inr, arith}
+use Rattle.std.specs.Prelude.{filter, map, option_map}
+use Rattle.std.specs.Option.{option_and_then}
+use Rattle.std.specs.Str.{bytes_eq}
+use Rattle.std.proofs.lemmas.Bool.{eq-eqb, eqb-true}
+use Rattle.std.proofs.lemmas.Slice.Eq.{bytes_eq-Decides}
+use Rattle.policy.specs.Record.{AccountValue, PolicyValue}
+use Rattle.cms.specs.declared.signer.SignerFault.{SignerFault}
+use Rattle.cms.specs.declared.signer.SignerFault.TheVariants as signer
+use Rattle.tables.specs.Tables.{StampRow, DepositRow}
+use Rattle.store.specs.History.{Entry, Reserved, Sealed, Deposited, Calibrated, Held, Granted, Revoked, History, ReservationValue, reservations, deposits, stamps, stamp_of, greatest_serial, token_of, reservation_at, deposit_at, deposit_under}
+use Rattle.store.specs.Rights.{seen_by, shown_to, is_reader, listed}
+use Rattle.store.specs.Sound.{Along, Fits}
+use Rattle.desk.specs.Agreement.{SeenValue, seen_as, seen_at, Agree, IsCommandOf}
+use Rattle.desk.specs.Outcome.{Outcome, Cause, cause_of, first_cause}
+use Rattle.desk.specs.Findings.{PlanValue, Finding, Fails, Unanswered, Allowed, Finds}
+use Rattle.desk.specs.Command.{Setting, PendingValue, Command, Stamp, Begin, Finish, Abandon, Deposit, Show, Token, ListAll, Grant, Revoke, Calibrate, Hold, Listed, Done, Refused}
+use Rattle.desk.specs.Texts.{octets_for, pending_of, token_with}
+use Rattle.desk.specs.Effects.{Effect, only, unless, Stamping, Unreserved, Void, Sealing, no_number, no_seal, next_reservation, sealed_or_void, signed_or_void, stamping_of, stamp_effect, stamp_found, deposit_row, deposit_effect, deposit_found, known_effect, name_of, has_account, right_of_owner, right_effect, show_effect, token_effect}
+use Rattle.desk.specs.declared.fault.Fault.TheVariants as fault
+use Rattle.desk.specs.Steps.{HasFound, KeepsUnder, KeepsUnless, Keeps, HasEffect}
+use Rattle.desk.proofs.Views.{unsealed_above, sealed_below, deposit_sealed}
+use Rattle.desk.proofs.Stepping.{right_seen, shows_none, tokens_none, answers_none}
+
+differ_by : (m n : ℕ) (same : Bool) → (m == n) ≡ same → n < m → same ≡ false
+differ_by m n true e h = let number : m ≡ n = eqb-true m n e in absurd (omega arith)
+differ_by m n false e h = refl
+
+-- where a number is below another they aren't the same
+pub differ : (m n : ℕ) → n < m → (m == n) ≡ false
+differ m n h = differ_by m n (m == n) refl h
+
+-- a reservation under a new serial number is of no deposit that is seen
+pub seen_beside : (account : List ℕ) (n : ℕ) (b : History) (r : ReservationValue) → Along Fits b
+    → greatest_serial b < r.serial
+    → (seen : Option DepositRow) → seen_by account n b ≡ seen
+    → option_map (seen_as n (Reserved r ∷ b)) seen ≡ option_map (seen_as n b) seen
+seen_beside account n b r sound above None is = refl
+seen_beside account n b r sound above (Some d) is =
+    let fits = right_seen account n b d is in
+    let token = deposit_sealed b n fits.deposit fits.deposited in
+    let low = sealed_below b sound n token.0 token.1 in
+    let other : (r.serial == n) ≡ false = differ r.serial n (omega arith) in
+    ap (λ t. Some (record {
+      deposit = d;
+      gen_time = option_map (λ x. x.gen_time) (cond t (Some r)
+          (reservation_at n b));
+      token = token_of n b;
+    })) other
+
+agree_reserved : (account : List ℕ) (b c : History) (r : ReservationValue) → Along Fits b → Along Fits c
+    → Agree account b c → greatest_serial b < r.serial
+    → Agree account (Reserved r ∷ b) (Reserved r ∷ c)
+agree_reserved account b c r one other agree above =
+    let above_too : greatest_serial c < r.serial = rw (← agree.greatest) above in
+    let tokens : token_of r.serial b ≡ token_of r.serial c = unsealed_above b one r.serial above
+    ∙ sym (unsealed_above c other r.serial above_too) in
+    record {
+      own_stamps =
+          ap (λ t. cond (bytes_eq r.account account) (stamp_of t r
+          ∷ filter (λ s. bytes_eq s.account account) (stamps b)) (filter (λ s. bytes_eq s.account account)
+          (stamps b))) tokens
+          ∙ ap (λ xs. cond (bytes_eq r.account account) (stamp_of (token_of r.serial c) r ∷ xs) xs) agree.own_stamps;
+      own_deposits = agree.own_deposits;
+      seen = λ n. seen_beside account n b r one above (seen_by account n b) refl
+          ∙ (agree.seen n ∙ sym (seen_beside account n c r other above_too (seen_by account n c) refl));
+      calibration = agree.calibration;
+      holding = agree.holding;
+      last = refl;
+      greatest = ap (max r.serial) agree.greatest;
+    }
+
+-- a token for a serial number
+abbrev rows : (ℕ → Option (List ℕ)) → List ReservationValue → List StampRow
+rows token rs = map (λ r. stamp_of (token r.serial) r) rs
+
+abbrev with_token : ℕ → List ℕ → (ℕ → Option (List ℕ)) → ℕ → Option (List ℕ)
+with_token n t token m = cond (n == m) (Some t) (token m)
+
+abbrev seal : ℕ → List ℕ → StampRow → StampRow
+seal n t s = record s { token = cond (n == s.serial) (Some t) s.token }
+
+abbrev own : List ℕ → List StampRow → List StampRow
+own account ss = filter (λ s. bytes_eq s.account account) ss
+
+own_sealed_step : (account : List ℕ) (n : ℕ) (t : List ℕ) (token : ℕ
+    → Option (List ℕ)) (r : ReservationValue) (rs : List ReservationValue) (mine : Bool)
+    → own account (rows (with_token n t token) rs) ≡ map (seal n t) (own account (rows token rs))
+    → cond mine (stamp_of (with_token n t token r.serial) r
+    ∷ own account (rows (with_token n t token) rs)) (own account (rows (with_token n t token) rs))
+    ≡ map (seal n t) (cond mine (stamp_of (token r.serial) r
+    ∷ own account (rows token rs)) (own account (rows token rs)))
+own_sealed_step account n t token r rs true e = ap (λ xs. stamp_of (with_token n t token r.serial) r ∷ xs) e
+own_sealed_step account n t token r rs false e = e
+
+own_sealed : (account : List ℕ) (n : ℕ) (t : List ℕ) (token : ℕ → Option (List ℕ)) (rs : List ReservationValue)
+    → own account (rows (with_token n t token) rs) ≡ map (seal n t) (own account (rows token rs))
+own_sealed account n t token [] = refl
+own_sealed account n t token (r ∷ rs) = own_sealed_step account n t token r rs (bytes_eq r.account account)
+    (own_sealed account n t token rs)
+
+own_stamps_sealed : (account : List ℕ) (n : ℕ) (t : List ℕ) (b c : History) → Agree account b c
+    → own account (rows (with_token n t (λ m. token_of m b)) (reservations b))
+    ≡ own account (rows (with_token n t (λ m. token_of m c)) (reservations c))
+own_stamps_sealed account n t b c agree =
+    own_sealed account n t (λ m. token_of m b) (reservations b)
+    ∙ (ap (map (seal n t)) agree.own_stamps ∙ sym (own_sealed account n t (λ m. token_of m c) (reservations c)))
+
+abbrev reseal : ℕ → List ℕ → ℕ → SeenValue → SeenValue
+reseal n t m v = record v { token = cond (n == m) (Some t) v.token }
+
+seen_sealed : (n : ℕ) (t : List ℕ) (m : ℕ) (b : History) (seen : Option DepositRow)
+    → option_map (seen_as m (Sealed n t ∷ b)) seen ≡ option_map (reseal n t m) (option_map (seen_as m b) seen)
+seen_sealed n t m b None = refl
+seen_sealed n t m b (Some d) = refl
+
+agree_sealed : (account : List ℕ) (b c : History) (n : ℕ) (t : List ℕ) → Agree account b c
+    → Agree account (Sealed n t ∷ b) (Sealed n t ∷ c)
+agree_sealed account b c n t agree = record {
+  own_stamps = own_stamps_sealed account n t b c agree;
+  own_deposits = agree.own_deposits;
+  seen = λ m. seen_sealed n t m b (seen_by account m b) ∙ (ap (option_map (reseal n t m)) (agree.seen m)
+      ∙ sym (seen_sealed n t m c (seen_by account m c)));
+  calibration = agree.calibration;
+  holding = agree.holding;
+  last = agree.last;
+  greatest = agree.greatest;
+}
+
+-- a new deposit of the account's own
+abbrev seen_new : List ℕ → ℕ → DepositRow → List ℕ → History → Bool → Option SeenValue
+seen_new account m d t b same =
+    option_map (λ x. record {
+      deposit = x;
+      gen_time = option_map (λ r. r.gen_time)
+          (reservation_at m b);
+      token = cond same (Some t) (token_of m b);
+    })
+    (option_and_then (shown_to account (is_reader m account b)) (cond same (Some d) (deposit_at m b)))
+
+seen_own : (account : List ℕ) (m : ℕ) (d : DepositRow) (t : List ℕ) (b : History) → bytes_eq d.owner account ≡ true
+    → seen_new account m d t b true ≡ Some (record {
+      deposit = d;
+      gen_time = option_map (λ r. r.gen_time)
+          (reservation_at m b);
+      token = Some t;
+    })
+seen_own account m d t b mine =
+    ap (λ o. option_map (λ x. record {
+      deposit = x;
+      gen_time = option_map (λ r. r.gen_time)
+          (reservation_at m b);
+      token = Some t;
+    })
+    (cond (o || is_reader m account b) (Some d) None)) mine
+
+seen_deposited : (account : List ℕ) (m : ℕ) (d : DepositRow) (t : List ℕ) (b c : History) → bytes_eq d.owner account
+    ≡ true
+    → reservation_at d.serial b ≡ reservation_at d.serial c → Agree account b c → (same : Bool) → (d.serial == m)
+    ≡ same
+    → seen_new account m d t b same ≡ seen_new account m d t c same
+seen_deposited account m d t b c mine stamped agree true is =
+    let number : d.serial ≡ m = eqb-true d.serial m is in
+    let at : reservation_at m b ≡ reservation_at m c = subst (λ k. reservation_at k b
+    ≡ reservation_at k c) number stamped in
+    seen_own account m d t b mine
+    ∙ (ap (λ r. Some (record { deposit = d; gen_time = option_map (λ x. x.gen_time) r; token = Some t })) at
+    ∙ sym (seen_own account m d t c mine))
+seen_deposited account m d t b c mine stamped agree false is = agree.seen m
+
+agree_deposited : (account : List ℕ) (b c : History) (d : DepositRow) (t : List ℕ) → bytes_eq d.owner account ≡ true
+    → reservation_at d.serial b ≡ reservation_at d.serial c → Agree account b c → Agree account (Deposited d t
+    ∷ b) (Deposited d t ∷ c)
+agree_deposited account b c d t mine stamped agree = record {
+  own_stamps = own_stamps_sealed account d.serial t b c agree;
+  own_deposits = ap (λ xs. cond (bytes_eq d.owner account) (d ∷ xs) xs) agree.own_deposits;
+  seen = λ m. seen_deposited account m d t b c mine stamped agree (d.serial == m) refl;
+  calibration = agree.calibration;
+  holding = agree.holding;
+  last = agree.last;
+  greatest = agree.greatest;
+}
+
+-- a right of another account
+and_false : (t : Bool) → (t && false) ≡ false
+and_false true = refl
+and_false false = refl
+
+other_reader : (account x : List ℕ) (n m : ℕ) → bytes_eq x account ≡ false → ((n == m) && bytes_eq x account) ≡ false
+other_reader account x n m e = ap (λ t. (n == m) && t) e ∙ and_false (n == m)
+
+agree_right : (account : List ℕ) (b c : History) (n : ℕ) (x : List ℕ) (given : Bool) → bytes_eq x account ≡ false
+    → Agree account b c
+    → (m : ℕ) → option_map (seen_as m b) (option_and_then (shown_to account
+    (cond ((n == m) && bytes_eq x account) given (is_reader m account b))) (deposit_at m b))
+    ≡ option_map (seen_as m c) (option_and_then (shown_to account (cond ((n == m) && bytes_eq x account) given
+    (is_reader m account c))) (deposit_at m c))
+agree_right account b c n x given e agree m =
+    let one = ap (λ t. option_map (seen_as m b) (option_and_then (shown_to account
+    (cond t given (is_reader m account b))) (deposit_at m b))) (other_reader account x n m e) in
+    let two = ap (λ t. option_map (seen_as m c) (option_and_then (shown_to account
+    (cond t given (is_reader m account c))) (deposit_at m c))) (other_reader account x n m e) in
+    one ∙ (agree.seen m ∙ sym two)
+
+agree_granted : (account : List ℕ) (b c : History) (n : ℕ) (x : List ℕ) → bytes_eq x account ≡ false
+    → Agree account b c → Agree account (Granted n x ∷ b) (Granted n x ∷ c)
+agree_granted account b c n x e agree = record {
+  own_stamps = agree.own_stamps;
+  own_deposits = agree.own_deposits;
+  seen = agree_right account b c n x true e agree;
+  calibration = agree.calibration;
+  holding = agree.holding;
+  last = agree.last;
+  greatest = agree.greatest;
+}
+
+agree_revoked : (account : List ℕ) (b c : History) (n : ℕ) (x : List ℕ) → bytes_eq x account ≡ false
+    → Agree account b c → Agree account (Revoked n x ∷ b) (Revoked n x ∷ c)
+agree_revoked account b c n x e agree = record {
+  own_stamps = agree.own_stamps;
+  own_deposits = agree.own_deposits;
+  seen = agree_right account b c n x false e agree;
+  calibration = agree.calibration;
+  holding = agree.holding;
+  last = agree.last;
+  greatest = agree.greatest;
+}
+
+-- what a stamping reserves is the next reservation
+abbrev pub IsNext : ReservationValue → Stamping → Type 0
+IsNext next (Unreserved cause) = Unit {0}
+IsNext next (Void r cause) = r ≡ next
+IsNext next (Sealing r token) = r ≡ next
+
+next_sealed : (r : ReservationValue) (token : List ℕ) (refused : Option Cause)
+    → IsNext r (sealed_or_void r token refused)
+next_sealed r token None = refl
+next_sealed r token (Some cause) = refl
+
+next_signed : (p : PendingValue) (r : ReservationValue) (o : Outcome) (signing : Result (List ℕ) SignerFault)
+    → IsNext r (signed_or_void p r signing o)
+next_signed p r o (Ok signature) = next_sealed r (token_with p signature) (no_seal o)
+next_signed p r o (Err signer.Failed) = refl
+next_signed p r o (Err signer.Memory) = refl
+
+pub next_stamping : (s : Setting) (account : List ℕ) (plan : PlanValue) (octets : List ℕ) (o : Outcome)
+    (b : History) (refused : Option Cause)
+    → IsNext (next_reservation s account plan octets b) (stamping_of s account plan octets o b refused)
+next_stamping s account plan octets o b (Some cause) = tt
+next_stamping s account plan octets o b None =
+    let r = next_reservation s account plan octets b in next_signed (pending_of s plan r) r o o.signing
+
+above_of : (r next : ReservationValue) (n : ℕ) → r ≡ next → n < next.serial → n < r.serial
+above_of r next n e h = subst (λ x. n < x.serial) (sym e) h
+
+stamp_agrees : (account : List ℕ) (s : Setting) (b c : History) → Along Fits b → Along Fits c → Agree account b c
+    → (next : ReservationValue) → greatest_serial b < next.serial
+    → (st : Stamping) → IsNext next st → Agree account ((stamp_effect s st).adds ++ b) ((stamp_effect s st).adds ++ c)
+stamp_agrees account s b c one other agree next above (Unreserved cause) h = agree
+stamp_agrees account s b c one other agree next above (Void r cause) h =
+    agree_reserved account b c r one other agree (above_of r next (greatest_serial b) h above)
+stamp_agrees account s b c one other agree next above (Sealing r token) h =
+    agree_sealed account (Reserved r ∷ b) (Reserved r ∷ c) r.serial token
+    (agree_reserved account b c r one other agree (above_of r next (greatest_serial b) h above))
+
+just_reserved : (r : ReservationValue) (b c : History) → reservation_at r.serial (Reserved r ∷ b)
+    ≡ reservation_at r.serial (Reserved r ∷ c)
+just_reserved r b c = rw (eq-eqb r.serial r.serial refl)
+
+deposit_agrees : (account : List ℕ) (s : Setting) (owner reference bytes : List ℕ) (b c : History) → owner ≡ account
+    → Along Fits b → Along Fits c → Agree account b c
+    → (next : ReservationValue) → greatest_serial b < next.serial → (st : Stamping) → IsNext next st
+    → Agree account ((deposit_effect s owner reference bytes st).adds ++ b)
+    ((deposit_effect s owner reference bytes st).adds ++ c)
+deposit_agrees account s owner reference bytes b c mine one other agree next above (Unreserved cause) h = agree
+deposit_agrees account s owner reference bytes b c mine one other agree next above (Void r cause) h =
+    agree_reserved account b c r one other agree (above_of r next (greatest_serial b) h above)
+deposit_agrees account s owner reference bytes b c mine one other agree next above (Sealing r token) h =
+    agree_deposited account (Reserved r ∷ b) (Reserved r ∷ c) (deposit_row r.serial owner reference bytes) token
+    ((bytes_eq-Decides owner account).1 mine) (just_reserved r b c)
+    (agree_reserved account b c r one other agree (above_of r next (greatest_serial b) h above))
+
+pub next_above : (s : Setting) (account : List ℕ) (plan : PlanValue) (octets : List ℕ) (b : History)
+    → greatest_serial b < (next_reservation s account plan octets b).serial
+next_above s account plan octets b = omega arith
+
+stamp_found_agrees : (account : List ℕ) (s : Setting) (name octets : List ℕ) (o : Outcome) (b c : History)
+    → Along Fits b → Along Fits c → Agree account b c → (f : Finding)
+    → Agree account ((stamp_found s name octets o b f).adds ++ b) ((stamp_found s name octets o b f).adds ++ c)
+stamp_found_agrees account s name octets o b c one other agree (Fails rule) = agree
+stamp_found_agrees account s name octets o b c one other agree (Unanswered cause) = agree
+stamp_found_agrees account s name octets o b c one other agree (Allowed plan) =
+    stamp_agrees account s b c one other agree (next_reservation s name plan octets b)
+    (next_above s name plan octets b)
+    (stamping_of s name plan octets o b (no_number o b)) (next_stamping s name plan octets o b (no_number o b))
+
+deposit_found_agrees : (account : List ℕ) (s : Setting) (owner reference bytes octets : List ℕ) (o : Outcome)
+    (b c : History) → owner ≡ account → Along Fits b → Along Fits c
+    → Agree account b c → (f : Finding)
+    → Agree account ((deposit_found s owner reference bytes octets o b f).adds ++ b)
+    ((deposit_found s owner reference bytes octets o b f).adds ++ c)
+deposit_found_agrees account s owner reference bytes octets o b c mine one other agree (Fails rule) = agree
+deposit_found_agrees account s owner reference bytes octets o b c mine one other agree (Unanswered cause) = agree
+deposit_found_agrees account s owner reference bytes octets o b c mine one other agree (Allowed plan) =
+    deposit_agrees account s owner reference bytes b c mine one other agree (next_reservation s owner plan octets b)
+    (next_above s owner plan octets b)
+    (stamping_of s owner plan octets o b (no_number o b)) (next_stamping s owner plan octets o b (no_number o b))
+
+none_agrees : (account : List ℕ) (e : Effect) (b c : History) → Agree account b c → e.adds ≡ []
+    → Agree account (e.adds ++ b) (e.adds ++ c)
+none_agrees account e b c agree h = subst (λ es. Agree account (es ++ b) (es ++ c)) (sym h) agree
+
+keeps_under_agrees : (account : List ℕ) (s : Setting) (a : AccountValue) (reading : ℤ) (reference bytes : List ℕ)
+    (o : Outcome) (b c : History) (e : Effect)
+    → a.name ≡ account → Along Fits b → Along Fits c → Agree account b c → (known : Option DepositRow)
+    → KeepsUnder s a reading reference bytes o b known e
+    → Agree account (e.adds ++ b) (e.adds ++ c)
+keeps_under_agrees account s a reading reference bytes o b c e mine one other agree
+    (Some d) h = none_agrees account e b c agree (ap (λ x. x.adds) h)
+keeps_under_agrees account s a reading reference bytes o b c e mine one other agree None h =
+    subst (λ x. Agree account (x.adds ++ b) (x.adds ++ c)) (sym h.1.2)
+    (deposit_found_agrees account s a.name reference bytes
+    (octets_for s.file a bytes) o b c mine one other agree h.1.0)
+
+keeps_unless_agrees : (account : List ℕ) (s : Setting) (a : AccountValue) (reading : ℤ) (reference bytes : List ℕ)
+    (o : Outcome) (b c : History) (e : Effect)
+    → a.name ≡ account → Along Fits b → Along Fits c → Agree account b c → (refused : Option Cause)
+    → KeepsUnless s a reading reference bytes o b refused e
+    → Agree account (e.adds ++ b) (e.adds ++ c)
+keeps_unless_agrees account s a reading reference bytes o b c e mine one other agree
+    (Some cause) h = none_agrees account e b c agree (ap (λ x. x.adds) h)
+keeps_unless_agrees account s a reading reference bytes o b c e mine one other agree None h =
+    keeps_under_agrees account s a reading reference bytes o b c e mine one other agree
+    (deposit_under a.name reference b) h
+
+keeps_agrees : (account : List ℕ) (s : Setting) (a : AccountValue) (reading : ℤ) (reference bytes : List ℕ)
+    (o : Outcome) (b c : History) (e : Effect)
+    → a.name ≡ account → Along Fits b → Along Fits c → Agree account b c → (short : Bool)
+    → Keeps s a reading reference bytes o b short e
+    → Agree account (e.adds ++ b) (e.adds ++ c)
+keeps_agrees account s a reading reference bytes o b c e mine one other agree true h =
+    keeps_unless_agrees account s a reading reference bytes o b c e mine one other agree (cause_of o.searching) h
+keeps_agrees account s a reading reference bytes o b c e mine one other agree false h = none_agrees account e b c
+    agree (ap (λ x. x.adds) h)
+
+-- what a right's command adds: nothing, or the right of another account
+abbrev AddsRight : List ℕ → List ℕ → Entry → Effect → Type 0
+AddsRight account reader entry e = (e.adds ≡ []) ⊎ ((e.adds ≡ entry ∷ []) × (bytes_eq reader account ≡ false))
+
+right_unless : (account reader : List ℕ) (entry : Entry) (refused : Option Cause) (e : Effect)
+    → AddsRight account reader entry e → AddsRight account reader entry (unless refused e)
+right_unless account reader entry None e h = h
+right_unless account reader entry (Some cause) e h = inl refl
+
+right_if : (account reader : List ℕ) (entry : Entry) (t : Bool) (d e : Effect) → AddsRight account reader entry d
+    → AddsRight account reader entry e
+    → AddsRight account reader entry (cond t d e)
+right_if account reader entry true d e h k = h
+right_if account reader entry false d e h k = k
+
+right_of_other : (account reader : List ℕ) (entry : Entry) (same : Bool) (d e : Effect) → bytes_eq reader account
+    ≡ same → d.adds ≡ [] → (same ≡ false → AddsRight account reader entry e)
+    → AddsRight account reader entry (cond same d e)
+right_of_other account reader entry true d e is h k = inl h
+right_of_other account reader entry false d e is h k = k refl
+
+right_adds : (file : PolicyValue) (account reader : List ℕ) (o : Outcome) (entry : Entry) (seen : Option DepositRow)
+    → AddsRight account reader entry (right_effect file account reader o entry seen)
+right_adds file account reader o entry None = inl refl
+right_adds file account reader o entry (Some d) =
+    let added : Effect = record { adds = entry ∷ []; asks = None; says = Done } in
+    let mine : Effect = only (Refused fault.SelfGrant) in
+    let given : Effect = unless (cause_of o.adding) added in
+    let unknown : Effect = only (Refused fault.UnknownReader) in
+    let other : Effect = only (Refused fault.NotOwner) in
+    let owned = right_of_owner file account reader (cause_of o.adding) entry in
+    right_unless account reader entry (cause_of o.looking) (cond (bytes_eq d.owner account) owned other)
+    (right_if account reader entry (bytes_eq d.owner account) owned other
+    (right_if account reader entry (has_account file reader)
+    (cond (bytes_eq reader account) mine given) unknown
+    (right_of_other account reader entry (bytes_eq reader account) mine given refl refl
+    (λ e. right_unless account reader entry (cause_of o.adding) added (inr (refl, e))))
+    (inl refl))
+    (inl refl))
+
+granted_agrees : (account : List ℕ) (b c : History) (n : ℕ) (x : List ℕ) (e : Effect) → Agree account b c
+    → AddsRight account x (Granted n x) e → Agree account (e.adds ++ b) (e.adds ++ c)
+granted_agrees account b c n x e agree (inl h) = none_agrees account e b c agree h
+granted_agrees account b c n x e agree (inr h) = subst (λ es. Agree account (es ++ b) (es ++ c)) (sym h.0)
+    (agree_granted account b c n x h.1 agree)
+
+revoked_agrees : (account : List ℕ) (b c : History) (n : ℕ) (x : List ℕ) (e : Effect) → Agree account b c
+    → AddsRight account x (Revoked n x) e → Agree account (e.adds ++ b) (e.adds ++ c)
+revoked_agrees account b c n x e agree (inl h) = none_agrees account e b c agree h
+revoked_agrees account b c n x e agree (inr h) = subst (λ es. Agree account (es ++ b) (es ++ c)) (sym h.0)
+    (agree_revoked account b c n x h.1 agree)
+
+right_for : (account : List ℕ) (a : AccountValue) (reader : List ℕ) (entry : Entry) (e d : Effect) → a.name
+    ≡ account → e ≡ d → AddsRight a.name reader entry d
+    → AddsRight account reader entry e
+right_for account a reader entry e d mine is h = subst (λ x. AddsRight x reader entry e) mine
+    (subst (AddsRight a.name reader entry) (sym is) h)
+
+-- after an account's command the histories agree for it again
+pub step_agrees : (account : List ℕ) (s : Setting) (x : Command) (o : Outcome) (b c : History) (e : Effect)
+    → Along Fits b → Along Fits c → Agree account b c
+    → IsCommandOf account x → HasEffect s x o b e → Agree account (e.adds ++ b) (e.adds ++ c)
+step_agrees account s (Stamp None reading octets) o b c e one other agree mine h = absurd mine
+step_agrees account s (Stamp (Some a) reading octets) o b c e one other agree mine h =
+    subst (λ x. Agree account (x.adds ++ b) (x.adds ++ c)) (sym h.2)
+    (stamp_found_agrees account s a.name octets o b c one other agree h.0)
+step_agrees account s (Begin by reading octets) o b c e one other agree mine h = absurd mine
+step_agrees account s (Finish p signature) o b c e one other agree mine h = absurd mine
+step_agrees account s (Abandon p) o b c e one other agree mine h = absurd mine
+step_agrees account s (Deposit a reading reference bytes) o b c e one other agree mine h =
+    keeps_agrees account s a reading reference bytes o b c e mine one other agree (nat_le (length bytes) 1_048_576) h
+step_agrees account s (Show a n) o b c e one other agree mine h =
+    none_agrees account e b c agree (ap (λ x. x.adds) h
+    ∙ shows_none (cause_of o.searching) (first_cause (cause_of o.looking ∷ cause_of o.growing
+    ∷ [])) (seen_by a.name n b))
+step_agrees account s (Token a n) o b c e one other agree mine h =
+    none_agrees account e b c agree
+    (ap (λ x. x.adds) h ∙ tokens_none (cause_of o.searching) (first_cause (cause_of o.looking
+    ∷ cause_of o.growing ∷ [])) (token_of n b) (seen_by a.name n b))
+step_agrees account s (ListAll a) o b c e one other agree mine h =
+    none_agrees account e b c agree (ap (λ x. x.adds) h
+    ∙ answers_none (cause_of o.looking) (Listed (listed a.name b)))
+step_agrees account s (Grant a n reader) o b c e one other agree mine h =
+    let d = right_effect s.file a.name reader o (Granted n reader) (seen_by a.name n b) in
+    granted_agrees account b c n reader e agree
+    (right_for account a reader (Granted n reader) e (unless (cause_of o.searching) d) mine h
+    (right_unless a.name reader (Granted n reader) (cause_of o.searching) d
+    (right_adds s.file a.name reader o (Granted n reader) (seen_by a.name n b))))
+step_agrees account s (Revoke a n reader) o b c e one other agree mine h =
+    let d = right_effect s.file a.name reader o (Revoked n reader) (seen_by a.name n b) in
+    revoked_agrees account b c n reader e agree
+    (right_for account a reader (Revoked n reader) e (unless (cause_of o.searching) d) mine h
+    (right_unless a.name reader (Revoked n reader) (cause_of o.searching) d
+    (right_adds s.file a.name reader o (Revoked n reader) (seen_by a.name n b))))
+step_agrees account s (Calibrate x) o b c e one other agree mine h = absurd mine
+step_agrees account s (Hold x) o b c e one other agree mine h = absurd mine

@@ -1,0 +1,241 @@
+-- What a stamp's answer says.
+use Rattle.std.proofs.Common.{arith, ◌≡◌, ℕ, ◌+◌, ◌*◌, ◌-◌, ◌<◌, ◌⊎◌, ◌==◌, nat_le, cond, if◌then◌else◌, ℤ, Bool, true, false, List, [], ◌∷◌, get_or, Option, Some, None, Result, Ok, Err, refl, sym, ◌∙◌, ap, subst, inl, inr}
+use Rattle.der.specs.Node.{encoding, length_octets}
+use Rattle.der.specs.Number.{number_content}
+use Rattle.policy.specs.Record.{AccountValue}
+use Rattle.tsp.specs.Granted.{granted_octets}
+use Rattle.tsp.specs.Rejection.{number_of, rejection}
+use Rattle.tsp.specs.Rules.{IsFirstFailing}
+use Rattle.tsp.specs.declared.rule.Rule.{Rule}
+use Rattle.tsp.specs.declared.rule.Rule.TheVariants.{Spelling, Version, Account, Algorithm, HashLength, Policy, PolicyAlgorithm, Extensions, Certificate, Clock, Quota, System}
+use Rattle.cms.specs.declared.signer.SignerFault.{SignerFault}
+use Rattle.cms.specs.declared.signer.SignerFault.TheVariants as signer
+use Rattle.store.specs.History.{History, ReservationValue, greatest_serial}
+use Rattle.store.specs.Sound.{greatest_number}
+use Rattle.std.proofs.lemmas.Bool.Decides.{nat_tests}
+use Rattle.desk.specs.Outcome.{Outcome, Cause, OfStore, first_cause, all_fine}
+use Rattle.desk.specs.Findings.{IsUnjudged, PlanValue, IsAllowed, HoldsAt, Finding, Fails, Unanswered, Allowed, Finds}
+use Rattle.desk.specs.Command.{Setting, PendingValue, Command, Stamp, Answer, Stamped, Rejected}
+use Rattle.desk.specs.Texts.{pending_of, token_with}
+use Rattle.desk.specs.Effects.{Effect, Stamping, Unreserved, Void, Sealing, no_number, no_seal, next_reservation, sealed_or_void, signed_or_void, stamping_of, stamp_effect, stamp_found, name_of}
+use Rattle.desk.specs.Steps.{HasEffect}
+use Rattle.desk.specs.Laws.{IsGrant, IsRejection}
+
+-- a stamping that is sealed has the next reservation, and the token over a signature
+abbrev SealedBy : Setting → List ℕ → PlanValue → List ℕ → History → Stamping → Type 0
+SealedBy s account plan octets b (Unreserved cause) = Unit {0}
+SealedBy s account plan octets b (Void r cause) = Unit {0}
+SealedBy s account plan octets b (Sealing r token) =
+    (signature : List ℕ) × (r ≡ next_reservation s account plan octets b)
+    × (token ≡ token_with (pending_of s plan (next_reservation s account plan octets b)) signature)
+
+sealed_by : (s : Setting) (account : List ℕ) (plan : PlanValue) (octets : List ℕ) (b : History) (signature : List ℕ)
+    (refused : Option Cause)
+    → SealedBy s account plan octets b (sealed_or_void (next_reservation s account plan octets b)
+    (token_with (pending_of s plan (next_reservation s account plan octets b)) signature) refused)
+sealed_by s account plan octets b signature None = (signature, refl, refl)
+sealed_by s account plan octets b signature (Some cause) = tt
+
+signed_by : (s : Setting) (account : List ℕ) (plan : PlanValue) (octets : List ℕ) (o : Outcome) (b : History)
+    (signing : Result (List ℕ) SignerFault)
+    → SealedBy s account plan octets b (signed_or_void (pending_of s plan
+    (next_reservation s account plan octets b)) (next_reservation s account plan octets b) signing o)
+signed_by s account plan octets o b (Ok signature) = sealed_by s account plan octets b signature (no_seal o)
+signed_by s account plan octets o b (Err signer.Failed) = tt
+signed_by s account plan octets o b (Err signer.Memory) = tt
+
+stamping_by : (s : Setting) (account : List ℕ) (plan : PlanValue) (octets : List ℕ) (o : Outcome) (b : History)
+    (refused : Option Cause)
+    → SealedBy s account plan octets b (stamping_of s account plan octets o b refused)
+stamping_by s account plan octets o b (Some cause) = tt
+stamping_by s account plan octets o b None = signed_by s account plan octets o b o.signing
+
+granted_from : (s : Setting) (account : Option AccountValue) (reading : ℤ) (octets : List ℕ) (b : History)
+    (plan : PlanValue) (serial : ℕ) (reply : List ℕ)
+    → IsAllowed s.file account reading octets b plan → (st : Stamping)
+    → SealedBy s (name_of account) plan octets b st → (stamp_effect s st).says ≡ Stamped serial reply
+    → IsGrant s account reading octets b serial reply
+granted_from s account reading octets b plan serial reply allowed (Unreserved cause) by e = cc
+granted_from s account reading octets b plan serial reply allowed (Void r cause) by e = cc
+granted_from s account reading octets b plan serial reply allowed (Sealing r token) by e =
+    let number : r.serial ≡ serial = cc in
+    let octets_are : granted_octets token ≡ reply = cc in
+    record {
+      plan = plan;
+      allowed = allowed;
+      number = sym number ∙ ap (λ x. x.serial) by.1;
+      signature = by.0;
+      text = sym octets_are ∙ ap granted_octets by.2;
+    }
+
+granted_found : (s : Setting) (account : Option AccountValue) (reading : ℤ) (octets : List ℕ) (o : Outcome)
+    (b : History) (serial : ℕ) (reply : List ℕ) (f : Finding)
+    → Finds s.file account reading octets o b f → (stamp_found s (name_of account) octets o b f).says
+    ≡ Stamped serial reply → IsGrant s account reading octets b serial reply
+granted_found s account reading octets o b serial reply (Fails rule) found e = cc
+granted_found s account reading octets o b serial reply (Unanswered cause) found e = cc
+granted_found s account reading octets o b serial reply (Allowed plan) found e =
+    granted_from s account reading octets b plan serial reply found.0 (stamping_of s
+    (name_of account) plan octets o b (no_number o b))
+    (stamping_by s (name_of account) plan octets o b (no_number o b)) e
+
+-- a granted reply is a grant
+pub granted_is : (s : Setting) (account : Option AccountValue) (reading : ℤ) (octets : List ℕ) (o : Outcome)
+    (b : History) (e : Effect) (serial : ℕ) (reply : List ℕ)
+    → HasEffect s (Stamp account reading octets) o b e → e.says ≡ Stamped serial reply
+    → IsGrant s account reading octets b serial reply
+granted_is s account reading octets o b e serial reply h says =
+    granted_found s account reading octets o b serial reply h.0 h.1 (sym (ap (λ x. x.says) h.2) ∙ says)
+
+rejected_from : (s : Setting) (rule : Rule) (st : Stamping) → (stamp_effect s st).says ≡ Rejected rule → rule ≡ System
+rejected_from s rule (Unreserved cause) e = cc
+rejected_from s rule (Void r cause) e = cc
+rejected_from s rule (Sealing r token) e = cc
+
+rejected_found : (s : Setting) (account : Option AccountValue) (reading : ℤ) (octets : List ℕ) (o : Outcome)
+    (b : History) (rule : Rule) (f : Finding)
+    → Finds s.file account reading octets o b f → (stamp_found s (name_of account) octets o b f).says
+    ≡ Rejected rule → IsRejection s account reading octets b rule
+rejected_found s account reading octets o b rule (Fails first) found e =
+    let same : first ≡ rule = cc in inl
+    (subst (IsFirstFailing (HoldsAt s.file account reading octets b)) same found.0)
+rejected_found s account reading octets o b rule (Unanswered cause) found e = inr cc
+rejected_found s account reading octets o b rule (Allowed plan) found e =
+    inr (rejected_from s rule (stamping_of s (name_of account) plan octets o b (no_number o b)) e)
+
+-- a rejection is by the first rule that fails, or by rule 12
+pub rejected_is : (s : Setting) (account : Option AccountValue) (reading : ℤ) (octets : List ℕ) (o : Outcome)
+    (b : History) (e : Effect) (rule : Rule)
+    → HasEffect s (Stamp account reading octets) o b e → e.says ≡ Rejected rule
+    → IsRejection s account reading octets b rule
+rejected_is s account reading octets o b e rule h says =
+    rejected_found s account reading octets o b rule h.0 h.1 (sym (ap (λ x. x.says) h.2) ∙ says)
+
+-- the number that a rejection's text states
+stated_number : List ℕ → ℕ
+stated_number octets = 10 * (get_or octets 16 0 - 48) + (get_or octets 17 0 - 48)
+
+number_stated : (rule : Rule) → stated_number (encoding (rejection rule)) ≡ number_of rule
+unfolding length_octets number_content stated_number
+number_stated Spelling = refl
+number_stated Version = refl
+number_stated Account = refl
+number_stated Algorithm = refl
+number_stated HashLength = refl
+number_stated Policy = refl
+number_stated PolicyAlgorithm = refl
+number_stated Extensions = refl
+number_stated Certificate = refl
+number_stated Clock = refl
+number_stated Quota = refl
+number_stated System = refl
+
+rule_at : ℕ → Rule
+rule_at n =
+    if n == 1 then Spelling else if n == 2 then Version else if n == 3 then Account else if n == 4 then Algorithm
+    else if n == 5 then HashLength
+    else if n == 6 then Policy else if n == 7 then PolicyAlgorithm else if n == 8 then Extensions else if n == 9
+    then Certificate
+    else if n == 10 then Clock else if n == 11 then Quota else System
+
+rule_of_number : (rule : Rule) → rule_at (number_of rule) ≡ rule
+unfolding rule_at
+rule_of_number Spelling = refl
+rule_of_number Version = refl
+rule_of_number Account = refl
+rule_of_number Algorithm = refl
+rule_of_number HashLength = refl
+rule_of_number Policy = refl
+rule_of_number PolicyAlgorithm = refl
+rule_of_number Extensions = refl
+rule_of_number Certificate = refl
+rule_of_number Clock = refl
+rule_of_number Quota = refl
+rule_of_number System = refl
+
+-- a rejection's octets tell its rule
+pub rejections_differ : (one other : Rule) → encoding (rejection one) ≡ encoding (rejection other) → one ≡ other
+rejections_differ one other e =
+    sym (rule_of_number one)
+    ∙ (ap rule_at (sym (number_stated one) ∙ (ap stated_number e ∙ number_stated other)) ∙ rule_of_number other)
+
+compared_by : (m n : ℕ) (below : Bool) → nat_le m n ≡ below → (above : Bool) → nat_le n m ≡ above → (m ≡ n)
+    ⊎ ((m < n) ⊎ (n < m))
+compared_by m n true h true k = inl (grind (arith, nat_tests))
+compared_by m n true h false k = inr (inl (grind (arith, nat_tests)))
+compared_by m n false h above k = inr (inr (grind (arith, nat_tests)))
+
+-- two numbers are the same, or one is below the other
+compared : (m n : ℕ) → (m ≡ n) ⊎ ((m < n) ⊎ (n < m))
+compared m n = compared_by m n (nat_le m n) refl (nat_le n m) refl
+
+same_least : (H : Rule → Type 0) (one other : Rule) → IsFirstFailing H one → IsFirstFailing H other
+    → (number_of one ≡ number_of other) ⊎ ((number_of one < number_of other) ⊎ (number_of other < number_of one))
+    → number_of one ≡ number_of other
+same_least H one other f g (inl e) = e
+same_least H one other f g (inr (inl below)) = absurd (f.fails (g.before one below))
+same_least H one other f g (inr (inr below)) = absurd (g.fails (f.before other below))
+
+-- there is one first rule that fails
+one_first : (H : Rule → Type 0) (one other : Rule) → IsFirstFailing H one → IsFirstFailing H other → one ≡ other
+one_first H one other f g =
+    sym (rule_of_number one) ∙ (ap rule_at (same_least H one other f g (compared (number_of one) (number_of other)))
+    ∙ rule_of_number other)
+
+-- all calls answered: what is found is the judgement
+unjudged_fine : (s : Setting) (account : Option AccountValue) (reading : ℤ) (signature : List ℕ) (b : History)
+    (cause : Cause)
+    → IsUnjudged s.file account reading (all_fine (Ok signature)) b cause → ⊥
+unjudged_fine s account reading signature b cause (inl h) = cc
+unjudged_fine s account reading signature b cause (inr h) = let e = h.2 in cc
+
+left_over : (n : ℕ) → n < greatest_number → nat_le greatest_number n ≡ false
+left_over n h = grind (arith, nat_tests)
+
+-- where no rule fails, all is answered and a number is left, the stamp is granted
+granted_where_found : (s : Setting) (account : Option AccountValue) (reading : ℤ) (octets signature : List ℕ)
+    (b : History) (plan : PlanValue) → IsAllowed s.file account reading octets b plan
+    → greatest_serial b < greatest_number → (f : Finding)
+    → Finds s.file account reading octets (all_fine (Ok signature)) b f
+    → (reply : List ℕ) × ((stamp_found s (name_of account) octets (all_fine (Ok signature)) b f).says
+    ≡ Stamped (greatest_serial b + 1) reply)
+granted_where_found s account reading octets signature b plan allowed left (Fails rule) found = absurd
+    (found.0.fails (allowed.holds rule))
+granted_where_found s account reading octets signature b plan allowed left (Unanswered cause) found = absurd
+    (unjudged_fine s account reading signature b cause found.1)
+granted_where_found s account reading octets signature b plan allowed left (Allowed other) found =
+    let r = next_reservation s (name_of account) other octets b in (
+      granted_octets (token_with (pending_of s other r) signature),
+      ap (λ t. (stamp_effect s (stamping_of s (name_of account) other octets (all_fine (Ok signature)) b
+          (first_cause ((if t then Some OfStore else None) ∷ None ∷ None ∷ [])))).says)
+          (left_over (greatest_serial b) left),
+    )
+
+pub granted_where : (s : Setting) (account : Option AccountValue) (reading : ℤ) (octets signature : List ℕ)
+    (b : History) (e : Effect) (plan : PlanValue)
+    → IsAllowed s.file account reading octets b plan → greatest_serial b < greatest_number
+    → HasEffect s (Stamp account reading octets) (all_fine (Ok signature)) b e
+    → (reply : List ℕ) × (e.says ≡ Stamped (greatest_serial b + 1) reply)
+granted_where s account reading octets signature b e plan allowed left h =
+    let g = granted_where_found s account reading octets signature b plan allowed left h.0 h.1 in
+    (g.0, ap (λ x. x.says) h.2 ∙ g.1)
+
+-- where a rule fails, and all is answered, the stamp is rejected by it
+rejected_where_found : (s : Setting) (account : Option AccountValue) (reading : ℤ) (octets signature : List ℕ)
+    (b : History) (rule : Rule)
+    → IsFirstFailing (HoldsAt s.file account reading octets b) rule → (f : Finding)
+    → Finds s.file account reading octets (all_fine (Ok signature)) b f
+    → (stamp_found s (name_of account) octets (all_fine (Ok signature)) b f).says ≡ Rejected rule
+rejected_where_found s account reading octets signature b rule first (Fails other) found =
+    ap Rejected (one_first (HoldsAt s.file account reading octets b) other rule found.0 first)
+rejected_where_found s account reading octets signature b rule first (Unanswered cause) found = absurd
+    (unjudged_fine s account reading signature b cause found.1)
+rejected_where_found s account reading octets signature b rule first (Allowed plan) found = absurd
+    (first.fails (found.0.holds rule))
+
+pub rejected_where : (s : Setting) (account : Option AccountValue) (reading : ℤ) (octets signature : List ℕ)
+    (b : History) (e : Effect) (rule : Rule)
+    → IsFirstFailing (HoldsAt s.file account reading octets b) rule
+    → HasEffect s (Stamp account reading octets) (all_fine (Ok signature)) b e → e.says ≡ Rejected rule
+rejected_where s account reading octets signature b e rule first h =
+    ap (λ x. x.says) h.2 ∙ rejected_where_found s account reading octets signature b rule first h.0 h.1

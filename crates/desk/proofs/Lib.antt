@@ -1,0 +1,10 @@
+pub mod Agreeing
+pub mod Headline
+pub mod Keeping
+pub mod Others
+pub mod Rows
+pub mod SameEffect
+pub mod Sound
+pub mod Stepping
+pub mod Views
+pub mod Whole

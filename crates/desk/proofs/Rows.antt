@@ -1,0 +1,183 @@
+-- The definitions, computed on rows: an account with two reservations on the first day, signers that fail, a deposit
+-- and its readers.
+use Rattle.std.proofs.Common.{◌≡◌, ℕ, pos, Bool, true, false, List, [], ◌∷◌, ◌++◌, length, map, Option, Some, None, Result, Ok, Err, refl}
+use Rattle.std.specs.Prelude.{codes}
+use Rattle.policy.specs.Record.{AccountValue, PolicyValue}
+use Rattle.tsp.specs.Request.{sha256_request}
+use Rattle.tsp.specs.declared.rule.Rule.TheVariants.{System}
+use Rattle.cms.specs.declared.signer.SignerFault.TheVariants as signer
+use Rattle.store.specs.History.{Entry, Reserved, Deposited, Calibrated, Held, Granted, Revoked, History, ReservationValue, DepositValue}
+use Rattle.store.specs.Rights.{seen_by}
+use Rattle.store.specs.Sound.{greatest_number}
+use Rattle.desk.specs.Facts.{facts_of, count_in, gen_time_in}
+use Rattle.desk.specs.Outcome.{Outcome, Fine, Wanting, Broken, OfMemory, OfStore, OfSigner, all_fine, faults_after}
+use Rattle.desk.specs.Findings.{PlanValue}
+use Rattle.desk.specs.Command.{Setting, Rejected, Refused, Kept, Done}
+use Rattle.desk.specs.Effects.{no_number, next_reservation, stamping_of, stamp_effect, begin_effect, deposit_effect, known_effect, right_effect, unless, show_effect}
+use Rattle.desk.specs.declared.fault.Fault.TheVariants as fault
+
+abbrev alice : AccountValue
+alice = record {
+  name = codes "alice";
+  key_sha256 = None;
+  active = true;
+  auditor = false;
+  policies = codes "open"
+      ∷ [];
+  daily_quota = 1000;
+}
+
+abbrev carol : AccountValue
+carol = record {
+  name = codes "carol";
+  key_sha256 = None;
+  active = true;
+  auditor = false;
+  policies = codes "open"
+      ∷ [];
+  daily_quota = 2;
+}
+
+-- genTime in whole seconds, an accuracy of one second
+abbrev file : PolicyValue
+file = record {
+  counter = record {
+    accuracy_us = 1000000;
+    fraction_digits = 0;
+    ordering = false;
+    drift_ppb = 0;
+    max_age_us =
+        86400000000;
+    anonymous = None;
+  };
+  algorithms = [];
+  extensions = [];
+  policies = [];
+  accounts = alice ∷ carol ∷ [];
+}
+
+abbrev setting : Setting
+setting = record { file = file; identity = record { certificate = []; issuer = []; serial = [] }; algorithm = [] }
+
+abbrev reserved : ℕ → ℕ → ReservationValue
+reserved serial moment = record {
+  serial = serial;
+  account = codes "carol";
+  gen_time = moment;
+  policy = [];
+  algorithm = [];
+  digest = [];
+  request = [];
+  tst = [];
+}
+
+-- a clock that is set at reading 0, and two reservations of the last second of the first day
+abbrev history : History
+history = Reserved (reserved 2 86399000000) ∷ Reserved (reserved 1 86399000000)
+    ∷ Calibrated (record { reading = pos 0; offset = pos 0; uncertainty = 0 }) ∷ []
+
+count_of_first_day : count_in file (Some carol) (pos 86399000000) history ≡ 2
+count_of_first_day = refl
+
+count_of_next_day : count_in file (Some carol) (pos 86400000000) history ≡ 0
+count_of_next_day = refl
+
+count_of_other : count_in file (Some alice) (pos 86399000000) history ≡ 0
+count_of_other = refl
+
+gen_time_of_row : gen_time_in file (pos 86399700000) history ≡ 86399000000
+gen_time_of_row = refl
+
+-- a hold's last bound isn't held
+held_before : (facts_of file None (pos 999999) (Held (record { from = pos 0; to = pos 1000000 })
+    ∷ history)).clock.held ≡ true
+held_before = refl
+
+held_at_end : (facts_of file None (pos 1000000) (Held (record { from = pos 0; to = pos 1000000 })
+    ∷ history)).clock.held ≡ false
+held_at_end = refl
+
+abbrev plan : PlanValue
+plan = record { request = sha256_request [] false; policy = []; gen_time = 86400000000 }
+
+-- the number after those of void stamps
+next_number : (next_reservation setting (codes "carol") plan [] history).serial ≡ 3
+next_number = refl
+
+-- a signer that fails: rule 12, and the reservation stays
+failed_says : (stamp_effect setting (stamping_of setting (codes "carol") plan []
+    (all_fine (Err signer.Failed)) history None)).says ≡ Rejected System
+failed_says = refl
+
+failed_adds : length (stamp_effect setting (stamping_of setting (codes "carol") plan []
+    (all_fine (Err signer.Failed)) history None)).adds ≡ 1
+failed_adds = refl
+
+-- of a deposit it is the refusal Signer
+failed_deposit : (deposit_effect setting (codes "carol") [] [] (stamping_of setting (codes "carol") plan []
+    (all_fine (Err signer.Failed)) history None)).says ≡ Refused fault.Signer
+failed_deposit = refl
+
+-- no memory before the reservation: nothing is added
+wanting : no_number (record (all_fine (Ok [])) { growing = Wanting }) history ≡ Some OfMemory
+wanting = refl
+
+-- the serial numbers are used up
+used_up : no_number (all_fine (Ok [])) (Reserved (reserved 9223372036854775807 0) ∷ history) ≡ Some OfStore
+used_up = refl
+
+-- a broken call is counted once, modulo 2^64
+one_fault : faults_after (record (all_fine (Ok [])) { adding = Broken }) 18446744073709551615 ≡ 0
+one_fault = refl
+
+no_fault : faults_after (record (all_fine (Ok [])) { adding = Wanting }) 7 ≡ 7
+no_fault = refl
+
+-- alice's deposit, under the number of its stamp
+abbrev deposit : DepositValue
+deposit = record { serial = 2; owner = codes "alice"; reference = codes "plan-7"; bytes = codes "abc" }
+
+abbrev deposited : History
+deposited = Deposited deposit [] ∷ history
+
+same_again : (known_effect (codes "abc") deposit).says ≡ Kept 2 false
+same_again = refl
+
+other_octets : (known_effect (codes "abd") deposit).says ≡ Refused fault.Conflict
+other_octets = refl
+
+seen_by_owner : seen_by (codes "alice") 2 deposited ≡ Some deposit
+seen_by_owner = refl
+
+unseen : seen_by (codes "carol") 2 deposited ≡ None
+unseen = refl
+
+seen_by_reader : seen_by (codes "carol") 2 (Granted 2 (codes "carol") ∷ deposited) ≡ Some deposit
+seen_by_reader = refl
+
+unseen_again : seen_by (codes "carol") 2 (Revoked 2 (codes "carol") ∷ Granted 2 (codes "carol") ∷ deposited) ≡ None
+unseen_again = refl
+
+-- who may grant what to whom
+grants : (right_effect file (codes "alice") (codes "carol") (all_fine (Ok [])) (Granted 2 (codes "carol"))
+    (Some deposit)).says ≡ Done
+grants = refl
+
+not_the_owner : (right_effect file (codes "carol") (codes "alice") (all_fine (Ok [])) (Granted 2 (codes "alice"))
+    (Some deposit)).says ≡ Refused fault.NotOwner
+not_the_owner = refl
+
+nobody : (right_effect file (codes "alice") (codes "nobody") (all_fine (Ok [])) (Granted 2 (codes "nobody"))
+    (Some deposit)).says ≡ Refused fault.UnknownReader
+nobody = refl
+
+oneself : (right_effect file (codes "alice") (codes "alice") (all_fine (Ok [])) (Granted 2 (codes "alice"))
+    (Some deposit)).says ≡ Refused fault.SelfGrant
+oneself = refl
+
+hidden : (right_effect file (codes "carol") (codes "alice") (all_fine (Ok []))
+    (Granted 2 (codes "alice")) None).says ≡ Refused fault.NotHere
+hidden = refl
+
+shown_to_nobody : (show_effect None None).says ≡ Refused fault.NotHere
+shown_to_nobody = refl

@@ -1,0 +1,154 @@
+-- Each step leaves a sound history sound, and keeps what was acknowledged.
+use Rattle.std.proofs.Common.{zero, ◌∙◌, if◌then◌else◌, ◌≡◌, ℕ, suc, ◌<◌, ◌≤◌, ◌^◌, ◌/◌, ◌*◌, ◌+◌, ◌-◌, ◌==◌, nat_le, cond, ℤ, pos, Bool, true, false, List, [], ◌∷◌, ◌++◌, length, Option, Some, None, Result, Ok, Err, drop, refl, sym, ap, subst, arith}
+use Rattle.std.specs.Prelude.{Contains, IfSome}
+use Rattle.std.specs.List.{AllByRecursion}
+use Rattle.der.specs.Node.{encoding, IsLawful}
+use Rattle.der.specs.ObjectIdentifier.{oid_content, IsOid}
+use Rattle.gentime.specs.GenTime.{round_down, last_moment}
+use Rattle.policy.specs.Record.{AccountValue, PolicyValue}
+use Rattle.tsp.specs.Request.{RequestValue, Spells}
+use Rattle.tsp.specs.Rules.{IsSpelled}
+use Rattle.tsp.specs.Tst.{SpellsTst, TstValue, IsTst, tst_info, answer}
+use Rattle.tsp.specs.declared.rule.Rule.TheVariants.{Spelling, Policy}
+use Rattle.decide.specs.Clock.{IsGood, IsGoodAt, Follows, gen_time}
+use Rattle.store.specs.History.{Entry, Reserved, Sealed, Deposited, Calibrated, Held, Granted, Revoked, History, ReservationValue, DepositValue, greatest_serial, token_of, reservation_at, deposit_at, deposit_under, last_gen_time}
+use Rattle.store.specs.Sound.{Along, Fits, FitsReserved, FitsSealed, FitsDeposited, FitsRight, greatest_number}
+use Rattle.desk.specs.Content.{IsForRequest, IsStampedBy, IsTrueOf, IsSoundInFull}
+use Rattle.desk.specs.Facts.{facts_of}
+use Rattle.desk.specs.Findings.{PlanValue, IsAllowed, HoldsAt, Finding, Finds}
+use Rattle.desk.specs.Command.{Setting}
+use Rattle.desk.specs.Texts.{tst_of, reservation_of, octets_for, request_for}
+use Rattle.desk.specs.Effects.{next_reservation, no_number}
+use Rattle.desk.specs.Runs.{IsProper, Rises, IsRising}
+use Rattle.desk.proofs.Views.{unsealed_above, reserved_below}
+use Rattle.desk.specs.Outcome.{Cause, OfStore, first_cause}
+use Rattle.std.proofs.Math.Nat.{div-mul-le_self}
+use Rattle.std.proofs.lemmas.List.Elements.{All-contains, All-from_recursion}
+use Rattle.std.proofs.lemmas.Bool.Decides.{nat_tests}
+
+-- what is asked of the crate that reads and writes the texts
+pub record TextLaws : Type 0 where
+  pub one_request : (octets : List ℕ) (r s : RequestValue) → Spells octets r → Spells octets s → r ≡ s
+  pub lawful_answers : (octets : List ℕ) (r : RequestValue) (t : TstValue) → Spells octets r → length octets ≤ 65536
+      → IsTst t → t.imprint ≡ r.imprint → t.nonce ≡ r.nonce → t.extensions ≡ r.extensions → IsLawful (tst_info t)
+
+-- all that an entry has to be
+pub record IsGoodEntry (e : Entry) (b : History) : Type 0 where
+  pub fits : Fits e b
+  pub true_of : IsTrueOf e b
+  pub rising : IsRising e b
+
+abbrev pub AreGood : History → Type 0
+AreGood b = Along IsGoodEntry b
+
+pub fits_along : (b : History) → AreGood b → Along Fits b
+fits_along [] g = tt
+fits_along (e ∷ b) g = (g.0.fits, fits_along b g.1)
+
+pub true_along : (b : History) → AreGood b → Along IsTrueOf b
+true_along [] g = tt
+true_along (e ∷ b) g = (g.0.true_of, true_along b g.1)
+
+pub rising_along : (b : History) → AreGood b → Along IsRising b
+rising_along [] g = tt
+rising_along (e ∷ b) g = (g.0.rising, rising_along b g.1)
+
+pub good_along : (b : History) → Along Fits b → Along IsTrueOf b → Along IsRising b → AreGood b
+good_along [] f t r = tt
+good_along (e ∷ b) f t r = (record { fits = f.0; true_of = t.0; rising = r.0 }, good_along b f.1 t.1 r.1)
+
+-- what a stop leaves of good entries is good
+pub good_cut : (k : ℕ) (es : List Entry) (b : History) → AreGood (es ++ b) → AreGood (drop k es ++ b)
+good_cut zero es b g = g
+good_cut (suc k) [] b g = g
+good_cut (suc k) (e ∷ es) b g = good_cut k es b g.1
+
+-- the policy that is asked for is an object identifier
+asked_is_oid : (s : Setting) → IsProper s → (account : Option AccountValue) (reading : ℤ) (octets : List ℕ)
+    (b : History) (plan : PlanValue)
+    → IsAllowed s.file account reading octets b plan → IsOid plan.policy
+asked_is_oid s proper account reading octets b plan allowed =
+    let accepted = allowed.holds Policy plan.request allowed.spelled in
+    let p = accepted.2.0 in
+    let asked = accepted.2.1 in
+    let all = All-from_recursion (λ q. IsOid q.oid) s.file.policies proper.policies in
+    let oid : IsOid p.oid = All-contains (λ q. IsOid q.oid) s.file.policies p all asked.0 in
+    let e : Some plan.policy ≡ Some p.oid = sym allowed.policy ∙ asked.1 in
+    let same : plan.policy ≡ p.oid = cc in
+    rw same oid
+
+pub number_left : (full : Bool) (causes : List (Option Cause)) → first_cause ((if full then Some OfStore else None)
+    ∷ causes) ≡ None → full ≡ false
+number_left true causes e = cc
+number_left false causes e = refl
+
+pub not_full : (n : ℕ) → nat_le greatest_number n ≡ false → n < greatest_number
+not_full n e = grind (arith, nat_tests)
+
+-- the TSTInfo of a plan is one
+abbrev tst_value : PolicyValue → PlanValue → ℕ → TstValue
+tst_value file plan serial = answer plan.request plan.policy serial plan.gen_time file.counter.accuracy_us
+    file.counter.ordering
+
+gen_time_bound : (s : Setting) (account : Option AccountValue) (reading : ℤ) (octets : List ℕ) (b : History)
+    (plan : PlanValue)
+    → IsAllowed s.file account reading octets b plan → plan.gen_time ≤ last_moment
+gen_time_bound s account reading octets b plan allowed =
+    let good = allowed.good.0 in
+    let low = div-mul-le_self good.now (10 ^ (6 - s.file.counter.fraction_digits)) in
+    let high = good.statable in
+    let same = allowed.good.1 in
+    omega arith
+
+proper_tst : (s : Setting) → IsProper s → (account : Option AccountValue) (reading : ℤ) (octets : List ℕ)
+    (b : History) (plan : PlanValue)
+    → IsAllowed s.file account reading octets b plan → (serial : ℕ) → 1 ≤ serial → serial ≤ greatest_number
+    → IsTst (tst_value s.file plan serial)
+proper_tst s proper account reading octets b plan allowed serial some most = record {
+  policy = asked_is_oid s proper account reading octets b plan allowed;
+  algorithm = allowed.spelled.proper.algorithm;
+  some_serial = some;
+  last_serial = omega arith;
+  gen_time = gen_time_bound s account reading octets b plan allowed;
+  some_accuracy = proper.counter.accuracy_some;
+  most_accuracy = proper.counter.accuracy;
+  extensions = allowed.spelled.proper.extensions;
+}
+
+-- what is reserved by a plan fits, is for its request, and rises
+pub reserved_good : TextLaws → (s : Setting) → IsProper s
+    → (account : Option AccountValue) (name : List ℕ) (reading : ℤ) (octets : List ℕ) (b : History)
+    (plan : PlanValue) → IsAllowed s.file account reading octets b plan → greatest_serial b < greatest_number
+    → IsGoodEntry (Reserved (next_reservation s name plan octets b)) b
+reserved_good laws s proper account name reading octets b plan allowed left =
+    let serial = greatest_serial b + 1 in
+    let tst = proper_tst s proper account reading octets b plan allowed serial (omega arith) (omega arith) in
+    let spelled = allowed.holds Spelling in
+    let text : SpellsTst (tst_of s.file plan serial) (tst_value s.file plan serial) =
+    record {
+      ranges = tst;
+      lawful = laws.lawful_answers octets plan.request
+          (tst_value s.file plan serial) allowed.spelled spelled.1 tst refl refl refl;
+      spelled = refl;
+    } in
+    let stamped : IsForRequest (next_reservation s name plan octets b) = record {
+      request = plan.request;
+      spelled = allowed.spelled;
+      algorithm = refl;
+      digest = refl;
+      policy = plan.policy;
+      accuracy = s.file.counter.accuracy_us;
+      ordering = s.file.counter.ordering;
+      content = refl;
+      tst = text;
+    } in
+    record {
+      fits = record {
+        rises = omega arith;
+        within = omega arith;
+        moment = gen_time_bound s account reading octets b
+            plan allowed;
+      };
+      true_of = stamped;
+      rising = record { stamped = stamped; follows = rw allowed.good.1 allowed.good.0.follows };
+    }

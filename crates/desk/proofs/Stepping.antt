@@ -1,0 +1,319 @@
+-- What a step adds fits, is true of texts and hashes, and rises.
+use Rattle.std.proofs.Common.{zero, ◌≡◌, ℕ, suc, ◌<◌, ◌≤◌, ◌+◌, ◌==◌, ◌&&◌, ◌⊎◌, nat_le, cond, ℤ, Bool, true, false, List, [], ◌∷◌, ◌++◌, length, Option, Some, None, Result, Ok, Err, drop, refl, sym, ◌∙◌, ap, subst, inl, inr, arith}
+use Rattle.std.specs.Option.{option_and_then}
+use Rattle.std.specs.Str.{bytes_eq}
+use Rattle.std.proofs.lemmas.Bool.{eq-eqb}
+use Rattle.sha2.specs.Sha256.{sha256}
+use Rattle.policy.specs.Record.{AccountValue, PolicyValue}
+use Rattle.tsp.specs.Request.{RequestValue, Spells}
+use Rattle.cms.specs.declared.signer.SignerFault.{SignerFault}
+use Rattle.cms.specs.declared.signer.SignerFault.TheVariants as signer
+use Rattle.store.specs.History.{Entry, Reserved, Sealed, Deposited, Calibrated, Held, Granted, Revoked, History, ReservationValue, DepositValue, CalibrationValue, HoldValue, greatest_serial, latest_calibration, token_of, reservation_at, deposit_at, deposit_under}
+use Rattle.store.specs.Rights.{seen_by, shown_to, is_reader}
+use Rattle.store.specs.Sound.{Along, Fits, FitsSealed, FitsDeposited, FitsRight, greatest_number}
+use Rattle.desk.specs.Content.{IsTrueOf}
+use Rattle.desk.specs.Outcome.{Outcome, Cause, OfStore, cause_of, cause_of_signing, first_cause}
+use Rattle.desk.specs.Findings.{PlanValue, IsAllowed, Finding, Fails, Unanswered, Allowed, Finds}
+use Rattle.desk.specs.Command.{Setting, PendingValue, Command, Stamp, Begin, Finish, Abandon, Deposit, Show, Token, ListAll, Grant, Revoke, Calibrate, Hold, Answer, Done}
+use Rattle.desk.specs.Texts.{octets_for, request_for, pending_of, token_with}
+use Rattle.desk.specs.Effects.{Effect, only, unless, Stamping, Unreserved, Void, Sealing, no_number, no_seal, next_reservation, sealed_or_void, signed_or_void, stamping_of, stamp_effect, stamp_found, begin_effect, begin_found, finish_effect, deposit_row, deposit_effect, deposit_found, known_effect, show_effect, token_effect, right_of_owner, right_effect, is_backwards, calibrate_effect, name_of}
+use Rattle.desk.specs.Steps.{HasFound, KeepsUnder, KeepsUnless, Keeps, HasEffect, IsWaiting, IsMet}
+use Rattle.desk.specs.Runs.{IsProper}
+use Rattle.desk.proofs.Views.{unsealed_above}
+use Rattle.desk.proofs.Sound.{TextLaws, IsGoodEntry, AreGood, reserved_good, number_left, not_full}
+
+-- Each entry that is added is good after those that are added before it.
+abbrev pub AddsGood : List Entry → History → Type 0
+AddsGood [] b = Unit {0}
+AddsGood (e ∷ es) b = IsGoodEntry e (es ++ b) × AddsGood es b
+
+pub adds_good : (es : List Entry) (b : History) → AddsGood es b → AreGood b → AreGood (es ++ b)
+adds_good [] b a g = g
+adds_good (e ∷ es) b a g = (a.0, adds_good es b a.1 g)
+
+pub adds_fit : (es : List Entry) (b : History) → AddsGood es b → Along Fits b → Along Fits (es ++ b)
+adds_fit [] b a g = g
+adds_fit (e ∷ es) b a g = (a.0.fits, adds_fit es b a.1 g)
+
+pub adds_true : (es : List Entry) (b : History) → AddsGood es b → Along IsTrueOf b → Along IsTrueOf (es ++ b)
+adds_true [] b a g = g
+adds_true (e ∷ es) b a g = (a.0.true_of, adds_true es b a.1 g)
+
+-- a beginning of what is added is good too
+pub adds_cut : (k : ℕ) (es : List Entry) (b : History) → AddsGood es b → AddsGood (drop k es) b
+adds_cut zero es b a = a
+adds_cut (suc k) [] b a = a
+adds_cut (suc k) (e ∷ es) b a = adds_cut k es b a.1
+
+-- the reservation of a stamping, where there is one
+abbrev pub ReservedGood : Stamping → History → ReservationValue → Type 0
+ReservedGood (Unreserved cause) b next = Unit {0}
+ReservedGood (Void r cause) b next = IsGoodEntry (Reserved r) b × (r ≡ next)
+ReservedGood (Sealing r token) b next = IsGoodEntry (Reserved r) b × (r ≡ next)
+
+sealed_good : (r : ReservationValue) (token : List ℕ) (b : History) → IsGoodEntry (Reserved r) b
+    → (refused : Option Cause)
+    → ReservedGood (sealed_or_void r token refused) b r
+sealed_good r token b g None = (g, refl)
+sealed_good r token b g (Some cause) = (g, refl)
+
+signed_good : (p : PendingValue) (r : ReservationValue) (o : Outcome) (b : History) → IsGoodEntry (Reserved r) b
+    → (signing : Result (List ℕ) SignerFault)
+    → ReservedGood (signed_or_void p r signing o) b r
+signed_good p r o b g (Ok signature) = sealed_good r (token_with p signature) b g (no_seal o)
+signed_good p r o b g (Err signer.Failed) = (g, refl)
+signed_good p r o b g (Err signer.Memory) = (g, refl)
+
+stamping_good : TextLaws → (s : Setting) → IsProper s
+    → (account : Option AccountValue) (name : List ℕ) (reading : ℤ) (octets : List ℕ) (o : Outcome) (b : History)
+    (plan : PlanValue) → IsAllowed s.file account reading octets b plan → (refused : Option Cause) → no_number o b
+    ≡ refused
+    → ReservedGood (stamping_of s name plan octets o b refused) b (next_reservation s name plan octets b)
+stamping_good laws s proper account name reading octets o b plan allowed (Some cause) e = tt
+stamping_good laws s proper account name reading octets o b plan allowed None e =
+    let left = not_full (greatest_serial b) (number_left (nat_le greatest_number (greatest_serial b))
+    (cause_of o.growing ∷ cause_of o.adding ∷ []) e) in
+    let r = next_reservation s name plan octets b in
+    signed_good (pending_of s plan r) r o b
+    (reserved_good laws s proper account name reading octets b plan allowed left) o.signing
+
+-- a reservation that was just added is found, and isn't sealed
+abbrev pub waiting : (b : History) → Along Fits b → (r : ReservationValue) → IsGoodEntry (Reserved r) b
+    → FitsSealed r.serial (Reserved r ∷ b)
+waiting b g r new = record {
+  reservation = r;
+  reserved = rw (eq-eqb r.serial r.serial refl);
+  open_yet = unsealed_above b g r.serial new.fits.rises;
+}
+
+stamp_good : (s : Setting) (b : History) → Along Fits b → (next : ReservationValue) (st : Stamping)
+    → ReservedGood st b next → AddsGood (stamp_effect s st).adds b
+stamp_good s b g next (Unreserved cause) h = tt
+stamp_good s b g next (Void r cause) h = (h.0, tt)
+stamp_good s b g next (Sealing r token) h =
+    (record { fits = waiting b g r h.0; true_of = tt; rising = tt }, (h.0, tt))
+
+-- a new deposit fits after its reservation
+deposited_good : (owner reference bytes token : List ℕ) (b : History) → Along Fits b → (r : ReservationValue)
+    → IsGoodEntry (Reserved r) b
+    → r.account ≡ owner → r.digest ≡ sha256 bytes → deposit_under owner reference b ≡ None
+    → IsGoodEntry (Deposited (deposit_row r.serial owner reference bytes) token) (Reserved r ∷ b)
+deposited_good owner reference bytes token b g r new own digest unused = record {
+  fits = record { sealed = waiting b g r new; owner = own; unused = unused };
+  true_of = record { reservation = r; reserved = rw (eq-eqb r.serial r.serial refl); digest = digest };
+  rising = tt;
+}
+
+deposit_good : (s : Setting) (owner reference bytes : List ℕ) (b : History) → Along Fits b → (next : ReservationValue)
+    → next.account ≡ owner → next.digest ≡ sha256 bytes → deposit_under owner reference b ≡ None
+    → (st : Stamping) → ReservedGood st b next → AddsGood (deposit_effect s owner reference bytes st).adds b
+deposit_good s owner reference bytes b g next own digest unused (Unreserved cause) h = tt
+deposit_good s owner reference bytes b g next own digest unused (Void r cause) h = (h.0, tt)
+deposit_good s owner reference bytes b g next own digest unused (Sealing r token) h =
+    let same : r ≡ next = h.1 in
+    let account : r.account ≡ owner = ap (λ x. x.account) same ∙ own in
+    let hash : r.digest ≡ sha256 bytes = ap (λ x. x.digest) same ∙ digest in
+    (deposited_good owner reference bytes token b g r h.0 account hash unused, (h.0, tt))
+
+-- What a command that adds one entry at most adds.
+abbrev pub IsAtMost : Entry → Effect → Type 0
+IsAtMost entry e = (e.adds ≡ []) ⊎ (e.adds ≡ entry ∷ [])
+
+pub at_most_unless : (entry : Entry) (refused : Option Cause) (e : Effect) → IsAtMost entry e
+    → IsAtMost entry (unless refused e)
+at_most_unless entry None e h = h
+at_most_unless entry (Some cause) e h = inl refl
+
+at_most_if : (entry : Entry) (t : Bool) (d e : Effect) → IsAtMost entry d → IsAtMost entry e
+    → IsAtMost entry (cond t d e)
+at_most_if entry true d e h k = h
+at_most_if entry false d e h k = k
+
+at_most_good : (entry : Entry) (e : Effect) (b : History) → Along Fits b → IsGoodEntry entry b → IsAtMost entry e
+    → AddsGood e.adds b
+at_most_good entry e b g new (inl h) = rw h tt
+at_most_good entry e b g new (inr h) = rw h (new, tt)
+
+none_good : (e : Effect) (b : History) → Along Fits b → e.adds ≡ [] → AddsGood e.adds b
+none_good e b g h = rw h tt
+
+-- what an account sees is a deposit
+shown_is : (account : List ℕ) (reader : Bool) (o : Option DepositValue) (d : DepositValue)
+    → option_and_then (shown_to account reader) o ≡ Some d
+    → (x : DepositValue) × (o ≡ Some x)
+shown_is account reader None d e = cc
+shown_is account reader (Some x) d e = (x, refl)
+
+pub right_seen : (account : List ℕ) (n : ℕ) (b : History) (d : DepositValue) → seen_by account n b ≡ Some d
+    → FitsRight n b
+right_seen account n b d e =
+    let found = shown_is account (is_reader n account b) (deposit_at n b) d e in
+    record { deposit = found.0; deposited = found.1 }
+
+pub right_at_most : (file : PolicyValue) (account reader : List ℕ) (o : Outcome) (entry : Entry) (d : DepositValue)
+    → IsAtMost entry (right_effect file account reader o entry (Some d))
+right_at_most file account reader o entry d =
+    at_most_unless entry (cause_of o.looking) _ (at_most_if entry (bytes_eq d.owner account) _ _
+    (at_most_if entry _ _ _ (at_most_if entry (bytes_eq reader account) _ _ (inl refl) (at_most_unless entry
+    (cause_of o.adding) _ (inr refl))) (inl refl))
+    (inl refl))
+
+begin_good : TextLaws → (s : Setting) → IsProper s
+    → (account : Option AccountValue) (name : List ℕ) (reading : ℤ) (octets : List ℕ) (o : Outcome) (b : History)
+    → Along Fits b → (plan : PlanValue) → IsAllowed s.file account reading octets b plan → (refused : Option Cause)
+    → no_number o b ≡ refused
+    → AddsGood (begin_effect s name plan octets b refused).adds b
+begin_good laws s proper account name reading octets o b g plan allowed (Some cause) e = tt
+begin_good laws s proper account name reading octets o b g plan allowed None e =
+    let left = not_full (greatest_serial b) (number_left (nat_le greatest_number (greatest_serial b))
+    (cause_of o.growing ∷ cause_of o.adding ∷ []) e) in
+    (reserved_good laws s proper account name reading octets b plan allowed left, tt)
+
+stamp_found_good : TextLaws → (s : Setting) → IsProper s
+    → (account : Option AccountValue) (name : List ℕ) (reading : ℤ) (octets : List ℕ) (o : Outcome) (b : History)
+    → Along Fits b → (f : Finding) → Finds s.file account reading octets o b f
+    → AddsGood (stamp_found s name octets o b f).adds b
+stamp_found_good laws s proper account name reading octets o b g (Fails rule) found = tt
+stamp_found_good laws s proper account name reading octets o b g (Unanswered cause) found = tt
+stamp_found_good laws s proper account name reading octets o b g (Allowed plan) found =
+    stamp_good s b g (next_reservation s name plan octets b) (stamping_of s name plan octets o b (no_number o b))
+    (stamping_good laws s proper account name reading octets o b plan found.0 (no_number o b) refl)
+
+begin_found_good : TextLaws → (s : Setting) → IsProper s
+    → (account : Option AccountValue) (name : List ℕ) (reading : ℤ) (octets : List ℕ) (o : Outcome) (b : History)
+    → Along Fits b → (f : Finding) → Finds s.file account reading octets o b f
+    → AddsGood (begin_found s name octets o b f).adds b
+begin_found_good laws s proper account name reading octets o b g (Fails rule) found = tt
+begin_found_good laws s proper account name reading octets o b g (Unanswered cause) found = tt
+begin_found_good laws s proper account name reading octets o b g (Allowed plan) found =
+    begin_good laws s proper account name reading octets o b g plan found.0 (no_number o b) refl
+
+deposit_found_good : TextLaws → (s : Setting) → IsProper s
+    → (a : AccountValue) (reading : ℤ) (reference bytes : List ℕ) (o : Outcome) (b : History)
+    → Along Fits b → deposit_under a.name reference b ≡ None
+    → Spells (octets_for s.file a bytes) (request_for s.file a bytes)
+    → (f : Finding) → Finds s.file (Some a) reading (octets_for s.file a bytes) o b f
+    → AddsGood (deposit_found s a.name reference bytes (octets_for s.file a bytes) o b f).adds b
+deposit_found_good laws s proper a reading reference bytes o b g unused spelled (Fails rule) found = tt
+deposit_found_good laws s proper a reading reference bytes o b g unused spelled (Unanswered cause) found = tt
+deposit_found_good laws s proper a reading reference bytes o b g unused spelled (Allowed plan) found =
+    let octets = octets_for s.file a bytes in
+    let same = laws.one_request octets plan.request (request_for s.file a bytes) found.0.spelled spelled in
+    let digest : plan.request.imprint.hash ≡ sha256 bytes = ap (λ r. r.imprint.hash) same in
+    deposit_good s a.name reference bytes b g (next_reservation s a.name plan octets b) refl digest unused
+    (stamping_of s a.name plan octets o b (no_number o b))
+    (stamping_good laws s proper (Some a) a.name reading octets o b plan found.0 (no_number o b) refl)
+
+known_none : (bytes : List ℕ) (d : DepositValue) → (known_effect bytes d).adds ≡ []
+known_none bytes d = refl
+
+keeps_under_good : TextLaws → (s : Setting) → IsProper s
+    → (a : AccountValue) (reading : ℤ) (reference bytes : List ℕ) (o : Outcome) (b : History) (e : Effect)
+    → Along Fits b → (under : Option DepositValue) → deposit_under a.name reference b ≡ under
+    → KeepsUnder s a reading reference bytes o b under e → AddsGood e.adds b
+keeps_under_good laws s proper a reading reference bytes o b e g (Some d) is h = none_good e b g (ap (λ x. x.adds) h)
+keeps_under_good laws s proper a reading reference bytes o b e g None is h =
+    subst (λ x. AddsGood x.adds b) (sym h.1.2)
+    (deposit_found_good laws s proper a reading reference bytes o b g is h.0 h.1.0 h.1.1)
+
+keeps_unless_good : TextLaws → (s : Setting) → IsProper s
+    → (a : AccountValue) (reading : ℤ) (reference bytes : List ℕ) (o : Outcome) (b : History) (e : Effect)
+    → Along Fits b → (refused : Option Cause) → KeepsUnless s a reading reference bytes o b refused e
+    → AddsGood e.adds b
+keeps_unless_good laws s proper a reading reference bytes o b e g (Some cause) h = none_good e b g
+    (ap (λ x. x.adds) h)
+keeps_unless_good laws s proper a reading reference bytes o b e g None h =
+    keeps_under_good laws s proper a reading reference bytes o b e g (deposit_under a.name reference b) refl h
+
+keeps_good : TextLaws → (s : Setting) → IsProper s
+    → (a : AccountValue) (reading : ℤ) (reference bytes : List ℕ) (o : Outcome) (b : History) (e : Effect)
+    → Along Fits b → (short : Bool) → Keeps s a reading reference bytes o b short e → AddsGood e.adds b
+keeps_good laws s proper a reading reference bytes o b e g true h = keeps_unless_good laws s proper a reading
+    reference bytes o b e g (cause_of o.searching) h
+keeps_good laws s proper a reading reference bytes o b e g false h = none_good e b g (ap (λ x. x.adds) h)
+
+pub shows_none : (refused other : Option Cause) (o : Option DepositValue)
+    → (unless refused (show_effect other o)).adds ≡ []
+shows_none (Some cause) other o = refl
+shows_none None other None = refl
+shows_none None (Some cause) (Some d) = refl
+shows_none None None (Some d) = refl
+
+pub tokens_none : (refused other : Option Cause) (token : Option (List ℕ)) (o : Option DepositValue)
+    → (unless refused (token_effect other token o)).adds ≡ []
+tokens_none (Some cause) other token o = refl
+tokens_none None other token None = refl
+tokens_none None (Some cause) token (Some d) = refl
+tokens_none None None token (Some d) = refl
+
+pub answers_none : (refused : Option Cause) (answer : Answer) → (unless refused (only answer)).adds ≡ []
+answers_none (Some cause) answer = refl
+answers_none None answer = refl
+
+right_good : (file : PolicyValue) (account reader : List ℕ) (n : ℕ) (o : Outcome) (b : History) (entry : Entry)
+    → Along Fits b
+    → (FitsRight n b → IsGoodEntry entry b) → (seen : Option DepositValue) → seen_by account n b ≡ seen
+    → AddsGood (unless (cause_of o.searching) (right_effect file account reader o entry seen)).adds b
+right_good file account reader n o b entry g new None is =
+    none_good (unless (cause_of o.searching) (right_effect file account reader o entry None)) b g
+    (answers_none (cause_of o.searching) _)
+right_good file account reader n o b entry g new (Some d) is =
+    at_most_good entry (unless (cause_of o.searching) (right_effect file account reader o entry (Some d))) b g
+    (new (right_seen account n b d is))
+    (at_most_unless entry (cause_of o.searching) _ (right_at_most file account reader o entry d))
+
+calibrate_at_most : (c : CalibrationValue) (b : History) → IsAtMost (Calibrated c) (calibrate_effect c b)
+calibrate_at_most c b = at_most_if (Calibrated c) (is_backwards c (latest_calibration b)) _ _ (inl refl) (inr refl)
+
+-- what a step adds is good, one entry after the other
+pub step_adds : TextLaws → (s : Setting) → IsProper s → (c : Command) (o : Outcome) (b : History) (e : Effect)
+    → Along Fits b → IsMet c b → HasEffect s c o b e
+    → AddsGood e.adds b
+step_adds laws s proper (Stamp account reading octets) o b e g met h =
+    subst (λ x. AddsGood x.adds b) (sym h.2) (stamp_found_good laws s proper account
+    (name_of account) reading octets o b g h.0 h.1)
+step_adds laws s proper (Begin account reading octets) o b e g met h =
+    subst (λ x. AddsGood x.adds b) (sym h.2) (begin_found_good laws s proper account
+    (name_of account) reading octets o b g h.0 h.1)
+step_adds laws s proper (Finish p signature) o b e g met h =
+    let w = met.0 in
+    let new : IsGoodEntry (Sealed p.serial (token_with p signature)) b = record {
+      fits = record { reservation = w.reservation; reserved = w.reserved; open_yet = w.open_yet };
+      true_of = tt;
+      rising = tt;
+    } in
+    subst (λ x. AddsGood x.adds b) (sym h)
+    (at_most_good (Sealed p.serial (token_with p signature)) (unless (no_seal o)
+    (finish_effect p signature)) b g new (at_most_unless _ (no_seal o) (finish_effect p signature)
+    (inr refl)))
+step_adds laws s proper (Abandon p) o b e g met h = none_good e b g (ap (λ x. x.adds) h)
+step_adds laws s proper (Deposit a reading reference bytes) o b e g met h =
+    keeps_good laws s proper a reading reference bytes o b e g (nat_le (length bytes) 1_048_576) h
+step_adds laws s proper (Show a n) o b e g met h = none_good e b g (ap (λ x. x.adds) h
+    ∙ shows_none (cause_of o.searching) _ (seen_by a.name n b))
+step_adds laws s proper (Token a n) o b e g met h = none_good e b g (ap (λ x. x.adds) h
+    ∙ tokens_none (cause_of o.searching) _ (token_of n b) (seen_by a.name n b))
+step_adds laws s proper (ListAll a) o b e g met h = none_good e b g (ap (λ x. x.adds) h
+    ∙ answers_none (cause_of o.looking) _)
+step_adds laws s proper (Grant a n reader) o b e g met h =
+    subst (λ x. AddsGood x.adds b) (sym h)
+    (right_good s.file a.name reader n o b (Granted n reader) g
+    (λ fits. record { fits = fits; true_of = tt; rising = tt }) (seen_by a.name n b) refl)
+step_adds laws s proper (Revoke a n reader) o b e g met h =
+    subst (λ x. AddsGood x.adds b) (sym h)
+    (right_good s.file a.name reader n o b (Revoked n reader) g
+    (λ fits. record { fits = fits; true_of = tt; rising = tt }) (seen_by a.name n b) refl)
+step_adds laws s proper (Calibrate c) o b e g met h =
+    subst (λ x. AddsGood x.adds b) (sym h)
+    (at_most_good (Calibrated c) (unless (cause_of o.adding) (calibrate_effect c b)) b g
+    (record { fits = met; true_of = tt; rising = tt }) (at_most_unless _ (cause_of o.adding) _
+    (calibrate_at_most c b)))
+step_adds laws s proper (Hold k) o b e g met h =
+    subst (λ x. AddsGood x.adds b) (sym h)
+    (at_most_good (Held k) (unless (cause_of o.adding) (record {
+      adds = Held k
+          ∷ [];
+      asks = None;
+      says = Done;
+    })) b g (record { fits = met; true_of = tt; rising = tt })
+    (at_most_unless _ (cause_of o.adding) _ (inr refl)))

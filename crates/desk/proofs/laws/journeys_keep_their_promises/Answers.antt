@@ -1,0 +1,10 @@
+use Rattle.desk.proofs.Sound.{TextLaws}
+use Rattle.desk.proofs.Keeping.{journeys_have_properties}
+use Rattle.desk.proofs.Whole.{continued_properties}
+use Rattle.desk.proofs.laws.journeys_keep_their_promises.Goals as goal
+
+pub returns : goal.returns
+returns c =
+    let law = c.requests_have_one_reading.ensures in
+    let laws : TextLaws = record { one_request = law.one; lawful_answers = law.lawful } in
+    record { journey = journeys_have_properties laws; continued = continued_properties laws }

@@ -1,0 +1,199 @@
+-- What a command adds to the history, what it has signed, and what it answers.
+use Rattle.std.specs.Prelude.{ℕ, ◌+◌, ◌==◌, nat_le, ℤ, int_lt, Bool, true, false, if◌then◌else◌, List, [], ◌∷◌, length, map, Option, Some, None, Result, Ok, Err}
+use Rattle.std.specs.List.{list_any}
+use Rattle.std.specs.Str.{bytes_eq}
+use Rattle.policy.specs.Record.{AccountValue, PolicyValue}
+use Rattle.policy.specs.Kinds.{is_among}
+use Rattle.tsp.specs.declared.rule.Rule.{Rule}
+use Rattle.tsp.specs.declared.rule.Rule.TheVariants.{System}
+use Rattle.cms.specs.SignedData.{attribute_text}
+use Rattle.cms.specs.declared.signer.SignerFault.{SignerFault}
+use Rattle.store.specs.History.{Entry, Reserved, Sealed, Deposited, Calibrated, Held, Granted, Revoked, History, ReservationValue, DepositValue, CalibrationValue, greatest_serial, latest_calibration, token_of, deposit_under}
+use Rattle.store.specs.Rights.{seen_by, listed}
+use Rattle.store.specs.Sound.{greatest_number}
+use Rattle.desk.specs.Outcome.{Call, Outcome, Cause, OfMemory, OfStore, OfSigner, cause_of, cause_of_signing, first_cause}
+use Rattle.desk.specs.Findings.{PlanValue, Finding, Fails, Unanswered, Allowed}
+use Rattle.desk.specs.Command.{Setting, PendingValue, Command, Stamp, Begin, Finish, Abandon, Deposit, Show, Token, ListAll, Grant, Revoke, Calibrate, Hold, Answer, Stamped, Rejected, Begun, Kept, Shown, Listed, Done, Refused}
+use Rattle.tsp.specs.Granted.{granted_octets}
+use Rattle.desk.specs.Texts.{reservation_of, pending_of, token_with}
+use Rattle.desk.specs.declared.fault.Fault.{Fault}
+use Rattle.desk.specs.declared.fault.Fault.TheVariants as fault
+
+-- the newest entry first; the text that the signer is asked to sign
+pub record Effect : Type 0 where
+  pub adds : List Entry
+  pub asks : Option (List ℕ)
+  pub says : Answer
+
+-- an answer that changes nothing
+abbrev pub only : Answer → Effect
+only answer = record { adds = []; asks = None; says = answer }
+
+abbrev pub fault_of : Cause → Fault
+fault_of OfMemory = fault.Memory
+fault_of OfStore = fault.Store
+fault_of OfSigner = fault.Signer
+
+-- the answer, where each call that it needs was answered
+abbrev pub unless : Option Cause → Effect → Effect
+unless None effect = effect
+unless (Some cause) effect = only (Refused (fault_of cause))
+
+-- how far a stamp by a plan comes
+pub data Stamping : Type 0 where
+  -- nothing is reserved
+  Unreserved : Cause → Stamping
+  -- the reservation stays without its token
+  Void : ReservationValue → Cause → Stamping
+  Sealing : ReservationValue → List ℕ → Stamping
+
+-- why no serial number could be reserved: they are used up, memory wanted, or the commit was refused
+abbrev pub no_number : Outcome → History → Option Cause
+no_number o b =
+    first_cause ((if nat_le greatest_number (greatest_serial b) then Some OfStore else None) ∷ cause_of o.growing
+    ∷ cause_of o.adding ∷ [])
+
+-- why a reservation isn't sealed after its signature
+abbrev pub no_seal : Outcome → Option Cause
+no_seal o = first_cause (cause_of o.wrapping ∷ cause_of o.sealing ∷ [])
+
+-- the reservation under the greatest serial number plus one
+abbrev pub next_reservation : Setting → List ℕ → PlanValue → List ℕ → History → ReservationValue
+next_reservation s account plan octets b = reservation_of s.file account plan octets (greatest_serial b + 1)
+
+abbrev pub sealed_or_void : ReservationValue → List ℕ → Option Cause → Stamping
+sealed_or_void r token None = Sealing r token
+sealed_or_void r token (Some cause) = Void r cause
+
+abbrev pub signed_or_void : PendingValue → ReservationValue → Result (List ℕ) SignerFault → Outcome → Stamping
+signed_or_void p r (Ok signature) o = sealed_or_void r (token_with p signature) (no_seal o)
+signed_or_void p r (Err fault) o = sealed_or_void r [] (cause_of_signing (Err fault))
+
+abbrev pub stamping_of : Setting → List ℕ → PlanValue → List ℕ → Outcome → History → Option Cause → Stamping
+stamping_of s account plan octets o b (Some cause) = Unreserved cause
+stamping_of s account plan octets o b None =
+    let r = next_reservation s account plan octets b in signed_or_void (pending_of s plan r) r o.signing o
+
+-- Stamp: the reply is the token, the rejection by the first rule that fails, or the rejection by rule 12
+abbrev pub stamp_effect : Setting → Stamping → Effect
+stamp_effect s (Unreserved cause) = only (Rejected System)
+stamp_effect s (Void r cause) = record {
+  adds = Reserved r
+      ∷ [];
+  asks = Some (attribute_text s.identity r.tst);
+  says = Rejected System;
+}
+stamp_effect s (Sealing r token) = record {
+  adds = Sealed r.serial token ∷ Reserved r ∷ [];
+  asks = Some (attribute_text s.identity r.tst);
+  says = Stamped r.serial (granted_octets token);
+}
+
+abbrev pub name_of : Option AccountValue → List ℕ
+name_of None = []
+name_of (Some account) = account.name
+
+abbrev pub stamp_found : Setting → List ℕ → List ℕ → Outcome → History → Finding → Effect
+stamp_found s account octets o b (Fails rule) = only (Rejected rule)
+stamp_found s account octets o b (Unanswered cause) = only (Rejected System)
+stamp_found s account octets o b (Allowed plan) = stamp_effect s (stamping_of s account plan octets o b
+    (no_number o b))
+
+-- Begin: the reservation alone, and what waits for its signature
+abbrev pub begin_effect : Setting → List ℕ → PlanValue → List ℕ → History → Option Cause → Effect
+begin_effect s account plan octets b (Some cause) = only (Refused (fault_of cause))
+begin_effect s account plan octets b None =
+    let r = next_reservation s account plan octets b in
+    record { adds = Reserved r ∷ []; asks = None; says = Begun (pending_of s plan r) }
+
+abbrev pub begin_found : Setting → List ℕ → List ℕ → Outcome → History → Finding → Effect
+begin_found s account octets o b (Fails rule) = only (Rejected rule)
+begin_found s account octets o b (Unanswered cause) = only (Refused (fault_of cause))
+begin_found s account octets o b (Allowed plan) = begin_effect s account plan octets b (no_number o b)
+
+-- Finish: the token over the signature that is handed in
+abbrev pub finish_effect : PendingValue → List ℕ → Effect
+finish_effect p signature = record {
+  adds = Sealed p.serial (token_with p signature) ∷ [];
+  asks = None;
+  says = Stamped p.serial (granted_octets (token_with p signature));
+}
+
+-- Deposit: token and deposit stand in one entry
+abbrev pub deposit_row : ℕ → List ℕ → List ℕ → List ℕ → DepositValue
+deposit_row number owner reference bytes = record {
+  serial = number;
+  owner = owner;
+  reference = reference;
+  bytes =
+      bytes;
+}
+
+abbrev pub deposit_effect : Setting → List ℕ → List ℕ → List ℕ → Stamping → Effect
+deposit_effect s owner reference bytes (Unreserved cause) = only (Refused (fault_of cause))
+deposit_effect s owner reference bytes (Void r cause) =
+    record { adds = Reserved r ∷ []; asks = Some (attribute_text s.identity r.tst); says = Refused (fault_of cause) }
+deposit_effect s owner reference bytes (Sealing r token) = record {
+  adds = Deposited (deposit_row r.serial owner reference bytes) token ∷ Reserved r ∷ [];
+  asks = Some (attribute_text s.identity r.tst);
+  says = Kept r.serial true;
+}
+
+abbrev pub deposit_found : Setting → List ℕ → List ℕ → List ℕ → List ℕ → Outcome → History → Finding → Effect
+deposit_found s owner reference bytes octets o b (Fails rule) = only (Refused (fault.Rejected rule))
+deposit_found s owner reference bytes octets o b (Unanswered cause) = only (Refused (fault_of cause))
+deposit_found s owner reference bytes octets o b (Allowed plan) =
+    deposit_effect s owner reference bytes (stamping_of s owner plan octets o b (no_number o b))
+
+abbrev pub too_large : Answer
+too_large = Refused fault.TooLarge
+
+-- under a known reference the old number, for the same octets alone
+abbrev pub known_effect : List ℕ → DepositValue → Effect
+known_effect bytes d = only (if bytes_eq d.bytes bytes then Kept d.serial false else Refused fault.Conflict)
+
+-- why what is visible couldn't be shown
+abbrev pub no_sight : Outcome → Option Cause
+no_sight o = first_cause (cause_of o.looking ∷ cause_of o.growing ∷ [])
+
+-- Show and Token: what is visible alone
+abbrev pub show_effect : Option Cause → Option DepositValue → Effect
+show_effect refused None = only (Refused fault.NotHere)
+show_effect refused (Some d) = unless refused (only (Shown d.bytes))
+
+abbrev pub reply_or_nothing : Option (List ℕ) → Answer
+reply_or_nothing None = Refused fault.NotHere
+reply_or_nothing (Some token) = Shown (granted_octets token)
+
+abbrev pub token_effect : Option Cause → Option (List ℕ) → Option DepositValue → Effect
+token_effect refused token None = only (Refused fault.NotHere)
+token_effect refused token (Some d) = unless refused (only (reply_or_nothing token))
+
+-- an account of the file has the name
+abbrev pub has_account : PolicyValue → List ℕ → Bool
+has_account file name = is_among (map (λ a. a.name) file.accounts) name
+
+-- Grant and Revoke by the owner: the entry
+abbrev pub right_of_owner : PolicyValue → List ℕ → List ℕ → Option Cause → Entry → Effect
+right_of_owner file account reader refused entry =
+    if has_account file reader then
+    (if bytes_eq reader account then only (Refused fault.SelfGrant)
+    else unless refused (record { adds = entry ∷ []; asks = None; says = Done }))
+    else only (Refused fault.UnknownReader)
+
+abbrev pub right_effect : PolicyValue → List ℕ → List ℕ → Outcome → Entry → Option DepositValue → Effect
+right_effect file account reader o entry None = only (Refused fault.NotHere)
+right_effect file account reader o entry (Some d) =
+    unless (cause_of o.looking) (if bytes_eq d.owner account then right_of_owner file account reader
+    (cause_of o.adding) entry
+    else only (Refused fault.NotOwner))
+
+-- a calibration before the last one
+abbrev pub is_backwards : CalibrationValue → Option CalibrationValue → Bool
+is_backwards c None = false
+is_backwards c (Some last) = int_lt c.reading last.reading
+
+abbrev pub calibrate_effect : CalibrationValue → History → Effect
+calibrate_effect c b =
+    if is_backwards c (latest_calibration b) then only (Refused fault.Store)
+    else record { adds = Calibrated c ∷ []; asks = None; says = Done }

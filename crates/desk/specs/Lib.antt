@@ -1,0 +1,12 @@
+pub mod Agreement
+pub mod Command
+pub mod Content
+pub mod Effects
+pub mod Facts
+pub mod Fault
+pub mod Findings
+pub mod Laws
+pub mod Outcome
+pub mod Runs
+pub mod Steps
+pub mod Texts

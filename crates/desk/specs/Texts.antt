@@ -1,0 +1,62 @@
+-- The texts that a stamp consists of.
+use Rattle.std.specs.Prelude.{ℕ, ◌+◌, pos, ◌++◌, Bool, false, List, [], ◌∷◌, Option, Some, None, option_map, unwrap_or}
+use Rattle.std.specs.List.{find}
+use Rattle.std.specs.Str.{bytes_eq}
+use Rattle.der.specs.Node.{encoding}
+use Rattle.der.specs.ObjectIdentifier.{oid_content}
+use Rattle.sha2.specs.Sha256.{sha256}
+use Rattle.policy.specs.Record.{AccountValue, PolicyValue, TsaPolicyValue}
+use Rattle.tsp.specs.Request.{RequestValue, time_stamp_req, sha256_request, unstated}
+use Rattle.tsp.specs.Tst.{tst_info, answer}
+use Rattle.cms.specs.SignedData.{token}
+use Rattle.store.specs.History.{ReservationValue}
+use Rattle.desk.specs.Findings.{PlanValue}
+use Rattle.desk.specs.Command.{Setting, PendingValue}
+
+-- the TSTInfo by the plan, under a serial number, with the policy file's accuracy and ordering
+abbrev pub tst_of : PolicyValue → PlanValue → ℕ → List ℕ
+tst_of file plan serial =
+    encoding (tst_info (answer plan.request plan.policy serial plan.gen_time file.counter.accuracy_us
+    file.counter.ordering))
+
+-- what is reserved for an account by the plan
+abbrev pub reservation_of : PolicyValue → List ℕ → PlanValue → List ℕ → ℕ → ReservationValue
+reservation_of file account plan octets serial = record {
+  serial = serial;
+  account = account;
+  gen_time = plan.gen_time;
+  policy = oid_content plan.policy;
+  algorithm = oid_content plan.request.imprint.algorithm;
+  digest = plan.request.imprint.hash;
+  request = octets;
+  tst = tst_of file plan serial;
+}
+
+-- what waits for the signature of a reservation
+abbrev pub pending_of : Setting → PlanValue → ReservationValue → PendingValue
+pending_of s plan r = record {
+  serial = r.serial;
+  tst = r.tst;
+  certificate = plan.request.cert_req;
+  identity = s.identity;
+  algorithm = s.algorithm;
+}
+
+-- its token, once it is signed
+abbrev pub token_with : PendingValue → List ℕ → List ℕ
+token_with p signature = token p.identity p.algorithm p.tst signature p.certificate
+
+-- the policy that the account's first name means
+abbrev pub default_of : PolicyValue → List (List ℕ) → Option TsaPolicyValue
+default_of file [] = None
+default_of file (name ∷ names) = find (λ p. bytes_eq p.name name) file.policies
+
+-- A deposit is stamped as this request: SHA-256 with NULL parameters, no policy, nonce or extension, and certReq
+-- exactly where the owner's default policy gives the certificate out.
+abbrev pub request_for : PolicyValue → AccountValue → List ℕ → RequestValue
+request_for file owner bytes = sha256_request (sha256 bytes) (unwrap_or (option_map (λ p. p.certificate)
+    (default_of file owner.policies)) false)
+
+-- its octets, in which no FALSE is stated
+abbrev pub octets_for : PolicyValue → AccountValue → List ℕ → List ℕ
+octets_for file owner bytes = encoding (time_stamp_req unstated (request_for file owner bytes))

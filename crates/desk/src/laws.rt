@@ -1,0 +1,92 @@
+//! What holds of the machine, whatever it is asked and whatever store, signer and memory answer.
+ghost use Rattle.std.specs.Prelude.{◌≡◌, ℕ, ◌+◌, ◌<◌, ◌≤◌, ℤ, List, Option, Some, Ok};
+ghost use Rattle.der.specs.Node.{encoding};
+ghost use Rattle.policy.specs.Record.{AccountValue};
+ghost use Rattle.tsp.specs.Rejection.{rejection};
+ghost use Rattle.tsp.specs.Rules.{IsFirstFailing};
+ghost use Rattle.tsp.specs.declared.rule.Rule.{Rule};
+ghost use Rattle.store.specs.History.{History, ReservationValue, greatest_serial, reservation_at};
+ghost use Rattle.store.specs.Sound.{IsSound, greatest_number};
+ghost use Rattle.desk.specs.Agreement.{Agree};
+ghost use Rattle.desk.specs.Command.{Setting, Command, Stamp, Answer, Stamped, Rejected};
+ghost use Rattle.desk.specs.Content.{IsSoundInFull};
+ghost use Rattle.desk.specs.Effects.{Effect};
+ghost use Rattle.desk.specs.Laws.{IsCommandOfOther, Concerns, StaysFor, IsGrant, IsRejection, Continues, AreMet, AreCommandsOf, RunsAlike};
+ghost use Rattle.desk.specs.Findings.{PlanValue, IsAllowed, HoldsAt};
+ghost use Rattle.desk.specs.Outcome.{Outcome, all_fine};
+ghost use Rattle.desk.specs.Runs.{IsProper, Told, Journey, HasProperties, Runs, after, cut};
+ghost use Rattle.desk.specs.Steps.{HasEffect, IsMet};
+
+use cms::Signer;
+use tsp::requests_have_one_reading;
+
+/// A command leaves a sound history sound, and so does a stop in the midst of it.
+pub fn steps_leave_sound_histories()
+    ensures whole { (s : Setting) (c : Command) (o : Outcome) (e : Effect) (b : History)
+        → IsProper s → IsSoundInFull b → IsMet c b → HasEffect s c o b e → IsSoundInFull (after e b) }
+    ensures stopped { (s : Setting) (c : Command) (o : Outcome) (e : Effect) (b : History) (k : ℕ)
+        → IsProper s → IsSoundInFull b → IsMet c b → HasEffect s c o b e → IsSoundInFull (cut k e b) }
+{
+    requests_have_one_reading();
+}
+
+/// A stamp is granted only where no rule of 1 to 11 fails, under the greatest serial number plus one, which is above
+/// each that was reserved, with the token over the one TSTInfo of its plan; and it is rejected by the first rule that
+/// fails, or by rule 12. Where store, signer and memory answer and a serial number is left, it is granted where no
+/// rule fails, and else rejected by the first that does.
+pub fn grants_are_of_their_plan()
+    ensures granted { (s : Setting) (account : Option AccountValue) (reading : ℤ) (octets : List ℕ) (o : Outcome)
+        (b : History) (e : Effect) (serial : ℕ) (reply : List ℕ)
+        → HasEffect s (Stamp account reading octets) o b e → e.says ≡ Stamped serial reply
+        → IsGrant s account reading octets b serial reply }
+    ensures rejected { (s : Setting) (account : Option AccountValue) (reading : ℤ) (octets : List ℕ) (o : Outcome)
+        (b : History) (e : Effect) (rule : Rule)
+        → HasEffect s (Stamp account reading octets) o b e → e.says ≡ Rejected rule
+        → IsRejection s account reading octets b rule }
+    ensures grants { (s : Setting) (account : Option AccountValue) (reading : ℤ) (octets signature : List ℕ)
+        (b : History) (e : Effect) (plan : PlanValue)
+        → IsAllowed s.file account reading octets b plan → greatest_serial b < greatest_number
+        → HasEffect s (Stamp account reading octets) (all_fine (Ok signature)) b e
+        → (reply : List ℕ) × (e.says ≡ Stamped (greatest_serial b + 1) reply) }
+    ensures rejects { (s : Setting) (account : Option AccountValue) (reading : ℤ) (octets signature : List ℕ)
+        (b : History) (e : Effect) (rule : Rule) → IsFirstFailing (HoldsAt s.file account reading octets b) rule
+        → HasEffect s (Stamp account reading octets) (all_fine (Ok signature)) b e → e.says ≡ Rejected rule }
+    ensures above { (b : History) (n : ℕ) (r : ReservationValue) → reservation_at n b ≡ Some r
+        → n ≤ greatest_serial b }
+{}
+
+/// A rejection's octets tell its rule, and so its failure bit.
+pub fn rejections_tell_their_rule()
+    ensures { (one other : Rule) → encoding (rejection one) ≡ encoding (rejection other) → one ≡ other }
+{}
+
+/// In each journey through openings, commands and stops, serial numbers rise and genTimes never fall, what was
+/// acknowledged stands, and no deposit is without a sealed stamp of its hash. So it is where a run goes on from it,
+/// to the run's end or to a stop in it.
+pub fn journeys_keep_their_promises()
+    ensures journey { (b : History) (w : List Told) → Journey b w → HasProperties b w }
+    ensures continued { (s : Setting) (cs : List Command) (os : List Outcome) (b : History) (w : List Told)
+        (b' : History) (w' : List Told)
+        → IsProper s → AreMet cs → Journey b w → Continues s cs os b w b' w' → HasProperties b' w' }
+{
+    requests_have_one_reading();
+}
+
+/// The answers to an account's commands depend on what agreement for it names alone: from each sound history that
+/// agrees they are the same under the same outcomes, and the histories that follow agree again.
+pub fn accounts_are_isolated<S: Signer>()
+    ensures { (account : List ℕ) (s : Setting) (cs : List Command) (os : List Outcome) (b c : History) (x : S)
+        (answers : List Answer) (b' : History) (x' : S)
+        → IsProper s → AreCommandsOf account cs → IsSound b → IsSound c → Agree account b c
+        → Runs S.signs s cs os b x answers b' x' → RunsAlike S.signs account s cs os c x answers b' x' }
+{
+    requests_have_one_reading();
+}
+
+/// Another account's command changes, of what agreement for this one names, at most the greatest serial number, the
+/// last genTime and the one deposit to which it gives or takes a right.
+pub fn accounts_disturb_little()
+    ensures { (account : List ℕ) (s : Setting) (c : Command) (o : Outcome) (b : History) (e : Effect) → IsSound b
+        → IsCommandOfOther account c → HasEffect s c o b e
+        → StaysFor account (λ number. Concerns number c) b (after e b) }
+{}

@@ -1,0 +1,15 @@
+//! What the counter promises of grants, deposits, rights, stops and isolation, as a machine over the history of what
+//! it accepted, and the laws that follow.
+#![tactic(auto)]
+
+mod fault;
+mod laws;
+
+pub use fault::Fault;
+pub use laws::{
+    accounts_are_isolated, accounts_disturb_little, grants_are_of_their_plan,
+    journeys_keep_their_promises, rejections_tell_their_rule, steps_leave_sound_histories,
+};
+
+#[cfg(test)]
+mod tests;
