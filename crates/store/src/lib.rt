@@ -4,6 +4,8 @@
 mod fault;
 mod opening;
 mod store;
+#[cfg(test)]
+mod tests;
 mod values;
 
 pub use fault::StoreFault;
