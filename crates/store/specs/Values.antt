@@ -1,5 +1,6 @@
 -- The calls' arguments and answers, as the entries and views of a history.
-use Rattle.std.specs.Prelude.{Option, option_map}
+use Rattle.std.specs.Prelude.{ℕ, List, Option, option_map}
+use Rattle.tables.specs.Tables.{DepositRow}
 use Rattle.store.specs.History.{ReservationValue, CalibrationValue, HoldValue, History, greatest_serial, last_gen_time}
 use Rattle.store.specs.declared.values.Reservation.{Reservation}
 use Rattle.store.specs.declared.values.Calibration.{Calibration}
@@ -29,3 +30,6 @@ last_of b = record { serial = greatest_serial b; gen_time = last_gen_time b }
 
 abbrev pub calibration_option : Option Calibration → Option CalibrationValue
 calibration_option found = option_map calibration_view found
+
+abbrev pub deposit_of : ℕ → List ℕ → List ℕ → List ℕ → DepositRow
+deposit_of serial owner reference bytes = record { serial = serial; owner = owner; reference = reference; bytes = bytes }

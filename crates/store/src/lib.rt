@@ -1,6 +1,7 @@
 //! The history of what the counter accepted, kept in tables.
 #![tactic(auto)]
 
+mod deposits;
 mod fault;
 mod opening;
 mod store;
