@@ -39,7 +39,7 @@ use Rattle.tables.proofs.ReadLemmas.{program_of, query_of, no_limit, passes, sho
 use Rattle.tables.proofs.SealLemmas.{equals}
 use Rattle.tables.proofs.TestLemmas.{test_number, test_text, test_at_most, test_above}
 
-and_true : (b : Bool) → (b && true) ≡ b
+pub and_true : (b : Bool) → (b && true) ≡ b
 and_true true = refl
 and_true false = refl
 
@@ -290,3 +290,17 @@ number_of row shown at n m is e f = let same : Int (pos n) ≡ Int (pos m) = sym
 
 pub signed_of : (row shown : Row) (at : ℕ) (n m : ℤ) → row ≡ shown → column row at ≡ Int n → column shown at ≡ Int m → n ≡ m
 signed_of row shown at n m is e f = let same : Int n ≡ Int m = sym e ∙ ap (λ r. column r at) is ∙ f in cc
+
+pub text_of : (row shown : Row) (at : ℕ) (s t : List ℕ) → row ≡ shown → column row at ≡ Text s → column shown at ≡ Text t → s ≡ t
+text_of row shown at s t is e f = let same : Text s ≡ Text t = sym e ∙ ap (λ r. column r at) is ∙ f in cc
+
+pub blob_of : (row shown : Row) (at : ℕ) (s t : List ℕ) → row ≡ shown → column row at ≡ Blob s → column shown at ≡ Blob t → s ≡ t
+blob_of row shown at s t is e f = let same : Blob s ≡ Blob t = sym e ∙ ap (λ r. column r at) is ∙ f in cc
+
+pub token_of : (row shown : Row) (at : ℕ) (s t : Option (List ℕ)) → row ≡ shown → column row at ≡ token_cell s → column shown at ≡ token_cell t → s ≡ t
+token_of row shown at s t is e f = same_token s t (sym e ∙ ap (λ r. column r at) is ∙ f) where
+  same_token : (s t : Option (List ℕ)) → token_cell s ≡ token_cell t → s ≡ t
+  same_token None None e = refl
+  same_token None (Some b) e = cc
+  same_token (Some a) None e = cc
+  same_token (Some a) (Some b) e = cc

@@ -1,5 +1,5 @@
 -- What the tests of WHERE say of the cells of a row.
-use Rattle.std.proofs.Common.{◌≡◌, ℕ, ℤ, pos, Bool, true, false, not, ◌&&◌, ◌==◌, Some, List, [], ◌∷◌, refl, sym, ap, ◌∙◌, arith, is_eq, is_le, is_gt, int_cmp}
+use Rattle.std.proofs.Common.{◌≡◌, ℕ, ℤ, pos, Bool, true, false, not, ◌&&◌, ◌==◌, Some, List, [], ◌∷◌, refl, sym, ap, ◌∙◌, arith, is_eq, is_le, is_gt, is_ge, int_cmp, nat_le, nat_lt}
 use Rattle.std.specs.Prelude.{bytes_eq, int_le, int_lt}
 use Rattle.std.proofs.lemmas.Bool.Decides.{nat_tests}
 use Rattle.std.proofs.lemmas.Map.Text.{is_eq-slice_cmp}
@@ -9,7 +9,7 @@ use Rattle.sqlite_value.specs.declared.keys.Collation.TheVariants.{Binary}
 use Rattle.sqlite_value.specs.Order.{value_cmp}
 use Rattle.sqlite_value.proofs.OrderLemmas.{value_cmp-Int, value_cmp-Text}
 use Rattle.sqlite_sql.specs.declared.ops.CompareOp.TheVariants.{Eq, Le, Gt, Lt, Ge}
-use Rattle.sqlite_sql.specs.declared.ops.BinaryOp.TheVariants.{Compare}
+use Rattle.sqlite_sql.specs.declared.ops.BinaryOp.TheVariants.{Compare, Is}
 use Rattle.sqlite_sql.specs.Ops.{binary, is_true, from_truth}
 
 said_truth : (b : Bool) → is_true (from_truth (Some b)) ≡ b
@@ -34,3 +34,18 @@ test_at_most m n = said_truth _ ∙ ap is_le (value_cmp-Int m n) ∙ grind (arit
 pub test_above : (m n : ℤ) → is_true (binary (Compare Gt Binary) (Int m) (Int n)) ≡ int_lt n m
 unfolding binary
 test_above m n = said_truth _ ∙ ap is_gt (value_cmp-Int m n) ∙ grind (arith)
+
+-- the same of numbers
+pub test_after : (m n : ℕ) → is_true (binary (Compare Gt Binary) (Int (pos m)) (Int (pos n))) ≡ nat_lt n m
+test_after m n = test_above (pos m) (pos n) ∙ grind (arith, nat_tests)
+
+pub test_up_to : (m n : ℕ) → is_true (binary (Compare Le Binary) (Int (pos m)) (Int (pos n))) ≡ nat_le m n
+test_up_to m n = test_at_most (pos m) (pos n) ∙ grind (arith, nat_tests)
+
+pub test_from : (m n : ℕ) → is_true (binary (Compare Ge Binary) (Int (pos m)) (Int (pos n))) ≡ nat_le n m
+unfolding binary
+test_from m n = said_truth _ ∙ ap is_ge (value_cmp-Int (pos m) (pos n)) ∙ grind (arith, nat_tests)
+
+pub test_is : (m n : ℕ) → is_true (binary (Is Binary) (Int (pos m)) (Int (pos n))) ≡ (m == n)
+unfolding binary
+test_is m n = said_truth _ ∙ ap is_eq (value_cmp-Int (pos m) (pos n)) ∙ same_number m n

@@ -7,6 +7,7 @@ pub mod Holding
 pub mod Opening
 pub mod Queries
 pub mod Schema
+pub mod Shown
 pub mod Statements
 pub mod Steps
 pub mod Tables

@@ -9,6 +9,7 @@ use Rattle.tables.specs.declared.rows.LatestCalibration.{LatestCalibration}
 use Rattle.tables.specs.declared.rows.Stamp.{Stamp}
 use Rattle.tables.specs.declared.rows.Deposit.{Deposit}
 use Rattle.tables.specs.declared.rows.Label.{Label}
+use Rattle.tables.specs.declared.rows.Origin.{Origin}
 
 -- a look-up leaves what the tables are, and what a crash may leave
 pub record OnlyReads {S : Type 0} (g : Ghosts S) (old new : BaseValue S) : Type 0 where
@@ -59,8 +60,9 @@ ShowsDeposit row d = deposit_view d ≡ row
 abbrev pub ShowsLabel : DepositRow → Label → Type 0
 ShowsLabel row label = (string_bytes label.owner ≡ row.owner) × (string_bytes label.reference ≡ row.reference)
 
-abbrev pub ShowsGenTime : StampRow → ℕ → Type 0
-ShowsGenTime row gen_time = gen_time ≡ row.gen_time
+-- whose stamp it is, and of when
+abbrev pub ShowsOrigin : StampRow → Origin → Type 0
+ShowsOrigin row origin = (string_bytes origin.account ≡ row.account) × (origin.gen_time ≡ row.gen_time)
 
 abbrev pub ShowsDepositSerial : DepositRow → ℕ → Type 0
 ShowsDepositSerial row serial = serial ≡ row.serial

@@ -1,15 +1,19 @@
 //! Queries, each asked in a transaction of its own that is undone.
-ghost use Rattle.std.specs.Prelude.{◌≡◌, ◌<◌, ◌^◌, pos, false, IfOk, OnOk, IsTrue};
+ghost use Rattle.std.specs.Prelude.{◌≡◌, ◌<◌, ◌^◌, pos, false, IfOk, OnOk, IsTrue, string_bytes, option_map};
 ghost use Rattle.sqlite_value.specs.Order.{column};
-ghost use Rattle.sqlite_value.specs.declared.value.Value.TheVariants.{Int};
+ghost use Rattle.sqlite_value.specs.declared.value.Value.TheVariants.{Int, Text, Blob};
 ghost use Rattle.sqlite.specs.Held.{state};
 ghost use Rattle.sqlite.specs.State.{HasCleanDisk};
 ghost use Rattle.sqlite.specs.Values.{bound};
+ghost use Rattle.tables.specs.Holding.{token_cell};
 ghost use Rattle.tables.specs.Schema.{the_schema};
 ghost use Rattle.tables.specs.Asking.{IsQueryText, TellsRows, TellsFirst, Looks};
 
 use sqlite::types::ValueRef;
 use sqlite::{Alter, Connection, Error, Row};
+
+/// What an SQL INTEGER can hold.
+pub(crate) const GREATEST: u64 = 9_223_372_036_854_775_807;
 
 /// The rows that a query answers.
 pub(crate) fn rows_of<S: Alter>(
@@ -67,4 +71,31 @@ pub(crate) fn signed(row: &Row, at: usize) -> Result<i64, Error>
 {
     let number: i64 = row.get(at)?;
     Ok(number)
+}
+
+/// A text of a row.
+pub(crate) fn text(row: &Row, at: usize) -> Result<String, Error>
+    ensures { IfOk result (λ s. column row.now at ≡ Text (string_bytes s)) }
+{
+    let text: String = row.get(at)?;
+    Ok(text)
+}
+
+/// Octets of a row.
+pub(crate) fn octets(row: &Row, at: usize) -> Result<Vec<u8>, Error>
+    ensures { IfOk result (λ b. column row.now at ≡ Blob b.items) }
+{
+    let octets: Vec<u8> = row.get(at)?;
+    Ok(octets)
+}
+
+/// Octets of a row, where they aren't NULL.
+pub(crate) fn octets_or_none(row: &Row, at: usize) -> Result<Option<Vec<u8>>, Error>
+    ensures { IfOk result (λ found. column row.now at ≡ token_cell (option_map (λ b. b.items) found)) }
+{
+    if let ValueRef::Null = row.get_ref(at)? {
+        return Ok(None);
+    }
+    let octets = octets(row, at)?;
+    Ok(Some(octets))
 }

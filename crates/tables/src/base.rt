@@ -11,6 +11,7 @@ ghost use Rattle.tables.specs.Tables.{Tables, no_rows};
 ghost use Rattle.tables.specs.Base.{IsHonest, IsOpen, Keeps, Recovers, Holds};
 ghost use Rattle.tables.specs.Changes.{applied, IsCounted};
 
+mod lookups;
 mod queries;
 
 use crate::change::Change;

@@ -10,7 +10,7 @@ ghost use Rattle.tables.specs.Holding.{IsDatabaseOf};
 ghost use Rattle.tables.specs.Queries.{ShowsLast, ShowsCalibration, ShowsNumber, ShowsCount, holds_at};
 ghost use Rattle.tables.specs.Tables.{Tables, is_tally_of};
 
-use crate::asking::{first_row, number, signed};
+use crate::asking::{GREATEST, first_row, number, signed};
 use crate::rows::{LastStamp, LatestCalibration};
 use sqlite::types::ValueRef;
 use sqlite::{Alter, Connection, Error};
@@ -25,9 +25,6 @@ const LATEST_CALIBRATION: &str =
 const GREATEST_HOLD: &str = "SELECT n FROM hold ORDER BY n DESC LIMIT 1";
 
 const HOLD_AT: &str = "SELECT n FROM hold WHERE from_us <= ?1 AND to_us > ?1";
-
-/// What an SQL INTEGER can hold.
-const GREATEST: u64 = 9_223_372_036_854_775_807;
 
 /// How many stamps the account has on the day, where a row says it.
 pub(crate) fn tally<S: Alter>(

@@ -55,3 +55,11 @@ pub struct Label {
     pub owner: String,
     pub reference: String,
 }
+
+/// Whose a stamp is, and of when.
+#[derive(Debug, Drop)]
+pub struct Origin {
+    pub account: String,
+    /// In microseconds since 1970-01-01T00:00:00Z.
+    pub gen_time: u64,
+}

@@ -1,0 +1,26 @@
+-- The cells that a look-up asks of a row: all but the bytes where it needs no bytes.
+use Rattle.std.specs.Prelude.{pos, [], ◌∷◌}
+use Rattle.sqlite_value.specs.declared.value.Value.TheVariants.{Int, Text, Blob}
+use Rattle.sqlite_value.specs.Order.{Row}
+use Rattle.tables.specs.Holding.{token_cell}
+use Rattle.tables.specs.Tables.{StampRow, DepositRow, ReaderRow}
+
+abbrev pub stamp_shown : StampRow → Row
+stamp_shown s =
+    Int (pos s.serial) ∷ Text s.account ∷ Int (pos s.day) ∷ Int (pos s.gen_time) ∷ Blob s.policy ∷ Blob s.algorithm ∷ Blob s.digest
+    ∷ Blob s.request ∷ Blob s.tst ∷ token_cell s.token ∷ []
+
+abbrev pub origin_shown : StampRow → Row
+origin_shown s = Text s.account ∷ Int (pos s.gen_time) ∷ []
+
+abbrev pub deposit_shown : DepositRow → Row
+deposit_shown d = Int (pos d.serial) ∷ Text d.owner ∷ Text d.reference ∷ Blob d.bytes ∷ []
+
+abbrev pub label_shown : DepositRow → Row
+label_shown d = Text d.owner ∷ Text d.reference ∷ []
+
+abbrev pub number_shown : DepositRow → Row
+number_shown d = Int (pos d.serial) ∷ []
+
+abbrev pub readable_shown : ReaderRow → Row
+readable_shown r = Int (pos r.serial) ∷ []
