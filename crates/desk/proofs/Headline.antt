@@ -1,5 +1,5 @@
 -- What a stamp's answer says.
-use Rattle.std.proofs.Common.{arith, ◌≡◌, ℕ, ◌+◌, ◌*◌, ◌-◌, ◌<◌, ◌⊎◌, ◌==◌, nat_le, cond, if◌then◌else◌, ℤ, Bool, true, false, List, [], ◌∷◌, get_or, Option, Some, None, Result, Ok, Err, refl, sym, ◌∙◌, ap, subst, inl, inr}
+use Rattle.std.proofs.Common.{arith, Contains, ◌≡◌, ℕ, zero, suc, ◌≤◌, ◌+◌, ◌*◌, ◌-◌, ◌<◌, ◌⊎◌, ◌==◌, nat_le, if◌then◌else◌, ℤ, Bool, true, false, List, [], ◌∷◌, get_or, Option, Some, None, Result, Ok, Err, refl, sym, ◌∙◌, ap, subst, inl, inr}
 use Rattle.der.specs.Node.{encoding, length_octets}
 use Rattle.der.specs.Number.{number_content}
 use Rattle.policy.specs.Record.{AccountValue}
@@ -13,51 +13,52 @@ use Rattle.cms.specs.declared.signer.SignerFault.TheVariants as signer
 use Rattle.store.specs.History.{History, ReservationValue, greatest_serial}
 use Rattle.store.specs.Sound.{greatest_number}
 use Rattle.std.proofs.lemmas.Bool.Decides.{nat_tests}
-use Rattle.desk.specs.Outcome.{Outcome, Cause, OfStore, first_cause, all_fine}
+use Rattle.desk.specs.Outcome.{Outcome, Cause, OfMemory, OfStore, OfSigner, cause_of, cause_of_signing, first_cause, all_fine}
 use Rattle.desk.specs.Findings.{IsUnjudged, PlanValue, IsAllowed, HoldsAt, Finding, Fails, Unanswered, Allowed, Finds}
-use Rattle.desk.specs.Command.{Setting, PendingValue, Command, Stamp, Answer, Stamped, Rejected}
+use Rattle.desk.specs.Command.{Setting, PendingValue, Stamp, Stamped, Rejected}
 use Rattle.desk.specs.Texts.{pending_of, token_with}
 use Rattle.desk.specs.Effects.{Effect, Stamping, Unreserved, Void, Sealing, no_number, no_seal, next_reservation, sealed_or_void, signed_or_void, stamping_of, stamp_effect, stamp_found, name_of}
 use Rattle.desk.specs.Steps.{HasEffect}
-use Rattle.desk.specs.Laws.{IsGrant, IsRejection}
+use Rattle.desk.specs.Laws.{causes_of, IsUnanswered, IsGrant, IsRejection}
 
--- a stamping that is sealed has the next reservation, and the token over a signature
-abbrev SealedBy : Setting → List ℕ → PlanValue → List ℕ → History → Stamping → Type 0
-SealedBy s account plan octets b (Unreserved cause) = Unit {0}
-SealedBy s account plan octets b (Void r cause) = Unit {0}
-SealedBy s account plan octets b (Sealing r token) =
+-- what is reserved is the next reservation; and what is sealed has the token over the signer's answer
+abbrev pub SealedBy : Setting → List ℕ → PlanValue → List ℕ → Outcome → History → Stamping → Type 0
+SealedBy s account plan octets o b (Unreserved cause) = Unit {0}
+SealedBy s account plan octets o b (Void r cause) = r ≡ next_reservation s account plan octets b
+SealedBy s account plan octets o b (Sealing r token) =
     (signature : List ℕ) × (r ≡ next_reservation s account plan octets b)
     × (token ≡ token_with (pending_of s plan (next_reservation s account plan octets b)) signature)
+    × (o.signing ≡ Ok signature)
 
-sealed_by : (s : Setting) (account : List ℕ) (plan : PlanValue) (octets : List ℕ) (b : History) (signature : List ℕ)
-    (refused : Option Cause)
-    → SealedBy s account plan octets b (sealed_or_void (next_reservation s account plan octets b)
+sealed_by : (s : Setting) (account : List ℕ) (plan : PlanValue) (octets : List ℕ) (o : Outcome) (b : History)
+    (signature : List ℕ) → o.signing ≡ Ok signature → (refused : Option Cause)
+    → SealedBy s account plan octets o b (sealed_or_void (next_reservation s account plan octets b)
     (token_with (pending_of s plan (next_reservation s account plan octets b)) signature) refused)
-sealed_by s account plan octets b signature None = (signature, refl, refl)
-sealed_by s account plan octets b signature (Some cause) = tt
+sealed_by s account plan octets o b signature is None = (signature, refl, refl, is)
+sealed_by s account plan octets o b signature is (Some cause) = refl
 
 signed_by : (s : Setting) (account : List ℕ) (plan : PlanValue) (octets : List ℕ) (o : Outcome) (b : History)
-    (signing : Result (List ℕ) SignerFault)
-    → SealedBy s account plan octets b (signed_or_void (pending_of s plan
+    (signing : Result (List ℕ) SignerFault) → o.signing ≡ signing
+    → SealedBy s account plan octets o b (signed_or_void (pending_of s plan
     (next_reservation s account plan octets b)) (next_reservation s account plan octets b) signing o)
-signed_by s account plan octets o b (Ok signature) = sealed_by s account plan octets b signature (no_seal o)
-signed_by s account plan octets o b (Err signer.Failed) = tt
-signed_by s account plan octets o b (Err signer.Memory) = tt
+signed_by s account plan octets o b (Ok signature) is = sealed_by s account plan octets o b signature is (no_seal o)
+signed_by s account plan octets o b (Err signer.Failed) is = refl
+signed_by s account plan octets o b (Err signer.Memory) is = refl
 
-stamping_by : (s : Setting) (account : List ℕ) (plan : PlanValue) (octets : List ℕ) (o : Outcome) (b : History)
+pub stamping_by : (s : Setting) (account : List ℕ) (plan : PlanValue) (octets : List ℕ) (o : Outcome) (b : History)
     (refused : Option Cause)
-    → SealedBy s account plan octets b (stamping_of s account plan octets o b refused)
+    → SealedBy s account plan octets o b (stamping_of s account plan octets o b refused)
 stamping_by s account plan octets o b (Some cause) = tt
-stamping_by s account plan octets o b None = signed_by s account plan octets o b o.signing
+stamping_by s account plan octets o b None = signed_by s account plan octets o b o.signing refl
 
-granted_from : (s : Setting) (account : Option AccountValue) (reading : ℤ) (octets : List ℕ) (b : History)
-    (plan : PlanValue) (serial : ℕ) (reply : List ℕ)
+granted_from : (s : Setting) (account : Option AccountValue) (reading : ℤ) (octets : List ℕ) (o : Outcome)
+    (b : History) (plan : PlanValue) (serial : ℕ) (reply : List ℕ)
     → IsAllowed s.file account reading octets b plan → (st : Stamping)
-    → SealedBy s (name_of account) plan octets b st → (stamp_effect s st).says ≡ Stamped serial reply
-    → IsGrant s account reading octets b serial reply
-granted_from s account reading octets b plan serial reply allowed (Unreserved cause) by e = cc
-granted_from s account reading octets b plan serial reply allowed (Void r cause) by e = cc
-granted_from s account reading octets b plan serial reply allowed (Sealing r token) by e =
+    → SealedBy s (name_of account) plan octets o b st → (stamp_effect s st).says ≡ Stamped serial reply
+    → IsGrant s account reading octets o b serial reply
+granted_from s account reading octets o b plan serial reply allowed (Unreserved cause) by e = cc
+granted_from s account reading octets o b plan serial reply allowed (Void r cause) by e = cc
+granted_from s account reading octets o b plan serial reply allowed (Sealing r token) by e =
     let number : r.serial ≡ serial = cc in
     let octets_are : granted_octets token ≡ reply = cc in
     record {
@@ -65,17 +66,18 @@ granted_from s account reading octets b plan serial reply allowed (Sealing r tok
       allowed = allowed;
       number = sym number ∙ ap (λ x. x.serial) by.1;
       signature = by.0;
+      signed = by.3;
       text = sym octets_are ∙ ap granted_octets by.2;
     }
 
 granted_found : (s : Setting) (account : Option AccountValue) (reading : ℤ) (octets : List ℕ) (o : Outcome)
     (b : History) (serial : ℕ) (reply : List ℕ) (f : Finding)
     → Finds s.file account reading octets o b f → (stamp_found s (name_of account) octets o b f).says
-    ≡ Stamped serial reply → IsGrant s account reading octets b serial reply
+    ≡ Stamped serial reply → IsGrant s account reading octets o b serial reply
 granted_found s account reading octets o b serial reply (Fails rule) found e = cc
 granted_found s account reading octets o b serial reply (Unanswered cause) found e = cc
 granted_found s account reading octets o b serial reply (Allowed plan) found e =
-    granted_from s account reading octets b plan serial reply found.0 (stamping_of s
+    granted_from s account reading octets o b plan serial reply found.0 (stamping_of s
     (name_of account) plan octets o b (no_number o b))
     (stamping_by s (name_of account) plan octets o b (no_number o b)) e
 
@@ -83,31 +85,94 @@ granted_found s account reading octets o b serial reply (Allowed plan) found e =
 pub granted_is : (s : Setting) (account : Option AccountValue) (reading : ℤ) (octets : List ℕ) (o : Outcome)
     (b : History) (e : Effect) (serial : ℕ) (reply : List ℕ)
     → HasEffect s (Stamp account reading octets) o b e → e.says ≡ Stamped serial reply
-    → IsGrant s account reading octets b serial reply
+    → IsGrant s account reading octets o b serial reply
 granted_is s account reading octets o b e serial reply h says =
     granted_found s account reading octets o b serial reply h.0 h.1 (sym (ap (λ x. x.says) h.2) ∙ says)
 
-rejected_from : (s : Setting) (rule : Rule) (st : Stamping) → (stamp_effect s st).says ≡ Rejected rule → rule ≡ System
-rejected_from s rule (Unreserved cause) e = cc
-rejected_from s rule (Void r cause) e = cc
-rejected_from s rule (Sealing r token) e = cc
+one_later : {X : Type 0} (x : X) (xs : List X) (y : X) → Contains xs y → Contains (x ∷ xs) y
+one_later x xs y (k, below, is) = (suc k, omega arith, is)
+
+-- the first cause is one of them
+first_among : (causes : List (Option Cause)) (cause : Cause) → first_cause causes ≡ Some cause
+    → Contains causes (Some cause)
+first_among [] cause e = cc
+first_among (None ∷ causes) cause e = one_later None causes (Some cause) (first_among causes cause e)
+first_among (Some other ∷ causes) cause e = (0, omega arith, e)
+
+-- rule 12 comes from a call without an answer, or where no serial number is left
+abbrev IsRefused : Outcome → History → Type 0
+IsRefused o b = IsUnanswered o ⊎ (greatest_number ≤ greatest_serial b)
+
+number_among : (o : Outcome) (cause : Cause) → Contains (cause_of o.growing ∷ cause_of o.adding ∷ []) (Some cause)
+    → Contains (causes_of o) (Some cause)
+number_among o cause (zero, below, is) = (2, omega arith, is)
+number_among o cause (suc zero, below, is) = (3, omega arith, is)
+number_among o cause (suc (suc k), below, is) = absurd (omega arith)
+
+seal_among : (o : Outcome) (cause : Cause) → Contains (cause_of o.wrapping ∷ cause_of o.sealing ∷ []) (Some cause)
+    → Contains (causes_of o) (Some cause)
+seal_among o cause (zero, below, is) = (5, omega arith, is)
+seal_among o cause (suc zero, below, is) = (6, omega arith, is)
+seal_among o cause (suc (suc k), below, is) = absurd (omega arith)
+
+no_number_by : (o : Outcome) (b : History) (cause : Cause) (spent : Bool)
+    → nat_le greatest_number (greatest_serial b) ≡ spent
+    → first_cause ((if spent then Some OfStore else None) ∷ cause_of o.growing ∷ cause_of o.adding ∷ [])
+    ≡ Some cause → IsRefused o b
+no_number_by o b cause true le e = inr (grind (arith, nat_tests))
+no_number_by o b cause false le e =
+    inl (cause, number_among o cause (first_among (cause_of o.growing ∷ cause_of o.adding ∷ []) cause e))
+
+rejected_sealed : (s : Setting) (r : ReservationValue) (token : List ℕ) (o : Outcome) (b : History) (rule : Rule)
+    (refused : Option Cause)
+    → no_seal o ≡ refused → (stamp_effect s (sealed_or_void r token refused)).says ≡ Rejected rule
+    → (rule ≡ System) × IsRefused o b
+rejected_sealed s r token o b rule None is e = cc
+rejected_sealed s r token o b rule (Some cause) is e =
+    (cc, inl (cause, seal_among o cause (first_among (cause_of o.wrapping ∷ cause_of o.sealing ∷ []) cause is)))
+
+rejected_signed : (s : Setting) (p : PendingValue) (r : ReservationValue) (o : Outcome) (b : History) (rule : Rule)
+    (signing : Result (List ℕ) SignerFault)
+    → o.signing ≡ signing → (stamp_effect s (signed_or_void p r signing o)).says ≡ Rejected rule
+    → (rule ≡ System) × IsRefused o b
+rejected_signed s p r o b rule (Ok signature) is e = rejected_sealed s r (token_with p signature) o b rule
+    (no_seal o) refl e
+rejected_signed s p r o b rule (Err signer.Failed) is e =
+    (cc, inl (OfSigner, (4, omega arith, ap cause_of_signing is)))
+rejected_signed s p r o b rule (Err signer.Memory) is e =
+    (cc, inl (OfMemory, (4, omega arith, ap cause_of_signing is)))
+
+rejected_from : (s : Setting) (name : List ℕ) (plan : PlanValue) (octets : List ℕ) (o : Outcome) (b : History)
+    (rule : Rule) (refused : Option Cause)
+    → no_number o b ≡ refused → (stamp_effect s (stamping_of s name plan octets o b refused)).says ≡ Rejected rule
+    → (rule ≡ System) × IsRefused o b
+rejected_from s name plan octets o b rule (Some cause) is e =
+    (cc, no_number_by o b cause (nat_le greatest_number (greatest_serial b)) refl is)
+rejected_from s name plan octets o b rule None is e =
+    let r = next_reservation s name plan octets b in rejected_signed s (pending_of s plan r) r o b rule o.signing refl e
+
+unjudged_by : (s : Setting) (account : Option AccountValue) (reading : ℤ) (o : Outcome) (b : History) (cause : Cause)
+    → IsUnjudged s.file account reading o b cause → IsRefused o b
+unjudged_by s account reading o b cause (inl h) = inl (cause, (0, omega arith, h))
+unjudged_by s account reading o b cause (inr h) = inl (cause, (1, omega arith, h.2))
 
 rejected_found : (s : Setting) (account : Option AccountValue) (reading : ℤ) (octets : List ℕ) (o : Outcome)
     (b : History) (rule : Rule) (f : Finding)
     → Finds s.file account reading octets o b f → (stamp_found s (name_of account) octets o b f).says
-    ≡ Rejected rule → IsRejection s account reading octets b rule
+    ≡ Rejected rule → IsRejection s account reading octets o b rule
 rejected_found s account reading octets o b rule (Fails first) found e =
     let same : first ≡ rule = cc in inl
     (subst (IsFirstFailing (HoldsAt s.file account reading octets b)) same found.0)
-rejected_found s account reading octets o b rule (Unanswered cause) found e = inr cc
+rejected_found s account reading octets o b rule (Unanswered cause) found e =
+    inr (cc, unjudged_by s account reading o b cause found.1)
 rejected_found s account reading octets o b rule (Allowed plan) found e =
-    inr (rejected_from s rule (stamping_of s (name_of account) plan octets o b (no_number o b)) e)
+    inr (rejected_from s (name_of account) plan octets o b rule (no_number o b) refl e)
 
 -- a rejection is by the first rule that fails, or by rule 12
 pub rejected_is : (s : Setting) (account : Option AccountValue) (reading : ℤ) (octets : List ℕ) (o : Outcome)
     (b : History) (e : Effect) (rule : Rule)
     → HasEffect s (Stamp account reading octets) o b e → e.says ≡ Rejected rule
-    → IsRejection s account reading octets b rule
+    → IsRejection s account reading octets o b rule
 rejected_is s account reading octets o b e rule h says =
     rejected_found s account reading octets o b rule h.0 h.1 (sym (ap (λ x. x.says) h.2) ∙ says)
 

@@ -1,26 +1,30 @@
 -- What was acknowledged still stands after each step, and journeys have their properties.
-use Rattle.std.proofs.Common.{◌≡◌, ℕ, ◌==◌, nat_le, cond, ℤ, Bool, true, false, List, [], ◌∷◌, ◌++◌, length, Option, Some, None, Result, Ok, Err, drop, refl, sym, ◌∙◌, ap, subst}
+use Rattle.std.proofs.Common.{arith, Contains, ◌≡◌, ℕ, suc, nat_le, cond, ℤ, Bool, true, false, List, [], ◌∷◌, ◌++◌, length, Option, Some, None, drop, refl, sym, ◌∙◌, ap, subst}
 use Rattle.std.specs.List.{AllByRecursion}
 use Rattle.std.proofs.lemmas.Bool.{eq-eqb}
 use Rattle.std.specs.Str.{bytes_eq}
 use Rattle.policy.specs.Record.{AccountValue}
-use Rattle.cms.specs.declared.signer.SignerFault.{SignerFault}
-use Rattle.cms.specs.declared.signer.SignerFault.TheVariants as signer
-use Rattle.store.specs.History.{Entry, Reserved, Sealed, Deposited, Calibrated, Held, Granted, Revoked, History, ReservationValue, DepositValue, token_of, deposit_at, deposit_under, latest_calibration}
+use Rattle.store.specs.History.{Entry, Calibrated, Held, Granted, Revoked, History, DepositValue, token_of, deposit_at, deposit_under, latest_calibration}
 use Rattle.store.specs.Rights.{seen_by, listed}
-use Rattle.store.specs.Sound.{Along, Fits}
-use Rattle.desk.specs.Content.{IsSoundInFull}
+use Rattle.store.specs.Sound.{Fits}
 use Rattle.desk.specs.Outcome.{Outcome, Cause, cause_of, first_cause}
 use Rattle.desk.specs.Findings.{PlanValue, Finding, Fails, Unanswered, Allowed}
 use Rattle.desk.specs.Command.{Setting, PendingValue, Command, Stamp, Begin, Finish, Abandon, Deposit, Show, Token, ListAll, Grant, Revoke, Calibrate, Hold, Answer, Stamped, Rejected, Begun, Kept, Shown, Listed, Done, Refused}
-use Rattle.desk.specs.Texts.{octets_for, pending_of, token_with}
-use Rattle.desk.specs.Effects.{has_account, Effect, only, unless, Stamping, Unreserved, Void, Sealing, no_number, no_seal, next_reservation, stamping_of, stamp_effect, stamp_found, begin_effect, begin_found, finish_effect, deposit_row, deposit_effect, deposit_found, known_effect, show_effect, token_effect, reply_or_nothing, right_of_owner, right_effect, is_backwards, calibrate_effect, name_of}
+use Rattle.desk.specs.Texts.{octets_for, token_with}
+use Rattle.desk.specs.Effects.{has_account, Effect, only, fault_of, unless, Stamping, Unreserved, Void, Sealing, no_number, no_seal, stamping_of, stamp_effect, stamp_found, begin_effect, begin_found, finish_effect, deposit_row, deposit_effect, deposit_found, show_effect, token_effect, reply_or_nothing, right_of_owner, right_effect, is_backwards, calibrate_effect, name_of}
+use Rattle.desk.specs.declared.fault.Fault.{Fault}
 use Rattle.desk.specs.declared.fault.Fault.TheVariants as fault
-use Rattle.desk.specs.Steps.{HasFound, KeepsUnder, KeepsUnless, Keeps, HasEffect, IsMet}
-use Rattle.desk.specs.Runs.{IsProper, Told, Journey, begins, goes, stops, after, cut, IsSealedWith, IsKept, HasProperties}
+use Rattle.desk.specs.Steps.{KeepsUnder, KeepsUnless, Keeps, HasEffect, IsMet}
+use Rattle.desk.specs.Runs.{IsProper, Told, Journey, begins, goes, stops, after, cut, IsKept, HasProperties}
 use Rattle.desk.proofs.Views.{token_stays, deposit_stays, found_under, same_octets}
-use Rattle.desk.proofs.Sound.{TextLaws, IsGoodEntry, AreGood, fits_along, true_along, rising_along, good_along, good_cut}
+use Rattle.desk.proofs.Sound.{TextLaws, AreGood, fits_along, true_along, rising_along, good_cut}
 use Rattle.desk.proofs.Stepping.{step_adds, adds_good}
+
+first_in : (e : Entry) (b : History) → Contains (e ∷ b) e
+first_in e b = (0, omega arith, refl)
+
+stays_in : (e : Entry) (b : History) (x : Entry) → Contains b x → Contains (e ∷ b) x
+stays_in e b x (n, below, is) = (suc n, omega arith, is)
 
 -- one entry more
 kept_one : (e : Entry) (b : History) → Fits e b → (c : Command) (a : Answer) → IsKept b c a → IsKept (e ∷ b) c a
@@ -42,7 +46,18 @@ kept_one e b fits c (Rejected rule) k = tt
 kept_one e b fits c (Begun p) k = tt
 kept_one e b fits c (Shown octets) k = tt
 kept_one e b fits c (Listed xs) k = tt
-kept_one e b fits c Done k = tt
+kept_one e b fits (Grant a n reader) Done k = stays_in e b (Granted n reader) k
+kept_one e b fits (Revoke a n reader) Done k = stays_in e b (Revoked n reader) k
+kept_one e b fits (Calibrate x) Done k = stays_in e b (Calibrated x) k
+kept_one e b fits (Hold h) Done k = stays_in e b (Held h) k
+kept_one e b fits (Stamp account reading octets) Done k = tt
+kept_one e b fits (Begin account reading octets) Done k = tt
+kept_one e b fits (Finish p signature) Done k = tt
+kept_one e b fits (Abandon p) Done k = tt
+kept_one e b fits (Deposit a reading reference bytes) Done k = tt
+kept_one e b fits (Show a n) Done k = tt
+kept_one e b fits (Token a n) Done k = tt
+kept_one e b fits (ListAll a) Done k = tt
 kept_one e b fits c (Refused fault) k = tt
 
 pub kept_more : (es : List Entry) (b : History) → AreGood (es ++ b) → (c : Command) (a : Answer) → IsKept b c a
@@ -169,7 +184,7 @@ IsPlain (Rejected rule) = Unit {0}
 IsPlain (Begun p) = Unit {0}
 IsPlain (Shown octets) = Unit {0}
 IsPlain (Listed xs) = Unit {0}
-IsPlain Done = Unit {0}
+IsPlain Done = ⊥
 IsPlain (Refused fault) = Unit {0}
 
 plain_kept : (b : History) (c : Command) (a : Answer) → IsPlain a → IsKept b c a
@@ -179,16 +194,22 @@ plain_kept b c (Rejected rule) h = tt
 plain_kept b c (Begun p) h = tt
 plain_kept b c (Shown octets) h = tt
 plain_kept b c (Listed xs) h = tt
-plain_kept b c Done h = tt
+plain_kept b c Done h = absurd h
 plain_kept b c (Refused fault) h = tt
 
 plain_unless : (refused : Option Cause) (e : Effect) → IsPlain e.says → IsPlain (unless refused e).says
 plain_unless None e h = h
 plain_unless (Some cause) e h = tt
 
-plain_if : (t : Bool) (d e : Effect) → IsPlain d.says → IsPlain e.says → IsPlain (cond t d e).says
-plain_if true d e h k = h
-plain_if false d e h k = k
+-- what holds of both branches, and of a refusal, holds of the effect
+pub if_has : (P : Effect → Type 0) (t : Bool) (d e : Effect) → P d → P e → P (cond t d e)
+if_has P true d e h k = h
+if_has P false d e h k = k
+
+pub unless_has : (P : Effect → Type 0) → ((f : Fault) → P (only (Refused f))) → (refused : Option Cause) (e : Effect)
+    → P e → P (unless refused e)
+unless_has P refusal None e h = h
+unless_has P refusal (Some cause) e h = refusal (fault_of cause)
 
 show_plain : (refused : Option Cause) (seen : Option DepositValue) → IsPlain (show_effect refused seen).says
 show_plain refused None = tt
@@ -203,25 +224,31 @@ token_plain : (refused : Option Cause) (token : Option (List ℕ)) (seen : Optio
 token_plain refused token None = tt
 token_plain refused token (Some d) = plain_unless refused (only (reply_or_nothing token)) (reply_plain token)
 
-owner_plain : (s : Setting) (a : AccountValue) (reader : List ℕ) (o : Outcome) (entry : Entry)
-    → IsPlain (right_of_owner s.file a.name reader (cause_of o.adding) entry).says
-owner_plain s a reader o entry =
-    let added : Effect = record { adds = entry ∷ []; asks = None; says = Done } in
-    let own : Effect = only (Refused fault.SelfGrant) in
-    let given : Effect = unless (cause_of o.adding) added in
-    plain_if (has_account s.file reader) (cond (bytes_eq reader a.name) own given)
-    (only (Refused fault.UnknownReader))
-    (plain_if (bytes_eq reader a.name) own given tt (plain_unless (cause_of o.adding) added tt)) tt
+-- an entry that is added
+abbrev added : Entry → Effect
+added entry = record { adds = entry ∷ []; asks = None; says = Done }
 
-right_plain : (s : Setting) (a : AccountValue) (reader : List ℕ) (o : Outcome) (entry : Entry)
-    (seen : Option DepositValue)
-    → IsPlain (right_effect s.file a.name reader o entry seen).says
-right_plain s a reader o entry None = tt
-right_plain s a reader o entry (Some d) =
+owner_has : (P : Effect → Type 0) → ((f : Fault) → P (only (Refused f)))
+    → (s : Setting) (a : AccountValue) (reader : List ℕ) (o : Outcome) (entry : Entry)
+    → P (added entry) → P (right_of_owner s.file a.name reader (cause_of o.adding) entry)
+owner_has P refusal s a reader o entry h =
+    let own : Effect = only (Refused fault.SelfGrant) in
+    let given : Effect = unless (cause_of o.adding) (added entry) in
+    if_has P (has_account s.file reader) (cond (bytes_eq reader a.name) own given)
+    (only (Refused fault.UnknownReader))
+    (if_has P (bytes_eq reader a.name) own given (refusal fault.SelfGrant)
+    (unless_has P refusal (cause_of o.adding) (added entry) h)) (refusal fault.UnknownReader)
+
+pub right_has : (P : Effect → Type 0) → ((f : Fault) → P (only (Refused f)))
+    → (s : Setting) (a : AccountValue) (reader : List ℕ) (o : Outcome) (entry : Entry) (seen : Option DepositValue)
+    → P (added entry) → P (right_effect s.file a.name reader o entry seen)
+right_has P refusal s a reader o entry None h = refusal fault.NotHere
+right_has P refusal s a reader o entry (Some d) h =
     let owned = right_of_owner s.file a.name reader (cause_of o.adding) entry in
     let other : Effect = only (Refused fault.NotOwner) in
-    plain_unless (cause_of o.looking) (cond (bytes_eq d.owner a.name) owned other)
-    (plain_if (bytes_eq d.owner a.name) owned other (owner_plain s a reader o entry) tt)
+    unless_has P refusal (cause_of o.looking) (cond (bytes_eq d.owner a.name) owned other)
+    (if_has P (bytes_eq d.owner a.name) owned other (owner_has P refusal s a reader o entry h)
+    (refusal fault.NotOwner))
 
 -- what is answered plainly stands
 plain_stands : (c : Command) (b : History) (e d : Effect) → e ≡ d → IsPlain d.says → StandsAfter c b e
@@ -237,7 +264,7 @@ step_stands s (Begin account reading octets) o b e g h =
     (begin_found_stands s b account reading octets o h.0)
 step_stands s (Finish p signature) o b e g h = subst (StandsAfter (Finish p signature) b) (sym h)
     (finish_stands b p signature (no_seal o))
-step_stands s (Abandon p) o b e g h = plain_stands (Abandon p) b e (only Done) h tt
+step_stands s (Abandon p) o b e g h = subst (StandsAfter (Abandon p) b) (sym h) tt
 step_stands s (Deposit a reading reference bytes) o b e g h = keeps_stands s b g a reading reference bytes o e
     (nat_le (length bytes) 1_048_576) h
 step_stands s (Show a n) o b e g h =
@@ -254,22 +281,26 @@ step_stands s (ListAll a) o b e g h =
     let d : Effect = only (Listed (listed a.name b)) in
     plain_stands (ListAll a) b e (unless (cause_of o.looking) d) h (plain_unless (cause_of o.looking) d tt)
 step_stands s (Grant a n reader) o b e g h =
-    let d = right_effect s.file a.name reader o (Granted n reader) (seen_by a.name n b) in
-    plain_stands (Grant a n reader) b e (unless (cause_of o.searching) d) h
-    (plain_unless (cause_of o.searching) d (right_plain s a reader o (Granted n reader) (seen_by a.name n b)))
+    let P : Effect → Type 0 = λ x. StandsAfter (Grant a n reader) b x in
+    let entry = Granted n reader in
+    let d = right_effect s.file a.name reader o entry (seen_by a.name n b) in
+    subst P (sym h) (unless_has P (λ f. tt) (cause_of o.searching) d (right_has P (λ f. tt) s a reader o entry
+    (seen_by a.name n b) (first_in entry b)))
 step_stands s (Revoke a n reader) o b e g h =
-    let d = right_effect s.file a.name reader o (Revoked n reader) (seen_by a.name n b) in
-    plain_stands (Revoke a n reader) b e (unless (cause_of o.searching) d) h
-    (plain_unless (cause_of o.searching) d (right_plain s a reader o (Revoked n reader) (seen_by a.name n b)))
+    let P : Effect → Type 0 = λ x. StandsAfter (Revoke a n reader) b x in
+    let entry = Revoked n reader in
+    let d = right_effect s.file a.name reader o entry (seen_by a.name n b) in
+    subst P (sym h) (unless_has P (λ f. tt) (cause_of o.searching) d (right_has P (λ f. tt) s a reader o entry
+    (seen_by a.name n b) (first_in entry b)))
 step_stands s (Calibrate c) o b e g h =
-    let added : Effect = record { adds = Calibrated c ∷ []; asks = None; says = Done } in
+    let P : Effect → Type 0 = λ x. StandsAfter (Calibrate c) b x in
     let backwards : Effect = only (Refused fault.Store) in
-    plain_stands (Calibrate c) b e (unless (cause_of o.adding) (calibrate_effect c b)) h
-    (plain_unless (cause_of o.adding) (calibrate_effect c b)
-    (plain_if (is_backwards c (latest_calibration b)) backwards added tt tt))
+    subst P (sym h) (unless_has P (λ f. tt) (cause_of o.adding) (calibrate_effect c b)
+    (if_has P (is_backwards c (latest_calibration b)) backwards (added (Calibrated c)) tt
+    (first_in (Calibrated c) b)))
 step_stands s (Hold k) o b e g h =
-    let added : Effect = record { adds = Held k ∷ []; asks = None; says = Done } in
-    plain_stands (Hold k) b e (unless (cause_of o.adding) added) h (plain_unless (cause_of o.adding) added tt)
+    let P : Effect → Type 0 = λ x. StandsAfter (Hold k) b x in
+    subst P (sym h) (unless_has P (λ f. tt) (cause_of o.adding) (added (Held k)) (first_in (Held k) b))
 
 -- journeys leave good histories in which all stands that was acknowledged
 record Holds (b : History) (w : List Told) : Type 0 where

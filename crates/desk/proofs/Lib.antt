@@ -1,4 +1,5 @@
 pub mod Agreeing
+pub mod Given
 pub mod Headline
 pub mod Keeping
 pub mod Others

@@ -1,26 +1,20 @@
 -- Each step leaves a sound history sound, and keeps what was acknowledged.
-use Rattle.std.proofs.Common.{zero, ◌∙◌, if◌then◌else◌, ◌≡◌, ℕ, suc, ◌<◌, ◌≤◌, ◌^◌, ◌/◌, ◌*◌, ◌+◌, ◌-◌, ◌==◌, nat_le, cond, ℤ, pos, Bool, true, false, List, [], ◌∷◌, ◌++◌, length, Option, Some, None, Result, Ok, Err, drop, refl, sym, ap, subst, arith}
-use Rattle.std.specs.Prelude.{Contains, IfSome}
-use Rattle.std.specs.List.{AllByRecursion}
-use Rattle.der.specs.Node.{encoding, IsLawful}
-use Rattle.der.specs.ObjectIdentifier.{oid_content, IsOid}
-use Rattle.gentime.specs.GenTime.{round_down, last_moment}
+use Rattle.std.proofs.Common.{zero, ◌∙◌, if◌then◌else◌, ◌≡◌, ℕ, suc, ◌<◌, ◌≤◌, ◌^◌, ◌+◌, ◌-◌, nat_le, ℤ, Bool, true, false, List, [], ◌∷◌, ◌++◌, length, Option, Some, None, drop, refl, sym, arith}
+use Rattle.der.specs.Node.{IsLawful}
+use Rattle.der.specs.ObjectIdentifier.{IsOid}
+use Rattle.gentime.specs.GenTime.{last_moment}
 use Rattle.policy.specs.Record.{AccountValue, PolicyValue}
 use Rattle.tsp.specs.Request.{RequestValue, Spells}
-use Rattle.tsp.specs.Rules.{IsSpelled}
 use Rattle.tsp.specs.Tst.{SpellsTst, TstValue, IsTst, tst_info, answer}
 use Rattle.tsp.specs.declared.rule.Rule.TheVariants.{Spelling, Policy}
-use Rattle.decide.specs.Clock.{IsGood, IsGoodAt, Follows, gen_time}
-use Rattle.store.specs.History.{Entry, Reserved, Sealed, Deposited, Calibrated, Held, Granted, Revoked, History, ReservationValue, DepositValue, greatest_serial, token_of, reservation_at, deposit_at, deposit_under, last_gen_time}
-use Rattle.store.specs.Sound.{Along, Fits, FitsReserved, FitsSealed, FitsDeposited, FitsRight, greatest_number}
-use Rattle.desk.specs.Content.{IsForRequest, IsStampedBy, IsTrueOf, IsSoundInFull}
-use Rattle.desk.specs.Facts.{facts_of}
-use Rattle.desk.specs.Findings.{PlanValue, IsAllowed, HoldsAt, Finding, Finds}
+use Rattle.store.specs.History.{Entry, Reserved, History, greatest_serial}
+use Rattle.store.specs.Sound.{Along, Fits, greatest_number}
+use Rattle.desk.specs.Content.{IsForRequest, IsTrueOf}
+use Rattle.desk.specs.Findings.{PlanValue, IsAllowed}
 use Rattle.desk.specs.Command.{Setting}
-use Rattle.desk.specs.Texts.{tst_of, reservation_of, octets_for, request_for}
-use Rattle.desk.specs.Effects.{next_reservation, no_number}
-use Rattle.desk.specs.Runs.{IsProper, Rises, IsRising}
-use Rattle.desk.proofs.Views.{unsealed_above, reserved_below}
+use Rattle.desk.specs.Texts.{tst_of}
+use Rattle.desk.specs.Effects.{next_reservation}
+use Rattle.desk.specs.Runs.{IsProper, IsRising}
 use Rattle.desk.specs.Outcome.{Cause, OfStore, first_cause}
 use Rattle.std.proofs.Math.Nat.{div-mul-le_self}
 use Rattle.std.proofs.lemmas.List.Elements.{All-contains, All-from_recursion}
@@ -110,8 +104,8 @@ proper_tst s proper account reading octets b plan allowed serial some most = rec
   some_serial = some;
   last_serial = omega arith;
   gen_time = gen_time_bound s account reading octets b plan allowed;
-  some_accuracy = proper.counter.accuracy_some;
-  most_accuracy = proper.counter.accuracy;
+  some_accuracy = proper.some_accuracy;
+  most_accuracy = proper.most_accuracy;
   extensions = allowed.spelled.proper.extensions;
 }
 

@@ -1,38 +1,61 @@
 -- What is promised of the machine: of grants and rejections, of journeys that go on, and of an account's commands.
-use Rattle.std.specs.Prelude.{◌≡◌, ℕ, ◌+◌, ◌⊎◌, ℤ, Bool, false, List, [], ◌∷◌, filter, Option, Some, None, Result}
+use Rattle.std.specs.Prelude.{◌≡◌, ℕ, ◌+◌, ◌<◌, ◌≤◌, ◌⊎◌, ℤ, false, List, [], ◌∷◌, ◌++◌, filter, Option, Some, None, Result, Ok}
+use Rattle.std.specs.List.{Contains}
 use Rattle.std.specs.Str.{bytes_eq}
 use Rattle.policy.specs.Record.{AccountValue}
 use Rattle.tsp.specs.Granted.{granted_octets}
 use Rattle.tsp.specs.Rules.{IsFirstFailing}
 use Rattle.tsp.specs.declared.rule.Rule.{Rule}
 use Rattle.tsp.specs.declared.rule.Rule.TheVariants.{System}
+use Rattle.cms.specs.SignedData.{attribute_text}
 use Rattle.cms.specs.declared.signer.SignerFault.{SignerFault}
-use Rattle.store.specs.History.{History, stamps, deposits, holds, latest_calibration, greatest_serial}
-use Rattle.store.specs.Sound.{IsSound}
+use Rattle.store.specs.History.{Entry, Reserved, History, ReservationValue, stamps, deposits, holds, latest_calibration, greatest_serial}
+use Rattle.store.specs.Sound.{greatest_number}
 use Rattle.desk.specs.Agreement.{seen_at, Agree, IsCommandOf}
-use Rattle.desk.specs.Outcome.{Outcome}
+use Rattle.desk.specs.Outcome.{Outcome, Cause, cause_of, cause_of_signing}
 use Rattle.desk.specs.Findings.{PlanValue, IsAllowed, HoldsAt}
 use Rattle.desk.specs.Command.{Setting, Command, Stamp, Begin, Finish, Abandon, Deposit, Show, Token, ListAll, Grant, Revoke, Calibrate, Hold, Answer}
 use Rattle.desk.specs.Texts.{pending_of, token_with}
 use Rattle.desk.specs.Effects.{Effect, next_reservation, name_of}
-use Rattle.desk.specs.Steps.{HasEffect, IsMet, Moves}
-use Rattle.desk.specs.Runs.{IsProper, Told, after, cut, Runs}
+use Rattle.desk.specs.Steps.{HasEffect, IsMet}
+use Rattle.desk.specs.Runs.{Told, after, cut, Runs}
 
 -- A grant: no rule of 1 to 11 fails, the serial number is the greatest plus one, and the reply has the token over the
--- TSTInfo of the plan under that number.
-pub record IsGrant (s : Setting) (account : Option AccountValue) (reading : ℤ) (octets : List ℕ) (b : History)
-    (serial : ℕ) (reply : List ℕ) : Type 0 where
+-- TSTInfo of the plan under that number, with the signature that the signer answered.
+pub record IsGrant (s : Setting) (account : Option AccountValue) (reading : ℤ) (octets : List ℕ) (o : Outcome)
+    (b : History) (serial : ℕ) (reply : List ℕ) : Type 0 where
   pub plan : PlanValue
   pub allowed : IsAllowed s.file account reading octets b plan
   pub number : serial ≡ greatest_serial b + 1
   pub signature : List ℕ
+  pub signed : o.signing ≡ Ok signature
   pub text : reply ≡ granted_octets (token_with (pending_of s plan (next_reservation s
       (name_of account) plan octets b)) signature)
 
--- A rejection: by the first rule that fails, or by rule 12.
-abbrev pub IsRejection : Setting → Option AccountValue → ℤ → List ℕ → History → Rule → Type 0
-IsRejection s account reading octets b rule = IsFirstFailing (HoldsAt s.file account reading octets b) rule
-    ⊎ (rule ≡ System)
+-- the calls of a stamp, in their order: why each had no answer
+abbrev pub causes_of : Outcome → List (Option Cause)
+causes_of o =
+    cause_of o.looking ∷ cause_of o.counting ∷ cause_of o.growing ∷ cause_of o.adding ∷ cause_of_signing o.signing
+    ∷ cause_of o.wrapping ∷ cause_of o.sealing ∷ []
+
+-- the store, the signer or memory didn't answer
+abbrev pub IsUnanswered : Outcome → Type 0
+IsUnanswered o = (cause : Cause) × Contains (causes_of o) (Some cause)
+
+-- A rejection: by the first rule that fails; or by rule 12, where a call had no answer or the serial numbers are used
+-- up.
+abbrev pub IsRejection : Setting → Option AccountValue → ℤ → List ℕ → Outcome → History → Rule → Type 0
+IsRejection s account reading octets o b rule = IsFirstFailing (HoldsAt s.file account reading octets b) rule
+    ⊎ ((rule ≡ System) × (IsUnanswered o ⊎ (greatest_number ≤ greatest_serial b)))
+
+-- What is given out to be signed is the text of the reservation that the same command adds first, under a serial number
+-- above all that were reserved before.
+pub record IsReservedText (s : Setting) (e : Effect) (b : History) (text : List ℕ) : Type 0 where
+  pub reservation : ReservationValue
+  pub later : List Entry
+  pub adds : e.adds ≡ later ++ (Reserved reservation ∷ [])
+  pub above : greatest_serial b < reservation.serial
+  pub text_is : text ≡ attribute_text s.identity reservation.tst
 
 -- a run that goes to its end, or is cut in one of its commands by a stop
 abbrev pub Continues : Setting → List Command → List Outcome → History → List Told → History → List Told → Type 0

@@ -1,22 +1,22 @@
 -- Runs of the machine over lists of commands, and journeys through openings and stops.
-use Rattle.std.specs.Prelude.{◌≡◌, ℕ, ◌≤◌, ◌++◌, List, [], ◌∷◌, drop, Some, None, Option, Result}
-use Rattle.std.specs.List.{AllByRecursion}
+use Rattle.std.specs.Prelude.{◌≡◌, ℕ, ◌≤◌, ◌++◌, List, [], ◌∷◌, drop, Some, Result}
+use Rattle.std.specs.List.{AllByRecursion, Contains}
 use Rattle.der.specs.ObjectIdentifier.{IsOid}
-use Rattle.policy.specs.Sound.{IsCounter}
 use Rattle.cms.specs.declared.signer.SignerFault.{SignerFault}
 use Rattle.decide.specs.Clock.{Follows}
 use Rattle.store.specs.History.{Entry, Reserved, Sealed, Deposited, Calibrated, Held, Granted, Revoked, History, last_gen_time, token_of, deposit_at, ReservationValue}
 use Rattle.store.specs.Sound.{Along}
 use Rattle.desk.specs.Content.{IsForRequest, IsSoundInFull}
 use Rattle.desk.specs.Outcome.{Outcome}
-use Rattle.desk.specs.Command.{Setting, Command, Stamp, Begin, Finish, Abandon, Deposit, Show, Token, ListAll, Grant, Revoke, Calibrate, Hold, Answer, Stamped, Rejected, Begun, Kept, Shown, Listed, Done, Refused}
+use Rattle.desk.specs.Command.{Setting, Command, Deposit, Grant, Revoke, Calibrate, Hold, Answer, Stamped, Kept, Done}
 use Rattle.tsp.specs.Granted.{granted_octets}
 use Rattle.desk.specs.Effects.{Effect, deposit_row}
 use Rattle.desk.specs.Steps.{HasEffect, IsMet, Moves}
 
--- a policy file's record with the ranges and object identifiers that such files have
+-- a policy file's record with an accuracy, in microseconds, and object identifiers as such files have
 pub record IsProper (s : Setting) : Type 0 where
-  pub counter : IsCounter s.file.counter
+  pub some_accuracy : 1 ≤ s.file.counter.accuracy_us
+  pub most_accuracy : s.file.counter.accuracy_us ≤ 1_000_000
   pub policies : AllByRecursion (λ p. IsOid p.oid) s.file.policies
 
 -- the history after a command
@@ -79,6 +79,10 @@ abbrev pub IsKept : History → Command → Answer → Type 0
 IsKept b c (Stamped serial octets) = IsSealedWith serial octets b
 IsKept b (Deposit a reading reference bytes) (Kept number new) = deposit_at number b
     ≡ Some (deposit_row number a.name reference bytes)
+IsKept b (Grant a n reader) Done = Contains b (Granted n reader)
+IsKept b (Revoke a n reader) Done = Contains b (Revoked n reader)
+IsKept b (Calibrate c) Done = Contains b (Calibrated c)
+IsKept b (Hold h) Done = Contains b (Held h)
 IsKept b c answer = Unit {0}
 
 -- What holds of the history of each journey.

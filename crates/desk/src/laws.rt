@@ -5,13 +5,14 @@ ghost use Rattle.policy.specs.Record.{AccountValue};
 ghost use Rattle.tsp.specs.Rejection.{rejection};
 ghost use Rattle.tsp.specs.Rules.{IsFirstFailing};
 ghost use Rattle.tsp.specs.declared.rule.Rule.{Rule};
+ghost use Rattle.cms.specs.SignedData.{attribute_text};
 ghost use Rattle.store.specs.History.{History, ReservationValue, greatest_serial, reservation_at};
 ghost use Rattle.store.specs.Sound.{IsSound, greatest_number};
 ghost use Rattle.desk.specs.Agreement.{Agree};
-ghost use Rattle.desk.specs.Command.{Setting, Command, Stamp, Answer, Stamped, Rejected};
+ghost use Rattle.desk.specs.Command.{Setting, PendingValue, Command, Stamp, Answer, Stamped, Rejected, Begun};
 ghost use Rattle.desk.specs.Content.{IsSoundInFull};
 ghost use Rattle.desk.specs.Effects.{Effect};
-ghost use Rattle.desk.specs.Laws.{IsCommandOfOther, Concerns, StaysFor, IsGrant, IsRejection, Continues, AreMet, AreCommandsOf, RunsAlike};
+ghost use Rattle.desk.specs.Laws.{IsCommandOfOther, Concerns, StaysFor, IsGrant, IsRejection, IsReservedText, Continues, AreMet, AreCommandsOf, RunsAlike};
 ghost use Rattle.desk.specs.Findings.{PlanValue, IsAllowed, HoldsAt};
 ghost use Rattle.desk.specs.Outcome.{Outcome, all_fine};
 ghost use Rattle.desk.specs.Runs.{IsProper, Told, Journey, HasProperties, Runs, after, cut};
@@ -31,18 +32,19 @@ pub fn steps_leave_sound_histories()
 }
 
 /// A stamp is granted only where no rule of 1 to 11 fails, under the greatest serial number plus one, which is above
-/// each that was reserved, with the token over the one TSTInfo of its plan; and it is rejected by the first rule that
-/// fails, or by rule 12. Where store, signer and memory answer and a serial number is left, it is granted where no
+/// each that was reserved, with the token over the one TSTInfo of its plan and the signer's answer; and it is rejected
+/// by the first rule that fails, or by rule 12 where store, signer or memory didn't answer or no serial number is
+/// left. Where store, signer and memory answer and a serial number is left, it is granted where no
 /// rule fails, and else rejected by the first that does.
 pub fn grants_are_of_their_plan()
     ensures granted { (s : Setting) (account : Option AccountValue) (reading : ℤ) (octets : List ℕ) (o : Outcome)
         (b : History) (e : Effect) (serial : ℕ) (reply : List ℕ)
         → HasEffect s (Stamp account reading octets) o b e → e.says ≡ Stamped serial reply
-        → IsGrant s account reading octets b serial reply }
+        → IsGrant s account reading octets o b serial reply }
     ensures rejected { (s : Setting) (account : Option AccountValue) (reading : ℤ) (octets : List ℕ) (o : Outcome)
         (b : History) (e : Effect) (rule : Rule)
         → HasEffect s (Stamp account reading octets) o b e → e.says ≡ Rejected rule
-        → IsRejection s account reading octets b rule }
+        → IsRejection s account reading octets o b rule }
     ensures grants { (s : Setting) (account : Option AccountValue) (reading : ℤ) (octets signature : List ℕ)
         (b : History) (e : Effect) (plan : PlanValue)
         → IsAllowed s.file account reading octets b plan → greatest_serial b < greatest_number
@@ -53,6 +55,17 @@ pub fn grants_are_of_their_plan()
         → HasEffect s (Stamp account reading octets) (all_fine (Ok signature)) b e → e.says ≡ Rejected rule }
     ensures above { (b : History) (n : ℕ) (r : ReservationValue) → reservation_at n b ≡ Some r
         → n ≤ greatest_serial b }
+{}
+
+/// What a signer is asked to sign, and what waits for its signature, is the text of the reservation that the same command
+/// adds before all else, under a serial number above all that were reserved before: so the serial numbers of the texts
+/// that were given out rise, whatever stops there are.
+pub fn texts_are_reserved()
+    ensures asked { (s : Setting) (c : Command) (o : Outcome) (b : History) (e : Effect) (text : List ℕ)
+        → HasEffect s c o b e → e.asks ≡ Some text → IsReservedText s e b text }
+    ensures begun { (s : Setting) (c : Command) (o : Outcome) (b : History) (e : Effect) (p : PendingValue)
+        → HasEffect s c o b e → e.says ≡ Begun p
+        → IsReservedText s e b (attribute_text s.identity p.tst) × (greatest_serial b < p.serial) }
 {}
 
 /// A rejection's octets tell its rule, and so its failure bit.

@@ -9,6 +9,7 @@ pub use fault::Fault;
 pub use laws::{
     accounts_are_isolated, accounts_disturb_little, grants_are_of_their_plan,
     journeys_keep_their_promises, rejections_tell_their_rule, steps_leave_sound_histories,
+    texts_are_reserved,
 };
 
 #[cfg(test)]

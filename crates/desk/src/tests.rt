@@ -2,6 +2,7 @@
 use crate::{
     Fault, accounts_are_isolated, accounts_disturb_little, grants_are_of_their_plan,
     journeys_keep_their_promises, rejections_tell_their_rule, steps_leave_sound_histories,
+    texts_are_reserved,
 };
 use tsp::Rule;
 
@@ -29,6 +30,7 @@ fn laws_are_called(_rt: HostRuntime) {
     steps_leave_sound_histories();
     grants_are_of_their_plan();
     rejections_tell_their_rule();
+    texts_are_reserved();
     journeys_keep_their_promises();
     accounts_are_isolated::<cms::KeyedHash>();
     accounts_disturb_little();
