@@ -1,10 +1,13 @@
 -- The contents octets of a number: they are its shortest, and its only ones.
-use Rattle.std.proofs.Common.{◌≡◌, ℕ, zero, suc, ◌+◌, ◌-◌, ◌*◌, ◌/◌, ◌%◌, ◌^◌, ◌<◌, ◌≤◌, ℤ, pos, negsuc, Bool, true, false, cond, ltb, eqb, leb, List, [], ◌∷◌, ◌++◌, length, get_or, refl, sym, ap, subst, ◌∙◌, ⊎_elim, lit<, arith, append_assoc, reverse, take, drop, IsTrue, ◌↔◌}
+use Rattle.std.proofs.Common.{◌≡◌, ℕ, zero, suc, ◌+◌, ◌-◌, ◌*◌, ◌/◌, ◌%◌, ◌^◌, ◌<◌, ◌≤◌, ℤ, pos, negsuc, Bool, true}
+use Rattle.std.proofs.Common.{false, cond, ltb, eqb, leb, List, [], ◌∷◌, ◌++◌, length, get_or, refl, sym, ap, subst}
+use Rattle.std.proofs.Common.{◌∙◌, ⊎_elim, lit<, arith, append_assoc, reverse, take, drop, IsTrue, ◌↔◌}
 use Rattle.std.specs.Int.Signed.{lt_z}
 use Rattle.std.proofs.Math.IntN.{nat_abs}
 use Rattle.std.specs.Int.Digits.{digits_of, number_from_digits, number_from_digits_after}
 use Rattle.std.proofs.lemmas.Bool.{true≢false, cases_lt, cases_eq, lt-ltb, le-ltb, cond-true, cond-false, ltb-true}
-use Rattle.std.proofs.lemmas.Int.Digits.{digits_of_step, first_digits_of, number_digits_of, all_below_base_digits_of, number_after_lt}
+use Rattle.std.proofs.lemmas.Int.Digits.{digits_of_step, first_digits_of, number_digits_of, all_below_base_digits_of}
+use Rattle.std.proofs.lemmas.Int.Digits.{number_after_lt}
 use Rattle.std.proofs.lemmas.List.{length-map, length_push, reverse-append, take_at}
 use Rattle.std.proofs.lemmas.Bool.Decides.{nat_tests}
 use Rattle.std.proofs.Math.Nat.{pow-suc}
@@ -36,7 +39,8 @@ with_sign_large n ds h = cond-false (ltb n 128) (n ∷ ds) (0 ∷ n ∷ ds) (le-
 
 pub magnitude_small : (n : ℕ) → n < 128 → magnitude n ≡ n ∷ []
 magnitude_small zero h = refl
-magnitude_small (suc m) h = ap with_sign (digits_of_digit 256 (suc m) (omega arith) (omega arith) (omega arith)) ∙ with_sign_small (suc m) [] h
+magnitude_small (suc m) h = ap with_sign (digits_of_digit 256 (suc m) (omega arith) (omega arith) (omega arith))
+    ∙ with_sign_small (suc m) [] h
 
 some_from_first : (ds : List ℕ) → 0 < get_or ds 0 0 → 0 < length ds
 some_from_first [] h = absurd (omega arith)
@@ -53,7 +57,8 @@ magnitude_of_more : (n : ℕ) → 256 ≤ n → magnitude n ≡ magnitude (n / 2
 magnitude_of_more n h =
     let above : 0 < n / 256 = omega arith in
     ap with_sign (digits_of_step 256 n (omega arith) (omega arith)) ∙
-    with_sign_push (digits_of 256 (n / 256)) (n % 256) (some_from_first (digits_of 256 (n / 256)) (first_digits_of 256 (n / 256) (omega arith) above))
+    with_sign_push (digits_of 256 (n / 256)) (n % 256)
+    (some_from_first (digits_of 256 (n / 256)) (first_digits_of 256 (n / 256) (omega arith) above))
 
 pub magnitude_step : (n : ℕ) → 128 ≤ n → magnitude n ≡ magnitude (n / 256) ++ n % 256 ∷ []
 magnitude_step n h = ⊎_elim (magnitude_of_two n h) (magnitude_of_more n) (cases_lt n 256)
@@ -90,8 +95,10 @@ unsigned_by (first ∷ []) lead =
     (λ high. subst IsUnsigned (sym (with_sign_large first [] high)) (lit< tt, λ _. high)) (cases_lt first 128)
 unsigned_by (first ∷ second ∷ others) lead =
     let some : 0 < first = lead (omega arith) in
-    ⊎_elim (λ low. subst IsUnsigned (sym (with_sign_small first (second ∷ others) low)) (low, λ none. absurd (omega arith)))
-    (λ high. subst IsUnsigned (sym (with_sign_large first (second ∷ others) high)) (lit< tt, λ _. high)) (cases_lt first 128)
+    ⊎_elim (λ low. subst IsUnsigned (sym (with_sign_small first (second ∷ others) low))
+    (low, λ none. absurd (omega arith)))
+    (λ high. subst IsUnsigned (sym (with_sign_large first (second ∷ others) high)) (lit< tt, λ _. high))
+    (cases_lt first 128)
 
 lead_of : (n : ℕ) → 0 < length (digits_of 256 n) → 0 < get_or (digits_of 256 n) 0 0
 lead_of zero some = absurd (omega arith)
@@ -131,7 +138,8 @@ magnitude-number (first ∷ second ∷ others) octets h =
     (ap with_sign (digits_of-number 256 (second ∷ others) (omega arith) octets.1 (omega (arith, h.1 none))) ∙
     (with_sign_large second others (h.1 none) ∙ ap (λ k. k ∷ second ∷ others) (sym none))))
     (λ some.
-    ap with_sign (digits_of-number 256 (first ∷ second ∷ others) (omega arith) octets (omega arith)) ∙ with_sign_small first (second ∷ others) h.0)
+    ap with_sign (digits_of-number 256 (first ∷ second ∷ others) (omega arith) octets (omega arith))
+    ∙ with_sign_small first (second ∷ others) h.0)
     (cases_eq first 0)
 
 -- ---- how many octets
@@ -142,19 +150,33 @@ length-magnitude (suc k) n h =
     ⊎_elim (λ low. omega (arith, ap length (magnitude_small n low)))
     (λ high.
     let fewer : n / 256 < 128 * 256 ^ k = omega (arith, pow-suc 256 k) in
-    omega (arith, ap length (magnitude_step n high), length_push (magnitude (n / 256)) (n % 256), length-magnitude k (n / 256) fewer)) (cases_lt n 128)
+    omega (
+      arith,
+      ap length (magnitude_step n high),
+      length_push (magnitude (n / 256)) (n % 256),
+      length-magnitude k (n / 256) fewer,
+    )) (cases_lt n 128)
 
-number_room : (first : ℕ) (others : List ℕ) → first < 128 → AreOctets (first ∷ others) → number_from_digits 256 (first ∷ others) < 128 * 256 ^ length others
+number_room : (first : ℕ) (others : List ℕ) → first < 128 → AreOctets (first ∷ others)
+    → number_from_digits 256 (first ∷ others) < 128 * 256 ^ length others
 number_room first others low octets =
-    omega (arith, number_after_lt 256 (0 * 256 + first) others octets.1, mul-le (0 * 256 + first + 1) (256 ^ length others) 128 (256 ^ length others) (omega arith) (omega arith))
+    omega (
+      arith,
+      number_after_lt 256 (0 * 256 + first) others octets.1,
+      mul-le (0 * 256 + first + 1) (256 ^ length others) 128 (256 ^ length others) (omega arith) (omega arith),
+    )
 
-fewest_of : (n first : ℕ) (others : List ℕ) → first < 128 → AreOctets (first ∷ others) → number_from_digits 256 (first ∷ others) ≡ n → length (magnitude n) ≤ suc (length others)
-fewest_of n first others low octets same = length-magnitude (length others) n (subst (λ k. k < 128 * 256 ^ length others) same (number_room first others low octets))
+fewest_of : (n first : ℕ) (others : List ℕ) → first < 128 → AreOctets (first ∷ others)
+    → number_from_digits 256 (first ∷ others) ≡ n → length (magnitude n) ≤ suc (length others)
+fewest_of n first others low octets same =
+    length-magnitude (length others) n (subst (λ k. k < 128 * 256 ^ length others) same
+    (number_room first others low octets))
 
 -- ---- each bit the other way round
 
 octets-complement : (os : List ℕ) → AreOctets os → AreOctets (complement os)
-octets-complement os h = all-map (λ octet. octet < 256) (λ octet. octet < 256) (λ octet. 255 - octet) os (λ octet below. omega arith) h
+octets-complement os h = all-map (λ octet. octet < 256) (λ octet. octet < 256) (λ octet. 255 - octet) os
+    (λ octet below. omega arith) h
 
 complement-complement : (os : List ℕ) → AreOctets os → complement (complement os) ≡ os
 complement-complement [] h = refl
@@ -165,10 +187,12 @@ complement-complement (octet ∷ os) h =
 
 -- ---- values
 
-twos_value-low : (first : ℕ) (others : List ℕ) → first < 128 → twos_value (first ∷ others) ≡ pos (number_from_digits 256 (first ∷ others))
+twos_value-low : (first : ℕ) (others : List ℕ) → first < 128
+    → twos_value (first ∷ others) ≡ pos (number_from_digits 256 (first ∷ others))
 twos_value-low first others h = cond-true (ltb first 128) _ _ (lt-ltb first 128 h)
 
-twos_value-high : (first : ℕ) (others : List ℕ) → 128 ≤ first → twos_value (first ∷ others) ≡ negsuc (number_from_digits 256 (complement (first ∷ others)))
+twos_value-high : (first : ℕ) (others : List ℕ) → 128 ≤ first
+    → twos_value (first ∷ others) ≡ negsuc (number_from_digits 256 (complement (first ∷ others)))
 twos_value-high first others h = cond-false (ltb first 128) _ _ (le-ltb first 128 h)
 
 twos_value-unsigned : (os : List ℕ) → IsUnsigned os → twos_value os ≡ pos (number_from_digits 256 os)
@@ -176,18 +200,22 @@ twos_value-unsigned [] h = absurd h
 twos_value-unsigned (octet ∷ []) h = twos_value-low octet [] h
 twos_value-unsigned (first ∷ second ∷ others) h = twos_value-low first (second ∷ others) h.0
 
-twos_value-complement : (os : List ℕ) → AreOctets os → IsUnsigned os → twos_value (complement os) ≡ negsuc (number_from_digits 256 os)
+twos_value-complement : (os : List ℕ) → AreOctets os → IsUnsigned os
+    → twos_value (complement os) ≡ negsuc (number_from_digits 256 os)
 twos_value-complement [] octets h = absurd h
 twos_value-complement (octet ∷ []) octets h =
-    twos_value-high (255 - octet) [] (omega arith) ∙ ap (λ os. negsuc (number_from_digits 256 os)) (complement-complement (octet ∷ []) octets)
+    twos_value-high (255 - octet) [] (omega arith)
+    ∙ ap (λ os. negsuc (number_from_digits 256 os)) (complement-complement (octet ∷ []) octets)
 twos_value-complement (first ∷ second ∷ others) octets h =
     twos_value-high (255 - first) (complement (second ∷ others)) (omega (arith, h.0)) ∙
     ap (λ os. negsuc (number_from_digits 256 os)) (complement-complement (first ∷ second ∷ others) octets)
 
 pub twos_value-number_content : (z : ℤ) → twos_value (number_content z) ≡ z
 unfolding number_content
-twos_value-number_content (pos n) = twos_value-unsigned (magnitude n) (unsigned-magnitude n) ∙ ap pos (number-magnitude n)
-twos_value-number_content (negsuc n) = twos_value-complement (magnitude n) (octets-magnitude n) (unsigned-magnitude n) ∙ ap negsuc (number-magnitude n)
+twos_value-number_content (pos n) = twos_value-unsigned (magnitude n) (unsigned-magnitude n)
+    ∙ ap pos (number-magnitude n)
+twos_value-number_content (negsuc n) = twos_value-complement (magnitude n) (octets-magnitude n) (unsigned-magnitude n)
+    ∙ ap negsuc (number-magnitude n)
 
 pub octets-number_content : (z : ℤ) → AreOctets (number_content z)
 unfolding number_content
@@ -206,36 +234,52 @@ some-number_content (negsuc n) =
 
 -- what a value says of the octets
 
-number-from_pos : (n : ℕ) (os : List ℕ) → 0 < length os → twos_value os ≡ pos n → (get_or os 0 0 < 128) × (number_from_digits 256 os ≡ n)
+number-from_pos : (n : ℕ) (os : List ℕ) → 0 < length os → twos_value os ≡ pos n → (get_or os 0 0 < 128)
+    × (number_from_digits 256 os ≡ n)
 number-from_pos n [] some same = absurd (omega arith)
 number-from_pos n (first ∷ others) some same =
-    ⊎_elim (λ low. (low, let e : pos (number_from_digits 256 (first ∷ others)) ≡ pos n = sym (twos_value-low first others low) ∙ same in cc))
-    (λ high. absurd (let e : negsuc (number_from_digits 256 (complement (first ∷ others))) ≡ pos n = sym (twos_value-high first others high) ∙ same in cc)) (cases_lt first 128)
+    ⊎_elim (λ low. (
+      low,
+      let e : pos (number_from_digits 256 (first ∷ others)) ≡ pos n =
+          sym (twos_value-low first others low) ∙ same in cc,
+    ))
+    (λ high. absurd (let e : negsuc (number_from_digits 256 (complement (first ∷ others))) ≡ pos n =
+    sym (twos_value-high first others high) ∙ same in cc)) (cases_lt first 128)
 
-number-from_negsuc : (n : ℕ) (os : List ℕ) → 0 < length os → twos_value os ≡ negsuc n → (128 ≤ get_or os 0 0) × (number_from_digits 256 (complement os) ≡ n)
+number-from_negsuc : (n : ℕ) (os : List ℕ) → 0 < length os → twos_value os ≡ negsuc n → (128 ≤ get_or os 0 0)
+    × (number_from_digits 256 (complement os) ≡ n)
 number-from_negsuc n [] some same = absurd (omega (arith, some))
 number-from_negsuc n (first ∷ others) some same =
-    ⊎_elim (λ low. absurd (let e : pos (number_from_digits 256 (first ∷ others)) ≡ negsuc n = sym (twos_value-low first others low) ∙ same in cc))
-    (λ high. (high, let e : negsuc (number_from_digits 256 (complement (first ∷ others))) ≡ negsuc n = sym (twos_value-high first others high) ∙ same in cc)) (cases_lt first 128)
+    ⊎_elim (λ low. absurd (let e : pos (number_from_digits 256 (first ∷ others)) ≡ negsuc n =
+    sym (twos_value-low first others low) ∙ same in cc))
+    (λ high. (
+      high,
+      let e : negsuc (number_from_digits 256 (complement (first ∷ others))) ≡ negsuc n =
+          sym (twos_value-high first others high) ∙ same in cc,
+    )) (cases_lt first 128)
 
-fewest-pos : (n : ℕ) (os : List ℕ) → AreOctets os → 0 < length os → twos_value os ≡ pos n → length (magnitude n) ≤ length os
+fewest-pos : (n : ℕ) (os : List ℕ) → AreOctets os → 0 < length os → twos_value os ≡ pos n
+    → length (magnitude n) ≤ length os
 fewest-pos n [] octets some same = absurd (omega (arith, some))
 fewest-pos n (first ∷ others) octets some same =
     let is = number-from_pos n (first ∷ others) some same in
     fewest_of n first others is.0 octets is.1
 
-fewest-negsuc : (n : ℕ) (os : List ℕ) → AreOctets os → 0 < length os → twos_value os ≡ negsuc n → length (complement (magnitude n)) ≤ length os
+fewest-negsuc : (n : ℕ) (os : List ℕ) → AreOctets os → 0 < length os → twos_value os ≡ negsuc n
+    → length (complement (magnitude n)) ≤ length os
 fewest-negsuc n [] octets some same = absurd (omega (arith, some))
 fewest-negsuc n (first ∷ others) octets some same =
     let is = number-from_negsuc n (first ∷ others) some same in
     omega (
       arith,
-      fewest_of n (255 - first) (complement others) (omega (arith, is.0)) (octets-complement (first ∷ others) octets) is.1,
+      fewest_of n (255 - first) (complement others) (omega (arith, is.0))
+          (octets-complement (first ∷ others) octets) is.1,
       length-map others (λ octet. 255 - octet),
       length-map (magnitude n) (λ octet. 255 - octet),
     )
 
-pub fewest-number_content : (z : ℤ) (os : List ℕ) → AreOctets os → 0 < length os → twos_value os ≡ z → length (number_content z) ≤ length os
+pub fewest-number_content : (z : ℤ) (os : List ℕ) → AreOctets os → 0 < length os → twos_value os ≡ z
+    → length (number_content z) ≤ length os
 unfolding number_content
 fewest-number_content (pos n) os = fewest-pos n os
 fewest-number_content (negsuc n) os = fewest-negsuc n os
@@ -251,17 +295,22 @@ IsNumberContent-number_content z = record {
 
 -- ---- the only ones
 
-same_from_pos : (n : ℕ) (xs ys : List ℕ) → AreOctets xs → AreOctets ys → 0 < length xs → 0 < length ys → length xs ≡ length ys → twos_value xs ≡ pos n → twos_value ys ≡ pos n → xs ≡ ys
+same_from_pos : (n : ℕ) (xs ys : List ℕ) → AreOctets xs → AreOctets ys → 0 < length xs → 0 < length ys
+    → length xs ≡ length ys → twos_value xs ≡ pos n → twos_value ys ≡ pos n → xs ≡ ys
 same_from_pos n xs ys p q some some' e x y =
     same_from_number 256 xs ys p q e ((number-from_pos n xs some x).1 ∙ sym (number-from_pos n ys some' y).1)
 
-same_from_negsuc : (n : ℕ) (xs ys : List ℕ) → AreOctets xs → AreOctets ys → 0 < length xs → 0 < length ys → length xs ≡ length ys → twos_value xs ≡ negsuc n → twos_value ys ≡ negsuc n → xs ≡ ys
+same_from_negsuc : (n : ℕ) (xs ys : List ℕ) → AreOctets xs → AreOctets ys → 0 < length xs → 0 < length ys
+    → length xs ≡ length ys → twos_value xs ≡ negsuc n → twos_value ys ≡ negsuc n → xs ≡ ys
 same_from_negsuc n xs ys p q some some' e x y =
-    let turned : complement xs ≡ complement ys = same_from_number 256 (complement xs) (complement ys) (octets-complement xs p) (octets-complement ys q)
-    (length-map xs (λ octet. 255 - octet) ∙ (e ∙ sym (length-map ys (λ octet. 255 - octet)))) ((number-from_negsuc n xs some x).1 ∙ sym (number-from_negsuc n ys some' y).1) in
+    let turned : complement xs ≡ complement ys =
+    same_from_number 256 (complement xs) (complement ys) (octets-complement xs p) (octets-complement ys q)
+    (length-map xs (λ octet. 255 - octet) ∙ (e ∙ sym (length-map ys (λ octet. 255 - octet))))
+    ((number-from_negsuc n xs some x).1 ∙ sym (number-from_negsuc n ys some' y).1) in
     sym (complement-complement xs p) ∙ (ap complement turned ∙ complement-complement ys q)
 
-same_from_value : (z : ℤ) (xs ys : List ℕ) → AreOctets xs → AreOctets ys → 0 < length xs → 0 < length ys → length xs ≡ length ys → twos_value xs ≡ z → twos_value ys ≡ z → xs ≡ ys
+same_from_value : (z : ℤ) (xs ys : List ℕ) → AreOctets xs → AreOctets ys → 0 < length xs → 0 < length ys
+    → length xs ≡ length ys → twos_value xs ≡ z → twos_value ys ≡ z → xs ≡ ys
 same_from_value (pos n) = same_from_pos n
 same_from_value (negsuc n) = same_from_negsuc n
 
@@ -285,73 +334,95 @@ is_shortest-complement : (os : List ℕ) → AreOctets os → IsUnsigned os → 
 is_shortest-complement [] octets h = absurd h
 is_shortest-complement (octet ∷ []) octets h = refl
 is_shortest-complement (first ∷ second ∷ others) octets h =
-    shortest_high (255 - first) (255 - second) (omega (arith, h.0)) (λ all. let none : first ≡ 0 = omega (arith, octets.0) in omega (arith, h.1 none))
+    shortest_high (255 - first) (255 - second) (omega (arith, h.0))
+    (λ all. let none : first ≡ 0 = omega (arith, octets.0) in omega (arith, h.1 none))
 
 pub is_shortest-number_content : (z : ℤ) → is_shortest (number_content z) ≡ true
 unfolding number_content
 is_shortest-number_content (pos n) = is_shortest-unsigned (magnitude n) (unsigned-magnitude n)
 is_shortest-number_content (negsuc n) = is_shortest-complement (magnitude n) (octets-magnitude n) (unsigned-magnitude n)
 
-unsigned-shortest : (first : ℕ) (others : List ℕ) → first < 128 → is_shortest (first ∷ others) ≡ true → IsUnsigned (first ∷ others)
+unsigned-shortest : (first : ℕ) (others : List ℕ) → first < 128 → is_shortest (first ∷ others) ≡ true
+    → IsUnsigned (first ∷ others)
 unsigned-shortest first [] low shortest = low
 unsigned-shortest first (second ∷ others) low shortest = (low, λ none. low_shortest first second none shortest)
 
-complement-shortest : (first : ℕ) (others : List ℕ) → AreOctets (first ∷ others) → 128 ≤ first → is_shortest (first ∷ others) ≡ true → IsUnsigned (complement (first ∷ others))
+complement-shortest : (first : ℕ) (others : List ℕ) → AreOctets (first ∷ others) → 128 ≤ first
+    → is_shortest (first ∷ others) ≡ true → IsUnsigned (complement (first ∷ others))
 complement-shortest first [] octets high shortest = omega (arith, octets.0)
-complement-shortest first (second ∷ others) octets high shortest =
-    (omega (arith, octets.0), λ none. let all : first ≡ 255 = omega (arith, octets.0) in omega (arith, high_shortest first second all shortest))
+complement-shortest first (second ∷ others) octets high shortest = (
+  omega (arith, octets.0),
+  λ none. let all : first ≡ 255 = omega (arith, octets.0) in
+      omega (arith, high_shortest first second all shortest),
+)
 
 -- the shortest octets are the contents of their value
-pub number_content-twos_value : (os : List ℕ) → AreOctets os → is_shortest os ≡ true → number_content (twos_value os) ≡ os
+pub number_content-twos_value : (os : List ℕ) → AreOctets os → is_shortest os ≡ true
+    → number_content (twos_value os) ≡ os
 unfolding number_content
 number_content-twos_value [] octets shortest = absurd (let e : false ≡ true = shortest in cc)
 number_content-twos_value (first ∷ others) octets shortest =
     ⊎_elim
-    (λ low. ap number_content (twos_value-low first others low) ∙ magnitude-number (first ∷ others) octets (unsigned-shortest first others low shortest))
+    (λ low. ap number_content (twos_value-low first others low)
+    ∙ magnitude-number (first ∷ others) octets (unsigned-shortest first others low shortest))
     (λ high.
     ap number_content (twos_value-high first others high) ∙
-    (ap complement (magnitude-number (complement (first ∷ others)) (octets-complement (first ∷ others) octets) (complement-shortest first others octets high shortest)) ∙
+    (ap complement (magnitude-number (complement (first ∷ others)) (octets-complement (first ∷ others) octets)
+    (complement-shortest first others octets high shortest)) ∙
     complement-complement (first ∷ others) octets))
     (cases_lt first 128)
 
 -- ---- what the code keeps
 
 -- one octet is pushed, in the order from the last to the first
-pub magnitude_more : (n rest : ℕ) (octets pushed : List ℕ) → 128 ≤ rest → magnitude n ≡ magnitude rest ++ reverse octets → pushed ≡ octets ++ rest % 256 ∷ [] → magnitude n ≡ magnitude (rest / 256) ++ reverse pushed
+pub magnitude_more : (n rest : ℕ) (octets pushed : List ℕ) → 128 ≤ rest → magnitude n ≡ magnitude rest ++ reverse octets
+    → pushed ≡ octets ++ rest % 256 ∷ [] → magnitude n ≡ magnitude (rest / 256) ++ reverse pushed
 magnitude_more n rest octets pushed high so_far push =
     so_far ∙
     (ap (λ front. front ++ reverse octets) (magnitude_step rest high) ∙
     (append_assoc (magnitude (rest / 256)) (rest % 256 ∷ []) (reverse octets) ∙
     ap (λ back. magnitude (rest / 256) ++ back) (sym (ap reverse push ∙ reverse-append octets (rest % 256 ∷ [])))))
 
-pub magnitude_last : (n rest : ℕ) (octets pushed : List ℕ) → rest < 128 → magnitude n ≡ magnitude rest ++ reverse octets → pushed ≡ octets ++ rest ∷ [] → reverse pushed ≡ magnitude n
+pub magnitude_last : (n rest : ℕ) (octets pushed : List ℕ) → rest < 128 → magnitude n ≡ magnitude rest ++ reverse octets
+    → pushed ≡ octets ++ rest ∷ [] → reverse pushed ≡ magnitude n
 magnitude_last n rest octets pushed low so_far push =
-    ap reverse push ∙ (reverse-append octets (rest ∷ []) ∙ sym (so_far ∙ ap (λ front. front ++ reverse octets) (magnitude_small rest low)))
+    ap reverse push ∙ (reverse-append octets (rest ∷ [])
+    ∙ sym (so_far ∙ ap (λ front. front ++ reverse octets) (magnitude_small rest low)))
 
-pub is_shortest_decides : (os : List ℕ) (b : Bool) → ((i : ℕ) → get_or os i 0 < 256) → b ≡ is_shortest os → IsTrue b ↔ (number_content (twos_value os) ≡ os)
-is_shortest_decides os b octets same =
-    (λ yes'. number_content-twos_value os (all-from_places 256 os (λ i _. octets i)) (sym same ∙ yes'), λ e. same ∙ (ap is_shortest (sym e) ∙ is_shortest-number_content (twos_value os)))
+pub is_shortest_decides : (os : List ℕ) (b : Bool) → ((i : ℕ) → get_or os i 0 < 256) → b ≡ is_shortest os
+    → IsTrue b ↔ (number_content (twos_value os) ≡ os)
+is_shortest_decides os b octets same = (
+  λ yes'. number_content-twos_value os (all-from_places 256 os (λ i _. octets i)) (sym same ∙ yes'),
+  λ e. same
+      ∙ (ap is_shortest (sym e) ∙ is_shortest-number_content (twos_value os)),
+)
 
 pub IsNumberContent-from : (z : ℤ) (os : List ℕ) → os ≡ number_content z → IsNumberContent z os
 IsNumberContent-from z os e = subst (IsNumberContent z) (sym e) (IsNumberContent-number_content z)
 
-not_negative : (z : ℤ) (n : ℕ) (os : List ℕ) → lt_z z (pos 0) ≡ false → n ≡ nat_abs z → os ≡ magnitude n → os ≡ number_content z
+not_negative : (z : ℤ) (n : ℕ) (os : List ℕ) → lt_z z (pos 0) ≡ false → n ≡ nat_abs z → os ≡ magnitude n
+    → os ≡ number_content z
 unfolding number_content
 not_negative (pos m) n os sign size e = e ∙ ap magnitude size
 not_negative (negsuc m) n os sign size e = absurd (true≢false sign)
 
 -- z is seen by the code as seen
-pub content_not_negative : (z seen : ℤ) (n : ℕ) (os : List ℕ) → seen ≡ z → lt_z seen (pos 0) ≡ false → n ≡ nat_abs seen → os ≡ magnitude n → os ≡ number_content z
+pub content_not_negative : (z seen : ℤ) (n : ℕ) (os : List ℕ) → seen ≡ z → lt_z seen (pos 0) ≡ false → n ≡ nat_abs seen
+    → os ≡ magnitude n → os ≡ number_content z
 content_not_negative z seen n os same sign size e = not_negative seen n os sign size e ∙ ap number_content same
 
-negative : (z : ℤ) (n : ℕ) (os : List ℕ) → lt_z z (pos 0) ≡ true → n ≡ nat_abs z → os ≡ complement (magnitude (n - 1)) → os ≡ number_content z
+negative : (z : ℤ) (n : ℕ) (os : List ℕ) → lt_z z (pos 0) ≡ true → n ≡ nat_abs z → os ≡ complement (magnitude (n - 1))
+    → os ≡ number_content z
 unfolding number_content
 negative (pos m) n os sign size e = absurd (omega (arith, ltb-true m 0 sign))
 negative (negsuc m) n os sign size e =
     let same : n - 1 ≡ m = omega (arith, size) in
     e ∙ ap (λ k. complement (magnitude k)) same
 
-pub content_negative : (z seen : ℤ) (n len : ℕ) (items now new : List ℕ) → seen ≡ z → lt_z seen (pos 0) ≡ true → n ≡ nat_abs seen → items ≡ magnitude (n - 1) → now ≡ items → new ≡ complement now → len ≡ length items → take len (new ++ drop (length new) items) ≡ number_content z
+pub content_negative : (z seen : ℤ) (n len : ℕ) (items now new : List ℕ) → seen ≡ z → lt_z seen (pos 0) ≡ true
+    → n ≡ nat_abs seen → items ≡ magnitude (n - 1) → now ≡ items → new ≡ complement now → len ≡ length items
+    → take len (new ++ drop (length new) items) ≡ number_content z
 content_negative z seen n len items now new same sign size e lent turned long =
-    take_at new (drop (length new) items) len (ap length turned ∙ (length-map now (λ octet. 255 - octet) ∙ (ap length lent ∙ sym long))) ∙
+    take_at new (drop (length new) items) len
+    (ap length turned ∙ (length-map now (λ octet. 255 - octet) ∙ (ap length lent ∙ sym long))) ∙
     (negative seen n new sign size (turned ∙ (ap complement lent ∙ ap complement e)) ∙ ap number_content same)

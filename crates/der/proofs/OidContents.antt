@@ -1,16 +1,21 @@
 -- The contents octets of object identifiers: they are read as the subidentifiers that they were written from.
-use Rattle.std.proofs.Common.{◌≡◌, ℕ, zero, suc, ◌+◌, ◌-◌, ◌*◌, ◌/◌, ◌%◌, ◌^◌, ◌<◌, ◌≤◌, Bool, true, false, ◌&&◌, cond, ltb, eqb, leb, List, [], ◌∷◌, ◌++◌, length, get_or, map, Some, None, refl, sym, ap, subst, ◌∙◌, ◌⊎◌, inl, inr, ⊎_elim, arith, append_assoc, Decides}
+use Rattle.std.proofs.Common.{◌≡◌, ℕ, zero, suc, ◌+◌, ◌-◌, ◌*◌, ◌/◌, ◌%◌, ◌^◌, ◌<◌, ◌≤◌, Bool, true, false, ◌&&◌, cond}
+use Rattle.std.proofs.Common.{ltb, eqb, leb, List, [], ◌∷◌, ◌++◌, length, get_or, map, Some, None, refl, sym, ap, subst}
+use Rattle.std.proofs.Common.{◌∙◌, ◌⊎◌, inl, inr, ⊎_elim, arith, append_assoc, Decides}
 use Rattle.std.specs.Int.Digits.{digits_of, number_from_digits, number_from_digits_after}
 use Rattle.std.specs.List.{AllByRecursion, list_all}
 use Rattle.std.specs.Str.{bytes_eq}
-use Rattle.std.proofs.lemmas.Bool.{cases_lt, lt-ltb, le-ltb, ltb-true, cond-true, cond-false, eqb-true, and_parts, leb-true, le-leb, false_from_ne_true}
+use Rattle.std.proofs.lemmas.Bool.{cases_lt, lt-ltb, le-ltb, ltb-true, cond-true, cond-false, eqb-true, and_parts}
+use Rattle.std.proofs.lemmas.Bool.{leb-true, le-leb, false_from_ne_true}
 use Rattle.std.proofs.lemmas.Bool.Decides.{Decides-and, Decides-ltb, same_from_decides}
-use Rattle.std.proofs.lemmas.Int.Digits.{digits_of_step, first_digits_of, number_digits_of, all_below_base_digits_of, number_after_ge, length-digits_of-le}
+use Rattle.std.proofs.lemmas.Int.Digits.{digits_of_step, first_digits_of, number_digits_of, all_below_base_digits_of}
+use Rattle.std.proofs.lemmas.Int.Digits.{number_after_ge, length-digits_of-le}
 use Rattle.std.proofs.lemmas.List.{append-nil, map-append, length-map, length_push, length-append}
 use Rattle.std.proofs.lemmas.Nat.{div-mul-add, mod-mul-add, div-add-mod'}
 use Rattle.std.proofs.lemmas.Slice.Eq.{bytes_eq-Decides}
 use Rattle.der.specs.Node.{AreOctets}
-use Rattle.der.specs.ObjectIdentifier.{IsOid, ReadsAsOid, with_continuation, subidentifier_octets, oid_content, subidentifiers_after, subidentifiers_of, is_oid, oid_of}
+use Rattle.der.specs.ObjectIdentifier.{IsOid, ReadsAsOid, with_continuation, subidentifier_octets, oid_content}
+use Rattle.der.specs.ObjectIdentifier.{subidentifiers_after, subidentifiers_of, is_oid, oid_of}
 use Rattle.der.proofs.Digits.{digits_of_push}
 use Rattle.der.proofs.DigitsElements.{all-append, all-map}
 
@@ -36,7 +41,8 @@ subidentifier_octets-split n =
     sym (ap (λ k. continued (digits_of 128 k) ++ n % 128 ∷ []) none ∙ ap (λ k. k ∷ []) same))
     (λ high.
     cond-false (ltb n 128) (n ∷ []) (with_continuation (digits_of 128 n)) (le-ltb n 128 high) ∙
-    (ap with_continuation (digits_of_step 128 n (omega arith) (omega arith)) ∙ with_continuation-push (digits_of 128 (n / 128)) (n % 128)))
+    (ap with_continuation (digits_of_step 128 n (omega arith) (omega arith))
+    ∙ with_continuation-push (digits_of 128 (n / 128)) (n % 128)))
     (cases_lt n 128)
 
 pub some-subidentifier_octets : (n : ℕ) → 0 < length (subidentifier_octets n)
@@ -47,7 +53,8 @@ octets-subidentifier_octets : (n : ℕ) → AreOctets (subidentifier_octets n)
 octets-subidentifier_octets n =
     subst AreOctets (sym (subidentifier_octets-split n))
     (all-append (λ octet. octet < 256) (continued (digits_of 128 (n / 128))) (n % 128 ∷ [])
-    (all-map (λ d. d < 128) (λ octet. octet < 256) (λ d. 128 + d) (digits_of 128 (n / 128)) (λ d below. omega arith) (all_below_base_digits_of 128 (n / 128) (omega arith))) (omega arith, tt))
+    (all-map (λ d. d < 128) (λ octet. octet < 256) (λ d. 128 + d) (digits_of 128 (n / 128)) (λ d below. omega arith)
+    (all_below_base_digits_of 128 (n / 128) (omega arith))) (omega arith, tt))
 
 length-subidentifier_octets : (n : ℕ) → n < 2 ^ 128 → length (subidentifier_octets n) ≤ 19
 length-subidentifier_octets n small =
@@ -61,41 +68,54 @@ length-subidentifier_octets n small =
 
 -- ---- reading
 
-pub subidentifiers_after-last : (n octet : ℕ) (octets : List ℕ) → octet < 128 → subidentifiers_after n (octet ∷ octets) ≡ (n * 128 + octet) ∷ subidentifiers_after 0 octets
+pub subidentifiers_after-last : (n octet : ℕ) (octets : List ℕ) → octet < 128
+    → subidentifiers_after n (octet ∷ octets) ≡ (n * 128 + octet) ∷ subidentifiers_after 0 octets
 subidentifiers_after-last n octet octets low = cond-true (ltb octet 128) _ _ (lt-ltb octet 128 low)
 
-pub subidentifiers_after-more : (n octet : ℕ) (octets : List ℕ) → 128 ≤ octet → subidentifiers_after n (octet ∷ octets) ≡ subidentifiers_after (n * 128 + (octet - 128)) octets
+pub subidentifiers_after-more : (n octet : ℕ) (octets : List ℕ) → 128 ≤ octet
+    → subidentifiers_after n (octet ∷ octets) ≡ subidentifiers_after (n * 128 + (octet - 128)) octets
 subidentifiers_after-more n octet octets high = cond-false (ltb octet 128) _ _ (le-ltb octet 128 high)
 
-subidentifiers_after-continued : (n : ℕ) (ds : List ℕ) (x : ℕ) (rest : List ℕ) → x < 128 → subidentifiers_after n (continued ds ++ (x ∷ rest)) ≡ (number_from_digits_after 128 n ds * 128 + x) ∷ subidentifiers_after 0 rest
+subidentifiers_after-continued : (n : ℕ) (ds : List ℕ) (x : ℕ) (rest : List ℕ) → x < 128
+    → subidentifiers_after n (continued ds ++ (x ∷ rest))
+    ≡ (number_from_digits_after 128 n ds * 128 + x) ∷ subidentifiers_after 0 rest
 subidentifiers_after-continued n [] x rest low = subidentifiers_after-last n x rest low
 subidentifiers_after-continued n (d ∷ ds) x rest low =
     let same : n * 128 + (128 + d - 128) ≡ n * 128 + d = omega arith in
     subidentifiers_after-more n (128 + d) (continued ds ++ (x ∷ rest)) (omega arith) ∙
-    (ap (λ k. subidentifiers_after k (continued ds ++ (x ∷ rest))) same ∙ subidentifiers_after-continued (n * 128 + d) ds x rest low)
+    (ap (λ k. subidentifiers_after k (continued ds ++ (x ∷ rest))) same
+    ∙ subidentifiers_after-continued (n * 128 + d) ds x rest low)
 
-front_of : (n : ℕ) (rest : List ℕ) → subidentifier_octets n ++ rest ≡ continued (digits_of 128 (n / 128)) ++ (n % 128 ∷ rest)
+front_of : (n : ℕ) (rest : List ℕ) → subidentifier_octets n ++ rest ≡ continued (digits_of 128 (n / 128))
+    ++ (n % 128 ∷ rest)
 front_of n rest =
-    ap (λ front. front ++ rest) (subidentifier_octets-split n) ∙ append_assoc (continued (digits_of 128 (n / 128))) (n % 128 ∷ []) rest
+    ap (λ front. front ++ rest) (subidentifier_octets-split n)
+    ∙ append_assoc (continued (digits_of 128 (n / 128))) (n % 128 ∷ []) rest
 
-pub subidentifiers_after-subidentifier : (n : ℕ) (rest : List ℕ) → subidentifiers_after 0 (subidentifier_octets n ++ rest) ≡ n ∷ subidentifiers_after 0 rest
+pub subidentifiers_after-subidentifier : (n : ℕ) (rest : List ℕ)
+    → subidentifiers_after 0 (subidentifier_octets n ++ rest) ≡ n ∷ subidentifiers_after 0 rest
 subidentifiers_after-subidentifier n rest =
     let low : n % 128 < 128 = omega arith in
-    let whole : number_from_digits 128 (digits_of 128 (n / 128)) * 128 + n % 128 ≡ n = ap (λ k. k * 128 + n % 128) (number_digits_of 128 (n / 128) (omega arith)) ∙ div-add-mod' n 128 in
+    let whole : number_from_digits 128 (digits_of 128 (n / 128)) * 128 + n % 128 ≡ n =
+    ap (λ k. k * 128 + n % 128) (number_digits_of 128 (n / 128) (omega arith)) ∙ div-add-mod' n 128 in
     ap (subidentifiers_after 0) (front_of n rest) ∙
-    (subidentifiers_after-continued 0 (digits_of 128 (n / 128)) (n % 128) rest low ∙ ap (λ k. k ∷ subidentifiers_after 0 rest) whole)
+    (subidentifiers_after-continued 0 (digits_of 128 (n / 128)) (n % 128) rest low
+    ∙ ap (λ k. k ∷ subidentifiers_after 0 rest) whole)
 
-subidentifiers_after-content : (ss rest : List ℕ) → subidentifiers_after 0 (oid_content ss ++ rest) ≡ ss ++ subidentifiers_after 0 rest
+subidentifiers_after-content : (ss rest : List ℕ)
+    → subidentifiers_after 0 (oid_content ss ++ rest) ≡ ss ++ subidentifiers_after 0 rest
 subidentifiers_after-content [] rest = refl
 subidentifiers_after-content (s ∷ ss) rest =
     ap (subidentifiers_after 0) (append_assoc (subidentifier_octets s) (oid_content ss) rest) ∙
-    (subidentifiers_after-subidentifier s (oid_content ss ++ rest) ∙ ap (λ others. s ∷ others) (subidentifiers_after-content ss rest))
+    (subidentifiers_after-subidentifier s (oid_content ss ++ rest)
+    ∙ ap (λ others. s ∷ others) (subidentifiers_after-content ss rest))
 
 -- what was written is read
 pub subidentifiers_of-content : (ss : List ℕ) → subidentifiers_of (oid_content ss) ≡ ss
 unfolding subidentifiers_of
 subidentifiers_of-content ss =
-    ap (subidentifiers_after 0) (sym (append-nil (oid_content ss))) ∙ (subidentifiers_after-content ss [] ∙ append-nil ss)
+    ap (subidentifiers_after 0) (sym (append-nil (oid_content ss)))
+    ∙ (subidentifiers_after-content ss [] ∙ append-nil ss)
 
 -- ---- which octets are contents
 
@@ -103,7 +123,8 @@ subidentifiers_of-content ss =
 abbrev pub fits : ℕ → List ℕ → Bool
 fits n [] = eqb n 0
 fits n (octet ∷ octets) =
-    ltb n (2 ^ 121) && cond (ltb octet 128) (fits 0 octets) (ltb 0 (n * 128 + (octet - 128)) && fits (n * 128 + (octet - 128)) octets)
+    ltb n (2 ^ 121) && cond (ltb octet 128) (fits 0 octets)
+    (ltb 0 (n * 128 + (octet - 128)) && fits (n * 128 + (octet - 128)) octets)
 
 pub fits-last : (n octet : ℕ) (octets : List ℕ) → n < 2 ^ 121 → octet < 128 → fits n (octet ∷ octets) ≡ fits 0 octets
 fits-last n octet octets small low =
@@ -111,7 +132,8 @@ fits-last n octet octets small low =
     let b = lt-ltb octet 128 low in
     rw (a, b) refl
 
-pub fits-more : (n octet : ℕ) (octets : List ℕ) → n < 2 ^ 121 → 128 ≤ octet → 0 < n * 128 + (octet - 128) → fits n (octet ∷ octets) ≡ fits (n * 128 + (octet - 128)) octets
+pub fits-more : (n octet : ℕ) (octets : List ℕ) → n < 2 ^ 121 → 128 ≤ octet → 0 < n * 128 + (octet - 128)
+    → fits n (octet ∷ octets) ≡ fits (n * 128 + (octet - 128)) octets
 fits-more n octet octets small high lead =
     let a = lt-ltb n (2 ^ 121) small in
     let b = le-ltb octet 128 high in
@@ -121,7 +143,8 @@ fits-more n octet octets small high lead =
 pub fits-large : (n octet : ℕ) (octets : List ℕ) → 2 ^ 121 ≤ n → fits n (octet ∷ octets) ≡ false
 fits-large n octet octets large = rw (le-ltb n (2 ^ 121) large) refl
 
-pub fits-padded : (n octet : ℕ) (octets : List ℕ) → n < 2 ^ 121 → 128 ≤ octet → n * 128 + (octet - 128) ≡ 0 → fits n (octet ∷ octets) ≡ false
+pub fits-padded : (n octet : ℕ) (octets : List ℕ) → n < 2 ^ 121 → 128 ≤ octet → n * 128 + (octet - 128) ≡ 0
+    → fits n (octet ∷ octets) ≡ false
 fits-padded n octet octets small high none =
     let a = lt-ltb n (2 ^ 121) small in
     let b = le-ltb octet 128 high in
@@ -135,7 +158,8 @@ Leads n ds = (0 < n) ⊎ (0 < length ds → 0 < get_or ds 0 0)
 leads_on : (n d : ℕ) (ds : List ℕ) → Leads n (d ∷ ds) → 0 < n * 128 + d
 leads_on n d ds lead = ⊎_elim (λ some. omega arith) (λ first. omega (arith, first (omega arith))) lead
 
-fits-continued : (n : ℕ) (ds : List ℕ) (x : ℕ) (rest : List ℕ) → x < 128 → number_from_digits_after 128 n ds < 2 ^ 121 → Leads n ds → fits n (continued ds ++ (x ∷ rest)) ≡ fits 0 rest
+fits-continued : (n : ℕ) (ds : List ℕ) (x : ℕ) (rest : List ℕ) → x < 128 → number_from_digits_after 128 n ds < 2 ^ 121
+    → Leads n ds → fits n (continued ds ++ (x ∷ rest)) ≡ fits 0 rest
 fits-continued n [] x rest low small lead = fits-last n x rest small low
 fits-continued n (d ∷ ds) x rest low small lead =
     let same : n * 128 + (128 + d - 128) ≡ n * 128 + d = omega arith in
@@ -151,8 +175,10 @@ lead_of (suc m) some = first_digits_of 128 (suc m) (omega arith) (omega arith)
 fits-subidentifier : (n : ℕ) (rest : List ℕ) → n < 2 ^ 128 → fits 0 (subidentifier_octets n ++ rest) ≡ fits 0 rest
 fits-subidentifier n rest small =
     let low : n % 128 < 128 = omega arith in
-    let high : number_from_digits 128 (digits_of 128 (n / 128)) < 2 ^ 121 = omega (arith, number_digits_of 128 (n / 128) (omega arith)) in
-    ap (fits 0) (front_of n rest) ∙ fits-continued 0 (digits_of 128 (n / 128)) (n % 128) rest low high (inr (lead_of (n / 128)))
+    let high : number_from_digits 128 (digits_of 128 (n / 128)) < 2 ^ 121 =
+    omega (arith, number_digits_of 128 (n / 128) (omega arith)) in
+    ap (fits 0) (front_of n rest) ∙ fits-continued 0 (digits_of 128 (n / 128)) (n % 128) rest low high
+    (inr (lead_of (n / 128)))
 
 -- below 2 ^ 128, each of them
 abbrev pub AreSmall : List ℕ → Type 0
@@ -169,32 +195,44 @@ fits-content ss small = ap (fits 0) (sym (append-nil (oid_content ss))) ∙ fits
 
 -- what was read is what was written
 
-pub fits_parts : (n octet : ℕ) (octets : List ℕ) → fits n (octet ∷ octets) ≡ true → (n < 2 ^ 121) × (cond (ltb octet 128) (fits 0 octets) (ltb 0 (n * 128 + (octet - 128)) && fits (n * 128 + (octet - 128)) octets) ≡ true)
+pub fits_parts : (n octet : ℕ) (octets : List ℕ) → fits n (octet ∷ octets) ≡ true → (n < 2 ^ 121)
+    × (cond (ltb octet 128) (fits 0 octets) (ltb 0 (n * 128 + (octet - 128)) && fits (n * 128 + (octet - 128)) octets)
+    ≡ true)
 fits_parts n octet octets h =
-    let parts = and_parts (ltb n (2 ^ 121)) (cond (ltb octet 128) (fits 0 octets) (ltb 0 (n * 128 + (octet - 128)) && fits (n * 128 + (octet - 128)) octets)) h in
+    let parts = and_parts (ltb n (2 ^ 121)) (cond (ltb octet 128) (fits 0 octets)
+    (ltb 0 (n * 128 + (octet - 128)) && fits (n * 128 + (octet - 128)) octets)) h in
     (ltb-true n (2 ^ 121) parts.0, parts.1)
 
-pub fits_parts_more : (n octet : ℕ) (octets : List ℕ) → 128 ≤ octet → fits n (octet ∷ octets) ≡ true → (0 < n * 128 + (octet - 128)) × (fits (n * 128 + (octet - 128)) octets ≡ true)
+pub fits_parts_more : (n octet : ℕ) (octets : List ℕ) → 128 ≤ octet → fits n (octet ∷ octets) ≡ true
+    → (0 < n * 128 + (octet - 128)) × (fits (n * 128 + (octet - 128)) octets ≡ true)
 fits_parts_more n octet octets high h =
-    let parts = and_parts (ltb 0 (n * 128 + (octet - 128))) (fits (n * 128 + (octet - 128)) octets) (sym (cond-false (ltb octet 128) _ _ (le-ltb octet 128 high)) ∙ (fits_parts n octet octets h).1) in
+    let parts = and_parts (ltb 0 (n * 128 + (octet - 128))) (fits (n * 128 + (octet - 128)) octets)
+    (sym (cond-false (ltb octet 128) _ _ (le-ltb octet 128 high)) ∙ (fits_parts n octet octets h).1) in
     (ltb-true 0 (n * 128 + (octet - 128)) parts.0, parts.1)
 
-pub fits_parts_last : (n octet : ℕ) (octets : List ℕ) → octet < 128 → fits n (octet ∷ octets) ≡ true → fits 0 octets ≡ true
-fits_parts_last n octet octets low h = sym (cond-true (ltb octet 128) _ _ (lt-ltb octet 128 low)) ∙ (fits_parts n octet octets h).1
+pub fits_parts_last : (n octet : ℕ) (octets : List ℕ) → octet < 128 → fits n (octet ∷ octets) ≡ true
+    → fits 0 octets ≡ true
+fits_parts_last n octet octets low h = sym (cond-true (ltb octet 128) _ _ (lt-ltb octet 128 low))
+    ∙ (fits_parts n octet octets h).1
 
-one_more : (n octet : ℕ) → 128 ≤ octet → octet < 256 → 0 < n * 128 + (octet - 128) → continued (digits_of 128 (n * 128 + (octet - 128))) ≡ continued (digits_of 128 n) ++ octet ∷ []
+one_more : (n octet : ℕ) → 128 ≤ octet → octet < 256 → 0 < n * 128 + (octet - 128)
+    → continued (digits_of 128 (n * 128 + (octet - 128))) ≡ continued (digits_of 128 n) ++ octet ∷ []
 one_more n octet high below some =
     let same : 128 + (octet - 128) ≡ octet = omega arith in
     ap continued (digits_of_push 128 n (octet - 128) (omega arith) (omega arith) some) ∙
-    (map-append (λ d. 128 + d) (digits_of 128 n) ((octet - 128) ∷ []) ∙ ap (λ k. continued (digits_of 128 n) ++ k ∷ []) same)
+    (map-append (λ d. 128 + d) (digits_of 128 n) ((octet - 128) ∷ [])
+    ∙ ap (λ k. continued (digits_of 128 n) ++ k ∷ []) same)
 
-last_of : (n octet : ℕ) → octet < 128 → subidentifier_octets (n * 128 + octet) ≡ continued (digits_of 128 n) ++ octet ∷ []
+last_of : (n octet : ℕ) → octet < 128
+    → subidentifier_octets (n * 128 + octet) ≡ continued (digits_of 128 n) ++ octet ∷ []
 last_of n octet low =
     subidentifier_octets-split (n * 128 + octet) ∙
     (ap (λ k. continued (digits_of 128 k) ++ (n * 128 + octet) % 128 ∷ []) (div-mul-add n 128 octet low) ∙
     ap (λ k. continued (digits_of 128 n) ++ k ∷ []) (mod-mul-add n 128 octet low))
 
-content-after : (n : ℕ) (os : List ℕ) → AreOctets os → fits n os ≡ true → (oid_content (subidentifiers_after n os) ≡ continued (digits_of 128 n) ++ os) × AreSmall (subidentifiers_after n os)
+content-after : (n : ℕ) (os : List ℕ) → AreOctets os → fits n os ≡ true
+    → (oid_content (subidentifiers_after n os) ≡ continued (digits_of 128 n) ++ os)
+    × AreSmall (subidentifiers_after n os)
 content-after n [] octets h = (sym (ap (λ k. continued (digits_of 128 k) ++ []) (eqb-true n 0 h)), tt)
 content-after n (octet ∷ os) octets h =
     ⊎_elim
@@ -220,7 +258,8 @@ content-after n (octet ∷ os) octets h =
 
 -- ---- the test
 
-pub ReadsAsOid-from_fits : (os : List ℕ) → AreOctets os → fits 0 os ≡ true → 1 ≤ length (subidentifiers_of os) → length (subidentifiers_of os) ≤ 32 → ReadsAsOid os
+pub ReadsAsOid-from_fits : (os : List ℕ) → AreOctets os → fits 0 os ≡ true → 1 ≤ length (subidentifiers_of os)
+    → length (subidentifiers_of os) ≤ 32 → ReadsAsOid os
 unfolding subidentifiers_of
 ReadsAsOid-from_fits os octets h some few =
     let rest = content-after 0 os octets h in
@@ -241,17 +280,21 @@ leb-decides m n = (leb-true m n, le-leb m n)
 
 small_decides : (ss : List ℕ) → Decides (list_all (λ s. ltb s (2 ^ 128)) ss) (AreSmall ss)
 small_decides [] = (λ _. tt, λ _. refl)
-small_decides (s ∷ ss) = Decides-and (ltb s (2 ^ 128)) (list_all (λ s. ltb s (2 ^ 128)) ss) (Decides-ltb s (2 ^ 128)) (small_decides ss)
+small_decides (s ∷ ss) = Decides-and (ltb s (2 ^ 128)) (list_all (λ s. ltb s (2 ^ 128)) ss) (Decides-ltb s (2 ^ 128))
+    (small_decides ss)
 
 is_oid-decides : (ss : List ℕ) → Decides (is_oid ss) (IsOid ss)
 is_oid-decides ss =
     let both = Decides-and (leb 1 (length ss) && leb (length ss) 32) (list_all (λ s. ltb s (2 ^ 128)) ss)
-    (Decides-and (leb 1 (length ss)) (leb (length ss) 32) (leb-decides 1 (length ss)) (leb-decides (length ss) 32)) (small_decides ss) in
+    (Decides-and (leb 1 (length ss)) (leb (length ss) 32) (leb-decides 1 (length ss)) (leb-decides (length ss) 32))
+    (small_decides ss) in
     (λ t. let p = both.0 t in record { some = p.0.0; few = p.0.1; small = p.1 }, λ h. both.1 ((h.some, h.few), h.small))
 
-oid_of-decides : (os : List ℕ) → Decides (is_oid (subidentifiers_of os) && bytes_eq (oid_content (subidentifiers_of os)) os) (ReadsAsOid os)
+oid_of-decides : (os : List ℕ) → Decides (is_oid (subidentifiers_of os) && bytes_eq
+    (oid_content (subidentifiers_of os)) os) (ReadsAsOid os)
 oid_of-decides os =
-    let both = Decides-and (is_oid (subidentifiers_of os)) (bytes_eq (oid_content (subidentifiers_of os)) os) (is_oid-decides (subidentifiers_of os)) (bytes_eq-Decides (oid_content (subidentifiers_of os)) os) in
+    let both = Decides-and (is_oid (subidentifiers_of os)) (bytes_eq (oid_content (subidentifiers_of os)) os)
+    (is_oid-decides (subidentifiers_of os)) (bytes_eq-Decides (oid_content (subidentifiers_of os)) os) in
     (λ t. let p = both.0 t in record { oid = p.0; same = p.1 }, λ h. both.1 (h.oid, h.same))
 
 pub oid_of-contents : (os : List ℕ) → ReadsAsOid os → oid_of os ≡ Some (subidentifiers_of os)
@@ -263,9 +306,11 @@ unfolding oid_of
 oid_of-others os h = cond-false _ _ _ (false_from_ne_true _ (λ t. h ((oid_of-decides os).0 t)))
 
 pub oid_of-content : (ss : List ℕ) → IsOid ss → oid_of (oid_content ss) ≡ Some ss
-oid_of-content ss h = oid_of-contents (oid_content ss) (ReadsAsOid-content ss h) ∙ ap Some (subidentifiers_of-content ss)
+oid_of-content ss h = oid_of-contents (oid_content ss) (ReadsAsOid-content ss h)
+    ∙ ap Some (subidentifiers_of-content ss)
 
-is_from_some : (os ss : List ℕ) (b : Bool) → Decides b (ReadsAsOid os) → cond b (Some (subidentifiers_of os)) None ≡ Some ss → IsOid ss × (os ≡ oid_content ss)
+is_from_some : (os ss : List ℕ) (b : Bool) → Decides b (ReadsAsOid os)
+    → cond b (Some (subidentifiers_of os)) None ≡ Some ss → IsOid ss × (os ≡ oid_content ss)
 is_from_some os ss true decided e =
     let h = decided.0 refl in
     let same : subidentifiers_of os ≡ ss = cc in
@@ -283,31 +328,44 @@ same_from_content a b e = sym (subidentifiers_of-content a) ∙ (ap subidentifie
 
 pub octets-oid_content : (ss : List ℕ) → AreOctets (oid_content ss)
 octets-oid_content [] = tt
-octets-oid_content (s ∷ ss) = all-append (λ octet. octet < 256) (subidentifier_octets s) (oid_content ss) (octets-subidentifier_octets s) (octets-oid_content ss)
+octets-oid_content (s ∷ ss) = all-append (λ octet. octet < 256) (subidentifier_octets s) (oid_content ss)
+    (octets-subidentifier_octets s) (octets-oid_content ss)
 
 length-content : (ss : List ℕ) → AreSmall ss → length (oid_content ss) ≤ 19 * length ss
 length-content [] small = omega arith
 length-content (s ∷ ss) small =
-    omega (arith, length-append (subidentifier_octets s) (oid_content ss), length-subidentifier_octets s small.0, length-content ss small.1)
+    omega (
+      arith,
+      length-append (subidentifier_octets s) (oid_content ss),
+      length-subidentifier_octets s small.0,
+      length-content ss small.1,
+    )
 
 pub length-oid_content : (ss : List ℕ) → IsOid ss → length (oid_content ss) ≤ 19 * 32
 length-oid_content ss h = omega (arith, length-content ss h.small, h.few)
 
 some_content : (ss : List ℕ) → 1 ≤ length ss → 0 < length (oid_content ss)
 some_content [] some = absurd (omega (arith, some))
-some_content (s ∷ ss) some = omega (arith, length-append (subidentifier_octets s) (oid_content ss), some-subidentifier_octets s)
+some_content (s ∷ ss) some = omega (
+  arith,
+  length-append (subidentifier_octets s) (oid_content ss),
+  some-subidentifier_octets s,
+)
 
 pub some-oid_content : (ss : List ℕ) → IsOid ss → 0 < length (oid_content ss)
 some-oid_content ss h = some_content ss h.some
 
 -- comparing contents is comparing subidentifiers
-pub same_answer : (a b x y : List ℕ) (r : Bool) → x ≡ oid_content a → y ≡ oid_content b → r ≡ bytes_eq x y → r ≡ bytes_eq a b
+pub same_answer : (a b x y : List ℕ) (r : Bool) → x ≡ oid_content a → y ≡ oid_content b → r ≡ bytes_eq x y
+    → r ≡ bytes_eq a b
 same_answer a b x y r p q e =
     let at_contents = bytes_eq-Decides x y in
     let at_values = bytes_eq-Decides a b in
     e ∙
-    same_from_decides {P = a ≡ b} (bytes_eq x y) (bytes_eq a b)
-    (λ t. same_from_content a b (sym p ∙ (at_contents.0 t ∙ q)), λ same. at_contents.1 (p ∙ (ap oid_content same ∙ sym q)))
+    same_from_decides {P = a ≡ b} (bytes_eq x y) (bytes_eq a b) (
+      λ t. same_from_content a b (sym p ∙ (at_contents.0 t ∙ q)),
+      λ same. at_contents.1 (p ∙ (ap oid_content same ∙ sym q)),
+    )
     at_values
 
 pub ReadsAsOid-written : (os ss : List ℕ) → IsOid ss → os ≡ oid_content ss → ReadsAsOid os

@@ -1,42 +1,54 @@
 -- Texts of object identifiers, written and read.
-use Rattle.std.proofs.Common.{◌≡◌, ℕ, ◌+◌, ◌-◌, ◌*◌, ◌/◌, ◌%◌, ◌^◌, ◌<◌, ◌≤◌, List, [], ◌∷◌, ◌++◌, refl, sym, ap, subst, ◌∙◌, inl, lit<, arith, append_assoc, Result, Ok, Err, OnOk, if◌then◌else◌}
+use Rattle.std.proofs.Common.{◌≡◌, ℕ, ◌+◌, ◌-◌, ◌*◌, ◌/◌, ◌%◌, ◌^◌, ◌<◌, ◌≤◌, List, [], ◌∷◌, ◌++◌, refl, sym, ap, subst}
+use Rattle.std.proofs.Common.{◌∙◌, inl, lit<, arith, append_assoc, Result, Ok, Err, OnOk, if◌then◌else◌}
 use Rattle.std.specs.Result.{is_ok}
 use Rattle.std.proofs.lemmas.Bool.Decides.{nat_tests}
 use Rattle.std.specs.Int.Digits.{digits_of}
 use Rattle.std.specs.List.{flat_map}
 use Rattle.std.proofs.lemmas.Int.Digits.{digits_of_step}
 use Rattle.std.proofs.lemmas.List.{map-append}
-use Rattle.der.specs.ObjectIdentifier.{IsOid, ReadsAsOid, subidentifiers_of, subidentifier_octets, oid_content, decimal, dotted, first_arc, oid_text, AreOthers, IsNumberAt, IsDottedNumberAt, BeginsWithoutDigit}
-use Rattle.der.proofs.OidContents.{continued, subidentifier_octets-split, AreSmall, ReadsAsOid-written, subidentifiers_of-written}
+use Rattle.der.specs.ObjectIdentifier.{IsOid, ReadsAsOid, subidentifiers_of, subidentifier_octets, oid_content, decimal}
+use Rattle.der.specs.ObjectIdentifier.{dotted, first_arc, oid_text, AreOthers, IsNumberAt, IsDottedNumberAt}
+use Rattle.der.specs.ObjectIdentifier.{BeginsWithoutDigit}
+use Rattle.der.proofs.OidContents.{continued, subidentifier_octets-split, AreSmall, ReadsAsOid-written}
+use Rattle.der.proofs.OidContents.{subidentifiers_of-written}
 use Rattle.der.proofs.OidNumbers.{same_number}
 
 -- ---- octets pushed
 
-pub continued_more : (old mid new : List ℕ) (n : ℕ) → 0 < n → mid ≡ old ++ continued (digits_of 128 (n / 128)) → new ≡ mid ++ (128 + n % 128) ∷ [] → new ≡ old ++ continued (digits_of 128 n)
+pub continued_more : (old mid new : List ℕ) (n : ℕ) → 0 < n → mid ≡ old ++ continued (digits_of 128 (n / 128))
+    → new ≡ mid ++ (128 + n % 128) ∷ [] → new ≡ old ++ continued (digits_of 128 n)
 continued_more old mid new n some front last =
     last ∙
     (ap (λ k. k ++ (128 + n % 128) ∷ []) front ∙
     (append_assoc old (continued (digits_of 128 (n / 128))) ((128 + n % 128) ∷ []) ∙
-    ap (λ k. old ++ k) (sym (ap continued (digits_of_step 128 n (omega arith) some) ∙ map-append (λ digit. 128 + digit) (digits_of 128 (n / 128)) (n % 128 ∷ [])))))
+    ap (λ k. old ++ k) (sym (ap continued (digits_of_step 128 n (omega arith) some)
+    ∙ map-append (λ digit. 128 + digit) (digits_of 128 (n / 128)) (n % 128 ∷ [])))))
 
-pub subidentifier_ends : (old mid new : List ℕ) (n : ℕ) → mid ≡ old ++ continued (digits_of 128 (n / 128)) → new ≡ mid ++ n % 128 ∷ [] → new ≡ old ++ subidentifier_octets n
+pub subidentifier_ends : (old mid new : List ℕ) (n : ℕ) → mid ≡ old ++ continued (digits_of 128 (n / 128))
+    → new ≡ mid ++ n % 128 ∷ [] → new ≡ old ++ subidentifier_octets n
 subidentifier_ends old mid new n front last =
     last ∙
     (ap (λ k. k ++ n % 128 ∷ []) front ∙
-    (append_assoc old (continued (digits_of 128 (n / 128))) (n % 128 ∷ []) ∙ ap (λ k. old ++ k) (sym (subidentifier_octets-split n))))
+    (append_assoc old (continued (digits_of 128 (n / 128))) (n % 128 ∷ [])
+    ∙ ap (λ k. old ++ k) (sym (subidentifier_octets-split n))))
 
 -- ---- characters pushed
 
 -- r answers a push of the octets `last`
-pushed : {E : Type 0} (r : Result (Unit {0}) E) (old new last whole : List ℕ) → new ≡ (if is_ok r then old ++ last else old) → old ++ last ≡ whole → OnOk r (new ≡ whole)
+pushed : {E : Type 0} (r : Result (Unit {0}) E) (old new last whole : List ℕ)
+    → new ≡ (if is_ok r then old ++ last else old) → old ++ last ≡ whole → OnOk r (new ≡ whole)
 pushed (Ok _) old new last whole e w = e ∙ w
 pushed (Err _) old new last whole e w = tt
 
-pub decimal_pushed : {E : Type 0} (r : Result (Unit {0}) E) (old mid new front encoded : List ℕ) (n c : ℕ) → c ≡ 48 + n % 10 → (c < 128 → encoded ≡ c ∷ []) → new ≡ (if is_ok r then mid ++ encoded else mid) → mid ≡ old ++ front → decimal n ≡ front ++ (48 + n % 10) ∷ [] → OnOk r (new ≡ old ++ decimal n)
+pub decimal_pushed : {E : Type 0} (r : Result (Unit {0}) E) (old mid new front encoded : List ℕ) (n c : ℕ)
+    → c ≡ 48 + n % 10 → (c < 128 → encoded ≡ c ∷ []) → new ≡ (if is_ok r then mid ++ encoded else mid)
+    → mid ≡ old ++ front → decimal n ≡ front ++ (48 + n % 10) ∷ [] → OnOk r (new ≡ old ++ decimal n)
 decimal_pushed r old mid new front encoded n c is ascii push before whole =
     pushed r mid new encoded (old ++ decimal n) push
     (ap (λ k. mid ++ k) (ascii (omega (arith, is)) ∙ ap (λ k. k ∷ []) is) ∙
-    (ap (λ k. k ++ (48 + n % 10) ∷ []) before ∙ (append_assoc old front ((48 + n % 10) ∷ []) ∙ ap (λ k. old ++ k) (sym whole))))
+    (ap (λ k. k ++ (48 + n % 10) ∷ []) before
+    ∙ (append_assoc old front ((48 + n % 10) ∷ []) ∙ ap (λ k. old ++ k) (sym whole))))
 
 -- ---- the arcs of the first subidentifier
 
@@ -56,11 +68,13 @@ number_of : (n : ℕ) (ss : List ℕ) → n < 2 ^ 128 → IsNumberAt (decimal n 
 number_of n ss small = record { spelled = refl; small = small; ends = dotted_ends ss }
 
 -- the list's head, where its dotted text has a number in front
-pub dotted_head : (text : List ℕ) (n : ℕ) (rest : List ℕ) (s : ℕ) (ss : List ℕ) → s < 2 ^ 128 → IsDottedNumberAt text n rest → text ≡ flat_map dotted (s ∷ ss) → (s ≡ n) × (flat_map dotted ss ≡ rest)
+pub dotted_head : (text : List ℕ) (n : ℕ) (rest : List ℕ) (s : ℕ) (ss : List ℕ) → s < 2 ^ 128
+    → IsDottedNumberAt text n rest → text ≡ flat_map dotted (s ∷ ss) → (s ≡ n) × (flat_map dotted ss ≡ rest)
 dotted_head text n rest s ss small h e =
     let both : 46 ∷ (decimal s ++ flat_map dotted ss) ≡ 46 ∷ (decimal n ++ rest) = sym e ∙ h.spelled in
     let same : decimal s ++ flat_map dotted ss ≡ decimal n ++ rest = cc in
-    same_number (decimal s ++ flat_map dotted ss) s n (flat_map dotted ss) rest (number_of s ss small) (record { spelled = same; small = h.small; ends = h.ends })
+    same_number (decimal s ++ flat_map dotted ss) s n (flat_map dotted ss) rest (number_of s ss small)
+    (record { spelled = same; small = h.small; ends = h.ends })
 
 pub dotted_of : (s : ℕ) (ss : List ℕ) → s < 2 ^ 128 → IsDottedNumberAt (flat_map dotted (s ∷ ss)) s (flat_map dotted ss)
 dotted_of s ss small = record { spelled = refl; small = small; ends = dotted_ends ss }
@@ -81,10 +95,12 @@ same_from_dotted (x ∷ xs) (y ∷ ys) p q e =
 abbrev first_of : ℕ → List ℕ → List ℕ
 first_of s rest = decimal (first_arc s) ++ (dotted (s - 40 * first_arc s) ++ rest)
 
-first_number : (s : ℕ) (ss : List ℕ) → s < 2 ^ 128 → IsNumberAt (oid_text (s ∷ ss)) (first_arc s) (flat_map dotted ((s - 40 * first_arc s) ∷ ss))
+first_number : (s : ℕ) (ss : List ℕ) → s < 2 ^ 128
+    → IsNumberAt (oid_text (s ∷ ss)) (first_arc s) (flat_map dotted ((s - 40 * first_arc s) ∷ ss))
 first_number s ss small = record { spelled = refl; small = omega (arith, first_arc_le s); ends = inl (lit< tt) }
 
-second_number : (s : ℕ) (ss : List ℕ) → s < 2 ^ 128 → IsDottedNumberAt (flat_map dotted ((s - 40 * first_arc s) ∷ ss)) (s - 40 * first_arc s) (flat_map dotted ss)
+second_number : (s : ℕ) (ss : List ℕ) → s < 2 ^ 128
+    → IsDottedNumberAt (flat_map dotted ((s - 40 * first_arc s) ∷ ss)) (s - 40 * first_arc s) (flat_map dotted ss)
 second_number s ss small = dotted_of (s - 40 * first_arc s) ss (omega arith)
 
 -- what the first two numbers of a text say of a list with that text
@@ -93,12 +109,17 @@ pub record IsHeadOf (s : ℕ) (ss : List ℕ) (first second : ℕ) (rest : List 
   pub second_is : s - 40 * first_arc s ≡ second
   pub rest_is : rest ≡ flat_map dotted ss
 
-after_first : (text : List ℕ) (first : ℕ) (rest : List ℕ) (s : ℕ) (ss : List ℕ) → s < 2 ^ 128 → text ≡ oid_text (s ∷ ss) → IsNumberAt text first rest → (first_arc s ≡ first) × (rest ≡ flat_map dotted ((s - 40 * first_arc s) ∷ ss))
+after_first : (text : List ℕ) (first : ℕ) (rest : List ℕ) (s : ℕ) (ss : List ℕ) → s < 2 ^ 128 → text ≡ oid_text (s ∷ ss)
+    → IsNumberAt text first rest → (first_arc s ≡ first) × (rest ≡ flat_map dotted ((s - 40 * first_arc s) ∷ ss))
 after_first text first rest s ss small e h =
-    let same = same_number text (first_arc s) first (flat_map dotted ((s - 40 * first_arc s) ∷ ss)) rest (subst (λ t. IsNumberAt t (first_arc s) (flat_map dotted ((s - 40 * first_arc s) ∷ ss))) (sym e) (first_number s ss small)) h in
+    let same = same_number text (first_arc s) first (flat_map dotted ((s - 40 * first_arc s) ∷ ss)) rest
+    (subst (λ t. IsNumberAt t (first_arc s) (flat_map dotted ((s - 40 * first_arc s) ∷ ss))) (sym e)
+    (first_number s ss small)) h in
     (same.0, sym same.1)
 
-head_of : (text : List ℕ) (first : ℕ) (rest : List ℕ) (second : ℕ) (last : List ℕ) (s : ℕ) (ss : List ℕ) → s < 2 ^ 128 → text ≡ oid_text (s ∷ ss) → IsNumberAt text first rest → IsDottedNumberAt rest second last → IsHeadOf s ss first second last
+head_of : (text : List ℕ) (first : ℕ) (rest : List ℕ) (second : ℕ) (last : List ℕ) (s : ℕ) (ss : List ℕ) → s < 2 ^ 128
+    → text ≡ oid_text (s ∷ ss) → IsNumberAt text first rest → IsDottedNumberAt rest second last
+    → IsHeadOf s ss first second last
 head_of text first rest second last s ss small e h k =
     let front = after_first text first rest s ss small e h in
     let back = dotted_head rest second last (s - 40 * first_arc s) ss (omega arith) k front.1 in
@@ -106,18 +127,26 @@ head_of text first rest second last s ss small e h k =
 
 -- ---- refusals: a text of an object identifier has each part
 
-pub has_first : (text ss : List ℕ) → IsOid ss → text ≡ oid_text ss → ((n : ℕ) (rest : List ℕ) → IsNumberAt text n rest → ⊥) → ⊥
+pub has_first : (text ss : List ℕ) → IsOid ss → text ≡ oid_text ss
+    → ((n : ℕ) (rest : List ℕ) → IsNumberAt text n rest → ⊥) → ⊥
 has_first text [] oid e none = absurd (omega (arith, oid.some))
 has_first text (s ∷ ss) oid e none =
-    none (first_arc s) (flat_map dotted ((s - 40 * first_arc s) ∷ ss)) (subst (λ t. IsNumberAt t (first_arc s) (flat_map dotted ((s - 40 * first_arc s) ∷ ss))) (sym e) (first_number s ss oid.small.0))
+    none (first_arc s) (flat_map dotted ((s - 40 * first_arc s) ∷ ss))
+    (subst (λ t. IsNumberAt t (first_arc s) (flat_map dotted ((s - 40 * first_arc s) ∷ ss))) (sym e)
+    (first_number s ss oid.small.0))
 
-pub has_second : (text ss : List ℕ) (first : ℕ) (rest : List ℕ) → IsOid ss → text ≡ oid_text ss → IsNumberAt text first rest → ((n : ℕ) (last : List ℕ) → IsDottedNumberAt rest n last → ⊥) → ⊥
+pub has_second : (text ss : List ℕ) (first : ℕ) (rest : List ℕ) → IsOid ss → text ≡ oid_text ss
+    → IsNumberAt text first rest → ((n : ℕ) (last : List ℕ) → IsDottedNumberAt rest n last → ⊥) → ⊥
 has_second text [] first rest oid e h none = absurd (omega (arith, oid.some))
 has_second text (s ∷ ss) first rest oid e h none =
     let front = after_first text first rest s ss oid.small.0 e h in
-    none (s - 40 * first_arc s) (flat_map dotted ss) (subst (λ t. IsDottedNumberAt t (s - 40 * first_arc s) (flat_map dotted ss)) (sym front.1) (second_number s ss oid.small.0))
+    none (s - 40 * first_arc s) (flat_map dotted ss)
+    (subst (λ t. IsDottedNumberAt t (s - 40 * first_arc s) (flat_map dotted ss)) (sym front.1)
+    (second_number s ss oid.small.0))
 
-pub has_arcs : (text ss : List ℕ) (first : ℕ) (rest : List ℕ) (second : ℕ) (last : List ℕ) → IsOid ss → text ≡ oid_text ss → IsNumberAt text first rest → IsDottedNumberAt rest second last → ((s : ℕ) → s < 2 ^ 128 → first_arc s ≡ first → s - 40 * first_arc s ≡ second → ⊥) → ⊥
+pub has_arcs : (text ss : List ℕ) (first : ℕ) (rest : List ℕ) (second : ℕ) (last : List ℕ) → IsOid ss
+    → text ≡ oid_text ss → IsNumberAt text first rest → IsDottedNumberAt rest second last
+    → ((s : ℕ) → s < 2 ^ 128 → first_arc s ≡ first → s - 40 * first_arc s ≡ second → ⊥) → ⊥
 has_arcs text [] first rest second last oid e h k none = absurd (omega (arith, oid.some))
 has_arcs text (s ∷ ss) first rest second last oid e h k none =
     let head = head_of text first rest second last s ss oid.small.0 e h k in
@@ -126,7 +155,9 @@ has_arcs text (s ∷ ss) first rest second last oid e h k none =
 others_of : (s : ℕ) (ss : List ℕ) → IsOid (s ∷ ss) → AreOthers ss
 others_of s ss oid = record { few = omega (arith, oid.few); small = oid.small.1 }
 
-pub has_others : (text ss : List ℕ) (first : ℕ) (rest : List ℕ) (second : ℕ) (last : List ℕ) → IsOid ss → text ≡ oid_text ss → IsNumberAt text first rest → IsDottedNumberAt rest second last → ((others : List ℕ) → AreOthers others → last ≡ flat_map dotted others → ⊥) → ⊥
+pub has_others : (text ss : List ℕ) (first : ℕ) (rest : List ℕ) (second : ℕ) (last : List ℕ) → IsOid ss
+    → text ≡ oid_text ss → IsNumberAt text first rest → IsDottedNumberAt rest second last
+    → ((others : List ℕ) → AreOthers others → last ≡ flat_map dotted others → ⊥) → ⊥
 has_others text [] first rest second last oid e h k none = absurd (omega (arith, oid.some))
 has_others text (s ∷ ss) first rest second last oid e h k none =
     none ss (others_of s ss oid) (head_of text first rest second last s ss oid.small.0 e h k).rest_is
@@ -137,19 +168,24 @@ pub record IsParsed (text : List ℕ) (s : ℕ) (others : List ℕ) : Type 0 whe
   pub oid : IsOid (s ∷ others)
   pub spelled : text ≡ oid_text (s ∷ others)
 
-pub parsed : (text : List ℕ) (first : ℕ) (rest : List ℕ) (second : ℕ) (last : List ℕ) (s : ℕ) (others : List ℕ) → IsNumberAt text first rest → IsDottedNumberAt rest second last → s < 2 ^ 128 → first_arc s ≡ first → s - 40 * first_arc s ≡ second → AreOthers others → last ≡ flat_map dotted others → IsParsed text s others
+pub parsed : (text : List ℕ) (first : ℕ) (rest : List ℕ) (second : ℕ) (last : List ℕ) (s : ℕ) (others : List ℕ)
+    → IsNumberAt text first rest → IsDottedNumberAt rest second last → s < 2 ^ 128 → first_arc s ≡ first
+    → s - 40 * first_arc s ≡ second → AreOthers others → last ≡ flat_map dotted others → IsParsed text s others
 parsed text first rest second last s others h k small a b are e = record {
   oid = record { some = omega arith; few = omega (arith, are.few); small = (small, are.small) };
   spelled = h.spelled ∙
       (ap (λ back. decimal first ++ back) (k.spelled ∙ ap (λ back. dotted second ++ back) e) ∙
-      sym (ap (λ n. decimal n ++ (dotted (s - 40 * first_arc s) ++ flat_map dotted others)) a ∙ ap (λ n. decimal first ++ (dotted n ++ flat_map dotted others)) b));
+      sym (ap (λ n. decimal n ++ (dotted (s - 40 * first_arc s) ++ flat_map dotted others)) a
+      ∙ ap (λ n. decimal first ++ (dotted n ++ flat_map dotted others)) b));
 }
 
 pub same_from_text : (a b : List ℕ) → IsOid a → IsOid b → oid_text a ≡ oid_text b → a ≡ b
 same_from_text [] b p q e = absurd (omega (arith, p.some))
 same_from_text (s ∷ ss) [] p q e = absurd (omega (arith, q.some))
 same_from_text (s ∷ ss) (t ∷ ts) p q e =
-    let head = head_of (oid_text (s ∷ ss)) (first_arc s) (flat_map dotted ((s - 40 * first_arc s) ∷ ss)) (s - 40 * first_arc s) (flat_map dotted ss) t ts q.small.0 e (first_number s ss p.small.0) (second_number s ss p.small.0) in
+    let head = head_of (oid_text (s ∷ ss)) (first_arc s) (flat_map dotted ((s - 40 * first_arc s) ∷ ss))
+    (s - 40 * first_arc s) (flat_map dotted ss) t ts q.small.0 e (first_number s ss p.small.0)
+    (second_number s ss p.small.0) in
     let same : s ≡ t = same_first s t (sym head.first_is) (sym head.second_is) in
     let rest : ss ≡ ts = same_from_dotted ss ts p.small.1 q.small.1 head.rest_is in
     cc
@@ -161,24 +197,31 @@ pub record IsMade (text content : List ℕ) : Type 0 where
   pub spelled : text ≡ oid_text made
   pub written : content ≡ oid_content made
 
-pub made_of : (text seen : List ℕ) (first : ℕ) (rest : List ℕ) (second : ℕ) (last : List ℕ) (s : ℕ) (others empty mid content : List ℕ) → seen ≡ text → IsNumberAt seen first rest → IsDottedNumberAt rest second last → s < 2 ^ 128 → first_arc s ≡ first → s - 40 * first_arc s ≡ second → AreOthers others → last ≡ flat_map dotted others → empty ≡ [] → mid ≡ empty ++ subidentifier_octets s → content ≡ mid ++ oid_content others → IsMade text content
+pub made_of : (text seen : List ℕ) (first : ℕ) (rest : List ℕ) (second : ℕ) (last : List ℕ) (s : ℕ)
+    (others empty mid content : List ℕ) → seen ≡ text → IsNumberAt seen first rest → IsDottedNumberAt rest second last
+    → s < 2 ^ 128 → first_arc s ≡ first → s - 40 * first_arc s ≡ second → AreOthers others
+    → last ≡ flat_map dotted others → empty ≡ [] → mid ≡ empty ++ subidentifier_octets s
+    → content ≡ mid ++ oid_content others → IsMade text content
 made_of text seen first rest second last s others empty mid content same h k small a b are e none front back =
     let is = parsed seen first rest second last s others h k small a b are e in
     record {
       made = s ∷ others;
       oid = is.oid;
       spelled = sym same ∙ is.spelled;
-      written = back ∙ (ap (λ t. t ++ oid_content others) front ∙ ap (λ t. t ++ subidentifier_octets s ++ oid_content others) none);
+      written = back ∙ (ap (λ t. t ++ oid_content others) front
+          ∙ ap (λ t. t ++ subidentifier_octets s ++ oid_content others) none);
     }
 
 pub ReadsAsOid-made : (text content : List ℕ) → IsMade text content → ReadsAsOid content
 ReadsAsOid-made text content h = ReadsAsOid-written content h.made h.oid h.written
 
-pub made-found : (text content : List ℕ) → IsMade text content → IsOid (subidentifiers_of content) × (text ≡ oid_text (subidentifiers_of content))
+pub made-found : (text content : List ℕ) → IsMade text content → IsOid (subidentifiers_of content)
+    × (text ≡ oid_text (subidentifiers_of content))
 made-found text content h =
     let v = subidentifiers_of-written content h.made h.written in
     (subst IsOid (sym v) h.oid, h.spelled ∙ ap oid_text (sym v))
 
-pub made-only : (text content ss : List ℕ) → IsMade text content → IsOid ss → text ≡ oid_text ss → subidentifiers_of content ≡ ss
+pub made-only : (text content ss : List ℕ) → IsMade text content → IsOid ss → text ≡ oid_text ss
+    → subidentifiers_of content ≡ ss
 made-only text content ss h oid e =
     subidentifiers_of-written content h.made h.written ∙ same_from_text h.made ss h.oid oid (sym h.spelled ∙ e)

@@ -1,8 +1,10 @@
 -- Reading a value's encoding gives the value, and what is read as a value begins with its encoding.
-use Rattle.std.proofs.Common.{◌≡◌, ℕ, zero, suc, max, ◌<◌, ◌≤◌, ◌^◌, ◌==◌, Bool, true, false, List, [], ◌∷◌, ◌++◌, length, Result, Ok, refl, sym, ap, subst, ◌∙◌, arith}
+use Rattle.std.proofs.Common.{◌≡◌, ℕ, zero, suc, max, ◌<◌, ◌≤◌, ◌^◌, ◌==◌, Bool, true, false, List, [], ◌∷◌, ◌++◌}
+use Rattle.std.proofs.Common.{length, Result, Ok, refl, sym, ap, subst, ◌∙◌, arith}
 use Rattle.std.proofs.lemmas.Bool.{ne_eqb, eq-eqb, eqb-true, eqb-false}
 use Rattle.std.proofs.lemmas.List.{length-append, append-nil}
-use Rattle.der.specs.Node.{Node, primitive, constructed, Nodes, no_nodes, node, length_octets, element, encoding, encodings, levels, levels_of, bit_six, IsFormed, AreFormed, AreOctets, IsLawful}
+use Rattle.der.specs.Node.{Node, primitive, constructed, Nodes, no_nodes, node, length_octets, element, encoding}
+use Rattle.der.specs.Node.{encodings, levels, levels_of, bit_six, IsFormed, AreFormed, AreOctets, IsLawful}
 use Rattle.der.specs.Reading.{◌>>=◌, Piece, element_at, nodes_with, node_of, node_at, tree_of}
 use Rattle.der.specs.declared.fault.DerFault.{DerFault}
 use Rattle.der.specs.declared.fault.DerFault.TheVariants.{Trailing, TooDeep}
@@ -22,7 +24,9 @@ unfolding nodes_with
 nodes_with_none one zero = refl
 nodes_with_none one (suc k) = refl
 
-nodes_with_more : (one : Reader) (k : ℕ) (octets : List ℕ) (n : Node) (rest : List ℕ) (others : Nodes) → 0 < length octets → one octets ≡ Ok (n, rest) → nodes_with one k rest ≡ Ok others → nodes_with one (suc k) octets ≡ Ok (node n others)
+nodes_with_more : (one : Reader) (k : ℕ) (octets : List ℕ) (n : Node) (rest : List ℕ) (others : Nodes)
+    → 0 < length octets → one octets ≡ Ok (n, rest) → nodes_with one k rest ≡ Ok others
+    → nodes_with one (suc k) octets ≡ Ok (node n others)
 unfolding nodes_with
 nodes_with_more one k [] n rest others some first later = absurd (omega arith)
 nodes_with_more one k (octet ∷ octets) n rest others some first later = rw (first, later) refl
@@ -35,7 +39,8 @@ levels_some : (n : Node) → 0 < levels n
 levels_some (primitive identifier contents) = omega arith
 levels_some (constructed identifier components) = omega arith
 
-pub nodes_written : (k : ℕ) → ReadsWritten k → (ns : Nodes) (count : ℕ) → AreFormed ns → levels_of ns ≤ k → length (encodings ns) ≤ count → nodes_with (node_at k) count (encodings ns) ≡ Ok ns
+pub nodes_written : (k : ℕ) → ReadsWritten k → (ns : Nodes) (count : ℕ) → AreFormed ns → levels_of ns ≤ k
+    → length (encodings ns) ≤ count → nodes_with (node_at k) count (encodings ns) ≡ Ok ns
 nodes_written k reads no_nodes count formed deep enough = nodes_with_none (node_at k) count
 nodes_written k reads (node first others) zero formed deep enough =
     absurd (omega (arith, length-append (encoding first) (encodings others), encoding_some first))
@@ -55,7 +60,8 @@ node_at-encoding (suc k) (primitive identifier contents) rest formed deep =
     rw (element_at-element identifier contents rest formed.0.1 formed.3, test) refl
 node_at-encoding (suc k) (constructed identifier components) rest formed deep =
     let test : (bit_six identifier == 1) ≡ true = eq-eqb (bit_six identifier) 1 formed.1 in
-    let inner = nodes_written k (node_at-encoding k) components (length (encodings components)) formed.2 (omega arith) (omega arith) in
+    let inner = nodes_written k (node_at-encoding k) components (length (encodings components)) formed.2 (omega arith)
+    (omega arith) in
     rw (element_at-element identifier (encodings components) rest formed.0.1 formed.3, test, inner) refl
 
 pub record ReadsNode (k : ℕ) (octets : List ℕ) (n : Node) (rest : List ℕ) : Type 0 where
@@ -69,14 +75,18 @@ pub record ReadsNodes (k : ℕ) (octets : List ℕ) (ns : Nodes) : Type 0 where
   pub depth : levels_of ns ≤ k
 
 abbrev ReadsBack : ℕ → Type 0
-ReadsBack k = (octets : List ℕ) (n : Node) (rest : List ℕ) → AreOctets octets → node_at k octets ≡ Ok (n, rest) → ReadsNode k octets n rest
+ReadsBack k = (octets : List ℕ) (n : Node) (rest : List ℕ) → AreOctets octets → node_at k octets ≡ Ok (n, rest)
+    → ReadsNode k octets n rest
 
-pub nodes_read : (k : ℕ) → ReadsBack k → (count : ℕ) (octets : List ℕ) (ns : Nodes) → AreOctets octets → nodes_with (node_at k) count octets ≡ Ok ns → ReadsNodes k octets ns
+pub nodes_read : (k : ℕ) → ReadsBack k → (count : ℕ) (octets : List ℕ) (ns : Nodes) → AreOctets octets
+    → nodes_with (node_at k) count octets ≡ Ok ns → ReadsNodes k octets ns
 unfolding nodes_with
 nodes_read k reads zero [] ns bytes e =
-    let P : Nodes → Type 0 = λ found. ReadsNodes k [] found in subst P (ok_is no_nodes ns e) (record { all = refl; formed = tt; depth = omega arith })
+    let P : Nodes → Type 0 = λ found. ReadsNodes k [] found in
+    subst P (ok_is no_nodes ns e) (record { all = refl; formed = tt; depth = omega arith })
 nodes_read k reads (suc count) [] ns bytes e =
-    let P : Nodes → Type 0 = λ found. ReadsNodes k [] found in subst P (ok_is no_nodes ns e) (record { all = refl; formed = tt; depth = omega arith })
+    let P : Nodes → Type 0 = λ found. ReadsNodes k [] found in
+    subst P (ok_is no_nodes ns e) (record { all = refl; formed = tt; depth = omega arith })
 nodes_read k reads zero (octet ∷ octets) ns bytes e = absurd (err_is_not Trailing ns e)
 nodes_read k reads (suc count) (octet ∷ octets) ns bytes e =
     let first = bind_ok (node_at k (octet ∷ octets)) _ ns e in
@@ -97,11 +107,15 @@ nodes_read k reads (suc count) (octet ∷ octets) ns bytes e =
 abbrev under_identifier : Piece → Nodes → Result (Node × List ℕ) DerFault
 under_identifier found components = Ok (constructed found.identifier components, found.rest)
 
-constructed_read : (k : ℕ) → ReadsBack k → (octets : List ℕ) (found : Piece) (n : Node) (rest : List ℕ) → AreOctets octets → ReadsElement octets found → bit_six found.identifier ≡ 1 → (nodes_with (node_at k) (length found.contents) found.contents >>= under_identifier found) ≡ Ok (n, rest) → ReadsNode (suc k) octets n rest
+constructed_read : (k : ℕ) → ReadsBack k → (octets : List ℕ) (found : Piece) (n : Node) (rest : List ℕ)
+    → AreOctets octets → ReadsElement octets found → bit_six found.identifier ≡ 1
+    → (nodes_with (node_at k) (length found.contents) found.contents >>= under_identifier found) ≡ Ok (n, rest)
+    → ReadsNode (suc k) octets n rest
 constructed_read k reads octets found n rest bytes at_element bit e =
     let inner = bind_ok (nodes_with (node_at k) (length found.contents) found.contents) _ (n, rest) e in
     let components = inner.0 in
-    let parts = AreOctets-parts (element found.identifier found.contents) found.rest (subst AreOctets at_element.front bytes) in
+    let parts = AreOctets-parts (element found.identifier found.contents) found.rest
+    (subst AreOctets at_element.front bytes) in
     let under = AreOctets-parts (length_octets (length found.contents)) found.contents parts.0.1 in
     let at_inner = nodes_read k reads (length found.contents) found.contents components under.1 inner.1 in
     let same = ok_is (constructed found.identifier components, found.rest) (n, rest) inner.2 in
@@ -113,9 +127,13 @@ constructed_read k reads octets found n rest bytes at_element bit e =
       depth = omega (arith, at_inner.depth);
     })
 
-primitive_read : (k : ℕ) (octets : List ℕ) (found : Piece) (n : Node) (rest : List ℕ) → AreOctets octets → ReadsElement octets found → (bit_six found.identifier ≡ 1 → ⊥) → ◌≡◌ {A = Result (Node × List ℕ) DerFault} (Ok (primitive found.identifier found.contents, found.rest)) (Ok (n, rest)) → ReadsNode (suc k) octets n rest
+primitive_read : (k : ℕ) (octets : List ℕ) (found : Piece) (n : Node) (rest : List ℕ) → AreOctets octets
+    → ReadsElement octets found → (bit_six found.identifier ≡ 1 → ⊥)
+    → ◌≡◌ {A = Result (Node × List ℕ) DerFault} (Ok (primitive found.identifier found.contents, found.rest))
+    (Ok (n, rest)) → ReadsNode (suc k) octets n rest
 primitive_read k octets found n rest bytes at_element bit e =
-    let parts = AreOctets-parts (element found.identifier found.contents) found.rest (subst AreOctets at_element.front bytes) in
+    let parts = AreOctets-parts (element found.identifier found.contents) found.rest
+    (subst AreOctets at_element.front bytes) in
     let under = AreOctets-parts (length_octets (length found.contents)) found.contents parts.0.1 in
     let same = ok_is (primitive found.identifier found.contents, found.rest) (n, rest) e in
     let P : Node × List ℕ → Type 0 = λ pair. ReadsNode (suc k) octets pair.0 pair.1 in
@@ -125,10 +143,13 @@ primitive_read k octets found n rest bytes at_element bit e =
       depth = omega arith;
     })
 
-piece_read : (k : ℕ) → ReadsBack k → (octets : List ℕ) (found : Piece) (n : Node) (rest : List ℕ) → AreOctets octets → ReadsElement octets found → (b : Bool) → (bit_six found.identifier == 1) ≡ b → node_of (node_at k) found ≡ Ok (n, rest) → ReadsNode (suc k) octets n rest
+piece_read : (k : ℕ) → ReadsBack k → (octets : List ℕ) (found : Piece) (n : Node) (rest : List ℕ) → AreOctets octets
+    → ReadsElement octets found → (b : Bool) → (bit_six found.identifier == 1) ≡ b
+    → node_of (node_at k) found ≡ Ok (n, rest) → ReadsNode (suc k) octets n rest
 unfolding node_of
 piece_read k reads octets found n rest bytes at_element true test e =
-    constructed_read k reads octets found n rest bytes at_element (eqb-true (bit_six found.identifier) 1 test) (rw test at e)
+    constructed_read k reads octets found n rest bytes at_element (eqb-true (bit_six found.identifier) 1 test)
+    (rw test at e)
 piece_read k reads octets found n rest bytes at_element false test e =
     primitive_read k octets found n rest bytes at_element (eqb-false (bit_six found.identifier) 1 test) (rw test at e)
 
@@ -137,7 +158,8 @@ unfolding node_at
 node_at_reads zero octets n rest bytes e = absurd (err_is_not TooDeep (n, rest) e)
 node_at_reads (suc k) octets n rest bytes e =
     let step = bind_ok (element_at octets) (node_of (node_at k)) (n, rest) e in
-    piece_read k (node_at_reads k) octets step.0 n rest bytes (element_at_reads octets step.0 bytes step.1) (bit_six step.0.identifier == 1) refl step.2
+    piece_read k (node_at_reads k) octets step.0 n rest bytes (element_at_reads octets step.0 bytes step.1)
+    (bit_six step.0.identifier == 1) refl step.2
 
 nothing : (octets : List ℕ) → length octets ≡ 0 → octets ≡ []
 nothing [] e = refl
@@ -152,7 +174,8 @@ tree_of-encoding n lawful =
     rw (ap (node_at 32) (sym alone) ∙ found) refl
 
 -- what is read as a value is its encoding, and the value is lawful
-pub tree_of_reads : (octets : List ℕ) (n : Node) → AreOctets octets → tree_of octets ≡ Ok n → IsLawful n × (octets ≡ encoding n)
+pub tree_of_reads : (octets : List ℕ) (n : Node) → AreOctets octets → tree_of octets ≡ Ok n → IsLawful n
+    × (octets ≡ encoding n)
 unfolding tree_of
 tree_of_reads octets n bytes e =
     let step = bind_ok (node_at 32 octets) _ n e in
@@ -161,10 +184,16 @@ tree_of_reads octets n bytes e =
     let at_step = node_at_reads 32 octets m rest bytes step.1 in
     let end = then_ok (length rest == 0) Trailing m n step.2 in
     let P : Node → Type 0 = λ found. IsLawful found × (octets ≡ encoding found) in
-    subst P end.1 (record { formed = at_step.formed; depth = at_step.depth }, at_step.front ∙ (ap (λ others. encoding m ++ others) (nothing rest (eqb-true (length rest) 0 end.0)) ∙ append-nil (encoding m)))
+    subst P end.1 (
+      record { formed = at_step.formed; depth = at_step.depth },
+      at_step.front
+          ∙ (ap (λ others. encoding m ++ others) (nothing rest (eqb-true (length rest) 0 end.0))
+          ∙ append-nil (encoding m)),
+    )
 
 -- two values at the front of the same octets are one
-pub encoding_ends : (m n : Node) (x y : List ℕ) → IsFormed m → IsFormed n → encoding m ++ x ≡ encoding n ++ y → (m ≡ n) × (x ≡ y)
+pub encoding_ends : (m n : Node) (x y : List ℕ) → IsFormed m → IsFormed n → encoding m ++ x ≡ encoding n ++ y → (m ≡ n)
+    × (x ≡ y)
 encoding_ends m n x y p q e =
     let k = max (levels m) (levels n) in
     let one = node_at-encoding k m x p (omega arith) in

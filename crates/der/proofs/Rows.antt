@@ -1,9 +1,11 @@
 -- The definitions, computed on octets that are known from elsewhere.
 use Rattle.std.proofs.Common.{◌≡◌, pos, negsuc, [], ◌∷◌, refl, Ok, Err, Some, None}
-use Rattle.der.specs.Node.{Node, primitive, constructed, no_nodes, node, encoding, length_octets, levels, components_of, contents_of, first_of, take_under}
+use Rattle.der.specs.Node.{Node, primitive, constructed, no_nodes, node, encoding, length_octets, levels, components_of}
+use Rattle.der.specs.Node.{contents_of, first_of, take_under}
 use Rattle.der.specs.Number.{number_content, twos_value}
 use Rattle.der.specs.ObjectIdentifier.{oid_content, oid_text, subidentifier_octets, decimal}
-use Rattle.der.specs.Reading.{tree_of, node_at, node_of, nodes_with, element_at, identifier_at, length_at, contents_at, long_length}
+use Rattle.der.specs.Reading.{tree_of, node_at, node_of, nodes_with, element_at, identifier_at, length_at, contents_at}
+use Rattle.der.specs.Reading.{long_length, is_length_of}
 use Rattle.der.specs.declared.fault.DerFault.TheVariants.{Truncated, LengthForm, HighTag, Trailing}
 
 -- 201 is 81 C9 (X.690 8.1.3.5's example)
@@ -35,7 +37,8 @@ sample_is_two_levels : levels sample ≡ 2
 sample_is_two_levels = refl
 
 -- its components, under its own tag alone; then the first of them, and the first one where it is an INTEGER
-sample_components : components_of 48 sample ≡ Some (node (primitive 2 (1 ∷ [])) (node (primitive 1 (255 ∷ [])) no_nodes))
+sample_components : components_of 48 sample
+    ≡ Some (node (primitive 2 (1 ∷ [])) (node (primitive 1 (255 ∷ [])) no_nodes))
 sample_components = refl
 
 sample_is_no_set : components_of 49 sample ≡ None
@@ -58,7 +61,8 @@ number_is_no_truth = refl
 
 -- 81 03 is not the shortest form, 1F begins a high tag number, a SEQUENCE of 2 octets has 3 after it
 long_form : tree_of (4 ∷ 129 ∷ 3 ∷ 1 ∷ 2 ∷ 3 ∷ []) ≡ Err LengthForm
-unfolding tree_of node_at node_of nodes_with element_at identifier_at length_at contents_at long_length
+unfolding tree_of node_at node_of nodes_with element_at identifier_at length_at contents_at long_length is_length_of
+    length_octets
 long_form = refl
 
 high_tag : tree_of (48 ∷ 2 ∷ 31 ∷ 0 ∷ []) ≡ Err HighTag

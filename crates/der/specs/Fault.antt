@@ -1,7 +1,8 @@
 -- The numbers of the refusals.
 use Rattle.std.specs.Prelude.{ℕ}
 use Rattle.der.specs.declared.fault.DerFault.{DerFault}
-use Rattle.der.specs.declared.fault.DerFault.TheVariants.{Truncated, LengthForm, HighTag, WrongKind, TooDeep, TooLong, Trailing, BadValue, Memory}
+use Rattle.der.specs.declared.fault.DerFault.TheVariants.{Truncated, LengthForm, HighTag, WrongKind, TooDeep, TooLong}
+use Rattle.der.specs.declared.fault.DerFault.TheVariants.{Trailing, BadValue, Memory}
 
 abbrev pub number_of : DerFault → ℕ
 number_of Truncated = 1

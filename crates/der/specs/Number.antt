@@ -1,5 +1,6 @@
 -- The contents octets of an INTEGER (X.690 8.3).
-use Rattle.std.specs.Prelude.{◌≡◌, ℕ, ◌-◌, ◌<◌, ◌≤◌, ℤ, pos, negsuc, Bool, true, false, ◌==◌, if◌then◌else◌, nat_lt, nat_le, List, [], ◌∷◌, length, map}
+use Rattle.std.specs.Prelude.{◌≡◌, ℕ, ◌-◌, ◌<◌, ◌≤◌, ℤ, pos, negsuc, Bool, true, false, ◌==◌, if◌then◌else◌, nat_lt}
+use Rattle.std.specs.Prelude.{nat_le, List, [], ◌∷◌, length, map}
 use Rattle.std.specs.Int.Digits.{digits_of, number_from_digits}
 use Rattle.der.specs.Node.{AreOctets}
 
@@ -20,7 +21,8 @@ pub record IsNumberContent (z : ℤ) (octets : List ℕ) : Type 0 where
   pub bytes : AreOctets octets
   pub some : 0 < length octets
   pub value : twos_value octets ≡ z
-  pub fewest : (others : List ℕ) → AreOctets others → 0 < length others → twos_value others ≡ z → length octets ≤ length others
+  pub fewest : (others : List ℕ) → AreOctets others → 0 < length others → twos_value others ≡ z
+      → length octets ≤ length others
 
 -- digits in base 256, with a 0 in front where there are none, or where the first one's bit 8 would be the sign
 abbrev pub with_sign : List ℕ → List ℕ

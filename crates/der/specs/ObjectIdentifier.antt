@@ -1,5 +1,7 @@
--- Object identifiers: contents octets (X.690 8.19) and dotted text (RFC 3061 section 2's form of numbers joined by dots).
-use Rattle.std.specs.Prelude.{◌≡◌, ◌⊎◌, ℕ, ◌+◌, ◌-◌, ◌*◌, ◌^◌, ◌<◌, ◌≤◌, Bool, ◌&&◌, ◌==◌, if◌then◌else◌, nat_lt, nat_le, List, [], ◌∷◌, ◌++◌, length, map, Option, Some, None}
+-- Object identifiers: contents octets (X.690 8.19), and dotted text (RFC 3061 section 2's form of numbers joined by
+-- dots).
+use Rattle.std.specs.Prelude.{◌≡◌, ◌⊎◌, ℕ, ◌+◌, ◌-◌, ◌*◌, ◌^◌, ◌<◌, ◌≤◌, Bool, ◌&&◌, ◌==◌, if◌then◌else◌, nat_lt}
+use Rattle.std.specs.Prelude.{nat_le, List, [], ◌∷◌, ◌++◌, length, map, Option, Some, None}
 use Rattle.std.specs.List.{AllByRecursion, flat_map, list_all}
 use Rattle.std.specs.Str.{bytes_eq}
 use Rattle.std.specs.Int.Digits.{digits_of}
@@ -62,7 +64,7 @@ oid_of octets =
 
 -- a number in decimal digits, without leading zeros
 unfoldable pub decimal : ℕ → List ℕ
-decimal n = if n == 0 then 48 ∷ [] else map (λ digit. 48 + digit) (digits_of 10 n)
+decimal n = if n == 0 then 0x30 ∷ [] else map (λ digit. 0x30 + digit) (digits_of 10 n)
 
 -- the first arc of the first subidentifier: 0, 1, or 2, of which the first two have at most 40 arcs below them
 abbrev pub first_arc : ℕ → ℕ
@@ -70,7 +72,7 @@ first_arc n = if nat_lt n 40 then 0 else (if nat_lt n 80 then 1 else 2)
 
 -- `.` and the number
 abbrev pub dotted : ℕ → List ℕ
-dotted n = 46 ∷ decimal n
+dotted n = 0x2e ∷ decimal n
 
 -- the arcs of subidentifiers, of which the first is 40 * X + Y for the arcs X and Y
 abbrev pub arcs_of : List ℕ → List ℕ
@@ -95,7 +97,7 @@ pub record AreOthers (subidentifiers : List ℕ) : Type 0 where
 
 abbrev pub BeginsWithoutDigit : List ℕ → Type 0
 BeginsWithoutDigit [] = Unit {0}
-BeginsWithoutDigit (character ∷ others) = (character < 48) ⊎ (57 < character)
+BeginsWithoutDigit (character ∷ others) = (character < 0x30) ⊎ (0x39 < character)
 
 -- a decimal number below 2 ^ 128, all its digits, and the characters after it
 pub record IsNumberAt (text : List ℕ) (number : ℕ) (rest : List ℕ) : Type 0 where

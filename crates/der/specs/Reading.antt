@@ -1,9 +1,12 @@
 -- Reading values from the front of octets: the answer, or the first fault from the left.
-use Rattle.std.specs.Prelude.{◌≡◌, ℕ, zero, suc, ◌-◌, ◌%◌, ◌^◌, ◌==◌, ◌||◌, if◌then◌else◌, nat_lt, List, [], ◌∷◌, length, take, drop, get_or, Result, Ok, Err}
+use Rattle.std.specs.Prelude.{◌≡◌, ℕ, zero, suc, ◌+◌, ◌-◌, ◌%◌, ◌^◌, ◌==◌, ◌||◌, Bool, if◌then◌else◌, nat_lt, List, []}
+use Rattle.std.specs.Prelude.{◌∷◌, length, take, drop, Result, Ok, Err}
 use Rattle.std.specs.Int.Digits.{number_from_digits}
-use Rattle.der.specs.Node.{Node, primitive, constructed, Nodes, no_nodes, node, bit_six}
+use Rattle.std.specs.Str.{bytes_eq}
+use Rattle.der.specs.Node.{Node, primitive, constructed, Nodes, no_nodes, node, length_octets, bit_six}
 use Rattle.der.specs.declared.fault.DerFault.{DerFault}
-use Rattle.der.specs.declared.fault.DerFault.TheVariants.{Truncated, LengthForm, HighTag, WrongKind, TooDeep, TooLong, Trailing, BadValue, Memory}
+use Rattle.der.specs.declared.fault.DerFault.TheVariants.{Truncated, LengthForm, HighTag, WrongKind, TooDeep, TooLong}
+use Rattle.der.specs.declared.fault.DerFault.TheVariants.{Trailing, BadValue, Memory}
 
 infixl 10 ◌>>=◌
 abbrev pub ◌>>=◌ : {A B : Type 0} → Result A DerFault → (A → Result B DerFault) → Result B DerFault
@@ -31,12 +34,18 @@ abbrev pub Reads : {X Y : Type 0} → (X → Y) → Result X DerFault → Result
 Reads view (Ok x) read = read ≡ Ok (view x)
 Reads view (Err e) read = read ≡ Err e
 
--- The number that the length octets at the front give, and the octets after them (X.690 8.1.3.4, 8.1.3.5, 10.1).
+-- whether octets after a first one that counts them are the length octets of a number
+unfoldable pub is_length_of : ℕ → List ℕ → Bool
+is_length_of n octets = bytes_eq ((128 + length octets) ∷ octets) (length_octets n)
+
+-- The number that length octets after the first give, where they are the length octets of that number, and the octets
+-- after them (X.690 8.1.3.5, 10.1).
 unfoldable pub long_length : List ℕ → List ℕ → Result (ℕ × List ℕ) DerFault
 long_length octets rest =
-    if (get_or octets 0 0 == 0) || nat_lt (number_from_digits 256 octets) 128 then Err LengthForm
-    else (if nat_lt (number_from_digits 256 octets) (2 ^ 24) then Ok (number_from_digits 256 octets, rest) else Err TooLong)
+    let n = number_from_digits 256 octets in
+    if is_length_of n octets then (if nat_lt n (2 ^ 24) then Ok (n, rest) else Err TooLong) else Err LengthForm
 
+-- the number that the length octets at the front give, and the octets after them (X.690 8.1.3.4, 8.1.3.5)
 unfoldable pub length_at : List ℕ → Result (ℕ × List ℕ) DerFault
 length_at [] = Err Truncated
 length_at (first ∷ rest) =
@@ -79,7 +88,9 @@ nodes_with one (suc k) (octet ∷ octets) = do
 -- the value that a piece is, where `one` reads the value at the front of a constructed one's contents
 unfoldable pub node_of : (List ℕ → Result (Node × List ℕ) DerFault) → Piece → Result (Node × List ℕ) DerFault
 node_of one piece =
-    if bit_six piece.identifier == 1 then (nodes_with one (length piece.contents) piece.contents >>= λ components. Ok (constructed piece.identifier components, piece.rest))
+    if bit_six piece.identifier == 1
+    then (nodes_with one (length piece.contents) piece.contents
+    >>= λ components. Ok (constructed piece.identifier components, piece.rest))
     else Ok (primitive piece.identifier piece.contents, piece.rest)
 
 -- the value at the front, of at most that many levels, and the octets after it

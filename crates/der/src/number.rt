@@ -55,12 +55,6 @@ pub fn is_number_content(octets: &[u8]) -> bool
     ensures shortest { result ≡ is_shortest octets.now }
     ensures content { IsTrue result ↔ (number_content (twos_value octets.now) ≡ octets.now) }
 {
-    starts_as_shortest(octets)
-}
-
-fn starts_as_shortest(octets: &[u8]) -> bool
-    ensures { result ≡ is_shortest octets.now }
-{
     match octets {
         [] => false,
         [_only] => true,

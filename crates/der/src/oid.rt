@@ -1,4 +1,5 @@
-ghost use Rattle.std.specs.Prelude.{◌≡◌, ℕ, ◌*◌, ◌<◌, ◌≤◌, ◌↔◌, ◌⊎◌, nat_eq, List, length, None, Err, IfOk, IfErr, MatchResult, IsTrue, IfSome, IsNone, string_bytes};
+ghost use Rattle.std.specs.Prelude.{◌≡◌, ℕ, ◌*◌, ◌<◌, ◌≤◌, ◌↔◌, ◌⊎◌, nat_eq, List, length, None, Err, IfOk, IfErr};
+ghost use Rattle.std.specs.Prelude.{MatchResult, IsTrue, IfSome, IsNone, string_bytes};
 ghost use Rattle.std.specs.Option.{is_some};
 ghost use Rattle.std.specs.Cmp.Lexicographic.{pointwise};
 ghost use Rattle.std.proofs.lemmas.Cmp.{nat_list_eq_equiv};
@@ -17,8 +18,8 @@ use text::{
 
 mod text;
 
-/// An OBJECT IDENTIFIER (X.690 8.19): 1 to 32 subidentifiers, each below 2^128, of which the first is 40 * X + Y for the
-/// arcs X and Y. The value keeps its contents octets, so that comparing and lending them takes no memory.
+/// An OBJECT IDENTIFIER (X.690 8.19): 1 to 32 subidentifiers, each below 2^128, of which the first is 40 * X + Y for
+/// the arcs X and Y. The value keeps its contents octets, so that comparing and lending them takes no memory.
 #[derive(Drop, Debug)]
 pub struct Oid {
     content: Vec<u8>,
@@ -54,9 +55,9 @@ impl Oid {
     }
 
     /// The object identifier that a text gives, as `1.2.840`: decimal numbers without leading zeros, joined by dots, at
-    /// least two. The first is 0, 1 or 2, the second below 40 where the first is below 2. Refused with `BadValue` where the
-    /// text is another, or gives more than 32 subidentifiers or one of 2^128 or above, and with `Memory` where memory runs
-    /// out.
+    /// least two. The first is 0, 1 or 2, the second below 40 where the first is below 2. Refused with `BadValue` where
+    /// the text is another, or gives more than 32 subidentifiers or one of 2^128 or above, and with `Memory` where
+    /// memory runs out.
     pub fn parse_text(alloc: Global, text: &str) -> Result<Oid, DerFault>
         ensures found { IfOk result (λ oid. IsOid oid × (text.now ≡ oid_text oid)) }
         ensures only { (subidentifiers : List ℕ) → IsOid subidentifiers → text.now ≡ oid_text subidentifiers
@@ -166,7 +167,8 @@ pub fn is_oid_content(content: &[u8]) -> bool
     count > 0 && subidentifier == 0
 }
 
-/// Object identifiers, their contents octets and their texts: each has one content and one text, and no two have the same.
+/// Object identifiers, their contents octets and their texts: each has one content and one text, and no two have the
+/// same.
 pub fn oids_have_one_content_and_text()
     ensures read { (oid : List ℕ) → subidentifiers_of (oid_content oid) ≡ oid }
     ensures octets { (oid : List ℕ) → AreOctets (oid_content oid) }

@@ -3,7 +3,8 @@ ghost use Rattle.std.specs.Prelude.{◌≡◌, ℕ, ◌≤◌, ◌<◌, ◌+◌,
 ghost use Rattle.der.specs.Node.{Node, encoding, IsLawful};
 ghost use Rattle.der.specs.Piece.{piece_view};
 ghost use Rattle.der.specs.Tree.{view, nodes, IsRead};
-ghost use Rattle.der.specs.Reading.{Gives, Reads, Fails, long_length, length_at, identifier_at, element_at, node_at, nodes_with, tree_of};
+ghost use Rattle.der.specs.Reading.{Gives, Reads, Fails, long_length, length_at, identifier_at, element_at, node_at};
+ghost use Rattle.der.specs.Reading.{nodes_with, tree_of};
 
 use crate::fault::DerFault;
 use crate::tag::Tag;
@@ -36,8 +37,8 @@ fn read_identifier(bytes: &[u8]) -> Result<(Tag, &[u8]), DerFault>
     }
 }
 
-/// How many contents octets there are, by the octets after the first length octet. They must be the fewest, so the first
-/// of them is not 0 and the number is at least 128 (X.690 8.1.3.5, 10.1).
+/// How many contents octets there are, by the octets after the first length octet. They must be the fewest, so the
+/// first of them is not 0 and the number is at least 128 (X.690 8.1.3.5, 10.1).
 #[tactic(auto, unfolding(crate::specs::Reading::long_length))]
 fn long_length(octets: &[u8]) -> Result<usize, DerFault>
     ensures { (rest : List ℕ) → Reads (λ count. (count, rest)) result (long_length octets.now rest) }
@@ -129,7 +130,8 @@ fn read_node(alloc: Global, levels: u8, bytes: &[u8]) -> Result<(Tree, &[u8]), D
 /// Values one after the other, until the octets end.
 #[cycle(node)]
 fn read_nodes(alloc: Global, levels: u8, bytes: &[u8]) -> Result<Vec<Tree>, DerFault>
-    ensures { Gives (λ trees. nodes (map view trees.items)) result (nodes_with (node_at levels) (length bytes.now) bytes.now) }
+    ensures { Gives (λ trees. nodes (map view trees.items)) result
+        (nodes_with (node_at levels) (length bytes.now) bytes.now) }
 {
     let mut found = Vec::new(alloc);
     let mut rest = bytes;
@@ -143,11 +145,11 @@ fn read_nodes(alloc: Global, levels: u8, bytes: &[u8]) -> Result<Vec<Tree>, DerF
 
 /// Reads the value that octets are: a value of at most 32 levels, with nothing after it (X.690 8.1, 10.1).
 ///
-/// Of two faults of one value the one in the earlier octet counts, and a value's own faults come before those of the values
-/// inside it, which are looked at from the left. For one value the order is: `TooDeep` for a value on level 33; `Truncated`
-/// where no identifier octet stands; `HighTag`; `LengthForm` for the length octet `80` or `FF`; `Truncated` where length
-/// octets are missing; `LengthForm` for more than the fewest of them; `TooLong` for 2^24 contents octets or more;
-/// `Truncated` where contents octets are missing. `Trailing` comes last. `Memory` comes where it is met.
+/// Of two faults of one value the one in the earlier octet counts, and a value's own faults come before those of the
+/// values inside it, which are looked at from the left. For one value the order is: `TooDeep` for a value on level 33;
+/// `Truncated` where no identifier octet stands; `HighTag`; `LengthForm` for the length octet `80` or `FF`; `Truncated`
+/// where length octets are missing; `LengthForm` for more than the fewest of them; `TooLong` for 2^24 contents octets
+/// or more; `Truncated` where contents octets are missing. `Trailing` comes last. `Memory` comes where it is met.
 pub fn read_tree(alloc: Global, bytes: &[u8]) -> Result<Tree, DerFault>
     ensures found { IfOk result (λ tree. IsLawful (view tree) × (bytes.now ≡ encoding (view tree))) }
     ensures only { (n : Node) → IsLawful n → bytes.now ≡ encoding n → IsRead result n }

@@ -12,18 +12,23 @@ returns-in_err-tag-clause-only c = λ identifier contents rest low short e.
 
 pub invariant_of-result : goal.invariant_of-result
 invariant_of-result c =
-    let read = element_at_reads c.args.octets.now (piece_view c.in_ok-tag.field-0) (AreOctets-at c.args.octets.now (λ i. (c.type_inv.octets i).fits)) c.in_ok-tag.ensures.read in
-    let front = front_taken c.args.octets.now (element c.in_ok-tag.field-0.tag.octet c.in_ok-tag.field-0.contents.now) c.in_ok-tag.field-0.rest.now read.front in
+    let read = element_at_reads c.args.octets.now (piece_view c.in_ok-tag.field-0)
+    (AreOctets-at c.args.octets.now (λ i. (c.type_inv.octets i).fits)) c.in_ok-tag.ensures.read in
+    let front = front_taken c.args.octets.now (element c.in_ok-tag.field-0.tag.octet c.in_ok-tag.field-0.contents.now)
+    c.in_ok-tag.field-0.rest.now read.front in
     record { encoded = c.split_at.ensures.front ∙ front; short = read.short }
 
 pub returns-clause-octets : goal.returns-clause-octets
 returns-clause-octets c =
     let bytes = AreOctets-at c.args.octets.now (λ i. (c.type_inv.octets i).fits) in
     let read = element_at_reads c.args.octets.now (piece_view c.in_ok-tag.field-0) bytes c.in_ok-tag.ensures.read in
-    let parts = AreOctets-parts (element c.in_ok-tag.field-0.tag.octet c.in_ok-tag.field-0.contents.now) c.in_ok-tag.field-0.rest.now (subst AreOctets read.front bytes) in
-    (AreOctets-parts (length_octets (length c.in_ok-tag.field-0.contents.now)) c.in_ok-tag.field-0.contents.now parts.0.1).1
+    let parts = AreOctets-parts (element c.in_ok-tag.field-0.tag.octet c.in_ok-tag.field-0.contents.now)
+    c.in_ok-tag.field-0.rest.now (subst AreOctets read.front bytes) in
+    (AreOctets-parts (length_octets (length c.in_ok-tag.field-0.contents.now)) c.in_ok-tag.field-0.contents.now
+    parts.0.1).1
 
 pub returns-clause-only : goal.returns-clause-only
 returns-clause-only c = λ identifier contents rest low short e.
-    let same = element_found c.args.octets.now (piece_view c.in_ok-tag.field-0) identifier contents rest c.in_ok-tag.ensures.read low short e in
+    let same = element_found c.args.octets.now (piece_view c.in_ok-tag.field-0) identifier contents rest
+    c.in_ok-tag.ensures.read low short e in
     (ap (λ p. p.identifier) same, ap (λ p. p.contents) same)

@@ -1,4 +1,5 @@
-use Rattle.der.proofs.OidContents.{subidentifiers_of-content, octets-oid_content, some-oid_content, length-oid_content, same_from_content, oid_of-content, oid_of-some}
+use Rattle.der.proofs.OidContents.{subidentifiers_of-content, octets-oid_content, some-oid_content, length-oid_content}
+use Rattle.der.proofs.OidContents.{same_from_content, oid_of-content, oid_of-some}
 use Rattle.der.proofs.OidTexts.{same_from_text}
 use Rattle.der.proofs.oid.oids_have_one_content_and_text.Goals as goal
 

@@ -12,7 +12,9 @@ decreases-read_nodes l = 2 * l.levels + 1
 
 abbrev pub invariant-read_nodes-loop-rest : goal.invariant-read_nodes-loop-rest
 invariant-read_nodes-loop-rest l = record {
-  same : after_found (map view l.found.items) (nodes_with (node_at l.levels) (length l.bytes - length l.found.items) l.rest) ≡ nodes_with (node_at l.levels) (length l.bytes) l.bytes;
+  same : after_found (map view l.found.items)
+      (nodes_with (node_at l.levels) (length l.bytes - length l.found.items) l.rest)
+      ≡ nodes_with (node_at l.levels) (length l.bytes) l.bytes;
   room : length l.rest + length l.found.items ≤ length l.bytes;
 }
 

@@ -11,7 +11,8 @@ use Rattle.der.proofs.read.read_tree.Goals as goal
 pub returns-in_err-tree-clause-only : goal.returns-in_err-tree-clause-only
 returns-in_err-tree-clause-only c = λ n lawful same.
     let p = err_from_is_err_and c.from_residual.result c.from_residual.ensures.1 in
-    rw (p.1, p.2) (refused_lawful c.args.bytes.now _ n (tree_of_fails c.args.bytes.now _ c.in_err-tree.ensures.read) lawful same)
+    rw (p.1, p.2) (refused_lawful c.args.bytes.now _ n (tree_of_fails c.args.bytes.now _ c.in_err-tree.ensures.read)
+    lawful same)
 
 pub returns-in_err-tree-clause-refusals : goal.returns-in_err-tree-clause-refusals
 returns-in_err-tree-clause-refusals c =
@@ -26,14 +27,19 @@ returns-then-not-is_empty-clause-refusals c =
 pub returns-then-not-is_empty-clause-only : goal.returns-then-not-is_empty-clause-only
 returns-then-not-is_empty-clause-only c = λ n lawful same.
     let some : 0 < length c.in_ok-tree.rest.now = grind arith in
-    refused_lawful c.args.bytes.now _ n (tree_of_more c.args.bytes.now (view c.in_ok-tree.tree) c.in_ok-tree.rest.now c.in_ok-tree.ensures.read some) lawful same
+    refused_lawful c.args.bytes.now _ n (tree_of_more c.args.bytes.now
+    (view c.in_ok-tree.tree) c.in_ok-tree.rest.now c.in_ok-tree.ensures.read some) lawful same
 
 pub returns-clause-found : goal.returns-clause-found
 returns-clause-found c =
     let none : length c.in_ok-tree.rest.now ≡ 0 = grind arith in
-    tree_of_reads c.args.bytes.now (view c.in_ok-tree.tree) (AreOctets-at c.args.bytes.now (λ i. (c.type_inv.bytes i).fits)) (tree_of_alone c.args.bytes.now (view c.in_ok-tree.tree) c.in_ok-tree.rest.now c.in_ok-tree.ensures.read none)
+    tree_of_reads c.args.bytes.now (view c.in_ok-tree.tree)
+    (AreOctets-at c.args.bytes.now (λ i. (c.type_inv.bytes i).fits))
+    (tree_of_alone c.args.bytes.now (view c.in_ok-tree.tree) c.in_ok-tree.rest.now c.in_ok-tree.ensures.read none)
 
 pub returns-clause-only : goal.returns-clause-only
 returns-clause-only c = λ n lawful same.
     let none : length c.in_ok-tree.rest.now ≡ 0 = grind arith in
-    ok_is (view c.in_ok-tree.tree) n (sym (tree_of_alone c.args.bytes.now (view c.in_ok-tree.tree) c.in_ok-tree.rest.now c.in_ok-tree.ensures.read none) ∙ (ap tree_of same ∙ tree_of-encoding n lawful))
+    ok_is (view c.in_ok-tree.tree) n (sym (tree_of_alone c.args.bytes.now
+    (view c.in_ok-tree.tree) c.in_ok-tree.rest.now c.in_ok-tree.ensures.read none)
+    ∙ (ap tree_of same ∙ tree_of-encoding n lawful))

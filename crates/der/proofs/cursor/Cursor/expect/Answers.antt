@@ -10,4 +10,6 @@ returns-in_err-found-clause-refusals c =
 pub returns-then-ne-clause-refusals : goal.returns-then-ne-clause-refusals
 returns-then-ne-clause-refusals c =
     let e = c.in_ok-found.found in
-    expected_other c.args.tag.octet c.args.self.now e.whole.now e.tag.octet e.content.now c.next.new.self c.in_ok-found.ensures.found e.encoded e.tag.low_tag_number e.short (not_equal e.tag.octet c.args.tag.octet c.if-ne.ensures)
+    expected_other c.args.tag.octet c.args.self.now e.whole.now e.tag.octet e.content.now c.next.new.self
+    c.in_ok-found.ensures.found e.encoded e.tag.low_tag_number e.short
+    (not_equal e.tag.octet c.args.tag.octet c.if-ne.ensures)

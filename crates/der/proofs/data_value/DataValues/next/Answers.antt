@@ -13,14 +13,16 @@ invariant_of-self c =
     let e = c.in-Ok.element in
     let front = c.in-Ok.ensures.front in
     let rest_is = c.split_at.ensures.back ∙ rest_dropped c.args.self.now.rest.now e.whole.now front.0 front.1 in
-    let found = next_found c.args.self.now.rest.now e.whole.now e.tag.octet e.content.now front.0 c.args.self.now.lawful front.1 e.encoded c.in-Ok.ensures.only in
+    let found = next_found c.args.self.now.rest.now e.whole.now e.tag.octet e.content.now front.0 c.args.self.now.lawful
+    front.1 e.encoded c.in-Ok.ensures.only in
     record { lawful = ap are_values rest_is ∙ found.left }
 
 pub invariant_of-result : goal.invariant_of-result
 invariant_of-result c =
     let e = c.in-Ok.element in
     let front = c.in-Ok.ensures.front in
-    let found = next_found c.args.self.now.rest.now e.whole.now e.tag.octet e.content.now front.0 c.args.self.now.lawful front.1 e.encoded c.in-Ok.ensures.only in
+    let found = next_found c.args.self.now.rest.now e.whole.now e.tag.octet e.content.now front.0 c.args.self.now.lawful
+    front.1 e.encoded c.in-Ok.ensures.only in
     record { lawful = found.value }
 
 pub returns-clause-first : goal.returns-clause-first
@@ -28,5 +30,6 @@ returns-clause-first c =
     let e = c.in-Ok.element in
     let front = c.in-Ok.ensures.front in
     let rest_is = c.split_at.ensures.back ∙ rest_dropped c.args.self.now.rest.now e.whole.now front.0 front.1 in
-    let found = next_found c.args.self.now.rest.now e.whole.now e.tag.octet e.content.now front.0 c.args.self.now.lawful front.1 e.encoded c.in-Ok.ensures.only in
+    let found = next_found c.args.self.now.rest.now e.whole.now e.tag.octet e.content.now front.0 c.args.self.now.lawful
+    front.1 e.encoded c.in-Ok.ensures.only in
     ap (λ rest. Some (value_in e.whole.now, values_in rest)) rest_is ∙ sym found.first

@@ -5,17 +5,20 @@ use Rattle.der.proofs.oid.Oid.from_content.Goals as goal
 
 pub returns-then-not-is_oid_content-clause-only : goal.returns-then-not-is_oid_content-clause-only
 returns-then-not-is_oid_content-clause-only c subidentifiers oid written =
-    absurd (false≢true (c.if-not-is_oid_content.ensures.content.1 (record { subidentifiers = subidentifiers; oid = oid; encoded = written })))
+    absurd (false≢true (c.if-not-is_oid_content.ensures.content.1
+    (record { subidentifiers = subidentifiers; oid = oid; encoded = written })))
 
 pub invariant_of-result : goal.invariant_of-result
 invariant_of-result c =
     let is = c.if-not-is_oid_content.ensures.content.0 refl in
-    ReadsAsOid-written c.in_ok-from_slice.field-0.items is.subidentifiers is.oid (c.in_ok-from_slice.ensures.items ∙ is.encoded)
+    ReadsAsOid-written c.in_ok-from_slice.field-0.items is.subidentifiers is.oid
+    (c.in_ok-from_slice.ensures.items ∙ is.encoded)
 
 pub returns-clause-found : goal.returns-clause-found
 returns-clause-found c =
     let is = c.if-not-is_oid_content.ensures.content.0 refl in
-    let read = ReadsAsOid-written c.in_ok-from_slice.field-0.items is.subidentifiers is.oid (c.in_ok-from_slice.ensures.items ∙ is.encoded) in
+    let read = ReadsAsOid-written c.in_ok-from_slice.field-0.items is.subidentifiers is.oid
+    (c.in_ok-from_slice.ensures.items ∙ is.encoded) in
     (read.oid, sym c.in_ok-from_slice.ensures.items ∙ sym read.same)
 
 pub returns-clause-only : goal.returns-clause-only

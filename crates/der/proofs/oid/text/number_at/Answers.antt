@@ -2,7 +2,8 @@ use Rattle.std.proofs.Common.{length, sym, refl, subst, arith}
 use Rattle.std.proofs.lemmas.Bool.{eqb-true, eqb-false}
 use Rattle.std.proofs.lemmas.List.{take_rest}
 use Rattle.der.specs.ObjectIdentifier.{IsNumberAt}
-use Rattle.der.proofs.OidNumbers.{number_none, number_found, number_missing, number_padded, number_large, number_to_end, no_text, no_number}
+use Rattle.der.proofs.OidNumbers.{number_none, number_found, number_missing, number_padded, number_large, number_to_end}
+use Rattle.der.proofs.OidNumbers.{no_text, no_number}
 use Rattle.der.proofs.oid.text.number_at.Goals as goal
 
 pub loop-index-init : goal.loop-index-init
@@ -11,22 +12,26 @@ loop-index-init c = number_none c.args.text.now
 pub returns-then-index-gt0 : goal.returns-then-index-gt0
 returns-then-index-gt0 c =
     subst (IsNumberAt c.args.text.now c.loop-index.number) (sym (take_rest c.args.text.now c.loop-index.index))
-    (number_found _ _ _ _ c.loop-index-test.true refl c.loop-index.invariant c.if-not-is_ascii_digit.ensures.cases c.if-index-gt0.true)
+    (number_found _ _ _ _ c.loop-index-test.true refl c.loop-index.invariant c.if-not-is_ascii_digit.ensures.cases
+    c.if-index-gt0.true)
 
 pub returns-else-index-gt0 : goal.returns-else-index-gt0
 returns-else-index-gt0 c =
-    no_number c.args.text.now (number_missing _ _ _ _ c.loop-index-test.true refl c.loop-index.invariant c.if-not-is_ascii_digit.ensures.cases c.if-index-gt0.false)
+    no_number c.args.text.now (number_missing _ _ _ _ c.loop-index-test.true refl c.loop-index.invariant
+    c.if-not-is_ascii_digit.ensures.cases c.if-index-gt0.false)
 
 pub returns-then-number-eq0 : goal.returns-then-number-eq0
 returns-then-number-eq0 c =
     let digit = c.if-not-is_ascii_digit.ensures.cases in
-    no_number c.args.text.now (number_padded _ _ _ _ c.loop-index-test.true refl c.loop-index.invariant digit.0 digit.1 c.if-index-gt0-2.true c.if-number-eq0.true)
+    no_number c.args.text.now (number_padded _ _ _ _ c.loop-index-test.true refl c.loop-index.invariant digit.0 digit.1
+    c.if-index-gt0-2.true c.if-number-eq0.true)
 
 pub returns-in_err-number : goal.returns-in_err-number
 returns-in_err-number c =
     let digit = c.if-not-is_ascii_digit.ensures.cases in
     rw c.from_residual.ensures
-    (no_number c.args.text.now (number_large _ _ _ _ c.loop-index-test.true refl c.loop-index.invariant digit.0 digit.1 (λ some none. absurd (omega arith)) c.in_err-number.ensures))
+    (no_number c.args.text.now (number_large _ _ _ _ c.loop-index-test.true refl c.loop-index.invariant digit.0 digit.1
+    (λ some none. absurd (omega arith)) c.in_err-number.ensures))
 
 pub returns-then-is_empty : goal.returns-then-is_empty
 returns-then-is_empty c =
