@@ -1,6 +1,8 @@
 -- The TSTInfo that answers a request of at most 65,536 octets is lawful.
-use Rattle.std.proofs.Common.{◌≡◌, ℕ, suc, ◌+◌, ◌/◌, ◌%◌, ◌<◌, ◌≤◌, ◌^◌, Bool, true, false, cond, eqb, pos, List, [], ◌∷◌, ◌++◌, length, ◌⊎◌, inl, inr, refl, sym, ap, ◌∙◌, subst, arith, length-append}
-use Rattle.der.specs.Node.{Node, primitive, constructed, Nodes, no_nodes, node, element, encoding, encodings, AreOctets, IsLawful}
+use Rattle.std.proofs.Common.{◌≡◌, ℕ, suc, ◌+◌, ◌/◌, ◌%◌, ◌<◌, ◌≤◌, ◌^◌, Bool, true, false, cond, eqb, pos, List, []}
+use Rattle.std.proofs.Common.{◌∷◌, ◌++◌, length, ◌⊎◌, inl, inr, refl, sym, ap, ◌∙◌, subst, arith, length-append}
+use Rattle.der.specs.Node.{Node, primitive, constructed, Nodes, no_nodes, node, element, encoding, encodings, AreOctets}
+use Rattle.der.specs.Node.{IsLawful}
 use Rattle.der.specs.Tree.{nodes}
 use Rattle.der.specs.Number.{number_content}
 use Rattle.der.specs.ObjectIdentifier.{IsOid, oid_content}
@@ -9,11 +11,14 @@ use Rattle.der.proofs.OidContents.{octets-oid_content, length-oid_content}
 use Rattle.gentime.specs.GenTime.{text_of, last_moment}
 use Rattle.gentime.proofs.Texts.{text_of_short}
 use Rattle.tsp.specs.Grammar.{integer, boolean, octet_string, object_identifier, sequence, optional, false_by_default}
-use Rattle.tsp.specs.Request.{ExtensionValue, RequestValue, IsRequest, Stated, Spells, sha256_identifier, sha256_request, message_imprint, extension, extension_nodes, extensions_under, unstated, time_stamp_req}
+use Rattle.tsp.specs.Request.{ExtensionValue, RequestValue, IsRequest, Stated, Spells, sha256_identifier}
+use Rattle.tsp.specs.Request.{sha256_request, message_imprint, extension, extension_nodes, extensions_under, unstated}
+use Rattle.tsp.specs.Request.{time_stamp_req}
 use Rattle.tsp.specs.Tst.{TstValue, IsTst, accuracy_part, accuracy, generalized_time, tst_info, answer}
 use Rattle.tsp.proofs.ObjectIdentifiers.{sha256_is_oid}
 use Rattle.tsp.proofs.Components.{before, nodes-append}
-use Rattle.tsp.proofs.Sizes.{IsWithin, AreWithin, wider, within_none, within_node, within_before, within_primitive, within_constructed, within_components, within_first, within_parts, length-element}
+use Rattle.tsp.proofs.Sizes.{IsWithin, AreWithin, wider, within_none, within_node, within_before, within_primitive}
+use Rattle.tsp.proofs.Sizes.{within_constructed, within_components, within_first, within_parts, length-element}
 use Rattle.tsp.proofs.RequestReads.{request_tail}
 
 oid_is_short : (a : List ℕ) → IsOid a → AreOctets (oid_content a) × (length (oid_content a) ≤ 608)
@@ -24,44 +29,57 @@ pub number_is_short : (n : ℕ) → n < 9223372036854775808 → length (number_c
 unfolding number_content
 number_is_short n small = length-magnitude 7 n (omega arith)
 
-within_number : (t n : ℕ) → (t ≡ 2) ⊎ ((t ≡ 128) ⊎ (t ≡ 129)) → n < 9223372036854775808 → IsWithin 1 13 (primitive t (number_content (pos n)))
-within_number t n kind small = within_primitive t 8 (number_content (pos n)) (omega arith, omega arith) (omega arith) (octets-number_content (pos n)) (number_is_short n small) (omega arith)
+within_number : (t n : ℕ) → (t ≡ 2) ⊎ ((t ≡ 128) ⊎ (t ≡ 129)) → n < 9223372036854775808
+    → IsWithin 1 13 (primitive t (number_content (pos n)))
+within_number t n kind small = within_primitive t 8 (number_content (pos n)) (omega arith, omega arith) (omega arith)
+    (octets-number_content (pos n)) (number_is_short n small) (omega arith)
 
 within_oid : (a : List ℕ) → IsOid a → IsWithin 1 613 (object_identifier a)
-within_oid a h = let short = oid_is_short a h in within_primitive 6 608 (oid_content a) (omega arith, omega arith) refl short.0 short.1 (omega arith)
+within_oid a h = let short = oid_is_short a h in
+    within_primitive 6 608 (oid_content a) (omega arith, omega arith) refl short.0 short.1 (omega arith)
 
 within_time : (moment : ℕ) → moment ≤ last_moment → IsWithin 1 27 (generalized_time moment)
-within_time moment h = let short = text_of_short 6 moment h in within_primitive 24 22 (text_of 6 moment) (omega arith, omega arith) refl short.2 short.1 (omega arith)
+within_time moment h = let short = text_of_short 6 moment h in
+    within_primitive 24 22 (text_of 6 moment) (omega arith, omega arith) refl short.2 short.1 (omega arith)
 
 within_boolean : (b : Bool) → IsWithin 1 6 (boolean b)
-within_boolean true = within_primitive 1 1 (255 ∷ []) (omega arith, omega arith) refl (omega arith, tt) (omega arith) (omega arith)
-within_boolean false = within_primitive 1 1 (0 ∷ []) (omega arith, omega arith) refl (omega arith, tt) (omega arith) (omega arith)
+within_boolean true = within_primitive 1 1 (255 ∷ []) (omega arith, omega arith) refl (omega arith, tt) (omega arith)
+    (omega arith)
+within_boolean false = within_primitive 1 1 (0 ∷ []) (omega arith, omega arith) refl (omega arith, tt) (omega arith)
+    (omega arith)
 
 within_flag : (stated b : Bool) → AreWithin 1 6 (nodes (false_by_default stated b))
 within_flag stated true = within_node 1 6 0 (boolean true) no_nodes (within_boolean true) (within_none 1)
 within_flag true false = within_node 1 6 0 (boolean false) no_nodes (within_boolean false) (within_none 1)
 within_flag false false = record { formed = tt; deep = omega arith; long = omega arith }
 
-within_part : (t n : ℕ) → (t ≡ 2) ⊎ ((t ≡ 128) ⊎ (t ≡ 129)) → n < 9223372036854775808 → AreWithin 1 13 (nodes (accuracy_part t n))
+within_part : (t n : ℕ) → (t ≡ 2) ⊎ ((t ≡ 128) ⊎ (t ≡ 129)) → n < 9223372036854775808
+    → AreWithin 1 13 (nodes (accuracy_part t n))
 within_part t n kind small = by_test (eqb n 0)
   where
     by_test : (z : Bool) → AreWithin 1 13 (nodes (cond z [] (primitive t (number_content (pos n)) ∷ [])))
     by_test true = record { formed = tt; deep = omega arith; long = omega arith }
-    by_test false = within_node 1 13 0 (primitive t (number_content (pos n))) no_nodes (within_number t n kind small) (within_none 1)
+    by_test false = within_node 1 13 0 (primitive t (number_content (pos n))) no_nodes (within_number t n kind small)
+        (within_none 1)
 
 within_accuracy : (n : ℕ) → n ≤ 1000000 → IsWithin 2 44 (accuracy n)
 within_accuracy n small =
     let seconds = within_part 2 (n / 1000000) (inl refl) (omega arith) in
     let millis = within_part 128 (n / 1000 % 1000) (inr (inl refl)) (omega arith) in
     let micros = within_part 129 (n % 1000) (inr (inr refl)) (omega arith) in
-    let split : nodes (accuracy_part 2 (n / 1000000) ++ (accuracy_part 128 (n / 1000 % 1000) ++ accuracy_part 129 (n % 1000)))
-    ≡ before (accuracy_part 2 (n / 1000000)) (before (accuracy_part 128 (n / 1000 % 1000)) (nodes (accuracy_part 129 (n % 1000)))) =
+    let split : nodes (accuracy_part 2 (n / 1000000)
+    ++ (accuracy_part 128 (n / 1000 % 1000) ++ accuracy_part 129 (n % 1000)))
+    ≡ before (accuracy_part 2 (n / 1000000)) (before (accuracy_part 128 (n / 1000 % 1000))
+    (nodes (accuracy_part 129 (n % 1000)))) =
     nodes-append _ _ ∙ ap (before (accuracy_part 2 (n / 1000000))) (nodes-append _ _) in
-    let all = within_before 1 13 26 (accuracy_part 2 (n / 1000000)) _ seconds (within_before 1 13 13 (accuracy_part 128 (n / 1000 % 1000)) _ millis micros) in
+    let all = within_before 1 13 26 (accuracy_part 2 (n / 1000000)) _ seconds
+    (within_before 1 13 13 (accuracy_part 128 (n / 1000 % 1000)) _ millis micros) in
     within_constructed 48 1 39 _ (omega arith, omega arith) refl (subst (AreWithin 1 39) (sym split) all) (omega arith)
 
 -- an extension's FALSE left away makes it no larger
-without_false : (depth size : ℕ) (id value : Node) → IsWithin (suc depth) size (constructed 48 (node id (node (boolean false) (node value no_nodes)))) → IsWithin (suc depth) size (constructed 48 (node id (node value no_nodes)))
+without_false : (depth size : ℕ) (id value : Node)
+    → IsWithin (suc depth) size (constructed 48 (node id (node (boolean false) (node value no_nodes))))
+    → IsWithin (suc depth) size (constructed 48 (node id (node value no_nodes)))
 without_false depth size id value h =
     let old_contents = encodings (node id (node (boolean false) (node value no_nodes))) in
     let new_contents = encodings (node id (node value no_nodes)) in
@@ -79,31 +97,45 @@ without_false depth size id value h =
     }
 
 within_extension : (stated critical : Bool) (depth size : ℕ) (id value : List ℕ)
-    → IsWithin (suc depth) size (sequence (object_identifier id ∷ (false_by_default stated critical ++ (octet_string value ∷ []))))
-    → IsWithin (suc depth) size (sequence (object_identifier id ∷ (false_by_default false critical ++ (octet_string value ∷ []))))
+    → IsWithin (suc depth) size (sequence (object_identifier id
+    ∷ (false_by_default stated critical ++ (octet_string value ∷ []))))
+    → IsWithin (suc depth) size (sequence (object_identifier id
+    ∷ (false_by_default false critical ++ (octet_string value ∷ []))))
 within_extension stated true depth size id value h = h
 within_extension false false depth size id value h = h
-within_extension true false depth size id value h = without_false depth size (object_identifier id) (octet_string value) h
+within_extension true false depth size id value h =
+    without_false depth size (object_identifier id) (octet_string value) h
 
-within_extensions : (stated : List Bool) (depth size : ℕ) (es : List ExtensionValue) → AreWithin (suc depth) size (nodes (extension_nodes stated es)) → AreWithin (suc depth) size (nodes (extension_nodes [] es))
+within_extensions : (stated : List Bool) (depth size : ℕ) (es : List ExtensionValue)
+    → AreWithin (suc depth) size (nodes (extension_nodes stated es))
+    → AreWithin (suc depth) size (nodes (extension_nodes [] es))
 within_extensions stated depth size [] h = h
 within_extensions [] depth size (e ∷ es) h = h
 within_extensions (s ∷ ss) depth size (e ∷ es) h =
     let first = within_first (suc depth) size (extension s e) (nodes (extension_nodes ss es)) h in
     let sum = length-append (encoding (extension s e)) (encodings (nodes (extension_nodes ss es))) in
-    let one = within_extension s e.critical depth (length (encoding (extension s e))) e.identifier e.value (record { formed = first.0.formed; deep = first.0.deep; long = omega arith }) in
-    let rest = within_extensions ss depth (length (encodings (nodes (extension_nodes ss es)))) es (record { formed = first.1.formed; deep = first.1.deep; long = omega arith }) in
-    let all = within_node (suc depth) (length (encoding (extension s e))) (length (encodings (nodes (extension_nodes ss es)))) (extension false e) (nodes (extension_nodes [] es)) one rest in
+    let one = within_extension s e.critical depth (length (encoding (extension s e))) e.identifier e.value
+    (record { formed = first.0.formed; deep = first.0.deep; long = omega arith }) in
+    let rest = within_extensions ss depth (length (encodings (nodes (extension_nodes ss es)))) es
+    (record { formed = first.1.formed; deep = first.1.deep; long = omega arith }) in
+    let all = within_node (suc depth) (length (encoding (extension s e)))
+    (length (encodings (nodes (extension_nodes ss es)))) (extension false e)
+    (nodes (extension_nodes [] es)) one rest in
     record { formed = all.formed; deep = all.deep; long = omega (arith, all.long, sum, h.long) }
 
 -- the extensions of a request, as a TSTInfo has them
-within_extension_list : (stated : List Bool) (depth size : ℕ) (es : List ExtensionValue) → size < 16777216 → AreWithin (suc (suc depth)) size (nodes (extensions_under 160 stated es)) → AreWithin (suc (suc depth)) (size + 5) (nodes (extensions_under 161 [] es))
+within_extension_list : (stated : List Bool) (depth size : ℕ) (es : List ExtensionValue) → size < 16777216
+    → AreWithin (suc (suc depth)) size (nodes (extensions_under 160 stated es))
+    → AreWithin (suc (suc depth)) (size + 5) (nodes (extensions_under 161 [] es))
 within_extension_list stated depth size [] small h = record { formed = tt; deep = omega arith; long = omega arith }
 within_extension_list stated depth size (e ∷ es) small h =
-    let list = within_first (suc (suc depth)) size (constructed 160 (nodes (extension_nodes stated (e ∷ es)))) no_nodes h in
+    let list = within_first (suc (suc depth)) size (constructed 160 (nodes (extension_nodes stated (e ∷ es)))) no_nodes
+    h in
     let inside = within_components 160 (suc depth) size (nodes (extension_nodes stated (e ∷ es))) list.0 in
-    let new = within_constructed 161 (suc depth) size (nodes (extension_nodes [] (e ∷ es))) (omega arith, omega arith) refl (within_extensions stated depth size (e ∷ es) inside) small in
-    let one = within_node (suc (suc depth)) (size + 5) 0 (constructed 161 (nodes (extension_nodes [] (e ∷ es)))) no_nodes new (within_none (suc (suc depth))) in
+    let new = within_constructed 161 (suc depth) size (nodes (extension_nodes [] (e ∷ es))) (omega arith, omega arith)
+    refl (within_extensions stated depth size (e ∷ es) inside) small in
+    let one = within_node (suc (suc depth)) (size + 5) 0 (constructed 161 (nodes (extension_nodes [] (e ∷ es))))
+    no_nodes new (within_none (suc (suc depth))) in
     record { formed = one.formed; deep = one.deep; long = omega (arith, one.long) }
 
 -- the parts of a request that its TSTInfo repeats
@@ -112,9 +144,11 @@ record Repeats (r : RequestValue) : Type 0 where
   nonce : AreWithin 31 65536 (nodes (optional integer r.nonce))
   extensions : AreWithin 31 65541 (nodes (extensions_under 161 [] r.extensions))
 
-repeats : (s : Stated) (r : RequestValue) → IsLawful (time_stamp_req s r) → length (encoding (time_stamp_req s r)) ≤ 65536 → Repeats r
+repeats : (s : Stated) (r : RequestValue) → IsLawful (time_stamp_req s r)
+    → length (encoding (time_stamp_req s r)) ≤ 65536 → Repeats r
 repeats s r lawful short =
-    let whole : IsWithin 32 65536 (time_stamp_req s r) = record { formed = lawful.formed; deep = lawful.depth; long = short } in
+    let whole : IsWithin 32 65536 (time_stamp_req s r) =
+    record { formed = lawful.formed; deep = lawful.depth; long = short } in
     let inside = within_components 48 31 65536 _ whole in
     let first = within_first 31 65536 (integer r.version) _ inside in
     let second = within_first 31 65536 (message_imprint r.imprint) _ first.1 in
@@ -122,57 +156,88 @@ repeats s r lawful short =
     let policy = within_parts 31 65536 (optional object_identifier r.policy) _ tail in
     let nonce = within_parts 31 65536 (optional integer r.nonce) _ policy.1 in
     let flag = within_parts 31 65536 (false_by_default s.cert_req r.cert_req) _ nonce.1 in
-    record { imprint = second.0; nonce = nonce.0; extensions = within_extension_list s.critical 29 65536 r.extensions (omega arith) flag.1 }
+    record {
+      imprint = second.0;
+      nonce = nonce.0;
+      extensions =
+          within_extension_list s.critical 29 65536 r.extensions (omega arith) flag.1;
+    }
 
 -- the optional components of a TSTInfo, one after the other
-pub tst_tail : (t : TstValue) → nodes (false_by_default false t.ordering ++ (optional integer t.nonce ++ extensions_under 161 [] t.extensions))
-    ≡ before (false_by_default false t.ordering) (before (optional integer t.nonce) (nodes (extensions_under 161 [] t.extensions)))
+pub tst_tail : (t : TstValue) → nodes (false_by_default false t.ordering
+    ++ (optional integer t.nonce ++ extensions_under 161 [] t.extensions))
+    ≡ before (false_by_default false t.ordering)
+    (before (optional integer t.nonce) (nodes (extensions_under 161 [] t.extensions)))
 tst_tail t = nodes-append _ _ ∙ ap (before (false_by_default false t.ordering)) (nodes-append _ _)
 
 deeper : (depth more size : ℕ) (ns : Nodes) → AreWithin depth size ns → depth ≤ more → AreWithin more size ns
 deeper depth more size ns h d = record { formed = h.formed; deep = omega (arith, h.deep); long = h.long }
 
-tst_within : (t : TstValue) → IsTst t → IsWithin 31 65536 (message_imprint t.imprint) → AreWithin 31 65536 (nodes (optional integer t.nonce)) → AreWithin 31 65541 (nodes (extensions_under 161 [] t.extensions)) → IsLawful (tst_info t)
+tst_within : (t : TstValue) → IsTst t → IsWithin 31 65536 (message_imprint t.imprint)
+    → AreWithin 31 65536 (nodes (optional integer t.nonce))
+    → AreWithin 31 65541 (nodes (extensions_under 161 [] t.extensions)) → IsLawful (tst_info t)
 tst_within t h imprint nonce extensions =
-    let tail = subst (AreWithin 31 131083) (sym (tst_tail t)) (within_before 31 6 131077 (false_by_default false t.ordering) _ (deeper 1 31 6 _ (within_flag false t.ordering) (omega arith)) (within_before 31 65536 65541 (optional integer t.nonce) _ nonce extensions)) in
-    let after_accuracy = nodes (false_by_default false t.ordering ++ (optional integer t.nonce ++ extensions_under 161 [] t.extensions)) in
+    let tail = subst (AreWithin 31 131083) (sym (tst_tail t))
+    (within_before 31 6 131077 (false_by_default false t.ordering) _
+    (deeper 1 31 6 _ (within_flag false t.ordering) (omega arith))
+    (within_before 31 65536 65541 (optional integer t.nonce) _ nonce extensions)) in
+    let after_accuracy = nodes (false_by_default false t.ordering
+    ++ (optional integer t.nonce ++ extensions_under 161 [] t.extensions)) in
     let after_time = node (accuracy t.accuracy) after_accuracy in
     let after_serial = node (generalized_time t.gen_time) after_time in
     let after_imprint = node (integer (pos t.serial)) after_serial in
     let after_policy = node (message_imprint t.imprint) after_imprint in
     let after_version = node (object_identifier t.policy) after_policy in
     let up = λ (n : Node) (size : ℕ) (w : IsWithin 1 size n). wider 1 size 31 size n w (omega arith) (omega arith) in
-    let a = within_node 31 44 131083 (accuracy t.accuracy) after_accuracy (wider 2 44 31 44 (accuracy t.accuracy) (within_accuracy t.accuracy h.most_accuracy) (omega arith) (omega arith)) tail in
-    let b = within_node 31 27 131127 (generalized_time t.gen_time) after_time (up (generalized_time t.gen_time) 27 (within_time t.gen_time h.gen_time)) a in
-    let c = within_node 31 13 131154 (integer (pos t.serial)) after_serial (up (integer (pos t.serial)) 13 (within_number 2 t.serial (inl refl) (omega (arith, h.last_serial)))) b in
+    let a = within_node 31 44 131083 (accuracy t.accuracy) after_accuracy
+    (wider 2 44 31 44 (accuracy t.accuracy) (within_accuracy t.accuracy h.most_accuracy) (omega arith)
+    (omega arith)) tail in
+    let b = within_node 31 27 131127 (generalized_time t.gen_time) after_time
+    (up (generalized_time t.gen_time) 27 (within_time t.gen_time h.gen_time)) a in
+    let c = within_node 31 13 131154 (integer (pos t.serial)) after_serial
+    (up (integer (pos t.serial)) 13 (within_number 2 t.serial (inl refl) (omega (arith, h.last_serial)))) b in
     let d = within_node 31 65536 131167 (message_imprint t.imprint) after_imprint imprint c in
-    let e = within_node 31 613 196703 (object_identifier t.policy) after_policy (up (object_identifier t.policy) 613 (within_oid t.policy h.policy)) d in
-    let f = within_node 31 13 197316 (integer (pos 1)) after_version (up (integer (pos 1)) 13 (within_number 2 1 (inl refl) (omega arith))) e in
-    let whole = within_constructed 48 31 197329 (node (integer (pos 1)) after_version) (omega arith, omega arith) refl f (omega arith) in
+    let e = within_node 31 613 196703 (object_identifier t.policy) after_policy
+    (up (object_identifier t.policy) 613 (within_oid t.policy h.policy)) d in
+    let f = within_node 31 13 197316 (integer (pos 1)) after_version
+    (up (integer (pos 1)) 13 (within_number 2 1 (inl refl) (omega arith))) e in
+    let whole = within_constructed 48 31 197329 (node (integer (pos 1)) after_version) (omega arith, omega arith) refl f
+    (omega arith) in
     record { formed = whole.formed; depth = whole.deep }
 
-pub tst_is_lawful : (octets : List ℕ) (r : RequestValue) (t : TstValue) → Spells octets r → length octets ≤ 65536 → IsTst t → t.imprint ≡ r.imprint → t.nonce ≡ r.nonce → t.extensions ≡ r.extensions → IsLawful (tst_info t)
+pub tst_is_lawful : (octets : List ℕ) (r : RequestValue) (t : TstValue) → Spells octets r → length octets ≤ 65536
+    → IsTst t → t.imprint ≡ r.imprint → t.nonce ≡ r.nonce → t.extensions ≡ r.extensions → IsLawful (tst_info t)
 tst_is_lawful octets r t spells short h i n x =
     let parts = repeats spells.stated r spells.lawful (omega (arith, short, ap length spells.spelled)) in
-    tst_within t h (subst (λ v. IsWithin 31 65536 (message_imprint v)) (sym i) parts.imprint) (subst (λ v. AreWithin 31 65536 (nodes (optional integer v))) (sym n) parts.nonce)
+    tst_within t h (subst (λ v. IsWithin 31 65536 (message_imprint v)) (sym i) parts.imprint)
+    (subst (λ v. AreWithin 31 65536 (nodes (optional integer v))) (sym n) parts.nonce)
     (subst (λ v. AreWithin 31 65541 (nodes (extensions_under 161 [] v))) (sym x) parts.extensions)
 
 -- what writing a part of an accuracy adds
-pub part_adds : (t n : ℕ) (old new : List ℕ) → n < 4294967296 → new ≡ old ++ encodings (nodes (accuracy_part t n)) → length new ≤ length old + 13
+pub part_adds : (t n : ℕ) (old new : List ℕ) → n < 4294967296 → new ≡ old ++ encodings (nodes (accuracy_part t n))
+    → length new ≤ length old + 13
 part_adds t n old new small e = by_test (eqb n 0) e
   where
-    by_test : (z : Bool) → new ≡ old ++ encodings (nodes (cond z [] (primitive t (number_content (pos n)) ∷ []))) → length new ≤ length old + 13
+    by_test : (z : Bool) → new ≡ old ++ encodings (nodes (cond z [] (primitive t (number_content (pos n)) ∷ [])))
+        → length new ≤ length old + 13
     by_test true e = omega (arith, ap length e, length-append old [])
     by_test false e =
         let short = number_is_short n (omega arith) in
         let size = length-element t (number_content (pos n)) (omega arith) in
-        omega (arith, ap length e, length-append old (element t (number_content (pos n)) ++ []), length-append (element t (number_content (pos n))) [], size.1)
+        omega (
+          arith,
+          ap length e,
+          length-append old (element t (number_content (pos n)) ++ []),
+          length-append (element t (number_content (pos n))) [],
+          size.1,
+        )
 
 -- what answers a request is within its ranges, and lawful
 pub answer_is_lawful : (octets : List ℕ) (r : RequestValue) → Spells octets r → length octets ≤ 65536
     → (policy : List ℕ) (serial gen_time accuracy : ℕ) (ordering : Bool) → IsOid policy → 1 ≤ serial → serial < 2 ^ 63
-    → gen_time ≤ 253402300799999999 → 1 ≤ accuracy → accuracy ≤ 1000000
-    → IsTst (answer r policy serial gen_time accuracy ordering) × IsLawful (tst_info (answer r policy serial gen_time accuracy ordering))
+    → gen_time ≤ last_moment → 1 ≤ accuracy → accuracy ≤ 1000000
+    → IsTst (answer r policy serial gen_time accuracy ordering)
+    × IsLawful (tst_info (answer r policy serial gen_time accuracy ordering))
 answer_is_lawful octets r spells short policy serial gen_time accuracy ordering p s1 s2 g a1 a2 =
     let ranges : IsTst (answer r policy serial gen_time accuracy ordering) = record {
       policy = p;
@@ -183,24 +248,40 @@ answer_is_lawful octets r spells short policy serial gen_time accuracy ordering 
       some_accuracy = a1;
       most_accuracy = a2;
       extensions = spells.proper.extensions;
-    } in
-    (ranges, tst_is_lawful octets r (answer r policy serial gen_time accuracy ordering) spells short ranges refl refl refl)
+    } in (
+      ranges,
+      tst_is_lawful octets r (answer r policy serial gen_time accuracy ordering) spells short ranges refl refl
+          refl,
+    )
 
 -- the extensions of a request, without stated FALSEs
-within_extension_list_request : (stated : List Bool) (depth size : ℕ) (es : List ExtensionValue) → size < 16777216 → AreWithin (suc (suc depth)) size (nodes (extensions_under 160 stated es)) → AreWithin (suc (suc depth)) (size + 5) (nodes (extensions_under 160 [] es))
-within_extension_list_request stated depth size [] small h = record { formed = tt; deep = omega arith; long = omega arith }
+within_extension_list_request : (stated : List Bool) (depth size : ℕ) (es : List ExtensionValue) → size < 16777216
+    → AreWithin (suc (suc depth)) size (nodes (extensions_under 160 stated es))
+    → AreWithin (suc (suc depth)) (size + 5) (nodes (extensions_under 160 [] es))
+within_extension_list_request stated depth size [] small h =
+    record { formed = tt; deep = omega arith; long = omega arith }
 within_extension_list_request stated depth size (e ∷ es) small h =
-    let list = within_first (suc (suc depth)) size (constructed 160 (nodes (extension_nodes stated (e ∷ es)))) no_nodes h in
+    let list = within_first (suc (suc depth)) size (constructed 160 (nodes (extension_nodes stated (e ∷ es)))) no_nodes
+    h in
     let inside = within_components 160 (suc depth) size (nodes (extension_nodes stated (e ∷ es))) list.0 in
-    let new = within_constructed 160 (suc depth) size (nodes (extension_nodes [] (e ∷ es))) (omega arith, omega arith) refl (within_extensions stated depth size (e ∷ es) inside) small in
-    let one = within_node (suc (suc depth)) (size + 5) 0 (constructed 160 (nodes (extension_nodes [] (e ∷ es)))) no_nodes new (within_none (suc (suc depth))) in
+    let new = within_constructed 160 (suc depth) size (nodes (extension_nodes [] (e ∷ es))) (omega arith, omega arith)
+    refl (within_extensions stated depth size (e ∷ es) inside) small in
+    let one = within_node (suc (suc depth)) (size + 5) 0 (constructed 160 (nodes (extension_nodes [] (e ∷ es))))
+    no_nodes new (within_none (suc (suc depth))) in
     record { formed = one.formed; deep = one.deep; long = omega (arith, one.long) }
 
 -- what is read from at most 65,536 octets is lawful without its stated FALSEs
-pub unstated_is_lawful : (octets : List ℕ) (r : RequestValue) → Spells octets r → length octets ≤ 65536 → IsLawful (time_stamp_req unstated r)
+pub unstated_is_lawful : (octets : List ℕ) (r : RequestValue) → Spells octets r → length octets ≤ 65536
+    → IsLawful (time_stamp_req unstated r)
 unstated_is_lawful octets r spells short =
     let s = spells.stated in
-    let whole : IsWithin 32 65536 (time_stamp_req s r) = record { formed = spells.lawful.formed; deep = spells.lawful.depth; long = omega (arith, short, ap length spells.spelled) } in
+    let whole : IsWithin 32 65536 (time_stamp_req s r) =
+    record {
+      formed = spells.lawful.formed;
+      deep = spells.lawful.depth;
+      long =
+          omega (arith, short, ap length spells.spelled);
+    } in
     let inside = within_components 48 31 65536 _ whole in
     let first = within_first 31 65536 (integer r.version) _ inside in
     let second = within_first 31 65536 (message_imprint r.imprint) _ first.1 in
@@ -209,7 +290,8 @@ unstated_is_lawful octets r spells short =
     let nonce = within_parts 31 65536 (optional integer r.nonce) _ policy.1 in
     let flag = within_parts 31 65536 (false_by_default s.cert_req r.cert_req) _ nonce.1 in
     let list = within_extension_list_request s.critical 29 65536 r.extensions (omega arith) flag.1 in
-    let a = within_before 31 6 65541 (false_by_default false r.cert_req) _ (deeper 1 31 6 _ (within_flag false r.cert_req) (omega arith)) list in
+    let a = within_before 31 6 65541 (false_by_default false r.cert_req) _
+    (deeper 1 31 6 _ (within_flag false r.cert_req) (omega arith)) list in
     let b = within_before 31 65536 65547 (optional integer r.nonce) _ nonce.0 a in
     let c = within_before 31 65536 131083 (optional object_identifier r.policy) _ policy.0 b in
     let d = subst (AreWithin 31 196619) (sym (request_tail unstated r)) c in
@@ -224,17 +306,22 @@ within_flag_alone : (cert_req : Bool) → AreWithin 3 6 (nodes (false_by_default
 within_flag_alone true = deeper 1 3 6 _ (within_flag false true) (omega arith)
 within_flag_alone false = deeper 1 3 6 _ (within_flag false false) (omega arith)
 
-within_sha256 : (digest : List ℕ) (cert_req : Bool) → AreOctets digest → length digest ≤ 32 → IsWithin 4 689 (time_stamp_req unstated (sha256_request digest cert_req))
+within_sha256 : (digest : List ℕ) (cert_req : Bool) → AreOctets digest → length digest ≤ 32
+    → IsWithin 4 689 (time_stamp_req unstated (sha256_request digest cert_req))
 within_sha256 digest cert_req octets short =
     let null = within_primitive 5 0 [] (omega arith, omega arith) refl tt (omega arith) (omega arith) in
     let parameters = within_node 1 5 0 (primitive 5 []) no_nodes null (within_none 1) in
-    let identifier = within_node 1 613 5 (object_identifier sha256_identifier) _ (within_oid sha256_identifier sha256_is_oid) parameters in
+    let identifier = within_node 1 613 5 (object_identifier sha256_identifier) _
+    (within_oid sha256_identifier sha256_is_oid) parameters in
     let algorithm = within_constructed 48 1 618 _ (omega arith, omega arith) refl identifier (omega arith) in
     let string = within_primitive 4 32 digest (omega arith, omega arith) refl octets short (omega arith) in
-    let hash = within_node 2 37 0 (octet_string digest) no_nodes (wider 1 37 2 37 _ string (omega arith) (omega arith)) (within_none 2) in
-    let both = within_node 2 623 37 (sequence (object_identifier sha256_identifier ∷ primitive 5 [] ∷ [])) _ algorithm hash in
+    let hash = within_node 2 37 0 (octet_string digest) no_nodes (wider 1 37 2 37 _ string (omega arith) (omega arith))
+    (within_none 2) in
+    let both = within_node 2 623 37 (sequence (object_identifier sha256_identifier ∷ primitive 5 [] ∷ [])) _ algorithm
+    hash in
     let imprint = within_constructed 48 2 660 _ (omega arith, omega arith) refl both (omega arith) in
-    let rest = within_node 3 665 6 (message_imprint (sha256_request digest cert_req).imprint) _ imprint (within_flag_alone cert_req) in
+    let rest = within_node 3 665 6 (message_imprint (sha256_request digest cert_req).imprint) _ imprint
+    (within_flag_alone cert_req) in
     let version = wider 1 13 3 13 _ (within_number 2 1 (inl refl) (omega arith)) (omega arith) (omega arith) in
     let all = within_node 3 13 671 (integer (pos 1)) _ version rest in
     within_constructed 48 3 684 _ (omega arith, omega arith) refl all (omega arith)
@@ -245,7 +332,14 @@ pub sha256_is_spelled : (digest : List ℕ) (cert_req : Bool) → AreOctets dige
     × (length (encoding (time_stamp_req unstated (sha256_request digest cert_req))) ≤ 65536)
 sha256_is_spelled digest cert_req octets short =
     let whole = within_sha256 digest cert_req octets short in
-    let proper : IsRequest (sha256_request digest cert_req) = record { algorithm = sha256_is_oid; policy = tt; extensions = tt } in (
-      record { proper = proper; stated = unstated; lawful = record { formed = whole.formed; depth = omega (arith, whole.deep) }; spelled = refl },
+    let proper : IsRequest (sha256_request digest cert_req) =
+    record { algorithm = sha256_is_oid; policy = tt; extensions = tt } in (
+      record {
+        proper = proper;
+        stated = unstated;
+        lawful =
+            record { formed = whole.formed; depth = omega (arith, whole.deep) };
+        spelled = refl;
+      },
       omega (arith, whole.long),
     )

@@ -1,21 +1,26 @@
 -- What is read as a TSTInfo's parts is what the grammar gives for them.
-use Rattle.std.proofs.Common.{◌≡◌, ℕ, ◌+◌, ◌*◌, ◌/◌, ◌%◌, ◌≤◌, Bool, true, false, ltb, leb, ◌&&◌, ℤ, pos, negsuc, List, [], ◌∷◌, ◌++◌, Option, Some, None, ◌⊎◌, inl, inr, refl, sym, ap, ◌∙◌, subst, arith}
+use Rattle.std.proofs.Common.{◌≡◌, ℕ, ◌+◌, ◌*◌, ◌/◌, ◌%◌, ◌≤◌, Bool, true, false, ltb, leb, ◌&&◌, ℤ, pos, negsuc, List}
+use Rattle.std.proofs.Common.{[], ◌∷◌, ◌++◌, Option, Some, None, ◌⊎◌, inl, inr, refl, sym, ap, ◌∙◌, subst, arith}
 use Rattle.std.specs.Option.{option_and_then, unwrap_or}
 use Rattle.std.specs.List.{AllByRecursion}
 use Rattle.std.proofs.lemmas.Option.{option_and_then_some, cond_some}
 use Rattle.std.proofs.lemmas.Bool.{leb-true}
-use Rattle.der.specs.Node.{Node, primitive, constructed, Nodes, no_nodes, node, contents_of, components_of, first_of, IsFormed, AreFormed}
+use Rattle.der.specs.Node.{Node, primitive, constructed, Nodes, no_nodes, node, contents_of, components_of, first_of}
+use Rattle.der.specs.Node.{IsFormed, AreFormed}
 use Rattle.der.specs.Tree.{nodes}
 use Rattle.der.specs.Number.{number_content}
 use Rattle.der.specs.ObjectIdentifier.{IsOid}
 use Rattle.tsp.specs.Grammar.{integer, object_identifier, sequence, optional, false_by_default}
 use Rattle.tsp.specs.Request.{ExtensionValue, message_imprint, extension, extension_nodes, extensions_under}
 use Rattle.tsp.specs.Tst.{accuracy_part, accuracy}
-use Rattle.tsp.specs.Reading.{integer_value_of, integer_of, oid_in, only, imprint_of, optional_at, flag_at, extensions_at}
-use Rattle.tsp.specs.TstReading.{TstHead, TstParts, natural, natural_of, up_to, number_in, part_at, accuracy_of, head_of, parts_of, info_of}
+use Rattle.tsp.specs.Reading.{integer_value_of, integer_of, oid_in, only, imprint_of, optional_at, flag_at}
+use Rattle.tsp.specs.Reading.{extensions_at}
+use Rattle.tsp.specs.TstReading.{TstHead, TstParts, natural, natural_of, up_to, number_in, part_at, accuracy_of}
+use Rattle.tsp.specs.TstReading.{head_of, parts_of, info_of}
 use Rattle.tsp.proofs.Components.{before, contents_takes, components_takes, front_takes}
 use Rattle.tsp.proofs.RequestReads.{before-none, IsAllowed}
-use Rattle.tsp.proofs.RequestTakes.{number_takes, integer_takes, oid_takes, imprint_takes, only_takes, optional_at_takes, optional_takes, flag_takes, extensions_at_takes, formed_after}
+use Rattle.tsp.proofs.RequestTakes.{number_takes, integer_takes, oid_takes, imprint_takes, only_takes}
+use Rattle.tsp.proofs.RequestTakes.{optional_at_takes, optional_takes, flag_takes, extensions_at_takes, formed_after}
 use Rattle.tsp.proofs.TstReads.{accuracy_part-some, accuracy_parts, IsHead, head_before, tail_parts}
 
 natural_takes : (z : ℤ) (n : ℕ) → natural z ≡ Some n → z ≡ pos n
@@ -37,7 +42,8 @@ up_to_takes most n m e =
     (t.1, omega (arith, t.1, some), omega (arith, t.1, small))
 
 -- a number from 1 on, under a tag
-pub number_in_takes : (tag most : ℕ) (n : Node) (m : ℕ) → IsFormed n → number_in tag most n ≡ Some m → (n ≡ primitive tag (number_content (pos m))) × (1 ≤ m) × (m ≤ most)
+pub number_in_takes : (tag most : ℕ) (n : Node) (m : ℕ) → IsFormed n → number_in tag most n ≡ Some m
+    → (n ≡ primitive tag (number_content (pos m))) × (1 ≤ m) × (m ≤ most)
 unfolding number_in natural_of
 number_in_takes tag most n m formed e =
     option_and_then_some _ (contents_of tag n) m e (λ octets e1 r1.
@@ -57,22 +63,30 @@ number_in_bound tag most n m e =
     option_and_then_some (up_to most) (natural_of octets) m r1 (λ k e2 r2. (up_to_takes most k m r2).2))
 
 part_found : (tag most : ℕ) (ns : Nodes) (f : Option ℕ × Nodes) → AreFormed ns
-    → ((f.0 ≡ None) × (ns ≡ f.1)) ⊎ ((n : Node) × (x : ℕ) × (f.0 ≡ Some x) × (number_in tag most n ≡ Some x) × (ns ≡ node n f.1))
+    → ((f.0 ≡ None) × (ns ≡ f.1)) ⊎ ((n : Node) × (x : ℕ) × (f.0 ≡ Some x) × (number_in tag most n ≡ Some x)
+    × (ns ≡ node n f.1))
     → (unwrap_or f.0 0 ≤ most) × (ns ≡ before (accuracy_part tag (unwrap_or f.0 0)) f.1)
 part_found tag most ns f formed (inl none) = rw (none.0) (omega arith, none.1)
 part_found tag most ns f formed (inr some) =
     let inside : IsFormed some.0 × AreFormed f.1 = subst AreFormed some.4 formed in
     let read = number_in_takes tag most some.0 some.1 inside.0 some.3 in
-    rw (some.2) (read.2, some.4 ∙ ap (λ n. node n f.1) read.0 ∙ sym (ap (λ xs. before xs f.1) (accuracy_part-some tag some.1 read.1)))
+    rw (some.2) (
+      read.2,
+      some.4 ∙ ap (λ n. node n f.1) read.0
+          ∙ sym (ap (λ xs. before xs f.1) (accuracy_part-some tag some.1 read.1)),
+    )
 
-pub part_takes : (tag most : ℕ) (ns : Nodes) (found : ℕ × Nodes) → AreFormed ns → part_at tag most ns ≡ Some found → (found.0 ≤ most) × (ns ≡ before (accuracy_part tag found.0) found.1)
+pub part_takes : (tag most : ℕ) (ns : Nodes) (found : ℕ × Nodes) → AreFormed ns → part_at tag most ns ≡ Some found
+    → (found.0 ≤ most) × (ns ≡ before (accuracy_part tag found.0) found.1)
 unfolding part_at
-part_takes tag most ns found formed e = option_and_then_some (λ f. Some (unwrap_or f.0 0, f.1)) (optional_at tag (number_in tag most) ns) found e (λ f p q.
+part_takes tag most ns found formed e =
+    option_and_then_some (λ f. Some (unwrap_or f.0 0, f.1)) (optional_at tag (number_in tag most) ns) found e (λ f p q.
     let same : (unwrap_or f.0 0, f.1) ≡ found = cc in
     let Good : ℕ × Nodes → Type 0 = λ x. (x.0 ≤ most) × (ns ≡ before (accuracy_part tag x.0) x.1) in
     subst Good same (part_found tag most ns f formed (optional_at_takes tag (number_in tag most) ns f p)))
 
-pub accuracy_takes : (n : Node) (v : ℕ) → IsFormed n → accuracy_of n ≡ Some v → (n ≡ accuracy v) × (1 ≤ v) × (v ≤ 1000000)
+pub accuracy_takes : (n : Node) (v : ℕ) → IsFormed n → accuracy_of n ≡ Some v → (n ≡ accuracy v) × (1 ≤ v)
+    × (v ≤ 1000000)
 unfolding accuracy_of
 accuracy_takes n v formed e =
     option_and_then_some _ (components_of 48 n) v e (λ members e1 r1.
@@ -93,19 +107,26 @@ accuracy_takes n v formed e =
     let seconds : v / 1000000 ≡ s.0 = omega (arith, sum, of_s.0, of_m.0, of_u.0) in
     let millis : v / 1000 % 1000 ≡ m.0 = omega (arith, sum, of_s.0, of_m.0, of_u.0) in
     let micros : v % 1000 ≡ u.0 = omega (arith, sum, of_s.0, of_m.0, of_u.0) in
-    let parts : n ≡ constructed 48 (before (accuracy_part 2 s.0) (before (accuracy_part 128 m.0) (before (accuracy_part 129 u.0) no_nodes))) =
-    is_n ∙ ap (constructed 48) (of_s.1 ∙ ap (before (accuracy_part 2 s.0)) (of_m.1 ∙ ap (before (accuracy_part 128 m.0)) (of_u.1 ∙ ap (before (accuracy_part 129 u.0)) end.0))) in (
-      parts ∙ ap (constructed 48) (sym (accuracy_parts s.0 m.0 u.0)) ∙ ap (λ x. sequence (accuracy_part 2 x ++ (accuracy_part 128 m.0 ++ accuracy_part 129 u.0))) (sym seconds)
-          ∙ ap (λ x. sequence (accuracy_part 2 (v / 1000000) ++ (accuracy_part 128 x ++ accuracy_part 129 u.0))) (sym millis)
-          ∙ ap (λ x. sequence (accuracy_part 2 (v / 1000000) ++ (accuracy_part 128 (v / 1000 % 1000) ++ accuracy_part 129 x))) (sym micros),
+    let parts : n ≡ constructed 48 (before (accuracy_part 2 s.0)
+    (before (accuracy_part 128 m.0) (before (accuracy_part 129 u.0) no_nodes))) =
+    is_n ∙ ap (constructed 48) (of_s.1 ∙ ap (before (accuracy_part 2 s.0))
+    (of_m.1 ∙ ap (before (accuracy_part 128 m.0)) (of_u.1 ∙ ap (before (accuracy_part 129 u.0)) end.0))) in (
+      parts ∙ ap (constructed 48) (sym (accuracy_parts s.0 m.0 u.0))
+          ∙ ap (λ x. sequence (accuracy_part 2 x ++ (accuracy_part 128 m.0 ++ accuracy_part 129 u.0))) (sym seconds)
+          ∙ ap (λ x. sequence (accuracy_part 2 (v / 1000000) ++ (accuracy_part 128 x ++ accuracy_part 129 u.0)))
+          (sym millis)
+          ∙ ap (λ x. sequence (accuracy_part 2 (v / 1000000)
+          ++ (accuracy_part 128 (v / 1000 % 1000) ++ accuracy_part 129 x))) (sym micros),
       bound.1,
       bound.2,
     ))))))
 
-first_formed : (ns : Nodes) (found : Node × Nodes) → ns ≡ node found.0 found.1 → AreFormed ns → IsFormed found.0 × AreFormed found.1
+first_formed : (ns : Nodes) (found : Node × Nodes) → ns ≡ node found.0 found.1 → AreFormed ns → IsFormed found.0
+    × AreFormed found.1
 first_formed ns found is formed = subst AreFormed is formed
 
-pub head_takes : (ns : Nodes) (found : TstHead × Nodes) → AreFormed ns → head_of ns ≡ Some found → IsHead found.0 × (ns ≡ head_before found.0 found.1)
+pub head_takes : (ns : Nodes) (found : TstHead × Nodes) → AreFormed ns → head_of ns ≡ Some found → IsHead found.0
+    × (ns ≡ head_before found.0 found.1)
 unfolding head_of
 head_takes ns found formed e =
     option_and_then_some _ (first_of ns) found e (λ first e1 r1.
@@ -139,8 +160,23 @@ head_takes ns found formed e =
     let n = number_in_takes 2 9223372036854775807 fourth.0 serial f7.0 e8 in
     let t = contents_takes 24 fifth.0 time e10 in
     let a = accuracy_takes sixth.0 accurate f11.0 e12 in
-    let h : TstHead = record { policy = policy; imprint = imprint; serial = serial; time = time; accuracy = accurate } in
-    let is : IsHead h = record { policy = p.0; algorithm = i.0; some_serial = n.1; last_serial = n.2; some_accuracy = a.1; most_accuracy = a.2 } in
+    let h : TstHead = record {
+      policy = policy;
+      imprint = imprint;
+      serial = serial;
+      time = time;
+      accuracy =
+          accurate;
+    } in
+    let is : IsHead h = record {
+      policy = p.0;
+      algorithm = i.0;
+      some_serial = n.1;
+      last_serial = n.2;
+      some_accuracy =
+          a.1;
+      most_accuracy = a.2;
+    } in
     let whole : ns ≡ head_before h sixth.1 =
     i1 ∙ ap (λ x. node x first.1) (v.0 ∙ ap (λ x. integer (pos x)) one)
     ∙ ap (node (integer (pos 1))) (i3 ∙ ap (λ x. node x second.1) p.1
@@ -157,16 +193,21 @@ none_stated : (stated : Bool) → IsAllowed false stated → stated ≡ false
 none_stated true allowed = sym (allowed refl)
 none_stated false allowed = refl
 
-strict_nodes : (stated : List Bool) (es : List ExtensionValue) → AllByRecursion (IsAllowed false) stated → extension_nodes stated es ≡ extension_nodes [] es
+strict_nodes : (stated : List Bool) (es : List ExtensionValue) → AllByRecursion (IsAllowed false) stated
+    → extension_nodes stated es ≡ extension_nodes [] es
 strict_nodes stated [] allowed = refl
 strict_nodes [] (e ∷ es) allowed = refl
-strict_nodes (s ∷ ss) (e ∷ es) allowed = ap (λ b. extension b e ∷ extension_nodes ss es) (none_stated s allowed.0) ∙ ap (λ xs. extension false e ∷ xs) (strict_nodes ss es allowed.1)
+strict_nodes (s ∷ ss) (e ∷ es) allowed = ap (λ b. extension b e ∷ extension_nodes ss es) (none_stated s allowed.0)
+    ∙ ap (λ xs. extension false e ∷ xs) (strict_nodes ss es allowed.1)
 
-strict_extensions : (tag : ℕ) (stated : List Bool) (es : List ExtensionValue) → AllByRecursion (IsAllowed false) stated → extensions_under tag stated es ≡ extensions_under tag [] es
+strict_extensions : (tag : ℕ) (stated : List Bool) (es : List ExtensionValue) → AllByRecursion (IsAllowed false) stated
+    → extensions_under tag stated es ≡ extensions_under tag [] es
 strict_extensions tag stated [] allowed = refl
-strict_extensions tag stated (e ∷ es) allowed = ap (λ xs. constructed tag (nodes xs) ∷ []) (strict_nodes stated (e ∷ es) allowed)
+strict_extensions tag stated (e ∷ es) allowed =
+    ap (λ xs. constructed tag (nodes xs) ∷ []) (strict_nodes stated (e ∷ es) allowed)
 
-pub parts_takes : (n : Node) (p : TstParts) → IsFormed n → parts_of n ≡ Some p → IsHead p.head × (AllByRecursion (λ x. IsOid x.identifier) p.extensions × (n ≡ info_of p))
+pub parts_takes : (n : Node) (p : TstParts) → IsFormed n → parts_of n ≡ Some p → IsHead p.head
+    × (AllByRecursion (λ x. IsOid x.identifier) p.extensions × (n ≡ info_of p))
 unfolding parts_of
 parts_takes n p formed e =
     option_and_then_some _ (components_of 48 n) p e (λ members e1 r1.
@@ -180,15 +221,32 @@ parts_takes n p formed e =
     let formed_head : AreFormed (head_before head.0 head.1) = subst AreFormed of_head.1 formed_members in
     let formed_rest : AreFormed head.1 = formed_head.1.1.1.1.1.1 in
     let of_flag = flag_takes false head.1 ordering e3 in
-    let formed_flag = formed_after (false_by_default of_flag.0 ordering.0) ordering.1 (subst AreFormed of_flag.1.1 formed_rest) in
-    let of_nonce = optional_takes 2 integer_of integer (λ x. Unit {0}) ordering.1 nonce e4 (λ m x q r. (tt, integer_takes m x (subst AreFormed q formed_flag).0 r)) in
+    let formed_flag = formed_after (false_by_default of_flag.0 ordering.0) ordering.1
+    (subst AreFormed of_flag.1.1 formed_rest) in
+    let of_nonce = optional_takes 2 integer_of integer (λ x. Unit {0}) ordering.1 nonce e4
+    (λ m x q r. (tt, integer_takes m x (subst AreFormed q formed_flag).0 r)) in
     let of_extensions = extensions_at_takes false 161 nonce.1 extensions e5 in
     let end = only_takes extensions.1 _ p r5 in
-    let found : TstParts = record { head = head.0; ordering = ordering.0; nonce = nonce.0; extensions = extensions.0 } in
+    let found : TstParts = record {
+      head = head.0;
+      ordering = ordering.0;
+      nonce = nonce.0;
+      extensions =
+          extensions.0;
+    } in
     let whole : n ≡ info_of found =
-    is_n ∙ ap (constructed 48) (of_head.1 ∙ ap (head_before head.0) (of_flag.1.1 ∙ ap (λ s. before (false_by_default s ordering.0) ordering.1) (none_stated of_flag.0 of_flag.1.0)
-    ∙ ap (before (false_by_default false ordering.0)) (of_nonce.1 ∙ ap (before (optional integer nonce.0)) (of_extensions.1.1.1
+    is_n ∙ ap (constructed 48) (of_head.1
+    ∙ ap (head_before head.0) (of_flag.1.1
+    ∙ ap (λ s. before (false_by_default s ordering.0) ordering.1) (none_stated of_flag.0 of_flag.1.0)
+    ∙ ap (before (false_by_default false ordering.0))
+    (of_nonce.1 ∙ ap (before (optional integer nonce.0)) (of_extensions.1.1.1
     ∙ ap (λ xs. before xs extensions.1) (strict_extensions 161 of_extensions.1.0 extensions.0 of_extensions.1.1.0)
     ∙ ap (before (extensions_under 161 [] extensions.0)) end.0 ∙ before-none (extensions_under 161 [] extensions.0)))
-    ∙ sym (tail_parts found))) in
-    (subst (λ (x : TstParts). IsHead x.head) end.1 of_head.0, (subst (λ (x : TstParts). AllByRecursion (λ y. IsOid y.identifier) x.extensions) end.1 of_extensions.0, whole ∙ ap info_of end.1)))))))
+    ∙ sym (tail_parts found))) in (
+      subst (λ (x : TstParts). IsHead x.head) end.1 of_head.0,
+      (
+        subst (λ (x : TstParts). AllByRecursion (λ y. IsOid y.identifier) x.extensions) end.1 of_extensions.0,
+        whole
+            ∙ ap info_of end.1,
+      ),
+    ))))))

@@ -6,20 +6,20 @@ use Rattle.der.specs.Number.{number_content}
 use Rattle.der.specs.ObjectIdentifier.{oid_content}
 
 abbrev pub integer : ℤ → Node
-integer z = primitive 2 (number_content z)
+integer z = primitive 0x02 (number_content z)
 
 -- FF is TRUE and 00 FALSE
 abbrev pub boolean : Bool → Node
-boolean b = primitive 1 ((if b then 255 else 0) ∷ [])
+boolean b = primitive 0x01 ((if b then 0xff else 0x00) ∷ [])
 
 abbrev pub octet_string : List ℕ → Node
-octet_string octets = primitive 4 octets
+octet_string octets = primitive 0x04 octets
 
 abbrev pub object_identifier : List ℕ → Node
-object_identifier subidentifiers = primitive 6 (oid_content subidentifiers)
+object_identifier subidentifiers = primitive 0x06 (oid_content subidentifiers)
 
 abbrev pub sequence : List Node → Node
-sequence components = constructed 48 (nodes components)
+sequence components = constructed 0x30 (nodes components)
 
 -- a component where there is one
 abbrev pub optional : {A : Type 0} → (A → Node) → Option A → List Node

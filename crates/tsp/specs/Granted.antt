@@ -5,4 +5,4 @@ use Rattle.tsp.specs.Grammar.{sequence, integer}
 
 -- status 0 (granted), and the token, whose octets are given
 abbrev pub granted_octets : List ℕ → List ℕ
-granted_octets token = element 48 (encoding (sequence (integer (pos 0) ∷ [])) ++ token)
+granted_octets token = element 0x30 (encoding (sequence (integer (pos 0) ∷ [])) ++ token)

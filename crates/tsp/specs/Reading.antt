@@ -14,19 +14,19 @@ unfoldable pub integer_value_of : List ℕ → Option ℤ
 integer_value_of octets = if is_shortest octets then Some (twos_value octets) else None
 
 unfoldable pub integer_of : Node → Option ℤ
-integer_of n = contents_of 2 n >>= integer_value_of
+integer_of n = contents_of 0x02 n >>= integer_value_of
 
 -- 00 is FALSE and FF is TRUE
 unfoldable pub truth_of : List ℕ → Option Bool
 truth_of [] = None
-truth_of (octet ∷ []) = if octet == 0 then Some false else (if octet == 255 then Some true else None)
+truth_of (octet ∷ []) = if octet == 0x00 then Some false else (if octet == 0xff then Some true else None)
 truth_of (octet ∷ second ∷ others) = None
 
 unfoldable pub boolean_of : Node → Option Bool
-boolean_of n = contents_of 1 n >>= truth_of
+boolean_of n = contents_of 0x01 n >>= truth_of
 
 unfoldable pub oid_in : Node → Option (List ℕ)
-oid_in n = contents_of 6 n >>= oid_of
+oid_in n = contents_of 0x06 n >>= oid_of
 
 -- nothing is left
 unfoldable pub end_of : Nodes → Option (Unit {0})
@@ -51,7 +51,7 @@ stated_of may n = boolean_of n >>= λ b. if b || may then Some b else None
 
 -- a BOOLEAN DEFAULT FALSE, and what is left
 unfoldable pub flag_at : Bool → Nodes → Option (Bool × Nodes)
-flag_at may ns = optional_at 1 (stated_of may) ns >>= λ found. Some (unwrap_or found.0 false, found.1)
+flag_at may ns = optional_at 0x01 (stated_of may) ns >>= λ found. Some (unwrap_or found.0 false, found.1)
 
 -- parameters: nothing, or one value
 unfoldable pub parameters_of : Nodes → Option (Option Node)
@@ -62,7 +62,7 @@ parameters_of (node first (node second others)) = None
 -- an AlgorithmIdentifier
 unfoldable pub algorithm_of : Node → Option (List ℕ × Option Node)
 algorithm_of n = do
-  members ← components_of 48 n
+  members ← components_of 0x30 n
   first ← first_of members
   identifier ← oid_in first.0
   parameters ← parameters_of first.1
@@ -71,22 +71,22 @@ algorithm_of n = do
 -- a MessageImprint
 unfoldable pub imprint_of : Node → Option ImprintValue
 imprint_of n = do
-  members ← components_of 48 n
+  members ← components_of 0x30 n
   first ← first_of members
   algorithm ← algorithm_of first.0
   second ← first_of first.1
-  hash ← contents_of 4 second.0
+  hash ← contents_of 0x04 second.0
   only second.1 (record { algorithm = algorithm.0; parameters = algorithm.1; hash = hash })
 
 -- an Extension, whose FALSE may be stated or not
 unfoldable pub extension_of : Bool → Node → Option ExtensionValue
 extension_of may n = do
-  members ← components_of 48 n
+  members ← components_of 0x30 n
   first ← first_of members
   identifier ← oid_in first.0
   critical ← flag_at may first.1
   last ← first_of critical.1
-  value ← contents_of 4 last.0
+  value ← contents_of 0x04 last.0
   only last.1 (record { identifier = identifier; critical = critical.0; value = value })
 
 unfoldable pub extensions_of : Bool → Nodes → Option (List ExtensionValue)
@@ -115,15 +115,15 @@ extensions_at may tag ns =
 -- a TimeStampReq
 unfoldable pub request_of : Node → Option RequestValue
 request_of n = do
-  members ← components_of 48 n
+  members ← components_of 0x30 n
   first ← first_of members
   version ← integer_of first.0
   second ← first_of first.1
   imprint ← imprint_of second.0
-  policy ← optional_at 6 oid_in second.1
-  nonce ← optional_at 2 integer_of policy.1
+  policy ← optional_at 0x06 oid_in second.1
+  nonce ← optional_at 0x02 integer_of policy.1
   cert_req ← flag_at true nonce.1
-  extensions ← extensions_at true 160 cert_req.1
+  extensions ← extensions_at true 0xa0 cert_req.1
   only extensions.1 (record {
     version = version;
     imprint = imprint;

@@ -40,17 +40,17 @@ failure_bit System = 25
 -- a named bit list with that bit alone: how many bits of the last octet are unused, and the bits, bit 0 the first of
 -- the first octet (X.690 8.6.2, 11.2)
 abbrev pub one_bit : ℕ → Node
-one_bit bit = primitive 3 ((7 - bit % 8) ∷ (replicate (bit / 8) 0 ++ (2 ^ (7 - bit % 8) ∷ [])))
+one_bit bit = primitive 0x03 ((7 - bit % 8) ∷ (replicate (bit / 8) 0x00 ++ (2 ^ (7 - bit % 8) ∷ [])))
 
 -- `rule ` and the number in two digits
 abbrev pub reason : ℕ → List ℕ
-reason number = codes "rule " ++ ((48 + number / 10) ∷ (48 + number % 10) ∷ [])
+reason number = codes "rule " ++ ((0x30 + number / 10) ∷ (0x30 + number % 10) ∷ [])
 
 -- status 2 (rejection), the one string, and the bit
 abbrev pub rejection : Rule → Node
 rejection rule =
     sequence (sequence (
     integer (pos 2)
-    ∷ sequence (primitive 12 (reason (number_of rule)) ∷ [])
+    ∷ sequence (primitive 0x0c (reason (number_of rule)) ∷ [])
     ∷ one_bit (failure_bit rule)
     ∷ []) ∷ [])

@@ -72,7 +72,7 @@ time_stamp_req stated r =
     ∷ (optional object_identifier r.policy
     ++ (optional integer r.nonce
     ++ (false_by_default stated.cert_req r.cert_req
-    ++ extensions_under 160 stated.critical r.extensions))))
+    ++ extensions_under 0xa0 stated.critical r.extensions))))
 
 -- no FALSE is stated
 abbrev pub unstated : Stated
@@ -94,7 +94,7 @@ sha256_identifier = 96 ∷ 840 ∷ 1 ∷ 101 ∷ 3 ∷ 4 ∷ 2 ∷ 1 ∷ []
 abbrev pub sha256_request : List ℕ → Bool → RequestValue
 sha256_request digest cert_req = record {
   version = pos 1;
-  imprint = record { algorithm = sha256_identifier; parameters = Some (primitive 5 []); hash = digest };
+  imprint = record { algorithm = sha256_identifier; parameters = Some (primitive 0x05 []); hash = digest };
   policy = None;
   nonce = None;
   cert_req = cert_req;

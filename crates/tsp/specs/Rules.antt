@@ -5,8 +5,7 @@ use Rattle.der.specs.Node.{primitive}
 use Rattle.tsp.specs.Request.{RequestValue, Spells}
 use Rattle.tsp.specs.Rejection.{number_of}
 use Rattle.tsp.specs.declared.rule.Rule.{Rule}
-use Rattle.tsp.specs.declared.rule.Rule.TheVariants.{Spelling, Version, Account, Algorithm, HashLength, Policy}
-use Rattle.tsp.specs.declared.rule.Rule.TheVariants.{PolicyAlgorithm, Extensions, Certificate, Clock, Quota, System}
+use Rattle.tsp.specs.declared.rule.Rule.TheVariants.{Spelling}
 
 -- a known hash algorithm, and how many octets its hashes have
 pub record AlgorithmValue : Type 0 where
@@ -22,7 +21,7 @@ HasVersionOne r = r.version ≡ pos 1
 
 -- the algorithm's parameters are absent or NULL
 abbrev pub HasPlainParameters : RequestValue → Type 0
-HasPlainParameters r = (r.imprint.parameters ≡ None) ⊎ (r.imprint.parameters ≡ Some (primitive 5 []))
+HasPlainParameters r = (r.imprint.parameters ≡ None) ⊎ (r.imprint.parameters ≡ Some (primitive 0x05 []))
 
 -- an algorithm is known by the request's identifier, and its parameters are absent or NULL
 abbrev pub HasKnownAlgorithm : List AlgorithmValue → RequestValue → Type 0

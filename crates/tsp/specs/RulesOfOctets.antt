@@ -6,8 +6,7 @@ use Rattle.std.proofs.Common.{subst}
 use Rattle.tsp.specs.Request.{RequestValue, Spells}
 use Rattle.tsp.specs.Rules.{HoldsOfOctets, IsFirstFailing}
 use Rattle.tsp.specs.declared.rule.Rule.{Rule}
-use Rattle.tsp.specs.declared.rule.Rule.TheVariants.{Spelling, Version, Account, Algorithm, HashLength, Policy}
-use Rattle.tsp.specs.declared.rule.Rule.TheVariants.{PolicyAlgorithm, Extensions, Certificate, Clock, Quota, System}
+use Rattle.tsp.specs.declared.rule.Rule.TheVariants.{Spelling}
 
 -- the octets spell no other request
 abbrev pub SpellsOnly : List ℕ → RequestValue → Type 0

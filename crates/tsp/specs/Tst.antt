@@ -5,7 +5,7 @@ use Rattle.std.specs.List.{AllByRecursion}
 use Rattle.der.specs.Node.{Node, primitive, encoding, IsLawful}
 use Rattle.der.specs.Number.{number_content}
 use Rattle.der.specs.ObjectIdentifier.{IsOid}
-use Rattle.gentime.specs.GenTime.{text_of}
+use Rattle.gentime.specs.GenTime.{last_moment, text_of}
 use Rattle.tsp.specs.Grammar.{sequence, integer, object_identifier, optional, false_by_default}
 use Rattle.tsp.specs.Request.{ImprintValue, ExtensionValue, RequestValue, message_imprint, extensions_under}
 
@@ -26,7 +26,7 @@ pub record IsTst (t : TstValue) : Type 0 where
   pub algorithm : IsOid t.imprint.algorithm
   pub some_serial : 1 ≤ t.serial
   pub last_serial : t.serial < 2 ^ 63
-  pub gen_time : t.gen_time ≤ 253402300799999999
+  pub gen_time : t.gen_time ≤ last_moment
   pub some_accuracy : 1 ≤ t.accuracy
   pub most_accuracy : t.accuracy ≤ 1000000
   pub extensions : AllByRecursion (λ extension. IsOid extension.identifier) t.extensions
@@ -39,12 +39,12 @@ accuracy_part tag n = if n == 0 then [] else primitive tag (number_content (pos 
 abbrev pub accuracy : ℕ → Node
 accuracy n =
     sequence (
-    accuracy_part 2 (n / 1000000)
-    ++ (accuracy_part 128 (n / 1000 % 1000)
-    ++ accuracy_part 129 (n % 1000)))
+    accuracy_part 0x02 (n / 1000000)
+    ++ (accuracy_part 0x80 (n / 1000 % 1000)
+    ++ accuracy_part 0x81 (n % 1000)))
 
 abbrev pub generalized_time : ℕ → Node
-generalized_time moment = primitive 24 (text_of 6 moment)
+generalized_time moment = primitive 0x18 (text_of 6 moment)
 
 -- TSTInfo: version 1, accuracy always stated, no FALSE stated, extensions under [1]
 abbrev pub tst_info : TstValue → Node
@@ -58,7 +58,7 @@ tst_info t =
     ∷ accuracy t.accuracy
     ∷ (false_by_default false t.ordering
     ++ (optional integer t.nonce
-    ++ extensions_under 161 [] t.extensions)))
+    ++ extensions_under 0xa1 [] t.extensions)))
 
 -- The octets are the encoding of the TSTInfo, whose parts are in their ranges and which is a lawful value.
 pub record SpellsTst (octets : List ℕ) (t : TstValue) : Type 0 where

@@ -43,25 +43,25 @@ part_at tag most ns = optional_at tag (number_in tag most) ns >>= λ found. Some
 -- an Accuracy, in microseconds
 unfoldable pub accuracy_of : Node → Option ℕ
 accuracy_of n = do
-  members ← components_of 48 n
-  seconds ← part_at 2 1 members
-  millis ← part_at 128 999 seconds.1
-  micros ← part_at 129 999 millis.1
+  members ← components_of 0x30 n
+  seconds ← part_at 0x02 1 members
+  millis ← part_at 0x80 999 seconds.1
+  micros ← part_at 0x81 999 millis.1
   whole ← only micros.1 (seconds.0 * 1000000 + (millis.0 * 1000 + micros.0))
   up_to 1000000 whole
 
 unfoldable pub head_of : Nodes → Option (TstHead × Nodes)
 head_of members = do
   first ← first_of members
-  version ← number_in 2 1 first.0
+  version ← number_in 0x02 1 first.0
   second ← first_of first.1
   policy ← oid_in second.0
   third ← first_of second.1
   imprint ← imprint_of third.0
   fourth ← first_of third.1
-  serial ← number_in 2 (2 ^ 63 - 1) fourth.0
+  serial ← number_in 0x02 (2 ^ 63 - 1) fourth.0
   fifth ← first_of fourth.1
-  time ← contents_of 24 fifth.0
+  time ← contents_of 0x18 fifth.0
   sixth ← first_of fifth.1
   accuracy ← accuracy_of sixth.0
   Some (record { policy = policy; imprint = imprint; serial = serial; time = time; accuracy = accuracy }, sixth.1)
@@ -75,11 +75,11 @@ pub record TstParts : Type 0 where
 
 unfoldable pub parts_of : Node → Option TstParts
 parts_of n = do
-  members ← components_of 48 n
+  members ← components_of 0x30 n
   head ← head_of members
   ordering ← flag_at false head.1
-  nonce ← optional_at 2 integer_of ordering.1
-  extensions ← extensions_at false 161 nonce.1
+  nonce ← optional_at 0x02 integer_of ordering.1
+  extensions ← extensions_at false 0xa1 nonce.1
   only extensions.1 (record { head = head.0; ordering = ordering.0; nonce = nonce.0; extensions = extensions.0 })
 
 -- the TSTInfo of its parts
@@ -87,8 +87,8 @@ abbrev pub info_of : TstParts → Node
 info_of p =
     sequence (integer (pos 1) ∷ object_identifier p.head.policy ∷ message_imprint p.head.imprint
     ∷ integer (pos p.head.serial)
-    ∷ primitive 24 p.head.time ∷ accuracy p.head.accuracy ∷ (false_by_default false p.ordering
-    ++ (optional integer p.nonce ++ extensions_under 161 [] p.extensions)))
+    ∷ primitive 0x18 p.head.time ∷ accuracy p.head.accuracy ∷ (false_by_default false p.ordering
+    ++ (optional integer p.nonce ++ extensions_under 0xa1 [] p.extensions)))
 
 -- the parts of a TSTInfo, with the time as its octets
 abbrev pub parts_in : TstValue → TstParts

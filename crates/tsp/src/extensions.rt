@@ -21,8 +21,8 @@ pub struct Extension<'a> {
     pub value: &'a [u8],
 }
 
-/// Extensions one after the other where their encodings lie, in their order (RFC 5280 4.1, Extensions). The iterator reads
-/// each where it stands, and takes no memory.
+/// Extensions one after the other where their encodings lie, in their order (RFC 5280 4.1, Extensions). The iterator
+/// reads each where it stands, and takes no memory.
 #[derive(Debug, Drop)]
 pub struct Extensions<'a> {
     members: DataValues<'a>,

@@ -1,7 +1,9 @@
 //! From values to messages: each reader answers what its definition reads, and lends it from where it lies.
 ghost use Rattle.std.specs.Prelude.{◌≡◌, ℕ, List, Option, Some, None, option_map, map};
 ghost use Rattle.der.specs.DataValueView.{value_view, values_view};
-ghost use Rattle.tsp.specs.Reading.{integer_value_of, integer_of, truth_of, boolean_of, stated_of, oid_in, optional_of, optional_at, flag_at, parameters_of, algorithm_of, imprint_of, only, end_of, extension_of, extensions_of, some_extensions, extension_list_of, extensions_at};
+ghost use Rattle.tsp.specs.Reading.{integer_value_of, integer_of, truth_of, boolean_of, stated_of, oid_in, optional_of};
+ghost use Rattle.tsp.specs.Reading.{optional_at, flag_at, parameters_of, algorithm_of, imprint_of, only, end_of};
+ghost use Rattle.tsp.specs.Reading.{extension_of, extensions_of, some_extensions, extension_list_of, extensions_at};
 ghost use Rattle.tsp.specs.View.{imprint_view, extension_view};
 ghost use Rattle.std.specs.Option.{is_some};
 
@@ -46,7 +48,7 @@ pub(crate) fn oid_from(value: DataValue<'_>) -> Option<ObjectIdentifier<'_>>
 #[tactic(auto, unfolding(crate::specs::Reading::optional_at))]
 pub(crate) fn optional_oid<'a>(members: &mut DataValues<'a>) -> Option<Option<ObjectIdentifier<'a>>>
     ensures { option_map (λ found. (found, values_view members.new)) result
-        ≡ optional_at 6 oid_in (values_view members.old) }
+        ≡ optional_at 0x06 oid_in (values_view members.old) }
 {
     match members.next_under(Tag::OBJECT_IDENTIFIER) {
         None => Some(None),
@@ -57,7 +59,7 @@ pub(crate) fn optional_oid<'a>(members: &mut DataValues<'a>) -> Option<Option<Ob
 #[tactic(auto, unfolding(crate::specs::Reading::optional_at))]
 pub(crate) fn optional_integer<'a>(members: &mut DataValues<'a>) -> Option<Option<Integer<'a>>>
     ensures { option_map (λ found. (found, values_view members.new)) result
-        ≡ optional_at 2 integer_of (values_view members.old) }
+        ≡ optional_at 0x02 integer_of (values_view members.old) }
 {
     match members.next_under(Tag::INTEGER) {
         None => Some(None),
@@ -81,7 +83,8 @@ fn stated_from(may_state_false: bool, value: DataValue<'_>) -> Option<bool>
 /// A BOOLEAN DEFAULT FALSE, whose FALSE may be stated or not.
 #[tactic(auto, unfolding(crate::specs::Reading::optional_at, crate::specs::Reading::flag_at))]
 pub(crate) fn flag(may_state_false: bool, members: &mut DataValues<'_>) -> Option<bool>
-    ensures { option_map (λ found. (found, values_view members.new)) result ≡ flag_at may_state_false (values_view members.old) }
+    ensures { option_map (λ found. (found, values_view members.new)) result
+        ≡ flag_at may_state_false (values_view members.old) }
 {
     match members.next_under(Tag::BOOLEAN) {
         None => Some(false),
@@ -112,7 +115,8 @@ pub(crate) fn end(members: &DataValues<'_>) -> Option<()>
 
 #[tactic(auto, unfolding(crate::specs::Reading::algorithm_of))]
 fn algorithm_from(value: DataValue<'_>) -> Option<(ObjectIdentifier<'_>, Option<DataValue<'_>>)>
-    ensures { option_map (λ found. (found.0, option_map value_view found.1)) result ≡ algorithm_of (value_view value.entry) }
+    ensures { option_map (λ found. (found.0, option_map value_view found.1)) result
+        ≡ algorithm_of (value_view value.entry) }
 {
     let mut members = value.components_under(Tag::SEQUENCE)?;
     let identifier = oid_from(members.next()?)?;

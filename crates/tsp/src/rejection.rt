@@ -1,7 +1,7 @@
 use crate::rule::Rule;
 
-/// The reply to a request that a rule refuses: status 2 (rejection), the one string `rule NN` and the rule's failure bit
-/// (RFC 3161 2.4.2). It takes no memory.
+/// The reply to a request that a rule refuses: status 2 (rejection), the one string `rule NN` and the rule's failure
+/// bit (RFC 3161 2.4.2). It takes no memory.
 #[derive(Clone, Copy, Debug, PartialEq, Eq)]
 pub struct Rejection {
     /// The rule that fails.

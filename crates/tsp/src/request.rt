@@ -1,8 +1,10 @@
-ghost use Rattle.std.specs.Prelude.{◌≡◌, ◌≢◌, ◌↔◌, ◌<◌, ◌≤◌, ◌^◌, ℕ, Bool, List, [], Option, Some, None, Err, option_map, length, map, unwrap_or, IfOk, IfErr, IsTrue, ◌⊎◌, MatchResult};
+ghost use Rattle.std.specs.Prelude.{◌≡◌, ◌≢◌, ◌↔◌, ◌<◌, ◌≤◌, ◌^◌, ℕ, Bool, List, [], Option, Some, None, Err};
+ghost use Rattle.std.specs.Prelude.{option_map, length, map, unwrap_or, IfOk, IfErr, IsTrue, ◌⊎◌, MatchResult};
 ghost use Rattle.der.specs.Node.{primitive, encoding, AreOctets, IsLawful};
 ghost use Rattle.der.specs.Number.{number_content};
 ghost use Rattle.der.specs.ObjectIdentifier.{IsOid, oid_content};
 ghost use Rattle.der.specs.DataValueView.{value_view};
+ghost use Rattle.gentime.specs.GenTime.{last_moment};
 ghost use Rattle.tsp.specs.Reading.{request_of, only};
 ghost use Rattle.tsp.specs.Request.{RequestValue, IsRequest, unstated, time_stamp_req, sha256_request, Spells};
 ghost use Rattle.tsp.specs.Rules.{HasVersionOne, HasPlainParameters};
@@ -39,8 +41,8 @@ pub struct Request<'a> {
 }
 
 impl<'a> Request<'a> {
-    /// The request of version 1 for a SHA-256 digest, whose algorithm has NULL parameters (RFC 3161 2.4.1, RFC 5754 2.2):
-    /// no policy, no nonce and no extensions.
+    /// The request of version 1 for a SHA-256 digest, whose algorithm has NULL parameters (RFC 3161 2.4.1, RFC 5754
+    /// 2.2): no policy, no nonce and no extensions.
     pub fn of_sha256(digest: &'a [u8; 32], cert_req: bool) -> Request<'a>
         ensures made { request_view result ≡ sha256_request digest.now cert_req }
         ensures spelled { Spells (encoding (time_stamp_req unstated (request_view result))) (request_view result) }
@@ -65,7 +67,8 @@ impl<'a> Request<'a> {
 
     /// The encoding of the algorithm's parameters, where there are any (RFC 5280 4.1.1.2).
     pub fn parameters(&self) -> Option<&'a [u8]>
-        ensures { option_map (λ octets. octets.now) result ≡ option_map encoding (request_view self.now).imprint.parameters }
+        ensures { option_map (λ octets. octets.now) result
+            ≡ option_map encoding (request_view self.now).imprint.parameters }
     {
         match &self.imprint.parameters {
             None => None,
@@ -80,7 +83,8 @@ impl<'a> Request<'a> {
         self.imprint.hash
     }
 
-    /// The contents octets of the object identifier of the policy that is asked for, where one is (RFC 3161 2.4.1, reqPolicy).
+    /// The contents octets of the object identifier of the policy that is asked for, where one is (RFC 3161 2.4.1,
+    /// reqPolicy).
     pub fn policy(&self) -> Option<&'a [u8]>
         ensures { option_map (λ content. content.now) result ≡ option_map oid_content (request_view self.now).policy }
     {
@@ -160,7 +164,7 @@ impl<'a> Request<'a> {
 
 /// The value NULL (X.690 8.8).
 fn null<'a>() -> DataValue<'a>
-    ensures { value_view result ≡ primitive 5 [] }
+    ensures { value_view result ≡ primitive 0x05 [] }
 {
     match read_value(&[0x05, 0x00]) {
         Ok(value) => value,
@@ -194,11 +198,11 @@ pub fn requests_have_one_reading()
     // Spellings of one request differ in the octets of its FALSEs alone, which may be stated or left away, and in the
     // lengths that count them; a request without a FALSE has one spelling.
     ensures parts { (octets : List ℕ) (r : RequestValue) → Spells octets r → AreRequest octets r }
-    ensures one_spelling { (octets others : List ℕ) (r : RequestValue) → HasNoFalse r → Spells octets r → Spells others r
-        → octets ≡ others }
+    ensures one_spelling { (octets others : List ℕ) (r : RequestValue) → HasNoFalse r → Spells octets r
+        → Spells others r → octets ≡ others }
 
-    // Without its stated FALSEs a request of at most 65,536 octets is lawful too. What `write_request` writes spells it, so
-    // it is read back.
+    // Without its stated FALSEs a request of at most 65,536 octets is lawful too. What `write_request` writes spells
+    // it, so it is read back.
     ensures unstated { (octets : List ℕ) (r : RequestValue) → Spells octets r → length octets ≤ 65536
         → IsLawful (time_stamp_req unstated r) }
     ensures written { (r : RequestValue) → IsRequest r → IsLawful (time_stamp_req unstated r)
@@ -206,11 +210,11 @@ pub fn requests_have_one_reading()
     ensures sha256 { (digest : List ℕ) (cert_req : Bool) → AreOctets digest → length digest ≤ 32
         → Spells (encoding (time_stamp_req unstated (sha256_request digest cert_req))) (sha256_request digest cert_req)
         × (length (encoding (time_stamp_req unstated (sha256_request digest cert_req))) ≤ 65536) }
-    ensures lawful { (octets : List ℕ) (r : RequestValue) (t : TstValue) → Spells octets r → length octets ≤ 65536 → IsTst t
-        → t.imprint ≡ r.imprint → t.nonce ≡ r.nonce → t.extensions ≡ r.extensions → IsLawful (tst_info t) }
+    ensures lawful { (octets : List ℕ) (r : RequestValue) (t : TstValue) → Spells octets r → length octets ≤ 65536
+        → IsTst t → t.imprint ≡ r.imprint → t.nonce ≡ r.nonce → t.extensions ≡ r.extensions → IsLawful (tst_info t) }
     ensures answer { (octets : List ℕ) (r : RequestValue) → Spells octets r → length octets ≤ 65536
-        → (policy : List ℕ) (serial gen_time accuracy : ℕ) (ordering : Bool) → IsOid policy → 1 ≤ serial → serial < 2 ^ 63
-        → gen_time ≤ 253402300799999999 → 1 ≤ accuracy → accuracy ≤ 1000000
+        → (policy : List ℕ) (serial gen_time accuracy : ℕ) (ordering : Bool) → IsOid policy → 1 ≤ serial
+        → serial < 2 ^ 63 → gen_time ≤ last_moment → 1 ≤ accuracy → accuracy ≤ 1000000
         → IsTst (answer r policy serial gen_time accuracy ordering)
         × IsLawful (tst_info (answer r policy serial gen_time accuracy ordering)) }
 {}
@@ -218,8 +222,8 @@ pub fn requests_have_one_reading()
 /// Reads a TimeStampReq (RFC 3161 2.4.1) in its distinguished encoding where it lies, but that certReq's and each
 /// `critical`'s FALSE may be stated. It takes no memory, and its work grows as the number of the octets.
 ///
-/// Refused as `TooLong` where there are more than 65,536 octets, which is judged first, and as `Form` where no request has
-/// these octets.
+/// Refused as `TooLong` where there are more than 65,536 octets, which is judged first, and as `Form` where no request
+/// has these octets.
 pub fn read_request(octets: &[u8]) -> Result<Request<'_>, TspFault>
     ensures found { IfOk result (λ request. Spells octets.now (request_view request)) }
     ensures short { IfOk result (λ request. length octets.now ≤ 65536) }

@@ -4,8 +4,8 @@ use crate::integer::Integer;
 use crate::object_identifier::ObjectIdentifier;
 use gentime::GenTime;
 
-/// What a token says (RFC 3161 2.4.2, TSTInfo), of version 1 and without the field tsa. Its parts lie in a request, or in the
-/// octets that `read_tst` read.
+/// What a token says (RFC 3161 2.4.2, TSTInfo), of version 1 and without the field tsa. Its parts lie in a request, or
+/// in the octets that `read_tst` read.
 #[derive(Debug, Drop)]
 pub struct TstInfo<'a> {
     /// The policy under which the token was given.

@@ -1,12 +1,14 @@
 //! From octets to a TSTInfo.
-ghost use Rattle.std.specs.Prelude.{◌≡◌, ◌≤◌, ◌<◌, ◌^◌, ℕ, List, length, Option, Some, None, option_map, unwrap_or, IfOk, IfErr, IfSome, MatchOption, MatchResult};
+ghost use Rattle.std.specs.Prelude.{◌≡◌, ◌≤◌, ◌<◌, ◌^◌, ℕ, List, length, Option, Some, None, option_map, unwrap_or};
+ghost use Rattle.std.specs.Prelude.{IfOk, IfErr, IfSome, MatchOption, MatchResult};
 ghost use Rattle.std.specs.Int.Digits.{number_from_digits};
 ghost use Rattle.der.specs.Node.{IsFormed};
 ghost use Rattle.der.specs.DataValueView.{value_view, values_view};
 ghost use Rattle.gentime.specs.GenTime.{last_moment, text_of};
 ghost use Rattle.tsp.specs.Reading.{only, optional_at, integer_value_of};
 ghost use Rattle.tsp.specs.Tst.{TstValue, IsTst, SpellsTst, tst_info};
-ghost use Rattle.tsp.specs.TstReading.{parts_in, natural, natural_of, up_to, number_in, part_at, accuracy_of, head_of, parts_of};
+ghost use Rattle.tsp.specs.TstReading.{parts_in, natural, natural_of, up_to, number_in, part_at, accuracy_of, head_of};
+ghost use Rattle.tsp.specs.TstReading.{parts_of};
 ghost use Rattle.tsp.specs.TstView.{head_view, parts_view};
 ghost use Rattle.tsp.specs.View.{tst_view};
 ghost use Rattle.tsp.specs.declared.fault.TspFault.TheVariants.{Form};
@@ -70,7 +72,8 @@ pub fn tst_infos_have_one_reading()
 
 /// The TSTInfo of its parts, where the time is a moment's text.
 fn tst_from(parts: Parts<'_>) -> Option<TstInfo<'_>>
-    ensures found { IfSome result (λ tst. (parts_in (tst_view tst) ≡ parts_view parts.entry) × (tst.gen_time ≤ last_moment)) }
+    ensures found { IfSome result (λ tst. (parts_in (tst_view tst) ≡ parts_view parts.entry)
+        × (tst.gen_time ≤ last_moment)) }
     ensures only { (moment : ℕ) → moment ≤ last_moment → parts.entry.head.time.now ≡ text_of 6 moment →
         MatchOption result ⊥ (λ tst. tst.gen_time ≡ moment) }
 {
@@ -173,7 +176,8 @@ fn accuracy_from(value: DataValue<'_>) -> Option<u32>
 
 #[tactic(auto, unfolding(crate::specs::TstReading::head_of))]
 fn read_head<'a>(members: &mut DataValues<'a>) -> Option<Head<'a>>
-    ensures { option_map (λ found. (head_view found, values_view members.new)) result ≡ head_of (values_view members.old) }
+    ensures { option_map (λ found. (head_view found, values_view members.new)) result
+        ≡ head_of (values_view members.old) }
 {
     number_in(Tag::INTEGER, 1, members.next()?)?;
     let policy = oid_from(members.next()?)?;

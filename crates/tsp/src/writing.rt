@@ -4,7 +4,8 @@ ghost use Rattle.der.specs.Node.{element, encoding, encodings, IsFormed, AreForm
 ghost use Rattle.der.specs.Tree.{nodes};
 ghost use Rattle.der.specs.Number.{number_content};
 ghost use Rattle.tsp.specs.Grammar.{integer, object_identifier, optional, false_by_default};
-ghost use Rattle.tsp.specs.Request.{time_stamp_req, unstated, algorithm_identifier, message_imprint, extension, extension_nodes, extensions_under};
+ghost use Rattle.tsp.specs.Request.{time_stamp_req, unstated, algorithm_identifier, message_imprint, extension};
+ghost use Rattle.tsp.specs.Request.{extension_nodes, extensions_under};
 ghost use Rattle.tsp.specs.Tst.{IsTst, accuracy, accuracy_part, generalized_time, tst_info};
 ghost use Rattle.tsp.specs.View.{request_view, imprint_view, extension_view, tst_view};
 ghost use Rattle.tsp.specs.declared.fault.TspFault.TheVariants.{Memory};
@@ -210,7 +211,8 @@ fn append_extensions(
     extensions: Extensions<'_>,
 ) -> Result<(), TspFault>
     requires { AreFormed (nodes (extensions_under tag.octet [] extensions)) }
-    ensures ok { OnOk result (writer.new ≡ writer.old ++ encodings (nodes (extensions_under tag.octet [] extensions.entry))) }
+    ensures ok { OnOk result (writer.new
+        ≡ writer.old ++ encodings (nodes (extensions_under tag.octet [] extensions.entry))) }
     ensures memory { IfErr result (λ fault. fault ≡ Memory) }
 {
     if extensions.is_empty() {
@@ -236,8 +238,8 @@ fn append_nonce(writer: &mut Writer, nonce: &Option<Integer<'_>>) -> Result<(), 
 
 /// Writes a TSTInfo in its one encoding (RFC 3161 2.4.2): the accuracy is always stated, and ordering, nonce and
 /// extensions only where there is one, `critical` only where it is TRUE. The caller hands in parts within their ranges,
-/// of which the TSTInfo is a lawful value; `requests_have_one_reading` says so of what answers a request. Refused only for
-/// want of memory, as `Memory`.
+/// of which the TSTInfo is a lawful value; `requests_have_one_reading` says so of what answers a request. Refused only
+/// for want of memory, as `Memory`.
 pub fn write_tst(alloc: Global, tst: &TstInfo<'_>) -> Result<Vec<u8>, TspFault>
     requires ranges { IsTst (tst_view tst.now) }
     requires lawful { IsLawful (tst_info (tst_view tst.now)) }
@@ -270,11 +272,12 @@ fn append_policy(writer: &mut Writer, policy: &Option<ObjectIdentifier<'_>>) -> 
     }
 }
 
-/// Writes a request without stated FALSEs (RFC 3161 2.4.1). The caller hands in a request that is a lawful value so; one
-/// that `read_request` read is. Refused only for want of memory, as `Memory`.
+/// Writes a request without stated FALSEs (RFC 3161 2.4.1). The caller hands in a request that is a lawful value so;
+/// one that `read_request` read is. Refused only for want of memory, as `Memory`.
 pub fn write_request(alloc: Global, request: &Request<'_>) -> Result<Vec<u8>, TspFault>
     requires { IsLawful (time_stamp_req unstated (request_view request.now)) }
-    ensures text { IfOk result (λ octets. octets.items ≡ encoding (time_stamp_req unstated (request_view request.now))) }
+    ensures text { IfOk result (λ octets. octets.items
+        ≡ encoding (time_stamp_req unstated (request_view request.now))) }
     ensures memory { IfErr result (λ fault. fault ≡ Memory) }
 {
     let mut members = Writer::new(alloc);

@@ -141,3 +141,19 @@ fn contents_octets_are_lent_where_they_are_right(rt: HostRuntime) -> Result<(), 
     assert!(rt; ObjectIdentifier::from_content(&[0x80, 0x01]).is_none());
     Ok(())
 }
+
+/// A judge by whom a request fails no rule.
+struct Lenient;
+
+impl JudgesRequests for Lenient {
+    ghost holds_of = { λ judge r rule. Unit {0} };
+}
+
+#[test]
+fn octets_are_judged_as_their_request(rt: HostRuntime) -> Result<(), Fail> {
+    octets_fail_as_their_request::<Lenient>();
+    for octets in REQUESTS {
+        assert!(rt; read_request(octets).is_ok());
+    }
+    Ok(())
+}

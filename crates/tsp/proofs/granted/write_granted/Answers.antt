@@ -1,4 +1,4 @@
-use Rattle.std.proofs.Common.{◌≡◌, ◌+◌, [], ◌∷◌, ◌++◌, length, sym, ap, ap₂, ◌∙◌, arith, append_assoc}
+use Rattle.std.proofs.Common.{◌+◌, [], ◌∷◌, ◌++◌, length, ap, ◌∙◌, arith, append_assoc}
 use Rattle.der.specs.Node.{length_octets}
 use Rattle.tsp.proofs.GrantedText.{granted_text}
 use Rattle.tsp.proofs.granted.write_granted.Goals as goal

@@ -5,7 +5,8 @@ use Rattle.tsp.proofs.reading.are_extensions.Goals as goal
 -- what comes next is no extension
 pub returns-then-is_none : goal.returns-then-is_none
 returns-then-is_none c =
-    sym (are_extensions_none _ _ _ _ (sym c.in-Some.ensures.first) (none_by c.extension_from.result _ c.extension_from.ensures c.if-is_none.ensures)) ∙ c.loop-value.invariant
+    sym (are_extensions_none _ _ _ _ (sym c.in-Some.ensures.first)
+    (none_by c.extension_from.result _ c.extension_from.ensures c.if-is_none.ensures)) ∙ c.loop-value.invariant
 
 -- one more was read
 pub loop-value-preserved : goal.loop-value-preserved

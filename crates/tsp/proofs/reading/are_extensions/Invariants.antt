@@ -7,7 +7,8 @@ use Rattle.tsp.proofs.reading.are_extensions.Given as goal
 
 -- all are extensions where those that are left are
 abbrev pub invariant-loop-value : goal.invariant-loop-value
-invariant-loop-value l = is_some (extensions_of l.may_state_false (values_view l.members)) ≡ is_some (extensions_of l.may_state_false (values_view l.fn.members))
+invariant-loop-value l = is_some (extensions_of l.may_state_false (values_view l.members))
+    ≡ is_some (extensions_of l.may_state_false (values_view l.fn.members))
 
 abbrev pub decreases-loop-value : goal.decreases-loop-value
 decreases-loop-value l = count_of (values_view l.members)

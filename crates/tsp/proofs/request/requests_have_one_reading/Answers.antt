@@ -21,7 +21,8 @@ pub returns-clause-one_spelling : goal.returns-clause-one_spelling
 returns-clause-one_spelling c = one_spelling
 
 pub returns-clause-written : goal.returns-clause-written
-returns-clause-written c = λ r proper lawful. record { proper = proper; stated = unstated; lawful = lawful; spelled = refl }
+returns-clause-written c = λ r proper lawful. record
+    { proper = proper; stated = unstated; lawful = lawful; spelled = refl }
 
 pub returns-clause-unstated : goal.returns-clause-unstated
 returns-clause-unstated c = unstated_is_lawful

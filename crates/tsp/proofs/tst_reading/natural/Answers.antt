@@ -3,7 +3,8 @@ use Rattle.tsp.proofs.Natural.{natural_of-others, by_negative, by_long, by_some}
 use Rattle.tsp.proofs.tst_reading.natural.Goals as goal
 
 pub returns-then-not-is_number_content : goal.returns-then-not-is_number_content
-returns-then-not-is_number_content c = sym (natural_of-others c.args.octets.now (sym c.if-not-is_number_content.ensures.shortest))
+returns-then-not-is_number_content c =
+    sym (natural_of-others c.args.octets.now (sym c.if-not-is_number_content.ensures.shortest))
 
 pub returns-in-len1-up : goal.returns-in-len1-up
 returns-in-len1-up c = sym (by_negative c.args.octets.now c.in-len1-up.len_at_least c.if-first-ge128.true)
@@ -14,4 +15,5 @@ returns-in_default c = sym (by_long c.args.octets.now c.if-first-ge128.false c.i
 pub returns-in_default-2 : goal.returns-in_default-2
 returns-in_default-2 c =
     ap Some c.number_from.ensures
-    ∙ sym (by_some c.args.octets.now (λ k. omega (arith, c.type_inv.octets k)) c.in-len1-up.len_at_least (sym c.if-not-is_number_content.ensures.shortest) c.if-first-ge128.false c.if-octets-gt8.false)
+    ∙ sym (by_some c.args.octets.now (λ k. omega (arith, c.type_inv.octets k)) c.in-len1-up.len_at_least
+    (sym c.if-not-is_number_content.ensures.shortest) c.if-first-ge128.false c.if-octets-gt8.false)

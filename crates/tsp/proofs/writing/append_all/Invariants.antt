@@ -9,5 +9,6 @@ abbrev pub invariant-loop-item : goal.invariant-loop-item
 invariant-loop-item l =
     (goal.iterator-loop-item).can_next l.item-iterator ×
     (goal.iterator-loop-item).is_finite l.item-iterator ×
-    (l.writer ++ encodings (nodes (extension_nodes [] l.item-iterator)) ≡ l.initial.writer ++ encodings (nodes (extension_nodes [] l.fn.extensions)))
+    (l.writer ++ encodings (nodes (extension_nodes [] l.item-iterator)) ≡ l.initial.writer
+    ++ encodings (nodes (extension_nodes [] l.fn.extensions)))
     × AreFormed (nodes (extension_nodes [] l.item-iterator))

@@ -9,4 +9,10 @@ pub append_value-requires : goal.append_value-requires
 append_value-requires c =
     let from : to_z w128 (of_z w128 c.from.result) ≡ pos c.args.number = search rules in
     let contents = c.in-Ok.ensures.computed ∙ ap number_content from in
-    omega (arith, c.deref.ensures.len, ap length c.deref.ensures.value, ap length contents, number_is_short c.args.number c.requires)
+    omega (
+      arith,
+      c.deref.ensures.len,
+      ap length c.deref.ensures.value,
+      ap length contents,
+      number_is_short c.args.number c.requires,
+    )
