@@ -13,22 +13,28 @@ use Rattle.policy.specs.declared.entries.Account.{Account}
 use Rattle.policy.specs.Kinds.{count_of}
 
 -- what entries are called, seen as their values
-pub algorithm_names : (es : List Algorithm) → map (λ e. e.name) (map algorithm_view es) ≡ map (λ e. string_bytes e.name) es
+pub algorithm_names : (es : List Algorithm)
+    → map (λ e. e.name) (map algorithm_view es) ≡ map (λ e. string_bytes e.name) es
 algorithm_names es = map-map _ _ es
 
-pub algorithm_contents : (es : List Algorithm) → map (λ e. oid_content e.oid) (map algorithm_view es) ≡ map (λ e. oid_content e.oid) es
+pub algorithm_contents : (es : List Algorithm)
+    → map (λ e. oid_content e.oid) (map algorithm_view es) ≡ map (λ e. oid_content e.oid) es
 algorithm_contents es = map-map _ _ es
 
-pub extension_names : (es : List Extension) → map (λ e. e.name) (map extension_view es) ≡ map (λ e. string_bytes e.name) es
+pub extension_names : (es : List Extension)
+    → map (λ e. e.name) (map extension_view es) ≡ map (λ e. string_bytes e.name) es
 extension_names es = map-map _ _ es
 
-pub extension_contents : (es : List Extension) → map (λ e. oid_content e.oid) (map extension_view es) ≡ map (λ e. oid_content e.oid) es
+pub extension_contents : (es : List Extension)
+    → map (λ e. oid_content e.oid) (map extension_view es) ≡ map (λ e. oid_content e.oid) es
 extension_contents es = map-map _ _ es
 
-pub tsa_policy_names : (es : List TsaPolicy) → map (λ e. e.name) (map tsa_policy_view es) ≡ map (λ e. string_bytes e.name) es
+pub tsa_policy_names : (es : List TsaPolicy)
+    → map (λ e. e.name) (map tsa_policy_view es) ≡ map (λ e. string_bytes e.name) es
 tsa_policy_names es = map-map _ _ es
 
-pub tsa_policy_contents : (es : List TsaPolicy) → map (λ e. oid_content e.oid) (map tsa_policy_view es) ≡ map (λ e. oid_content e.oid) es
+pub tsa_policy_contents : (es : List TsaPolicy)
+    → map (λ e. oid_content e.oid) (map tsa_policy_view es) ≡ map (λ e. oid_content e.oid) es
 tsa_policy_contents es = map-map _ _ es
 
 pub account_names : (es : List Account) → map (λ e. e.name) (map account_view es) ≡ map (λ e. string_bytes e.name) es

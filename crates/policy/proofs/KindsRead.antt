@@ -11,19 +11,24 @@ use Rattle.policy.specs.declared.field.Field.{Field}
 use Rattle.policy.proofs.OidTexts.{oid_of_text-written, oid_of_text-other}
 
 -- a text that isn't 64 hexadecimal digits
-pub hash_in-refused : (field : Field) (d : Data) (text : List ℕ) → Some text ≡ as_str d → result_ok (decode_sized text 32) ≡ None → Err (BadValue field) ≡ hash_in field d
+pub hash_in-refused : (field : Field) (d : Data) (text : List ℕ) → Some text ≡ as_str d
+    → result_ok (decode_sized text 32) ≡ None → Err (BadValue field) ≡ hash_in field d
 unfolding hash_in
 hash_in-refused field d text is none = rw (← is, none) refl
 
-pub refused-decode : {Y : Type 0} (decoded : Result (List ℕ) FromHexError) (fault : FromHexError) (P : List ℕ → Type 0) (r : Result Y FromHexError) (y : Y) → r ≡ Err fault → MatchResult decoded (λ bytes. (r ≡ Ok y) × P bytes) (λ e. r ≡ Err e) → result_ok decoded ≡ None
+pub refused-decode : {Y : Type 0} (decoded : Result (List ℕ) FromHexError) (fault : FromHexError) (P : List ℕ → Type 0)
+    (r : Result Y FromHexError) (y : Y) → r ≡ Err fault
+    → MatchResult decoded (λ bytes. (r ≡ Ok y) × P bytes) (λ e. r ≡ Err e) → result_ok decoded ≡ None
 refused-decode (Ok bytes) fault P r y is h = cc
 refused-decode (Err e) fault P r y is h = refl
 
 -- an object identifier's text
-pub oid_in-read : (field : Field) (d : Data) (text oid : List ℕ) → Some text ≡ as_str d → IsOid oid → text ≡ oid_text oid → oid_in field d ≡ Ok oid
+pub oid_in-read : (field : Field) (d : Data) (text oid : List ℕ) → Some text ≡ as_str d → IsOid oid
+    → text ≡ oid_text oid → oid_in field d ≡ Ok oid
 unfolding oid_in
 oid_in-read field d text oid is h written = rw (← is, written, oid_of_text-written oid h) refl
 
-pub oid_in-refused : (field : Field) (d : Data) (text : List ℕ) → Some text ≡ as_str d → ((oid : List ℕ) → IsOid oid → text ≡ oid_text oid → ⊥) → oid_in field d ≡ Err (BadValue field)
+pub oid_in-refused : (field : Field) (d : Data) (text : List ℕ) → Some text ≡ as_str d
+    → ((oid : List ℕ) → IsOid oid → text ≡ oid_text oid → ⊥) → oid_in field d ≡ Err (BadValue field)
 unfolding oid_in
 oid_in-refused field d text is other = rw (← is, oid_of_text-other text other) refl

@@ -3,8 +3,10 @@ use Rattle.std.proofs.Common.{◌≡◌, ℕ, pos, true, false, codes, List, [],
 use Rattle.der.specs.ObjectIdentifier.{decimal, subidentifier_octets}
 use Rattle.toml.specs.Data.{Data, Items, no_items, item, Members, no_members, member, string, integer, array, table}
 use Rattle.policy.specs.HashAlgorithms.{hash_algorithms}
-use Rattle.policy.specs.Kinds.{number_in, is_name, name_in, some_name_in, oid_in, new_name_in, new_oid_in, listed, values_in, names_in, tables_in, entry_in, array_in}
-use Rattle.policy.specs.Meaning.{counter_of, counter_in, algorithm_of, extension_of, tsa_policy_of, account_of, policy_in}
+use Rattle.policy.specs.Kinds.{number_in, is_name, name_in, some_name_in, oid_in, new_name_in, new_oid_in, listed}
+use Rattle.policy.specs.Kinds.{values_in, names_in, tables_in, entry_in, array_in}
+use Rattle.policy.specs.Meaning.{counter_of, counter_in, algorithm_of, extension_of, tsa_policy_of, account_of}
+use Rattle.policy.specs.Meaning.{policy_in}
 use Rattle.policy.specs.OidText.{oid_of_text}
 use Rattle.policy.specs.Record.{PolicyValue}
 use Rattle.policy.specs.declared.fault.PolicyFault.TheVariants.{BadValue, Duplicate, Missing, UnknownName}
@@ -34,13 +36,15 @@ tsa_policy algorithms =
 abbrev account : List ℕ → Data
 account name =
     table (member (codes "daily_quota") (number 2)
-    (member (codes "name") (string name) (member (codes "policies") (array (item (string (codes "open")) no_items)) no_members)))
+    (member (codes "name") (string name) (member (codes "policies")
+    (array (item (string (codes "open")) no_items)) no_members)))
 
 abbrev file : Members → Items → Items → List ℕ → Members
 file counter algorithms listed name =
     member (codes "account") (array (item (account name) no_items))
     (member (codes "algorithm") (array algorithms)
-    (member (codes "counter") (table counter) (member (codes "policy") (array (item (tsa_policy listed) no_items)) no_members)))
+    (member (codes "counter") (table counter)
+    (member (codes "policy") (array (item (tsa_policy listed) no_items)) no_members)))
 
 abbrev sha_256 : Items
 sha_256 = item (string (codes "sha256")) no_items
@@ -58,15 +62,33 @@ meant = record {
   algorithms = record { name = codes "sha256"; oid = 96 ∷ 840 ∷ 1 ∷ 101 ∷ 3 ∷ 4 ∷ 2 ∷ 1 ∷ []; length = 32 } ∷ [];
   extensions = [];
   policies =
-      record { name = codes "open"; oid = 1079 ∷ 1 ∷ []; algorithms = codes "sha256" ∷ []; extensions = []; certificate = true }
+      record {
+        name = codes "open";
+        oid = 1079 ∷ 1 ∷ [];
+        algorithms = codes "sha256" ∷ [];
+        extensions =
+            [];
+        certificate = true;
+      }
       ∷ [];
   accounts =
-      record { name = codes "guest"; key_sha256 = None; active = true; auditor = false; policies = codes "open" ∷ []; daily_quota = 2 }
+      record {
+        name = codes "guest";
+        key_sha256 = None;
+        active = true;
+        auditor = false;
+        policies =
+            codes "open" ∷ [];
+        daily_quota = 2;
+      }
       ∷ [];
 }
 
-file_is_meant : policy_in (file (counter 1000) (item (algorithm (codes "sha256")) no_items) sha_256 (codes "guest")) ≡ Ok meant
-unfolding number_in is_name name_in some_name_in oid_in new_name_in new_oid_in listed values_in names_in tables_in entry_in array_in counter_of counter_in algorithm_of extension_of tsa_policy_of account_of policy_in oid_of_text hash_algorithms decimal subidentifier_octets
+file_is_meant : policy_in (file (counter 1000) (item (algorithm (codes "sha256")) no_items) sha_256 (codes "guest"))
+    ≡ Ok meant
+unfolding number_in is_name name_in some_name_in oid_in new_name_in new_oid_in listed values_in names_in tables_in
+    entry_in array_in counter_of counter_in algorithm_of extension_of tsa_policy_of account_of policy_in oid_of_text
+    hash_algorithms decimal subidentifier_octets
 file_is_meant = refl
 
 no_counter_is_missing : policy_in no_members ≡ Err (Missing field.Counter)
@@ -74,14 +96,22 @@ unfolding policy_in
 no_counter_is_missing = refl
 
 -- the first of three faults
-accuracy_is_judged_first : policy_in (file (counter 0) (item (algorithm (codes "SHA")) no_items) no_items (codes "guest")) ≡ Err (BadValue field.CounterAccuracyUs)
+accuracy_is_judged_first : policy_in (file (counter 0) (item (algorithm (codes "SHA")) no_items) no_items
+    (codes "guest")) ≡ Err (BadValue field.CounterAccuracyUs)
 unfolding number_in counter_of counter_in policy_in
 accuracy_is_judged_first = refl
 
-oid_is_a_duplicate : policy_in (file (counter 1000) (item (algorithm (codes "sha256")) (item (algorithm (codes "other")) no_items)) sha_256 (codes "guest")) ≡ Err (Duplicate field.AlgorithmOid)
-unfolding number_in is_name name_in some_name_in oid_in new_name_in new_oid_in listed values_in names_in tables_in entry_in array_in counter_of counter_in algorithm_of extension_of tsa_policy_of account_of policy_in oid_of_text hash_algorithms decimal subidentifier_octets
+oid_is_a_duplicate : policy_in (file (counter 1000)
+    (item (algorithm (codes "sha256")) (item (algorithm (codes "other")) no_items)) sha_256 (codes "guest"))
+    ≡ Err (Duplicate field.AlgorithmOid)
+unfolding number_in is_name name_in some_name_in oid_in new_name_in new_oid_in listed values_in names_in tables_in
+    entry_in array_in counter_of counter_in algorithm_of extension_of tsa_policy_of account_of policy_in oid_of_text
+    hash_algorithms decimal subidentifier_octets
 oid_is_a_duplicate = refl
 
-anonymous_is_unknown : policy_in (file (counter 1000) (item (algorithm (codes "sha256")) no_items) sha_256 (codes "other")) ≡ Err (UnknownName field.CounterAnonymous)
-unfolding number_in is_name name_in some_name_in oid_in new_name_in new_oid_in listed values_in names_in tables_in entry_in array_in counter_of counter_in algorithm_of extension_of tsa_policy_of account_of policy_in oid_of_text hash_algorithms decimal subidentifier_octets
+anonymous_is_unknown : policy_in (file (counter 1000) (item (algorithm (codes "sha256")) no_items) sha_256
+    (codes "other")) ≡ Err (UnknownName field.CounterAnonymous)
+unfolding number_in is_name name_in some_name_in oid_in new_name_in new_oid_in listed values_in names_in tables_in
+    entry_in array_in counter_of counter_in algorithm_of extension_of tsa_policy_of account_of policy_in oid_of_text
+    hash_algorithms decimal subidentifier_octets
 anonymous_is_unknown = refl

@@ -1,9 +1,11 @@
 -- Searches among the values that elements stand for.
-use Rattle.std.proofs.Common.{◌≡◌, Bool, true, false, ◌||◌, Option, Some, None, is_some, option_map, List, [], ◌∷◌, map, refl, ap, sym, ◌∙◌}
+use Rattle.std.proofs.Common.{◌≡◌, Bool, true, false, ◌||◌, Option, Some, None, is_some, option_map, List, [], ◌∷◌, map}
+use Rattle.std.proofs.Common.{refl, ap, sym, ◌∙◌}
 use Rattle.std.specs.List.{find, list_any}
 
 -- one of the values passes a test where one of the elements passes the test of its value
-any_value : {A B : Type 0} (test : B → Bool) (view : A → B) (xs : List A) → list_any test (map view xs) ≡ list_any (λ x. test (view x)) xs
+any_value : {A B : Type 0} (test : B → Bool) (view : A → B) (xs : List A)
+    → list_any test (map view xs) ≡ list_any (λ x. test (view x)) xs
 any_value test view [] = refl
 any_value test view (x ∷ xs) = ap (λ b. test (view x) || b) (any_value test view xs)
 
@@ -19,7 +21,8 @@ pub first_value : {A B : Type 0} (view : A → B) (test : B → Bool) (xs : List
 first_value view test [] = refl
 first_value view test (x ∷ xs) = found_or_later view test x xs (test (view x)) refl (first_value view test xs)
 
-map_twice : {A B C : Type 0} (now : A → B) (view : B → C) (o : Option A) → option_map (λ x. view (now x)) o ≡ option_map view (option_map now o)
+map_twice : {A B C : Type 0} (now : A → B) (view : B → C) (o : Option A)
+    → option_map (λ x. view (now x)) o ≡ option_map view (option_map now o)
 map_twice now view None = refl
 map_twice now view (Some x) = refl
 
@@ -28,7 +31,8 @@ pub found_value : {A B C : Type 0} (now : A → B) (view : B → C) (test : C �
     → option_map now o ≡ find (λ x. test (view x)) xs → option_map (λ x. view (now x)) o ≡ find test (map view xs)
 found_value now view test o xs e = map_twice now view o ∙ ap (option_map view) e ∙ sym (first_value view test xs)
 
-found_at_or_later : {A : Type 0} (test : A → Bool) (x : A) (xs : List A) (b : Bool) → test x ≡ b → is_some (find test xs) ≡ list_any test xs
+found_at_or_later : {A : Type 0} (test : A → Bool) (x : A) (xs : List A) (b : Bool) → test x ≡ b
+    → is_some (find test xs) ≡ list_any test xs
     → is_some (find test (x ∷ xs)) ≡ list_any test (x ∷ xs)
 found_at_or_later test x xs true e h = rw e refl
 found_at_or_later test x xs false e h = rw e h

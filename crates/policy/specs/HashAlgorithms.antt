@@ -1,5 +1,5 @@
--- The hash algorithms whose hashes have one length: their object identifiers by subidentifiers (RFC 3370 2.1 for SHA-1, RFC 5754
--- 2 for the others), and how many octets their hashes have (FIPS 180-4).
+-- The hash algorithms whose hashes have one length: their object identifiers by subidentifiers (RFC 3370 2.1 for SHA-1,
+-- RFC 5754 2 for the others), and how many octets their hashes have (FIPS 180-4).
 use Rattle.std.specs.Prelude.{ℕ, List, [], ◌∷◌}
 use Rattle.policy.specs.declared.hash_algorithm.HashAlgorithm.{HashAlgorithm}
 use Rattle.policy.specs.declared.hash_algorithm.HashAlgorithm.TheVariants.{Sha1, Sha224, Sha256, Sha384, Sha512}

@@ -6,7 +6,8 @@ use Rattle.der.specs.ObjectIdentifier.{oid_content}
 use Rattle.toml.specs.Data.{Data, Members, get_member, as_table}
 use Rattle.toml.specs.Parse.{parse_document}
 use Rattle.policy.specs.HashAlgorithms.{HashAlgorithmValue, hash_algorithms}
-use Rattle.policy.specs.Kinds.{◌>>=◌, test, given, wanted, optional, is_among, only, truth_in, number_in, new_name_in, new_oid_in, new_hash_in, some_name_in, names_in, array_in}
+use Rattle.policy.specs.Kinds.{◌>>=◌, test, given, wanted, optional, is_among, only, truth_in, number_in, new_name_in}
+use Rattle.policy.specs.Kinds.{new_oid_in, new_hash_in, some_name_in, names_in, array_in}
 use Rattle.policy.specs.Record.{AlgorithmValue, ExtensionValue, TsaPolicyValue, AccountValue, CounterValue, PolicyValue}
 use Rattle.policy.specs.declared.fault.PolicyFault.{PolicyFault}
 use Rattle.policy.specs.declared.fault.PolicyFault.TheVariants.{Toml, UnknownName}

@@ -4,8 +4,10 @@ ghost use Rattle.der.specs.ObjectIdentifier.{oid_content};
 ghost use Rattle.toml.specs.Data.{get_member, as_table};
 ghost use Rattle.toml.specs.View.{view, items_view, table_view};
 ghost use Rattle.policy.specs.Answers.{AnswersMeaning};
-ghost use Rattle.policy.specs.Kinds.{given, optional, new_hash_in, are_tables, tables_in, entry_in, entries_after, array_in};
-ghost use Rattle.policy.specs.Meaning.{lengths_of, counter_of, counter_in, algorithm_of, algorithm_in, extension_of, extension_in, tsa_policy_of, tsa_policy_in, account_of, account_in};
+ghost use Rattle.policy.specs.Kinds.{given, optional, new_hash_in, are_tables, tables_in, entry_in, entries_after};
+ghost use Rattle.policy.specs.Kinds.{array_in};
+ghost use Rattle.policy.specs.Meaning.{lengths_of, counter_of, counter_in, algorithm_of, algorithm_in, extension_of};
+ghost use Rattle.policy.specs.Meaning.{extension_in, tsa_policy_of, tsa_policy_in, account_of, account_in};
 ghost use Rattle.policy.specs.View.{counter_view, algorithm_view, extension_view, tsa_policy_view, account_view};
 
 use crate::entries::{Account, Algorithm, Counter, Extension, TsaPolicy};

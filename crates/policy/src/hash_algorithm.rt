@@ -31,7 +31,8 @@ impl HashAlgorithm {
         ensures look_up { option_map value_of result
             ≡ find (λ a. bytes_eq (oid_content a.oid) content.now) hash_algorithms }
         ensures found { IfSome result (λ algorithm. content.now ≡ oid_content (value_of algorithm).oid) }
-        ensures none { IsNone result → (algorithm : HashAlgorithm) → content.now ≡ oid_content (value_of algorithm).oid → ⊥ }
+        ensures none { IsNone result → (algorithm : HashAlgorithm)
+            → content.now ≡ oid_content (value_of algorithm).oid → ⊥ }
     {
         find_by_identifier(&HashAlgorithm::ALL, content).copied()
     }

@@ -3,6 +3,7 @@
 
 mod arrays;
 mod entries;
+mod example;
 mod fault;
 mod field;
 mod find;
@@ -12,6 +13,7 @@ mod policy;
 mod reading;
 
 pub use entries::{Account, Algorithm, Counter, Extension, TsaPolicy};
+pub use example::EXAMPLE;
 pub use fault::PolicyFault;
 pub use field::Field;
 pub use hash_algorithm::HashAlgorithm;

@@ -3,7 +3,8 @@ ghost use Rattle.toml.specs.View.{table_view};
 ghost use Rattle.policy.specs.Answers.{AnswersMeaning};
 ghost use Rattle.policy.specs.Meaning.{meaning_of, policy_in, is_none_or_among};
 ghost use Rattle.policy.specs.View.{algorithm_view, extension_view, tsa_policy_view, account_view, policy_view};
-ghost use Rattle.policy.specs.LookUp.{account_named, account_of_key, anonymous_account, policy_named, policy_of_oid, default_policy, algorithm_of_oid, extension_of_oid};
+ghost use Rattle.policy.specs.LookUp.{account_named, account_of_key, anonymous_account, policy_named, policy_of_oid};
+ghost use Rattle.policy.specs.LookUp.{default_policy, algorithm_of_oid, extension_of_oid};
 
 use crate::arrays::{accounts, algorithms, counter, extensions, tsa_policies};
 use crate::entries::{Account, Algorithm, Counter, Extension, TsaPolicy};

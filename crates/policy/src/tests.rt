@@ -4,65 +4,35 @@ use super::*;
 use std::alloc::{AllocError, Global};
 use std::test::*;
 
-const FILE: &str = r#"[counter]
-accuracy_us = 1000000
-fraction_digits = 0
-drift_ppb = 0
-max_age_us = 86400000000
-anonymous = "guest"
-[[algorithm]]
-name = "sha256"
-oid = "2.16.840.1.101.3.4.2.1"
-length = 32
-[[algorithm]]
-name = "sha512"
-oid = "2.16.840.1.101.3.4.2.3"
-length = 64
-[[extension]]
-name = "batch"
-oid = "2.999.7"
-max_length = 4
-[[policy]]
-name = "open"
-oid = "2.999.1"
-algorithms = ["sha256", "sha512"]
-extensions = ["batch"]
-[[policy]]
-name = "strict"
-oid = "2.999.2"
-algorithms = ["sha512"]
-certificate = false
-[[account]]
-name = "guest"
-policies = ["open"]
-daily_quota = 1000
-[[account]]
-name = "alice"
-key_sha256 = "2cf24dba5fb0a30e26e83b2ac5b9e29e1b161e5c1fa7425e73043362938b9824"
-policies = ["open", "strict"]
-daily_quota = 1001
-[[account]]
-name = "bob"
-key_sha256 = "9f86d081884c7d659a2feaa0c55ad015a3bf4f1b2b0b822cd15d6c15b0f00a08"
-active = false
-policies = ["open"]
-daily_quota = 1002
-[[account]]
-name = "carol"
-key_sha256 = "2c26b46b68ffc68ff99b453c1d30413413422d706483bfa0f98a5e886266e7ae"
-policies = ["open"]
-daily_quota = 2
-[[account]]
-name = "dora"
-policies = ["strict", "open"]
-daily_quota = 1004
-[[account]]
-name = "audra"
-key_sha256 = "ca978112ca1bbdcafac231b39a23dc4da786eff8147c4e72b9807785afee48bb"
-auditor = true
-policies = ["open"]
-daily_quota = 1003
-"#;
+/// What is changed in the example, so that no two accounts with a key have the same quota, and one isn't active.
+static OWN: [(&str, &str); 3] = [
+    (
+        "[\"open\", \"strict\"]\ndaily_quota = 1000",
+        "[\"open\", \"strict\"]\ndaily_quota = 1001",
+    ),
+    (
+        "00a08\"\npolicies = [\"open\"]\ndaily_quota = 1000",
+        "00a08\"\nactive = false\npolicies = [\"open\"]\ndaily_quota = 1002",
+    ),
+    (
+        "auditor = true\npolicies = [\"open\"]\ndaily_quota = 1000",
+        "auditor = true\npolicies = [\"open\"]\ndaily_quota = 1003",
+    ),
+];
+
+/// An account without a key.
+const DORA: &str =
+    "[[account]]\nname = \"dora\"\npolicies = [\"strict\", \"open\"]\ndaily_quota = 1004\n";
+
+/// The example with these changes, and with an account without a key.
+fn own_file(alloc: Global) -> Result<String, Fail> {
+    let mut text = String::from_str(alloc, EXAMPLE)?;
+    text.push_str(DORA)?;
+    for (old, new) in OWN.iter() {
+        text = changed(alloc, text.as_str(), *old, *new)?;
+    }
+    Ok(text)
+}
 
 /// The text with the first `old` replaced.
 fn changed(alloc: Global, text: &str, old: &str, new: &str) -> Result<String, Fail> {
@@ -298,8 +268,9 @@ static CHANGES: [(&str, &str, PolicyFault); 46] = [
 
 #[test]
 fn changes_have_their_fault(rt: HostRuntime) -> Result<(), Fail> {
+    let file = own_file(rt.alloc())?;
     for (index, (old, new, fault)) in CHANGES.iter().enumerate() {
-        let text = changed(rt.alloc(), FILE, *old, *new)?;
+        let text = changed(rt.alloc(), file.as_str(), *old, *new)?;
         match Policy::from_text(rt.alloc(), text.as_str()) {
             Ok(_) => assert!(rt; false, "{index}: taken"),
             Err(found) => assert_eq!(rt; found, *fault, "{index}"),
@@ -412,8 +383,9 @@ static PAIRS: [(&str, &str, &str, &str, PolicyFault); 14] = [
 
 #[test]
 fn first_fault_decides(rt: HostRuntime) -> Result<(), Fail> {
+    let file = own_file(rt.alloc())?;
     for (index, (old, new, other, another, fault)) in PAIRS.iter().enumerate() {
-        let once = changed(rt.alloc(), FILE, *old, *new)?;
+        let once = changed(rt.alloc(), file.as_str(), *old, *new)?;
         let text = changed(rt.alloc(), once.as_str(), *other, *another)?;
         match Policy::from_text(rt.alloc(), text.as_str()) {
             Ok(_) => assert!(rt; false, "{index}: taken"),
@@ -425,8 +397,8 @@ fn first_fault_decides(rt: HostRuntime) -> Result<(), Fail> {
 
 /// The file with more accounts, so many in all.
 fn with_accounts(alloc: Global, count: u32) -> Result<String, AllocError> {
-    let mut text = String::from_str(alloc, FILE)?;
-    for number in 6..count {
+    let mut text = String::from_str(alloc, EXAMPLE)?;
+    for number in 5..count {
         let account = format!(in alloc;
             "[[account]]\nname = \"a{number}\"\npolicies = [\"open\"]\ndaily_quota = 0\n"
         )?;
@@ -537,7 +509,8 @@ fn fields_have_paths(rt: HostRuntime) -> Result<(), Fail> {
 
 #[test]
 fn file_is_read(rt: HostRuntime) -> Result<(), Fail> {
-    let policy = Policy::from_text(rt.alloc(), FILE)?;
+    let file = own_file(rt.alloc())?;
+    let policy = Policy::from_text(rt.alloc(), file.as_str())?;
     assert_eq!(rt; policy.algorithms.len(), 2);
     assert_eq!(rt; policy.extensions.len(), 1);
     assert_eq!(rt; policy.policies.len(), 2);
@@ -560,7 +533,8 @@ static KEYS: [(&str, Option<u32>); 6] = [
 
 #[test]
 fn accounts_are_found(rt: HostRuntime) -> Result<(), Fail> {
-    let policy = Policy::from_text(rt.alloc(), FILE)?;
+    let file = own_file(rt.alloc())?;
+    let policy = Policy::from_text(rt.alloc(), file.as_str())?;
     for (key, quota) in KEYS.iter() {
         let found = match policy.account_of_key(key.as_bytes()) {
             Some(account) => Some(account.daily_quota),
@@ -624,7 +598,8 @@ fn hash_algorithms_are_known(rt: HostRuntime) {
 
 #[test]
 fn entries_are_found(rt: HostRuntime) -> Result<(), Fail> {
-    let policy = Policy::from_text(rt.alloc(), FILE)?;
+    let file = own_file(rt.alloc())?;
+    let policy = Policy::from_text(rt.alloc(), file.as_str())?;
     match policy.policy_of_oid(&[0x88, 0x37, 0x02]) {
         Some(found) => assert!(rt; !found.certificate),
         None => assert!(rt; false, "no strict"),

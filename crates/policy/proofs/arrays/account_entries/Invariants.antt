@@ -9,5 +9,7 @@ use Rattle.policy.proofs.arrays.account_entries.Given as goal
 -- those read so far and those left are all
 abbrev pub invariant-loop-value : goal.invariant-loop-value
 invariant-loop-value l =
-    entries_after (entry_in field.Account (account_in (map (λ e. string_bytes e.name) l.policies))) (map account_view l.entries.items) (items_view (drop l.value-index l.values))
-    ≡ entries_after (entry_in field.Account (account_in (map (λ e. string_bytes e.name) l.policies))) [] (items_view l.values)
+    entries_after (entry_in field.Account (account_in (map (λ e. string_bytes e.name) l.policies)))
+    (map account_view l.entries.items) (items_view (drop l.value-index l.values))
+    ≡ entries_after (entry_in field.Account (account_in (map (λ e. string_bytes e.name) l.policies))) []
+    (items_view l.values)

@@ -9,5 +9,8 @@ use Rattle.policy.proofs.arrays.tsa_policy_entries.Given as goal
 -- those read so far and those left are all
 abbrev pub invariant-loop-value : goal.invariant-loop-value
 invariant-loop-value l =
-    entries_after (entry_in field.Policy (tsa_policy_in (map (λ e. string_bytes e.name) l.algorithms) (map (λ e. string_bytes e.name) l.extensions))) (map tsa_policy_view l.entries.items) (items_view (drop l.value-index l.values))
-    ≡ entries_after (entry_in field.Policy (tsa_policy_in (map (λ e. string_bytes e.name) l.algorithms) (map (λ e. string_bytes e.name) l.extensions))) [] (items_view l.values)
+    entries_after (entry_in field.Policy (tsa_policy_in (map (λ e. string_bytes e.name) l.algorithms)
+    (map (λ e. string_bytes e.name) l.extensions))) (map tsa_policy_view l.entries.items)
+    (items_view (drop l.value-index l.values))
+    ≡ entries_after (entry_in field.Policy (tsa_policy_in (map (λ e. string_bytes e.name) l.algorithms)
+    (map (λ e. string_bytes e.name) l.extensions))) [] (items_view l.values)

@@ -5,4 +5,5 @@ use Rattle.policy.proofs.find.has_name.Goals as goal
 
 pub returns : goal.returns
 returns g c =
-    c.is_some.ensures ∙ found_tells (λ e. e.now) g.T.Named.name_of (λ name. bytes_eq name c.args.name.now) c.find_by_name.result c.args.entries.now c.find_by_name.ensures
+    c.is_some.ensures ∙ found_tells (λ e. e.now) g.T.Named.name_of (λ name. bytes_eq name c.args.name.now)
+    c.find_by_name.result c.args.entries.now c.find_by_name.ensures

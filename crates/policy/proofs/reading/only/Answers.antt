@@ -8,5 +8,6 @@ use Rattle.policy.proofs.reading.only.Goals as goal
 pub loop-key-init : goal.loop-key-init
 loop-key-init c =
     let known = map (λ k. k.now) c.args.known.now in
-    ap (λ ks. list_all (is_among known) (map string_bytes ks)) (c.into_iter-key-iterator.ensures.into_iter_gives ∙ c.keys-key-items.ensures.rest)
+    ap (λ ks. list_all (is_among known) (map string_bytes ks))
+    (c.into_iter-key-iterator.ensures.into_iter_gives ∙ c.keys-key-items.ensures.rest)
     ∙ has_only-keys known c.args.table.now.entries

@@ -6,4 +6,5 @@ use Rattle.policy.proofs.reading.only.Given as goal
 
 -- the keys left are known where all are
 abbrev pub invariant-loop-key : goal.invariant-loop-key
-invariant-loop-key l = let known = map (λ k. k.now) l.known in list_all (is_among known) (map string_bytes l.key-iterator) ≡ has_only known (table_view l.table)
+invariant-loop-key l = let known = map (λ k. k.now) l.known in
+    list_all (is_among known) (map string_bytes l.key-iterator) ≡ has_only known (table_view l.table)

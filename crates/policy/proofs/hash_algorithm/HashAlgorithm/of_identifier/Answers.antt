@@ -9,7 +9,8 @@ use Rattle.policy.proofs.HashTable.{found_one, found_none}
 use Rattle.policy.proofs.hash_algorithm.HashAlgorithm.of_identifier.Goals as goal
 
 -- what the search answered is what the table has
-looked_up : (c : goal.After-copied) → option_map value_of c.copied.result ≡ find (λ a. bytes_eq (oid_content a.oid) c.args.content.now) hash_algorithms
+looked_up : (c : goal.After-copied) → option_map value_of c.copied.result ≡ find
+    (λ a. bytes_eq (oid_content a.oid) c.args.content.now) hash_algorithms
 unfolding hash_algorithms
 looked_up c =
     let all = Sha1 ∷ Sha224 ∷ Sha256 ∷ Sha384 ∷ Sha512 ∷ [] in

@@ -8,7 +8,8 @@ pub returns-in-Some : goal.returns-in-Some
 returns-in-Some c =
     let name = string_bytes c.in-Some.name in
     let found = rw (c.deref.ensures.value, c.as_str.ensures.value) at c.find_by_name.ensures in
-    rw c.in-Some.is (found_value (λ x. x.now) account_view (λ x. bytes_eq x.name name) c.find_by_name.result c.args.self.now.accounts.items found)
+    rw c.in-Some.is (found_value (λ x. x.now) account_view
+    (λ x. bytes_eq x.name name) c.find_by_name.result c.args.self.now.accounts.items found)
 
 pub returns-in-None : goal.returns-in-None
 returns-in-None c = rw c.in-None.is refl

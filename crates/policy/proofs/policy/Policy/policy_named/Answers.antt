@@ -6,4 +6,5 @@ use Rattle.policy.proofs.policy.Policy.policy_named.Goals as goal
 pub returns : goal.returns
 returns c =
     let found = rw c.deref.ensures.value at c.find_by_name.ensures in
-    found_value (λ x. x.now) tsa_policy_view (λ x. bytes_eq x.name c.args.name.now) c.find_by_name.result c.args.self.now.policies.items found
+    found_value (λ x. x.now) tsa_policy_view
+    (λ x. bytes_eq x.name c.args.name.now) c.find_by_name.result c.args.self.now.policies.items found

@@ -7,4 +7,5 @@ use Rattle.policy.proofs.policy.Policy.policy_of_oid.Goals as goal
 pub returns : goal.returns
 returns c =
     let found = rw c.deref.ensures.value at c.find_by_oid.ensures in
-    found_value (λ x. x.now) tsa_policy_view (λ x. bytes_eq (oid_content x.oid) c.args.content.now) c.find_by_oid.result c.args.self.now.policies.items found
+    found_value (λ x. x.now) tsa_policy_view
+    (λ x. bytes_eq (oid_content x.oid) c.args.content.now) c.find_by_oid.result c.args.self.now.policies.items found
