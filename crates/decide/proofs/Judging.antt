@@ -1,5 +1,6 @@
 -- The first failing rule, from what each rule was found to be.
-use Rattle.std.proofs.Common.{◌≡◌, ℕ, ◌<◌, ◌≤◌, ◌+◌, ◌-◌, Bool, true, false, List, [], ◌∷◌, get_or, ltb, Option, Some, None, refl, sym, ap, ◌∙◌, subst, arith}
+use Rattle.std.proofs.Common.{◌≡◌, ℕ, ◌<◌, ◌≤◌, ◌+◌, ◌-◌, Bool, true, false, List, [], ◌∷◌, get_or, ltb, Option, Some}
+use Rattle.std.proofs.Common.{None, refl, sym, ap, ◌∙◌, subst, arith}
 use Rattle.std.proofs.lemmas.Bool.Decides.{Decides-ltb}
 use Rattle.std.proofs.lemmas.Option.{same_Some}
 use Rattle.policy.specs.Record.{AccountValue, PolicyValue}
@@ -7,16 +8,19 @@ use Rattle.tsp.specs.Request.{RequestValue}
 use Rattle.tsp.specs.Rejection.{number_of}
 use Rattle.tsp.specs.Rules.{IsFirstFailing}
 use Rattle.tsp.specs.declared.rule.Rule.{Rule}
-use Rattle.tsp.specs.declared.rule.Rule.TheVariants.{Spelling, Version, Account, Algorithm, HashLength, Policy, PolicyAlgorithm, Extensions, Certificate, Clock, Quota, System}
+use Rattle.tsp.specs.declared.rule.Rule.TheVariants.{Spelling, Version, Account, Algorithm, HashLength, Policy}
+use Rattle.tsp.specs.declared.rule.Rule.TheVariants.{PolicyAlgorithm, Extensions, Certificate, Clock, Quota, System}
 use Rattle.decide.specs.Clock.{IsGood}
-use Rattle.decide.specs.Rules.{HoldsOf, Holds, IsWithinQuota, IsAccepted, AllowsAlgorithm, AllowsExtensions, GivesCertificate, policy_asked}
+use Rattle.decide.specs.Rules.{HoldsOf, Holds, IsWithinQuota, IsAccepted, AllowsAlgorithm, AllowsExtensions}
+use Rattle.decide.specs.Rules.{GivesCertificate, policy_asked}
 use Rattle.decide.specs.Verdict.{PlanValue, VerdictValue, Allowed, Denied, IsJudged, IsVerdict}
 use Rattle.decide.specs.declared.facts.Facts.{Facts}
 use Rattle.decide.proofs.Clocks.{one_gen_time}
 
 abbrev rule_at : ℕ → Rule
 rule_at n =
-    get_or (Spelling ∷ Version ∷ Account ∷ Algorithm ∷ HashLength ∷ Policy ∷ PolicyAlgorithm ∷ Extensions ∷ Certificate ∷ Clock ∷ Quota ∷ System ∷ [])
+    get_or (Spelling ∷ Version ∷ Account ∷ Algorithm ∷ HashLength ∷ Policy ∷ PolicyAlgorithm ∷ Extensions ∷ Certificate
+    ∷ Clock ∷ Quota ∷ System ∷ [])
     (n - 1) System
 
 rule_at_number : (rule : Rule) → rule_at (number_of rule) ≡ rule
@@ -48,15 +52,18 @@ pub below_first : (P : Rule → Type 0) → HoldsBelow P 1
 below_first P Spelling l = absurd (omega arith)
 below_first P rule l = absurd (omega arith)
 
-next_at : (P : Rule → Type 0) (rule : Rule) → HoldsBelow P (number_of rule) → P rule → (other : Rule) → number_of other < number_of rule + 1
+next_at : (P : Rule → Type 0) (rule : Rule) → HoldsBelow P (number_of rule) → P rule → (other : Rule)
+    → number_of other < number_of rule + 1
     → (b : Bool) → ltb (number_of other) (number_of rule) ≡ b → P other
 next_at P rule below h other l true e = below other ((Decides-ltb (number_of other) (number_of rule)).0 e)
 next_at P rule below h other l false e =
-    let not_below : number_of other < number_of rule → ⊥ = λ k. let t = (Decides-ltb (number_of other) (number_of rule)).1 k in cc in
+    let not_below : number_of other < number_of rule
+    → ⊥ = λ k. let t = (Decides-ltb (number_of other) (number_of rule)).1 k in cc in
     let same : number_of rule ≡ number_of other = omega (arith, not_below) in
     subst P (same_rule rule other same) h
 
-pub below_next : (P : Rule → Type 0) (rule : Rule) → HoldsBelow P (number_of rule) → P rule → HoldsBelow P (number_of rule + 1)
+pub below_next : (P : Rule → Type 0) (rule : Rule) → HoldsBelow P (number_of rule) → P rule
+    → HoldsBelow P (number_of rule + 1)
 below_next P rule below h other l = next_at P rule below h other l (ltb (number_of other) (number_of rule)) refl
 
 pub all_below : (P : Rule → Type 0) → HoldsBelow P 13 → (rule : Rule) → P rule
@@ -98,11 +105,13 @@ judged_below : (file : PolicyValue) (account : Option AccountValue) (r : Request
 judged_below file account r facts h rule l = lift file account r facts rule l (h rule)
 
 pub clock_fails : (file : PolicyValue) (account : Option AccountValue) (r : RequestValue) (facts : Facts)
-    → ((rule : Rule) → HoldsOf file account r rule) → (IsGood file.counter facts.clock → ⊥) → IsFirstFailing (Holds file account r facts) Clock
+    → ((rule : Rule) → HoldsOf file account r rule) → (IsGood file.counter facts.clock → ⊥)
+    → IsFirstFailing (Holds file account r facts) Clock
 clock_fails file account r facts h bad = record { fails = bad; before = judged_below file account r facts h }
 
 pub quota_fails : (file : PolicyValue) (account : Option AccountValue) (r : RequestValue) (facts : Facts)
-    → ((rule : Rule) → HoldsOf file account r rule) → IsGood file.counter facts.clock → (IsWithinQuota account facts.count → ⊥)
+    → ((rule : Rule) → HoldsOf file account r rule) → IsGood file.counter facts.clock
+    → (IsWithinQuota account facts.count → ⊥)
     → IsFirstFailing (Holds file account r facts) Quota
 quota_fails file account r facts h good over =
     record {
@@ -111,56 +120,74 @@ quota_fails file account r facts h good over =
     }
 
 pub all_hold : (file : PolicyValue) (account : Option AccountValue) (r : RequestValue) (facts : Facts)
-    → ((rule : Rule) → HoldsOf file account r rule) → IsGood file.counter facts.clock → IsWithinQuota account facts.count
+    → ((rule : Rule) → HoldsOf file account r rule) → IsGood file.counter facts.clock
+    → IsWithinQuota account facts.count
     → (rule : Rule) → Holds file account r facts rule
 all_hold file account r facts h good within Clock = good
 all_hold file account r facts h good within Quota = within
 all_hold file account r facts h good within rule = h rule
 
 -- the rules one after the other, as they are judged
-pub after_version : (file : PolicyValue) (account : Option AccountValue) (r : RequestValue) → HoldsOf file account r Version
+pub after_version : (file : PolicyValue) (account : Option AccountValue) (r : RequestValue)
+    → HoldsOf file account r Version
     → HoldsBelow (HoldsOf file account r) 3
 after_version file account r version =
     let H = HoldsOf file account r in below_next H Version (below_next H Spelling (below_first H) tt) version
 
-pub after_length : (file : PolicyValue) (account : Option AccountValue) (r : RequestValue) → HoldsOf file account r Version
-    → HoldsOf file account r Account → HoldsOf file account r Algorithm → HoldsOf file account r HashLength → HoldsBelow (HoldsOf file account r) 6
+pub after_length : (file : PolicyValue) (account : Option AccountValue) (r : RequestValue)
+    → HoldsOf file account r Version
+    → HoldsOf file account r Account → HoldsOf file account r Algorithm → HoldsOf file account r HashLength
+    → HoldsBelow (HoldsOf file account r) 6
 after_length file account r version known algorithm hash =
     let H = HoldsOf file account r in
-    below_next H HashLength (below_next H Algorithm (below_next H Account (after_version file account r version) known) algorithm) hash
+    below_next H HashLength (below_next H Algorithm
+    (below_next H Account (after_version file account r version) known) algorithm) hash
 
-pub after_policy : (file : PolicyValue) (account : Option AccountValue) (r : RequestValue) (oid : List ℕ) → HoldsBelow (HoldsOf file account r) 6
-    → policy_asked file account r ≡ Some oid → IsAccepted file account (Some oid) → HoldsBelow (HoldsOf file account r) 7
+pub after_policy : (file : PolicyValue) (account : Option AccountValue) (r : RequestValue) (oid : List ℕ)
+    → HoldsBelow (HoldsOf file account r) 6
+    → policy_asked file account r ≡ Some oid → IsAccepted file account (Some oid)
+    → HoldsBelow (HoldsOf file account r) 7
 after_policy file account r oid below asked accepted =
     below_next (HoldsOf file account r) Policy below (subst (IsAccepted file account) (sym asked) accepted)
 
-pub after_algorithm : (file : PolicyValue) (account : Option AccountValue) (r : RequestValue) (oid : List ℕ) → HoldsBelow (HoldsOf file account r) 7
+pub after_algorithm : (file : PolicyValue) (account : Option AccountValue) (r : RequestValue) (oid : List ℕ)
+    → HoldsBelow (HoldsOf file account r) 7
     → policy_asked file account r ≡ Some oid → AllowsAlgorithm file (Some oid) r → HoldsBelow (HoldsOf file account r) 8
 after_algorithm file account r oid below asked allows =
     below_next (HoldsOf file account r) PolicyAlgorithm below (subst (λ o. AllowsAlgorithm file o r) (sym asked) allows)
 
-pub after_extensions : (file : PolicyValue) (account : Option AccountValue) (r : RequestValue) (oid : List ℕ) → HoldsBelow (HoldsOf file account r) 8
-    → policy_asked file account r ≡ Some oid → AllowsExtensions file (Some oid) r → HoldsBelow (HoldsOf file account r) 9
+pub after_extensions : (file : PolicyValue) (account : Option AccountValue) (r : RequestValue) (oid : List ℕ)
+    → HoldsBelow (HoldsOf file account r) 8
+    → policy_asked file account r ≡ Some oid → AllowsExtensions file (Some oid) r
+    → HoldsBelow (HoldsOf file account r) 9
 after_extensions file account r oid below asked allows =
     below_next (HoldsOf file account r) Extensions below (subst (λ o. AllowsExtensions file o r) (sym asked) allows)
 
-pub algorithm_fails : (file : PolicyValue) (account : Option AccountValue) (r : RequestValue) (oid : List ℕ) → HoldsBelow (HoldsOf file account r) 7
-    → policy_asked file account r ≡ Some oid → (AllowsAlgorithm file (Some oid) r → ⊥) → IsFirstFailing (HoldsOf file account r) PolicyAlgorithm
+pub algorithm_fails : (file : PolicyValue) (account : Option AccountValue) (r : RequestValue) (oid : List ℕ)
+    → HoldsBelow (HoldsOf file account r) 7
+    → policy_asked file account r ≡ Some oid → (AllowsAlgorithm file (Some oid) r → ⊥)
+    → IsFirstFailing (HoldsOf file account r) PolicyAlgorithm
 algorithm_fails file account r oid below asked f =
     record { fails = λ h. f (subst (λ o. AllowsAlgorithm file o r) asked h); before = below }
 
-pub extensions_fail : (file : PolicyValue) (account : Option AccountValue) (r : RequestValue) (oid : List ℕ) → HoldsBelow (HoldsOf file account r) 8
-    → policy_asked file account r ≡ Some oid → (AllowsExtensions file (Some oid) r → ⊥) → IsFirstFailing (HoldsOf file account r) Extensions
+pub extensions_fail : (file : PolicyValue) (account : Option AccountValue) (r : RequestValue) (oid : List ℕ)
+    → HoldsBelow (HoldsOf file account r) 8
+    → policy_asked file account r ≡ Some oid → (AllowsExtensions file (Some oid) r → ⊥)
+    → IsFirstFailing (HoldsOf file account r) Extensions
 extensions_fail file account r oid below asked f =
     record { fails = λ h. f (subst (λ o. AllowsExtensions file o r) asked h); before = below }
 
-pub certificate_fails : (file : PolicyValue) (account : Option AccountValue) (r : RequestValue) (oid : List ℕ) → HoldsBelow (HoldsOf file account r) 9
-    → policy_asked file account r ≡ Some oid → (GivesCertificate file (Some oid) r → ⊥) → IsFirstFailing (HoldsOf file account r) Certificate
+pub certificate_fails : (file : PolicyValue) (account : Option AccountValue) (r : RequestValue) (oid : List ℕ)
+    → HoldsBelow (HoldsOf file account r) 9
+    → policy_asked file account r ≡ Some oid → (GivesCertificate file (Some oid) r → ⊥)
+    → IsFirstFailing (HoldsOf file account r) Certificate
 certificate_fails file account r oid below asked f =
     record { fails = λ h. f (subst (λ o. GivesCertificate file o r) asked h); before = below }
 
-pub judged_all : (file : PolicyValue) (account : Option AccountValue) (r : RequestValue) (oid : List ℕ) → HoldsBelow (HoldsOf file account r) 9
-    → policy_asked file account r ≡ Some oid → GivesCertificate file (Some oid) r → (rule : Rule) → HoldsOf file account r rule
+pub judged_all : (file : PolicyValue) (account : Option AccountValue) (r : RequestValue) (oid : List ℕ)
+    → HoldsBelow (HoldsOf file account r) 9
+    → policy_asked file account r ≡ Some oid → GivesCertificate file (Some oid) r → (rule : Rule)
+    → HoldsOf file account r rule
 judged_all file account r oid below asked gives =
     let H = HoldsOf file account r in
     let ten = below_next H Certificate below (subst (λ o. GivesCertificate file o r) (sym asked) gives) in
@@ -176,14 +203,17 @@ judged_number file account r System first = absurd (first.fails tt)
 judged_number file account r rule first = (omega arith, omega arith)
 
 first_at : (P : Rule → Type 0) (one other : Rule) → IsFirstFailing P one → IsFirstFailing P other
-    → (below above : Bool) → ltb (number_of one) (number_of other) ≡ below → ltb (number_of other) (number_of one) ≡ above → one ≡ other
+    → (below above : Bool) → ltb (number_of one) (number_of other) ≡ below
+    → ltb (number_of other) (number_of one) ≡ above → one ≡ other
 first_at P one other first second true above b a =
     absurd (first.fails (second.before one ((Decides-ltb (number_of one) (number_of other)).0 b)))
 first_at P one other first second false true b a =
     absurd (second.fails (first.before other ((Decides-ltb (number_of other) (number_of one)).0 a)))
 first_at P one other first second false false b a =
-    let not_below : number_of one < number_of other → ⊥ = λ k. let t = (Decides-ltb (number_of one) (number_of other)).1 k in cc in
-    let not_above : number_of other < number_of one → ⊥ = λ k. let t = (Decides-ltb (number_of other) (number_of one)).1 k in cc in
+    let not_below : number_of one < number_of other
+    → ⊥ = λ k. let t = (Decides-ltb (number_of one) (number_of other)).1 k in cc in
+    let not_above : number_of other < number_of one
+    → ⊥ = λ k. let t = (Decides-ltb (number_of other) (number_of one)).1 k in cc in
     same_rule one other (omega (arith, not_below, not_above))
 
 -- there is one first rule that fails
@@ -199,14 +229,17 @@ same_plan p q policy gen_time certificate =
     ∙ ap (λ x. plan_of q.policy q.gen_time x) certificate
 
 -- there is one verdict
-pub one_verdict : (file : PolicyValue) (account : Option AccountValue) (r : RequestValue) (facts : Facts) (one other : VerdictValue)
+pub one_verdict : (file : PolicyValue) (account : Option AccountValue) (r : RequestValue) (facts : Facts)
+    (one other : VerdictValue)
     → IsVerdict file account r facts one → IsVerdict file account r facts other → one ≡ other
 one_verdict file account r facts (Allowed p) (Allowed q) v w =
-    ap Allowed (same_plan p q (same_Some _ _ (sym v.1.policy ∙ w.1.policy)) (one_gen_time file.counter facts.clock p.gen_time q.gen_time v.1.good w.1.good)
+    ap Allowed (same_plan p q (same_Some _ _ (sym v.1.policy ∙ w.1.policy))
+    (one_gen_time file.counter facts.clock p.gen_time q.gen_time v.1.good w.1.good)
     (v.1.certificate ∙ sym w.1.certificate))
 one_verdict file account r facts (Allowed p) (Denied rule) v w = absurd (w.fails (v.0 rule))
 one_verdict file account r facts (Denied rule) (Allowed q) v w = absurd (v.fails (w.0 rule))
-one_verdict file account r facts (Denied one) (Denied other) v w = ap Denied (one_first (Holds file account r facts) one other v w)
+one_verdict file account r facts (Denied one) (Denied other) v w =
+    ap Denied (one_first (Holds file account r facts) one other v w)
 
 -- there is one judgement
 pub one_judged : (file : PolicyValue) (account : Option AccountValue) (r : RequestValue) (one other : Option Rule)

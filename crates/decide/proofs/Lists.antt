@@ -1,5 +1,6 @@
 -- Tests over lists, and what they tell of the values that the elements stand for.
-use Rattle.std.proofs.Common.{◌≡◌, ℕ, zero, suc, ◌<◌, Bool, true, false, Some, is_some, List, [], ◌∷◌, map, length, drop, get_or, ◌+◌, ◌≤◌, option_map, refl, sym, ap, ◌∙◌, subst, inl, inr, ◌⊎◌, arith}
+use Rattle.std.proofs.Common.{◌≡◌, ℕ, zero, suc, ◌<◌, Bool, true, false, Some, is_some, List, [], ◌∷◌, map, length}
+use Rattle.std.proofs.Common.{drop, get_or, ◌+◌, ◌≤◌, option_map, refl, sym, ap, ◌∙◌, subst, inl, inr, ◌⊎◌, arith}
 use Rattle.std.specs.Prelude.{Contains, slice_index_or}
 use Rattle.std.proofs.lemmas.List.{drop_more, drop_all}
 use Rattle.std.specs.Bool.{Decides}
@@ -34,7 +35,8 @@ any_backward : {A B : Type 0} (view : A → B) (P : B → Type 0) (x : A) (xs : 
 any_backward view P x xs (y, h, p) = any_from view P x xs y (contains_first_or_other (view x) y (map view xs) h) p
 
 -- a test that finds an element tells that one of the values has P
-pub decides_any : {A B : Type 0} (view : A → B) (test : A → Bool) (P : B → Type 0) → ((x : A) → Decides (test x) (P (view x)))
+pub decides_any : {A B : Type 0} (view : A → B) (test : A → Bool) (P : B → Type 0)
+    → ((x : A) → Decides (test x) (P (view x)))
     → (xs : List A) → Decides (list_any test xs) ((y : B) × Contains (map view xs) y × P y)
 decides_any view test P each [] = (λ h. cc h, λ w. absurd (contains_none w.0 w.1))
 decides_any view test P each (x ∷ xs) =
@@ -46,13 +48,15 @@ pub map_id : {A : Type 0} (xs : List A) → map (λ x. x) xs ≡ xs
 map_id [] = refl
 map_id (x ∷ xs) = ap (λ ys. x ∷ ys) (map_id xs)
 
-all_from : {A B : Type 0} (view : A → B) (P : B → Type 0) (x : A) (xs : List A) → P (view x) × ((y : B) → Contains (map view xs) y → P y)
+all_from : {A B : Type 0} (view : A → B) (P : B → Type 0) (x : A) (xs : List A) → P (view x)
+    × ((y : B) → Contains (map view xs) y → P y)
     → (y : B) → (view x ≡ y) ⊎ Contains (map view xs) y → P y
 all_from view P x xs w y (inl e) = subst P e w.0
 all_from view P x xs w y (inr h) = w.1 y h
 
 -- a test that all elements pass tells that each value has P
-pub decides_all : {A B : Type 0} (view : A → B) (test : A → Bool) (P : B → Type 0) → ((x : A) → Decides (test x) (P (view x)))
+pub decides_all : {A B : Type 0} (view : A → B) (test : A → Bool) (P : B → Type 0)
+    → ((x : A) → Decides (test x) (P (view x)))
     → (xs : List A) → Decides (list_all test xs) ((y : B) → Contains (map view xs) y → P y)
 decides_all view test P each [] = (λ h y c. absurd (contains_none y c), λ w. refl)
 decides_all view test P each (x ∷ xs) =
@@ -64,12 +68,15 @@ decides_all view test P each (x ∷ xs) =
     both
 
 -- the same, by recursion on the list
-pub decides_each : {A B : Type 0} (view : A → B) (test : A → Bool) (P : B → Type 0) → ((x : A) → Decides (test x) (P (view x)))
+pub decides_each : {A B : Type 0} (view : A → B) (test : A → Bool) (P : B → Type 0)
+    → ((x : A) → Decides (test x) (P (view x)))
     → (xs : List A) → Decides (list_all test xs) (AllByRecursion P (map view xs))
 decides_each view test P each [] = (λ h. tt, λ w. refl)
-decides_each view test P each (x ∷ xs) = Decides-and (test x) (list_all test xs) (each x) (decides_each view test P each xs)
+decides_each view test P each (x ∷ xs) =
+    Decides-and (test x) (list_all test xs) (each x) (decides_each view test P each xs)
 
-found_at : {A : Type 0} (test : A → Bool) (x : A) (xs : List A) (b : Bool) → test x ≡ b → is_some (find test xs) ≡ list_any test xs
+found_at : {A : Type 0} (test : A → Bool) (x : A) (xs : List A) (b : Bool) → test x ≡ b
+    → is_some (find test xs) ≡ list_any test xs
     → is_some (find test (x ∷ xs)) ≡ list_any test (x ∷ xs)
 found_at test x xs true e h = rw e refl
 found_at test x xs false e h = rw e h
@@ -109,15 +116,18 @@ left_over : {A : Type 0} (x y : A) (xs : List A) → (x ≡ y → ⊥) → Conta
 left_over x y xs f h = left_over_at x y xs f (contains_first_or_other x y xs h)
 
 -- a value that is among those left, and isn't the first of them, is among the others
-pub still_left : {A B : Type 0} (view : A → B) (xs : List A) (i : ℕ) (x : A) (y : B) → i < length xs → x ≡ slice_index_or xs i x
+pub still_left : {A B : Type 0} (view : A → B) (xs : List A) (i : ℕ) (x : A) (y : B) → i < length xs
+    → x ≡ slice_index_or xs i x
     → (view x ≡ y → ⊥) → Contains (map view (drop i xs)) y → Contains (map view (drop (i + 1) xs)) y
 still_left view xs i x y l e other h =
     let step = drop_more xs i x l in
-    let first : Contains (view (get_or xs i x) ∷ map view (drop (i + 1) xs)) y = subst (λ ys. Contains (map view ys) y) step h in
+    let first : Contains (view (get_or xs i x) ∷ map view (drop (i + 1) xs)) y =
+    subst (λ ys. Contains (map view ys) y) step h in
     left_over (view (get_or xs i x)) y (map view (drop (i + 1) xs)) (λ k. other (ap view e ∙ k)) first
 
 -- none is among those left at the end
-pub none_left : {A B : Type 0} (view : A → B) (xs : List A) (i : ℕ) (y : B) → length xs ≤ i → Contains (map view (drop i xs)) y → ⊥
+pub none_left : {A B : Type 0} (view : A → B) (xs : List A) (i : ℕ) (y : B) → length xs ≤ i
+    → Contains (map view (drop i xs)) y → ⊥
 none_left view xs i y l h =
     let e : drop i xs ≡ [] = drop_all i xs l in
     contains_none y (subst (λ ys. Contains (map view ys) y) e h)

@@ -1,5 +1,6 @@
 -- The definitions, computed on a row: calibration (0, 250, 400), drift 1000, three digits, reading 1,000,000,000.
-use Rattle.std.proofs.Common.{◌≡◌, ℕ, ◌≤◌, ◌+◌, ◌-◌, pos, [], ◌∷◌, Some, None, true, false, refl, sym, subst, codes, arith}
+use Rattle.std.proofs.Common.{◌≡◌, ℕ, ◌≤◌, ◌+◌, ◌-◌, pos, [], ◌∷◌, Some, None, true, false, refl, sym, subst, codes}
+use Rattle.std.proofs.Common.{arith}
 use Rattle.std.proofs.lemmas.Int.{ints}
 use Rattle.std.proofs.lemmas.Option.{same_Some}
 use Rattle.policy.specs.Record.{AccountValue, CounterValue, PolicyValue}
@@ -14,7 +15,15 @@ use Rattle.decide.proofs.Lists.{contains_here, contains_none}
 use Rattle.decide.proofs.Judging.{after_version, below_next}
 
 abbrev counter : ℕ → CounterValue
-counter accuracy = record { accuracy_us = accuracy; fraction_digits = 3; ordering = false; drift_ppb = 1000; max_age_us = 86400000000; anonymous = None }
+counter accuracy = record {
+  accuracy_us = accuracy;
+  fraction_digits = 3;
+  ordering = false;
+  drift_ppb =
+      1000;
+  max_age_us = 86400000000;
+  anonymous = None;
+}
 
 abbrev calibration : Calibration
 calibration = record { reading = pos 0; offset = pos 250; uncertainty = 400 }
@@ -62,7 +71,15 @@ bad_at_2398 good =
 
 -- a file of one account and no algorithm
 abbrev guest : AccountValue
-guest = record { name = codes "guest"; key_sha256 = None; active = true; auditor = false; policies = codes "open" ∷ []; daily_quota = 1000 }
+guest = record {
+  name = codes "guest";
+  key_sha256 = None;
+  active = true;
+  auditor = false;
+  policies =
+      codes "open" ∷ [];
+  daily_quota = 1000;
+}
 
 abbrev file : PolicyValue
 file = record { counter = counter 2399; algorithms = []; extensions = []; policies = []; accounts = guest ∷ [] }

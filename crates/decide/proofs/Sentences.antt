@@ -1,5 +1,7 @@
 -- The code's tests tell the rules' sentences.
-use Rattle.std.proofs.Common.{◌≡◌, ℕ, ◌≤◌, Bool, true, false, Option, Some, None, is_some, List, [], ◌∷◌, map, length, ◌&&◌, ◌||◌, ◌==◌, not, nat_le, option_map, String, Global, string_bytes, refl, sym, ap, ◌∙◌, subst, inl, inr, ◌⊎◌}
+use Rattle.std.proofs.Common.{◌≡◌, ℕ, ◌≤◌, Bool, true, false, Option, Some, None, is_some, List, [], ◌∷◌, map, length}
+use Rattle.std.proofs.Common.{◌&&◌, ◌||◌, ◌==◌, not, nat_le, option_map, String, Global, string_bytes, refl, sym, ap}
+use Rattle.std.proofs.Common.{◌∙◌, subst, inl, inr, ◌⊎◌}
 use Rattle.std.specs.Prelude.{Contains}
 use Rattle.std.specs.Bool.{Decides}
 use Rattle.std.specs.List.{list_any, list_all, find, AllByRecursion}
@@ -21,13 +23,15 @@ use Rattle.tsp.specs.Rules.{AlgorithmValue}
 use Rattle.tsp.specs.Request.{ExtensionValue}
 use Rattle.decide.specs.Rules.{algorithms_of, IsAccepted, KnowsExtension, AreDistinct}
 use Rattle.decide.specs.Tests.{lists_algorithm, knows_extension, knows_extensions, stands_once, stand_once}
-use Rattle.decide.proofs.Lists.{contains_here, contains_there, contains_none, contains_first_or_other, decides_any, decides_all, decides_found, found_passes, map_id}
+use Rattle.decide.proofs.Lists.{contains_here, contains_there, contains_none, contains_first_or_other, decides_any}
+use Rattle.decide.proofs.Lists.{decides_all, decides_found, found_passes, map_id}
 
 -- the contents of an object identifier tell it
 abbrev pub OneContent : Type 0
 OneContent = (a b : List ℕ) → oid_content a ≡ oid_content b → a ≡ b
 
-pub decides_oid : OneContent → (a b content : List ℕ) → content ≡ oid_content b → Decides (bytes_eq (oid_content a) content) (a ≡ b)
+pub decides_oid : OneContent → (a b content : List ℕ) → content ≡ oid_content b
+    → Decides (bytes_eq (oid_content a) content) (a ≡ b)
 decides_oid one a b content e =
     let d = bytes_eq-Decides (oid_content a) content in
     (λ t. one a b (d.0 t ∙ e), λ s. d.1 (ap oid_content s ∙ sym e))
@@ -54,7 +58,8 @@ pub algorithm_known : OneContent → (file : PolicyValue) (content identifier : 
     → Decides (list_any (λ a. bytes_eq (oid_content a.oid) content) file.algorithms)
     ((a : AlgorithmValue) × Contains (algorithms_of file) a × (a.identifier ≡ identifier))
 algorithm_known one file content identifier e =
-    decides_any (λ a. record { identifier = a.oid; hash_length = a.length }) (λ a. bytes_eq (oid_content a.oid) content) (λ a. a.identifier ≡ identifier)
+    decides_any (λ a. record { identifier = a.oid; hash_length = a.length }) (λ a. bytes_eq (oid_content a.oid) content)
+    (λ a. a.identifier ≡ identifier)
     (λ a. decides_oid one a.oid identifier content e) file.algorithms
 
 is_some_map : {A B : Type 0} (f : A → B) (o : Option A) → is_some (option_map f o) ≡ is_some o
@@ -62,7 +67,8 @@ is_some_map f None = refl
 is_some_map f (Some x) = refl
 
 -- what a look-up answered tells whether a test finds an element
-pub look_up_tells : {A B : Type 0} (f : A → B) (test : B → Bool) (xs : List B) (o : Option A) → option_map f o ≡ find test xs → is_some o ≡ list_any test xs
+pub look_up_tells : {A B : Type 0} (f : A → B) (test : B → Bool) (xs : List B) (o : Option A)
+    → option_map f o ≡ find test xs → is_some o ≡ list_any test xs
 look_up_tells f test xs o e = sym (is_some_map f o) ∙ ap is_some e ∙ decides_found test xs
 
 decides_implies : {P Q : Type 0} (x y : Bool) → Decides x P → Decides y Q → Decides (not x || y) (P → Q)
@@ -72,20 +78,26 @@ decides_implies false y d e = (λ t p. let bad : false ≡ true = d.1 p in cc ba
 eq_turned : (a b : ℕ) → Decides (a == b) (b ≡ a)
 eq_turned a b = let d = Decides-eqb a b in (λ t. sym (d.0 t), λ e. d.1 (sym e))
 
-pub algorithm_length : OneContent → (policy : Policy) (content identifier : List ℕ) (n : ℕ) → content ≡ oid_content identifier
+pub algorithm_length : OneContent → (policy : Policy) (content identifier : List ℕ) (n : ℕ)
+    → content ≡ oid_content identifier
     → Decides (list_all (λ a. not (bytes_eq (oid_content a.oid) content) || (a.length == n)) policy.algorithms.items)
-    ((a : AlgorithmValue) → Contains (algorithms_of (policy_view policy)) a → a.identifier ≡ identifier → n ≡ a.hash_length)
+    ((a : AlgorithmValue) → Contains (algorithms_of (policy_view policy)) a → a.identifier ≡ identifier
+    → n ≡ a.hash_length)
 algorithm_length one policy content identifier n e =
     let all =
-    decides_all known (λ a. not (bytes_eq (oid_content a.oid) content) || (a.length == n)) (λ a. a.identifier ≡ identifier → n ≡ a.hash_length)
-    (λ a. decides_implies _ _ (decides_oid one a.oid identifier content e) (eq_turned a.length n)) policy.algorithms.items in
-    subst (λ xs. Decides (list_all (λ a. not (bytes_eq (oid_content a.oid) content) || (a.length == n)) policy.algorithms.items)
+    decides_all known (λ a. not (bytes_eq (oid_content a.oid) content) || (a.length == n))
+    (λ a. a.identifier ≡ identifier → n ≡ a.hash_length)
+    (λ a. decides_implies _ _ (decides_oid one a.oid identifier content e) (eq_turned a.length n))
+    policy.algorithms.items in
+    subst (λ xs. Decides (list_all (λ a. not (bytes_eq (oid_content a.oid) content) || (a.length == n))
+    policy.algorithms.items)
     ((a : AlgorithmValue) → Contains xs a → a.identifier ≡ identifier → n ≡ a.hash_length))
     (sym (map_map _ algorithm_view policy.algorithms.items)) all
 
 -- one of the policies with the object identifier passes a test
 pub asked_any : OneContent → (policies : List TsaPolicy) (content oid : List ℕ) → content ≡ oid_content oid
-    → (test : TsaPolicy → Bool) (P : TsaPolicyValue → Type 0) → ((p : TsaPolicy) → Decides (test p) (P (tsa_policy_view p)))
+    → (test : TsaPolicy → Bool) (P : TsaPolicyValue → Type 0)
+    → ((p : TsaPolicy) → Decides (test p) (P (tsa_policy_view p)))
     → Decides (list_any (λ p. bytes_eq (oid_content p.oid) content && test p) policies)
     ((p : TsaPolicyValue) × (Contains (map tsa_policy_view policies) p × (Some oid ≡ Some p.oid)) × P p)
 asked_any one policies content oid e test P each =
@@ -95,7 +107,8 @@ asked_any one policies content oid e test P each =
     (decides_any tsa_policy_view (λ p. bytes_eq (oid_content p.oid) content && test p) (λ p. (p.oid ≡ oid) × P p)
     (λ p. Decides-and _ _ (decides_oid one p.oid oid content e) (each p)) policies)
 
-pub decides_lists : OneContent → (algorithms : List Algorithm) (content identifier : List ℕ) → content ≡ oid_content identifier → (p : TsaPolicy)
+pub decides_lists : OneContent → (algorithms : List Algorithm) (content identifier : List ℕ)
+    → content ≡ oid_content identifier → (p : TsaPolicy)
     → Decides (lists_algorithm algorithms content p)
     ((a : record_of.AlgorithmValue) × Contains (map algorithm_view algorithms) a × (a.oid ≡ identifier)
     × Contains (tsa_policy_view p).algorithms a.name)
@@ -104,7 +117,8 @@ decides_lists one algorithms content identifier e p =
     (decides_any algorithm_view
     (λ a. bytes_eq (oid_content a.oid) content && is_among (map string_bytes p.algorithms.items) (string_bytes a.name))
     (λ a. (a.oid ≡ identifier) × Contains (tsa_policy_view p).algorithms a.name)
-    (λ a. Decides-and _ _ (decides_oid one a.oid identifier content e) (decides_among (map string_bytes p.algorithms.items) (string_bytes a.name)))
+    (λ a. Decides-and _ _ (decides_oid one a.oid identifier content e)
+    (decides_among (map string_bytes p.algorithms.items) (string_bytes a.name)))
     algorithms)
 
 decides_le : (a b : ℕ) → Decides (nat_le a b) (a ≤ b)
@@ -113,31 +127,37 @@ decides_le a b = (leb-true a b, le-leb a b)
 decides_knows : OneContent → (policy : Policy) (p : TsaPolicy) (e : ExtensionValue)
     → Decides (knows_extension policy.extensions.items p e) (KnowsExtension (policy_view policy) (tsa_policy_view p) e)
 decides_knows one policy p e =
-    Decides-like (knows_extension policy.extensions.items p e) (λ w. (w.0, w.1, w.2.0, w.2.1.0, w.2.1.1)) (λ w. (w.0, w.1, (w.2, (w.3, w.4))))
+    Decides-like (knows_extension policy.extensions.items p e) (λ w. (w.0, w.1, w.2.0, w.2.1.0, w.2.1.1))
+    (λ w. (w.0, w.1, (w.2, (w.3, w.4))))
     (decides_any extension_view
     (λ x. bytes_eq (oid_content x.oid) (oid_content e.identifier)
     && (is_among (map string_bytes p.extensions.items) (string_bytes x.name) && nat_le (length e.value) x.max_length))
     (λ x. (x.oid ≡ e.identifier) × (Contains (tsa_policy_view p).extensions x.name × (length e.value ≤ x.max_length)))
     (λ x. Decides-and _ _ (decides_oid one x.oid e.identifier (oid_content e.identifier) refl)
-    (Decides-and _ _ (decides_among (map string_bytes p.extensions.items) (string_bytes x.name)) (decides_le (length e.value) x.max_length)))
+    (Decides-and _ _ (decides_among (map string_bytes p.extensions.items) (string_bytes x.name))
+    (decides_le (length e.value) x.max_length)))
     policy.extensions.items)
 
 pub decides_all_known : OneContent → (policy : Policy) (es : List ExtensionValue) (p : TsaPolicy)
-    → Decides (knows_extensions policy.extensions.items p es) (AllByRecursion (KnowsExtension (policy_view policy) (tsa_policy_view p)) es)
+    → Decides (knows_extensions policy.extensions.items p es)
+    (AllByRecursion (KnowsExtension (policy_view policy) (tsa_policy_view p)) es)
 decides_all_known one policy [] p = (λ h. tt, λ w. refl)
-decides_all_known one policy (e ∷ es) p = Decides-and _ _ (decides_knows one policy p e) (decides_all_known one policy es p)
+decides_all_known one policy (e ∷ es) p =
+    Decides-and _ _ (decides_knows one policy p e) (decides_all_known one policy es p)
 
 wanted_at : {P : Type 0} (asked given : Bool) → asked ≡ true → Decides given P → (asked ≡ false) ⊎ P → given ≡ true
 wanted_at asked given e d (inl off) = let bad : true ≡ false = sym e ∙ off in cc bad
 wanted_at asked given e d (inr p) = d.1 p
 
 -- the certificate is asked for, so that it has to be given out
-pub wanted_given : {P : Type 0} (asked given : Bool) → asked ≡ true → Decides given P → Decides given ((asked ≡ false) ⊎ P)
+pub wanted_given : {P : Type 0} (asked given : Bool) → asked ≡ true → Decides given P
+    → Decides given ((asked ≡ false) ⊎ P)
 wanted_given asked given e d = (λ t. inr (d.0 t), λ w. wanted_at asked given e d w)
 
 -- ---- no identifier stands twice
 
-absent_from : (x oid : List ℕ) (xs : List (List ℕ)) → (x ≡ oid → ⊥) × (Contains xs oid → ⊥) → (x ≡ oid) ⊎ Contains xs oid → ⊥
+absent_from : (x oid : List ℕ) (xs : List (List ℕ)) → (x ≡ oid → ⊥) × (Contains xs oid → ⊥) → (x ≡ oid)
+    ⊎ Contains xs oid → ⊥
 absent_from x oid xs w (inl e) = w.0 e
 absent_from x oid xs w (inr h) = w.1 h
 
@@ -153,20 +173,24 @@ decides_absent one oid (e ∷ es) =
       λ same. f (subst (λ y. Contains (e.identifier ∷ others) y) same (contains_here e.identifier others)),
       λ h. f (contains_there e.identifier oid others h),
     ))
-    (Decides-and _ _ (Decides-not _ (decides_oid one e.identifier oid (oid_content oid) refl)) (decides_absent one oid es))
+    (Decides-and _ _ (Decides-not _ (decides_oid one e.identifier oid (oid_content oid) refl))
+    (decides_absent one oid es))
 
-once_at : (identifier : List ℕ) (es : List ExtensionValue) (here : Bool) → (stands_once identifier true es ≡ true → stands_once identifier false es ≡ true)
+once_at : (identifier : List ℕ) (es : List ExtensionValue) (here : Bool)
+    → (stands_once identifier true es ≡ true → stands_once identifier false es ≡ true)
     → (not here && stands_once identifier true es) ≡ true → stands_once identifier here es ≡ true
 once_at identifier es true ih t = absurd (cc t)
 once_at identifier es false ih t = ih t
 
 -- one that doesn't stand stands once at most
-once_where_absent : (identifier : List ℕ) (es : List ExtensionValue) → stands_once identifier true es ≡ true → stands_once identifier false es ≡ true
+once_where_absent : (identifier : List ℕ) (es : List ExtensionValue) → stands_once identifier true es ≡ true
+    → stands_once identifier false es ≡ true
 once_where_absent identifier [] t = refl
 once_where_absent identifier (e ∷ es) t =
     once_at identifier es (bytes_eq (oid_content e.identifier) identifier) (once_where_absent identifier es) t
 
-once_after : (identifier : List ℕ) (es : List ExtensionValue) (here : Bool) → stands_once identifier here es ≡ true → stands_once identifier false es ≡ true
+once_after : (identifier : List ℕ) (es : List ExtensionValue) (here : Bool) → stands_once identifier here es ≡ true
+    → stands_once identifier false es ≡ true
 once_after identifier es true t = once_where_absent identifier es t
 once_after identifier es false t = t
 
@@ -174,45 +198,57 @@ once_after identifier es false t = t
 abbrev AreOnce : List record_of.ExtensionValue → List ExtensionValue → Type 0
 AreOnce known es = (x : record_of.ExtensionValue) → Contains known x → stands_once (oid_content x.oid) false es ≡ true
 
-seen_here : (identifier : List ℕ) (es : List ExtensionValue) (here : Bool) → here ≡ true → stands_once identifier here es ≡ true → stands_once identifier true es ≡ true
+seen_here : (identifier : List ℕ) (es : List ExtensionValue) (here : Bool) → here ≡ true
+    → stands_once identifier here es ≡ true → stands_once identifier true es ≡ true
 seen_here identifier es true h t = t
 seen_here identifier es false h t = absurd (cc h)
 
-distinct_where_once : OneContent → (file : PolicyValue) (p : TsaPolicyValue) (es : List ExtensionValue) → AllByRecursion (KnowsExtension file p) es
+distinct_where_once : OneContent → (file : PolicyValue) (p : TsaPolicyValue) (es : List ExtensionValue)
+    → AllByRecursion (KnowsExtension file p) es
     → AreOnce file.extensions es → AreDistinct (map (λ e. e.identifier) es)
 distinct_where_once one file p [] known once = tt
 distinct_where_once one file p (e ∷ es) known once =
     let x = known.0.0 in
     let same : x.oid ≡ e.identifier = known.0.2 in
-    let here : bytes_eq (oid_content e.identifier) (oid_content x.oid) ≡ true = (decides_oid one e.identifier x.oid (oid_content x.oid) refl).1 (sym same) in
-    let seen = seen_here (oid_content x.oid) es (bytes_eq (oid_content e.identifier) (oid_content x.oid)) here (once x known.0.1) in
+    let here : bytes_eq (oid_content e.identifier) (oid_content x.oid) ≡ true =
+    (decides_oid one e.identifier x.oid (oid_content x.oid) refl).1 (sym same) in
+    let seen = seen_here (oid_content x.oid) es (bytes_eq (oid_content e.identifier) (oid_content x.oid)) here
+    (once x known.0.1) in
     let absent = (decides_absent one x.oid es).0 seen in (
       λ h. absent (subst (λ y. Contains (map (λ (z : ExtensionValue). z.identifier) es) y) (sym same) h),
-      distinct_where_once one file p es known.1 (λ y h. once_after (oid_content y.oid) es (bytes_eq (oid_content e.identifier) (oid_content y.oid)) (once y h)),
+      distinct_where_once one file p es known.1
+          (λ y h. once_after (oid_content y.oid) es (bytes_eq (oid_content e.identifier) (oid_content y.oid))
+          (once y h)),
     )
 
-once_where_distinct_at : OneContent → (oid : List ℕ) (e : ExtensionValue) (es : List ExtensionValue) → (Contains (map (λ x. x.identifier) es) e.identifier → ⊥)
-    → stands_once (oid_content oid) false es ≡ true → (here : Bool) → bytes_eq (oid_content e.identifier) (oid_content oid) ≡ here
+once_where_distinct_at : OneContent → (oid : List ℕ) (e : ExtensionValue) (es : List ExtensionValue)
+    → (Contains (map (λ x. x.identifier) es) e.identifier → ⊥)
+    → stands_once (oid_content oid) false es ≡ true → (here : Bool)
+    → bytes_eq (oid_content e.identifier) (oid_content oid) ≡ here
     → stands_once (oid_content oid) here es ≡ true
 once_where_distinct_at one oid e es absent ih true h =
     let same : e.identifier ≡ oid = (decides_oid one e.identifier oid (oid_content oid) refl).0 h in
-    (decides_absent one oid es).1 (λ k. absent (subst (λ y. Contains (map (λ (x : ExtensionValue). x.identifier) es) y) (sym same) k))
+    (decides_absent one oid es).1 (λ k. absent
+    (subst (λ y. Contains (map (λ (x : ExtensionValue). x.identifier) es) y) (sym same) k))
 once_where_distinct_at one oid e es absent ih false h = ih
 
 once_where_distinct : OneContent → (oid : List ℕ) (es : List ExtensionValue) → AreDistinct (map (λ e. e.identifier) es)
     → stands_once (oid_content oid) false es ≡ true
 once_where_distinct one oid [] w = refl
 once_where_distinct one oid (e ∷ es) w =
-    once_where_distinct_at one oid e es w.0 (once_where_distinct one oid es w.1) (bytes_eq (oid_content e.identifier) (oid_content oid)) refl
+    once_where_distinct_at one oid e es w.0 (once_where_distinct one oid es w.1)
+    (bytes_eq (oid_content e.identifier) (oid_content oid)) refl
 
 -- where each is known, it suffices to look at the known ones
-decides_distinct : OneContent → (policy : Policy) (p : TsaPolicyValue) (es : List ExtensionValue) → AllByRecursion (KnowsExtension (policy_view policy) p) es
+decides_distinct : OneContent → (policy : Policy) (p : TsaPolicyValue) (es : List ExtensionValue)
+    → AllByRecursion (KnowsExtension (policy_view policy) p) es
     → Decides (stand_once policy.extensions.items es) (AreDistinct (map (λ e. e.identifier) es))
 decides_distinct one policy p es known =
     Decides-like (stand_once policy.extensions.items es)
     (distinct_where_once one (policy_view policy) p es known)
     (λ distinct x h. once_where_distinct one x.oid es distinct)
-    (decides_all extension_view (λ x. stands_once (oid_content x.oid) false es) (λ x. stands_once (oid_content x.oid) false es ≡ true)
+    (decides_all extension_view (λ x. stands_once (oid_content x.oid) false es)
+    (λ x. stands_once (oid_content x.oid) false es ≡ true)
     (λ x. (λ t. t, λ t. t)) policy.extensions.items)
 
 -- ---- the rule on extensions
@@ -223,7 +259,8 @@ Known policy oid es =
     × AllByRecursion (KnowsExtension (policy_view policy) p) es
 
 knowing : OneContent → (policy : Policy) (es : List ExtensionValue) (content oid : List ℕ) → content ≡ oid_content oid
-    → Decides (list_any (λ p. bytes_eq (oid_content p.oid) content && knows_extensions policy.extensions.items p es) policy.policies.items)
+    → Decides (list_any (λ p. bytes_eq (oid_content p.oid) content && knows_extensions policy.extensions.items p es)
+    policy.policies.items)
     (Known policy oid es)
 knowing one policy es content oid e =
     asked_any one policy.policies.items content oid e (λ p. knows_extensions policy.extensions.items p es)
@@ -235,9 +272,11 @@ distinct_at es some answer f (inl none) = absurd (some none)
 distinct_at es some answer f (inr w) = f w.1
 
 -- there are extensions, and the policy knows them
-pub extensions_known : OneContent → (policy : Policy) (es : List ExtensionValue) (content oid : List ℕ) → content ≡ oid_content oid
+pub extensions_known : OneContent → (policy : Policy) (es : List ExtensionValue) (content oid : List ℕ)
+    → content ≡ oid_content oid
     → (es ≡ [] → ⊥)
-    → (answer : Bool) → answer ≡ list_any (λ p. bytes_eq (oid_content p.oid) content && knows_extensions policy.extensions.items p es) policy.policies.items
+    → (answer : Bool) → answer ≡ list_any (λ p. bytes_eq
+    (oid_content p.oid) content && knows_extensions policy.extensions.items p es) policy.policies.items
     → answer ≡ true → (distinct : Bool) → distinct ≡ stand_once policy.extensions.items es
     → Decides distinct ((es ≡ []) ⊎ (Known policy oid es × AreDistinct (map (λ x. x.identifier) es)))
 extensions_known one policy es content oid e some answer is knows distinct is_distinct =
@@ -253,9 +292,11 @@ unknown_at es some answer f (inl none) = absurd (some none)
 unknown_at es some answer f (inr w) = f w.0
 
 -- there are extensions, and no policy knows them
-pub extensions_unknown : OneContent → (policy : Policy) (es : List ExtensionValue) (content oid : List ℕ) → content ≡ oid_content oid
+pub extensions_unknown : OneContent → (policy : Policy) (es : List ExtensionValue) (content oid : List ℕ)
+    → content ≡ oid_content oid
     → (es ≡ [] → ⊥)
-    → (answer : Bool) → answer ≡ list_any (λ p. bytes_eq (oid_content p.oid) content && knows_extensions policy.extensions.items p es) policy.policies.items
+    → (answer : Bool) → answer ≡ list_any (λ p. bytes_eq
+    (oid_content p.oid) content && knows_extensions policy.extensions.items p es) policy.policies.items
     → answer ≡ false → Decides answer ((es ≡ []) ⊎ (Known policy oid es × AreDistinct (map (λ x. x.identifier) es)))
 extensions_unknown one policy es content oid e some answer is no_policy =
     let known = knowing one policy es content oid e in (
@@ -269,9 +310,12 @@ pub asked_some : (o : Option (List ℕ)) (content : List ℕ) → option_map oid
 asked_some None content h = cc h
 asked_some (Some oid) content h = (oid, refl, sym (same_Some _ _ h))
 
-accepting : OneContent → (policy : Policy) (names : List (String Global)) (content oid : List ℕ) → content ≡ oid_content oid
-    → Decides (list_any (λ p. bytes_eq (oid_content p.oid) content && is_among (map string_bytes names) (string_bytes p.name)) policy.policies.items)
-    ((p : TsaPolicyValue) × (Contains (map tsa_policy_view policy.policies.items) p × (Some oid ≡ Some p.oid)) × Contains (map string_bytes names) p.name)
+accepting : OneContent → (policy : Policy) (names : List (String Global)) (content oid : List ℕ)
+    → content ≡ oid_content oid
+    → Decides (list_any (λ p. bytes_eq (oid_content p.oid) content && is_among (map string_bytes names)
+    (string_bytes p.name)) policy.policies.items)
+    ((p : TsaPolicyValue) × (Contains (map tsa_policy_view policy.policies.items) p × (Some oid ≡ Some p.oid))
+    × Contains (map string_bytes names) p.name)
 accepting one policy names content oid e =
     asked_any one policy.policies.items content oid e (λ p. is_among (map string_bytes names) (string_bytes p.name))
     (λ p. Contains (map string_bytes names) p.name) (λ p. decides_among (map string_bytes names) (string_bytes p.name))
@@ -279,10 +323,12 @@ accepting one policy names content oid e =
 decides_each_value : {A : Type 0} (test : A → Bool) (P : A → Type 0) → ((x : A) → Decides (test x) (P x))
     → (xs : List A) → Decides (list_any test xs) ((y : A) × Contains xs y × P y)
 decides_each_value test P each xs =
-    subst (λ ys. Decides (list_any test xs) ((y : _) × Contains ys y × P y)) (map_id xs) (decides_any (λ x. x) test P each xs)
+    subst (λ ys. Decides (list_any test xs) ((y : _) × Contains ys y × P y)) (map_id xs)
+    (decides_any (λ x. x) test P each xs)
 
 -- no policy has the object identifier that is asked for
-pub none_asked : OneContent → (policy : Policy) (account : Option AccountValue) (asked : Option (List ℕ)) (content : List ℕ)
+pub none_asked : OneContent → (policy : Policy) (account : Option AccountValue) (asked : Option (List ℕ))
+    (content : List ℕ)
     → option_map oid_content asked ≡ Some content → policy_of_oid (policy_view policy) content ≡ None
     → IsAccepted (policy_view policy) account asked → ⊥
 none_asked one policy account asked content e none w =
@@ -294,31 +340,42 @@ none_asked one policy account asked content e none w =
     decides_each_value (λ q. bytes_eq (oid_content q.oid) content) (λ q. q.oid ≡ found.0)
     (λ q. decides_oid one q.oid found.0 content found.2) values in
     let some : true ≡ false =
-    sym (any.1 (p, w.2.1.0, same)) ∙ sym (decides_found (λ q. bytes_eq (oid_content q.oid) content) values) ∙ ap is_some none in
+    sym (any.1 (p, w.2.1.0, same)) ∙ sym (decides_found (λ q. bytes_eq (oid_content q.oid) content) values)
+    ∙ ap is_some none in
     cc some
 
 -- the policy that was found is the one that is asked for, and the account's
-pub found_accepted : OneContent → (policy : Policy) (account : AccountValue) (names : List (String Global)) → map string_bytes names ≡ account.policies
+pub found_accepted : OneContent → (policy : Policy) (account : AccountValue) (names : List (String Global))
+    → map string_bytes names ≡ account.policies
     → (asked : Option (List ℕ)) (content : List ℕ) → option_map oid_content asked ≡ Some content
     → (q : TsaPolicyValue) → policy_of_oid (policy_view policy) content ≡ Some q
-    → list_any (λ p. bytes_eq (oid_content p.oid) content && is_among (map string_bytes names) (string_bytes p.name)) policy.policies.items ≡ true
+    → list_any (λ p. bytes_eq (oid_content p.oid) content && is_among (map string_bytes names) (string_bytes p.name))
+    policy.policies.items ≡ true
     → IsAccepted (policy_view policy) (Some account) (Some q.oid) × (asked ≡ Some q.oid)
 found_accepted one policy account names listed asked content e q found accepted =
     let some = asked_some asked content e in
-    let passes = found_passes (λ p. bytes_eq (oid_content p.oid) content) (map tsa_policy_view policy.policies.items) q found in
+    let passes = found_passes (λ p. bytes_eq (oid_content p.oid) content) (map tsa_policy_view policy.policies.items) q
+    found in
     let same : q.oid ≡ some.0 = (decides_oid one q.oid some.0 content some.2).0 passes in
-    let w = (accepting one policy names content some.0 some.2).0 accepted in
-    ((account, refl, (w.0, (w.1.0, ap Some same ∙ w.1.1), subst (λ ns. Contains ns w.0.name) listed w.2)), some.1 ∙ ap Some (sym same))
+    let w = (accepting one policy names content some.0 some.2).0 accepted in (
+      (account, refl, (w.0, (w.1.0, ap Some same ∙ w.1.1), subst (λ ns. Contains ns w.0.name) listed w.2)),
+      some.1
+          ∙ ap Some (sym same),
+    )
 
 -- no policy with the object identifier that is asked for is the account's
-pub none_accepted : OneContent → (policy : Policy) (account : AccountValue) (names : List (String Global)) → map string_bytes names ≡ account.policies
+pub none_accepted : OneContent → (policy : Policy) (account : AccountValue) (names : List (String Global))
+    → map string_bytes names ≡ account.policies
     → (asked : Option (List ℕ)) (content : List ℕ) → option_map oid_content asked ≡ Some content
-    → list_any (λ p. bytes_eq (oid_content p.oid) content && is_among (map string_bytes names) (string_bytes p.name)) policy.policies.items ≡ false
+    → list_any (λ p. bytes_eq (oid_content p.oid) content && is_among (map string_bytes names) (string_bytes p.name))
+    policy.policies.items ≡ false
     → IsAccepted (policy_view policy) (Some account) asked → ⊥
 none_accepted one policy account names listed asked content e off w =
     let some = asked_some asked content e in
-    let own : w.0.policies ≡ map string_bytes names = ap (λ (a : AccountValue). a.policies) (sym (same_Some _ _ w.1)) ∙ sym listed in
+    let own : w.0.policies ≡ map string_bytes names = ap (λ (a : AccountValue). a.policies) (sym (same_Some _ _ w.1))
+    ∙ sym listed in
     let p = w.2.0 in
     let bad : true ≡ false =
-    sym ((accepting one policy names content some.0 some.2).1 (p, (w.2.1.0, sym some.1 ∙ w.2.1.1), subst (λ ns. Contains ns p.name) own w.2.2)) ∙ off in
+    sym ((accepting one policy names content some.0 some.2).1
+    (p, (w.2.1.0, sym some.1 ∙ w.2.1.1), subst (λ ns. Contains ns p.name) own w.2.2)) ∙ off in
     cc bad

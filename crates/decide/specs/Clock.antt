@@ -1,7 +1,8 @@
 -- The clock: what a reading stands for after a calibration, how far the true moment may be away from it, and when a
 -- token may be given (RFC 3628 7.3.1: no token while the clock is out of its accuracy). All quantities are whole
 -- microseconds without bound, and moments count from 1970-01-01T00:00:00Z.
-use Rattle.std.specs.Prelude.{◌≡◌, ℕ, ◌<◌, ◌≤◌, ◌+◌, ◌-◌, ◌*◌, ◌/◌, ◌^◌, ℤ, pos, negsuc, ◌+ℤ◌, ◌-ℤ◌, ◌≤ℤ◌, Bool, true, false, Option, Some, None}
+use Rattle.std.specs.Prelude.{◌≡◌, ℕ, ◌<◌, ◌≤◌, ◌+◌, ◌-◌, ◌*◌, ◌/◌, ◌^◌, ℤ, pos, negsuc, ◌+ℤ◌, ◌-ℤ◌, ◌≤ℤ◌, Bool, true}
+use Rattle.std.specs.Prelude.{false, Option, Some, None}
 use Rattle.gentime.specs.GenTime.{last_moment, round_down}
 use Rattle.policy.specs.Record.{CounterValue}
 use Rattle.decide.specs.declared.facts.Calibration.{Calibration}

@@ -1,6 +1,7 @@
 -- The rules of a written policy (in the manner of RFC 3628), each a sentence that stands by itself, and the first that
 -- fails.
-use Rattle.std.specs.Prelude.{◌≡◌, ℕ, ◌<◌, ◌≤◌, ◌⊎◌, true, false, List, [], ◌∷◌, map, length, Option, Some, None, option_map, Contains}
+use Rattle.std.specs.Prelude.{◌≡◌, ℕ, ◌<◌, ◌≤◌, ◌⊎◌, true, false, List, [], ◌∷◌, map, length, Option, Some, None}
+use Rattle.std.specs.Prelude.{option_map, Contains}
 use Rattle.std.specs.List.{AllByRecursion}
 use Rattle.policy.specs.LookUp as look_up
 use Rattle.policy.specs.Record.{AlgorithmValue, ExtensionValue, TsaPolicyValue, AccountValue, PolicyValue}
@@ -9,7 +10,8 @@ use Rattle.tsp.specs.Request as tsp
 use Rattle.tsp.specs.Rules as rules
 use Rattle.tsp.specs.Rules.{HasVersionOne, HasKnownAlgorithm, HasAlgorithmLength}
 use Rattle.tsp.specs.declared.rule.Rule.{Rule}
-use Rattle.tsp.specs.declared.rule.Rule.TheVariants.{Spelling, Version, Account, Algorithm, HashLength, Policy, PolicyAlgorithm, Extensions, Certificate, Clock, Quota, System}
+use Rattle.tsp.specs.declared.rule.Rule.TheVariants.{Spelling, Version, Account, Algorithm, HashLength, Policy}
+use Rattle.tsp.specs.declared.rule.Rule.TheVariants.{PolicyAlgorithm, Extensions, Certificate, Clock, Quota, System}
 use Rattle.decide.specs.Clock.{IsGood}
 use Rattle.decide.specs.declared.facts.Facts.{Facts}
 

@@ -1,14 +1,17 @@
 //! What holds of all verdicts.
-ghost use Rattle.std.specs.Prelude.{◌≡◌, ℕ, Option, Some, None};
+ghost use Rattle.std.specs.Prelude.{◌≡◌, ℕ, ◌≤◌, List, length, Option, Some, None};
 ghost use Rattle.policy.specs.Record.{AccountValue, CounterValue, PolicyValue};
-ghost use Rattle.tsp.specs.Request.{RequestValue};
+ghost use Rattle.tsp.specs.Request.{RequestValue, Spells};
+ghost use Rattle.tsp.specs.Rules.{IsSpelled, HoldsOfOctets, IsFirstFailing};
 ghost use Rattle.tsp.specs.declared.rule.Rule.{Rule};
-ghost use Rattle.tsp.specs.declared.rule.Rule.TheVariants.{Clock, Quota};
+ghost use Rattle.tsp.specs.declared.rule.Rule.TheVariants.{Spelling, Clock, Quota};
 ghost use Rattle.decide.specs.Clock.{IsGood, IsGoodAt};
-ghost use Rattle.decide.specs.Rules.{IsWithinQuota};
+ghost use Rattle.decide.specs.Rules.{HoldsOf, Holds, IsWithinQuota};
 ghost use Rattle.decide.specs.Verdict.{IsJudged, IsVerdict, IsPlan, PlanValue, VerdictValue, Allowed, Denied};
 ghost use Rattle.decide.specs.declared.facts.ClockFacts.{ClockFacts};
 ghost use Rattle.decide.specs.declared.facts.Facts.{Facts};
+
+use tsp::requests_have_one_reading;
 
 /// A request has one verdict, and what is found out on the way to it is the verdict: the rules 2 to 9 are judged
 /// without the facts, rule 10 without the day's count.
@@ -42,6 +45,32 @@ pub fn verdicts_are_one()
         (first second : Option Rule)
         → IsJudged file account r first → IsJudged file account r second → first ≡ second }
 {}
+
+/// What is found out of the request that octets spell, at most 65,536 of them, is found out of the octets: the first
+/// rule that fails is the same, and where none fails of the request, none does of the octets. Octets that spell no
+/// request, or are more, fail the rule on their spelling.
+pub fn verdicts_are_of_octets()
+    ensures judged { (file : PolicyValue) (account : Option AccountValue) (octets : List ℕ) (r : RequestValue)
+        (rule : Rule) → Spells octets r → length octets ≤ 65536 → IsJudged file account r (Some rule)
+        → IsFirstFailing (HoldsOfOctets (HoldsOf file account) octets) rule }
+    ensures passed { (file : PolicyValue) (account : Option AccountValue) (octets : List ℕ) (r : RequestValue)
+        → Spells octets r → length octets ≤ 65536 → IsJudged file account r None
+        → (rule : Rule) → HoldsOfOctets (HoldsOf file account) octets rule }
+    ensures denied { (file : PolicyValue) (account : Option AccountValue) (octets : List ℕ) (r : RequestValue)
+        (facts : Facts) (rule : Rule) → Spells octets r → length octets ≤ 65536
+        → IsVerdict file account r facts (Denied rule)
+        → IsFirstFailing (HoldsOfOctets (λ s. Holds file account s facts) octets) rule }
+    ensures allowed { (file : PolicyValue) (account : Option AccountValue) (octets : List ℕ) (r : RequestValue)
+        (facts : Facts) (plan : PlanValue) → Spells octets r → length octets ≤ 65536
+        → IsVerdict file account r facts (Allowed plan)
+        → (rule : Rule) → HoldsOfOctets (λ s. Holds file account s facts) octets rule }
+    ensures unspelled { (file : PolicyValue) (account : Option AccountValue) (octets : List ℕ) (facts : Facts)
+        → (IsSpelled octets → ⊥)
+        → IsFirstFailing (HoldsOfOctets (HoldsOf file account) octets) Spelling
+        × IsFirstFailing (HoldsOfOctets (λ s. Holds file account s facts) octets) Spelling }
+{
+    requests_have_one_reading();
+}
 
 /// A good clock gives one genTime.
 pub fn gen_times_are_one()

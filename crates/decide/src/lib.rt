@@ -15,5 +15,5 @@ mod verdict;
 pub use clock::{ClockState, clock_state, now_of};
 pub use facts::{Calibration, ClockFacts, Facts, Hold};
 pub use judge::{decide, judge_request};
-pub use laws::{gen_times_are_one, verdicts_are_one};
+pub use laws::{gen_times_are_one, verdicts_are_of_octets, verdicts_are_one};
 pub use verdict::{Plan, Verdict};

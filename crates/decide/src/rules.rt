@@ -1,5 +1,6 @@
 //! The rules, each judged by itself.
-ghost use Rattle.std.specs.Prelude.{◌≡◌, ◌↔◌, ◌==◌, ◌||◌, ◌&&◌, not, false, Some, option_map, map, string_bytes, IsTrue, MatchOption};
+ghost use Rattle.std.specs.Prelude.{◌≡◌, ◌↔◌, ◌==◌, ◌||◌, ◌&&◌, not, false, Some, option_map, map, string_bytes};
+ghost use Rattle.std.specs.Prelude.{IsTrue, MatchOption};
 ghost use Rattle.std.specs.List.{list_all, list_any};
 ghost use Rattle.std.specs.Str.{bytes_eq};
 ghost use Rattle.der.specs.ObjectIdentifier.{oid_content};
@@ -7,7 +8,8 @@ ghost use Rattle.policy.specs.Kinds.{is_among};
 ghost use Rattle.policy.specs.View.{policy_view, account_view};
 ghost use Rattle.tsp.specs.Rules.{HasKnownAlgorithm, HasAlgorithmLength};
 ghost use Rattle.tsp.specs.View.{extension_view, request_view};
-ghost use Rattle.decide.specs.Rules.{algorithms_of, policy_asked, IsAccepted, AllowsAlgorithm, AllowsExtensions, GivesCertificate, IsWithinQuota};
+ghost use Rattle.decide.specs.Rules.{algorithms_of, policy_asked, IsAccepted, AllowsAlgorithm, AllowsExtensions};
+ghost use Rattle.decide.specs.Rules.{GivesCertificate, IsWithinQuota};
 ghost use Rattle.decide.specs.Tests.{lists_algorithm, knows_extension, knows_extensions, stands_once, stand_once};
 
 use der::{Oid, oids_have_one_content_and_text};

@@ -30,7 +30,8 @@ returns-clause-verdict c =
     let r = request_view c.args.request.now in
     let facts = c.args.facts.now in
     let judged = c.in-Ok.ensures in (
-      all_hold file account r facts judged.0 c.in-Good.ensures.state.0 (c.is_within_quota.ensures.0 c.if-not-is_within_quota.false),
+      all_hold file account r facts judged.0 c.in-Good.ensures.state.0
+          (c.is_within_quota.ensures.0 c.if-not-is_within_quota.false),
       record { policy = judged.1; good = c.in-Good.ensures.state; certificate = c.cert_req.ensures },
     )
 

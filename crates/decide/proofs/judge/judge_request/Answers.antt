@@ -6,4 +6,5 @@ use Rattle.decide.proofs.judge.judge_request.Goals as goal
 
 pub returns-in-Err-clause-number : goal.returns-in-Err-clause-number
 returns-in-Err-clause-number c =
-    judged_number (policy_view c.args.policy.now) (account_asked c.args.account) (request_view c.args.request.now) c.in-Err.rule c.in-Err.ensures
+    judged_number (policy_view c.args.policy.now) (account_asked c.args.account)
+    (request_view c.args.request.now) c.in-Err.rule c.in-Err.ensures

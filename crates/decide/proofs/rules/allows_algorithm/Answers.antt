@@ -15,7 +15,9 @@ returns c =
     let identifier = c.args.request.now.imprint.algorithm in
     let algorithms = policy.algorithms.items in
     let any =
-    asked_any one policy.policies.items c.content.result.now c.args.oid.now c.content.ensures.encoded (lists_algorithm algorithms c.algorithm.result.now)
-    (λ (p : TsaPolicyValue). (a : record_of.AlgorithmValue) × Contains (map algorithm_view algorithms) a × (a.oid ≡ identifier) × Contains p.algorithms a.name)
+    asked_any one policy.policies.items c.content.result.now c.args.oid.now c.content.ensures.encoded
+    (lists_algorithm algorithms c.algorithm.result.now)
+    (λ (p : TsaPolicyValue). (a : record_of.AlgorithmValue) × Contains (map algorithm_view algorithms) a
+    × (a.oid ≡ identifier) × Contains p.algorithms a.name)
     (decides_lists one algorithms c.algorithm.result.now identifier c.algorithm.ensures) in
     Decides-at c.is_listed.result _ c.is_listed.ensures any

@@ -4,4 +4,5 @@ use Rattle.decide.proofs.rules.stands_once.Given as goal
 
 -- those left stand once where all do
 abbrev pub invariant-loop-extension : goal.invariant-loop-extension
-invariant-loop-extension l = stands_once l.identifier l.seen l.extension-iterator ≡ stands_once l.identifier false l.extensions
+invariant-loop-extension l = stands_once l.identifier l.seen l.extension-iterator
+    ≡ stands_once l.identifier false l.extensions
