@@ -2,7 +2,9 @@
 use Rattle.std.proofs.Common.{◌≡◌, List, [], ◌∷◌, ◌++◌, Some, codes, inl, refl}
 use Rattle.std.specs.Prelude.{option_map}
 use Rattle.clap.specs.Words.{Text, fault_of, first_of, one_of, subcommand_of}
-use Rattle.clap.specs.declared.error.kind.ErrorKind.TheVariants.{ArgumentConflict, DisplayHelp, MissingRequiredArgument, MissingSubcommand, TooManyValues, UnknownArgument, ValueValidation}
+use Rattle.clap.specs.declared.error.kind.ErrorKind.TheVariants.{ArgumentConflict, DisplayHelp, MissingRequiredArgument}
+use Rattle.clap.specs.declared.error.kind.ErrorKind.TheVariants.{MissingSubcommand, TooManyValues, UnknownArgument}
+use Rattle.clap.specs.declared.error.kind.ErrorKind.TheVariants.{ValueValidation}
 use Rattle.clap.proofs.OnLiterals.{clap_on_literals}
 use Rattle.command_line.specs.Words.{AreTaken, AsksHelp, counter_command}
 
@@ -15,15 +17,18 @@ pub tst_is_taken : AreTaken (tst_words (codes "6"))
 unfolding clap_on_literals
 tst_is_taken = refl
 
-pub policy_of_tst : option_map (λ p. first_of (codes "policy") p.1) (subcommand_of counter_command (tst_words (codes "6"))) ≡ Some (Some (codes "2.999.1"))
+pub policy_of_tst : option_map (λ p. first_of (codes "policy") p.1)
+    (subcommand_of counter_command (tst_words (codes "6"))) ≡ Some (Some (codes "2.999.1"))
 unfolding clap_on_literals
 policy_of_tst = refl
 
-pub moment_of_tst : option_map (λ p. one_of (codes "moment") p.1) (subcommand_of counter_command (tst_words (codes "6"))) ≡ Some (Some (codes "5"))
+pub moment_of_tst : option_map (λ p. one_of (codes "moment") p.1)
+    (subcommand_of counter_command (tst_words (codes "6"))) ≡ Some (Some (codes "5"))
 unfolding clap_on_literals
 moment_of_tst = refl
 
-pub ordering_of_tst : option_map (λ p. one_of (codes "ordering") p.1) (subcommand_of counter_command (tst_words (codes "6"))) ≡ Some (Some (codes "true"))
+pub ordering_of_tst : option_map (λ p. one_of (codes "ordering") p.1)
+    (subcommand_of counter_command (tst_words (codes "6"))) ≡ Some (Some (codes "true"))
 unfolding clap_on_literals
 ordering_of_tst = refl
 
@@ -31,29 +36,35 @@ pub seven_digits_are_refused : fault_of counter_command (tst_words (codes "7")) 
 unfolding clap_on_literals
 seven_digits_are_refused = refl
 
--- a number below the least, an option that stands twice, a word too many, an unknown option, a value of a flag, help among all
--- that is needed
-pub minus_is_refused : fault_of counter_command (codes "counter" ∷ codes "tst" ∷ codes "--serial=-5" ∷ []) ≡ ValueValidation ∷ []
+-- a number below the least, an option that stands twice, a word too many, an unknown option, a value of a flag, help
+-- among all that is needed
+pub minus_is_refused : fault_of counter_command (codes "counter" ∷ codes "tst" ∷ codes "--serial=-5" ∷ [])
+    ≡ ValueValidation ∷ []
 unfolding clap_on_literals
 minus_is_refused = refl
 
-pub twice_is_refused : fault_of counter_command (tst_words (codes "6") ++ (codes "--digits" ∷ codes "6" ∷ [])) ≡ ArgumentConflict ∷ []
+pub twice_is_refused : fault_of counter_command (tst_words (codes "6") ++ (codes "--digits" ∷ codes "6" ∷ []))
+    ≡ ArgumentConflict ∷ []
 unfolding clap_on_literals
 twice_is_refused = refl
 
-pub word_too_many_is_refused : fault_of counter_command (tst_words (codes "6") ++ (codes "3" ∷ [])) ≡ UnknownArgument ∷ []
+pub word_too_many_is_refused : fault_of counter_command (tst_words (codes "6") ++ (codes "3" ∷ []))
+    ≡ UnknownArgument ∷ []
 unfolding clap_on_literals
 word_too_many_is_refused = refl
 
-pub other_option_is_refused : fault_of counter_command (tst_words (codes "6") ++ (codes "--colour" ∷ [])) ≡ UnknownArgument ∷ []
+pub other_option_is_refused : fault_of counter_command (tst_words (codes "6") ++ (codes "--colour" ∷ []))
+    ≡ UnknownArgument ∷ []
 unfolding clap_on_literals
 other_option_is_refused = refl
 
-pub value_of_flag_is_refused : fault_of counter_command (codes "counter" ∷ codes "tst" ∷ codes "--ordering=true" ∷ []) ≡ TooManyValues ∷ []
+pub value_of_flag_is_refused : fault_of counter_command (codes "counter" ∷ codes "tst" ∷ codes "--ordering=true" ∷ [])
+    ≡ TooManyValues ∷ []
 unfolding clap_on_literals
 value_of_flag_is_refused = refl
 
-pub help_among_settings_is_asked : fault_of counter_command (tst_words (codes "6") ++ (codes "--help" ∷ [])) ≡ DisplayHelp ∷ []
+pub help_among_settings_is_asked : fault_of counter_command (tst_words (codes "6") ++ (codes "--help" ∷ []))
+    ≡ DisplayHelp ∷ []
 unfolding clap_on_literals
 help_among_settings_is_asked = refl
 

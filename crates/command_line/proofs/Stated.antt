@@ -1,8 +1,10 @@
 -- What a parse found, as the values that the words state.
-use Rattle.std.proofs.Common.{◌≡◌, ◌∙◌, ◌<◌, ◌^◌, ℕ, List, Bor, Result, Option, Ok, Err, Some, None, ap, codes, sym, refl}
+use Rattle.std.proofs.Common.{◌≡◌, ◌∙◌, ◌<◌, ◌^◌, ℕ, List, Bor, Result, Option, Ok, Err, Some, None, ap, codes, sym}
+use Rattle.std.proofs.Common.{refl}
 use Rattle.std.specs.Prelude.{option_map, unwrap_or}
 use Rattle.std.specs.Str.Parse.{ParsesUnsigned, digits_value, without_leading_plus}
-use Rattle.clap.specs.Words.{ReadsOne, Row, Text, first_of, first_value, one_text, rows_of, subcommand_name_of, subcommand_rows_of}
+use Rattle.clap.specs.Words.{ReadsOne, Row, Text, first_of, first_value, one_text, rows_of, subcommand_name_of}
+use Rattle.clap.specs.Words.{subcommand_rows_of}
 use Rattle.clap.specs.declared.parser.matches.ArgMatches.{ArgMatches}
 use Rattle.clap.specs.declared.parser.matches.Found.{Found}
 use Rattle.clap.proofs.WalkLemmas.{first_value-rows, one_text-rows}
@@ -13,11 +15,13 @@ use Rattle.command_line.specs.declared.words.Word.{Word}
 use Rattle.command_line.specs.declared.words.Word.TheVariants.{Tst, Check}
 
 pub reads_text : (f : Found) (name : Text) (result : Option (Bor Text)) (text : Bor Text)
-    → option_map (λ s. s.now) result ≡ first_value f name → result ≡ Some text → first_of name (rows_of f) ≡ Some text.now
+    → option_map (λ s. s.now) result ≡ first_value f name → result ≡ Some text
+    → first_of name (rows_of f) ≡ Some text.now
 reads_text f name result text same is =
     sym (first_value-rows f name) ∙ sym same ∙ ap (option_map (λ (s : Bor Text). s.now)) is
 
-pub reads_number : {E : Type 0} (G : List ℕ → Result ℕ E → Type 0) (f : Found) (name : Text) (result : Option ℕ) (number : ℕ)
+pub reads_number : {E : Type 0} (G : List ℕ → Result ℕ E → Type 0) (f : Found) (name : Text) (result : Option ℕ)
+    (number : ℕ)
     → (one_text f name ≡ None → result ≡ None) → ((t : List ℕ) → one_text f name ≡ Some t → ReadsOne G t result)
     → ((t : List ℕ) (r : Result ℕ E) → G t r → ParsesUnsigned 64 10 t r) → result ≡ Some number
     → StatesNumber (rows_of f) name number
@@ -37,7 +41,8 @@ reads_number {E} G f name result number none value only is = go (one_text f name
           value = parsed.1;
         }
 
-pub unread_number : {E : Type 0} (G : List ℕ → Result ℕ E → Type 0) (f : Found) (name : Text) (result : Option ℕ) (number : ℕ)
+pub unread_number : {E : Type 0} (G : List ℕ → Result ℕ E → Type 0) (f : Found) (name : Text) (result : Option ℕ)
+    (number : ℕ)
     → ((t : List ℕ) → one_text f name ≡ Some t → ReadsOne G t result)
     → ((t : List ℕ) (r : Result ℕ E) → G t r → ParsesUnsigned 64 10 t r) → result ≡ None
     → StatesNumber (rows_of f) name number → number < 2 ^ 64 → ⊥
@@ -47,16 +52,19 @@ unread_number {E} G f name result number value only is states small =
 
 pub one_number : (rows : List Row) (name : Text) (a b : ℕ) → StatesNumber rows name a → StatesNumber rows name b → a ≡ b
 one_number rows name a b first second =
-    let same : first.text ≡ second.text = ap (λ (o : Option Text). unwrap_or o first.text) (sym first.given ∙ second.given) in
+    let same : first.text ≡ second.text =
+    ap (λ (o : Option Text). unwrap_or o first.text) (sym first.given ∙ second.given) in
     first.value ∙ ap (λ t. digits_value 10 (without_leading_plus t)) same ∙ sym second.value
 
 pub unread_text : (f : Found) (name : Text) (result : Option (Bor Text)) (text : Text)
     → option_map (λ s. s.now) result ≡ first_value f name → result ≡ None → first_of name (rows_of f) ≡ Some text → ⊥
 unread_text f name result text same is given =
-    let missing : first_of name (rows_of f) ≡ None = sym (first_value-rows f name) ∙ sym same ∙ ap (option_map (λ (s : Bor Text). s.now)) is in
+    let missing : first_of name (rows_of f) ≡ None = sym (first_value-rows f name) ∙ sym same
+    ∙ ap (option_map (λ (s : Bor Text). s.now)) is in
     cc
 
-mapped_twice : {X Y Z : Type 0} (f : Y → Z) (g : X → Y) (o : Option X) → option_map f (option_map g o) ≡ option_map (λ x. f (g x)) o
+mapped_twice : {X Y Z : Type 0} (f : Y → Z) (g : X → Y) (o : Option X)
+    → option_map f (option_map g o) ≡ option_map (λ x. f (g x)) o
 mapped_twice f g None = refl
 mapped_twice f g (Some x) = refl
 
@@ -79,17 +87,20 @@ pub one_subcommand : (m : ArgMatches) (name other : Text) (rows others : List Ro
     → (other ≡ name) × (others ≡ rows)
 one_subcommand m name other rows others first second is =
     let pairs : Some (other, others) ≡ Some (name, rows) = sym is ∙ found_rows m name rows first second in
-    let pair : (other, others) ≡ (name, rows) = ap (λ (o : Option (Text × List Row)). unwrap_or o (other, others)) pairs in
+    let pair : (other, others) ≡ (name, rows) =
+    ap (λ (o : Option (Text × List Row)). unwrap_or o (other, others)) pairs in
     (ap (λ (p : Text × List Row). p.0) pair, ap (λ (p : Text × List Row). p.1) pair)
 
-pub not_tst : (name : Text) (rows : List Row) (word : Word) → name ≡ codes "tst" → ((words : TstWords) → StatesTst rows words → ⊥)
+pub not_tst : (name : Text) (rows : List Row) (word : Word) → name ≡ codes "tst"
+    → ((words : TstWords) → StatesTst rows words → ⊥)
     → IsAsked name rows word → ⊥
 not_tst name rows (Tst words) is none asked = none words asked.1
 not_tst name rows (Check words) is none asked =
     let bad : codes "tst" ≡ codes "check" = sym is ∙ asked.0 in
     cc
 
-pub not_check : (name : Text) (rows : List Row) (word : Word) → name ≡ codes "check" → ((words : CheckWords) → StatesCheck rows words → ⊥)
+pub not_check : (name : Text) (rows : List Row) (word : Word) → name ≡ codes "check"
+    → ((words : CheckWords) → StatesCheck rows words → ⊥)
     → IsAsked name rows word → ⊥
 not_check name rows (Check words) is none asked = none words asked.1
 not_check name rows (Tst words) is none asked =

@@ -1,5 +1,6 @@
 -- The five algorithms, as values and as the contents of their object identifiers.
-use Rattle.std.proofs.Common.{◌≡◌, ℕ, zero, suc, ◌<◌, Bool, true, false, Option, Some, None, is_some, List, [], ◌∷◌, get_or, refl, sym, ap, ◌∙◌, arith}
+use Rattle.std.proofs.Common.{◌≡◌, ℕ, zero, suc, ◌<◌, Bool, true, false, Option, Some, None, is_some, List, [], ◌∷◌}
+use Rattle.std.proofs.Common.{get_or, refl, sym, ap, ◌∙◌, arith}
 use Rattle.std.specs.Prelude.{Contains, slice_index_or, ◌↔◌, IsTrue, IsNone, IfSome}
 use Rattle.der.specs.ObjectIdentifier.{oid_content, subidentifier_octets}
 use Rattle.tsp.specs.Rules.{AlgorithmValue}
@@ -15,7 +16,8 @@ contains_value Sha256 = (2, omega arith, refl)
 contains_value Sha384 = (3, omega arith, refl)
 contains_value Sha512 = (4, omega arith, refl)
 
-value_at : (k : ℕ) (v : AlgorithmValue) → k < 5 → slice_index_or five_algorithms k v ≡ v → (a : HashAlgorithm) × (algorithm a ≡ v)
+value_at : (k : ℕ) (v : AlgorithmValue) → k < 5 → slice_index_or five_algorithms k v ≡ v → (a : HashAlgorithm)
+    × (algorithm a ≡ v)
 value_at zero v h e = (Sha1, e)
 value_at (suc zero) v h e = (Sha224, e)
 value_at (suc (suc zero)) v h e = (Sha256, e)

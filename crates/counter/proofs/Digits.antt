@@ -1,6 +1,8 @@
 -- Hexadecimal digits in pairs, and the octets that `hex` reads and writes.
-use Rattle.std.proofs.Common.{◌≡◌, ℕ, ◌+◌, ◌*◌, ◌/◌, ◌%◌, ◌<◌, List, [], ◌∷◌, length, map, Option, Some, None, Result, Ok, Err, ◌⊎◌, inl, inr, refl, sym, ap, ◌∙◌, arith}
-use Rattle.hex.specs.Hex.{decode_pairs, decode_of, encode_with, encode_lower, digit_or_error, pair_value, value_at, ◌>>=◌}
+use Rattle.std.proofs.Common.{◌≡◌, ℕ, ◌+◌, ◌*◌, ◌/◌, ◌%◌, ◌<◌, List, [], ◌∷◌, length, map, Option, Some, None, Result}
+use Rattle.std.proofs.Common.{Ok, Err, ◌⊎◌, inl, inr, refl, sym, ap, ◌∙◌, arith}
+use Rattle.hex.specs.Hex.{decode_pairs, decode_of, encode_with, encode_lower, digit_or_error, pair_value, value_at}
+use Rattle.hex.specs.Hex.{◌>>=◌}
 use Rattle.hex.specs.declared.error.FromHexError.{FromHexError}
 use Rattle.hex.specs.declared.error.FromHexError.TheVariants.{OutOfMemory}
 use Rattle.counter.specs.Fault.{fault_of}
@@ -23,7 +25,8 @@ digit_value-small : (c v : ℕ) → digit_value c ≡ Some v → v < 16
 digit_value-small c v h = grind (arith)
 
 -- what is decoded has these digits
-pub digits_decoded : (i : ℕ) (s octets : List ℕ) → decode_pairs i s ≡ Ok octets → map digit_value s ≡ map Some (halves octets)
+pub digits_decoded : (i : ℕ) (s octets : List ℕ) → decode_pairs i s ≡ Ok octets
+    → map digit_value s ≡ map Some (halves octets)
 unfolding decode_pairs
 digits_decoded i [] octets h =
     let e : [] ≡ octets = cc in
@@ -55,7 +58,8 @@ pair_of_halves a b i octet ha hb =
     read ∙ ap Ok whole
 
 -- what has these digits is decoded
-pub decoded_digits : (i : ℕ) (s octets : List ℕ) → map digit_value s ≡ map Some (halves octets) → decode_pairs i s ≡ Ok octets
+pub decoded_digits : (i : ℕ) (s octets : List ℕ) → map digit_value s ≡ map Some (halves octets)
+    → decode_pairs i s ≡ Ok octets
 unfolding decode_pairs
 decoded_digits i [] [] h = refl
 decoded_digits i [] (octet ∷ octets) h = cc h
@@ -99,7 +103,8 @@ encode_lower-halves [] = refl
 encode_lower-halves (octet ∷ octets) = let ih = encode_lower-halves octets in cc
 
 -- one text spells one list of octets
-pub same_octets : (s octets others : List ℕ) → decode_of s ≡ Ok octets → map digit_value s ≡ map Some (halves others) → octets ≡ others
+pub same_octets : (s octets others : List ℕ) → decode_of s ≡ Ok octets → map digit_value s ≡ map Some (halves others)
+    → octets ≡ others
 same_octets s octets others read h =
     let again = decode_from_digits s others h in
     cc

@@ -7,7 +7,7 @@ use Rattle.tsp.specs.Rules.{IsSpelled, HasVersionOne, HasKnownAlgorithm, HasAlgo
 use Rattle.tsp.specs.RulesOfOctets.{to_octets, first_of_octets}
 use Rattle.tsp.specs.Tst.{tst_info}
 use Rattle.tsp.specs.declared.rule.Rule.{Rule}
-use Rattle.tsp.specs.declared.rule.Rule.TheVariants.{Spelling, Version, Account, Algorithm, HashLength, Policy, PolicyAlgorithm, Extensions, Certificate, Clock, Quota, System}
+use Rattle.tsp.specs.declared.rule.Rule.TheVariants.{Spelling, Version, Account, Algorithm, HashLength}
 use Rattle.counter.specs.Settings.{SettingsValue}
 use Rattle.counter.specs.Known.{five_algorithms}
 use Rattle.counter.specs.Tst.{Holds, HoldsOf, IsReply, tst_of}
@@ -18,7 +18,8 @@ pub record IsOnlyRequest (query : List ℕ) (r : RequestValue) : Type 0 where
   pub only : (other : RequestValue) → Spells query other → r ≡ other
   pub short : length query ≤ 65536
 
-pub lifted : (query : List ℕ) (r : RequestValue) → IsOnlyRequest query r → (rule : Rule) → HoldsOf r rule → Holds query rule
+pub lifted : (query : List ℕ) (r : RequestValue) → IsOnlyRequest query r → (rule : Rule) → HoldsOf r rule
+    → Holds query rule
 lifted query r h rule k = to_octets HoldsOf query r h.spelled h.only h.short rule k
 
 pub first_lifted : (query : List ℕ) (r : RequestValue) → IsOnlyRequest query r → (rule : Rule)
@@ -45,7 +46,8 @@ before_algorithm r version Version h = version
 before_algorithm r version Account h = tt
 before_algorithm r version rule h = absurd (omega arith)
 
-pub algorithm_fails : (r : RequestValue) → HasVersionOne r → (HasKnownAlgorithm five_algorithms r → ⊥) → IsFirstFailing (HoldsOf r) Algorithm
+pub algorithm_fails : (r : RequestValue) → HasVersionOne r → (HasKnownAlgorithm five_algorithms r → ⊥)
+    → IsFirstFailing (HoldsOf r) Algorithm
 algorithm_fails r version fails = record { fails = fails; before = before_algorithm r version }
 
 before_length : (r : RequestValue) → HasVersionOne r → HasKnownAlgorithm five_algorithms r → (earlier : Rule)
@@ -60,7 +62,8 @@ pub length_fails : (r : RequestValue) → HasVersionOne r → HasKnownAlgorithm 
     → (HasAlgorithmLength five_algorithms r → ⊥) → IsFirstFailing (HoldsOf r) HashLength
 length_fails r version algorithm fails = record { fails = fails; before = before_length r version algorithm }
 
-pub all_hold : (r : RequestValue) → HasVersionOne r → HasKnownAlgorithm five_algorithms r → HasAlgorithmLength five_algorithms r
+pub all_hold : (r : RequestValue) → HasVersionOne r → HasKnownAlgorithm five_algorithms r
+    → HasAlgorithmLength five_algorithms r
     → (rule : Rule) → HoldsOf r rule
 all_hold r version algorithm hash Version = version
 all_hold r version algorithm hash Algorithm = algorithm
@@ -68,14 +71,17 @@ all_hold r version algorithm hash HashLength = hash
 all_hold r version algorithm hash rule = tt
 
 pub granted : (settings : SettingsValue) (query : List ℕ) (r : RequestValue) (octets : List ℕ) → IsOnlyRequest query r
-    → ((rule : Rule) → HoldsOf r rule) → octets ≡ encoding (tst_info (tst_of settings r)) → IsReply settings query octets
+    → ((rule : Rule) → HoldsOf r rule) → octets ≡ encoding (tst_info (tst_of settings r))
+    → IsReply settings query octets
 granted settings query r octets h holds text =
     inl record {
       holds = λ rule. lifted query r h rule (holds rule);
-      info = λ other s. let P : RequestValue → Type 0 = λ x. octets ≡ encoding (tst_info (tst_of settings x)) in subst P (h.only other s) text;
+      info = λ other s. let P : RequestValue → Type 0 = λ x. octets ≡ encoding (tst_info (tst_of settings x)) in
+          subst P (h.only other s) text;
     }
 
-pub rejected : (settings : SettingsValue) (query : List ℕ) (rule : Rule) (octets : List ℕ) → IsFirstFailing (Holds query) rule
+pub rejected : (settings : SettingsValue) (query : List ℕ) (rule : Rule) (octets : List ℕ)
+    → IsFirstFailing (Holds query) rule
     → octets ≡ encoding (rejection rule) → IsReply settings query octets
 rejected settings query rule octets first text = inr record { rule = rule; first = first; text = text }
 

@@ -1,5 +1,6 @@
 -- Writing in steps.
-use Rattle.std.proofs.Common.{◌≡◌, ◌∙◌, Result, Ok, Err, ◌+◌, ◌<◌, ◌≤◌, ℕ, List, [], ◌∷◌, ◌++◌, Option, Some, None, length, min, take, drop, sym, refl, arith}
+use Rattle.std.proofs.Common.{◌≡◌, ◌∙◌, Result, Ok, Err, ◌+◌, ◌<◌, ◌≤◌, ℕ, List, [], ◌∷◌, ◌++◌, Option, Some, None}
+use Rattle.std.proofs.Common.{length, min, take, drop, sym, refl, arith}
 use Rattle.std.proofs.KnownBytes.{Appends-trans}
 use Rattle.std.proofs.Math.Seq.{take-add, take-append-add, take-length}
 use Rattle.std.proofs.lemmas.List.{append-nil, take-append-le, take_min}
@@ -14,7 +15,8 @@ pub appends_nothing : (old : Option (List ℕ)) → Appends old old []
 appends_nothing None = tt
 appends_nothing (Some xs) = sym (append-nil xs)
 
-pub keeps_beginning : (old mid new : Option (List ℕ)) (text : List ℕ) → Appends old mid text → Keeps mid new → Appends old new text
+pub keeps_beginning : (old mid new : Option (List ℕ)) (text : List ℕ) → Appends old mid text → Keeps mid new
+    → Appends old new text
 keeps_beginning None mid new text appended kept = tt
 keeps_beginning (Some xs) None new text appended kept = absurd appended
 keeps_beginning (Some xs) (Some ys) None text appended kept = absurd kept
@@ -27,32 +29,41 @@ begins_more old mid new sent more text one two =
     rw (take-add sent more text) (Appends-trans old mid new (take sent text) (take more (drop sent text)) one two)
 
 -- a beginning of the second text after the first is one of both
-pub begins_after : (old mid new : Option (List ℕ)) (first second : List ℕ) → Appends old mid first → Begins mid new second
+pub begins_after : (old mid new : Option (List ℕ)) (first second : List ℕ) → Appends old mid first
+    → Begins mid new second
     → Begins old new (first ++ second)
-begins_after old mid new first second one two =
-    (length first + two.0, rw (take-append-add first second two.0) (Appends-trans old mid new first (take two.0 second) one two.1))
+begins_after old mid new first second one two = (
+  length first + two.0,
+  rw (take-append-add first second two.0)
+      (Appends-trans old mid new first (take two.0 second) one two.1),
+)
 
 -- a beginning of the first text is one of both
-pub begins_before : (old new : Option (List ℕ)) (first second : List ℕ) → Begins old new first → Begins old new (first ++ second)
+pub begins_before : (old new : Option (List ℕ)) (first second : List ℕ) → Begins old new first
+    → Begins old new (first ++ second)
 begins_before old new first second one =
     let n = min one.0 (length first) in
     let small : n ≤ length first = omega arith in
-    let same : take n (first ++ second) ≡ take one.0 first = take-append-le n first second small ∙ take_min one.0 first in
+    let same : take n (first ++ second) ≡ take one.0 first = take-append-le n first second small
+    ∙ take_min one.0 first in
     (n, rw same one.1)
 
 -- what a write of the rest leaves, where some was taken
 pub sends_more : {E : Type 0} (old mid new : Option (List ℕ)) (sent : ℕ) (text : List ℕ) (written : Result ℕ E)
-    → Appends old mid (take sent text) → WriteAppends mid new written (drop sent text) → (result_unwrap_or written 0 ≡ 0 → ⊥)
+    → Appends old mid (take sent text) → WriteAppends mid new written (drop sent text)
+    → (result_unwrap_or written 0 ≡ 0 → ⊥)
     → Appends old new (take (sent + result_unwrap_or written 0) text)
 sends_more {E} old mid new sent text (Ok n) one two some = begins_more old mid new sent n text one two
 sends_more {E} old mid new sent text (Err e) one two some = absurd (some refl)
 
-pub sends_within : {E : Type 0} (written : Result ℕ E) (most : ℕ) → IfOk written (λ n. n ≤ most) → result_unwrap_or written 0 ≤ most
+pub sends_within : {E : Type 0} (written : Result ℕ E) (most : ℕ) → IfOk written (λ n. n ≤ most)
+    → result_unwrap_or written 0 ≤ most
 sends_within {E} (Ok n) most bound = bound
 sends_within {E} (Err e) most bound = omega arith
 
 -- whatever a write answers, it left a beginning
-pub begins_whatever : {T E : Type 0} (old new : Option (List ℕ)) (text : List ℕ) (written : Result T E) → OnOk written (Appends old new text)
+pub begins_whatever : {T E : Type 0} (old new : Option (List ℕ)) (text : List ℕ) (written : Result T E)
+    → OnOk written (Appends old new text)
     → OnErr written (Begins old new text) → Begins old new text
 begins_whatever {T} {E} old new text (Ok done) whole begun = (length text, rw (take-length text) whole)
 begins_whatever {T} {E} old new text (Err e) whole begun = begun

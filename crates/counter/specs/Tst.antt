@@ -8,7 +8,8 @@ use Rattle.tsp.specs.Rejection.{rejection}
 use Rattle.tsp.specs.Rules.{HoldsOfOctets, HasVersionOne, HasKnownAlgorithm, HasAlgorithmLength, IsFirstFailing}
 use Rattle.tsp.specs.Tst.{TstValue, IsTst, tst_info}
 use Rattle.tsp.specs.declared.rule.Rule.{Rule}
-use Rattle.tsp.specs.declared.rule.Rule.TheVariants.{Spelling, Version, Account, Algorithm, HashLength, Policy, PolicyAlgorithm, Extensions, Certificate, Clock, Quota, System}
+use Rattle.tsp.specs.declared.rule.Rule.TheVariants.{Spelling, Version, Account, Algorithm, HashLength, Policy}
+use Rattle.tsp.specs.declared.rule.Rule.TheVariants.{PolicyAlgorithm, Extensions, Certificate, Clock, Quota, System}
 use Rattle.counter.specs.Known.{five_algorithms}
 use Rattle.counter.specs.Settings.{SettingsValue}
 
@@ -28,7 +29,8 @@ tst_of settings r = record {
 -- each TSTInfo with the request's imprint, nonce and extensions is a lawful value
 abbrev pub HasLawfulAnswers : RequestValue → Type 0
 HasLawfulAnswers r =
-    (t : TstValue) → IsTst t → t.imprint ≡ r.imprint → t.nonce ≡ r.nonce → t.extensions ≡ r.extensions → IsLawful (tst_info t)
+    (t : TstValue) → IsTst t → t.imprint ≡ r.imprint → t.nonce ≡ r.nonce → t.extensions ≡ r.extensions
+    → IsLawful (tst_info t)
 
 -- Which rules hold of a request. Those that speak of the request and of hash algorithms alone are judged; the others
 -- hold here.

@@ -50,7 +50,8 @@ pub fn write_counts<W: Write>(
     policy: &Policy,
     output: &mut W,
 ) -> Result<(), InputFault>
-    ensures written { OnOk result (Appends (W.contents output.old) (W.contents output.new) (counts_line (policy_view policy.now))) }
+    ensures written { OnOk result (Appends (W.contents output.old) (W.contents output.new)
+        (counts_line (policy_view policy.now))) }
     ensures begun { result ≡ Err InputFault.Failed
         → Begins (W.contents output.old) (W.contents output.new) (counts_line (policy_view policy.now)) }
     ensures kept { result ≡ Err InputFault.Memory → W.contents output.new ≡ W.contents output.old }

@@ -1,11 +1,13 @@
 //! The parts that octets state (X.690 11.7), whether or not the calendar has them.
 
-ghost use Rattle.std.specs.Prelude.{◌≡◌, ◌↔◌, ◌<◌, ◌≤◌, ◌≤ℤ◌, pos, IsSome, List, ℕ, [], ◌∷◌, ◌++◌, length, option_map, IfSome, IsTrue, Some};
+ghost use Rattle.std.specs.Prelude.{◌≡◌, ◌↔◌, ◌<◌, ◌≤◌, ◌≤ℤ◌, pos, IsSome, List, ℕ, [], ◌∷◌, ◌++◌, length, option_map};
+ghost use Rattle.std.specs.Prelude.{IfSome, IsTrue, Some};
 ghost use Rattle.std.specs.Char.{IsAsciiDigit};
 ghost use Rattle.std.specs.List.{All};
 ghost use Rattle.gentime.specs.Fraction.{micros_of};
 ghost use Rattle.jiff_core.specs.Date.{epoch_day};
-ghost use Rattle.gentime.specs.GenTime.{point_and, GeneralizedTime, IsFraction, HasParts, HasForm, IsTime, IsCounted, last_moment, time_of};
+ghost use Rattle.gentime.specs.GenTime.{point_and, GeneralizedTime, IsFraction, HasParts, HasForm, IsTime, IsCounted};
+ghost use Rattle.gentime.specs.GenTime.{last_moment, time_of};
 ghost use Rattle.gentime.specs.Pairs.{pair_at, pairs_at};
 
 use crate::components::Components;

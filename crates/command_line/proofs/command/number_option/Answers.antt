@@ -11,4 +11,5 @@ returns-clause-rule c =
     let end = c.new-range.ensures.end ∙ to_z_pos w64 numbers.most numbers.small_most in
     let narrows = rw (c.value_parser.ensures, start, end) at c.range.ensures in
     c.option.ensures.rule
-    ∙ ap (required_option c.args.name.now) (narrowed numbers.least numbers.most c.range.result numbers.small_least numbers.small_most narrows)
+    ∙ ap (required_option c.args.name.now) (narrowed numbers.least numbers.most c.range.result numbers.small_least
+    numbers.small_most narrows)

@@ -27,7 +27,8 @@ ordering = optional_flag (codes "ordering")
 pub returns : goal.returns
 returns c =
     let named : app_of c.about.result ≡ new_app (codes "tst") = search rules in
-    let is_policy : rule_of c.option-policy.result ≡ policy = c.option-policy.ensures.rule ∙ ap (required_option (codes "policy")) c.string.ensures in
+    let is_policy : rule_of c.option-policy.result ≡ policy = c.option-policy.ensures.rule
+    ∙ ap (required_option (codes "policy")) c.string.ensures in
     let is_moment : rule_of c.number_option-moment.result ≡ moment = c.number_option-moment.ensures.rule in
     let is_digits : rule_of c.number_option-digits.result ≡ digits = c.number_option-digits.ensures.rule in
     let is_serial : rule_of c.number_option-serial.result ≡ serial = c.number_option-serial.ensures.rule in
@@ -38,5 +39,7 @@ returns c =
     let two = adds_option _ moment _ _ _ one c.in_ok-arg-2.ensures c.number_option-moment.ensures.local is_moment in
     let three = adds_option _ digits _ _ _ two c.in_ok-arg-3.ensures c.number_option-digits.ensures.local is_digits in
     let four = adds_option _ serial _ _ _ three c.in_ok-arg-4.ensures c.number_option-serial.ensures.local is_serial in
-    let five = adds_option _ accuracy _ _ _ four c.in_ok-arg-5.ensures c.number_option-accuracy.ensures.local is_accuracy in
-    IfOk-weaker c.arg-6.result _ _ (λ command adds. adds_option _ ordering _ command _ five adds is_local is_ordering) c.arg-6.ensures
+    let five = adds_option _ accuracy _ _ _ four c.in_ok-arg-5.ensures c.number_option-accuracy.ensures.local
+    is_accuracy in
+    IfOk-weaker c.arg-6.result _ _ (λ command adds. adds_option _ ordering _ command _ five adds is_local is_ordering)
+    c.arg-6.ensures

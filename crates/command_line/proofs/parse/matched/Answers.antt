@@ -18,7 +18,8 @@ pub returns-in_err-matches-clause-refused : goal.returns-in_err-matches-clause-r
 returns-in_err-matches-clause-refused c =
     let error = c.in_err-matches.field-0.0 in
     let texts = map (λ word. string_bytes word) c.args.words.now in
-    let fails = c.in_err-matches.ensures.kinds (ap is_simple_and_free c.in_ok-command.ensures ∙ counter_is_simple_and_free) in
+    let fails = c.in_err-matches.ensures.kinds
+    (ap is_simple_and_free c.in_ok-command.ensures ∙ counter_is_simple_and_free) in
     let kinds = subst (λ (app : App). HasKind (fault_of app texts) error) c.in_ok-command.ensures fails in
     let p = err_from_is_err_and c.from_residual-in_err-matches.result c.from_residual-in_err-matches.ensures.1 in
     rw (p.1, p.2) (inl kinds)
@@ -31,7 +32,8 @@ returns-in-Some-clause-asked c =
     let rows = c.in_ok-matches.ensures.ok.2 (ap is_simple is ∙ counter_is_simple) in
     let found = c.in-Some.ensures.found in
     record {
-      taken = subst (λ (app : App). fault_of app texts ≡ []) is (c.in_ok-matches.ensures.kinds (ap is_simple_and_free is ∙ counter_is_simple_and_free));
+      taken = subst (λ (app : App). fault_of app texts ≡ []) is
+          (c.in_ok-matches.ensures.kinds (ap is_simple_and_free is ∙ counter_is_simple_and_free));
       name = found.0;
       rows = found.1.0;
       found = sym (subst (λ (app : App). subcommand_rows_of matches ≡ subcommand_of app texts) is rows.1) ∙ found.1.1;
@@ -45,5 +47,12 @@ returns-clause-refused c =
     let matches = c.in_ok-matches.matches in
     let rows = c.in_ok-matches.ensures.ok.2 (ap is_simple is ∙ counter_is_simple) in
     let found = subst (λ (app : App). subcommand_rows_of matches ≡ subcommand_of app texts) is rows.1 in
-    let taken = subst (λ (app : App). fault_of app texts ≡ []) is (c.in_ok-matches.ensures.kinds (ap is_simple_and_free is ∙ counter_is_simple_and_free)) in
-    inr (c.in_ok-error-in-None.ensures.kind, (taken, λ word asks. c.in-None.ensures.none refl asks.name asks.rows word (found ∙ asks.found) asks.asked))
+    let taken = subst (λ (app : App). fault_of app texts ≡ []) is
+    (c.in_ok-matches.ensures.kinds (ap is_simple_and_free is ∙ counter_is_simple_and_free)) in
+    inr (
+      c.in_ok-error-in-None.ensures.kind,
+      (
+        taken,
+        λ word asks. c.in-None.ensures.none refl asks.name asks.rows word (found ∙ asks.found) asks.asked,
+      ),
+    )

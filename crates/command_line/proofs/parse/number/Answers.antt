@@ -2,13 +2,15 @@ use Rattle.std.proofs.Common.{◌≡◌, ◌<◌, ◌^◌, arith}
 use Rattle.std.specs.Str.Parse.{ExplainsUnsignedError, HasUnsignedDigitsIfOk, ParsesUnsigned}
 use Rattle.clap.specs.Words.{found_of, rows_of}
 use Rattle.command_line.proofs.Stated.{one_number, reads_number, unread_number}
-use Rattle.command_line.proofs.parse.number.Goals.{else-numbers-number-via-then-numbers-number+else-number-numbers, else-numbers-number-via-else-numbers-number}
+use Rattle.command_line.proofs.parse.number.Goals.{else-numbers-number-via-then-numbers-number+else-number-numbers}
+use Rattle.command_line.proofs.parse.number.Goals.{else-numbers-number-via-else-numbers-number}
 use Rattle.command_line.proofs.parse.number.Goals as goal
 
 pub returns-then-number-numbers-clause-stated : goal.returns-then-number-numbers-clause-stated
 returns-then-number-numbers-clause-stated c =
     reads_number (λ t r. ParsesUnsigned 64 10 t r × ExplainsUnsignedError 10 t r × HasUnsignedDigitsIfOk t r)
-    (found_of c.args.matches.now) c.args.name.now c.get_one.result c.in_ok-number.number c.get_one.ensures.none c.get_one.ensures.value
+    (found_of c.args.matches.now) c.args.name.now c.get_one.result c.in_ok-number.number c.get_one.ensures.none
+    c.get_one.ensures.value
     (λ t r gives. gives.0) c.in_ok-number.was
 
 pub returns-in_err-number-clause-none : goal.returns-in_err-number-clause-none
@@ -24,9 +26,11 @@ pub returns-else-numbers-number-clause-none : goal.returns-else-numbers-number-c
 returns-else-numbers-number-clause-none c =
     λ _ number states least most.
     let read = reads_number (λ t r. ParsesUnsigned 64 10 t r × ExplainsUnsignedError 10 t r × HasUnsignedDigitsIfOk t r)
-    (found_of c.args.matches.now) c.args.name.now c.get_one.result c.in_ok-number.number c.get_one.ensures.none c.get_one.ensures.value
+    (found_of c.args.matches.now) c.args.name.now c.get_one.result c.in_ok-number.number c.get_one.ensures.none
+    c.get_one.ensures.value
     (λ t r gives. gives.0) c.in_ok-number.was in
-    let same : number ≡ c.in_ok-number.number = one_number (rows_of (found_of c.args.matches.now)) c.args.name.now _ _ states read in
+    let same : number ≡ c.in_ok-number.number =
+    one_number (rows_of (found_of c.args.matches.now)) c.args.name.now _ _ states read in
     elim c.else-numbers-number.branch [
       | else-numbers-number-via-then-numbers-number+else-number-numbers w ↦
           let over = w.if-number-numbers.false in

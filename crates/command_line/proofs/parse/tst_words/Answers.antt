@@ -9,7 +9,8 @@ returns-clause-found c =
     let found = found_of c.args.matches.now in
     let flag = one_text-rows found (codes "ordering") in
     record {
-      policy = reads_text found (codes "policy") c.get_str.result c.in_ok-get_str.field-0 c.get_str.ensures c.in_ok-get_str.was;
+      policy = reads_text found (codes "policy") c.get_str.result c.in_ok-get_str.field-0 c.get_str.ensures
+          c.in_ok-get_str.was;
       moment = c.in_ok-number.ensures.stated;
       digits = c.in_ok-number-2.ensures.stated;
       serial = c.in_ok-number-3.ensures.stated;
@@ -24,13 +25,16 @@ returns-clause-found c =
 pub returns-in_err-get_str-clause-none : goal.returns-in_err-get_str-clause-none
 returns-in_err-get_str-clause-none c =
     λ _ words states.
-    unread_text (found_of c.args.matches.now) (codes "policy") c.get_str.result words.policy.now c.get_str.ensures c.in_err-get_str.was states.policy
+    unread_text (found_of c.args.matches.now)
+    (codes "policy") c.get_str.result words.policy.now c.get_str.ensures c.in_err-get_str.was states.policy
 
 pub returns-in_err-number-2-clause-none : goal.returns-in_err-number-2-clause-none
 returns-in_err-number-2-clause-none c =
-    λ _ words states. c.number-2.ensures.none (rw c.in_err-number-2.was refl) words.digits states.digits (omega arith) words.fraction
+    λ _ words states. c.number-2.ensures.none (rw c.in_err-number-2.was refl) words.digits states.digits
+    (omega arith) words.fraction
 
 pub returns-in_err-number-4-clause-none : goal.returns-in_err-number-4-clause-none
 returns-in_err-number-4-clause-none c =
     λ _ words states.
-    c.number-4.ensures.none (rw c.in_err-number-4.was refl) words.accuracy states.accuracy words.some_accuracy words.most_accuracy
+    c.number-4.ensures.none (rw c.in_err-number-4.was refl) words.accuracy states.accuracy words.some_accuracy
+    words.most_accuracy

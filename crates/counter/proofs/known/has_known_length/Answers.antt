@@ -9,7 +9,8 @@ returns-in-Some c =
     let content = c.args.identifier.now in
     let n = length c.args.hash.now in (
       λ t. each_length content n a c.in-Some.ensures.found (eqb-true n _ t ∙ c.hash_length.ensures.value),
-      λ each. eq-eqb n _ (each (algorithm a) (contains_value a) c.in-Some.ensures.found ∙ sym c.hash_length.ensures.value),
+      λ each. eq-eqb n _ (each (algorithm a) (contains_value a) c.in-Some.ensures.found
+          ∙ sym c.hash_length.ensures.value),
     )
 
 pub returns-in-None : goal.returns-in-None

@@ -10,7 +10,8 @@ loop-sent-preserved g c =
     let sent = c.loop-sent.sent in
     let least : sent ≤ length octets = c.loop-sent.invariant.0 in
     let rest = c.split_at.ensures.back in
-    let bound : result_unwrap_or c.write.result 0 ≤ length c.split_at.result.1.now = sends_within c.write.result _ c.write.ensures.bound in
+    let bound : result_unwrap_or c.write.result 0 ≤ length c.split_at.result.1.now =
+    sends_within c.write.result _ c.write.ensures.bound in
     let within = rw (rest, length-drop sent octets) at bound in
     let some = rw c.unwrap_or-taken.ensures at c.if-taken-eq0.false in
     rw c.unwrap_or-taken.ensures (

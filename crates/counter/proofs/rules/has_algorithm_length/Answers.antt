@@ -10,5 +10,6 @@ returns c =
       λ t a contained same. sym hash ∙ known.0 t a contained (c.algorithm.ensures ∙ ap oid_content (sym same)),
       λ each. known.1
           (λ a contained same. hash
-          ∙ each a contained (sym (c.oids_have_one_content_and_text.ensures.one_content _ _ (sym c.algorithm.ensures ∙ same)))),
+          ∙ each a contained (sym (c.oids_have_one_content_and_text.ensures.one_content _ _
+          (sym c.algorithm.ensures ∙ same)))),
     )

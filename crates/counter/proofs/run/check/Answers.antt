@@ -7,7 +7,8 @@ use Rattle.counter.proofs.run.check.Goals as goal
 
 pub returns-in_err-write_counts-clause-kept : goal.returns-in_err-write_counts-clause-kept
 returns-in_err-write_counts-clause-kept g c =
-    let failing = err_from_is_err_and c.from_residual-in_err-write_counts.result c.from_residual-in_err-write_counts.ensures.1 in
+    let failing = err_from_is_err_and c.from_residual-in_err-write_counts.result
+    c.from_residual-in_err-write_counts.ensures.1 in
     let meant = c.in_ok-policy.ensures.meant in
     let value = policy_view c.in_ok-policy.policy in
     let counts : Counts (counts_line value) = record {
@@ -19,6 +20,13 @@ returns-in_err-write_counts-clause-kept g c =
     rw failing.1
     (elim c.in_err-write_counts.ensures.faults [
       | inl failed ↦
-          inr (failing.2 ∙ ap Input failed, (counts_line value, counts, c.in_err-write_counts.ensures.begun (ap Err failed)))
+          inr (
+            failing.2 ∙ ap Input failed,
+            (
+              counts_line value,
+              counts,
+              c.in_err-write_counts.ensures.begun (ap Err failed),
+            ),
+          )
       | inr memory ↦ inl (c.in_err-write_counts.ensures.kept (ap Err memory))
     ])

@@ -8,7 +8,8 @@ use Rattle.counter.proofs.run.tst.Goals as goal
 
 pub returns-in_err-write_octets-clause-kept : goal.returns-in_err-write_octets-clause-kept
 returns-in_err-write_octets-clause-kept g c =
-    let failing = err_from_is_err_and c.from_residual-in_err-write_octets.result c.from_residual-in_err-write_octets.ensures.1 in
+    let failing = err_from_is_err_and c.from_residual-in_err-write_octets.result
+    c.from_residual-in_err-write_octets.ensures.1 in
     let reply = c.in_ok-reply.reply.items in
     rw failing.1
     (elim c.in_err-write_octets.ensures.faults [

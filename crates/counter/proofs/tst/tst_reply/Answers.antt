@@ -7,7 +7,8 @@ use Rattle.counter.proofs.tst.tst_reply.Goals as goal
 
 pub write_reply-requires-clause-lawful : goal.write_reply-requires-clause-lawful
 write_reply-requires-clause-lawful c =
-    λ t ranges imprint nonce extensions. c.requests_have_one_reading.ensures.lawful c.args.query.now (request_view c.in-Ok.request) t
+    λ t ranges imprint nonce extensions. c.requests_have_one_reading.ensures.lawful c.args.query.now
+    (request_view c.in-Ok.request) t
     c.in-Ok.ensures.found c.in-Ok.ensures.short ranges imprint nonce extensions
 
 pub returns-in-None-clause-reply : goal.returns-in-None-clause-reply
@@ -19,7 +20,8 @@ returns-in-None-clause-reply c =
       only = λ other s. c.requests_have_one_reading.ensures.one query r other c.in-Ok.ensures.found s;
       short = c.in-Ok.ensures.short;
     } in
-    if_ok c.write_reply.result (λ reply. granted (settings_value c.args.settings.now) query r reply.items only c.in-None.ensures)
+    if_ok c.write_reply.result (λ reply. granted
+    (settings_value c.args.settings.now) query r reply.items only c.in-None.ensures)
     c.write_reply.ensures.text
 
 pub returns-in-Some-clause-reply : goal.returns-in-Some-clause-reply
@@ -32,7 +34,8 @@ returns-in-Some-clause-reply c =
       short = c.in-Ok.ensures.short;
     } in
     if_ok c.write_rejection.result
-    (λ reply. rejected (settings_value c.args.settings.now) query c.in-Some.rule reply.items (first_lifted query r only c.in-Some.rule c.in-Some.ensures))
+    (λ reply. rejected (settings_value c.args.settings.now) query c.in-Some.rule reply.items
+    (first_lifted query r only c.in-Some.rule c.in-Some.ensures))
     c.write_rejection.ensures.text
 
 pub returns-in-Err-clause-reply : goal.returns-in-Err-clause-reply

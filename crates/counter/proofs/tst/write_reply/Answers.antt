@@ -7,4 +7,5 @@ pub write_tst-requires-clause-lawful : goal.write_tst-requires-clause-lawful
 write_tst-requires-clause-lawful c =
     let same = c.into_tst_info-tst.ensures in
     c.requires.lawful (tst_view c.into_tst_info-tst.result) (search rules)
-    (ap (λ (t : TstValue). t.imprint) same) (ap (λ (t : TstValue). t.nonce) same) (ap (λ (t : TstValue). t.extensions) same)
+    (ap (λ (t : TstValue). t.imprint) same) (ap (λ (t : TstValue). t.nonce) same)
+    (ap (λ (t : TstValue). t.extensions) same)

@@ -6,7 +6,8 @@ use Rattle.gentime.proofs.components.civil_date.Goals as goal
 pub returns : goal.returns
 returns c =
     let same = rw c.unwrap.ensures at c.from_unix_epoch_day.ensures.value in
-    let parts = civil_date_of c.unwrap.result c.args.day c.requires (same ∙ to_z_pos w64 c.args.day (omega (arith, c.requires))) in
+    let parts = civil_date_of c.unwrap.result c.args.day c.requires
+    (same ∙ to_z_pos w64 c.args.day (omega (arith, c.requires))) in
     record {
       year = parts.0;
       month = parts.1;

@@ -11,7 +11,8 @@ returns c =
     let back = to_z-of_z w32 c.to_unix_epoch_day.result fits in
     let value = rw back at c.unsigned_abs.ensures.value in
     let from = rw (← days.value) at (epoch_day_from_1970 c.args.date c.requires) in
-    let same : c.to_unix_epoch_day.result ≡ pos c.unsigned_abs.result = same_unsigned c.to_unix_epoch_day.result from ∙ ap pos (sym value) in
+    let same : c.to_unix_epoch_day.result ≡ pos c.unsigned_abs.result = same_unsigned c.to_unix_epoch_day.result from
+    ∙ ap pos (sym value) in
     record {
       day = sym days.value ∙ same;
       bound = omega (arith, signed_arith, same, days.bound);

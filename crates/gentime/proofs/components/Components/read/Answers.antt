@@ -14,9 +14,12 @@ returns-in_err-fraction-clause-only c = λ time s.
 
 pub returns-clause-stated : goal.returns-clause-stated
 returns-clause-stated c =
-    rw (c.from.ensures, c.from-2.ensures) (states_with _ _ _ _ (rw c.in_ok-century.was at c.pairs.ensures) c.in_ok-fraction.ensures.stated.0 c.in_ok-fraction.ensures.stated.1)
+    rw (c.from.ensures, c.from-2.ensures) (states_with _ _ _ _ (rw c.in_ok-century.was at c.pairs.ensures)
+    c.in_ok-fraction.ensures.stated.0 c.in_ok-fraction.ensures.stated.1)
 
 pub returns-clause-only : goal.returns-clause-only
 returns-clause-only c = λ time s.
     let rest = some_stated _ _ _ time (rw c.in_ok-century.was at c.pairs.ensures) s in
-    rw (c.from.ensures, c.from-2.ensures) (ap Some (time_with-pairs_of _ _ time rest.0 (same_Some _ _ (c.in_ok-fraction.ensures.only time.fraction s.formed.fraction rest.1))))
+    rw (c.from.ensures, c.from-2.ensures) (ap Some
+    (time_with-pairs_of _ _ time rest.0 (same_Some _ _
+    (c.in_ok-fraction.ensures.only time.fraction s.formed.fraction rest.1))))
