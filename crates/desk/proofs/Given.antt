@@ -13,7 +13,7 @@ use Rattle.desk.specs.Effects.{Effect, only, Stamping, Unreserved, Void, Sealing
 use Rattle.desk.specs.declared.fault.Fault.{Fault}
 use Rattle.desk.specs.declared.fault.Fault.TheVariants as fault
 use Rattle.desk.specs.Steps.{KeepsUnder, KeepsUnless, Keeps, HasEffect}
-use Rattle.desk.specs.Laws.{IsReservedText}
+use Rattle.desk.specs.Laws.{IsReservedText, IsPendingOf}
 use Rattle.desk.proofs.Headline.{SealedBy, stamping_by}
 use Rattle.desk.proofs.Keeping.{if_has, unless_has, right_has}
 
@@ -21,7 +21,7 @@ use Rattle.desk.proofs.Keeping.{if_has, unless_has, right_has}
 record IsGivenOut (s : Setting) (b : History) (e : Effect) : Type 0 where
   asked : (text : List ℕ) → e.asks ≡ Some text → IsReservedText s e b text
   begun : (p : PendingValue) → e.says ≡ Begun p
-      → IsReservedText s e b (attribute_text s.identity p.tst) × (greatest_serial b < p.serial)
+      → IsPendingOf s e b p
 
 -- nothing at all
 plainly : (s : Setting) (b : History) (e : Effect) → e.asks ≡ None → ((p : PendingValue) → e.says ≡ Begun p → ⊥)
@@ -90,11 +90,13 @@ begin_given s b account octets plan None =
     record {
       asked = λ text h. absurd cc;
       begun = λ p h.
-          let same : pending_of s plan r ≡ p = cc in
-          let text = text_of s b account plan octets [] r e refl refl in
-          let tst : r.tst ≡ p.tst = ap (λ x. x.tst) same in
-          let number : r.serial ≡ p.serial = ap (λ x. x.serial) same in
-          (subst (λ x. IsReservedText s e b (attribute_text s.identity x)) tst text, omega arith);
+          let above : greatest_serial b < r.serial = omega arith in
+          let waiting : IsPendingOf s e b (pending_of s plan r) = record {
+            of_reservation = record { reservation = r; later = []; adds = refl; above = above; text_is = refl };
+            number = refl;
+            tst = refl;
+          } in
+          let same : pending_of s plan r ≡ p = cc in subst (IsPendingOf s e b) same waiting;
     }
 
 begin_found_given : (s : Setting) (b : History) (account octets : List ℕ) (o : Outcome) (f : Finding)
@@ -239,5 +241,5 @@ asked_is_reserved s c o b e text h = (given_out s c o b e h).asked text
 
 pub begun_is_reserved : (s : Setting) (c : Command) (o : Outcome) (b : History) (e : Effect) (p : PendingValue)
     → HasEffect s c o b e → e.says ≡ Begun p
-    → IsReservedText s e b (attribute_text s.identity p.tst) × (greatest_serial b < p.serial)
+    → IsPendingOf s e b p
 begun_is_reserved s c o b e p h = (given_out s c o b e h).begun p

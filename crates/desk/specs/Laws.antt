@@ -14,7 +14,7 @@ use Rattle.store.specs.Sound.{greatest_number}
 use Rattle.desk.specs.Agreement.{seen_at, Agree, IsCommandOf}
 use Rattle.desk.specs.Outcome.{Outcome, Cause, cause_of, cause_of_signing}
 use Rattle.desk.specs.Findings.{PlanValue, IsAllowed, HoldsAt}
-use Rattle.desk.specs.Command.{Setting, Command, Stamp, Begin, Finish, Abandon, Deposit, Show, Token, ListAll, Grant, Revoke, Calibrate, Hold, Answer}
+use Rattle.desk.specs.Command.{Setting, PendingValue, Command, Stamp, Begin, Finish, Abandon, Deposit, Show, Token, ListAll, Grant, Revoke, Calibrate, Hold, Answer}
 use Rattle.desk.specs.Texts.{pending_of, token_with}
 use Rattle.desk.specs.Effects.{Effect, next_reservation, name_of}
 use Rattle.desk.specs.Steps.{HasEffect, IsMet}
@@ -56,6 +56,12 @@ pub record IsReservedText (s : Setting) (e : Effect) (b : History) (text : List 
   pub adds : e.adds ≡ later ++ (Reserved reservation ∷ [])
   pub above : greatest_serial b < reservation.serial
   pub text_is : text ≡ attribute_text s.identity reservation.tst
+
+-- What waits for its signature: that reservation's, with its serial number and TSTInfo.
+pub record IsPendingOf (s : Setting) (e : Effect) (b : History) (p : PendingValue) : Type 0 where
+  pub of_reservation : IsReservedText s e b (attribute_text p.identity p.tst)
+  pub number : p.serial ≡ of_reservation.reservation.serial
+  pub tst : p.tst ≡ of_reservation.reservation.tst
 
 -- a run that goes to its end, or is cut in one of its commands by a stop
 abbrev pub Continues : Setting → List Command → List Outcome → History → List Told → History → List Told → Type 0

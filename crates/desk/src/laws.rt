@@ -5,14 +5,13 @@ ghost use Rattle.policy.specs.Record.{AccountValue};
 ghost use Rattle.tsp.specs.Rejection.{rejection};
 ghost use Rattle.tsp.specs.Rules.{IsFirstFailing};
 ghost use Rattle.tsp.specs.declared.rule.Rule.{Rule};
-ghost use Rattle.cms.specs.SignedData.{attribute_text};
 ghost use Rattle.store.specs.History.{History, ReservationValue, greatest_serial, reservation_at};
 ghost use Rattle.store.specs.Sound.{IsSound, greatest_number};
 ghost use Rattle.desk.specs.Agreement.{Agree};
 ghost use Rattle.desk.specs.Command.{Setting, PendingValue, Command, Stamp, Answer, Stamped, Rejected, Begun};
 ghost use Rattle.desk.specs.Content.{IsSoundInFull};
 ghost use Rattle.desk.specs.Effects.{Effect};
-ghost use Rattle.desk.specs.Laws.{IsCommandOfOther, Concerns, StaysFor, IsGrant, IsRejection, IsReservedText, Continues, AreMet, AreCommandsOf, RunsAlike};
+ghost use Rattle.desk.specs.Laws.{IsCommandOfOther, Concerns, StaysFor, IsGrant, IsRejection, IsReservedText, IsPendingOf, Continues, AreMet, AreCommandsOf, RunsAlike};
 ghost use Rattle.desk.specs.Findings.{PlanValue, IsAllowed, HoldsAt};
 ghost use Rattle.desk.specs.Outcome.{Outcome, all_fine};
 ghost use Rattle.desk.specs.Runs.{IsProper, Told, Journey, HasProperties, Runs, after, cut};
@@ -58,14 +57,14 @@ pub fn grants_are_of_their_plan()
 {}
 
 /// What a signer is asked to sign, and what waits for its signature, is the text of the reservation that the same command
-/// adds before all else, under a serial number above all that were reserved before: so the serial numbers of the texts
-/// that were given out rise, whatever stops there are.
+/// adds before all else, under a serial number above all that were reserved before. So the serial numbers of the texts
+/// that were given out rise, where a text is given out only once its reservation is committed.
 pub fn texts_are_reserved()
     ensures asked { (s : Setting) (c : Command) (o : Outcome) (b : History) (e : Effect) (text : List ℕ)
         → HasEffect s c o b e → e.asks ≡ Some text → IsReservedText s e b text }
     ensures begun { (s : Setting) (c : Command) (o : Outcome) (b : History) (e : Effect) (p : PendingValue)
         → HasEffect s c o b e → e.says ≡ Begun p
-        → IsReservedText s e b (attribute_text s.identity p.tst) × (greatest_serial b < p.serial) }
+        → IsPendingOf s e b p }
 {}
 
 /// A rejection's octets tell its rule, and so its failure bit.
