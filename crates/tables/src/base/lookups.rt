@@ -1,4 +1,5 @@
-//! The queries of one stamp or one deposit by its key, of who may see a deposit, and of the next by number.
+//! The queries of one stamp or one deposit by its key, of who may see a deposit, and of the next by number. Each may be refused with
+//! `Memory`, or with `Database`, which counts as a fault: a number of 2^63 or more is one, since no column can have it.
 
 ghost use Rattle.std.specs.Prelude.{◌≡◌, ◌<◌, ◌^◌, IfOk, IfErr, IfSome, OnOk};
 ghost use Rattle.std.specs.List.{list_any};
