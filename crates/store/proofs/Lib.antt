@@ -1,8 +1,12 @@
 mod Rows
 pub mod Calls
+pub mod DepositAnswers
+pub mod DepositRows
 pub mod Falling
+pub mod Listing
 pub mod Members
 pub mod Numbered
 pub mod Readers
 pub mod Stamps
 pub mod Tallies
+pub mod Walk

@@ -1,8 +1,11 @@
 -- What the calls make of a look-up's answer: stepping stones, no definitions.
-use Rattle.std.specs.Prelude.{ℕ, ◌+◌, Option, Some, None, option_map}
+use Rattle.std.specs.Prelude.{◌≡◌, ◌⊎◌, ℕ, ◌+◌, ◌<◌, min, nat_lt, if◌then◌else◌, Bool, true, false, List, Option, Some, None, option_map, option_and_then, string_bytes}
 use Rattle.tables.specs.declared.rows.LastStamp.{LastStamp}
 use Rattle.tables.specs.declared.rows.LatestCalibration.{LatestCalibration}
-use Rattle.store.specs.History.{CalibrationValue}
+use Rattle.tables.specs.declared.rows.Origin.{Origin}
+use Rattle.store.specs.History.{CalibrationValue, ReservationValue, History, deposit_at, reservation_at}
+use Rattle.store.specs.Rights.{ListedValue, listed_as, is_visible}
+use Rattle.store.specs.Sound.{greatest_number}
 use Rattle.store.specs.declared.values.Last.{Last}
 
 abbrev pub last_from : Option LastStamp → Last
@@ -19,3 +22,34 @@ next_number (Some n) = n + 1
 
 abbrev pub next_calibration : Option LatestCalibration → ℕ
 next_calibration latest = next_number (option_map (λ c. c.n) latest)
+
+-- a number that the tables can be asked for, in the place of any: 0 is nobody's
+abbrev pub IsAskedFor : ℕ → ℕ → Type 0
+IsAskedFor number asked = (asked ≡ number) ⊎ ((asked ≡ 0) × (greatest_number < number))
+
+-- the first deposit after a number that the account sees, if there is one
+abbrev pub IsNextSeen : List ℕ → ℕ → History → Option ℕ → Type 0
+IsNextSeen account after b None = (number : ℕ) → after < number → is_visible account number b ≡ false
+IsNextSeen account after b (Some next) =
+    (after < next) × (is_visible account next b ≡ true) × ((number : ℕ) → after < number → number < next → is_visible account number b ≡ false)
+
+-- the lesser of what is there
+abbrev pub least_of : Option ℕ → Option ℕ → Option ℕ
+least_of None other = other
+least_of (Some n) None = Some n
+least_of (Some n) (Some m) = Some (min n m)
+
+-- a number, where it is after another
+abbrev pub later_of : ℕ → Option ℕ → Option ℕ
+later_of after None = None
+later_of after (Some n) = if nat_lt after n then Some n else None
+
+-- what a list shows of a deposit, whoever asks
+abbrev pub listing_at : ℕ → History → Option ListedValue
+listing_at number b = option_and_then (λ d. option_map (listed_as d) (reservation_at number b)) (deposit_at number b)
+
+-- the account and the genTime of a reservation, if there is one
+abbrev pub IsOriginOf : ℕ → History → Option Origin → Type 0
+IsOriginOf serial b None = reservation_at serial b ≡ None
+IsOriginOf serial b (Some origin) =
+    (r : ReservationValue) × (reservation_at serial b ≡ Some r) × (string_bytes origin.account ≡ r.account) × (origin.gen_time ≡ r.gen_time)

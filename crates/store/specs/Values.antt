@@ -1,11 +1,15 @@
 -- The calls' arguments and answers, as the entries and views of a history.
-use Rattle.std.specs.Prelude.{ℕ, List, Option, option_map}
-use Rattle.tables.specs.Tables.{DepositRow}
+use Rattle.std.specs.Prelude.{ℕ, List, Option, option_map, string_bytes}
+use Rattle.tables.specs.Tables.{DepositRow, StampRow}
+use Rattle.tables.specs.Queries.{deposit_view, stamp_view}
 use Rattle.store.specs.History.{ReservationValue, CalibrationValue, HoldValue, History, greatest_serial, last_gen_time}
 use Rattle.store.specs.declared.values.Reservation.{Reservation}
 use Rattle.store.specs.declared.values.Calibration.{Calibration}
 use Rattle.store.specs.declared.values.Hold.{Hold}
 use Rattle.store.specs.declared.values.Last.{Last}
+use Rattle.store.specs.declared.values.Listed.{Listed}
+use Rattle.store.specs.declared.values.StampedDeposit.{StampedDeposit}
+use Rattle.store.specs.Rights.{ListedValue}
 
 abbrev pub reservation_view : Reservation → ReservationValue
 reservation_view r = record {
@@ -33,3 +37,9 @@ calibration_option found = option_map calibration_view found
 
 abbrev pub deposit_of : ℕ → List ℕ → List ℕ → List ℕ → DepositRow
 deposit_of serial owner reference bytes = record { serial = serial; owner = owner; reference = reference; bytes = bytes }
+
+abbrev pub stamped_view : StampedDeposit → DepositRow × StampRow
+stamped_view d = (deposit_view d.deposit, stamp_view d.stamp)
+
+abbrev pub listed_view : Listed → ListedValue
+listed_view l = record { number = l.number; owner = string_bytes l.owner; reference = string_bytes l.reference; gen_time = l.gen_time }

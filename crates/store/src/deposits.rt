@@ -1,17 +1,20 @@
 //! Deposits and rights: a deposit with its token, who may read it, and what an account sees.
-ghost use Rattle.std.specs.Prelude.{◌≡◌, ◌⊎◌, ◌∷◌, true, false, IfErr, OnOk, OnErr, MatchResult};
+ghost use Rattle.std.specs.Prelude.{◌≡◌, ◌⊎◌, ◌∷◌, ◌<◌, ◌^◌, true, false, map, option_map, IfOk, IfErr, IfSome, OnOk, OnErr, MatchResult};
 ghost use Rattle.tables.specs.Base.{IsHonest, IsOpen};
-ghost use Rattle.store.specs.History.{History, Deposited, Granted, Revoked};
-ghost use Rattle.store.specs.Rights.{is_reader};
+ghost use Rattle.store.specs.History.{History, Deposited, Granted, Revoked, deposit_under};
+ghost use Rattle.store.specs.Rights.{is_reader, is_visible, listed, deposit_with_stamp};
 ghost use Rattle.store.specs.Sound.{Fits};
-ghost use Rattle.store.specs.Stands.{Stands, LeavesOrAdds};
+ghost use Rattle.store.specs.Stands.{Stands, OnlyLooks, LeavesOrAdds};
 ghost use Rattle.store.specs.Fault.{count_after};
-ghost use Rattle.store.specs.Values.{deposit_of};
+ghost use Rattle.store.specs.Values.{deposit_of, stamped_view, listed_view};
+ghost use Rattle.store.specs.Steps.{IsAskedFor, IsNextSeen, least_of, later_of, listing_at};
+ghost use Rattle.tables.specs.Queries.{deposit_view};
 
 use crate::fault::StoreFault;
-use crate::store::Store;
+use crate::store::{GREATEST, Store};
+use crate::values::{Listed, StampedDeposit};
 use sqlite::Alter;
-use tables::Change;
+use tables::{Change, Deposit};
 
 impl<S: Alter + Drop> Store<S> {
     /// Stores a deposit and its token in one commit, which seals its serial number: that is the deposit's number from now on. The
@@ -89,5 +92,149 @@ impl<S: Alter + Drop> Store<S> {
             account,
         })?;
         Ok(())
+    }
+
+    /// The deposit with a number, and its stamp.
+    pub fn deposit(&mut self, number: u64) -> Result<Option<StampedDeposit>, StoreFault>
+        ensures looks { OnlyLooks S.Store self.old self.new }
+        ensures opened { IsHonest S.Store self.new → OnOk result (IsOpen S.Store self.old) }
+        ensures value { IsHonest S.Store self.new → (b : History) → Stands S.Store b self.old
+            → IfOk result (λ found. option_map stamped_view found ≡ deposit_with_stamp number b) }
+        ensures refusals { IfErr result (λ e. (e ≡ StoreFault.Memory) ⊎ (e ≡ StoreFault.Database)) }
+        ensures faults { MatchResult result (λ _. self.new.faults ≡ self.old.faults)
+            (λ e. self.new.faults ≡ count_after e self.old.faults) }
+    {
+        let asked = asked_for(number);
+        let Some(deposit) = self.base.deposit(asked)? else {
+            return Ok(None);
+        };
+        let Some(stamp) = self.base.stamp(asked)? else {
+            return Ok(None);
+        };
+        Ok(Some(StampedDeposit { deposit, stamp }))
+    }
+
+    /// Whether there is a deposit with a number that the account sees, as its owner or as a reader. No deposit's bytes are read.
+    pub fn visible(&mut self, number: u64, account: &str) -> Result<bool, StoreFault>
+        ensures looks { OnlyLooks S.Store self.old self.new }
+        ensures opened { IsHonest S.Store self.new → OnOk result (IsOpen S.Store self.old) }
+        ensures value { IsHonest S.Store self.new → (b : History) → Stands S.Store b self.old
+            → IfOk result (λ visible. visible ≡ is_visible account.now number b) }
+        ensures refusals { IfErr result (λ e. (e ≡ StoreFault.Memory) ⊎ (e ≡ StoreFault.Database)) }
+        ensures faults { MatchResult result (λ _. self.new.faults ≡ self.old.faults)
+            (λ e. self.new.faults ≡ count_after e self.old.faults) }
+    {
+        let asked = asked_for(number);
+        let reads = self.base.is_reader(asked, account)?;
+        if reads {
+            return Ok(true);
+        }
+        let owns = self.base.is_owner(asked, account)?;
+        Ok(owns)
+    }
+
+    /// The deposit of an owner under one of its references.
+    pub fn by_reference(
+        &mut self,
+        owner: &str,
+        reference: &str,
+    ) -> Result<Option<Deposit>, StoreFault>
+        ensures looks { OnlyLooks S.Store self.old self.new }
+        ensures opened { IsHonest S.Store self.new → OnOk result (IsOpen S.Store self.old) }
+        ensures value { IsHonest S.Store self.new → (b : History) → Stands S.Store b self.old
+            → IfOk result (λ found. option_map deposit_view found ≡ deposit_under owner.now reference.now b) }
+        ensures refusals { IfErr result (λ e. (e ≡ StoreFault.Memory) ⊎ (e ≡ StoreFault.Database)) }
+        ensures faults { MatchResult result (λ _. self.new.faults ≡ self.old.faults)
+            (λ e. self.new.faults ≡ count_after e self.old.faults) }
+    {
+        let found = self.base.deposit_under(owner, reference)?;
+        Ok(found)
+    }
+
+    /// The deposits that an account sees, as their owner or as a reader, by number, each once. No deposit's bytes are read.
+    pub fn list(&mut self, account: &str) -> Result<Vec<Listed>, StoreFault>
+        ensures looks { OnlyLooks S.Store self.old self.new }
+        ensures opened { IsHonest S.Store self.new → OnOk result (IsOpen S.Store self.old) }
+        ensures value { IsHonest S.Store self.new → (b : History) → Stands S.Store b self.old
+            → IfOk result (λ rows. map listed_view rows.items ≡ listed account.now b) }
+        ensures refusals { IfErr result (λ e. (e ≡ StoreFault.Memory) ⊎ (e ≡ StoreFault.Database)) }
+        ensures faults { MatchResult result (λ _. self.new.faults ≡ self.old.faults)
+            (λ e. self.new.faults ≡ count_after e self.old.faults) }
+    {
+        let mut rows = Vec::new(self.alloc);
+        let mut last = 0;
+        while let Some(number) = self.next_seen(account, last)? {
+            if let Some(row) = self.listing(number)? {
+                rows.push(row)?;
+            }
+            last = number;
+        }
+        Ok(rows)
+    }
+
+    /// The first deposit after a number that the account sees.
+    fn next_seen(&mut self, account: &str, after: u64) -> Result<Option<u64>, StoreFault>
+        ensures looks { OnlyLooks S.Store self.old self.new }
+        ensures opened { IsHonest S.Store self.new → OnOk result (IsOpen S.Store self.old) }
+        ensures value { IsHonest S.Store self.new → (b : History) → Stands S.Store b self.old
+            → IfOk result (λ next. IsNextSeen account.now after b next) }
+        ensures rises { IfOk result (λ next. IfSome next (λ number. (after < number) × (number < 2 ^ 63))) }
+        ensures refusals { IfErr result (λ e. (e ≡ StoreFault.Memory) ⊎ (e ≡ StoreFault.Database)) }
+        ensures faults { MatchResult result (λ _. self.new.faults ≡ self.old.faults)
+            (λ e. self.new.faults ≡ count_after e self.old.faults) }
+    {
+        let owned = self.base.next_owned(account, after)?;
+        let readable = self.base.next_readable(account, after)?;
+        Ok(next_of(owned, readable, after))
+    }
+
+    /// What a list shows of a deposit.
+    fn listing(&mut self, number: u64) -> Result<Option<Listed>, StoreFault>
+        ensures looks { OnlyLooks S.Store self.old self.new }
+        ensures opened { IsHonest S.Store self.new → OnOk result (IsOpen S.Store self.old) }
+        ensures value { IsHonest S.Store self.new → (b : History) → Stands S.Store b self.old
+            → IfOk result (λ found. option_map listed_view found ≡ listing_at number b) }
+        ensures refusals { IfErr result (λ e. (e ≡ StoreFault.Memory) ⊎ (e ≡ StoreFault.Database)) }
+        ensures faults { MatchResult result (λ _. self.new.faults ≡ self.old.faults)
+            (λ e. self.new.faults ≡ count_after e self.old.faults) }
+    {
+        let Some(origin) = self.base.origin(number)? else {
+            return Ok(None);
+        };
+        let Some(label) = self.base.label(number, &origin.account)? else {
+            return Ok(None);
+        };
+        Ok(Some(Listed {
+            number,
+            owner: label.owner,
+            reference: label.reference,
+            gen_time: origin.gen_time,
+        }))
+    }
+}
+
+/// A number that the tables can be asked for in the place of any: no deposit has 0, nor one above all serial numbers.
+fn asked_for(number: u64) -> u64
+    ensures { IsAskedFor number result }
+{
+    if number > GREATEST { 0 } else { number }
+}
+
+/// The lesser of two numbers, where it is after a third. What a database tells is taken for the next number only where it is one, so
+/// that a walk ends whatever it tells.
+fn next_of(owned: Option<u64>, readable: Option<u64>, after: u64) -> Option<u64>
+    requires owned { IfSome owned (λ n. n < 2 ^ 63) }
+    requires readable { IfSome readable (λ n. n < 2 ^ 63) }
+    ensures next { result ≡ later_of after (least_of owned readable) }
+    ensures rises { IfSome result (λ number. (after < number) × (number < 2 ^ 63)) }
+{
+    let least = match (owned, readable) {
+        (Some(n), Some(m)) => Some(n.min(m)),
+        (Some(n), None) => Some(n),
+        (None, other) => other,
+    };
+    match least {
+        Some(n) if n > after => Some(n),
+        _ => None,
     }
 }

@@ -1,7 +1,9 @@
 ghost use Rattle.std.specs.Prelude.{◌≡◌};
 ghost use Rattle.tables.specs.declared.fault.TableFault.{TableFault};
+ghost use Rattle.store.specs.declared.fault.StoreFault.TheVariants.{Memory};
 ghost use Rattle.store.specs.Fault.{fault_of, opening_fault_of};
 
+use std::alloc::AllocFailed;
 use tables::{OpenFault, TableFault};
 use thiserror::Error;
 
@@ -23,6 +25,14 @@ pub enum StoreFault {
     /// A calibration whose reading is before the last one's.
     #[error("the reading is before that of the last calibration")]
     Backwards = 5,
+}
+
+impl<T: Drop> From<AllocFailed<T>> for StoreFault {
+    ghost from_gives = { λ _ e. e ≡ Memory };
+
+    fn from(_e: AllocFailed<T>) -> StoreFault {
+        StoreFault::Memory
+    }
 }
 
 impl From<TableFault> for StoreFault {

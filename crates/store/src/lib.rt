@@ -11,4 +11,5 @@ mod values;
 
 pub use fault::StoreFault;
 pub use store::Store;
-pub use values::{Calibration, Hold, Last, Reservation};
+pub use tables::{Deposit, Stamp};
+pub use values::{Calibration, Hold, Last, Listed, Reservation, StampedDeposit};

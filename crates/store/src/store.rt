@@ -21,7 +21,7 @@ use tables::{Base, Change, LastStamp, LatestCalibration};
 const DAY: u64 = 86_400_000_000;
 
 /// The greatest serial number, 2^63 - 1.
-const GREATEST: u64 = 9_223_372_036_854_775_807;
+pub(crate) const GREATEST: u64 = 9_223_372_036_854_775_807;
 
 /// The history of what the counter accepted, kept in tables. Each change is one commit.
 ///

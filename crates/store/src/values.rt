@@ -1,3 +1,5 @@
+use tables::{Deposit, Stamp};
+
 /// What is reserved for a stamp before it is signed (RFC 3161 2.4.2).
 #[derive(Clone, Copy, Debug)]
 pub struct Reservation<'a> {
@@ -47,4 +49,26 @@ pub struct Last {
     pub serial: u64,
     /// The last genTime, in microseconds since 1970-01-01T00:00:00Z.
     pub gen_time: Option<u64>,
+}
+
+/// A deposit with its stamp, which has its token.
+#[derive(Debug, Drop)]
+pub struct StampedDeposit {
+    /// The deposit.
+    pub deposit: Deposit,
+    /// The stamp with its number.
+    pub stamp: Stamp,
+}
+
+/// What a list shows of a deposit.
+#[derive(Debug, Drop)]
+pub struct Listed {
+    /// Its number, which is the serial number of its stamp.
+    pub number: u64,
+    /// The name of the account that owns it.
+    pub owner: String,
+    /// The owner's reference.
+    pub reference: String,
+    /// The genTime of its stamp, in microseconds since 1970-01-01T00:00:00Z.
+    pub gen_time: u64,
 }

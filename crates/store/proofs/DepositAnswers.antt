@@ -1,0 +1,82 @@
+-- From what the tables answer to what the look-ups of deposits answer.
+use Rattle.std.proofs.Common.{◌≡◌, ℕ, Bool, true, false, List, Option, Some, None, option_map, option_and_then, refl, sym, ap, ◌∙◌, subst, string_bytes}
+use Rattle.tables.specs.Found.{IsFoundAs}
+use Rattle.tables.specs.Tables.{DepositRow, StampRow, is_stamp, is_deposit}
+use Rattle.tables.specs.Queries.{ShowsStamp, ShowsDeposit, ShowsLabel, ShowsOrigin, stamp_view, deposit_view, is_owned}
+use Rattle.tables.specs.declared.rows.Stamp.{Stamp}
+use Rattle.tables.specs.declared.rows.Deposit.{Deposit}
+use Rattle.tables.specs.declared.rows.Label.{Label}
+use Rattle.tables.specs.declared.rows.Origin.{Origin}
+use Rattle.store.specs.History.{History, deposit_at, stamp_at}
+use Rattle.store.specs.Rights.{ListedValue, deposit_with_stamp}
+use Rattle.store.specs.Sound.{IsSound}
+use Rattle.store.specs.Steps.{IsAskedFor, IsOriginOf, listing_at}
+use Rattle.store.specs.TablesOf.{tables_of}
+use Rattle.store.proofs.DepositRows.{deposit_view_of, stamp_view_of, origin_view_of, same_deposit, same_stamp, unreserved_listing, unlabelled_listing, labelled_listing}
+
+-- ---- a deposit with its stamp
+
+deposit_seen : (b : History) (n asked : ℕ) (found : Option Deposit) → IsSound b → IsAskedFor n asked
+    → IsFoundAs ShowsDeposit (is_deposit asked) (tables_of b).deposits found → option_map deposit_view found ≡ deposit_at n b
+deposit_seen b n asked found s is rows = deposit_view_of b asked found s rows ∙ same_deposit b n asked s is
+
+stamp_seen : (b : History) (n asked : ℕ) (found : Option Stamp) → IsSound b → IsAskedFor n asked
+    → IsFoundAs ShowsStamp (is_stamp asked) (tables_of b).stamps found → option_map stamp_view found ≡ stamp_at n b
+stamp_seen b n asked found s is rows = stamp_view_of b asked found s rows ∙ same_stamp b n asked s is
+
+pub without_deposit : (b : History) (n asked : ℕ) (found : Option Deposit) → IsSound b → IsAskedFor n asked → found ≡ None
+    → IsFoundAs ShowsDeposit (is_deposit asked) (tables_of b).deposits found → None ≡ deposit_with_stamp n b
+without_deposit b n asked found s is none rows =
+    let at : deposit_at n b ≡ None = sym (deposit_seen b n asked found s is rows) ∙ ap (option_map deposit_view) none in rw at refl
+
+pub without_stamp : (b : History) (n asked : ℕ) (found : Option Stamp) → IsSound b → IsAskedFor n asked → found ≡ None
+    → IsFoundAs ShowsStamp (is_stamp asked) (tables_of b).stamps found → None ≡ deposit_with_stamp n b
+without_stamp b n asked found s is none rows =
+    let at : stamp_at n b ≡ None = sym (stamp_seen b n asked found s is rows) ∙ ap (option_map stamp_view) none in
+    whatever at (deposit_at n b) refl where
+      whatever : stamp_at n b ≡ None → (o : Option DepositRow) → deposit_at n b ≡ o → None ≡ deposit_with_stamp n b
+      whatever at None e = rw e refl
+      whatever at (Some d) e = rw (e, at) refl
+
+pub with_both : (b : History) (n asked : ℕ) (found : Option Deposit) (stamped : Option Stamp) (deposit : Deposit) (stamp : Stamp) → IsSound b
+    → IsAskedFor n asked → found ≡ Some deposit → stamped ≡ Some stamp
+    → IsFoundAs ShowsDeposit (is_deposit asked) (tables_of b).deposits found
+    → IsFoundAs ShowsStamp (is_stamp asked) (tables_of b).stamps stamped
+    → Some (deposit_view deposit, stamp_view stamp) ≡ deposit_with_stamp n b
+with_both b n asked found stamped deposit stamp s is first second rows stamps =
+    let at : deposit_at n b ≡ Some (deposit_view deposit) =
+    sym (deposit_seen b n asked found s is rows) ∙ ap (option_map deposit_view) first in
+    let stamp_is : stamp_at n b ≡ Some (stamp_view stamp) =
+    sym (stamp_seen b n asked stamped s is stamps) ∙ ap (option_map stamp_view) second in
+    rw (at, stamp_is) refl
+
+-- ---- what a list shows of a deposit
+
+pub without_origin : (b : History) (n : ℕ) (found : Option Origin) → IsSound b → found ≡ None
+    → IsFoundAs ShowsOrigin (is_stamp n) (tables_of b).stamps found → None ≡ listing_at n b
+without_origin b n found s none rows =
+    sym (unreserved_listing b n s (subst (λ o. IsOriginOf n b o) none (origin_view_of b n found s rows)))
+
+pub without_label : (b : History) (n : ℕ) (found : Option Origin) (origin : Origin) (account : List ℕ) (label : Option Label) → IsSound b
+    → found ≡ Some origin → account ≡ string_bytes origin.account → label ≡ None
+    → IsFoundAs ShowsOrigin (is_stamp n) (tables_of b).stamps found
+    → IsFoundAs ShowsLabel (is_owned n account) (tables_of b).deposits label → None ≡ listing_at n b
+without_label b n found origin account label s is named none rows labels =
+    let at = subst (λ o. IsOriginOf n b o) is (origin_view_of b n found s rows) in
+    let under : IsFoundAs ShowsLabel (is_owned n (string_bytes origin.account)) (tables_of b).deposits label =
+    subst (λ a. IsFoundAs ShowsLabel (is_owned n a) (tables_of b).deposits label) named labels in
+    sym (unlabelled_listing b n origin s at
+    (subst (λ l. IsFoundAs ShowsLabel (is_owned n (string_bytes origin.account)) (tables_of b).deposits l) none under))
+
+pub with_label : (b : History) (n : ℕ) (found : Option Origin) (origin : Origin) (account : List ℕ) (labelled : Option Label) (label : Label) → IsSound b
+    → found ≡ Some origin → account ≡ string_bytes origin.account → labelled ≡ Some label
+    → IsFoundAs ShowsOrigin (is_stamp n) (tables_of b).stamps found
+    → IsFoundAs ShowsLabel (is_owned n account) (tables_of b).deposits labelled
+    → Some (record { number = n; owner = string_bytes label.owner; reference = string_bytes label.reference; gen_time = origin.gen_time })
+    ≡ listing_at n b
+with_label b n found origin account labelled label s is named some rows labels =
+    let at = subst (λ o. IsOriginOf n b o) is (origin_view_of b n found s rows) in
+    let under : IsFoundAs ShowsLabel (is_owned n (string_bytes origin.account)) (tables_of b).deposits labelled =
+    subst (λ a. IsFoundAs ShowsLabel (is_owned n a) (tables_of b).deposits labelled) named labels in
+    labelled_listing b n origin label s at
+    (subst (λ l. IsFoundAs ShowsLabel (is_owned n (string_bytes origin.account)) (tables_of b).deposits l) some under)

@@ -1,0 +1,24 @@
+use Rattle.std.proofs.Common.{◌≡◌}
+use Rattle.store.proofs.Calls.{looks_now, kept_seen}
+use Rattle.store.proofs.DepositAnswers.{without_deposit, without_stamp, with_both}
+use Rattle.store.proofs.store.Store.deposit.Goals as goal
+
+pub returns-in_err-deposit-clause-looks : goal.returns-in_err-deposit-clause-looks
+returns-in_err-deposit-clause-looks g c = looks_now g.S.Store _ _ _ c.self.view_is c.in_err-deposit.ensures.reads
+
+pub returns-in_default-clause-value : goal.returns-in_default-clause-value
+returns-in_default-clause-value g c honest b s =
+    let kept = kept_seen g.S.Store _ _ b c.self.view_is s in
+    without_deposit b _ _ _ s.sound c.asked_for-asked.ensures c.in_default.is (c.in_ok-deposit.ensures.value honest _ kept)
+
+pub returns-in_default-2-clause-value : goal.returns-in_default-2-clause-value
+returns-in_default-2-clause-value g c honest b s =
+    let kept = c.in_ok-deposit.ensures.reads.kept _ (kept_seen g.S.Store _ _ b c.self.view_is s) in
+    without_stamp b _ _ _ s.sound c.asked_for-asked.ensures c.in_default-2.is (c.in_ok-stamp.ensures.value honest _ kept)
+
+pub returns-clause-value : goal.returns-clause-value
+returns-clause-value g c honest b s =
+    let kept = kept_seen g.S.Store _ _ b c.self.view_is s in
+    let found = c.in_ok-deposit.ensures.value (c.in_ok-stamp.ensures.reads.honest honest) _ kept in
+    let stamped = c.in_ok-stamp.ensures.value honest _ (c.in_ok-deposit.ensures.reads.kept _ kept) in
+    with_both b _ _ _ _ _ _ s.sound c.asked_for-asked.ensures c.in-Some.is c.in-Some-2.is found stamped

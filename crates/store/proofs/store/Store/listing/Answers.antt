@@ -1,0 +1,26 @@
+use Rattle.std.proofs.Common.{◌≡◌}
+use Rattle.store.proofs.Calls.{looks_now, kept_seen}
+use Rattle.store.proofs.DepositAnswers.{without_origin, without_label, with_label}
+use Rattle.store.proofs.store.Store.listing.Goals as goal
+
+pub returns-in_err-origin-clause-looks : goal.returns-in_err-origin-clause-looks
+returns-in_err-origin-clause-looks g c = looks_now g.S.Store _ _ _ c.self.view_is c.in_err-origin.ensures.reads
+
+pub returns-in_default-clause-value : goal.returns-in_default-clause-value
+returns-in_default-clause-value g c honest b s =
+    let kept = kept_seen g.S.Store _ _ b c.self.view_is s in
+    without_origin b _ _ s.sound c.in_default.is (c.in_ok-origin.ensures.value honest _ kept)
+
+pub returns-in_default-2-clause-value : goal.returns-in_default-2-clause-value
+returns-in_default-2-clause-value g c honest b s =
+    let kept = kept_seen g.S.Store _ _ b c.self.view_is s in
+    let found = c.in_ok-origin.ensures.value (c.in_ok-label.ensures.reads.honest honest) _ kept in
+    let labelled = c.in_ok-label.ensures.value honest _ (c.in_ok-origin.ensures.reads.kept _ kept) in
+    without_label b _ _ _ _ _ s.sound c.in-Some.is c.deref.ensures c.in_default-2.is found labelled
+
+pub returns-clause-value : goal.returns-clause-value
+returns-clause-value g c honest b s =
+    let kept = kept_seen g.S.Store _ _ b c.self.view_is s in
+    let found = c.in_ok-origin.ensures.value (c.in_ok-label.ensures.reads.honest honest) _ kept in
+    let labelled = c.in_ok-label.ensures.value honest _ (c.in_ok-origin.ensures.reads.kept _ kept) in
+    with_label b _ _ _ _ _ _ s.sound c.in-Some.is c.deref.ensures c.in-Some-2.is found labelled
