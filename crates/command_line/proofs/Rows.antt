@@ -79,3 +79,32 @@ one_subcommand_is_needed = refl
 pub help_is_asked : AsksHelp (codes "counter" ∷ codes "tst" ∷ codes "--help" ∷ [])
 unfolding clap_on_literals
 help_is_asked = inl (inl refl)
+
+abbrev calibrate_words : Text → List Text
+calibrate_words uncertainty =
+    codes "counter" ∷ codes "calibrate" ∷ codes "--db" ∷ codes "a.db" ∷ codes "--reading=5" ∷ codes "--offset" ∷
+    codes "250"
+    ∷ codes "--behind" ∷ codes "--uncertainty" ∷ uncertainty ∷ []
+
+pub calibrate_is_taken : AreTaken (calibrate_words (codes "1000000000000"))
+unfolding clap_on_literals
+calibrate_is_taken = refl
+
+pub offset_of_calibrate : option_map (λ p. one_of (codes "offset") p.1) (subcommand_of counter_command
+    (calibrate_words (codes "0"))) ≡ Some (Some (codes "250"))
+unfolding clap_on_literals
+offset_of_calibrate = refl
+
+pub uncertainty_is_bounded : fault_of counter_command (calibrate_words (codes "1000000000001")) ≡ ValueValidation ∷ []
+unfolding clap_on_literals
+uncertainty_is_bounded = refl
+
+pub hold_is_taken : AreTaken (codes "counter" ∷ codes "hold" ∷ codes "--db=a.db" ∷ codes "--from=7" ∷ codes "--to=7"
+    ∷ [])
+unfolding clap_on_literals
+hold_is_taken = refl
+
+pub init_needs_a_database : fault_of counter_command (codes "counter" ∷ codes "init" ∷ []) ≡ MissingRequiredArgument
+    ∷ []
+unfolding clap_on_literals
+init_needs_a_database = refl

@@ -1,6 +1,6 @@
 -- What a parse found, as the values that the words state.
-use Rattle.std.proofs.Common.{◌≡◌, ◌∙◌, ◌<◌, ◌^◌, ℕ, List, Bor, Result, Option, Ok, Err, Some, None, ap, codes, sym}
-use Rattle.std.proofs.Common.{refl}
+use Rattle.std.proofs.Common.{◌≡◌, ◌∙◌, ◌<◌, ◌^◌, ℕ, List, ◌∷◌, get_or, Bor, Result, Option, Ok, Err, Some, None, ap}
+use Rattle.std.proofs.Common.{arith, codes, sym, refl}
 use Rattle.std.specs.Prelude.{option_map, unwrap_or}
 use Rattle.std.specs.Str.Parse.{ParsesUnsigned, digits_value, without_leading_plus}
 use Rattle.clap.specs.Words.{ReadsOne, Row, Text, first_of, first_value, one_text, rows_of, subcommand_name_of}
@@ -8,11 +8,10 @@ use Rattle.clap.specs.Words.{subcommand_rows_of}
 use Rattle.clap.specs.declared.parser.matches.ArgMatches.{ArgMatches}
 use Rattle.clap.specs.declared.parser.matches.Found.{Found}
 use Rattle.clap.proofs.WalkLemmas.{first_value-rows, one_text-rows}
-use Rattle.command_line.specs.Words.{IsAsked, StatesCheck, StatesNumber, StatesTst}
-use Rattle.command_line.specs.declared.words.CheckWords.{CheckWords}
-use Rattle.command_line.specs.declared.words.TstWords.{TstWords}
+use Rattle.command_line.specs.Words.{IsAsked, StatesHold, StatesNumber}
+use Rattle.command_line.specs.declared.words.HoldWords.{HoldWords}
 use Rattle.command_line.specs.declared.words.Word.{Word}
-use Rattle.command_line.specs.declared.words.Word.TheVariants.{Tst, Check}
+use Rattle.command_line.specs.declared.words.Word.TheVariants.{Tst, Check, Init, Calibrate, Hold}
 
 pub reads_text : (f : Found) (name : Text) (result : Option (Bor Text)) (text : Bor Text)
     → option_map (λ s. s.now) result ≡ first_value f name → result ≡ Some text
@@ -91,23 +90,18 @@ one_subcommand m name other rows others first second is =
     ap (λ (o : Option (Text × List Row)). unwrap_or o (other, others)) pairs in
     (ap (λ (p : Text × List Row). p.0) pair, ap (λ (p : Text × List Row). p.1) pair)
 
-pub not_tst : (name : Text) (rows : List Row) (word : Word) → name ≡ codes "tst"
-    → ((words : TstWords) → StatesTst rows words → ⊥)
-    → IsAsked name rows word → ⊥
-not_tst name rows (Tst words) is none asked = none words asked.1
-not_tst name rows (Check words) is none asked =
-    let bad : codes "tst" ≡ codes "check" = sym is ∙ asked.0 in
-    cc
+other : {name : Text} (one two : Text) → name ≡ one → name ≡ two → (one ≡ two → ⊥) → ⊥
+other one two first second differ = differ (sym first ∙ second)
 
-pub not_check : (name : Text) (rows : List Row) (word : Word) → name ≡ codes "check"
-    → ((words : CheckWords) → StatesCheck rows words → ⊥)
-    → IsAsked name rows word → ⊥
-not_check name rows (Check words) is none asked = none words asked.1
-not_check name rows (Tst words) is none asked =
-    let bad : codes "check" ≡ codes "tst" = sym is ∙ asked.0 in
-    cc
+other_letter : {xs ys : Text} (x y : ℕ) → (x ≡ y → ⊥) → x ∷ xs ≡ y ∷ ys → ⊥
+other_letter {xs} {ys} x y differ is = differ (ap (λ (t : Text). get_or t 0 0) is)
 
-pub neither : (name : Text) (rows : List Row) (word : Word) → (name ≡ codes "tst" → ⊥) → (name ≡ codes "check" → ⊥)
+pub not_hold : (name : Text) (rows : List Row) (word : Word) → name ≡ codes "hold" → ((words : HoldWords) →
+    StatesHold rows words → ⊥)
     → IsAsked name rows word → ⊥
-neither name rows (Tst words) no_tst no_check asked = no_tst asked.0
-neither name rows (Check words) no_tst no_check asked = no_check asked.0
+not_hold name rows (Hold words) is none asked = none words asked.1
+not_hold name rows (Tst words) is none asked = other (codes "hold") (codes "tst") is asked.0 (λ e. cc)
+not_hold name rows (Check words) is none asked = other (codes "hold") (codes "check") is asked.0 (λ e. cc)
+not_hold name rows (Init words) is none asked = other (codes "hold") (codes "init") is asked.0 (other_letter 104 105
+    (λ h. omega arith))
+not_hold name rows (Calibrate words) is none asked = other (codes "hold") (codes "calibrate") is asked.0 (λ e. cc)

@@ -12,10 +12,13 @@ use Rattle.clap.specs.declared.error.kind.ErrorKind.{ErrorKind}
 use Rattle.clap.specs.declared.error.kind.ErrorKind.TheVariants.{DisplayHelp, DisplayVersion, OutOfMemory}
 use Rattle.command_line.specs.declared.refusal.Refusal.{Refusal}
 use Rattle.command_line.specs.declared.refusal.Refusal.TheVariants.{Help, Mistake, Memory}
+use Rattle.command_line.specs.declared.words.CalibrateWords.{CalibrateWords}
 use Rattle.command_line.specs.declared.words.CheckWords.{CheckWords}
+use Rattle.command_line.specs.declared.words.HoldWords.{HoldWords}
+use Rattle.command_line.specs.declared.words.InitWords.{InitWords}
 use Rattle.command_line.specs.declared.words.TstWords.{TstWords}
 use Rattle.command_line.specs.declared.words.Word.{Word}
-use Rattle.command_line.specs.declared.words.Word.TheVariants.{Tst, Check}
+use Rattle.command_line.specs.declared.words.Word.TheVariants.{Tst, Check, Init, Calibrate, Hold}
 
 -- `--name VALUE`, which has to be there
 abbrev pub required_option : Text → ValueParser → Rule
@@ -55,6 +58,32 @@ tst_options =
 abbrev pub check_options : List Rule
 check_options = required_option (codes "rules") parser.String ∷ []
 
+abbrev pub database_option : Rule
+database_option = required_option (codes "db") parser.String
+
+abbrev pub init_options : List Rule
+init_options = database_option ∷ []
+
+-- readings, offsets and moments are in microseconds
+abbrev pub microseconds : ValueParser
+microseconds = number_between 0 9223372036854775807
+
+abbrev pub calibrate_options : List Rule
+calibrate_options =
+    database_option
+    ∷ required_option (codes "reading") microseconds
+    ∷ required_option (codes "offset") microseconds
+    ∷ optional_flag (codes "behind")
+    ∷ required_option (codes "uncertainty") (number_between 0 1000000000000)
+    ∷ []
+
+abbrev pub hold_options : List Rule
+hold_options =
+    database_option
+    ∷ required_option (codes "from") microseconds
+    ∷ required_option (codes "to") microseconds
+    ∷ []
+
 abbrev pub with_rules : List Rule → App → App
 with_rules rules = on_top (λ top. record top { rules = rules })
 
@@ -64,6 +93,15 @@ tst_command = with_rules tst_options (new_app (codes "tst"))
 abbrev pub check_command : App
 check_command = with_rules check_options (new_app (codes "check"))
 
+abbrev pub init_command : App
+init_command = with_rules init_options (new_app (codes "init"))
+
+abbrev pub calibrate_command : App
+calibrate_command = with_rules calibrate_options (new_app (codes "calibrate"))
+
+abbrev pub hold_command : App
+hold_command = with_rules hold_options (new_app (codes "hold"))
+
 abbrev pub with_subcommands : List App → App → App
 with_subcommands [] app = app
 with_subcommands (sub ∷ subs) app = with_subcommands subs (with_subcommand app sub.top)
@@ -72,6 +110,9 @@ abbrev pub subcommands : List App
 subcommands =
     tst_command
     ∷ check_command
+    ∷ init_command
+    ∷ calibrate_command
+    ∷ hold_command
     ∷ []
 
 -- the program: one of the subcommands has to be there
@@ -104,10 +145,28 @@ pub record StatesTst (rows : List Row) (words : TstWords) : Type 0 where
 pub record StatesCheck (rows : List Row) (words : CheckWords) : Type 0 where
   pub rules : first_of (codes "rules") rows ≡ Some words.rules.now
 
+pub record StatesInit (rows : List Row) (words : InitWords) : Type 0 where
+  pub db : first_of (codes "db") rows ≡ Some words.db.now
+
+pub record StatesCalibrate (rows : List Row) (words : CalibrateWords) : Type 0 where
+  pub db : first_of (codes "db") rows ≡ Some words.db.now
+  pub reading : StatesNumber rows (codes "reading") words.reading
+  pub offset : StatesNumber rows (codes "offset") words.offset
+  pub behind : StatesFlag rows (codes "behind") words.behind
+  pub uncertainty : StatesNumber rows (codes "uncertainty") words.uncertainty
+
+pub record StatesHold (rows : List Row) (words : HoldWords) : Type 0 where
+  pub db : first_of (codes "db") rows ≡ Some words.db.now
+  pub from : StatesNumber rows (codes "from") words.from
+  pub to : StatesNumber rows (codes "to") words.to
+
 -- the subcommand of this name, and what was found for its options, is what is asked
 abbrev pub IsAsked : Text → List Row → Word → Type 0
 IsAsked name rows (Tst words) = (name ≡ codes "tst") × StatesTst rows words
 IsAsked name rows (Check words) = (name ≡ codes "check") × StatesCheck rows words
+IsAsked name rows (Init words) = (name ≡ codes "init") × StatesInit rows words
+IsAsked name rows (Calibrate words) = (name ≡ codes "calibrate") × StatesCalibrate rows words
+IsAsked name rows (Hold words) = (name ≡ codes "hold") × StatesHold rows words
 
 -- `clap` finds no fault with the words, of which the first is the program's name.
 abbrev pub AreTaken : List Text → Type 0

@@ -1,7 +1,8 @@
 //! The command line, for `clap`.
 ghost use Rattle.std.specs.Prelude.{◌≡◌, ◌^◌, ◌<◌, IfOk, false};
 ghost use Rattle.clap.specs.Words.{app_of, rule_of};
-ghost use Rattle.command_line.specs.Words.{check_command, counter_command, number_between, required_option};
+ghost use Rattle.command_line.specs.Words.{calibrate_command, check_command, counter_command, database_option};
+ghost use Rattle.command_line.specs.Words.{hold_command, init_command, number_between, optional_flag, required_option};
 ghost use Rattle.command_line.specs.Words.{tst_command};
 
 use clap::builder::ValueParser;
@@ -40,6 +41,18 @@ pub const ACCURACIES: Numbers = Numbers {
     most: 1_000_000,
 };
 
+/// Microseconds: a clock's readings, offsets, and the bounds of holds.
+pub const MICROSECONDS: Numbers = Numbers {
+    least: 0,
+    most: i64::MAX as u64,
+};
+
+/// Microseconds of uncertainty.
+pub const UNCERTAINTIES: Numbers = Numbers {
+    least: 0,
+    most: 1_000_000_000_000,
+};
+
 fn number_option<'a>(alloc: Global, name: &'a str, numbers: Numbers, help: &'a str) -> Arg<'a>
     ensures rule { rule_of result ≡ required_option name.now (number_between numbers.least numbers.most) }
     ensures local { result.global ≡ false }
@@ -60,6 +73,23 @@ fn option<'a>(alloc: Global, name: &'a str, parser: ValueParser<'a>, help: &'a s
         .help(help)
 }
 
+fn flag<'a>(alloc: Global, name: &'a str, help: &'a str) -> Arg<'a>
+    ensures rule { rule_of result ≡ optional_flag name.now }
+    ensures local { result.global ≡ false }
+{
+    Arg::new(alloc, name)
+        .long(name)
+        .action(ArgAction::SetTrue)
+        .help(help)
+}
+
+fn database_option<'a>(alloc: Global) -> Arg<'a>
+    ensures rule { rule_of result ≡ database_option }
+    ensures local { result.global ≡ false }
+{
+    option(alloc, "db", ValueParser::string(), "The database")
+}
+
 fn tst_command<'a>(alloc: Global) -> Result<Command<'a>, AllocError>
     ensures { IfOk result (λ command. app_of command ≡ tst_command) }
 {
@@ -73,10 +103,7 @@ fn tst_command<'a>(alloc: Global) -> Result<Command<'a>, AllocError>
     let digits = number_option(alloc, "digits", DIGITS, "Fraction digits of a second");
     let serial = number_option(alloc, "serial", SERIALS, "The serial number");
     let accuracy = number_option(alloc, "accuracy", ACCURACIES, "Microseconds of accuracy");
-    let ordering = Arg::new(alloc, "ordering")
-        .long("ordering")
-        .action(ArgAction::SetTrue)
-        .help("States that tokens are ordered");
+    let ordering = flag(alloc, "ordering", "States that tokens are ordered");
     Command::new(alloc, "tst")
         .about("Reads a request in hexadecimal, and writes its TSTInfo or its rejection")
         .arg(policy)?
@@ -98,6 +125,69 @@ fn check_command<'a>(alloc: Global) -> Result<Command<'a>, AllocError>
         .arg(rules)
 }
 
+fn init_command<'a>(alloc: Global) -> Result<Command<'a>, AllocError>
+    ensures { IfOk result (λ command. app_of command ≡ init_command) }
+{
+    let db = database_option(alloc);
+    Command::new(alloc, "init")
+        .about("Makes the tables of a new database")
+        .arg(db)
+}
+
+fn calibrate_command<'a>(alloc: Global) -> Result<Command<'a>, AllocError>
+    ensures { IfOk result (λ command. app_of command ≡ calibrate_command) }
+{
+    let db = database_option(alloc);
+    let reading = number_option(
+        alloc,
+        "reading",
+        MICROSECONDS,
+        "The clock's reading in microseconds",
+    );
+    let offset = number_option(
+        alloc,
+        "offset",
+        MICROSECONDS,
+        "Microseconds from the reading to the moment since 1970",
+    );
+    let behind = flag(
+        alloc,
+        "behind",
+        "The moment is before the reading: the offset is negative",
+    );
+    let uncertainty = number_option(
+        alloc,
+        "uncertainty",
+        UNCERTAINTIES,
+        "Microseconds by which that moment may be wrong",
+    );
+    Command::new(alloc, "calibrate")
+        .about("Adds a calibration of the clock to the database")
+        .arg(db)?
+        .arg(reading)?
+        .arg(offset)?
+        .arg(behind)?
+        .arg(uncertainty)
+}
+
+fn hold_command<'a>(alloc: Global) -> Result<Command<'a>, AllocError>
+    ensures { IfOk result (λ command. app_of command ≡ hold_command) }
+{
+    let db = database_option(alloc);
+    let from = number_option(
+        alloc,
+        "from",
+        MICROSECONDS,
+        "The first moment, in microseconds since 1970",
+    );
+    let to = number_option(alloc, "to", MICROSECONDS, "The first moment after the hold");
+    Command::new(alloc, "hold")
+        .about("Adds a hold to the database: moments at which no token is given")
+        .arg(db)?
+        .arg(from)?
+        .arg(to)
+}
+
 /// The command line of the whole program. An error where memory runs out.
 pub fn command<'a>(alloc: Global) -> Result<Command<'a>, AllocError>
     ensures { IfOk result (λ command. app_of command ≡ counter_command) }
@@ -106,5 +196,8 @@ pub fn command<'a>(alloc: Global) -> Result<Command<'a>, AllocError>
         .about("The counter of a time-stamping authority (RFC 3161)")
         .subcommand_required(true)
         .subcommand(tst_command(alloc)?)?
-        .subcommand(check_command(alloc)?)
+        .subcommand(check_command(alloc)?)?
+        .subcommand(init_command(alloc)?)?
+        .subcommand(calibrate_command(alloc)?)?
+        .subcommand(hold_command(alloc)?)
 }

@@ -1,12 +1,14 @@
 //! What the words ask for, by what `clap` finds in them.
 ghost use Rattle.std.specs.Prelude.{◌≡◌, ◌≤◌, ◌⊎◌, ℕ, List, Some, IfOk, IfErr, IfSome, IsNone, map, string_bytes};
 ghost use Rattle.clap.specs.Words.{Row, Text, HasKind, fault_of, found_of, kind_of, rows_of, subcommand_rows_of};
-ghost use Rattle.command_line.specs.Words.{AskNothing, Asks, IsAsked, IsRefusal, IsShown, StatesNumber, StatesTst};
-ghost use Rattle.command_line.specs.Words.{counter_command};
+ghost use Rattle.command_line.specs.Words.{AskNothing, Asks, IsAsked, IsRefusal, IsShown, StatesCalibrate, StatesCheck};
+ghost use Rattle.command_line.specs.Words.{StatesHold, StatesInit, StatesNumber, StatesTst, counter_command};
 
-use crate::command::{ACCURACIES, DIGITS, MOMENTS, Numbers, SERIALS, command};
+use crate::command::{
+    ACCURACIES, DIGITS, MICROSECONDS, MOMENTS, Numbers, SERIALS, UNCERTAINTIES, command,
+};
 use crate::refusal::Refusal;
-use crate::words::{CheckWords, TstWords, Word};
+use crate::words::{CalibrateWords, CheckWords, HoldWords, InitWords, TstWords, Word};
 use clap::error::ErrorKind;
 use clap::{ArgMatches, Error};
 use std::alloc::{AllocError, Global};
@@ -69,11 +71,55 @@ fn word_of<'a>(matches: &ArgMatches<'a>) -> Option<Word<'a>>
 {
     match matches.subcommand()? {
         ("tst", words) => Some(Word::Tst(tst_words(words)?)),
-        ("check", words) => Some(Word::Check(CheckWords {
-            rules: words.get_str("rules")?,
-        })),
+        ("check", words) => Some(Word::Check(check_words(words)?)),
+        ("init", words) => Some(Word::Init(init_words(words)?)),
+        ("calibrate", words) => Some(Word::Calibrate(calibrate_words(words)?)),
+        ("hold", words) => Some(Word::Hold(hold_words(words)?)),
         _ => None,
     }
+}
+
+fn check_words<'a>(matches: &ArgMatches<'a>) -> Option<CheckWords<'a>>
+    ensures found { IfSome result (StatesCheck (rows_of (found_of matches.now))) }
+    ensures none { IsNone result → (words : CheckWords) → StatesCheck (rows_of (found_of matches.now)) words → ⊥ }
+{
+    Some(CheckWords {
+        rules: matches.get_str("rules")?,
+    })
+}
+
+fn init_words<'a>(matches: &ArgMatches<'a>) -> Option<InitWords<'a>>
+    ensures found { IfSome result (StatesInit (rows_of (found_of matches.now))) }
+    ensures none { IsNone result → (words : InitWords) → StatesInit (rows_of (found_of matches.now)) words → ⊥ }
+{
+    Some(InitWords {
+        db: matches.get_str("db")?,
+    })
+}
+
+fn calibrate_words<'a>(matches: &ArgMatches<'a>) -> Option<CalibrateWords<'a>>
+    ensures found { IfSome result (StatesCalibrate (rows_of (found_of matches.now))) }
+    ensures none { IsNone result → (words : CalibrateWords)
+        → StatesCalibrate (rows_of (found_of matches.now)) words → ⊥ }
+{
+    Some(CalibrateWords {
+        db: matches.get_str("db")?,
+        reading: number(matches, "reading", MICROSECONDS)?,
+        offset: number(matches, "offset", MICROSECONDS)?,
+        behind: matches.get_flag("behind"),
+        uncertainty: number(matches, "uncertainty", UNCERTAINTIES)?,
+    })
+}
+
+fn hold_words<'a>(matches: &ArgMatches<'a>) -> Option<HoldWords<'a>>
+    ensures found { IfSome result (StatesHold (rows_of (found_of matches.now))) }
+    ensures none { IsNone result → (words : HoldWords) → StatesHold (rows_of (found_of matches.now)) words → ⊥ }
+{
+    Some(HoldWords {
+        db: matches.get_str("db")?,
+        from: number(matches, "from", MICROSECONDS)?,
+        to: number(matches, "to", MICROSECONDS)?,
+    })
 }
 
 fn tst_words<'a>(matches: &ArgMatches<'a>) -> Option<TstWords<'a>>

@@ -1,4 +1,4 @@
-use crate::{CheckWords, Refusal, TstWords, Word};
+use crate::{CalibrateWords, CheckWords, HoldWords, InitWords, Refusal, TstWords, Word};
 use std::alloc::{AllocError, Global};
 use std::test::Fail;
 
@@ -21,7 +21,7 @@ const TST: TstWords<'static> = TstWords {
     ordering: false,
 };
 
-const TAKEN: [(&str, Word<'static>); 5] = [
+const TAKEN: [(&str, Word<'static>); 10] = [
     (
         "counter tst --policy 2.999.1 --moment 0 --digits 0 --serial 1 --accuracy 1000000",
         Word::Tst(TST),
@@ -49,6 +49,46 @@ const TAKEN: [(&str, Word<'static>); 5] = [
         "counter check --rules=",
         Word::Check(CheckWords { rules: "" }),
     ),
+    (
+        "counter init --db a.db",
+        Word::Init(InitWords { db: "a.db" }),
+    ),
+    (
+        "counter calibrate --db a.db --reading 5 --offset 250 --uncertainty 400",
+        Word::Calibrate(CalibrateWords {
+            db: "a.db",
+            reading: 5,
+            offset: 250,
+            behind: false,
+            uncertainty: 400,
+        }),
+    ),
+    (
+        "counter calibrate --behind --uncertainty=1000000000000 --offset 9223372036854775807 --reading 9223372036854775807 --db ''",
+        Word::Calibrate(CalibrateWords {
+            db: "",
+            reading: 9_223_372_036_854_775_807,
+            offset: 9_223_372_036_854_775_807,
+            behind: true,
+            uncertainty: 1_000_000_000_000,
+        }),
+    ),
+    (
+        "counter hold --db a.db --from 7 --to 7",
+        Word::Hold(HoldWords {
+            db: "a.db",
+            from: 7,
+            to: 7,
+        }),
+    ),
+    (
+        "counter hold --to 9223372036854775807 --from +0 --db a.db",
+        Word::Hold(HoldWords {
+            db: "a.db",
+            from: 0,
+            to: 9_223_372_036_854_775_807,
+        }),
+    ),
 ];
 
 #[test]
@@ -63,7 +103,7 @@ fn words_are_taken(rt: HostRuntime) -> Result<(), Fail> {
     Ok(())
 }
 
-const REFUSED: [&str; 32] = [
+const REFUSED: [&str; 43] = [
     "counter",
     "counter check",
     "counter TST --policy 2.999.1 --moment 0 --digits 0 --serial 1 --accuracy 1",
@@ -93,6 +133,17 @@ const REFUSED: [&str; 32] = [
     "counter check --rules a --rules a",
     "counter check --rules a b",
     "counter check a",
+    "counter init",
+    "counter init --db",
+    "counter init --db a --rules b",
+    "counter calibrate --db a --reading 5 --offset 0",
+    "counter calibrate --reading 5 --offset 0 --uncertainty 0",
+    "counter calibrate --db a --reading 5 --offset -1 --uncertainty 0",
+    "counter calibrate --db a --reading 9223372036854775808 --offset 0 --uncertainty 0",
+    "counter calibrate --db a --reading 5 --offset 0 --uncertainty 1000000000001",
+    "counter calibrate --db a --reading 5 --offset 0 --uncertainty 0 --behind --behind",
+    "counter hold --db a --from 1 --to x",
+    "counter hold --db a --from 1",
     "counter help nosuch",
     "counter ''",
     "counter --version",
@@ -111,12 +162,26 @@ fn words_are_refused(rt: HostRuntime) -> Result<(), Fail> {
 }
 
 /// What is to be found in each text of help.
-const HELP: [(&str, &[&str]); 5] = [
-    ("counter --help", &["tst", "check", "--help"]),
-    ("counter help", &["tst", "check", "--help"]),
+const HELP: [(&str, &[&str]); 8] = [
+    ("counter --help", &WORDS),
+    ("counter help", &WORDS),
     ("counter tst --help", &OPTIONS),
     ("counter help tst", &OPTIONS),
     ("counter check --help", &["--rules", "--help"]),
+    ("counter init --help", &["--db", "--help"]),
+    ("counter calibrate --help", &CALIBRATE_OPTIONS),
+    ("counter hold --help", &["--db", "--from", "--to", "--help"]),
+];
+
+const WORDS: [&str; 6] = ["tst", "check", "init", "calibrate", "hold", "--help"];
+
+const CALIBRATE_OPTIONS: [&str; 6] = [
+    "--db",
+    "--reading",
+    "--offset",
+    "--behind",
+    "--uncertainty",
+    "--help",
 ];
 
 const OPTIONS: [&str; 7] = [

@@ -7,6 +7,50 @@ pub enum Word<'a> {
     Tst(TstWords<'a>),
     /// Counts what a policy file has.
     Check(CheckWords<'a>),
+    /// Makes the tables of a new database.
+    Init(InitWords<'a>),
+    /// Adds a calibration to the database.
+    Calibrate(CalibrateWords<'a>),
+    /// Adds a hold to the database.
+    Hold(HoldWords<'a>),
+}
+
+/// The words of `init`.
+#[derive(Clone, Copy, Debug, PartialEq, Eq)]
+pub struct InitWords<'a> {
+    /// The database's path.
+    pub db: &'a str,
+}
+
+/// The words of `calibrate`.
+#[derive(Clone, Copy, Debug, PartialEq, Eq)]
+pub struct CalibrateWords<'a> {
+    /// The database's path.
+    pub db: &'a str,
+    /// The clock's reading, in microseconds.
+    pub reading: u64,
+    /// How far the moment is from the reading, in microseconds.
+    pub offset: u64,
+    /// Whether the moment is before the reading: the offset is minus that number then.
+    pub behind: bool,
+    /// How far the true moment may be from that one, in microseconds.
+    pub uncertainty: u64,
+    ghost some_reading: { reading < 2 ^ 63 },
+    ghost some_offset: { offset < 2 ^ 63 },
+    ghost most_uncertainty: { uncertainty ≤ 1000000000000 },
+}
+
+/// The words of `hold`.
+#[derive(Clone, Copy, Debug, PartialEq, Eq)]
+pub struct HoldWords<'a> {
+    /// The database's path.
+    pub db: &'a str,
+    /// The first moment that is held, in microseconds since 1970-01-01T00:00:00Z.
+    pub from: u64,
+    /// The first moment after the hold.
+    pub to: u64,
+    ghost first: { from < 2 ^ 63 },
+    ghost end: { to < 2 ^ 63 },
 }
 
 /// The words of `check`.

@@ -1,14 +1,16 @@
 -- The numbers of the program's own refusals, and the line that it prints of a refusal.
-use Rattle.std.specs.Prelude.{ℕ, List, [], ◌∷◌, ◌++◌, codes}
+use Rattle.std.specs.Prelude.{◌≡◌, ℕ, List, [], ◌∷◌, ◌++◌, codes}
 use Rattle.std.specs.Fmt.{decimal}
 use Rattle.der.specs.Fault as der
 use Rattle.hex.specs.declared.error.FromHexError.{FromHexError}
 use Rattle.hex.specs.declared.error.FromHexError.TheVariants.{InvalidHexCharacter, OddLength, InvalidStringLength}
 use Rattle.hex.specs.declared.error.FromHexError.TheVariants.{OutOfMemory}
 use Rattle.policy.specs.Fault as policy
+use Rattle.store.specs.Fault as store
+use Rattle.store.specs.declared.fault.StoreFault.{StoreFault}
 use Rattle.tsp.specs.Fault as tsp
 use Rattle.counter.specs.declared.fault.Fault.{Fault}
-use Rattle.counter.specs.declared.fault.Fault.TheVariants.{Der, Tsp, Policy, Input}
+use Rattle.counter.specs.declared.fault.Fault.TheVariants.{Der, Tsp, Policy, Store, Input}
 use Rattle.counter.specs.declared.fault.InputFault.{InputFault}
 use Rattle.counter.specs.declared.fault.InputFault.TheVariants.{NotHexadecimal, File, Hold, Account, Failed, Address}
 use Rattle.counter.specs.declared.fault.InputFault.TheVariants.{Memory}
@@ -33,6 +35,7 @@ abbrev pub number_of_fault : Fault → ℕ
 number_of_fault (Der fault) = der.number_of fault
 number_of_fault (Tsp fault) = tsp.number_of fault
 number_of_fault (Policy fault) = policy.number_of fault
+number_of_fault (Store fault) = store.number_of fault
 number_of_fault (Input fault) = number_of fault
 
 -- the part that refused
@@ -40,8 +43,13 @@ abbrev pub line_beginning : Fault → List ℕ
 line_beginning (Der fault) = codes "counter: der "
 line_beginning (Tsp fault) = codes "counter: tsp "
 line_beginning (Policy fault) = codes "counter: policy "
+line_beginning (Store fault) = codes "counter: store "
 line_beginning (Input fault) = codes "counter: input "
 
 -- the line of a refusal: who refused, and the refusal's number in decimal
 abbrev pub fault_line : Fault → List ℕ
 fault_line fault = line_beginning fault ++ (decimal (number_of_fault fault) ++ 10 ∷ [])
+
+-- the store refused
+abbrev pub IsStoreFault : Fault → Type 0
+IsStoreFault fault = (refusal : StoreFault) × (fault ≡ Store refusal)

@@ -1,3 +1,4 @@
+pub mod Additions
 pub mod Counts
 pub mod Answers
 pub mod Fault

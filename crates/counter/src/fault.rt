@@ -1,6 +1,6 @@
 ghost use Rattle.std.specs.Prelude.{◌≡◌, ◌≤◌, ◌++◌, ◌∷◌, []};
 ghost use Rattle.std.specs.Fmt.{decimal};
-ghost use Rattle.counter.specs.declared.fault.Fault.TheVariants.{Der, Tsp, Policy, Input};
+ghost use Rattle.counter.specs.declared.fault.Fault.TheVariants.{Der, Tsp, Policy, Store, Input};
 ghost use Rattle.counter.specs.declared.fault.InputFault.TheVariants.{Memory};
 ghost use Rattle.counter.specs.Fault.{fault_of};
 
@@ -10,6 +10,7 @@ use hex::FromHexError;
 use policy::PolicyFault;
 use std::alloc::{AllocError, AllocFailed};
 use std::io::Write;
+use store::StoreFault;
 use tsp::TspFault;
 
 /// Why the program did not do what its words ask for: the part that refused, and its refusal.
@@ -21,6 +22,8 @@ pub enum Fault {
     Tsp(TspFault),
     /// The policy file isn't one.
     Policy(PolicyFault),
+    /// The database refused, or isn't the counter's.
+    Store(StoreFault),
     /// The inputs of the program itself.
     Input(InputFault),
 }
@@ -50,6 +53,7 @@ impl Fault {
             Fault::Der(_) => "counter: der ",
             Fault::Tsp(_) => "counter: tsp ",
             Fault::Policy(_) => "counter: policy ",
+            Fault::Store(_) => "counter: store ",
             Fault::Input(_) => "counter: input ",
         }
     }
@@ -63,6 +67,7 @@ impl Fault {
             Fault::Der(fault) => fault.number(),
             Fault::Tsp(fault) => fault.number(),
             Fault::Policy(fault) => fault.number(),
+            Fault::Store(fault) => fault.number(),
             Fault::Input(fault) => fault.number(),
         }
     }
@@ -89,6 +94,14 @@ impl From<PolicyFault> for Fault {
 
     fn from(fault: PolicyFault) -> Fault {
         Fault::Policy(fault)
+    }
+}
+
+impl From<StoreFault> for Fault {
+    ghost from_gives = { λ fault e. e ≡ Store fault };
+
+    fn from(fault: StoreFault) -> Fault {
+        Fault::Store(fault)
     }
 }
 
@@ -127,7 +140,7 @@ pub enum InputFault {
     NotHexadecimal = 1,
     /// A file can't be read, or it has to be text and isn't UTF-8.
     File = 2,
-    /// A hold doesn't begin before it ends. No word answers it yet.
+    /// A hold doesn't begin before it ends.
     Hold = 3,
     /// No account has that key or name. No word answers it yet.
     Account = 4,

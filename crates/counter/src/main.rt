@@ -4,6 +4,7 @@
 mod check;
 mod fault;
 mod hexadecimal;
+mod history;
 mod known;
 mod output;
 mod rules;

@@ -14,6 +14,7 @@ mod tests;
 use crate::check::{read_policy, write_counts};
 use crate::fault::{Fault, InputFault};
 use crate::hexadecimal::{read_octets, write_octets};
+use crate::history::{calibrate, hold, init};
 use crate::output::write_text;
 use crate::settings::Settings;
 use crate::tst::tst_reply;
@@ -36,6 +37,8 @@ pub enum Outcome {
     Replied,
     /// The entries of a policy file were counted.
     Counted,
+    /// The tables of a database were made, or a calibration or a hold was added.
+    Changed,
 }
 
 impl Outcome {
@@ -44,7 +47,7 @@ impl Outcome {
         ensures { result ≡ 0 }
     {
         match self {
-            Outcome::Replied | Outcome::Counted => DONE,
+            Outcome::Replied | Outcome::Counted | Outcome::Changed => DONE,
         }
     }
 }
@@ -81,10 +84,11 @@ fn process_words(rt: &HostRuntime) -> io::Result<Vec<String>> {
 /// status.
 ///
 /// 0 where it is done; a rejection and help are done too. 1 where a fault stopped it, whose line it writes to `errors`:
-/// `der`, `tsp` and `policy` with the number of those crates' refusals, and `input` 1 where the input isn't
-/// hexadecimal, 2 where the policy file can't be read or isn't UTF-8, 5 where the input or the output fails, and 7
-/// where memory runs out. 2 where the words are refused; why is written to `errors`. Where the status isn't 0 nothing
-/// is written to `output`, but where writing an answer or help fails: then a beginning of it stands there.
+/// `der`, `tsp`, `policy` and `store` with the number of those crates' refusals, and `input` 1 where the input isn't
+/// hexadecimal, 2 where the policy file can't be read or isn't UTF-8, 3 where a hold doesn't begin before it ends, 5
+/// where the input or the output fails, and 7 where memory runs out. 2 where the words are refused; why is written to
+/// `errors`. Where the status isn't 0 nothing is written to `output`, but where writing an answer or help fails: then a
+/// beginning of it stands there.
 pub fn run_words<I: Read, O: Write, E: Write>(
     rt: &HostRuntime,
     words: &[String],
@@ -148,6 +152,18 @@ fn run_word<I: Read, O: Write>(
     match word {
         Word::Tst(words) => tst(rt.alloc(), words, input, output),
         Word::Check(words) => check(rt, words, output),
+        Word::Init(words) => {
+            init(rt, words)?;
+            Ok(Outcome::Changed)
+        }
+        Word::Calibrate(words) => {
+            calibrate(rt, words)?;
+            Ok(Outcome::Changed)
+        }
+        Word::Hold(words) => {
+            hold(rt, words)?;
+            Ok(Outcome::Changed)
+        }
     }
 }
 

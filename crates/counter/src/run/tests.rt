@@ -1,3 +1,4 @@
+mod history;
 mod rows;
 
 use super::run_words;

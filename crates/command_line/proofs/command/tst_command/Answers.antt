@@ -1,4 +1,4 @@
-use Rattle.std.proofs.Common.{rules, ◌≡◌, ◌∙◌, false, ap, codes}
+use Rattle.std.proofs.Common.{rules, ◌≡◌, ◌∙◌, ap, codes}
 use Rattle.std.proofs.lemmas.Result.{IfOk-weaker}
 use Rattle.clap.specs.Words.{Rule, app_of, new_app, rule_of}
 use Rattle.clap.specs.declared.builder.value_parser.ValueParser.TheVariants.{String}
@@ -33,13 +33,12 @@ returns c =
     let is_digits : rule_of c.number_option-digits.result ≡ digits = c.number_option-digits.ensures.rule in
     let is_serial : rule_of c.number_option-serial.result ≡ serial = c.number_option-serial.ensures.rule in
     let is_accuracy : rule_of c.number_option-accuracy.result ≡ accuracy = c.number_option-accuracy.ensures.rule in
-    let is_ordering : rule_of c.help-ordering.result ≡ ordering = search rules in
-    let is_local : c.help-ordering.result.global ≡ false = search rules in
+    let is_ordering : rule_of c.flag-ordering.result ≡ ordering = c.flag-ordering.ensures.rule in
     let one = adds_option _ policy _ _ _ named c.in_ok-arg.ensures c.option-policy.ensures.local is_policy in
     let two = adds_option _ moment _ _ _ one c.in_ok-arg-2.ensures c.number_option-moment.ensures.local is_moment in
     let three = adds_option _ digits _ _ _ two c.in_ok-arg-3.ensures c.number_option-digits.ensures.local is_digits in
     let four = adds_option _ serial _ _ _ three c.in_ok-arg-4.ensures c.number_option-serial.ensures.local is_serial in
     let five = adds_option _ accuracy _ _ _ four c.in_ok-arg-5.ensures c.number_option-accuracy.ensures.local
     is_accuracy in
-    IfOk-weaker c.arg-6.result _ _ (λ command adds. adds_option _ ordering _ command _ five adds is_local is_ordering)
-    c.arg-6.ensures
+    IfOk-weaker c.arg-6.result _ _ (λ command adds. adds_option _ ordering _ command _ five adds
+    c.flag-ordering.ensures.local is_ordering) c.arg-6.ensures

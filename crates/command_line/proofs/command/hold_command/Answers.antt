@@ -1,0 +1,22 @@
+use Rattle.std.proofs.Common.{rules, ◌≡◌, codes}
+use Rattle.std.proofs.lemmas.Result.{IfOk-weaker}
+use Rattle.clap.specs.Words.{Rule, app_of, new_app}
+use Rattle.command_line.specs.Words.{database_option, microseconds, required_option}
+use Rattle.command_line.proofs.Commands.{adds_option}
+use Rattle.command_line.proofs.command.hold_command.Goals as goal
+
+abbrev from_option : Rule
+from_option = required_option (codes "from") microseconds
+
+abbrev to_option : Rule
+to_option = required_option (codes "to") microseconds
+
+pub returns : goal.returns
+returns c =
+    let named : app_of c.about.result ≡ new_app (codes "hold") = search rules in
+    let one = adds_option _ database_option _ _ _ named c.in_ok-arg.ensures c.database_option-db.ensures.local
+    c.database_option-db.ensures.rule in
+    let two = adds_option _ from_option _ _ _ one c.in_ok-arg-2.ensures c.number_option-from.ensures.local
+    c.number_option-from.ensures.rule in
+    IfOk-weaker c.arg-3.result _ _ (λ command adds. adds_option _ to_option _ command _ two adds
+    c.number_option-to.ensures.local c.number_option-to.ensures.rule) c.arg-3.ensures

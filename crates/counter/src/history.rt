@@ -1,0 +1,65 @@
+//! What the words of an operator do to the database.
+ghost use Rattle.std.specs.Prelude.{◌≡◌, ◌⊎◌, ◌<◌, ◌≤◌, Err, IfOk, IfErr};
+ghost use Rattle.store.specs.Values.{calibration_view, hold_view};
+ghost use Rattle.counter.specs.Additions.{calibration_of, hold_of};
+ghost use Rattle.counter.specs.Fault.{IsStoreFault};
+
+use crate::fault::{Fault, InputFault};
+use command_line::{CalibrateWords, HoldWords, InitWords};
+use operations::Addition;
+use std::rt::HostRuntime;
+use store::{Calibration, Hold};
+
+/// Makes the tables of a new database.
+pub fn init(rt: &HostRuntime, words: &InitWords<'_>) -> Result<(), Fault>
+    ensures { IfErr result IsStoreFault }
+{
+    Ok(operations::init(rt, words.db)?)
+}
+
+/// Adds the calibration that the words state.
+pub fn calibrate(rt: &HostRuntime, words: &CalibrateWords<'_>) -> Result<(), Fault>
+    ensures { IfErr result IsStoreFault }
+{
+    let calibration = calibration_of(words);
+    Ok(operations::add(rt, words.db, &Addition::Calibration(calibration))?)
+}
+
+/// Adds the hold that the words state. One that doesn't begin before it ends is `input` 3, before the database is
+/// looked at.
+pub fn hold(rt: &HostRuntime, words: &HoldWords<'_>) -> Result<(), Fault>
+    ensures some { IfOk result (λ _. words.now.from < words.now.to) }
+    ensures none { words.now.to ≤ words.now.from → result ≡ Err (Fault.Input InputFault.Hold) }
+    ensures faults { words.now.from < words.now.to → IfErr result IsStoreFault }
+{
+    let hold = hold_of(words)?;
+    Ok(operations::add(rt, words.db, &Addition::Hold(hold))?)
+}
+
+/// The calibration that the words state: the offset is minus their number where the flag is there.
+pub fn calibration_of(words: &CalibrateWords<'_>) -> Calibration
+    ensures { calibration_view result ≡ calibration_of words.now }
+{
+    let offset = words.offset as i64;
+    Calibration {
+        reading: words.reading as i64,
+        offset: if words.behind { -offset } else { offset },
+        uncertainty: words.uncertainty,
+    }
+}
+
+/// The hold that the words state, and `Hold` where its first moment isn't before its end.
+pub fn hold_of(words: &HoldWords<'_>) -> Result<Hold, InputFault>
+    ensures stated { IfOk result (λ hold. hold_view hold ≡ hold_of words.now) }
+    ensures some { IfOk result (λ _. words.now.from < words.now.to) }
+    ensures none { IfErr result (λ fault. (fault ≡ InputFault.Hold) × (words.now.to ≤ words.now.from)) }
+{
+    if words.from < words.to {
+        Ok(Hold {
+            from: words.from as i64,
+            to: words.to as i64,
+        })
+    } else {
+        Err(InputFault::Hold)
+    }
+}

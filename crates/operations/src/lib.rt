@@ -1,0 +1,11 @@
+//! What the words of the program do to the database at a path.
+#![tactic(auto)]
+
+mod adding;
+mod finding;
+mod opening;
+#[cfg(test)]
+mod tests;
+
+pub use adding::{Addition, add};
+pub use opening::init;
