@@ -21,7 +21,7 @@ use Rattle.sqlite_rules.specs.Edit.{edit_of, next_rowid}
 use Rattle.sqlite_tied.specs.Compute.{everything}
 use Rattle.sqlite.specs.declared.error.Error.{Error}
 use Rattle.sqlite.specs.Effect.{Database, value_rows}
-use Rattle.sqlite.specs.Batch.{Step, RunInTurn, ExecutesAllInside, first_len}
+use Rattle.sqlite.specs.Batch.{Step, Stops, RunInTurn, ExecutesAllInside, first_len}
 use Rattle.sqlite.specs.Clock.{timed}
 use Rattle.sqlite.specs.Does.{Tally, Does, lacks_sequence}
 use Rattle.sqlite.specs.Held.{Held, state}
@@ -54,6 +54,10 @@ went : {B E R : Type 0} {b : B} {Stops : E → Type 0} → ((stop : E) × Stops 
 went (inl stopped) = absurd (let e = stopped.2 in cc)
 went (inr on) = on
 
+on : {B E R : Type 0} {b : B} {Stops : E → Type 0} → ((stop : E) × (◌≡◌ {A = Result B E} (Ok b) (Err stop)) × Stops stop) ⊎ R → R
+on (inl stopped) = absurd (let e = stopped.1 in cc)
+on (inr rest) = rest
+
 same_ok : {B E : Type 0} {a b : B} → ◌≡◌ {A = Result B E} (Ok a) (Ok b) → a ≡ b
 same_ok e = cc
 
@@ -75,83 +79,83 @@ makes_table sql old new schema table count has is plain defined plain_schema h =
       subst (λ s. KeepsRows s.tables old.now.trees new.now.trees) has (subst (λ (d : Database). KeepsRows old.now.schema.tables old.now.trees d.trees) (sym now) made.others),
     )
 
-abbrev schema_0 : Schema
+abbrev pub schema_0 : Schema
 schema_0 = schema_after ([]) no_schema
 
-abbrev schema_1 : Schema
+abbrev pub schema_1 : Schema
 schema_1 = schema_after (meta ∷ []) no_schema
 
-abbrev schema_2 : Schema
+abbrev pub schema_2 : Schema
 schema_2 = schema_after (meta ∷ stamp ∷ []) no_schema
 
-abbrev schema_3 : Schema
+abbrev pub schema_3 : Schema
 schema_3 = schema_after (meta ∷ stamp ∷ calibration ∷ []) no_schema
 
-abbrev schema_4 : Schema
+abbrev pub schema_4 : Schema
 schema_4 = schema_after (meta ∷ stamp ∷ calibration ∷ hold ∷ []) no_schema
 
-abbrev schema_5 : Schema
+abbrev pub schema_5 : Schema
 schema_5 = schema_after (meta ∷ stamp ∷ calibration ∷ hold ∷ deposit ∷ []) no_schema
 
-abbrev schema_6 : Schema
+abbrev pub schema_6 : Schema
 schema_6 = schema_after (meta ∷ stamp ∷ calibration ∷ hold ∷ deposit ∷ reader ∷ []) no_schema
 
-abbrev piece_0 : List ℕ
+abbrev pub piece_0 : List ℕ
 piece_0 = codes "CREATE TABLE meta (version INTEGER NOT NULL) STRICT;"
 
-is_0 : (command_of (understood schema_0 piece_0) ≡ CreateTable) × (table_defined_by (statement_of piece_0 (understood schema_0 piece_0)) ≡ Ok meta) × IsPlain (understood schema_0 piece_0)
+pub is_0 : (command_of (understood schema_0 piece_0) ≡ CreateTable) × (table_defined_by (statement_of piece_0 (understood schema_0 piece_0)) ≡ Ok meta) × IsPlain (understood schema_0 piece_0)
 unfolding understood everything
 is_0 = (refl, refl, (refl, refl))
 
-abbrev piece_1 : List ℕ
+abbrev pub piece_1 : List ℕ
 piece_1 = codes " CREATE TABLE stamp (serial INTEGER PRIMARY KEY, account TEXT NOT NULL, day INTEGER NOT NULL, gen INTEGER NOT NULL, policy BLOB NOT NULL, algorithm BLOB NOT NULL, digest BLOB NOT NULL, request BLOB NOT NULL, tst BLOB NOT NULL, token BLOB) STRICT;"
 
-is_1 : (command_of (understood schema_1 piece_1) ≡ CreateTable) × (table_defined_by (statement_of piece_1 (understood schema_1 piece_1)) ≡ Ok stamp) × IsPlain (understood schema_1 piece_1)
+pub is_1 : (command_of (understood schema_1 piece_1) ≡ CreateTable) × (table_defined_by (statement_of piece_1 (understood schema_1 piece_1)) ≡ Ok stamp) × IsPlain (understood schema_1 piece_1)
 unfolding understood everything
 is_1 = (refl, refl, (refl, refl))
 
-abbrev piece_2 : List ℕ
+abbrev pub piece_2 : List ℕ
 piece_2 = codes " CREATE TABLE calibration (n INTEGER PRIMARY KEY, reading INTEGER NOT NULL, offset_us INTEGER NOT NULL, uncertainty INTEGER NOT NULL) STRICT;"
 
-is_2 : (command_of (understood schema_2 piece_2) ≡ CreateTable) × (table_defined_by (statement_of piece_2 (understood schema_2 piece_2)) ≡ Ok calibration) × IsPlain (understood schema_2 piece_2)
+pub is_2 : (command_of (understood schema_2 piece_2) ≡ CreateTable) × (table_defined_by (statement_of piece_2 (understood schema_2 piece_2)) ≡ Ok calibration) × IsPlain (understood schema_2 piece_2)
 unfolding understood everything
 is_2 = (refl, refl, (refl, refl))
 
-abbrev piece_3 : List ℕ
+abbrev pub piece_3 : List ℕ
 piece_3 = codes " CREATE TABLE hold (n INTEGER PRIMARY KEY, from_us INTEGER NOT NULL, to_us INTEGER NOT NULL) STRICT;"
 
-is_3 : (command_of (understood schema_3 piece_3) ≡ CreateTable) × (table_defined_by (statement_of piece_3 (understood schema_3 piece_3)) ≡ Ok hold) × IsPlain (understood schema_3 piece_3)
+pub is_3 : (command_of (understood schema_3 piece_3) ≡ CreateTable) × (table_defined_by (statement_of piece_3 (understood schema_3 piece_3)) ≡ Ok hold) × IsPlain (understood schema_3 piece_3)
 unfolding understood everything
 is_3 = (refl, refl, (refl, refl))
 
-abbrev piece_4 : List ℕ
+abbrev pub piece_4 : List ℕ
 piece_4 = codes " CREATE TABLE deposit (serial INTEGER PRIMARY KEY REFERENCES stamp (serial), owner TEXT NOT NULL, reference TEXT NOT NULL, bytes BLOB NOT NULL, UNIQUE (owner, reference)) STRICT;"
 
-is_4 : (command_of (understood schema_4 piece_4) ≡ CreateTable) × (table_defined_by (statement_of piece_4 (understood schema_4 piece_4)) ≡ Ok deposit) × IsPlain (understood schema_4 piece_4)
+pub is_4 : (command_of (understood schema_4 piece_4) ≡ CreateTable) × (table_defined_by (statement_of piece_4 (understood schema_4 piece_4)) ≡ Ok deposit) × IsPlain (understood schema_4 piece_4)
 unfolding understood everything
 is_4 = (refl, refl, (refl, refl))
 
-abbrev piece_5 : List ℕ
+abbrev pub piece_5 : List ℕ
 piece_5 = codes " CREATE TABLE reader (serial INTEGER NOT NULL REFERENCES deposit (serial), account TEXT NOT NULL, PRIMARY KEY (serial, account)) STRICT;"
 
-is_5 : (command_of (understood schema_5 piece_5) ≡ CreateTable) × (table_defined_by (statement_of piece_5 (understood schema_5 piece_5)) ≡ Ok reader) × IsPlain (understood schema_5 piece_5)
+pub is_5 : (command_of (understood schema_5 piece_5) ≡ CreateTable) × (table_defined_by (statement_of piece_5 (understood schema_5 piece_5)) ≡ Ok reader) × IsPlain (understood schema_5 piece_5)
 unfolding understood everything
 is_5 = (refl, refl, (refl, refl))
 
-abbrev piece_6 : List ℕ
+abbrev pub piece_6 : List ℕ
 piece_6 = codes " CREATE TABLE tally (account TEXT NOT NULL, day INTEGER NOT NULL, count INTEGER NOT NULL, PRIMARY KEY (account, day)) STRICT;"
 
-is_6 : (command_of (understood schema_6 piece_6) ≡ CreateTable) × (table_defined_by (statement_of piece_6 (understood schema_6 piece_6)) ≡ Ok tally) × IsPlain (understood schema_6 piece_6)
+pub is_6 : (command_of (understood schema_6 piece_6) ≡ CreateTable) × (table_defined_by (statement_of piece_6 (understood schema_6 piece_6)) ≡ Ok tally) × IsPlain (understood schema_6 piece_6)
 unfolding understood everything
 is_6 = (refl, refl, (refl, refl))
 
-abbrev piece_7 : List ℕ
+abbrev pub piece_7 : List ℕ
 piece_7 = codes " INSERT INTO meta (version) VALUES (1)"
 
-abbrev version_terms : List Term
+abbrev pub version_terms : List Term
 version_terms = lit Null ∷ lit (Int (pos 1)) ∷ []
 
-is_7 : (command_of (understood the_schema piece_7) ≡ Insert 0 (Values version_terms 2)) × IsPlain (understood the_schema piece_7)
+pub is_7 : (command_of (understood the_schema piece_7) ≡ Insert 0 (Values version_terms 2)) × IsPlain (understood the_schema piece_7)
 unfolding understood everything
 is_7 = (refl, (refl, refl))
 
@@ -161,31 +165,31 @@ no_any keyed cells = record { shaped = (tt, tt); same = IsPermutation-refl [] }
 empty_rows : {X : Type 0} (keyed : Bool) (cells : X → Row) (rows : List Row) → rows ≡ [] → AreRows keyed cells [] rows
 empty_rows keyed cells rows none = subst (AreRows keyed cells []) (sym none) (no_any keyed cells)
 
-abbrev rest_0 : List ℕ
+abbrev pub rest_0 : List ℕ
 rest_0 = codes "CREATE TABLE meta (version INTEGER NOT NULL) STRICT; CREATE TABLE stamp (serial INTEGER PRIMARY KEY, account TEXT NOT NULL, day INTEGER NOT NULL, gen INTEGER NOT NULL, policy BLOB NOT NULL, algorithm BLOB NOT NULL, digest BLOB NOT NULL, request BLOB NOT NULL, tst BLOB NOT NULL, token BLOB) STRICT; CREATE TABLE calibration (n INTEGER PRIMARY KEY, reading INTEGER NOT NULL, offset_us INTEGER NOT NULL, uncertainty INTEGER NOT NULL) STRICT; CREATE TABLE hold (n INTEGER PRIMARY KEY, from_us INTEGER NOT NULL, to_us INTEGER NOT NULL) STRICT; CREATE TABLE deposit (serial INTEGER PRIMARY KEY REFERENCES stamp (serial), owner TEXT NOT NULL, reference TEXT NOT NULL, bytes BLOB NOT NULL, UNIQUE (owner, reference)) STRICT; CREATE TABLE reader (serial INTEGER NOT NULL REFERENCES deposit (serial), account TEXT NOT NULL, PRIMARY KEY (serial, account)) STRICT; CREATE TABLE tally (account TEXT NOT NULL, day INTEGER NOT NULL, count INTEGER NOT NULL, PRIMARY KEY (account, day)) STRICT; INSERT INTO meta (version) VALUES (1)"
 
-abbrev rest_1 : List ℕ
+abbrev pub rest_1 : List ℕ
 rest_1 = codes " CREATE TABLE stamp (serial INTEGER PRIMARY KEY, account TEXT NOT NULL, day INTEGER NOT NULL, gen INTEGER NOT NULL, policy BLOB NOT NULL, algorithm BLOB NOT NULL, digest BLOB NOT NULL, request BLOB NOT NULL, tst BLOB NOT NULL, token BLOB) STRICT; CREATE TABLE calibration (n INTEGER PRIMARY KEY, reading INTEGER NOT NULL, offset_us INTEGER NOT NULL, uncertainty INTEGER NOT NULL) STRICT; CREATE TABLE hold (n INTEGER PRIMARY KEY, from_us INTEGER NOT NULL, to_us INTEGER NOT NULL) STRICT; CREATE TABLE deposit (serial INTEGER PRIMARY KEY REFERENCES stamp (serial), owner TEXT NOT NULL, reference TEXT NOT NULL, bytes BLOB NOT NULL, UNIQUE (owner, reference)) STRICT; CREATE TABLE reader (serial INTEGER NOT NULL REFERENCES deposit (serial), account TEXT NOT NULL, PRIMARY KEY (serial, account)) STRICT; CREATE TABLE tally (account TEXT NOT NULL, day INTEGER NOT NULL, count INTEGER NOT NULL, PRIMARY KEY (account, day)) STRICT; INSERT INTO meta (version) VALUES (1)"
 
-abbrev rest_2 : List ℕ
+abbrev pub rest_2 : List ℕ
 rest_2 = codes " CREATE TABLE calibration (n INTEGER PRIMARY KEY, reading INTEGER NOT NULL, offset_us INTEGER NOT NULL, uncertainty INTEGER NOT NULL) STRICT; CREATE TABLE hold (n INTEGER PRIMARY KEY, from_us INTEGER NOT NULL, to_us INTEGER NOT NULL) STRICT; CREATE TABLE deposit (serial INTEGER PRIMARY KEY REFERENCES stamp (serial), owner TEXT NOT NULL, reference TEXT NOT NULL, bytes BLOB NOT NULL, UNIQUE (owner, reference)) STRICT; CREATE TABLE reader (serial INTEGER NOT NULL REFERENCES deposit (serial), account TEXT NOT NULL, PRIMARY KEY (serial, account)) STRICT; CREATE TABLE tally (account TEXT NOT NULL, day INTEGER NOT NULL, count INTEGER NOT NULL, PRIMARY KEY (account, day)) STRICT; INSERT INTO meta (version) VALUES (1)"
 
-abbrev rest_3 : List ℕ
+abbrev pub rest_3 : List ℕ
 rest_3 = codes " CREATE TABLE hold (n INTEGER PRIMARY KEY, from_us INTEGER NOT NULL, to_us INTEGER NOT NULL) STRICT; CREATE TABLE deposit (serial INTEGER PRIMARY KEY REFERENCES stamp (serial), owner TEXT NOT NULL, reference TEXT NOT NULL, bytes BLOB NOT NULL, UNIQUE (owner, reference)) STRICT; CREATE TABLE reader (serial INTEGER NOT NULL REFERENCES deposit (serial), account TEXT NOT NULL, PRIMARY KEY (serial, account)) STRICT; CREATE TABLE tally (account TEXT NOT NULL, day INTEGER NOT NULL, count INTEGER NOT NULL, PRIMARY KEY (account, day)) STRICT; INSERT INTO meta (version) VALUES (1)"
 
-abbrev rest_4 : List ℕ
+abbrev pub rest_4 : List ℕ
 rest_4 = codes " CREATE TABLE deposit (serial INTEGER PRIMARY KEY REFERENCES stamp (serial), owner TEXT NOT NULL, reference TEXT NOT NULL, bytes BLOB NOT NULL, UNIQUE (owner, reference)) STRICT; CREATE TABLE reader (serial INTEGER NOT NULL REFERENCES deposit (serial), account TEXT NOT NULL, PRIMARY KEY (serial, account)) STRICT; CREATE TABLE tally (account TEXT NOT NULL, day INTEGER NOT NULL, count INTEGER NOT NULL, PRIMARY KEY (account, day)) STRICT; INSERT INTO meta (version) VALUES (1)"
 
-abbrev rest_5 : List ℕ
+abbrev pub rest_5 : List ℕ
 rest_5 = codes " CREATE TABLE reader (serial INTEGER NOT NULL REFERENCES deposit (serial), account TEXT NOT NULL, PRIMARY KEY (serial, account)) STRICT; CREATE TABLE tally (account TEXT NOT NULL, day INTEGER NOT NULL, count INTEGER NOT NULL, PRIMARY KEY (account, day)) STRICT; INSERT INTO meta (version) VALUES (1)"
 
-abbrev rest_6 : List ℕ
+abbrev pub rest_6 : List ℕ
 rest_6 = codes " CREATE TABLE tally (account TEXT NOT NULL, day INTEGER NOT NULL, count INTEGER NOT NULL, PRIMARY KEY (account, day)) STRICT; INSERT INTO meta (version) VALUES (1)"
 
-abbrev rest_7 : List ℕ
+abbrev pub rest_7 : List ℕ
 rest_7 = codes " INSERT INTO meta (version) VALUES (1)"
 
-abbrev rest_8 : List ℕ
+abbrev pub rest_8 : List ℕ
 rest_8 = []
 
 cut_0 : (take (first_len rest_0) rest_0 ≡ piece_0) × (drop (first_len rest_0) rest_0 ≡ rest_1)
@@ -221,56 +225,60 @@ unfolding everything
 cut_7 = (refl, refl)
 
 module _ {S : Type 0} (g : Ghosts S) where
-  abbrev Ran : List ℕ → Held S → Held S → Type 0
+  abbrev pub Ran : List ℕ → Held S → Held S → Type 0
   Ran sql a b = (count : ℕ) × ExecutesIn true sql [] (state g a) (state g b) (Ok count)
 
-  -- the first statement of a batch that succeeds, and the others after it
+  -- the first statement of a batch: it stops there, or the others run after it
+  abbrev pub Turns : ℕ → List ℕ → List ℕ → Held S → Held S → Result (Unit {0}) Error → Type 0
+  Turns most piece rest old new r =
+      ((e : Error) × (r ≡ Err e) × Stops g (Some 0) piece old new e) ⊎ ((mid : Held S) × Ran piece old mid × RunInTurn g (Some 0) most rest mid new r)
+
   peel_turn : (most b : ℕ) (more piece rest : List ℕ) → take (first_len (b ∷ more)) (b ∷ more) ≡ piece → drop (first_len (b ∷ more)) (b ∷ more) ≡ rest → (old new : Held S)
-      → RunInTurn g (Some 0) (suc most) (b ∷ more) old new (Ok tt) → (mid : Held S) × Ran piece old mid × RunInTurn g (Some 0) most rest mid new (Ok tt)
-  peel_turn most b more piece rest first later old new (inl stopped) = absurd (let e = stopped.1 in cc)
-  peel_turn most b more piece rest first later old new (inr on) =
-      (on.0, (on.1, subst (λ sql. ExecutesIn true sql [] (state g old) (state g on.0) (Ok on.1)) first on.2.runs), subst (λ text. RunInTurn g (Some 0) most text on.0 new (Ok tt)) later on.3)
+      (r : Result (Unit {0}) Error) → RunInTurn g (Some 0) (suc most) (b ∷ more) old new r → Turns most piece rest old new r
+  peel_turn most b more piece rest first later old new r (inl stopped) = inl (stopped.0, stopped.1, subst (λ sql. Stops g (Some 0) sql old new stopped.0) first stopped.2)
+  peel_turn most b more piece rest first later old new r (inr on) =
+      inr (on.0, (on.1, subst (λ sql. ExecutesIn true sql [] (state g old) (state g on.0) (Ok on.1)) first on.2.runs), subst (λ text. RunInTurn g (Some 0) most text on.0 new r) later on.3)
 
-  turn_0 : (old new : Held S) → RunInTurn g (Some 0) 1016 rest_0 old new (Ok tt) → (mid : Held S) × Ran piece_0 old mid × RunInTurn g (Some 0) 1015 rest_1 mid new (Ok tt)
-  turn_0 old new ran = peel_turn 1015 67 (codes "REATE TABLE meta (version INTEGER NOT NULL) STRICT; CREATE TABLE stamp (serial INTEGER PRIMARY KEY, account TEXT NOT NULL, day INTEGER NOT NULL, gen INTEGER NOT NULL, policy BLOB NOT NULL, algorithm BLOB NOT NULL, digest BLOB NOT NULL, request BLOB NOT NULL, tst BLOB NOT NULL, token BLOB) STRICT; CREATE TABLE calibration (n INTEGER PRIMARY KEY, reading INTEGER NOT NULL, offset_us INTEGER NOT NULL, uncertainty INTEGER NOT NULL) STRICT; CREATE TABLE hold (n INTEGER PRIMARY KEY, from_us INTEGER NOT NULL, to_us INTEGER NOT NULL) STRICT; CREATE TABLE deposit (serial INTEGER PRIMARY KEY REFERENCES stamp (serial), owner TEXT NOT NULL, reference TEXT NOT NULL, bytes BLOB NOT NULL, UNIQUE (owner, reference)) STRICT; CREATE TABLE reader (serial INTEGER NOT NULL REFERENCES deposit (serial), account TEXT NOT NULL, PRIMARY KEY (serial, account)) STRICT; CREATE TABLE tally (account TEXT NOT NULL, day INTEGER NOT NULL, count INTEGER NOT NULL, PRIMARY KEY (account, day)) STRICT; INSERT INTO meta (version) VALUES (1)") piece_0 rest_1 cut_0.0 cut_0.1 old new ran
+  pub turn_0 : (old new : Held S) (r : Result (Unit {0}) Error) → RunInTurn g (Some 0) 1016 rest_0 old new r → Turns 1015 piece_0 rest_1 old new r
+  turn_0 old new r ran = peel_turn 1015 67 (codes "REATE TABLE meta (version INTEGER NOT NULL) STRICT; CREATE TABLE stamp (serial INTEGER PRIMARY KEY, account TEXT NOT NULL, day INTEGER NOT NULL, gen INTEGER NOT NULL, policy BLOB NOT NULL, algorithm BLOB NOT NULL, digest BLOB NOT NULL, request BLOB NOT NULL, tst BLOB NOT NULL, token BLOB) STRICT; CREATE TABLE calibration (n INTEGER PRIMARY KEY, reading INTEGER NOT NULL, offset_us INTEGER NOT NULL, uncertainty INTEGER NOT NULL) STRICT; CREATE TABLE hold (n INTEGER PRIMARY KEY, from_us INTEGER NOT NULL, to_us INTEGER NOT NULL) STRICT; CREATE TABLE deposit (serial INTEGER PRIMARY KEY REFERENCES stamp (serial), owner TEXT NOT NULL, reference TEXT NOT NULL, bytes BLOB NOT NULL, UNIQUE (owner, reference)) STRICT; CREATE TABLE reader (serial INTEGER NOT NULL REFERENCES deposit (serial), account TEXT NOT NULL, PRIMARY KEY (serial, account)) STRICT; CREATE TABLE tally (account TEXT NOT NULL, day INTEGER NOT NULL, count INTEGER NOT NULL, PRIMARY KEY (account, day)) STRICT; INSERT INTO meta (version) VALUES (1)") piece_0 rest_1 cut_0.0 cut_0.1 old new r ran
 
-  turn_1 : (old new : Held S) → RunInTurn g (Some 0) 1015 rest_1 old new (Ok tt) → (mid : Held S) × Ran piece_1 old mid × RunInTurn g (Some 0) 1014 rest_2 mid new (Ok tt)
-  turn_1 old new ran = peel_turn 1014 32 (codes "CREATE TABLE stamp (serial INTEGER PRIMARY KEY, account TEXT NOT NULL, day INTEGER NOT NULL, gen INTEGER NOT NULL, policy BLOB NOT NULL, algorithm BLOB NOT NULL, digest BLOB NOT NULL, request BLOB NOT NULL, tst BLOB NOT NULL, token BLOB) STRICT; CREATE TABLE calibration (n INTEGER PRIMARY KEY, reading INTEGER NOT NULL, offset_us INTEGER NOT NULL, uncertainty INTEGER NOT NULL) STRICT; CREATE TABLE hold (n INTEGER PRIMARY KEY, from_us INTEGER NOT NULL, to_us INTEGER NOT NULL) STRICT; CREATE TABLE deposit (serial INTEGER PRIMARY KEY REFERENCES stamp (serial), owner TEXT NOT NULL, reference TEXT NOT NULL, bytes BLOB NOT NULL, UNIQUE (owner, reference)) STRICT; CREATE TABLE reader (serial INTEGER NOT NULL REFERENCES deposit (serial), account TEXT NOT NULL, PRIMARY KEY (serial, account)) STRICT; CREATE TABLE tally (account TEXT NOT NULL, day INTEGER NOT NULL, count INTEGER NOT NULL, PRIMARY KEY (account, day)) STRICT; INSERT INTO meta (version) VALUES (1)") piece_1 rest_2 cut_1.0 cut_1.1 old new ran
+  pub turn_1 : (old new : Held S) (r : Result (Unit {0}) Error) → RunInTurn g (Some 0) 1015 rest_1 old new r → Turns 1014 piece_1 rest_2 old new r
+  turn_1 old new r ran = peel_turn 1014 32 (codes "CREATE TABLE stamp (serial INTEGER PRIMARY KEY, account TEXT NOT NULL, day INTEGER NOT NULL, gen INTEGER NOT NULL, policy BLOB NOT NULL, algorithm BLOB NOT NULL, digest BLOB NOT NULL, request BLOB NOT NULL, tst BLOB NOT NULL, token BLOB) STRICT; CREATE TABLE calibration (n INTEGER PRIMARY KEY, reading INTEGER NOT NULL, offset_us INTEGER NOT NULL, uncertainty INTEGER NOT NULL) STRICT; CREATE TABLE hold (n INTEGER PRIMARY KEY, from_us INTEGER NOT NULL, to_us INTEGER NOT NULL) STRICT; CREATE TABLE deposit (serial INTEGER PRIMARY KEY REFERENCES stamp (serial), owner TEXT NOT NULL, reference TEXT NOT NULL, bytes BLOB NOT NULL, UNIQUE (owner, reference)) STRICT; CREATE TABLE reader (serial INTEGER NOT NULL REFERENCES deposit (serial), account TEXT NOT NULL, PRIMARY KEY (serial, account)) STRICT; CREATE TABLE tally (account TEXT NOT NULL, day INTEGER NOT NULL, count INTEGER NOT NULL, PRIMARY KEY (account, day)) STRICT; INSERT INTO meta (version) VALUES (1)") piece_1 rest_2 cut_1.0 cut_1.1 old new r ran
 
-  turn_2 : (old new : Held S) → RunInTurn g (Some 0) 1014 rest_2 old new (Ok tt) → (mid : Held S) × Ran piece_2 old mid × RunInTurn g (Some 0) 1013 rest_3 mid new (Ok tt)
-  turn_2 old new ran = peel_turn 1013 32 (codes "CREATE TABLE calibration (n INTEGER PRIMARY KEY, reading INTEGER NOT NULL, offset_us INTEGER NOT NULL, uncertainty INTEGER NOT NULL) STRICT; CREATE TABLE hold (n INTEGER PRIMARY KEY, from_us INTEGER NOT NULL, to_us INTEGER NOT NULL) STRICT; CREATE TABLE deposit (serial INTEGER PRIMARY KEY REFERENCES stamp (serial), owner TEXT NOT NULL, reference TEXT NOT NULL, bytes BLOB NOT NULL, UNIQUE (owner, reference)) STRICT; CREATE TABLE reader (serial INTEGER NOT NULL REFERENCES deposit (serial), account TEXT NOT NULL, PRIMARY KEY (serial, account)) STRICT; CREATE TABLE tally (account TEXT NOT NULL, day INTEGER NOT NULL, count INTEGER NOT NULL, PRIMARY KEY (account, day)) STRICT; INSERT INTO meta (version) VALUES (1)") piece_2 rest_3 cut_2.0 cut_2.1 old new ran
+  pub turn_2 : (old new : Held S) (r : Result (Unit {0}) Error) → RunInTurn g (Some 0) 1014 rest_2 old new r → Turns 1013 piece_2 rest_3 old new r
+  turn_2 old new r ran = peel_turn 1013 32 (codes "CREATE TABLE calibration (n INTEGER PRIMARY KEY, reading INTEGER NOT NULL, offset_us INTEGER NOT NULL, uncertainty INTEGER NOT NULL) STRICT; CREATE TABLE hold (n INTEGER PRIMARY KEY, from_us INTEGER NOT NULL, to_us INTEGER NOT NULL) STRICT; CREATE TABLE deposit (serial INTEGER PRIMARY KEY REFERENCES stamp (serial), owner TEXT NOT NULL, reference TEXT NOT NULL, bytes BLOB NOT NULL, UNIQUE (owner, reference)) STRICT; CREATE TABLE reader (serial INTEGER NOT NULL REFERENCES deposit (serial), account TEXT NOT NULL, PRIMARY KEY (serial, account)) STRICT; CREATE TABLE tally (account TEXT NOT NULL, day INTEGER NOT NULL, count INTEGER NOT NULL, PRIMARY KEY (account, day)) STRICT; INSERT INTO meta (version) VALUES (1)") piece_2 rest_3 cut_2.0 cut_2.1 old new r ran
 
-  turn_3 : (old new : Held S) → RunInTurn g (Some 0) 1013 rest_3 old new (Ok tt) → (mid : Held S) × Ran piece_3 old mid × RunInTurn g (Some 0) 1012 rest_4 mid new (Ok tt)
-  turn_3 old new ran = peel_turn 1012 32 (codes "CREATE TABLE hold (n INTEGER PRIMARY KEY, from_us INTEGER NOT NULL, to_us INTEGER NOT NULL) STRICT; CREATE TABLE deposit (serial INTEGER PRIMARY KEY REFERENCES stamp (serial), owner TEXT NOT NULL, reference TEXT NOT NULL, bytes BLOB NOT NULL, UNIQUE (owner, reference)) STRICT; CREATE TABLE reader (serial INTEGER NOT NULL REFERENCES deposit (serial), account TEXT NOT NULL, PRIMARY KEY (serial, account)) STRICT; CREATE TABLE tally (account TEXT NOT NULL, day INTEGER NOT NULL, count INTEGER NOT NULL, PRIMARY KEY (account, day)) STRICT; INSERT INTO meta (version) VALUES (1)") piece_3 rest_4 cut_3.0 cut_3.1 old new ran
+  pub turn_3 : (old new : Held S) (r : Result (Unit {0}) Error) → RunInTurn g (Some 0) 1013 rest_3 old new r → Turns 1012 piece_3 rest_4 old new r
+  turn_3 old new r ran = peel_turn 1012 32 (codes "CREATE TABLE hold (n INTEGER PRIMARY KEY, from_us INTEGER NOT NULL, to_us INTEGER NOT NULL) STRICT; CREATE TABLE deposit (serial INTEGER PRIMARY KEY REFERENCES stamp (serial), owner TEXT NOT NULL, reference TEXT NOT NULL, bytes BLOB NOT NULL, UNIQUE (owner, reference)) STRICT; CREATE TABLE reader (serial INTEGER NOT NULL REFERENCES deposit (serial), account TEXT NOT NULL, PRIMARY KEY (serial, account)) STRICT; CREATE TABLE tally (account TEXT NOT NULL, day INTEGER NOT NULL, count INTEGER NOT NULL, PRIMARY KEY (account, day)) STRICT; INSERT INTO meta (version) VALUES (1)") piece_3 rest_4 cut_3.0 cut_3.1 old new r ran
 
-  turn_4 : (old new : Held S) → RunInTurn g (Some 0) 1012 rest_4 old new (Ok tt) → (mid : Held S) × Ran piece_4 old mid × RunInTurn g (Some 0) 1011 rest_5 mid new (Ok tt)
-  turn_4 old new ran = peel_turn 1011 32 (codes "CREATE TABLE deposit (serial INTEGER PRIMARY KEY REFERENCES stamp (serial), owner TEXT NOT NULL, reference TEXT NOT NULL, bytes BLOB NOT NULL, UNIQUE (owner, reference)) STRICT; CREATE TABLE reader (serial INTEGER NOT NULL REFERENCES deposit (serial), account TEXT NOT NULL, PRIMARY KEY (serial, account)) STRICT; CREATE TABLE tally (account TEXT NOT NULL, day INTEGER NOT NULL, count INTEGER NOT NULL, PRIMARY KEY (account, day)) STRICT; INSERT INTO meta (version) VALUES (1)") piece_4 rest_5 cut_4.0 cut_4.1 old new ran
+  pub turn_4 : (old new : Held S) (r : Result (Unit {0}) Error) → RunInTurn g (Some 0) 1012 rest_4 old new r → Turns 1011 piece_4 rest_5 old new r
+  turn_4 old new r ran = peel_turn 1011 32 (codes "CREATE TABLE deposit (serial INTEGER PRIMARY KEY REFERENCES stamp (serial), owner TEXT NOT NULL, reference TEXT NOT NULL, bytes BLOB NOT NULL, UNIQUE (owner, reference)) STRICT; CREATE TABLE reader (serial INTEGER NOT NULL REFERENCES deposit (serial), account TEXT NOT NULL, PRIMARY KEY (serial, account)) STRICT; CREATE TABLE tally (account TEXT NOT NULL, day INTEGER NOT NULL, count INTEGER NOT NULL, PRIMARY KEY (account, day)) STRICT; INSERT INTO meta (version) VALUES (1)") piece_4 rest_5 cut_4.0 cut_4.1 old new r ran
 
-  turn_5 : (old new : Held S) → RunInTurn g (Some 0) 1011 rest_5 old new (Ok tt) → (mid : Held S) × Ran piece_5 old mid × RunInTurn g (Some 0) 1010 rest_6 mid new (Ok tt)
-  turn_5 old new ran = peel_turn 1010 32 (codes "CREATE TABLE reader (serial INTEGER NOT NULL REFERENCES deposit (serial), account TEXT NOT NULL, PRIMARY KEY (serial, account)) STRICT; CREATE TABLE tally (account TEXT NOT NULL, day INTEGER NOT NULL, count INTEGER NOT NULL, PRIMARY KEY (account, day)) STRICT; INSERT INTO meta (version) VALUES (1)") piece_5 rest_6 cut_5.0 cut_5.1 old new ran
+  pub turn_5 : (old new : Held S) (r : Result (Unit {0}) Error) → RunInTurn g (Some 0) 1011 rest_5 old new r → Turns 1010 piece_5 rest_6 old new r
+  turn_5 old new r ran = peel_turn 1010 32 (codes "CREATE TABLE reader (serial INTEGER NOT NULL REFERENCES deposit (serial), account TEXT NOT NULL, PRIMARY KEY (serial, account)) STRICT; CREATE TABLE tally (account TEXT NOT NULL, day INTEGER NOT NULL, count INTEGER NOT NULL, PRIMARY KEY (account, day)) STRICT; INSERT INTO meta (version) VALUES (1)") piece_5 rest_6 cut_5.0 cut_5.1 old new r ran
 
-  turn_6 : (old new : Held S) → RunInTurn g (Some 0) 1010 rest_6 old new (Ok tt) → (mid : Held S) × Ran piece_6 old mid × RunInTurn g (Some 0) 1009 rest_7 mid new (Ok tt)
-  turn_6 old new ran = peel_turn 1009 32 (codes "CREATE TABLE tally (account TEXT NOT NULL, day INTEGER NOT NULL, count INTEGER NOT NULL, PRIMARY KEY (account, day)) STRICT; INSERT INTO meta (version) VALUES (1)") piece_6 rest_7 cut_6.0 cut_6.1 old new ran
+  pub turn_6 : (old new : Held S) (r : Result (Unit {0}) Error) → RunInTurn g (Some 0) 1010 rest_6 old new r → Turns 1009 piece_6 rest_7 old new r
+  turn_6 old new r ran = peel_turn 1009 32 (codes "CREATE TABLE tally (account TEXT NOT NULL, day INTEGER NOT NULL, count INTEGER NOT NULL, PRIMARY KEY (account, day)) STRICT; INSERT INTO meta (version) VALUES (1)") piece_6 rest_7 cut_6.0 cut_6.1 old new r ran
 
-  turn_7 : (old new : Held S) → RunInTurn g (Some 0) 1009 rest_7 old new (Ok tt) → (mid : Held S) × Ran piece_7 old mid × RunInTurn g (Some 0) 1008 rest_8 mid new (Ok tt)
-  turn_7 old new ran = peel_turn 1008 32 (codes "INSERT INTO meta (version) VALUES (1)") piece_7 rest_8 cut_7.0 cut_7.1 old new ran
+  pub turn_7 : (old new : Held S) (r : Result (Unit {0}) Error) → RunInTurn g (Some 0) 1009 rest_7 old new r → Turns 1008 piece_7 rest_8 old new r
+  turn_7 old new r ran = peel_turn 1008 32 (codes "INSERT INTO meta (version) VALUES (1)") piece_7 rest_8 cut_7.0 cut_7.1 old new r ran
 
-  begun : (old new : Held S) → ExecutesAllInside g 0 make_all old new (Ok tt) → RunInTurn g (Some 0) 1016 rest_0 old new (Ok tt)
+  pub begun : (old new : Held S) (r : Result (Unit {0}) Error) → ExecutesAllInside g 0 make_all old new r → RunInTurn g (Some 0) 1016 rest_0 old new r
   unfolding ExecutesAllInside
-  begun old new ran = ran
+  begun old new r ran = ran
 
   in_turn : (old new : Held S) → ExecutesAllInside g 0 make_all old new (Ok tt)
       → (a : Held S) × (b : Held S) × (c : Held S) × (d : Held S) × (e : Held S) × (f : Held S) × (h : Held S) × (i : Held S)
       × Ran piece_0 old a × Ran piece_1 a b × Ran piece_2 b c × Ran piece_3 c d × Ran piece_4 d e × Ran piece_5 e f × Ran piece_6 f h × Ran piece_7 h i × (new ≡ i)
   in_turn old new ran =
-      let a = turn_0 old new (begun old new ran) in
-      let b = turn_1 a.0 new a.2 in
-      let c = turn_2 b.0 new b.2 in
-      let d = turn_3 c.0 new c.2 in
-      let e = turn_4 d.0 new d.2 in
-      let f = turn_5 e.0 new e.2 in
-      let h = turn_6 f.0 new f.2 in
-      let i = turn_7 h.0 new h.2 in
+      let a = on (turn_0 old new (Ok tt) (begun old new (Ok tt) ran)) in
+      let b = on (turn_1 a.0 new (Ok tt) a.2) in
+      let c = on (turn_2 b.0 new (Ok tt) b.2) in
+      let d = on (turn_3 c.0 new (Ok tt) c.2) in
+      let e = on (turn_4 d.0 new (Ok tt) d.2) in
+      let f = on (turn_5 e.0 new (Ok tt) e.2) in
+      let h = on (turn_6 f.0 new (Ok tt) f.2) in
+      let i = on (turn_7 h.0 new (Ok tt) h.2) in
       (a.0, b.0, c.0, d.0, e.0, f.0, h.0, i.0, a.1, b.1, c.1, d.1, e.1, f.1, h.1, i.1, i.2.1)
 
 version_news : (db : Trees) → (edit_of db (placed 0 meta) [] Chosen 0 (value_rows [] 2 1 version_terms)).news ≡ (Int (next_rowid (db 0)) ∷ version_cells 1) ∷ []

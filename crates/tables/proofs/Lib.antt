@@ -16,6 +16,7 @@ mod OpenLemmas
 mod QueryLemmas
 mod ReadLemmas
 mod ReaderLookups
+mod RefusalLemmas
 mod RowLemmas
 mod SealLemmas
 mod StampLookups

@@ -1,11 +1,17 @@
 -- When a connection's tables are taken for ours.
-use Rattle.std.specs.Prelude.{◌≡◌, ℕ, List, codes, Result, Ok, Err, ⊤, IsTrue}
+use Rattle.std.specs.Prelude.{◌≡◌, ℕ, pos, Bool, true, false, List, [], ◌∷◌, codes, Result, Ok, Err, ⊤, IsTrue}
+use Rattle.sqlite_value.specs.declared.value.Value.TheVariants.{Int}
+use Rattle.sqlite_value.specs.Order.{Row, column}
 use Rattle.sqlite_resolve.specs.declared.compiled.Compiled.{Compiled}
 use Rattle.sqlite_resolve.specs.declared.error.CompileError.{CompileError}
+use Rattle.sqlite.specs.Listing.{understood}
 use Rattle.sqlite.specs.State.{State}
 use Rattle.sqlite.specs.declared.error.Error.{Error}
+use Rattle.sqlite.specs.declared.error.Error.TheVariants.{SqliteFailure, SqlInputError}
+use Rattle.sqlite.specs.declared.error.ErrorCode.TheVariants.{NameTaken}
+use Rattle.tables.specs.Asking.{TellsRows}
 use Rattle.tables.specs.Carrying.{CommitsFrom}
-use Rattle.tables.specs.Schema.{no_schema}
+use Rattle.tables.specs.Schema.{no_schema, the_schema}
 use Rattle.tables.specs.Tables.{Tables, no_rows}
 use Rattle.tables.specs.Holding.{IsDatabaseOf}
 
@@ -24,6 +30,21 @@ IsUnderstood (Err e) = ⊥
 abbrev pub IsFound : Tables → State → Type 0
 IsFound t s = IsDatabaseOf t s.now × (s.now ≡ s.committed)
 
+-- the rows of an answer are one, with version 1
+abbrev pub IsVersionOne : List Row → Type 0
+IsVersionOne rows = (row : Row) × (rows ≡ row ∷ []) × (column row 0 ≡ Int (pos 1))
+
+-- What a connection must show to be taken: all tables and columns are known, and where the schema is ours, `meta` answers version 1 alone.
+pub record LooksOurs (s : State) : Type 0 where
+  pub columns : IsUnderstood (understood s.now.schema all_columns)
+  pub version : s.now ≡ s.committed → s.now.schema ≡ the_schema → (rows : List Row) × TellsRows version_query [] s.now.trees rows × IsVersionOne rows
+
 -- all tables are made, with no row but that of `meta`, or nothing is
 abbrev pub Creates : State → State → Result (Unit {0}) Error → Type 0
 Creates old new = CommitsFrom (λ _ d. d.schema ≡ no_schema) (IsTrue old.is_open) (λ _. no_rows) old new
+
+-- the error of a statement that makes what is there, or that isn't understood
+abbrev pub tells_taken : Error → Bool
+tells_taken (SqliteFailure NameTaken) = true
+tells_taken (SqlInputError f) = true
+tells_taken _ = false

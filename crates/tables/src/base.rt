@@ -1,11 +1,11 @@
 //! A connection to the tables' database, with the count of its faults.
 
-ghost use Rattle.std.specs.Prelude.{◌≡◌, ◌≢◌, ◌⊎◌, false, Ok, Err, IfOk, IfErr, OnOk, OnErr};
+ghost use Rattle.std.specs.Prelude.{◌≡◌, ◌≢◌, ◌⊎◌, true, false, Ok, Err, IfOk, IfErr, OnOk, OnErr};
 ghost use Rattle.sqlite.specs.Held.{state};
 ghost use Rattle.sqlite.specs.State.{HasCleanDisk};
 ghost use Rattle.tables.specs.Asking.{Looks};
-ghost use Rattle.tables.specs.Opening.{IsFound, Creates};
-ghost use Rattle.tables.specs.Schema.{no_schema};
+ghost use Rattle.tables.specs.Opening.{IsFound, LooksOurs, Creates, tells_taken};
+ghost use Rattle.tables.specs.Schema.{no_schema, the_schema};
 ghost use Rattle.sqlite_trees.specs.Tree.{Trees};
 ghost use Rattle.tables.specs.Tables.{Tables, no_rows};
 ghost use Rattle.tables.specs.Base.{IsHonest, IsOpen, Keeps, Recovers, Holds};
@@ -42,7 +42,9 @@ impl<S: Alter + Drop> Model for Base<S> {
     ghost invariant = { λ b. b.conn.in_transaction ≡ false };
 }
 
-fn create_fault(error: Error) -> OpenFault {
+fn create_fault(error: Error) -> OpenFault
+    ensures { result ≡ OpenFault.NotOurs → tells_taken error ≡ true }
+{
     match error {
         Error::SqliteFailure(ErrorCode::OutOfMemory) => OpenFault::Memory,
         Error::SqliteFailure(ErrorCode::NameTaken) | Error::SqlInputError(_) => OpenFault::NotOurs,
@@ -64,9 +66,11 @@ impl<S: Alter + Drop> Base<S> {
     pub fn create(mut conn: Connection<S>) -> Result<Base<S>, (OpenFault, Connection<S>)>
         requires { conn.in_transaction ≡ false }
         ensures made { IfOk result (λ base. Creates (state S.Store conn) (state S.Store base.conn) (Ok tt)) }
+        ensures fresh { IfOk result (λ base. HasCleanDisk (state S.Store base.conn) → (state S.Store conn).now.schema ≢ the_schema) }
         ensures keeps { IfOk result (λ base. (state S.Store conn).now.schema ≡ no_schema → Keeps S.Store no_rows base) }
         ensures uncounted { IfOk result (λ base. base.faults ≡ 0) }
         ensures undone { IfErr result (λ e. (error : _) × Creates (state S.Store conn) (state S.Store e.1) (Err error)) }
+        ensures not_ours { IfErr result (λ e. e.0 ≡ OpenFault.NotOurs → HasCleanDisk (state S.Store e.1) → (state S.Store conn).now.schema ≢ no_schema) }
         ensures closed { IfErr result (λ e. e.1.in_transaction ≡ false) }
     {
         match make_tables(&mut conn) {
@@ -80,6 +84,7 @@ impl<S: Alter + Drop> Base<S> {
         requires { conn.in_transaction ≡ false }
         ensures looks { IfOk result (λ base. Looks (state S.Store conn) (state S.Store base.conn)) }
         ensures keeps { IfOk result (λ base. (t : Tables) → IsFound t (state S.Store conn) → Keeps S.Store t base) }
+        ensures ours { IfOk result (λ base. HasCleanDisk (state S.Store base.conn) → LooksOurs (state S.Store conn)) }
         ensures uncounted { IfOk result (λ base. base.faults ≡ 0) }
         ensures unchanged { IfErr result (λ e. Looks (state S.Store conn) (state S.Store e.1)) }
         ensures not_ours { IfErr result (λ e. e.0 ≡ OpenFault.NotOurs → HasCleanDisk (state S.Store e.1) → (t : Tables) → ¬ IsFound t (state S.Store conn)) }
@@ -127,12 +132,14 @@ impl<S: Alter + Drop> Base<S> {
     pub fn faults(&self) -> u64
         ensures { result ≡ self.now.faults }
     {
-        self.faults
+        let Base { conn: _, faults } = self;
+        *faults
     }
 
     /// The connection.
     pub fn into_connection(self) -> Connection<S>
-        ensures { result ≡ self.conn }
+        ensures same { result ≡ self.conn }
+        ensures closed { result.in_transaction ≡ false }
     {
         let Base { conn, faults: _ } = self;
         conn

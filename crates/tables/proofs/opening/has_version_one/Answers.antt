@@ -1,4 +1,5 @@
-use Rattle.std.proofs.Common.{◌∙◌}
+use Rattle.std.proofs.Common.{◌∙◌, sym, subst}
+use Rattle.tables.specs.Opening.{IsVersionOne}
 use Rattle.tables.proofs.OpenLemmas.{version_text, version_row}
 use Rattle.tables.proofs.opening.has_version_one.Goals as goal
 
@@ -6,4 +7,8 @@ pub rows_of-requires-clause-text : goal.rows_of-requires-clause-text
 rows_of-requires-clause-text g c = version_text
 
 pub returns-clause-ours : goal.returns-clause-ours
-returns-clause-ours g c clean t d = c.is_version_one.ensures (c.as_slice.ensures.value ∙ version_row t _ _ _ d (c.in_ok-rows.ensures.told clean d.schema))
+returns-clause-ours g c clean t d = c.is_version_one.ensures.ours (c.as_slice.ensures.value ∙ version_row t _ _ _ d (c.in_ok-rows.ensures.told clean d.schema))
+
+pub returns-clause-one : goal.returns-clause-one
+returns-clause-one g c clean has is_true =
+    (c.in_ok-rows.rows.items, c.in_ok-rows.ensures.told clean has, subst IsVersionOne c.as_slice.ensures.value (c.is_version_one.ensures.one is_true))
