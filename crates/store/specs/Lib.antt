@@ -1,5 +1,6 @@
 pub mod Fault
 pub mod History
+pub mod Opening
 pub mod Rights
 pub mod Sound
 pub mod Stands

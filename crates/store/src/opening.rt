@@ -1,11 +1,14 @@
 //! How a store is made, opened and closed.
-ghost use Rattle.std.specs.Prelude.{◌≡◌, ◌⊎◌, ℕ, [], false, Ok, Err, IfOk, IfErr};
+ghost use Rattle.std.specs.Prelude.{◌≡◌, ◌≢◌, ◌⊎◌, ℕ, [], false, Ok, Err, IfOk, IfErr};
+ghost use Rattle.sqlite_wal.specs.Files.{image_at};
+ghost use Rattle.sqlite.specs.Files.{file_state};
 ghost use Rattle.sqlite.specs.Held.{state};
 ghost use Rattle.sqlite.specs.State.{HasCleanDisk};
 ghost use Rattle.tables.specs.Asking.{Looks};
-ghost use Rattle.tables.specs.Opening.{IsFound, Creates};
-ghost use Rattle.tables.specs.Schema.{no_schema};
+ghost use Rattle.tables.specs.Opening.{IsFound, LooksOurs, Creates};
+ghost use Rattle.tables.specs.Schema.{no_schema, the_schema};
 ghost use Rattle.store.specs.History.{History};
+ghost use Rattle.store.specs.Opening.{OpensFound};
 ghost use Rattle.store.specs.Sound.{IsSound};
 ghost use Rattle.store.specs.Stands.{Stands};
 ghost use Rattle.store.specs.TablesOf.{tables_of};
@@ -26,7 +29,9 @@ impl<S: Alter + Drop> Store<S> {
     ) -> Result<Store<S>, (StoreFault, Connection<S>)>
         requires { conn.in_transaction ≡ false }
         ensures stands { IfOk result (λ store. (state S.Store conn).now.schema ≡ no_schema → Stands S.Store [] store) }
+        ensures fresh { IfOk result (λ store. HasCleanDisk (state S.Store store.conn) → (state S.Store conn).now.schema ≢ the_schema) }
         ensures made { IfOk result (λ store. Creates (state S.Store conn) (state S.Store store.conn) (Ok tt)) }
+        ensures not_ours { IfErr result (λ e. e.0 ≡ StoreFault.NotOurs → HasCleanDisk (state S.Store e.1) → (state S.Store conn).now.schema ≢ no_schema) }
         ensures undone { IfErr result (λ e. (error : _) × Creates (state S.Store conn) (state S.Store e.1) (Err error)) }
         ensures closed { IfErr result (λ e. e.1.in_transaction ≡ false) }
         ensures uncounted { IfOk result (λ store. store.faults ≡ 0) }
@@ -47,6 +52,7 @@ impl<S: Alter + Drop> Store<S> {
     ) -> Result<Store<S>, (StoreFault, Connection<S>)>
         requires { conn.in_transaction ≡ false }
         ensures stands { IfOk result (λ store. (b : History) → IsSound b → IsFound (tables_of b) (state S.Store conn) → Stands S.Store b store) }
+        ensures ours { IfOk result (λ store. HasCleanDisk (state S.Store store.conn) → LooksOurs (state S.Store conn)) }
         ensures looks { IfOk result (λ store. Looks (state S.Store conn) (state S.Store store.conn)) }
         ensures unchanged { IfErr result (λ e. Looks (state S.Store conn) (state S.Store e.1)) }
         ensures not_ours { IfErr result (λ e. e.0 ≡ StoreFault.NotOurs → HasCleanDisk (state S.Store e.1)
@@ -76,15 +82,18 @@ impl<D: Disk + Drop> Store<FileStore<D>> {
 }
 
 impl<T: Start + Drop> Store<FileStore<FileFrom<T>>> {
-    /// Opens the files at a path. Refused with `Memory`, with `Database` where they can't be opened, and with `NotOurs` as `adopt`.
+    /// Opens the files at a path, and makes them where none stand, which is `NotOurs` then. Refused with `Memory`, with `Database` where
+    /// they can't be opened, and with `NotOurs` as `adopt`.
     pub fn open(
         rt: &HostRuntime,
         path: &str,
         start: T,
     ) -> Result<Store<FileStore<FileFrom<T>>>, StoreFault>
-        ensures { IfErr result (λ e. (e ≡ StoreFault.Memory) ⊎ ((e ≡ StoreFault.Database) ⊎ (e ≡ StoreFault.NotOurs))) }
+        ensures found { IfOk result (λ store. HasCleanDisk (file_state store.conn) → OpensFound (image_at T.Start) store) }
+        ensures uncounted { IfOk result (λ store. store.faults ≡ 0) }
+        ensures refusals { IfErr result (λ e. (e ≡ StoreFault.Memory) ⊎ ((e ≡ StoreFault.Database) ⊎ (e ≡ StoreFault.NotOurs))) }
     {
-        let conn = match Connection::open_from(rt, path, true, start) {
+        let conn = match Connection::open_from(rt, path, false, start) {
             Ok(conn) => conn,
             Err((error, _left)) => return Err(closing_fault(error)),
         };

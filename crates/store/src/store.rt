@@ -1,5 +1,5 @@
 //! The store: each change of the history is one commit, each look-up answers a view of it.
-ghost use Rattle.std.specs.Prelude.{◌≡◌, ◌⊎◌, ℕ, ◌∷◌, Err, IfOk, IfErr, IsErr, OnOk, OnErr, MatchResult, ◌↔◌, ◌<◌, ◌^◌, IsTrue, option_map};
+ghost use Rattle.std.specs.Prelude.{◌≡◌, ◌⊎◌, ℕ, ◌∷◌, Err, IfOk, IfErr, IsErr, OnOk, OnErr, MatchResult, ◌↔◌, ◌<◌, ◌^◌, false, IsTrue, option_map};
 ghost use Rattle.std.specs.Option.{ForSome};
 ghost use Rattle.sqlite_trees.specs.Tree.{Trees};
 ghost use Rattle.tables.specs.Base.{IsHonest, IsOpen, Recovers};
@@ -211,7 +211,8 @@ impl<S: Alter + Drop> Store<S> {
 
     /// The connection. Takes no memory.
     pub fn into_connection(self) -> Connection<S>
-        ensures { result ≡ self.conn }
+        ensures same { result ≡ self.conn }
+        ensures closed { result.in_transaction ≡ false }
     {
         self.base.into_connection()
     }

@@ -1,0 +1,24 @@
+-- What the store at a path stands for once it is opened.
+use Rattle.std.specs.Prelude.{List}
+use Rattle.sqlite_disk.specs.declared.Disk.{Ghosts}
+use Rattle.sqlite_wal.specs.Recovery.{Image}
+use Rattle.sqlite_store.specs.declared.store.FileStore.{FileStore}
+use Rattle.sqlite.specs.Files.{file_state, over_files, IsOpened}
+use Rattle.sqlite.specs.Held.{Held}
+use Rattle.sqlite.specs.Start.{FindsIn}
+use Rattle.tables.specs.Asking.{Looks}
+use Rattle.tables.specs.Base.{BaseValue}
+use Rattle.tables.specs.Opening.{IsFound, LooksOurs}
+use Rattle.store.specs.History.{History}
+use Rattle.store.specs.Sound.{IsSound}
+use Rattle.store.specs.Stands.{Stands}
+use Rattle.store.specs.TablesOf.{tables_of}
+
+-- a connection was opened over what the files held, and the store stands for each sound history whose tables it found there
+pub record OpensFound {D : Type 0} {g : Ghosts D} (held : Image) (store : BaseValue (FileStore D g)) : Type 0 where
+  pub was : Held (FileStore D g)
+  pub opened : IsOpened was
+  pub found : FindsIn held (file_state was)
+  pub ours : LooksOurs (file_state was)
+  pub looks : Looks (file_state was) (file_state store.conn)
+  pub stands : (b : History) → IsSound b → IsFound (tables_of b) (file_state was) → Stands over_files b store
