@@ -111,14 +111,66 @@ fn asks_over_frames(rt: HostRuntime) -> Result<(), Fail> {
     let mut written = Vec::new(alloc);
     let algorithm = Algorithm::from_bytes(alloc, PRIVATE)?;
     let mut signer = FramedSigner::new(alloc, &mut reader, &mut written, algorithm);
-    assert_eq!(rt; signer.sign(TEXT)?.as_slice(), SIGNATURE);
+    let signature = signer.sign(TEXT)?;
+    assert_eq!(rt; signature.as_slice(), SIGNATURE);
     assert_eq!(rt; signer.faults(), 0);
     assert_eq!(rt; signer.algorithm().as_slice(), PRIVATE);
+    let identity = Identity::from_certificate(alloc, PLAIN)?;
+    let made = token(alloc, &identity, signer.algorithm(), TST, &signature, false)?;
+    assert_eq!(rt; made.as_slice(), TOKEN);
     drop(signer);
     assert_eq!(rt; reader, [0xff].as_slice());
     assert_eq!(rt; written.len(), 141);
     assert!(rt; written.starts_with(b"\x00\x00\x00\x89\x31\x81\x86"));
     assert!(rt; written.ends_with(TEXT));
+    Ok(())
+}
+
+// To be run with each allocation refused in turn too. A call that tells of memory, made once more, gives the whole answer: it
+// has left all as it was.
+#[test]
+fn tells_of_memory_and_stays_usable(rt: HostRuntime) -> Result<(), Fail> {
+    let alloc = rt.alloc();
+    let identity = match Identity::from_certificate(alloc, PLAIN) {
+        Err(CmsFault::Memory) => Identity::from_certificate(alloc, PLAIN)?,
+        answer => answer?,
+    };
+    assert_eq!(rt; identity.certificate(), PLAIN);
+    let text = match attribute_text(alloc, &identity, TST) {
+        Err(CmsFault::Memory) => attribute_text(alloc, &identity, TST)?,
+        answer => answer?,
+    };
+    assert_eq!(rt; text.as_slice(), TEXT);
+    let mut holder = match KeyedHash::new(alloc, b"k") {
+        Err(CmsFault::Memory) => KeyedHash::new(alloc, b"k")?,
+        answer => answer?,
+    };
+    let signature = match holder.sign(&text) {
+        Err(SignerFault::Memory) => holder.sign(&text)?,
+        answer => answer?,
+    };
+    assert_eq!(rt; signature.as_slice(), SIGNATURE);
+    let algorithm = match Algorithm::from_bytes(alloc, PRIVATE) {
+        Err(CmsFault::Memory) => Algorithm::from_bytes(alloc, PRIVATE)?,
+        answer => answer?,
+    };
+    let token_of = match token(alloc, &identity, &algorithm, TST, &signature, true) {
+        Err(CmsFault::Memory) => token(alloc, &identity, &algorithm, TST, &signature, true)?,
+        answer => answer?,
+    };
+    assert_eq!(rt; token_of.as_slice(), TOKEN_WITH);
+    let mut reader = b"\x00\x00\x00\x03sig".as_slice();
+    let mut written = [0; 7];
+    let mut writer = written.as_mut_slice();
+    let mut signer = FramedSigner::new(alloc, &mut reader, &mut writer, algorithm);
+    let answer = match signer.sign(b"abc") {
+        Err(SignerFault::Memory) => signer.sign(b"abc")?,
+        answer => answer?,
+    };
+    assert_eq!(rt; answer.as_slice(), b"sig".as_slice());
+    assert_eq!(rt; signer.faults(), 0);
+    drop(signer);
+    assert_eq!(rt; written.as_slice(), b"\x00\x00\x00\x03abc".as_slice());
     Ok(())
 }
 
