@@ -1,4 +1,5 @@
 mod Rows
+pub mod Alike
 pub mod Calls
 pub mod DepositAnswers
 pub mod DepositRows

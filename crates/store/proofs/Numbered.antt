@@ -26,7 +26,7 @@ numbers_below row key is (x ∷ xs) n l =
     let here = is x (length xs + 1) in
     (omega (arith, here, l), numbers_below row key is xs n (omega (arith, l)))
 
-numbers_fall : {X Y : Type 0} (row : X → ℕ → Y) (key : Y → ℕ) → ((x : X) (n : ℕ) → key (row x n) ≡ n) → (xs : List X) → IsFalling key (numbered row xs)
+pub numbers_fall : {X Y : Type 0} (row : X → ℕ → Y) (key : Y → ℕ) → ((x : X) (n : ℕ) → key (row x n) ≡ n) → (xs : List X) → IsFalling key (numbered row xs)
 numbers_fall row key is [] = tt
 numbers_fall {X} {Y} row key is (x ∷ xs) =
     let P : ℕ → Type 0 = λ n. AllByRecursion (λ y. key y < n) (numbered row xs) in

@@ -1,3 +1,4 @@
+pub mod Alike
 pub mod Fault
 pub mod History
 pub mod Opening

@@ -177,3 +177,9 @@ fn tables_are_made_once_and_adopted(rt: HostRuntime) -> Result<(), Fail> {
     assert!(rt; fault == StoreFault::NotOurs);
     Ok(())
 }
+
+#[test]
+fn laws_are_called(_rt: HostRuntime) {
+    equal_tables_tell_the_same();
+    serials_rise();
+}

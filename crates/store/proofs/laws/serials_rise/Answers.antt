@@ -1,0 +1,10 @@
+use Rattle.std.proofs.Common.{arith}
+use Rattle.store.specs.History.{reservations}
+use Rattle.store.proofs.Alike.{not_above}
+use Rattle.store.proofs.laws.serials_rise.Goals as goal
+
+pub returns-clause-greatest : goal.returns-clause-greatest
+returns-clause-greatest c b r m = not_above (reservations b) r m
+
+pub returns-clause-next : goal.returns-clause-next
+returns-clause-next c b new r fits m = let below = not_above (reservations b) r m in let rises = fits.rises in omega (arith, below, rises)
