@@ -10,7 +10,7 @@ mutual
     primitive : (identifier : ℕ) (contents : List ℕ) → Node
     constructed : (identifier : ℕ) (components : Nodes) → Node
 
-  -- values one after the other
+  -- values one after the other: a type of its own, since a type's own definition may not put it into a list
   pub data Nodes : Type 0 where
     no_nodes : Nodes
     node : Node → Nodes → Nodes
