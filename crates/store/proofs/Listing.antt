@@ -1,5 +1,5 @@
 -- A walk from one visible deposit to the next lists all of them, by number.
-use Rattle.std.proofs.Common.{◌≡◌, ℕ, zero, suc, ◌<◌, ◌≤◌, ◌+◌, ◌-◌, ◌==◌, ◌&&◌, ◌||◌, min, nat_lt, Bool, true, false, cond, List, [], ◌∷◌, ◌++◌, filter_map, find, Option, Some, None, option_map, option_and_then, option_to_list, refl, sym, ap, ◌∙◌, subst, inl, inr, ◌⊎◌, arith, add-one, Contains}
+use Rattle.std.proofs.Common.{◌≡◌, ℕ, zero, suc, ◌<◌, ◌≤◌, ◌+◌, ◌-◌, ◌==◌, ◌&&◌, ◌||◌, min, nat_lt, Bool, true, false, cond, List, [], ◌∷◌, ◌++◌, filter_map, find, Option, Some, None, option_map, option_and_then, option_to_list, refl, sym, ap, ◌∙◌, subst, inl, inr, ◌⊎◌, arith, Contains, IfSome}
 use Rattle.std.specs.Option.{is_some}
 use Rattle.std.specs.List.{list_any, range_with_len}
 use Rattle.std.specs.Str.{bytes_eq}
@@ -11,9 +11,10 @@ use Rattle.tables.specs.Queries.{ShowsDepositSerial, ShowsReaderSerial, is_owned
 use Rattle.store.specs.History.{History, ReservationValue, deposit_at, reservation_at, greatest_serial}
 use Rattle.store.specs.Rights.{ListedValue, listed_as, is_reader, shown_to, seen_by, is_visible, listed_at, listed}
 use Rattle.store.specs.Sound.{IsSound}
-use Rattle.store.specs.Steps.{IsNextSeen, least_of, later_of, listing_at}
+use Rattle.store.specs.Steps.{IsNextSeen, IsNextReadable, least_of, later_of, listing_at}
 use Rattle.store.specs.TablesOf.{tables_of}
 use Rattle.store.proofs.DepositRows.{visible_view, none_beyond}
+use Rattle.store.proofs.Readers.{readers_are}
 use Rattle.store.proofs.Members.{both_true, true_or_false, none_pass, some_pass}
 
 -- ---- the next row
@@ -88,18 +89,42 @@ seen_same : (p : ℕ → Bool) (b : History) (account : List ℕ) (after : ℕ) 
 seen_same p b account after None same next = λ n later. sym (same n) ∙ next n later
 seen_same p b account after (Some m) same next = (next.0, sym (same m) ∙ next.1, λ n later before. sym (same n) ∙ next.2 n later before)
 
+readable_same : (p : ℕ → Bool) (b : History) (account : List ℕ) (after : ℕ) (answer : Option ℕ) → ((n : ℕ) → p n ≡ is_reader n account b)
+    → IsNextOf p after answer → IsNextReadable account after b answer
+readable_same p b account after None same next = λ n later. sym (same n) ∙ next n later
+readable_same p b account after (Some m) same next = (next.0, sym (same m) ∙ next.1, λ n later before. sym (same n) ∙ next.2 n later before)
+
+same_readable : (p : ℕ → Bool) (b : History) (account : List ℕ) (after : ℕ) (answer : Option ℕ) → ((n : ℕ) → p n ≡ is_reader n account b)
+    → IsNextReadable account after b answer → IsNextOf p after answer
+same_readable p b account after None same next = λ n later. same n ∙ next n later
+same_readable p b account after (Some m) same next = (next.0, same m ∙ next.1, λ n later before. same n ∙ next.2 n later before)
+
+-- the next reader's row is the next deposit that the account reads
+pub readable_view : (b : History) (account : List ℕ) (after : ℕ) (readable : Option ℕ)
+    → IsLeastAs ShowsReaderSerial (λ row. row.serial) (is_readable_after account after) (tables_of b).readers readable
+    → IsNextReadable account after b readable
+readable_view b account after readable found =
+    let q : ℕ → Bool = λ n. list_any (is_reader_row n account) (tables_of b).readers in
+    let read : IsNextOf q after readable =
+    next_row (λ (row : ReaderRow). row.serial) (λ (row : ReaderRow). bytes_eq row.account account) (tables_of b).readers after readable found in
+    readable_same q b account after readable (λ n. readers_are b n account) read
+
+-- it stays so up to that deposit
+pub still_readable : (b : History) (account : List ℕ) (before after : ℕ) (readable : Option ℕ) → before < after → IfSome readable (λ n. after < n)
+    → IsNextReadable account before b readable → IsNextReadable account after b readable
+still_readable b account before after None less above next = λ n later. next n (omega (arith, less, later))
+still_readable b account before after (Some m) less above next = (above, next.1, λ n later within. next.2 n (omega (arith, less, later)) within)
+
 -- the lesser of the next that the account owns and the next that it reads is the next that it sees
 pub next_view : (b : History) (account : List ℕ) (after : ℕ) (owned readable : Option ℕ) → IsSound b
     → IsLeastAs ShowsDepositSerial (λ row. row.serial) (is_owned_after account after) (tables_of b).deposits owned
-    → IsLeastAs ShowsReaderSerial (λ row. row.serial) (is_readable_after account after) (tables_of b).readers readable
-    → IsNextSeen account after b (least_of owned readable)
+    → IsNextReadable account after b readable → IsNextSeen account after b (least_of owned readable)
 next_view b account after owned readable s first second =
     let p : ℕ → Bool = λ n. list_any (is_owned n account) (tables_of b).deposits in
     let q : ℕ → Bool = λ n. list_any (is_reader_row n account) (tables_of b).readers in
     let own : IsNextOf p after owned =
     next_row (λ (row : DepositRow). row.serial) (λ (row : DepositRow). bytes_eq row.owner account) (tables_of b).deposits after owned first in
-    let read : IsNextOf q after readable =
-    next_row (λ (row : ReaderRow). row.serial) (λ (row : ReaderRow). bytes_eq row.account account) (tables_of b).readers after readable second in
+    let read : IsNextOf q after readable = same_readable q b account after readable (λ n. readers_are b n account) second in
     seen_same (λ n. p n || q n) b account after (least_of owned readable) (λ n. visible_view b n account s) (least_next p q after owned readable own read)
 
 -- the next is after the last

@@ -4,7 +4,7 @@ use Rattle.tables.specs.declared.rows.LastStamp.{LastStamp}
 use Rattle.tables.specs.declared.rows.LatestCalibration.{LatestCalibration}
 use Rattle.tables.specs.declared.rows.Origin.{Origin}
 use Rattle.store.specs.History.{CalibrationValue, ReservationValue, History, deposit_at, reservation_at}
-use Rattle.store.specs.Rights.{ListedValue, listed_as, is_visible}
+use Rattle.store.specs.Rights.{ListedValue, listed_as, is_reader, is_visible}
 use Rattle.store.specs.Sound.{greatest_number}
 use Rattle.store.specs.declared.values.Last.{Last}
 
@@ -32,6 +32,12 @@ abbrev pub IsNextSeen : List ℕ → ℕ → History → Option ℕ → Type 0
 IsNextSeen account after b None = (number : ℕ) → after < number → is_visible account number b ≡ false
 IsNextSeen account after b (Some next) =
     (after < next) × (is_visible account next b ≡ true) × ((number : ℕ) → after < number → number < next → is_visible account number b ≡ false)
+
+-- the first deposit after a number that the account reads, if there is one
+abbrev pub IsNextReadable : List ℕ → ℕ → History → Option ℕ → Type 0
+IsNextReadable account after b None = (number : ℕ) → after < number → is_reader number account b ≡ false
+IsNextReadable account after b (Some next) =
+    (after < next) × (is_reader next account b ≡ true) × ((number : ℕ) → after < number → number < next → is_reader number account b ≡ false)
 
 -- the lesser of what is there
 abbrev pub least_of : Option ℕ → Option ℕ → Option ℕ

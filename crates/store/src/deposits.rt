@@ -1,5 +1,5 @@
 //! Deposits and rights: a deposit with its token, who may read it, and what an account sees.
-ghost use Rattle.std.specs.Prelude.{◌≡◌, ◌⊎◌, ◌∷◌, ◌<◌, ◌^◌, true, false, map, option_map, IfOk, IfErr, IfSome, OnOk, OnErr, MatchResult};
+ghost use Rattle.std.specs.Prelude.{◌≡◌, ◌⊎◌, ◌∷◌, ◌<◌, ◌^◌, true, false, map, option_map, IfOk, IfErr, IfSome, OnOk, OnErr, MatchResult, IsTrue, ℕ, ◌++◌, option_to_list};
 ghost use Rattle.tables.specs.Base.{IsHonest, IsOpen};
 ghost use Rattle.store.specs.History.{History, Deposited, Granted, Revoked, deposit_under};
 ghost use Rattle.store.specs.Rights.{is_reader, is_visible, listed, deposit_with_stamp};
@@ -7,7 +7,7 @@ ghost use Rattle.store.specs.Sound.{Fits};
 ghost use Rattle.store.specs.Stands.{Stands, OnlyLooks, LeavesOrAdds};
 ghost use Rattle.store.specs.Fault.{count_after};
 ghost use Rattle.store.specs.Values.{deposit_of, stamped_view, listed_view};
-ghost use Rattle.store.specs.Steps.{IsAskedFor, IsNextSeen, least_of, later_of, listing_at};
+ghost use Rattle.store.specs.Steps.{IsAskedFor, IsNextSeen, IsNextReadable, least_of, later_of, listing_at};
 ghost use Rattle.tables.specs.Queries.{deposit_view};
 
 use crate::fault::StoreFault;
@@ -163,20 +163,27 @@ impl<S: Alter + Drop> Store<S> {
     {
         let mut rows = Vec::new(self.alloc);
         let mut last = 0;
-        while let Some(number) = self.next_seen(account, last)? {
-            if let Some(row) = self.listing(number)? {
-                rows.push(row)?;
-            }
+        let mut readable = self.base.next_readable(account, 0)?;
+        while let Some(number) = self.next_seen(account, last, readable)? {
+            let row = self.listing(number)?;
+            add_listed(&mut rows, row)?;
+            readable = self.next_readable(account, number, readable)?;
             last = number;
         }
         Ok(rows)
     }
 
-    /// The first deposit after a number that the account sees.
-    fn next_seen(&mut self, account: &str, after: u64) -> Result<Option<u64>, StoreFault>
+    /// The first deposit after a number that the account sees, where the first one that it reads is known.
+    fn next_seen(
+        &mut self,
+        account: &str,
+        after: u64,
+        readable: Option<u64>,
+    ) -> Result<Option<u64>, StoreFault>
+        requires { IfSome readable (λ n. n < 2 ^ 63) }
         ensures looks { OnlyLooks S.Store self.old self.new }
         ensures opened { IsHonest S.Store self.new → OnOk result (IsOpen S.Store self.old) }
-        ensures value { IsHonest S.Store self.new → (b : History) → Stands S.Store b self.old
+        ensures value { IsHonest S.Store self.new → (b : History) → Stands S.Store b self.old → IsNextReadable account.now after b readable
             → IfOk result (λ next. IsNextSeen account.now after b next) }
         ensures rises { IfOk result (λ next. IfSome next (λ number. (after < number) × (number < 2 ^ 63))) }
         ensures refusals { IfErr result (λ e. (e ≡ StoreFault.Memory) ⊎ (e ≡ StoreFault.Database)) }
@@ -184,8 +191,31 @@ impl<S: Alter + Drop> Store<S> {
             (λ e. self.new.faults ≡ count_after e self.old.faults) }
     {
         let owned = self.base.next_owned(account, after)?;
-        let readable = self.base.next_readable(account, after)?;
         Ok(next_of(owned, readable, after))
+    }
+
+    /// The first deposit after a number that the account reads. The one that was found before is still the first where it is after the
+    /// number, so that a list goes through the rights once.
+    fn next_readable(
+        &mut self,
+        account: &str,
+        after: u64,
+        found: Option<u64>,
+    ) -> Result<Option<u64>, StoreFault>
+        requires { IfSome found (λ n. n < 2 ^ 63) }
+        ensures looks { OnlyLooks S.Store self.old self.new }
+        ensures value { IsHonest S.Store self.new → (b : History) → Stands S.Store b self.old → (before : ℕ) → before < after
+            → IsNextReadable account.now before b found → IfOk result (λ next. IsNextReadable account.now after b next) }
+        ensures small { IfOk result (λ next. IfSome next (λ n. n < 2 ^ 63)) }
+        ensures refusals { IfErr result (λ e. (e ≡ StoreFault.Memory) ⊎ (e ≡ StoreFault.Database)) }
+        ensures faults { MatchResult result (λ _. self.new.faults ≡ self.old.faults)
+            (λ e. self.new.faults ≡ count_after e self.old.faults) }
+    {
+        if is_after(found, after) {
+            return Ok(found);
+        }
+        let next = self.base.next_readable(account, after)?;
+        Ok(next)
     }
 
     /// What a list shows of a deposit.
@@ -237,4 +267,25 @@ fn next_of(owned: Option<u64>, readable: Option<u64>, after: u64) -> Option<u64>
         Some(n) if n > after => Some(n),
         _ => None,
     }
+}
+
+/// Whether there is none, or it is after a number.
+fn is_after(found: Option<u64>, after: u64) -> bool
+    ensures { IsTrue result → IfSome found (λ n. after < n) }
+{
+    match found {
+        Some(number) => number > after,
+        None => true,
+    }
+}
+
+/// Adds a row, if there is one.
+fn add_listed(rows: &mut Vec<Listed>, row: Option<Listed>) -> Result<(), StoreFault>
+    ensures added { OnOk result (map listed_view rows.new.items ≡ map listed_view rows.old.items ++ option_to_list (option_map listed_view row)) }
+    ensures memory { IfErr result (λ e. e ≡ StoreFault.Memory) }
+{
+    if let Some(row) = row {
+        rows.push(row)?;
+    }
+    Ok(())
 }

@@ -1,37 +1,42 @@
-use Rattle.std.proofs.Common.{◌≡◌, ◌∙◌, ap, sym, subst, map, option_map, None, Some}
+use Rattle.std.proofs.Common.{◌≡◌, ◌∙◌, ◌<◌, ◌^◌, IfSome, ap, sym, subst, map, option_map}
+use Rattle.tables.specs.Base.{IsOpen}
 use Rattle.store.specs.Steps.{IsNextSeen, listing_at}
 use Rattle.store.specs.Values.{listed_view}
-use Rattle.store.proofs.Walk.{HasListed, row_listed, pushed, none_added, whole_listed}
+use Rattle.store.proofs.Calls.{looks_now, kept_seen}
+use Rattle.store.proofs.Listing.{readable_view}
+use Rattle.store.proofs.Walk.{HasListed, nothing_listed, row_listed, whole_listed}
 use Rattle.store.proofs.store.Store.list.Goals as goal
 
-pub loop-rows-preserved-in_ok-push : goal.loop-rows-preserved-in_ok-push
-loop-rows-preserved-in_ok-push g c =
-    let is = c.in-Some.is in
-    let shown = c.in-Some-2.is in
-    let items = c.in_ok-push.ensures.items in
-    subst (λ rows. HasListed g.S.Store c.args.self.now c.listing.new.self c.args.account.now rows c.in-Some.number)
-    (sym (ap (map listed_view) items ∙ pushed c.loop-rows.rows.items c.in-Some-2.row))
-    (row_listed g.S.Store c.args.self.now c.loop-rows.self c.next_seen.new.self c.listing.new.self c.args.account.now _ _ _ (Some c.in-Some-2.row)
-    c.loop-rows.invariant c.in_ok-number.ensures.looks c.in_ok-row.ensures.looks c.in_ok-number.ensures.faults c.in_ok-row.ensures.faults
-    c.in_ok-number.ensures.opened
-    (λ h b s. subst (λ next. IsNextSeen c.args.account.now c.loop-rows.last b next) is (c.in_ok-number.ensures.value h b s))
-    (λ h b s. subst (λ row. option_map listed_view row ≡ listing_at c.in-Some.number b) shown (c.in_ok-row.ensures.value h b s)))
+pub returns-in_err-readable-clause-looks : goal.returns-in_err-readable-clause-looks
+returns-in_err-readable-clause-looks g c = looks_now g.S.Store _ _ _ c.self.view_is c.in_err-readable.ensures.reads
+
+pub loop-rows-init : goal.loop-rows-init
+loop-rows-init g c =
+    let found = c.in_ok-readable.ensures in
+    subst (λ items. HasListed g.S.Store c.args.self.now c.next_readable.new.self c.args.account.now (map listed_view items) 0 c.in_ok-readable.readable)
+    (sym c.new-rows.ensures.items)
+    (nothing_listed g.S.Store c.args.self.now c.next_readable.new.self c.args.account.now c.in_ok-readable.readable
+    (looks_now g.S.Store _ _ _ c.self.view_is c.in_ok-readable.ensures.reads)
+    (c.in_ok-readable.ensures.uncounted ∙ ap (λ v. v.faults) c.self.view_is)
+    (λ h. subst (λ v. IsOpen g.S.Store v) c.self.view_is (c.in_ok-readable.ensures.opened h))
+    (λ h b s. readable_view b _ _ _ (c.in_ok-readable.ensures.value h _ (kept_seen g.S.Store _ _ b c.self.view_is s)))
+    c.in_ok-readable.ensures.small)
 
 pub loop-rows-preserved : goal.loop-rows-preserved
 loop-rows-preserved g c =
     let is = c.in-Some.is in
-    let shown = c.in_default-2.is in
-    subst (λ rows. HasListed g.S.Store c.args.self.now c.listing.new.self c.args.account.now rows c.in-Some.number)
-    (none_added (map listed_view c.loop-rows.rows.items))
-    (row_listed g.S.Store c.args.self.now c.loop-rows.self c.next_seen.new.self c.listing.new.self c.args.account.now _ _ _ None
-    c.loop-rows.invariant c.in_ok-number.ensures.looks c.in_ok-row.ensures.looks c.in_ok-number.ensures.faults c.in_ok-row.ensures.faults
-    c.in_ok-number.ensures.opened
-    (λ h b s. subst (λ next. IsNextSeen c.args.account.now c.loop-rows.last b next) is (c.in_ok-number.ensures.value h b s))
-    (λ h b s. subst (λ row. option_map listed_view row ≡ listing_at c.in-Some.number b) shown (c.in_ok-row.ensures.value h b s)))
+    subst (λ rows. HasListed g.S.Store c.args.self.now c.next_readable-in-Some.new.self c.args.account.now rows c.in-Some.number c.in_ok-readable-2.readable)
+    (sym c.in_ok-add_listed.ensures.added)
+    (row_listed g.S.Store c.args.self.now c.loop-rows.self c.next_seen.new.self c.listing.new.self c.next_readable-in-Some.new.self c.args.account.now
+    _ _ _ _ _ c.in_ok-row.row c.loop-rows.invariant c.in_ok-number.ensures.looks c.in_ok-row.ensures.looks c.in_ok-readable-2.ensures.looks
+    c.in_ok-number.ensures.faults c.in_ok-row.ensures.faults c.in_ok-readable-2.ensures.faults c.in_ok-number.ensures.opened
+    (subst (λ next. IfSome next (λ number. (c.loop-rows.last < number) × (number < 2 ^ 63))) is c.in_ok-number.ensures.rises).0
+    (λ h b s ahead. subst (λ next. IsNextSeen c.args.account.now c.loop-rows.last b next) is (c.in_ok-number.ensures.value h b s ahead))
+    c.in_ok-row.ensures.value c.in_ok-readable-2.ensures.value c.in_ok-readable-2.ensures.small)
 
 pub returns-clause-value : goal.returns-clause-value
 returns-clause-value g c =
     let is = c.in_default.is in
-    whole_listed g.S.Store c.args.self.now c.loop-rows.self c.next_seen.new.self c.args.account.now _ _ c.loop-rows.invariant
+    whole_listed g.S.Store c.args.self.now c.loop-rows.self c.next_seen.new.self c.args.account.now _ _ _ c.loop-rows.invariant
     c.in_ok-number.ensures.looks
-    (λ h b s. subst (λ next. IsNextSeen c.args.account.now c.loop-rows.last b next) is (c.in_ok-number.ensures.value h b s))
+    (λ h b s ahead. subst (λ next. IsNextSeen c.args.account.now c.loop-rows.last b next) is (c.in_ok-number.ensures.value h b s ahead))

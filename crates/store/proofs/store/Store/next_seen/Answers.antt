@@ -8,10 +8,8 @@ pub returns-in_err-owned-clause-looks : goal.returns-in_err-owned-clause-looks
 returns-in_err-owned-clause-looks g c = looks_now g.S.Store _ _ _ c.self.view_is c.in_err-owned.ensures.reads
 
 pub returns-clause-value : goal.returns-clause-value
-returns-clause-value g c honest b s =
+returns-clause-value g c honest b s ahead =
     let kept = kept_seen g.S.Store _ _ b c.self.view_is s in
-    let looked = c.in_ok-owned.ensures.reads in
-    let owned = c.in_ok-owned.ensures.value (c.in_ok-readable.ensures.reads.honest honest) _ kept in
-    let readable = c.in_ok-readable.ensures.value honest _ (looked.kept _ kept) in
+    let owned = c.in_ok-owned.ensures.value honest _ kept in
     subst (λ next. IsNextSeen c.args.account.now c.args.after b next) (sym c.next_of.ensures.next)
-    (later_view b _ _ _ (next_view b _ _ _ _ s.sound owned readable))
+    (later_view b _ _ _ (next_view b _ _ _ _ s.sound owned ahead))
