@@ -242,7 +242,7 @@ same_least H one other f g (inr (inl below)) = absurd (f.fails (g.before one bel
 same_least H one other f g (inr (inr below)) = absurd (g.fails (f.before other below))
 
 -- there is one first rule that fails
-one_first : (H : Rule → Type 0) (one other : Rule) → IsFirstFailing H one → IsFirstFailing H other → one ≡ other
+pub one_first : (H : Rule → Type 0) (one other : Rule) → IsFirstFailing H one → IsFirstFailing H other → one ≡ other
 one_first H one other f g =
     sym (rule_of_number one) ∙ (ap rule_at (same_least H one other f g (compared (number_of one) (number_of other)))
     ∙ rule_of_number other)

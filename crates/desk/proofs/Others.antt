@@ -1,5 +1,5 @@
 -- What another account's command leaves of what an account may know.
-use Rattle.std.proofs.Common.{◌≡◌, ℕ, ◌<◌, ◌≤◌, ◌+◌, ◌==◌, ◌&&◌, ◌||◌, ◌⊎◌, max, nat_le, cond, ℤ, Bool, true, false, List, [], ◌∷◌, ◌++◌, length, Option, Some, None, refl, sym, ◌∙◌, ap, subst, inl, inr, arith}
+use Rattle.std.proofs.Common.{◌≡◌, ℕ, ◌<◌, ◌≤◌, ◌==◌, ◌&&◌, ◌||◌, nat_le, cond, ℤ, Bool, true, false, List, [], ◌∷◌, ◌++◌, length, Option, Some, None, refl, sym, ◌∙◌, ap, subst, inl, inr, arith}
 use Rattle.std.specs.Prelude.{filter, map, option_map}
 use Rattle.std.specs.Option.{option_and_then}
 use Rattle.std.specs.Str.{bytes_eq}
@@ -11,10 +11,10 @@ use Rattle.store.specs.Rights.{seen_by, shown_to, is_reader, listed}
 use Rattle.store.specs.Sound.{Along, Fits, FitsRight}
 use Rattle.desk.specs.Agreement.{SeenValue, seen_as, seen_at}
 use Rattle.desk.specs.Outcome.{Outcome, Cause, cause_of, first_cause}
-use Rattle.desk.specs.Findings.{PlanValue, Finding, Fails, Unanswered, Allowed}
+use Rattle.desk.specs.Findings.{Finding, Fails, Unanswered, Allowed}
 use Rattle.desk.specs.Command.{Setting, Command, Stamp, Begin, Finish, Abandon, Deposit, Show, Token, ListAll, Grant, Revoke, Calibrate, Hold, Listed}
 use Rattle.desk.specs.Texts.{octets_for}
-use Rattle.desk.specs.Effects.{Effect, only, unless, Stamping, Unreserved, Void, Sealing, no_number, next_reservation, stamping_of, stamp_effect, stamp_found, deposit_row, deposit_effect, deposit_found, right_effect}
+use Rattle.desk.specs.Effects.{Effect, unless, Stamping, Unreserved, Void, Sealing, no_number, next_reservation, stamping_of, stamp_effect, stamp_found, deposit_row, deposit_effect, deposit_found, right_effect}
 use Rattle.desk.specs.Steps.{KeepsUnder, KeepsUnless, Keeps, HasEffect}
 use Rattle.desk.specs.Laws.{IsCommandOfOther, Concerns, StaysFor}
 use Rattle.desk.proofs.Views.{sealed_below, deposit_sealed}

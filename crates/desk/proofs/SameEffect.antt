@@ -1,6 +1,6 @@
 -- A command of an account has one and the same effect in two histories that agree for it.
-use Rattle.std.proofs.Common.{if◌then◌else◌, pos, negsuc, ◌≡◌, ℕ, ◌+◌, ◌==◌, ◌&&◌, ◌⊎◌, nat_le, cond, ℤ, Bool, true, false, List, [], ◌∷◌, length, Option, Some, None, refl, sym, ◌∙◌, ap, subst, inl, inr}
-use Rattle.std.specs.Prelude.{count_by, filter, filter_map, map, option_map, int_le, int_lt}
+use Rattle.std.proofs.Common.{if◌then◌else◌, pos, negsuc, ◌≡◌, ℕ, ◌+◌, ◌==◌, ◌&&◌, nat_le, cond, ℤ, Bool, true, false, List, [], ◌∷◌, length, Option, Some, None, refl, sym, ◌∙◌, ap, subst, inl, inr}
+use Rattle.std.specs.Prelude.{filter, filter_map, map, option_map, int_le, int_lt}
 use Rattle.std.proofs.Math.Nat.{add-zero}
 use Rattle.std.specs.Option.{option_and_then}
 use Rattle.std.specs.List.{cons_option}
@@ -12,19 +12,18 @@ use Rattle.tsp.specs.Rules.{HoldsOfOctets, IsFirstFailing}
 use Rattle.tsp.specs.declared.rule.Rule.{Rule}
 use Rattle.decide.specs.Clock.{IsGood, IsGoodAt}
 use Rattle.decide.specs.Rules.{Holds}
-use Rattle.decide.specs.declared.facts.Facts.{Facts}
 use Rattle.tables.specs.Tables.{StampRow, DepositRow}
-use Rattle.store.specs.History.{Entry, Granted, Revoked, History, ReservationValue, CalibrationValue, HoldValue, reservations, deposits, holds, stamps, stamp_of, day_of, is_of_day, count_of_day, latest_calibration, last_gen_time, is_held, greatest_serial, token_of, reservation_at, deposit_under}
+use Rattle.store.specs.History.{Granted, Revoked, History, ReservationValue, reservations, deposits, holds, stamps, stamp_of, day_of, is_of_day, count_of_day, latest_calibration, greatest_serial, token_of, reservation_at, deposit_under}
 use Rattle.store.specs.Rights.{seen_by, ListedValue, listed_as, listed_at, listed}
-use Rattle.desk.specs.Agreement.{SeenValue, seen_as, seen_at, Agree, IsCommandOf}
-use Rattle.desk.specs.Facts.{calibration_of, now_in, is_held_at, gen_time_of, gen_time_in, count_in, facts_of}
+use Rattle.desk.specs.Agreement.{SeenValue, seen_as, Agree, IsCommandOf}
+use Rattle.desk.specs.Facts.{now_in, is_held_at, gen_time_of, gen_time_in, count_in, facts_of}
 use Rattle.desk.specs.Outcome.{Outcome, Cause, OfStore, cause_of, first_cause}
 use Rattle.desk.specs.Findings.{IsUnjudged, PlanValue, IsAllowed, Finding, Fails, Unanswered, Allowed, Finds}
 use Rattle.desk.specs.Command.{Setting, Command, Stamp, Begin, Finish, Abandon, Deposit, Show, Token, ListAll, Grant, Revoke, Calibrate, Hold, Listed}
 use Rattle.store.specs.Sound.{greatest_number}
 use Rattle.desk.specs.Texts.{octets_for, reservation_of, pending_of}
-use Rattle.desk.specs.Effects.{Stamping, Unreserved, signed_or_void, stamping_of, stamp_effect, deposit_effect, no_number, reply_or_nothing, Effect, only, unless, stamp_found, deposit_found, name_of, show_effect, token_effect, right_effect}
-use Rattle.desk.specs.Steps.{HasFound, KeepsUnder, KeepsUnless, Keeps, HasEffect}
+use Rattle.desk.specs.Effects.{Stamping, Unreserved, signed_or_void, stamping_of, stamp_effect, deposit_effect, no_number, reply_or_nothing, Effect, only, unless, stamp_found, deposit_found, show_effect, token_effect, right_effect}
+use Rattle.desk.specs.Steps.{KeepsUnder, KeepsUnless, Keeps, HasEffect}
 
 -- the day's count is that of the account's own stamps
 abbrev own_by : List ℕ → StampRow → Bool

@@ -1,12 +1,11 @@
 -- What a history shows stays so when an entry fits it.
-use Rattle.std.proofs.Common.{◌≡◌, ℕ, ◌<◌, ◌≤◌, ◌==◌, ◌&&◌, max, cond, Bool, true, false, List, [], ◌∷◌, Option, Some, None, refl, sym, ap, arith}
+use Rattle.std.proofs.Common.{◌≡◌, ℕ, ◌<◌, ◌≤◌, ◌==◌, ◌&&◌, cond, Bool, true, false, List, [], ◌∷◌, Option, Some, None, refl, sym, arith}
 use Rattle.std.specs.List.{find}
 use Rattle.std.specs.Str.{bytes_eq}
 use Rattle.std.proofs.lemmas.Bool.{eqb-true, eq-eqb}
 use Rattle.std.proofs.lemmas.Slice.Eq.{bytes_eq-Decides}
-use Rattle.std.proofs.lemmas.Bool.Decides.{Decides-eqb}
-use Rattle.store.specs.History.{Entry, Reserved, Sealed, Deposited, Calibrated, Held, Granted, Revoked, History, ReservationValue, DepositValue, reservations, deposits, greatest_of, greatest_serial, token_of, reservation_at, deposit_at, deposit_under}
-use Rattle.store.specs.Sound.{Along, Fits, FitsReserved, FitsSealed, FitsDeposited}
+use Rattle.store.specs.History.{Entry, Reserved, Sealed, Deposited, Calibrated, Held, Granted, Revoked, History, ReservationValue, DepositValue, reservations, greatest_of, greatest_serial, token_of, reservation_at, deposit_at, deposit_under}
+use Rattle.store.specs.Sound.{Along, Fits, FitsReserved, FitsSealed}
 
 abbrev search_serial : ℕ → List ReservationValue → Option ReservationValue
 search_serial n rs = find (λ r. r.serial == n) rs

@@ -1,14 +1,14 @@
 -- Runs: journeys go on by them, and an account's run is one from each history that agrees.
-use Rattle.std.proofs.Common.{◌≡◌, ℕ, ◌⊎◌, List, [], ◌∷◌, ◌++◌, Result, drop, refl, sym, ap, subst, inl, inr}
+use Rattle.std.proofs.Common.{◌≡◌, ℕ, ◌⊎◌, List, [], ◌∷◌, Result, drop, refl, sym, subst, inl, inr}
 use Rattle.cms.specs.declared.signer.SignerFault.{SignerFault}
 use Rattle.store.specs.History.{History}
-use Rattle.store.specs.Sound.{Along, Fits, IsSound}
+use Rattle.store.specs.Sound.{IsSound}
 use Rattle.desk.specs.Agreement.{Agree, IsCommandOf}
 use Rattle.desk.specs.Content.{IsSoundInFull}
 use Rattle.desk.specs.Outcome.{Outcome}
 use Rattle.desk.specs.Command.{Setting, Command, Stamp, Begin, Finish, Abandon, Deposit, Show, Token, ListAll, Grant, Revoke, Calibrate, Hold, Answer}
 use Rattle.desk.specs.Effects.{Effect}
-use Rattle.desk.specs.Steps.{HasEffect, IsMet, Moves}
+use Rattle.desk.specs.Steps.{HasEffect, IsMet}
 use Rattle.desk.specs.Runs.{IsProper, Told, Journey, goes, stops, after, cut, Runs, HasProperties}
 use Rattle.desk.specs.Laws.{Continues, AreMet, AreCommandsOf, RunsAlike}
 use Rattle.desk.proofs.Sound.{TextLaws}

@@ -1,6 +1,6 @@
 -- Sound histories in full: besides what the history alone says, each reservation holds its request's digest and
 -- TSTInfo, and each deposit is what its stamp was given for (RFC 3161 2.4.2).
-use Rattle.std.specs.Prelude.{◌≡◌, ℕ, ◌≤◌, Bool, List, Option, Some}
+use Rattle.std.specs.Prelude.{◌≡◌, ℕ, Bool, List, Some}
 use Rattle.der.specs.ObjectIdentifier.{oid_content}
 use Rattle.sha2.specs.Sha256.{sha256}
 use Rattle.tsp.specs.Request.{RequestValue, Spells}

@@ -1,5 +1,5 @@
 -- What a history says of the clock and of an account's day, at a reading of the clock.
-use Rattle.std.specs.Prelude.{ℕ, ℤ, pos, negsuc, nat_le, Bool, false, ◌&&◌, List, Option, Some, None, option_map}
+use Rattle.std.specs.Prelude.{ℕ, ℤ, pos, negsuc, nat_le, Bool, false, ◌&&◌, Option, Some, None, option_map}
 use Rattle.gentime.specs.GenTime.{last_moment}
 use Rattle.policy.specs.Record.{AccountValue, PolicyValue}
 use Rattle.store.specs.History.{History, CalibrationValue, latest_calibration, is_held, last_gen_time, count_of_day, day_of}

@@ -8,10 +8,9 @@ use Rattle.tsp.specs.declared.rule.Rule.{Rule}
 use Rattle.tsp.specs.declared.rule.Rule.TheVariants.{Spelling, Version, Account, Algorithm, HashLength, Policy, PolicyAlgorithm, Extensions, Certificate, Clock, Quota, System}
 use Rattle.decide.specs.Clock.{IsGood, IsGoodAt}
 use Rattle.decide.specs.Rules.{Holds, HoldsOf, policy_asked}
-use Rattle.decide.specs.declared.facts.Facts.{Facts}
 use Rattle.store.specs.History.{History}
 use Rattle.desk.specs.Facts.{facts_of}
-use Rattle.desk.specs.Outcome.{Call, Fine, Cause, cause_of, Outcome}
+use Rattle.desk.specs.Outcome.{Fine, Cause, cause_of, Outcome}
 
 -- the rules 1 to 9, which ask the store nothing
 abbrev pub HoldsUnasked : PolicyValue → Option AccountValue → List ℕ → Rule → Type 0

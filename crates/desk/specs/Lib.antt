@@ -1,4 +1,7 @@
 pub mod Agreement
+pub mod Answers
+pub mod Calls
+pub mod Codes
 pub mod Command
 pub mod Content
 pub mod Effects
@@ -8,5 +11,7 @@ pub mod Findings
 pub mod Laws
 pub mod Outcome
 pub mod Runs
+pub mod Stepped
 pub mod Steps
 pub mod Texts
+pub mod Wholes

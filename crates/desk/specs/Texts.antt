@@ -1,5 +1,5 @@
 -- The texts that a stamp consists of.
-use Rattle.std.specs.Prelude.{ℕ, ◌+◌, pos, ◌++◌, Bool, false, List, [], ◌∷◌, Option, Some, None, option_map, unwrap_or}
+use Rattle.std.specs.Prelude.{ℕ, false, List, [], ◌∷◌, Option, None, option_map, unwrap_or}
 use Rattle.std.specs.List.{find}
 use Rattle.std.specs.Str.{bytes_eq}
 use Rattle.der.specs.Node.{encoding}

@@ -2,15 +2,29 @@
 //! it accepted, and the laws that follow.
 #![tactic(auto)]
 
+mod answering;
+mod beginning;
+mod desk;
 mod fault;
+mod finding;
+mod finishing;
 mod laws;
+mod looking;
+mod opening;
+mod pending;
+mod refusal;
+mod reply;
+mod reserving;
 
+pub use desk::Desk;
 pub use fault::Fault;
 pub use laws::{
     accounts_are_isolated, accounts_disturb_little, grants_are_of_their_plan,
     journeys_keep_their_promises, rejections_tell_their_rule, steps_leave_sound_histories,
     texts_are_reserved,
 };
+pub use pending::Pending;
+pub use reply::{Begun, Reply};
 
 #[cfg(test)]
 mod tests;

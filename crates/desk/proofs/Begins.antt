@@ -1,0 +1,233 @@
+-- The exits of a stamp up to its reservation.
+use Rattle.std.proofs.Common.{◌≡◌, ℕ, ◌≤◌, nat_le, cond, ℤ, Bool, true, false, List, [], ◌∷◌, Option, Some, None, Result, Ok, Err, refl, sym, ap, ◌∙◌, subst, inl, inr, arith}
+use Rattle.std.proofs.lemmas.Bool.Decides.{nat_tests}
+use Rattle.policy.specs.Record.{AccountValue}
+use Rattle.tsp.specs.declared.rule.Rule.{Rule}
+use Rattle.sqlite_trees.specs.declared.store.Store.{Ghosts}
+use Rattle.tables.specs.Base.{BaseValue, IsHonest}
+use Rattle.store.specs.History.{History, greatest_serial}
+use Rattle.store.specs.Sound.{greatest_number}
+use Rattle.store.specs.Stands.{Stands, OnlyLooks}
+use Rattle.store.specs.declared.fault.StoreFault.{StoreFault}
+use Rattle.store.specs.declared.fault.StoreFault.TheVariants as store
+use Rattle.desk.specs.Calls.{store_cause, cause_with, refused, outcome_of, IsOfStore, IsOfLooks, IsOfReserving, pending_as, reserving, Reserves}
+use Rattle.desk.specs.Command.{Setting, PendingValue, Command, Begin, Rejected, Refused}
+use Rattle.desk.specs.Effects.{only, fault_of, no_number, begin_effect, name_of}
+use Rattle.desk.specs.Findings.{PlanValue, Fails, Unanswered, Allowed, Finds}
+use Rattle.desk.specs.Outcome.{Call, Outcome, Fine, Wanting, Broken, Cause, OfStore, first_cause, faults_after, all_fine}
+use Rattle.desk.specs.Stepped.{no_signer, IsBlamedFor, IsBlamed, IsExcused, StepsBy, settled_by, settled}
+use Rattle.desk.specs.declared.refusal.Refusal.{Refusal}
+use Rattle.desk.specs.declared.refusal.Refusal.TheVariants as refusal
+
+-- a rule fails
+pub rejects : {S : Type 0} (g : Ghosts S) (s : Setting) (account : Option AccountValue) (reading : ℤ) (octets : List ℕ)
+    (o : Outcome) (old new : BaseValue S) (rule : Rule)
+    → OnlyLooks g old new → new.faults ≡ faults_after o old.faults
+    → (IsHonest g new → (b : History) → Stands g b old → Finds s.file account reading octets o b (Fails rule))
+    → StepsBy g no_signer s (Begin account reading octets) o old new (Rejected rule)
+rejects g s account reading octets o old new rule looks counted finds = record {
+  counted = counted;
+  signer = tt;
+  blames = tt;
+  steps = λ honest b st met. record {
+    effect = only (Rejected rule);
+    has = (Fails rule, finds honest b st, refl);
+    says = refl;
+    moves = refl;
+    stands = looks.stands b st;
+    left = λ db r. inl (refl, looks.leaves honest db r);
+  };
+}
+
+look_blamed : {S : Type 0} (g : Ghosts S) (c : Command) (f : StoreFault) (old new : BaseValue S) → IsOfStore f
+    → IsBlamedFor g c (refused (refusal.Looking f)) old new (fault_of (store_cause f))
+look_blamed g c store.Memory old new h = tt
+look_blamed g c store.Database old new h = inl (inr (inl refl))
+look_blamed g c store.NotOurs old new (inl e) = cc
+look_blamed g c store.NotOurs old new (inr e) = cc
+look_blamed g c store.Full old new (inl e) = cc
+look_blamed g c store.Full old new (inr e) = cc
+look_blamed g c store.Backwards old new (inl e) = cc
+look_blamed g c store.Backwards old new (inr e) = cc
+
+count_blamed : {S : Type 0} (g : Ghosts S) (c : Command) (f : StoreFault) (old new : BaseValue S) → IsOfStore f
+    → IsBlamedFor g c (refused (refusal.Counting f)) old new (fault_of (store_cause f))
+count_blamed g c store.Memory old new h = tt
+count_blamed g c store.Database old new h = inl (inr (inr (inl refl)))
+count_blamed g c store.NotOurs old new (inl e) = cc
+count_blamed g c store.NotOurs old new (inr e) = cc
+count_blamed g c store.Full old new (inl e) = cc
+count_blamed g c store.Full old new (inr e) = cc
+count_blamed g c store.Backwards old new (inl e) = cc
+count_blamed g c store.Backwards old new (inr e) = cc
+
+add_blamed : {S : Type 0} (g : Ghosts S) (c : Command) (f : StoreFault) (old new : BaseValue S) → IsOfStore f
+    → IsBlamedFor g c (refused (refusal.Adding f)) old new (fault_of (store_cause f))
+add_blamed g c store.Memory old new h = tt
+add_blamed g c store.Database old new h = inl (inr (inr (inr (inr (inl refl)))))
+add_blamed g c store.NotOurs old new (inl e) = cc
+add_blamed g c store.NotOurs old new (inr e) = cc
+add_blamed g c store.Full old new (inl e) = cc
+add_blamed g c store.Full old new (inr e) = cc
+add_blamed g c store.Backwards old new (inl e) = cc
+add_blamed g c store.Backwards old new (inr e) = cc
+
+looks_blamed : {S : Type 0} (g : Ghosts S) (c : Command) (r : Refusal) (old new : BaseValue S) → IsOfLooks r
+    → IsBlamedFor g c (refused r) old new (fault_of (cause_with r))
+looks_blamed g c (refusal.Looking f) old new h = look_blamed g c f old new h
+looks_blamed g c (refusal.Counting f) old new h = count_blamed g c f old new h
+looks_blamed g c refusal.Spent old new h = absurd h
+looks_blamed g c refusal.Growing old new h = absurd h
+looks_blamed g c (refusal.Adding f) old new h = absurd h
+looks_blamed g c (refusal.Signing f) old new h = absurd h
+looks_blamed g c refusal.Wrapping old new h = absurd h
+looks_blamed g c (refusal.Sealing f) old new h = absurd h
+
+-- a reservation that is refused names the store where it failed, or where no number is left
+pub reserving_blamed : {S : Type 0} (g : Ghosts S) (c : Command) (r : Refusal) (old new : BaseValue S)
+    → IsOfReserving r → (r ≡ refusal.Spent → IsHonest g new → (b : History) → Stands g b old → IsExcused c b)
+    → IsBlamedFor g c (refused r) old new (fault_of (cause_with r))
+reserving_blamed g c (refusal.Looking f) old new h spent = absurd h
+reserving_blamed g c (refusal.Counting f) old new h spent = absurd h
+reserving_blamed g c refusal.Spent old new h spent = inr (spent refl)
+reserving_blamed g c refusal.Growing old new h spent = tt
+reserving_blamed g c (refusal.Adding f) old new h spent = add_blamed g c f old new h
+reserving_blamed g c (refusal.Signing f) old new h spent = absurd h
+reserving_blamed g c refusal.Wrapping old new h spent = absurd h
+reserving_blamed g c (refusal.Sealing f) old new h spent = absurd h
+
+-- a look-up is refused
+pub leaves_open : {S : Type 0} (g : Ghosts S) (s : Setting) (account : Option AccountValue) (reading : ℤ)
+    (octets : List ℕ) (old new : BaseValue S) (r : Refusal) → IsOfLooks r
+    → OnlyLooks g old new → new.faults ≡ faults_after (refused r) old.faults
+    → (IsHonest g new → (b : History) → Stands g b old
+    → Finds s.file account reading octets (refused r) b (Unanswered (cause_with r)))
+    → StepsBy g no_signer s (Begin account reading octets) (refused r) old new (Refused (fault_of (cause_with r)))
+leaves_open g s account reading octets old new r of looks counted finds = record {
+  counted = counted;
+  signer = tt;
+  blames = looks_blamed g (Begin account reading octets) r old new of;
+  steps = λ honest b st met. record {
+    effect = only (Refused (fault_of (cause_with r)));
+    has = (Unanswered (cause_with r), finds honest b st, refl);
+    says = refl;
+    moves = refl;
+    stands = looks.stands b st;
+    left = λ db recovers. inl (refl, looks.leaves honest db recovers);
+  };
+}
+
+begin_asks : (s : Setting) (account : List ℕ) (plan : PlanValue) (octets : List ℕ) (b : History)
+    (refused : Option Cause) → (begin_effect s account plan octets b refused).asks ≡ None
+begin_asks s account plan octets b None = refl
+begin_asks s account plan octets b (Some cause) = refl
+
+-- what a reservation answers leaves the look-ups answered
+pub reserving_looks : (r : Refusal) → IsOfReserving r → ((refused r).looking ≡ Fine) × ((refused r).counting ≡ Fine)
+reserving_looks (refusal.Looking f) h = absurd h
+reserving_looks (refusal.Counting f) h = absurd h
+reserving_looks refusal.Spent h = (refl, refl)
+reserving_looks refusal.Growing h = (refl, refl)
+reserving_looks (refusal.Adding f) h = (refl, refl)
+reserving_looks (refusal.Signing f) h = absurd h
+reserving_looks refusal.Wrapping h = absurd h
+reserving_looks (refusal.Sealing f) h = absurd h
+
+settled_looking : (c : Call) (o : Outcome) → (settled_by c o).looking ≡ o.looking
+settled_looking Fine o = refl
+settled_looking Wanting o = refl
+settled_looking Broken o = refl
+
+settled_counting : (c : Call) (o : Outcome) → (settled_by c o).counting ≡ o.counting
+settled_counting Fine o = refl
+settled_counting Wanting o = refl
+settled_counting Broken o = refl
+
+-- no number is left where that is said
+spent_if : (s : Setting) (account : List ℕ) (plan : PlanValue) (octets : List ℕ) (b : History) (spent : Bool)
+    → Refused (fault_of OfStore) ≡ (begin_effect s account plan octets b (first_cause ((cond spent (Some OfStore) None)
+    ∷ None ∷ None ∷ []))).says → spent ≡ true
+spent_if s account plan octets b true e = refl
+spent_if s account plan octets b false e = cc
+
+is_excused : (n : ℕ) → nat_le greatest_number n ≡ true → greatest_number ≤ n
+is_excused n e = grind (arith, nat_tests)
+
+-- what the reservation that follows the look-ups meets
+pub record Follows {S : Type 0} (g : Ghosts S) (s : Setting) (name : List ℕ) (plan : PlanValue) (octets : List ℕ)
+    (last : ℕ) (mid new : BaseValue S) (result : Result PendingValue Refusal) : Type 0 where
+  pub honest : IsHonest g new → IsHonest g mid
+  pub counted : new.faults ≡ faults_after (outcome_of result) mid.faults
+  pub reserves : IsHonest g new → (b : History) → Stands g b mid → greatest_serial b ≡ last
+      → Reserves g s name plan octets b mid new result
+
+abbrev IsReserving : Result PendingValue Refusal → Type 0
+IsReserving (Ok p) = Unit {0}
+IsReserving (Err r) = IsOfReserving r
+
+result_looks : (result : Result PendingValue Refusal) → IsReserving result
+    → ((outcome_of result).looking ≡ Fine) × ((outcome_of result).counting ≡ Fine)
+result_looks (Ok p) h = (refl, refl)
+result_looks (Err r) h = reserving_looks r h
+
+result_blamed : {S : Type 0} (g : Ghosts S) (c : Command) (old new : BaseValue S)
+    (result : Result PendingValue Refusal) → IsReserving result
+    → (result ≡ Err refusal.Spent → IsHonest g new → (b : History) → Stands g b old → IsExcused c b)
+    → IsBlamed g c (outcome_of result) old new (pending_as result)
+result_blamed g c old new (Ok p) h spent = tt
+result_blamed g c old new (Err r) h spent = reserving_blamed g c r old new h (λ e. spent (ap Err e))
+
+-- no rule fails: the reservation goes on from what was found
+pub reserves_after : {S : Type 0} (g : Ghosts S) (s : Setting) (account : Option AccountValue) (reading : ℤ)
+    (octets : List ℕ) (old mid new : BaseValue S) (plan : PlanValue) (last : ℕ) (name : List ℕ)
+    (result : Result PendingValue Refusal)
+    → name ≡ name_of account → IsReserving result → OnlyLooks g old mid → mid.faults ≡ old.faults
+    → (IsHonest g mid → (b : History) → Stands g b old
+    → Finds s.file account reading octets (all_fine (Ok [])) b (Allowed plan))
+    → (IsHonest g mid → (b : History) → Stands g b old → last ≡ greatest_serial b)
+    → Follows g s name plan octets last mid new result
+    → StepsBy g no_signer s (Begin account reading octets) (outcome_of result) old new (pending_as result)
+reserves_after g s account reading octets old mid new plan last name result named of looks uncounted finds is after_it =
+    let o = outcome_of result in
+    let fine = result_looks result of in
+    let gone : IsHonest g new → (b : History) → Stands g b old
+    → Reserves g s (name_of account) plan octets b mid new result =
+    λ h b st. subst (λ x. Reserves g s x plan octets b mid new result) named
+    (after_it.reserves h b (looks.stands b st) (sym (is (after_it.honest h) b st))) in
+    record {
+      counted = after_it.counted ∙ ap (faults_after o) uncounted;
+      signer = tt;
+      blames = result_blamed g (Begin account reading octets) old new result of
+          (λ e h b st. is_excused (greatest_serial b) (spent_if s (name_of account) plan octets b
+          (nat_le greatest_number (greatest_serial b))
+          (subst (λ (r : Result PendingValue Refusal). pending_as r
+          ≡ (reserving s (name_of account) plan octets (outcome_of r) b).says) e (gone h b st).says)));
+      steps = λ h b st met.
+          let found = finds (after_it.honest h) b st in
+          let r = gone h b st in
+          record {
+            effect = reserving s (name_of account) plan octets o b;
+            has = (Allowed plan, (found.0, fine.0, fine.1), refl);
+            says = r.says;
+            moves = begin_asks s (name_of account) plan octets b (no_number o b);
+            stands = r.stands;
+            left = λ db recovers. elim (r.left db recovers) [
+              | inl none ↦ inl (none.0, looks.leaves (after_it.honest h) db none.1)
+              | inr (inl holds) ↦ inr (inl holds)
+              | inr (inr doubt) ↦ inr (inr (record {
+                refused = λ adding sealing. doubt.0 adding;
+                doubted = reserving s (name_of account) plan octets (settled o) b;
+                has = (
+                  Allowed plan,
+                  (
+                    found.0,
+                    settled_looking o.adding o ∙ fine.0,
+                    settled_counting o.adding o ∙ fine.1,
+                  ),
+                  refl,
+                );
+                holds = doubt.1;
+              }))
+            ];
+          };
+    }

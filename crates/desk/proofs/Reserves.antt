@@ -1,0 +1,199 @@
+-- The exits of a reservation.
+use Rattle.std.proofs.Common.{◌≡◌, ℕ, ◌+◌, ◌<◌, ◌≤◌, ◌⊎◌, nat_le, cond, Bool, true, false, List, [], ◌∷◌, Option, Some, None, Ok, Err, refl, sym, ap, ◌∙◌, subst, inl, inr, arith}
+use Rattle.std.proofs.lemmas.Bool.Decides.{nat_tests}
+use Rattle.gentime.specs.GenTime.{last_moment}
+use Rattle.der.specs.ObjectIdentifier.{oid_content}
+use Rattle.sqlite_trees.specs.Tree.{Trees}
+use Rattle.sqlite_trees.specs.declared.store.Store.{Ghosts}
+use Rattle.tables.specs.Base.{BaseValue, IsHonest, IsOpen, Recovers, Holds}
+use Rattle.cms.specs.Identity.{IdentityValue}
+use Rattle.store.specs.History.{History, Reserved, ReservationValue, greatest_serial}
+use Rattle.store.specs.Sound.{Fits, IsSpent, greatest_number}
+use Rattle.store.specs.Stands.{Stands, LeavesOrAdds}
+use Rattle.store.specs.TablesOf.{tables_of}
+use Rattle.store.specs.Fault.{count_after}
+use Rattle.store.specs.declared.fault.StoreFault.{StoreFault}
+use Rattle.store.specs.declared.fault.StoreFault.TheVariants as store
+use Rattle.desk.specs.Calls.{cause_with, refused, adding_refusal, IsOfReserving, reserving, Reserves}
+use Rattle.desk.specs.Command.{Setting, PendingValue, Begun}
+use Rattle.desk.specs.Effects.{no_number, next_reservation, begin_effect}
+use Rattle.desk.specs.Findings.{PlanValue}
+use Rattle.desk.specs.Outcome.{Outcome, Fine, all_fine, Cause, OfStore, cause_of, first_cause, faults_after}
+use Rattle.desk.specs.Runs.{after}
+use Rattle.desk.specs.Stepped.{settled}
+use Rattle.desk.specs.declared.refusal.Refusal.{Refusal}
+use Rattle.desk.specs.Texts.{tst_of, pending_of, reservation_of}
+
+is_spent : (n : ℕ) → greatest_number ≤ n → nat_le greatest_number n ≡ true
+is_spent n h = grind (arith, nat_tests)
+
+is_left : (n : ℕ) → n < greatest_number → nat_le greatest_number n ≡ false
+is_left n h = grind (arith, nat_tests)
+
+abbrev causes_at : Outcome → Bool → Option Cause
+causes_at o spent = first_cause ((cond spent (Some OfStore) None) ∷ cause_of o.growing ∷ cause_of o.adding ∷ [])
+
+-- why there is no number: they are spent, or what was refused
+pub spent_number : (o : Outcome) (b : History) → greatest_number ≤ greatest_serial b → no_number o b ≡ Some OfStore
+spent_number o b h = ap (causes_at o) (is_spent (greatest_serial b) h)
+
+pub left_number : (o : Outcome) (b : History) → greatest_serial b < greatest_number
+    → no_number o b ≡ first_cause (cause_of o.growing ∷ cause_of o.adding ∷ [])
+left_number o b h = ap (causes_at o) (is_left (greatest_serial b) h)
+
+-- nothing is reserved
+pub reserves_refused : {S : Type 0} (g : Ghosts S) (s : Setting) (account : List ℕ) (plan : PlanValue) (octets : List ℕ)
+    (b : History) (old new : BaseValue S) (r : Refusal) → no_number (refused r) b ≡ Some (cause_with r)
+    → Stands g b new → ((db : Trees) → Recovers g new db → Recovers g old db
+    ⊎ (((refused r).adding ≡ Fine → ⊥)
+    × Holds (tables_of (after (reserving s account plan octets (settled (refused r)) b) b)) db))
+    → Reserves g s account plan octets b old new (Err r)
+reserves_refused g s account plan octets b old new r e st leaves = record {
+  says = sym (ap (λ x. (begin_effect s account plan octets b x).says) e);
+  stands = subst (λ x. Stands g (after (begin_effect s account plan octets b x) b) new) (sym e) st;
+  left = λ db recovers. elim (leaves db recovers) [
+    | inl before ↦ inl (ap (λ x. (begin_effect s account plan octets b x).adds) e, before)
+    | inr holds ↦ inr (inr holds)
+  ];
+}
+
+-- the next number is
+pub reserves_next : {S : Type 0} (g : Ghosts S) (s : Setting) (account : List ℕ) (plan : PlanValue) (octets : List ℕ)
+    (b : History) (old new : BaseValue S) (p : PendingValue) (r : ReservationValue)
+    → no_number (all_fine (Ok [])) b ≡ None → r ≡ next_reservation s account plan octets b → p ≡ pending_of s plan r
+    → IsHonest g new → IsOpen g new → Stands g (Reserved r ∷ b) new
+    → Reserves g s account plan octets b old new (Ok p)
+reserves_next g s account plan octets b old new p r e same waits honest is_open stood =
+    let next = next_reservation s account plan octets b in
+    let st = subst (λ x. Stands g (Reserved x ∷ b) new) same stood in
+    let effect = λ (x : Option Cause). begin_effect s account plan octets b x in
+    record {
+      says = ap Begun (waits ∙ ap (pending_of s plan) same) ∙ sym (ap (λ x. (effect x).says) e);
+      stands = subst (λ x. Stands g (after (effect x) b) new) (sym e) st;
+      left = λ db recovers. inr (inl (subst (λ x. Holds (tables_of (after (effect x) b)) db) (sym e)
+          ((st.kept honest is_open).leaves db recovers)));
+    }
+
+abbrev pub made : ℕ → List ℕ → ℕ → List ℕ → List ℕ → List ℕ → List ℕ → List ℕ → ReservationValue
+made serial account gen_time policy algorithm digest request tst = record {
+  serial = serial;
+  account = account;
+  gen_time = gen_time;
+  policy = policy;
+  algorithm = algorithm;
+  digest = digest;
+  request = request;
+  tst = tst;
+}
+
+-- what is prepared is the next reservation
+pub next_is : (s : Setting) (account : List ℕ) (plan : PlanValue) (octets : List ℕ) (b : History) (last : ℕ)
+    (serial gen_time : ℕ) (policy algorithm digest tst : List ℕ)
+    → greatest_serial b ≡ last → serial ≡ last + 1 → gen_time ≡ plan.gen_time → policy ≡ oid_content plan.policy
+    → algorithm ≡ oid_content plan.request.imprint.algorithm → digest ≡ plan.request.imprint.hash
+    → tst ≡ tst_of s.file plan (last + 1)
+    → made serial account gen_time policy algorithm digest octets tst ≡ next_reservation s account plan octets b
+next_is s account plan octets b last serial gen_time policy algorithm digest tst e f g h k l m =
+    ap (λ x. made x account gen_time policy algorithm digest octets tst) f
+    ∙ (ap (λ x. made (last + 1) account x policy algorithm digest octets tst) g
+    ∙ (ap (λ x. made (last + 1) account plan.gen_time x algorithm digest octets tst) h
+    ∙ (ap (λ x. made (last + 1) account plan.gen_time (oid_content plan.policy) x digest octets tst) k
+    ∙ (ap (λ x. made (last + 1) account plan.gen_time (oid_content plan.policy)
+    (oid_content plan.request.imprint.algorithm) x octets tst) l
+    ∙ (ap (λ x. made (last + 1) account plan.gen_time (oid_content plan.policy)
+    (oid_content plan.request.imprint.algorithm) plan.request.imprint.hash octets x) m
+    ∙ ap (λ x. reservation_of s.file account plan octets (x + 1)) (sym e))))))
+
+abbrev pub waiting : ℕ → List ℕ → Bool → IdentityValue → List ℕ → PendingValue
+waiting serial tst certificate identity algorithm = record {
+  serial = serial;
+  tst = tst;
+  certificate = certificate;
+  identity = identity;
+  algorithm = algorithm;
+}
+
+pub waits_for : (s : Setting) (plan : PlanValue) (r : ReservationValue) (certificate : Bool)
+    → certificate ≡ plan.request.cert_req
+    → waiting r.serial r.tst certificate s.identity s.algorithm ≡ pending_of s plan r
+waits_for s plan r certificate e = ap (λ x. waiting r.serial r.tst x s.identity s.algorithm) e
+
+pub fits_next : (r : ReservationValue) (b : History) (last : ℕ) → greatest_serial b ≡ last → r.serial ≡ last + 1
+    → last < greatest_number → r.gen_time ≤ last_moment → Fits (Reserved r) b
+fits_next r b last e f h m = record { rises = omega arith; within = omega arith; moment = m }
+
+-- how the store refuses a reservation
+abbrev pub RefusesReserving : StoreFault → Type 0
+RefusesReserving f = (f ≡ store.Memory) ⊎ ((f ≡ store.Database) ⊎ (f ≡ store.Full))
+
+pub adding_counted : (f : StoreFault) (n : ℕ) → count_after f n ≡ faults_after (refused (adding_refusal f)) n
+adding_counted store.Memory n = refl
+adding_counted store.Database n = refl
+adding_counted store.NotOurs n = refl
+adding_counted store.Full n = refl
+adding_counted store.Backwards n = refl
+
+not_ours : RefusesReserving store.NotOurs → ⊥
+not_ours (inl e) = cc
+not_ours (inr (inl e)) = cc
+not_ours (inr (inr e)) = cc
+
+not_backwards : RefusesReserving store.Backwards → ⊥
+not_backwards (inl e) = cc
+not_backwards (inr (inl e)) = cc
+not_backwards (inr (inr e)) = cc
+
+pub adding_is : (f : StoreFault) → RefusesReserving f → IsOfReserving (adding_refusal f)
+adding_is store.Memory h = inl refl
+adding_is store.Database h = inr refl
+adding_is store.NotOurs h = absurd (not_ours h)
+adding_is store.Full h = tt
+adding_is store.Backwards h = absurd (not_backwards h)
+
+spent_not_left : (b : History) → greatest_serial b < greatest_number → IsSpent b → ⊥
+spent_not_left b left spent = omega arith
+
+-- where the commit is there after all, the number is reserved
+doubted_none : (f : StoreFault) (b : History) → greatest_serial b < greatest_number
+    → no_number (settled (refused (adding_refusal f))) b ≡ None
+doubted_none store.Memory b left = left_number (settled (refused (adding_refusal store.Memory))) b left
+doubted_none store.Database b left = left_number (settled (refused (adding_refusal store.Database))) b left
+doubted_none store.NotOurs b left = left_number (settled (refused (adding_refusal store.NotOurs))) b left
+doubted_none store.Full b left = left_number (settled (refused (adding_refusal store.Full))) b left
+doubted_none store.Backwards b left = left_number (settled (refused (adding_refusal store.Backwards))) b left
+
+adding_cause : (f : StoreFault) (b : History) → RefusesReserving f → greatest_serial b < greatest_number
+    → (f ≡ store.Full → IsSpent b) → no_number (refused (adding_refusal f)) b ≡ Some (cause_with (adding_refusal f))
+adding_cause store.Memory b h left full = left_number (refused (adding_refusal store.Memory)) b left
+adding_cause store.Database b h left full = left_number (refused (adding_refusal store.Database)) b left
+adding_cause store.NotOurs b h left full = absurd (not_ours h)
+adding_cause store.Full b h left full = absurd (spent_not_left b left (full refl))
+adding_cause store.Backwards b h left full = absurd (not_backwards h)
+
+-- the commit was made, and refused
+adding_met : (f : StoreFault) (b : History) → RefusesReserving f → greatest_serial b < greatest_number
+    → (f ≡ store.Full → IsSpent b) → (refused (adding_refusal f)).adding ≡ Fine → ⊥
+adding_met store.Memory b h left full e = cc
+adding_met store.Database b h left full e = cc
+adding_met store.NotOurs b h left full e = not_ours h
+adding_met store.Full b h left full e = spent_not_left b left (full refl)
+adding_met store.Backwards b h left full e = not_backwards h
+
+-- the commit is refused
+pub adding_refused : {S : Type 0} (g : Ghosts S) (s : Setting) (account : List ℕ) (plan : PlanValue) (octets : List ℕ)
+    (b : History) (old new : BaseValue S) (f : StoreFault) (r : ReservationValue)
+    → RefusesReserving f → greatest_serial b < greatest_number → (f ≡ store.Full → IsSpent b)
+    → r ≡ next_reservation s account plan octets b → Fits (Reserved r) b → IsHonest g new → Stands g b old
+    → Stands g b new → LeavesOrAdds g (Reserved r) old new
+    → Reserves g s account plan octets b old new (Err (adding_refusal f))
+adding_refused g s account plan octets b old new f r h left full same fits honest stood st crash =
+    reserves_refused g s account plan octets b old new (adding_refusal f) (adding_cause f b h left full) st
+    (λ db recovers. elim (crash honest db recovers) [
+      | inl before ↦ inl before
+      | inr adds ↦ inr (
+        adding_met f b h left full,
+        subst (λ x. Holds (tables_of (after (begin_effect s account plan octets b x) b)) db)
+            (sym (doubted_none f b left))
+            (subst (λ x. Holds (tables_of (Reserved x ∷ b)) db) same (adds b stood fits)),
+      )
+    ])

@@ -1,0 +1,136 @@
+-- A finish is a step of the machine: the token is stored, or the reservation stays void.
+use Rattle.std.proofs.Common.{◌≡◌, ◌⊎◌, ℕ, List, [], ◌∷◌, Some, None, Ok, refl, sym, ◌∙◌, ap, subst, inl, inr}
+use Rattle.sqlite_trees.specs.declared.store.Store.{Ghosts}
+use Rattle.tsp.specs.Granted.{granted_octets}
+use Rattle.cms.specs.SignedData.{token}
+use Rattle.tables.specs.Base.{BaseValue, IsHonest, IsOpen}
+use Rattle.store.specs.declared.fault.StoreFault.{StoreFault}
+use Rattle.store.specs.declared.fault.StoreFault.TheVariants as store
+use Rattle.store.specs.Fault.{count_after}
+use Rattle.store.specs.History.{Sealed, History}
+use Rattle.store.specs.Sound.{Fits, FitsSealed}
+use Rattle.store.specs.Stands.{Stands, LeavesOrAdds}
+use Rattle.desk.specs.Outcome.{Fine, Outcome, Cause, faults_after, all_fine}
+use Rattle.desk.specs.Command.{Setting, PendingValue, Finish, Stamped, Refused}
+use Rattle.desk.specs.Texts.{token_with}
+use Rattle.desk.specs.Effects.{only, fault_of, unless, no_seal, finish_effect}
+use Rattle.desk.specs.Steps.{IsWaiting}
+use Rattle.desk.specs.Stepped.{StepsBy, IsBlamed, no_signer, settled}
+use Rattle.desk.specs.Calls.{refused, store_cause}
+use Rattle.desk.specs.declared.refusal.Refusal.TheVariants as refusal
+
+-- what waits may be sealed
+pub waiting_fits : (p : PendingValue) (b : History) → IsWaiting p b → FitsSealed p.serial b
+waiting_fits p b w = record { reservation = w.reservation; reserved = w.reserved; open_yet = w.open_yet }
+
+-- the token is stored
+seals_as : {S : Type 0} (g : Ghosts S) (s : Setting) (p : PendingValue) (signature : List ℕ) (old new : BaseValue S)
+    → new.faults ≡ old.faults
+    → (IsHonest g new → IsOpen g old × IsOpen g new)
+    → ((b : History) → Stands g b old → Fits (Sealed p.serial (token_with p signature)) b
+    → Stands g (Sealed p.serial (token_with p signature) ∷ b) new)
+    → StepsBy g no_signer s (Finish p signature) (all_fine (Ok [])) old new
+    (Stamped p.serial (granted_octets (token_with p signature)))
+seals_as g s p signature old new same opened ok = record {
+  counted = same;
+  signer = tt;
+  blames = tt;
+  steps = λ honest b stands met.
+      let now = ok b stands (waiting_fits p b met.0) in
+      record {
+        effect = finish_effect p signature;
+        has = refl;
+        says = refl;
+        moves = refl;
+        stands = now;
+        left = λ db r. inr (inl ((now.kept honest (opened honest).1).leaves db r));
+      };
+}
+
+pub seals : {S : Type 0} (g : Ghosts S) (s : Setting) (p : PendingValue) (signature : List ℕ) (serial : ℕ)
+    (token reply : List ℕ) (old new : BaseValue S) → serial ≡ p.serial → token ≡ token_with p signature
+    → reply ≡ granted_octets token → new.faults ≡ old.faults
+    → (IsHonest g new → IsOpen g old × IsOpen g new)
+    → ((b : History) → Stands g b old → Fits (Sealed serial token) b → Stands g (Sealed serial token ∷ b) new)
+    → StepsBy g no_signer s (Finish p signature) (all_fine (Ok [])) old new (Stamped serial reply)
+seals g s p signature serial token reply old new number is wrapped same opened ok =
+    subst (λ x. StepsBy g no_signer s (Finish p signature) (all_fine (Ok [])) old new (Stamped x reply)) (sym number)
+    (subst (λ x. StepsBy g no_signer s (Finish p signature) (all_fine (Ok [])) old new (Stamped p.serial x))
+    (sym (wrapped ∙ ap granted_octets is))
+    (seals_as g s p signature old new same opened
+    (subst (λ x. (b : History) → Stands g b old → Fits (Sealed p.serial x) b → Stands g (Sealed p.serial x ∷ b) new)
+    is
+    (subst (λ n. (b : History) → Stands g b old → Fits (Sealed n token) b → Stands g (Sealed n token ∷ b) new) number
+    ok))))
+
+-- the commit is refused by this fault
+refused_as : {S : Type 0} (g : Ghosts S) (s : Setting) (p : PendingValue) (signature : List ℕ) (old new : BaseValue S)
+    (o : Outcome) (cause : Cause) → no_seal o ≡ Some cause → no_seal (settled o) ≡ None
+    → (o.adding ≡ Fine → o.sealing ≡ Fine → ⊥)
+    → IsBlamed g (Finish p signature) o old new (Refused (fault_of cause))
+    → new.faults ≡ faults_after o old.faults
+    → ((b : History) → Stands g b old → Stands g b new)
+    → LeavesOrAdds g (Sealed p.serial (token_with p signature)) old new
+    → StepsBy g no_signer s (Finish p signature) o old new (Refused (fault_of cause))
+refused_as g s p signature old new o cause why answered was_refused blamed counted err crash = record {
+  counted = counted;
+  signer = tt;
+  blames = blamed;
+  steps = λ honest b stands met. record {
+    effect = only (Refused (fault_of cause));
+    has = ap (λ x. unless x (finish_effect p signature)) (sym why);
+    says = refl;
+    moves = refl;
+    stands = err b stands;
+    left = λ db r. elim (crash honest db r) [
+      | inl before ↦ inl (refl, before)
+      | inr adds ↦ inr (inr (record {
+        refused = was_refused;
+        doubted = finish_effect p signature;
+        has = ap (λ x. unless x (finish_effect p signature)) (sym answered);
+        holds = adds b stands (waiting_fits p b met.0);
+      }))
+    ];
+  };
+}
+
+refused_by : {S : Type 0} (g : Ghosts S) (s : Setting) (p : PendingValue) (signature : List ℕ) (old new : BaseValue S)
+    (fault : StoreFault) → (fault ≡ store.Memory) ⊎ (fault ≡ store.Database)
+    → new.faults ≡ count_after fault old.faults
+    → ((b : History) → Stands g b old → Stands g b new)
+    → LeavesOrAdds g (Sealed p.serial (token_with p signature)) old new
+    → StepsBy g no_signer s (Finish p signature) (refused (refusal.Sealing fault)) old new
+    (Refused (fault_of (store_cause fault)))
+refused_by g s p signature old new store.Memory which counted err crash =
+    refused_as g s p signature old new (refused (refusal.Sealing store.Memory)) _ refl refl (λ a e. cc) tt counted err
+    crash
+refused_by g s p signature old new store.Database which counted err crash =
+    refused_as g s p signature old new (refused (refusal.Sealing store.Database)) _ refl refl (λ a e. cc)
+    (inl (inr (inr (inr (inr (inr (inr refl))))))) counted err crash
+refused_by g s p signature old new store.NotOurs which counted err crash =
+    absurd (elim which [ inl e ↦ cc | inr e ↦ cc ])
+refused_by g s p signature old new store.Full which counted err crash =
+    absurd (elim which [ inl e ↦ cc | inr e ↦ cc ])
+refused_by g s p signature old new store.Backwards which counted err crash =
+    absurd (elim which [ inl e ↦ cc | inr e ↦ cc ])
+
+pub refuses : {S : Type 0} (g : Ghosts S) (s : Setting) (p : PendingValue) (signature : List ℕ) (serial : ℕ)
+    (token : List ℕ) (old new : BaseValue S) (fault : StoreFault) → serial ≡ p.serial → token ≡ token_with p signature
+    → (fault ≡ store.Memory) ⊎ (fault ≡ store.Database)
+    → new.faults ≡ count_after fault old.faults
+    → ((b : History) → Stands g b old → Stands g b new)
+    → LeavesOrAdds g (Sealed serial token) old new
+    → StepsBy g no_signer s (Finish p signature) (refused (refusal.Sealing fault)) old new
+    (Refused (fault_of (store_cause fault)))
+refuses g s p signature serial token old new fault number is which counted err crash =
+    refused_by g s p signature old new fault which counted err
+    (subst (λ x. LeavesOrAdds g (Sealed p.serial x) old new) is
+    (subst (λ n. LeavesOrAdds g (Sealed n token) old new) number crash))
+
+-- the token that is written is that of what waits
+pub token_seen : (p q : PendingValue) (signature written lent tst : List ℕ) → q ≡ p → tst ≡ q.tst → lent ≡ written
+    → written ≡ token q.identity q.algorithm tst signature q.certificate → lent ≡ token_with p signature
+token_seen p q signature written lent tst same tst_is lent_is text =
+    lent_is
+    ∙ (text ∙ (ap (λ x. token q.identity q.algorithm x signature q.certificate) tst_is
+    ∙ ap (λ x. token_with x signature) same))

@@ -1,0 +1,19 @@
+use Rattle.std.proofs.Common.{refl, ap, SFits, w64, to_z-of_z, rules}
+use Rattle.decide.specs.View.{account_asked}
+use Rattle.desk.specs.Answers.{reply_as}
+use Rattle.desk.specs.Calls.{opening_view}
+use Rattle.desk.specs.Command.{Stamp}
+use Rattle.desk.proofs.Opened.{steps_opened}
+use Rattle.desk.proofs.desk.Desk.answer.Goals as goal
+
+pub returns-clause-step : goal.returns-clause-step
+returns-clause-step g c =
+    let reading : SFits w64 c.args.reading = search rules in (
+      c.answer_with.ensures.step.0,
+      steps_opened g.S.Store _
+          (record { setting = opening_view c.self.inside.opening; store = c.self.inside.store }) c.args.self.now _
+          (Stamp (account_asked c.args.account) c.args.reading c.args.query.now) c.answer_with.ensures.step.0
+          c.answer_with.new.store (reply_as c.answer_with.result) (reply_as c.answer_with.result) c.self.view_is
+          (ap (λ r. Stamp (account_asked c.args.account) r c.args.query.now) (to_z-of_z reading)) refl
+          c.answer_with.ensures.step.1,
+    )

@@ -1,0 +1,25 @@
+use Rattle.std.proofs.Common.{◌≡◌, ◌∙◌, refl, sym, ap}
+use Rattle.desk.specs.Answers.{reply_as, answered, told}
+use Rattle.desk.specs.Calls.{outcome_of, opening_view}
+use Rattle.desk.specs.Command.{Finish, Refused}
+use Rattle.desk.specs.Stepped.{no_signer}
+use Rattle.desk.proofs.Opened.{steps_opened}
+use Rattle.desk.proofs.desk.Desk.finish.Goals as goal
+use Rattle.desk.proofs.desk.Desk.finish.Goals.{in-Ok, in-Err}
+
+pub returns-clause-step : goal.returns-clause-step
+returns-clause-step g c =
+    let same : answered reply_as c.match-finish_with.result ≡ told reply_as c.finish_with.result =
+    elim c.match-finish_with.branch [
+      | in-Ok w ↦ ap (answered reply_as) w.result-is ∙ sym (ap (told reply_as) w.in-Ok.is)
+      | in-Err w ↦ ap (answered reply_as) w.result-is
+          ∙ (ap Refused w.from.ensures ∙ sym (ap (told reply_as) w.in-Err.is))
+    ] in (
+      outcome_of c.finish_with.result,
+      steps_opened g.S.Store no_signer
+          (record { setting = opening_view c.self.inside.opening; store = c.self.inside.store }) c.args.self.now
+          (Finish c.args.pending c.args.signature.now) (Finish c.args.pending c.args.signature.now)
+          (outcome_of c.finish_with.result) c.finish_with.new.store (told reply_as c.finish_with.result)
+          (answered reply_as c.match-finish_with.result) c.self.view_is refl same
+          (c.finish_with.ensures.step (opening_view c.self.inside.opening)),
+    )

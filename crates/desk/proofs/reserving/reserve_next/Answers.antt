@@ -1,0 +1,57 @@
+use Rattle.std.proofs.Common.{◌<◌, ◌∙◌, [], Ok, Err, sym, ap, subst, arith}
+use Rattle.der.specs.ObjectIdentifier.{oid_content}
+use Rattle.store.specs.History.{greatest_serial}
+use Rattle.store.specs.Sound.{greatest_number}
+use Rattle.desk.specs.Calls.{refused, plan_of, opening_view, IsOfReserving, Reserves}
+use Rattle.desk.specs.Outcome.{faults_after, all_fine}
+use Rattle.desk.specs.declared.refusal.Refusal.{Refusal}
+use Rattle.desk.proofs.Reserves.{next_is, fits_next, adding_counted, adding_is, adding_refused, reserves_next, left_number, made, waiting, waits_for}
+use Rattle.desk.proofs.reserving.reserve_next.Goals as goal
+
+pub returns-in-Err-clause-counted : goal.returns-in-Err-clause-counted
+returns-in-Err-clause-counted g c =
+    c.in-Err.ensures.faults ∙ (adding_counted c.in-Err.fault c.args.store.now.faults
+    ∙ ap (λ r. faults_after (refused r) c.args.store.now.faults) (sym c.adding_refusal.ensures))
+
+pub returns-in-Err-clause-refusals : goal.returns-in-Err-clause-refusals
+returns-in-Err-clause-refusals g c =
+    subst IsOfReserving (sym c.adding_refusal.ensures) (adding_is c.in-Err.fault c.in-Err.ensures.refusals)
+
+pub returns-in-Err-clause-reserves : goal.returns-in-Err-clause-reserves
+returns-in-Err-clause-reserves g c honest b st e =
+    let p = c.in_ok-prepared.ensures.prepared in
+    let left : c.args.planned.last < greatest_number = omega arith in
+    let below : greatest_serial b < greatest_number = omega arith in
+    let s = opening_view c.args.opening in
+    let plan = plan_of c.args.planned in
+    let octets = c.args.query.now in
+    subst (λ (r : Refusal). Reserves g.S.Store s c.args.account.now plan octets b c.args.store.now c.reserve.new.self
+    (Err r)) (sym c.adding_refusal.ensures)
+    (adding_refused g.S.Store s c.args.account.now plan octets b c.args.store.now c.reserve.new.self c.in-Err.fault _
+    c.in-Err.ensures.refusals below (λ f. c.in-Err.ensures.full honest b st (ap Err f))
+    (next_is s c.args.account.now plan octets b c.args.planned.last _ _ _ _ _ _ e p.number p.moment
+    (c.content.ensures.encoded ∙ ap oid_content p.policy_is) p.algorithm_is p.digest_is
+    (c.deref.ensures.value ∙ p.tst_is))
+    (fits_next _ b c.args.planned.last e p.number left p.moment_within) honest st (c.in-Err.ensures.err b st)
+    c.in-Err.ensures.crash)
+
+pub returns-clause-reserves : goal.returns-clause-reserves
+returns-clause-reserves g c honest b st e =
+    let p = c.in_ok-prepared.ensures.prepared in
+    let left : c.args.planned.last < greatest_number = omega arith in
+    let below : greatest_serial b < greatest_number = omega arith in
+    let s = opening_view c.args.opening in
+    let plan = plan_of c.args.planned in
+    let octets = c.args.query.now in
+    let prepared = c.in_ok-prepared.prepared in
+    let r = made prepared.serial c.args.account.now prepared.gen_time c.content.result.now prepared.algorithm.now
+    prepared.digest.now octets c.deref.result.now in
+    reserves_next g.S.Store s c.args.account.now plan octets b c.args.store.now c.reserve.new.self _ r
+    (left_number (all_fine (Ok [])) b below)
+    (next_is s c.args.account.now plan octets b c.args.planned.last _ _ _ _ _ _ e p.number p.moment
+    (c.content.ensures.encoded ∙ ap oid_content p.policy_is) p.algorithm_is p.digest_is
+    (c.deref.ensures.value ∙ p.tst_is))
+    (ap (λ t. waiting prepared.serial t prepared.certificate s.identity s.algorithm) (sym c.deref.ensures.value)
+    ∙ waits_for s plan r prepared.certificate p.certificate_is)
+    honest (c.in-Ok.ensures.opened honest).1
+    (c.in-Ok.ensures.ok b st (fits_next r b c.args.planned.last e p.number left p.moment_within))

@@ -1,0 +1,30 @@
+-- The answers of the machine that the program's are.
+use Rattle.std.specs.Prelude.{Result, Ok, Err}
+use Rattle.desk.specs.Command as answer
+use Rattle.desk.specs.Command.{Answer}
+use Rattle.desk.specs.Calls.{cause_with}
+use Rattle.desk.specs.Effects.{fault_of}
+use Rattle.desk.specs.declared.fault.Fault.{Fault}
+use Rattle.desk.specs.declared.refusal.Refusal.{Refusal}
+use Rattle.desk.specs.declared.reply.Begun.{Begun}
+use Rattle.desk.specs.declared.reply.Begun.TheVariants as begun
+use Rattle.desk.specs.declared.reply.Reply.{Reply}
+use Rattle.desk.specs.declared.reply.Reply.TheVariants as reply
+
+abbrev pub begun_as : Begun → Answer
+begun_as (begun.Rejected rejection) = answer.Rejected rejection.rule
+begun_as (begun.Pending p) = answer.Begun p
+
+abbrev pub reply_as : Reply → Answer
+reply_as (reply.Granted serial bytes) = answer.Stamped serial bytes.items
+reply_as (reply.Rejected rejection) = answer.Rejected rejection.rule
+
+-- what is answered, or the fault
+abbrev pub answered : {A : Type 0} → (A → Answer) → Result A Fault → Answer
+answered as_answer (Ok a) = as_answer a
+answered as_answer (Err fault) = answer.Refused fault
+
+-- the same of the parts of a call, whose refusals tell which call was refused
+abbrev pub told : {A : Type 0} → (A → Answer) → Result A Refusal → Answer
+told as_answer (Ok a) = as_answer a
+told as_answer (Err refusal) = answer.Refused (fault_of (cause_with refusal))

@@ -1,0 +1,194 @@
+-- What the parts of a call answer, and what the program's types stand for: stepping stones of the proofs.
+use Rattle.std.specs.Prelude.{◌≡◌, ◌⊎◌, ℕ, ◌≤◌, min, ℤ, List, [], length, Option, Some, None, option_map, Result, Ok, Err}
+use Rattle.gentime.specs.GenTime.{last_moment}
+use Rattle.der.specs.ObjectIdentifier.{oid_content}
+use Rattle.policy.specs.Record.{AccountValue}
+use Rattle.policy.specs.View.{policy_view}
+use Rattle.tsp.specs.Request.{RequestValue, Spells}
+use Rattle.tsp.specs.View.{request_view}
+use Rattle.cms.specs.SignedData.{attribute_text}
+use Rattle.cms.specs.declared.signer.SignerFault.{SignerFault}
+use Rattle.cms.specs.declared.signer.SignerFault.TheVariants as signer
+use Rattle.decide.specs.declared.facts.Calibration.{Calibration}
+use Rattle.store.specs.declared.fault.StoreFault.{StoreFault}
+use Rattle.store.specs.declared.fault.StoreFault.TheVariants as store
+use Rattle.sqlite_trees.specs.Tree.{Trees}
+use Rattle.sqlite_trees.specs.declared.store.Store.{Ghosts}
+use Rattle.tables.specs.Base.{BaseValue, Recovers, Holds}
+use Rattle.store.specs.History.{History, CalibrationValue, greatest_serial, count_of_day}
+use Rattle.store.specs.Stands.{Stands}
+use Rattle.store.specs.TablesOf.{tables_of}
+use Rattle.desk.specs.Facts.{calibration_of, clock_of}
+use Rattle.desk.specs.Outcome.{Call, Fine, Wanting, Broken, Outcome, Cause, OfMemory, OfStore, OfSigner, all_fine}
+use Rattle.desk.specs.Effects.{Effect, begin_effect, no_number, fault_of}
+use Rattle.desk.specs.Findings.{PlanValue, Finding, Fails, Unanswered, Allowed}
+use Rattle.desk.specs.Command.{Setting, PendingValue, Answer, Begun, Refused}
+use Rattle.desk.specs.Runs.{after}
+use Rattle.desk.specs.Stepped.{settled}
+use Rattle.desk.specs.Texts.{tst_of}
+use Rattle.desk.specs.declared.finding.Found.{Found}
+use Rattle.desk.specs.declared.finding.Found.TheVariants as found
+use Rattle.desk.specs.declared.finding.Planned.{Planned}
+use Rattle.desk.specs.declared.looking.Looked.{Looked}
+use Rattle.desk.specs.declared.reserving.Prepared.{Prepared}
+use Rattle.desk.specs.declared.opening.Opening.{Opening}
+use Rattle.desk.specs.declared.refusal.Refusal.{Refusal}
+use Rattle.desk.specs.declared.refusal.Refusal.TheVariants as refusal
+
+-- how a call of the store was answered that is refused so
+abbrev pub call_of : StoreFault → Call
+call_of store.Memory = Wanting
+call_of store.Database = Broken
+call_of store.NotOurs = Fine
+call_of store.Full = Fine
+call_of store.Backwards = Fine
+
+abbrev pub store_cause : StoreFault → Cause
+store_cause store.Memory = OfMemory
+store_cause store.Database = OfStore
+store_cause store.NotOurs = OfStore
+store_cause store.Full = OfStore
+store_cause store.Backwards = OfStore
+
+abbrev pub signer_cause : SignerFault → Cause
+signer_cause signer.Failed = OfSigner
+signer_cause signer.Memory = OfMemory
+
+abbrev pub cause_with : Refusal → Cause
+cause_with (refusal.Looking f) = store_cause f
+cause_with (refusal.Counting f) = store_cause f
+cause_with refusal.Spent = OfStore
+cause_with refusal.Growing = OfMemory
+cause_with (refusal.Adding f) = store_cause f
+cause_with (refusal.Signing f) = signer_cause f
+cause_with refusal.Wrapping = OfMemory
+cause_with (refusal.Sealing f) = store_cause f
+
+-- all calls answered but the one that was refused
+abbrev pub refused : Refusal → Outcome
+refused (refusal.Looking f) = record (all_fine (Ok [])) { looking = call_of f }
+refused (refusal.Counting f) = record (all_fine (Ok [])) { counting = call_of f }
+refused refusal.Spent = all_fine (Ok [])
+refused refusal.Growing = record (all_fine (Ok [])) { growing = Wanting }
+refused (refusal.Adding f) = record (all_fine (Ok [])) { adding = call_of f }
+refused (refusal.Signing f) = all_fine (Err f)
+refused refusal.Wrapping = record (all_fine (Ok [])) { wrapping = Wanting }
+refused (refusal.Sealing f) = record (all_fine (Ok [])) { sealing = call_of f }
+
+-- why the store reserved nothing
+abbrev pub adding_refusal : StoreFault → Refusal
+adding_refusal store.Memory = refusal.Adding store.Memory
+adding_refusal store.Database = refusal.Adding store.Database
+adding_refusal store.NotOurs = refusal.Adding store.NotOurs
+adding_refusal store.Full = refusal.Spent
+adding_refusal store.Backwards = refusal.Adding store.Backwards
+
+-- the store refuses a look-up or a commit by want of memory, or by a cause that it counts
+abbrev pub IsOfStore : StoreFault → Type 0
+IsOfStore f = (f ≡ store.Memory) ⊎ (f ≡ store.Database)
+
+-- a look-up was refused
+abbrev pub IsOfLooks : Refusal → Type 0
+IsOfLooks (refusal.Looking f) = IsOfStore f
+IsOfLooks (refusal.Counting f) = IsOfStore f
+IsOfLooks refusal.Spent = ⊥
+IsOfLooks refusal.Growing = ⊥
+IsOfLooks (refusal.Adding f) = ⊥
+IsOfLooks (refusal.Signing f) = ⊥
+IsOfLooks refusal.Wrapping = ⊥
+IsOfLooks (refusal.Sealing f) = ⊥
+
+-- a reservation was refused
+abbrev pub IsOfReserving : Refusal → Type 0
+IsOfReserving (refusal.Looking f) = ⊥
+IsOfReserving (refusal.Counting f) = ⊥
+IsOfReserving refusal.Spent = Unit {0}
+IsOfReserving refusal.Growing = Unit {0}
+IsOfReserving (refusal.Adding f) = IsOfStore f
+IsOfReserving (refusal.Signing f) = ⊥
+IsOfReserving refusal.Wrapping = ⊥
+IsOfReserving (refusal.Sealing f) = ⊥
+
+abbrev pub IsOfBeginning : Refusal → Type 0
+IsOfBeginning r = IsOfLooks r ⊎ IsOfReserving r
+
+abbrev pub outcome_of : {A : Type 0} → Result A Refusal → Outcome
+outcome_of (Ok a) = all_fine (Ok [])
+outcome_of (Err r) = refused r
+
+-- with what the desk was opened
+abbrev pub opening_view : Opening → Setting
+opening_view o = record { file = policy_view o.policy.now; identity = o.identity.now; algorithm = o.algorithm.now }
+
+abbrev pub looked_at : ℤ → History → Looked
+looked_at reading b = record { clock = clock_of reading b; serial = greatest_serial b }
+
+abbrev pub calibrations_as : Option CalibrationValue → Option Calibration
+calibrations_as latest = option_map calibration_of latest
+
+abbrev pub moment_or_last : ℕ → ℕ
+moment_or_last moment = min moment last_moment
+
+-- what is found of a request
+abbrev pub plan_of : Planned → PlanValue
+plan_of p = record { request = request_view p.request; policy = p.policy.now; gen_time = p.gen_time }
+
+abbrev pub finding_of : Result Found Refusal → Finding
+finding_of (Ok (found.Fails rule)) = Fails rule
+finding_of (Ok (found.Allows p)) = Allowed (plan_of p)
+finding_of (Err r) = Unanswered (cause_with r)
+
+-- the stamp's request is the one that the octets spell
+abbrev pub IsReadFrom : List ℕ → Found → Type 0
+IsReadFrom octets (found.Fails rule) = Unit {0}
+IsReadFrom octets (found.Allows p) = Spells octets (request_view p.request) × (length octets ≤ 65536)
+
+abbrev pub HasRequest : RequestValue → Found → Type 0
+HasRequest r (found.Fails rule) = Unit {0}
+HasRequest r (found.Allows p) = request_view p.request ≡ r
+
+-- the greatest serial number was this one
+abbrev pub HasLast : ℕ → Found → Type 0
+HasLast last (found.Fails rule) = Unit {0}
+HasLast last (found.Allows p) = p.last ≡ last
+
+-- how many reservations an account has on a day
+abbrev pub count_for : Option AccountValue → ℕ → History → ℕ
+count_for None day b = 0
+count_for (Some account) day b = count_of_day account.name day b
+
+-- what is written for a reservation under a serial number
+pub record IsPrepared (s : Setting) (plan : PlanValue) (serial : ℕ) (p : Prepared) : Type 0 where
+  pub number : p.serial ≡ serial
+  pub moment : p.gen_time ≡ plan.gen_time
+  pub moment_within : p.gen_time ≤ last_moment
+  pub policy_is : p.policy.now ≡ plan.policy
+  pub algorithm_is : p.algorithm.now ≡ oid_content plan.request.imprint.algorithm
+  pub digest_is : p.digest.now ≡ plan.request.imprint.hash
+  pub certificate_is : p.certificate ≡ plan.request.cert_req
+  pub tst_is : p.tst.items ≡ tst_of s.file plan serial
+  pub text_is : p.text.items ≡ attribute_text s.identity (tst_of s.file plan serial)
+
+-- what waits for its signature, or the refusal
+abbrev pub pending_as : Result PendingValue Refusal → Answer
+pending_as (Ok p) = Begun p
+pending_as (Err r) = Refused (fault_of (cause_with r))
+
+-- what a reservation adds and answers
+abbrev pub reserving : Setting → List ℕ → PlanValue → List ℕ → Outcome → History → Effect
+reserving s account plan octets o b = begin_effect s account plan octets b (no_number o b)
+
+-- what a stop after it may leave
+abbrev pub LeftReserving : {S : Type 0} → Ghosts S → Setting → List ℕ → PlanValue → List ℕ → Outcome → History
+    → BaseValue S → Trees → Type 0
+LeftReserving g s account plan octets o b old db =
+    (((reserving s account plan octets o b).adds ≡ []) × Recovers g old db)
+    ⊎ (Holds (tables_of (after (reserving s account plan octets o b) b)) db
+    ⊎ ((o.adding ≡ Fine → ⊥) × Holds (tables_of (after (reserving s account plan octets (settled o) b) b)) db))
+
+pub record Reserves {S : Type 0} (g : Ghosts S) (s : Setting) (account : List ℕ) (plan : PlanValue) (octets : List ℕ)
+    (b : History) (old new : BaseValue S) (result : Result PendingValue Refusal) : Type 0 where
+  pub says : pending_as result ≡ (reserving s account plan octets (outcome_of result) b).says
+  pub stands : Stands g (after (reserving s account plan octets (outcome_of result) b) b) new
+  pub left : (db : Trees) → Recovers g new db
+      → LeftReserving g s account plan octets (outcome_of result) b old db

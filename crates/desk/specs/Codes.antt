@@ -1,0 +1,91 @@
+-- How proofs tell the values of desks apart: no definitions.
+use Rattle.std.specs.Prelude.{ℕ, Bool, List, Option, refl}
+use Rattle.std.specs.Coded.{Coded, code_by, coded×, coded_ℕ, coded_bool, coded_list, coded_option}
+use Rattle.policy.specs.Record.{AlgorithmValue, ExtensionValue, TsaPolicyValue, AccountValue, CounterValue, PolicyValue}
+use Rattle.cms.specs.Identity.{IdentityValue}
+use Rattle.tables.specs.Base.{BaseValue, base_code}
+use Rattle.desk.specs.Command.{Setting}
+use Rattle.desk.specs.Stepped.{DeskValue}
+
+abbrev octets : Coded (List ℕ)
+octets = coded_list coded_ℕ
+
+abbrev names : Coded (List (List ℕ))
+names = coded_list octets
+
+abbrev algorithm_code : Coded AlgorithmValue
+algorithm_code =
+    code_by (List ℕ × (List ℕ × ℕ)) (coded× octets (coded× octets coded_ℕ)) (λ a. (a.name, (a.oid, a.length)))
+    (λ p. record { name = p.0; oid = p.1.0; length = p.1.1 }) (λ _. refl)
+
+abbrev extension_code : Coded ExtensionValue
+extension_code =
+    code_by (List ℕ × (List ℕ × ℕ)) (coded× octets (coded× octets coded_ℕ)) (λ e. (e.name, (e.oid, e.max_length)))
+    (λ p. record { name = p.0; oid = p.1.0; max_length = p.1.1 }) (λ _. refl)
+
+abbrev tsa_policy_code : Coded TsaPolicyValue
+tsa_policy_code =
+    code_by (List ℕ × (List ℕ × (List (List ℕ) × (List (List ℕ) × Bool))))
+    (coded× octets (coded× octets (coded× names (coded× names coded_bool))))
+    (λ p. (p.name, (p.oid, (p.algorithms, (p.extensions, p.certificate)))))
+    (λ p. record { name = p.0; oid = p.1.0; algorithms = p.1.1.0; extensions = p.1.1.1.0; certificate = p.1.1.1.1 })
+    (λ _. refl)
+
+abbrev account_code : Coded AccountValue
+account_code =
+    code_by (List ℕ × (Option (List ℕ) × (Bool × (Bool × (List (List ℕ) × ℕ)))))
+    (coded× octets (coded× (coded_option octets) (coded× coded_bool (coded× coded_bool (coded× names coded_ℕ)))))
+    (λ a. (a.name, (a.key_sha256, (a.active, (a.auditor, (a.policies, a.daily_quota))))))
+    (λ p. record {
+      name = p.0;
+      key_sha256 = p.1.0;
+      active = p.1.1.0;
+      auditor = p.1.1.1.0;
+      policies = p.1.1.1.1.0;
+      daily_quota = p.1.1.1.1.1;
+    }) (λ _. refl)
+
+abbrev counter_code : Coded CounterValue
+counter_code =
+    code_by (ℕ × (ℕ × (Bool × (ℕ × (ℕ × Option (List ℕ))))))
+    (coded× coded_ℕ (coded× coded_ℕ (coded× coded_bool (coded× coded_ℕ (coded× coded_ℕ (coded_option octets))))))
+    (λ c. (c.accuracy_us, (c.fraction_digits, (c.ordering, (c.drift_ppb, (c.max_age_us, c.anonymous))))))
+    (λ p. record {
+      accuracy_us = p.0;
+      fraction_digits = p.1.0;
+      ordering = p.1.1.0;
+      drift_ppb = p.1.1.1.0;
+      max_age_us = p.1.1.1.1.0;
+      anonymous = p.1.1.1.1.1;
+    }) (λ _. refl)
+
+abbrev file_code : Coded PolicyValue
+file_code =
+    code_by (CounterValue × (List AlgorithmValue × (List ExtensionValue × (List TsaPolicyValue × List AccountValue))))
+    (coded× counter_code (coded× (coded_list algorithm_code) (coded× (coded_list extension_code)
+    (coded× (coded_list tsa_policy_code) (coded_list account_code)))))
+    (λ f. (f.counter, (f.algorithms, (f.extensions, (f.policies, f.accounts)))))
+    (λ p. record {
+      counter = p.0;
+      algorithms = p.1.0;
+      extensions = p.1.1.0;
+      policies = p.1.1.1.0;
+      accounts = p.1.1.1.1;
+    }) (λ _. refl)
+
+abbrev identity_code : Coded IdentityValue
+identity_code =
+    code_by (List ℕ × (List ℕ × List ℕ)) (coded× octets (coded× octets octets))
+    (λ i. (i.certificate, (i.issuer, i.serial))) (λ p. record { certificate = p.0; issuer = p.1.0; serial = p.1.1 })
+    (λ _. refl)
+
+abbrev setting_code : Coded Setting
+setting_code =
+    code_by (PolicyValue × (IdentityValue × List ℕ)) (coded× file_code (coded× identity_code octets))
+    (λ s. (s.file, (s.identity, s.algorithm))) (λ p. record { file = p.0; identity = p.1.0; algorithm = p.1.1 })
+    (λ _. refl)
+
+abbrev pub desk_code : {S : Type 0} → Coded S → Coded (DeskValue S)
+desk_code {S} store =
+    code_by (Setting × BaseValue S) (coded× setting_code (base_code store)) (λ d. (d.setting, d.store))
+    (λ p. record { setting = p.0; store = p.1 }) (λ _. refl)

@@ -1,0 +1,135 @@
+-- A call of the program is a step of the machine: what each call's contract says.
+use Rattle.std.specs.Prelude.{◌≡◌, ℕ, ◌≤◌, ◌⊎◌, true, List, [], Option, None, Result, Err}
+use Rattle.sqlite_trees.specs.Tree.{Trees}
+use Rattle.sqlite_trees.specs.declared.store.Store.{Ghosts}
+use Rattle.cms.specs.Signer.{count_after}
+use Rattle.cms.specs.declared.signer.SignerFault.{SignerFault}
+use Rattle.cms.specs.declared.signer.SignerFault.TheVariants as signer
+use Rattle.tables.specs.Base.{BaseValue, IsHonest, Recovers, Holds}
+use Rattle.store.specs.History.{History, greatest_serial, latest_calibration}
+use Rattle.store.specs.Sound.{greatest_number}
+use Rattle.store.specs.Stands.{Stands}
+use Rattle.store.specs.TablesOf.{tables_of}
+use Rattle.desk.specs.Outcome.{Call, Fine, Wanting, Broken, Outcome, faults_after}
+use Rattle.desk.specs.Command.{Setting, Command, Stamp, Begin, Finish, Abandon, Deposit, Show, Token, ListAll, Grant, Revoke, Calibrate, Hold, Answer, Stamped, Rejected, Begun, Kept, Shown, Listed, Done, Refused}
+use Rattle.desk.specs.declared.fault.Fault.{Fault}
+use Rattle.desk.specs.declared.fault.Fault.TheVariants as fault
+use Rattle.desk.specs.Effects.{Effect, is_backwards}
+use Rattle.desk.specs.Steps.{HasEffect, IsMet, Moves}
+use Rattle.desk.specs.Runs.{after}
+
+-- a desk: with what it was opened, and its store
+pub record DeskValue (S : Type 0) : Type 0 where
+  pub setting : Setting
+  pub store : BaseValue S
+
+-- the signer in a call: how its count of faults goes on, and how it moves by the text that it is asked to sign
+pub record SignerStep : Type 1 where
+  pub counts : Result (List ℕ) SignerFault → Type 0
+  pub moves : Option (List ℕ) → Result (List ℕ) SignerFault → Type 0
+
+-- no signer is there, so none is asked
+abbrev pub no_signer : SignerStep
+no_signer = record { counts = λ answer. Unit {0}; moves = λ asked answer. asked ≡ None }
+
+-- the signer before the call, and after it
+abbrev pub with_signer : {X : Type 0} → (X → List ℕ → Result (List ℕ) SignerFault → X → Type 0) → (X → ℕ) → X → X
+    → SignerStep
+with_signer signs count before after = record {
+  counts = λ answer. count after ≡ count_after answer (count before);
+  moves = λ asked answer. Moves signs asked answer before after;
+}
+
+-- Of the same outcome, what follows where a commit that it makes was answered after all: where the first one was
+-- refused, nothing came after it.
+abbrev pub settled_by : Call → Outcome → Outcome
+settled_by Fine o = record o { sealing = Fine }
+settled_by Wanting o = record o { adding = Fine; signing = Err signer.Failed }
+settled_by Broken o = record o { adding = Fine; signing = Err signer.Failed }
+
+abbrev pub settled : Outcome → Outcome
+settled o = settled_by o.adding o
+
+-- A commit was refused: the tables of the history with what the command adds where it is there after all.
+pub record IsDoubted (s : Setting) (c : Command) (o : Outcome) (b : History) (db : Trees) : Type 0 where
+  pub refused : o.adding ≡ Fine → o.sealing ≡ Fine → ⊥
+  pub doubted : Effect
+  pub has : HasEffect s c (settled o) b doubted
+  pub holds : Holds (tables_of (after doubted b)) db
+
+-- What a stop after the call may leave: where nothing was added, what it could leave before; the tables of the history
+-- with what was added; or, in doubt, with what the refused commit would have added too.
+abbrev pub MayBeLeft : {S : Type 0} → Ghosts S → Setting → Command → Outcome → History → BaseValue S → Effect → Trees
+    → Type 0
+MayBeLeft g s c o b old e db =
+    ((e.adds ≡ []) × Recovers g old db) ⊎ (Holds (tables_of (after e b)) db ⊎ IsDoubted s c o b db)
+
+-- What holds after a call, where the store stood for the history b: the answer is that of the command's effect, the
+-- signer moved by it, the store stands for the history with what the effect adds, and so does what a stop leaves.
+pub record HasStepped {S : Type 0} (g : Ghosts S) (t : SignerStep) (s : Setting) (c : Command) (o : Outcome)
+    (b : History) (old new : BaseValue S) (answer : Answer) : Type 0 where
+  pub effect : Effect
+  pub has : HasEffect s c o b effect
+  pub says : answer ≡ effect.says
+  pub moves : t.moves effect.asks o.signing
+  pub stands : Stands g (after effect b) new
+  pub left : (db : Trees) → Recovers g new db → MayBeLeft g s c o b old effect db
+
+-- one of the store's calls was refused for a cause that the store counts
+abbrev pub IsBroken : Outcome → Type 0
+IsBroken o = (o.searching ≡ Broken) ⊎ ((o.looking ≡ Broken) ⊎ ((o.counting ≡ Broken) ⊎ ((o.growing ≡ Broken)
+    ⊎ ((o.adding ≡ Broken) ⊎ ((o.wrapping ≡ Broken) ⊎ (o.sealing ≡ Broken))))))
+
+-- why the store is named though it didn't fail: no serial number is left, or the calibration is before the last one
+abbrev pub IsExcused : Command → History → Type 0
+IsExcused (Stamp account reading octets) b = greatest_number ≤ greatest_serial b
+IsExcused (Begin account reading octets) b = greatest_number ≤ greatest_serial b
+IsExcused (Finish p signature) b = ⊥
+IsExcused (Abandon p) b = ⊥
+IsExcused (Deposit a reading reference bytes) b = greatest_number ≤ greatest_serial b
+IsExcused (Show a n) b = ⊥
+IsExcused (Token a n) b = ⊥
+IsExcused (ListAll a) b = ⊥
+IsExcused (Grant a n reader) b = ⊥
+IsExcused (Revoke a n reader) b = ⊥
+IsExcused (Calibrate c) b = is_backwards c (latest_calibration b) ≡ true
+IsExcused (Hold h) b = ⊥
+
+-- Store and signer are named only where they failed and counted it, and the store where it is excused.
+abbrev pub IsBlamedFor : {S : Type 0} → Ghosts S → Command → Outcome → BaseValue S → BaseValue S → Fault → Type 0
+IsBlamedFor g c o old new fault.NotHere = Unit {0}
+IsBlamedFor g c o old new fault.NotOwner = Unit {0}
+IsBlamedFor g c o old new fault.Conflict = Unit {0}
+IsBlamedFor g c o old new fault.UnknownReader = Unit {0}
+IsBlamedFor g c o old new fault.SelfGrant = Unit {0}
+IsBlamedFor g c o old new fault.TooLarge = Unit {0}
+IsBlamedFor g c o old new (fault.Rejected rule) = Unit {0}
+IsBlamedFor g c o old new fault.Memory = Unit {0}
+IsBlamedFor g c o old new fault.Store =
+    IsBroken o ⊎ (IsHonest g new → (b : History) → Stands g b old → IsExcused c b)
+IsBlamedFor g c o old new fault.Signer = o.signing ≡ Err signer.Failed
+
+abbrev pub IsBlamed : {S : Type 0} → Ghosts S → Command → Outcome → BaseValue S → BaseValue S → Answer → Type 0
+IsBlamed g c o old new (Stamped serial octets) = Unit {0}
+IsBlamed g c o old new (Rejected rule) = Unit {0}
+IsBlamed g c o old new (Begun p) = Unit {0}
+IsBlamed g c o old new (Kept number is_new) = Unit {0}
+IsBlamed g c o old new (Shown octets) = Unit {0}
+IsBlamed g c o old new (Listed rows) = Unit {0}
+IsBlamed g c o old new Done = Unit {0}
+IsBlamed g c o old new (Refused f) = IsBlamedFor g c o old new f
+
+-- A call is a step of the machine under an outcome. The counts of faults of store and signer are the outcome's, and
+-- they are named only where the outcome says that they failed, or the store is excused, whatever the disk does. While
+-- the disk returns what was written, what holds after it is the step's, from each history that the store stood for.
+pub record StepsBy {S : Type 0} (g : Ghosts S) (t : SignerStep) (s : Setting) (c : Command) (o : Outcome)
+    (old new : BaseValue S) (answer : Answer) : Type 0 where
+  pub counted : new.faults ≡ faults_after o old.faults
+  pub signer : t.counts o.signing
+  pub blames : IsBlamed g c o old new answer
+  pub steps : IsHonest g new → (b : History) → Stands g b old → IsMet c b → HasStepped g t s c o b old new answer
+
+-- the same under some outcome
+abbrev pub IsStep : {S : Type 0} → Ghosts S → SignerStep → Setting → Command → BaseValue S → BaseValue S → Answer
+    → Type 0
+IsStep g t s c old new answer = (o : Outcome) × StepsBy g t s c o old new answer

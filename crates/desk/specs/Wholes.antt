@@ -1,0 +1,79 @@
+-- A stamp in its parts: what a beginning, a signature and a finish met and did is what the stamp met and did.
+use Rattle.std.specs.Prelude.{◌≡◌, ◌⊎◌, ℕ, List, [], ◌∷◌, ◌++◌, Option, Some, None, Result, Ok, Err}
+use Rattle.sqlite_trees.specs.Tree.{Trees}
+use Rattle.sqlite_trees.specs.declared.store.Store.{Ghosts}
+use Rattle.tsp.specs.Granted.{granted_octets}
+use Rattle.tsp.specs.declared.rule.Rule.TheVariants.{System}
+use Rattle.cms.specs.SignedData.{attribute_text}
+use Rattle.cms.specs.declared.signer.SignerFault.{SignerFault}
+use Rattle.tables.specs.Base.{BaseValue, IsHonest, Recovers, Holds}
+use Rattle.store.specs.History.{Entry, Sealed, History}
+use Rattle.store.specs.Stands.{Stands}
+use Rattle.store.specs.TablesOf.{tables_of}
+use Rattle.desk.specs.Outcome.{Fine, Outcome, Cause, counted}
+use Rattle.desk.specs.Command.{PendingValue, Answer, Stamped, Rejected}
+use Rattle.desk.specs.Texts.{token_with}
+use Rattle.desk.specs.Effects.{Effect, no_seal}
+use Rattle.desk.specs.Steps.{IsWaiting}
+use Rattle.desk.specs.Stepped.{SignerStep}
+use Rattle.desk.specs.declared.refusal.Refusal.{Refusal}
+use Rattle.desk.specs.declared.refusal.Refusal.TheVariants as refusal
+
+-- what the three parts met
+abbrev pub joined : Outcome → Result (List ℕ) SignerFault → Outcome → Outcome
+joined begun signing finished = record begun {
+  signing = signing;
+  wrapping = finished.wrapping;
+  sealing = finished.sealing;
+}
+
+-- what the three parts did, once the reservation stood
+abbrev pub sealed_by : PendingValue → List ℕ → List Entry → Option Cause → Effect
+sealed_by p signature begun None = record {
+  adds = Sealed p.serial (token_with p signature) ∷ begun;
+  asks = Some (attribute_text p.identity p.tst);
+  says = Stamped p.serial (granted_octets (token_with p signature));
+}
+sealed_by p signature begun (Some cause) =
+    record { adds = begun; asks = Some (attribute_text p.identity p.tst); says = Rejected System }
+
+abbrev pub stamped : PendingValue → Result (List ℕ) SignerFault → List Entry → Outcome → Effect
+stamped p (Ok signature) begun finished = sealed_by p signature begun (no_seal finished)
+stamped p (Err fault) begun finished =
+    record { adds = begun; asks = Some (attribute_text p.identity p.tst); says = Rejected System }
+
+-- the refusals of a finish
+abbrev pub IsOfFinish : Refusal → Type 0
+IsOfFinish (refusal.Looking f) = ⊥
+IsOfFinish (refusal.Counting f) = ⊥
+IsOfFinish refusal.Spent = ⊥
+IsOfFinish refusal.Growing = ⊥
+IsOfFinish (refusal.Adding f) = ⊥
+IsOfFinish (refusal.Signing f) = ⊥
+IsOfFinish refusal.Wrapping = Unit {0}
+IsOfFinish (refusal.Sealing f) = Unit {0}
+
+-- what a stop leaves after that: what it could leave before, the tables with the token, or those in doubt
+abbrev pub MayStay : {S : Type 0} → Ghosts S → PendingValue → Result (List ℕ) SignerFault → Outcome → History
+    → BaseValue S → Trees → Type 0
+MayStay g p signing o b old db =
+    (((stamped p signing [] o).adds ≡ []) × Recovers g old db)
+    ⊎ (Holds (tables_of ((stamped p signing [] o).adds ++ b)) db
+    ⊎ ((o.sealing ≡ Fine → ⊥)
+    × Holds (tables_of ((stamped p signing [] (record o { sealing = Fine })).adds ++ b)) db))
+
+-- what holds after it, where the store stood for the history b
+pub record HasCompleted {S : Type 0} (g : Ghosts S) (p : PendingValue) (signing : Result (List ℕ) SignerFault)
+    (o : Outcome) (b : History) (old new : BaseValue S) (answer : Answer) : Type 0 where
+  pub says : answer ≡ (stamped p signing [] o).says
+  pub stands : Stands g ((stamped p signing [] o).adds ++ b) new
+  pub left : (db : Trees) → Recovers g new db → MayStay g p signing o b old db
+
+-- A stamp from its reservation on: the signer is asked, and the token is stored where it answers.
+pub record Completes {S : Type 0} (g : Ghosts S) (t : SignerStep) (p : PendingValue)
+    (signing : Result (List ℕ) SignerFault) (o : Outcome) (old new : BaseValue S) (answer : Answer) : Type 0 where
+  pub counted : new.faults ≡ counted o.sealing (counted o.wrapping old.faults)
+  pub signer : t.counts signing
+  pub moves : t.moves (Some (attribute_text p.identity p.tst)) signing
+  pub steps : IsHonest g new → (b : History) → Stands g b old → IsWaiting p b
+      → HasCompleted g p signing o b old new answer

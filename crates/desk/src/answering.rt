@@ -1,0 +1,46 @@
+//! A stamp from its request to its reply.
+ghost use Rattle.std.specs.Prelude.{◌≡◌};
+ghost use Rattle.policy.specs.View.{policy_view};
+ghost use Rattle.tsp.specs.Rules.{IsFirstFailing};
+ghost use Rattle.tsp.specs.declared.rule.Rule.{Rule};
+ghost use Rattle.tables.specs.Base.{IsHonest};
+ghost use Rattle.decide.specs.View.{account_asked};
+ghost use Rattle.desk.specs.Answers.{reply_as};
+ghost use Rattle.desk.specs.Calls.{opening_view};
+ghost use Rattle.desk.specs.Command.{Stamp, Rejected};
+ghost use Rattle.desk.specs.Findings.{HoldsUnasked};
+ghost use Rattle.desk.specs.Stepped.{IsStep, with_signer};
+
+use crate::beginning::begin_with;
+use crate::finishing::{complete, no_answer};
+use crate::opening::Opening;
+use crate::reply::{Begun, Reply};
+use cms::Signer;
+use policy::Account;
+use sqlite::Alter;
+use std::alloc::Global;
+use store::Store;
+
+/// Answers a request: the granted reply, the rejection by the first rule that fails, or the rejection by rule 12.
+pub(crate) fn answer_with<S: Alter + Drop, G: Signer>(
+    store: &mut Store<S>,
+    alloc: Global,
+    opening: Opening<'_>,
+    account: Option<&Account>,
+    reading: i64,
+    query: &[u8],
+    signer: &mut G,
+) -> Reply
+    ensures honest { IsHonest S.Store store.new → IsHonest S.Store store.old }
+    ensures unasked { (rule : Rule) → IsFirstFailing (HoldsUnasked (policy_view opening.entry.policy.now)
+        (account_asked account.entry) query.now) rule
+        → (reply_as result ≡ Rejected rule) × (store.new ≡ store.old) × (signer.new ≡ signer.old) }
+    ensures step { IsStep S.Store (with_signer G.signs G.fault_count signer.old signer.new) (opening_view opening.entry)
+        (Stamp (account_asked account.entry) reading query.now) store.old store.new (reply_as result) }
+{
+    match begin_with(store, alloc, opening, account, reading, query) {
+        Ok(Begun::Pending(pending)) => complete(store, alloc, pending, signer),
+        Ok(Begun::Rejected(rejection)) => Reply::Rejected(rejection),
+        Err(_) => no_answer(),
+    }
+}

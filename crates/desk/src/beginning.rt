@@ -1,0 +1,65 @@
+//! A stamp up to its reservation.
+ghost use Rattle.std.specs.Prelude.{◌≡◌, IfErr};
+ghost use Rattle.policy.specs.View.{policy_view};
+ghost use Rattle.tsp.specs.Rules.{IsFirstFailing};
+ghost use Rattle.tsp.specs.declared.rule.Rule.{Rule};
+ghost use Rattle.desk.specs.Effects.{name_of};
+ghost use Rattle.tables.specs.Base.{IsHonest};
+ghost use Rattle.decide.specs.View.{account_asked};
+ghost use Rattle.desk.specs.Answers.{begun_as, told};
+ghost use Rattle.desk.specs.Calls.{outcome_of, opening_view, IsOfBeginning};
+ghost use Rattle.desk.specs.Command.{Begin, Rejected};
+ghost use Rattle.desk.specs.Findings.{HoldsUnasked};
+ghost use Rattle.desk.specs.Stepped.{StepsBy, no_signer};
+
+use crate::finding::{Found, find};
+use crate::opening::Opening;
+use crate::refusal::Refusal;
+use crate::reply::Begun;
+use crate::reserving::reserve_next;
+use policy::Account;
+use sqlite::Alter;
+use std::alloc::Global;
+use store::Store;
+use tsp::Rejection;
+
+/// The account's name, for which a stamp is reserved.
+fn name_of<'a>(account: Option<&'a Account>) -> &'a str
+    ensures { result.now ≡ name_of (account_asked account.entry) }
+{
+    match account {
+        None => "",
+        Some(account) => account.name.as_str(),
+    }
+}
+
+/// Judges a request, and reserves the next serial number where no rule fails. A refusal tells the call that was refused.
+pub(crate) fn begin_with<'p, S: Alter + Drop>(
+    store: &mut Store<S>,
+    alloc: Global,
+    opening: Opening<'p>,
+    account: Option<&Account>,
+    reading: i64,
+    query: &[u8],
+) -> Result<Begun<'p>, Refusal>
+    ensures honest { IsHonest S.Store store.new → IsHonest S.Store store.old }
+    ensures step { StepsBy S.Store no_signer (opening_view opening.entry)
+        (Begin (account_asked account.entry) reading query.now) (outcome_of result) store.old store.new
+        (told begun_as result) }
+    ensures unasked { (rule : Rule) → IsFirstFailing (HoldsUnasked (policy_view opening.entry.policy.now)
+        (account_asked account.entry) query.now) rule
+        → (told begun_as result ≡ Rejected rule) × (store.new ≡ store.old) }
+    ensures refusals { IfErr result IsOfBeginning }
+{
+    let policy = opening.policy;
+    match find(store, policy, account, reading, query) {
+        Err(refusal) => Err(refusal),
+        Ok(Found::Fails(rule)) => Ok(Begun::Rejected(Rejection::of(rule))),
+        Ok(Found::Allows(planned)) => {
+            match reserve_next(store, alloc, opening, name_of(account), planned, query) {
+                Ok(pending) => Ok(Begun::Pending(pending)),
+                Err(refusal) => Err(refusal),
+            }
+        }
+    }
+}

@@ -1,0 +1,190 @@
+//! The calls of the counter.
+ghost use Rattle.std.specs.Prelude.{◌≡◌, ◌⊎◌, ◌≤◌, length, IfErr};
+ghost use Rattle.policy.specs.View.{policy_view};
+ghost use Rattle.tsp.specs.Rules.{IsFirstFailing};
+ghost use Rattle.tsp.specs.declared.rule.Rule.{Rule};
+ghost use Rattle.decide.specs.View.{account_asked};
+ghost use Rattle.tables.specs.Base.{IsHonest};
+ghost use Rattle.desk.specs.Answers.{begun_as, reply_as, answered};
+ghost use Rattle.desk.specs.Calls.{opening_view};
+ghost use Rattle.desk.specs.Command.{Begin, Finish, Abandon, Stamp, Rejected, Done};
+ghost use Rattle.desk.specs.Findings.{HoldsUnasked};
+ghost use Rattle.desk.specs.Stepped.{IsStep, no_signer, with_signer};
+
+use crate::answering::answer_with;
+use crate::beginning::begin_with;
+use crate::fault::Fault;
+use crate::finishing::finish_with;
+use crate::opening::Opening;
+use crate::pending::Pending;
+use crate::reply::{Begun, Reply};
+use cms::{Algorithm, Identity, Signer};
+use policy::{Account, Policy};
+use sqlite::Alter;
+use std::alloc::Global;
+use std::marker::Model;
+use store::Store;
+
+/// The counter of a Time-Stamping Authority: gives tokens by a written policy, over a store.
+///
+/// A call that is refused changes nothing, but for a reservation that was committed before the refusal: it stays void.
+#[derive(Drop)]
+pub struct Desk<'p, S: Alter + Drop> {
+    opening: Opening<'p>,
+    store: Store<S>,
+    alloc: Global,
+}
+
+impl<'p, S: Alter + Drop> Model for Desk<'p, S> {
+    ghost use Rattle.desk.specs.Codes.{desk_code};
+    ghost use Rattle.desk.specs.Stepped.{DeskValue};
+
+    ghost Value = { DeskValue S };
+
+    ghost coded = { desk_code S.code };
+
+    ghost use Rattle.desk.specs.Calls.{opening_view};
+
+    ghost view = { λ desk. record { setting = opening_view desk.opening; store = desk.store } };
+
+    ghost invariant = { λ desk. Unit {0} };
+}
+
+impl<'p, S: Alter + Drop> Desk<'p, S> {
+    /// A desk over a store, by a policy file, whose tokens name the identity's certificate and the signer's algorithm.
+    /// It keeps the allocator for its answers. Takes no memory.
+    pub fn new(
+        alloc: Global,
+        policy: &'p Policy,
+        identity: &'p Identity,
+        algorithm: &'p Algorithm,
+        store: Store<S>,
+    ) -> Desk<'p, S>
+        ensures { result ≡ record {
+          setting = record { file = policy_view policy.now; identity = identity.now; algorithm = algorithm.now };
+          store = store;
+        } }
+    {
+        Desk {
+            opening: Opening {
+                policy,
+                identity,
+                algorithm,
+            },
+            store,
+            alloc,
+        }
+    }
+
+    /// The policy file. Takes no memory.
+    pub fn policy(&self) -> &'p Policy
+        ensures { policy_view result.now ≡ self.now.setting.file }
+    {
+        self.opening.policy
+    }
+
+    /// The store, taken back. Takes no memory.
+    pub fn into_store(self) -> Store<S>
+        ensures { result ≡ self.entry.store }
+    {
+        let Desk {
+            opening: _,
+            store,
+            alloc: _,
+        } = self;
+        store
+    }
+
+    /// Judges a request by the rules 1 to 11, and reserves the next serial number where none fails (RFC 3161 2.4.2): the
+    /// rejection by the first rule that fails, or what waits for its signature. The reading is the clock's, in
+    /// microseconds.
+    ///
+    /// A request that fails one of the rules 1 to 9 is rejected without a call of the store and without memory. Refused
+    /// with `Memory` or `Store` where a call that the judging or the reservation needed was refused, and with `Store` where
+    /// no serial number is left; nothing is reserved then. All memory is taken before the reservation: once it is
+    /// committed, this call succeeds.
+    pub fn begin(
+        &mut self,
+        account: Option<&Account>,
+        reading: i64,
+        query: &[u8],
+    ) -> Result<Begun<'p>, Fault>
+        ensures setting { self.new.setting ≡ self.old.setting }
+        ensures honest { IsHonest S.Store self.new.store → IsHonest S.Store self.old.store }
+        ensures step { IsStep S.Store no_signer self.old.setting (Begin (account_asked account.entry) reading query.now)
+            self.old.store self.new.store (answered begun_as result) }
+        ensures unasked { (rule : Rule) → IsFirstFailing (HoldsUnasked self.old.setting.file (account_asked account.entry)
+            query.now) rule → (answered begun_as result ≡ Rejected rule) × (self.new ≡ self.old) }
+        ensures refusals { IfErr result (λ fault. (fault ≡ Fault.Memory) ⊎ (fault ≡ Fault.Store)) }
+    {
+        let opening = self.opening;
+        match begin_with(
+            &mut self.store,
+            self.alloc,
+            opening,
+            account,
+            reading,
+            query,
+        ) {
+            Ok(begun) => Ok(begun),
+            Err(refusal) => Err(Fault::from(refusal)),
+        }
+    }
+
+    /// Stores the token of a pending stamp over its signature of 1 to 4,096 octets, and answers the granted reply (RFC 3161
+    /// 2.4.2, RFC 5652 5.4). The caller's condition: this desk's store holds the reservation, and no token of it.
+    ///
+    /// Refused with `Memory` or `Store`; the reservation stays void then.
+    pub fn finish(&mut self, pending: Pending<'p>, signature: &[u8]) -> Result<Reply, Fault>
+        requires some { 1 ≤ length signature.now }
+        requires few { length signature.now ≤ 4096 }
+        ensures setting { self.new.setting ≡ self.old.setting }
+        ensures honest { IsHonest S.Store self.new.store → IsHonest S.Store self.old.store }
+        ensures step { IsStep S.Store no_signer self.old.setting (Finish pending.entry signature.now) self.old.store
+            self.new.store (answered reply_as result) }
+    {
+        match finish_with(&mut self.store, self.alloc, pending, signature) {
+            Ok(reply) => Ok(reply),
+            Err(refusal) => Err(Fault::from(refusal)),
+        }
+    }
+
+    /// Leaves the reservation of a pending stamp void. The caller's condition is that of `finish`. Takes no memory.
+    pub fn abandon(&mut self, pending: Pending<'p>)
+        ensures same { self.new ≡ self.old }
+        ensures step { IsStep S.Store no_signer self.old.setting (Abandon pending.entry) self.old.store self.new.store Done }
+    {
+        pending.abandon();
+    }
+
+    /// Answers a request (RFC 3161 2.4.2): the granted reply, whose token is stored, or the rejection by the first rule
+    /// that fails. Want of memory, a store that fails or has no serial number left, and a signer that fails are rule 12,
+    /// which comes from nothing else. The signer is asked once at most, and only after the reservation is committed; where
+    /// it or what comes after it is refused, the reservation stays void. The reading is the clock's, in microseconds.
+    pub fn answer<G: Signer>(
+        &mut self,
+        account: Option<&Account>,
+        reading: i64,
+        query: &[u8],
+        signer: &mut G,
+    ) -> Reply
+        ensures setting { self.new.setting ≡ self.old.setting }
+        ensures honest { IsHonest S.Store self.new.store → IsHonest S.Store self.old.store }
+        ensures unasked { (rule : Rule) → IsFirstFailing (HoldsUnasked self.old.setting.file (account_asked account.entry)
+            query.now) rule
+            → (reply_as result ≡ Rejected rule) × (self.new ≡ self.old) × (signer.new ≡ signer.old) }
+        ensures step { IsStep S.Store (with_signer G.signs G.fault_count signer.old signer.new) self.old.setting
+            (Stamp (account_asked account.entry) reading query.now) self.old.store self.new.store (reply_as result) }
+    {
+        let opening = self.opening;
+        answer_with(
+            &mut self.store,
+            self.alloc,
+            opening,
+            account,
+            reading,
+            query,
+            signer,
+        )
+    }
+}

@@ -1,0 +1,140 @@
+//! What is found of a request before anything is reserved.
+ghost use Rattle.std.specs.Prelude.{◌≡◌, ◌⊎◌, ℕ, ◌≤◌, List, None, length, IfOk, IfErr, MatchResult};
+ghost use Rattle.policy.specs.View.{policy_view};
+ghost use Rattle.tsp.specs.Request.{Spells};
+ghost use Rattle.tsp.specs.View.{request_view};
+ghost use Rattle.decide.specs.Verdict.{IsJudged};
+ghost use Rattle.decide.specs.View.{account_asked};
+ghost use Rattle.tables.specs.Base.{IsHonest};
+ghost use Rattle.store.specs.History.{History, greatest_serial, day_of};
+ghost use Rattle.store.specs.Fault.{count_after};
+ghost use Rattle.store.specs.Stands.{Stands, OnlyLooks};
+ghost use Rattle.tsp.specs.Rules.{IsFirstFailing};
+ghost use Rattle.tsp.specs.declared.rule.Rule.{Rule};
+ghost use Rattle.desk.specs.Findings.{HoldsUnasked, Finds, Fails};
+ghost use Rattle.desk.specs.Outcome.{faults_after};
+ghost use Rattle.desk.specs.Calls.{outcome_of, finding_of, count_for, IsOfLooks, HasRequest, IsReadFrom, HasLast};
+
+use crate::looking::{Looked, look};
+use crate::refusal::Refusal;
+use decide::{ClockState, Facts, Verdict, clock_state, decide, judge_request, verdicts_are_one};
+use der::Oid;
+use gentime::GenTime;
+use policy::{Account, Policy};
+use sqlite::Alter;
+use store::{Store, StoreFault};
+use tsp::{Request, Rule, read_request, requests_have_one_reading};
+
+/// A stamp that no rule refuses: its request, its policy and its genTime, and the greatest serial number so far.
+#[derive(Debug, Drop)]
+pub(crate) struct Planned<'p, 'a> {
+    pub(crate) request: Request<'a>,
+    pub(crate) policy: &'p Oid,
+    pub(crate) gen_time: GenTime,
+    pub(crate) last: u64,
+}
+
+/// What is found, where each call was answered.
+#[derive(Debug, Drop)]
+pub(crate) enum Found<'p, 'a> {
+    /// The first rule of 1 to 11 that fails.
+    Fails(Rule),
+    /// None fails.
+    Allows(Planned<'p, 'a>),
+}
+
+/// How many reservations the account has on the day of a genTime.
+fn count<S: Alter + Drop>(
+    store: &mut Store<S>,
+    account: Option<&Account>,
+    gen_time: GenTime,
+) -> Result<u64, StoreFault>
+    ensures looks { OnlyLooks S.Store store.old store.new }
+    ensures value { IsHonest S.Store store.new → (b : History) → Stands S.Store b store.old
+        → IfOk result (λ count. count ≡ count_for (account_asked account.entry) (day_of gen_time) b) }
+    ensures refusals { IfErr result (λ e. (e ≡ StoreFault.Memory) ⊎ (e ≡ StoreFault.Database)) }
+    ensures faults { MatchResult result (λ _. store.new.faults ≡ store.old.faults)
+        (λ e. store.new.faults ≡ count_after e store.old.faults) }
+{
+    match account {
+        None => Ok(0),
+        Some(account) => Ok(store.count_of_day(account.name.as_str(), gen_time.day())?),
+    }
+}
+
+/// Judges the rules 10 and 11, which ask the store, of a request that the rules before them let through.
+fn ask<'p, 'a, S: Alter + Drop>(
+    store: &mut Store<S>,
+    policy: &'p Policy,
+    account: Option<&Account>,
+    reading: i64,
+    request: Request<'a>,
+) -> Result<Found<'p, 'a>, Refusal>
+    ensures looks { OnlyLooks S.Store store.old store.new }
+    ensures counted { store.new.faults ≡ faults_after (outcome_of result) store.old.faults }
+    ensures finds { IsHonest S.Store store.new → (b : History) → Stands S.Store b store.old → (octets : List ℕ)
+        → Spells octets (request_view request.entry) → length octets ≤ 65536
+        → IsJudged (policy_view policy.now) (account_asked account.entry) (request_view request.entry) None
+        → Finds (policy_view policy.now) (account_asked account.entry) reading octets (outcome_of result) b
+        (finding_of result) }
+    ensures same { IfOk result (HasRequest (request_view request.entry)) }
+    ensures last { IsHonest S.Store store.new → (b : History) → Stands S.Store b store.old
+        → IfOk result (HasLast (greatest_serial b)) }
+    ensures refusals { IfErr result IsOfLooks }
+{
+    requests_have_one_reading();
+    verdicts_are_one();
+    let Looked { clock, serial } = match look(store, reading) {
+        Ok(looked) => looked,
+        Err(fault) => return Err(Refusal::Looking(fault)),
+    };
+    let ClockState::Good(gen_time) = clock_state(&policy.counter, &clock) else {
+        return Ok(Found::Fails(Rule::Clock));
+    };
+    let count = match count(store, account, gen_time) {
+        Ok(count) => count,
+        Err(fault) => return Err(Refusal::Counting(fault)),
+    };
+    match decide(policy, account, &request, &Facts { clock, count }) {
+        Verdict::Deny(rule) => Ok(Found::Fails(rule)),
+        Verdict::Allow(plan) => Ok(Found::Allows(Planned {
+            request,
+            policy: plan.policy,
+            gen_time: plan.gen_time,
+            last: serial,
+        })),
+    }
+}
+
+/// Judges the rules 1 to 11 in their order. A request that fails one of the rules 1 to 9 is answered without a call of
+/// the store and without memory; the day is counted only where the clock is good.
+pub(crate) fn find<'p, 'a, S: Alter + Drop>(
+    store: &mut Store<S>,
+    policy: &'p Policy,
+    account: Option<&Account>,
+    reading: i64,
+    query: &'a [u8],
+) -> Result<Found<'p, 'a>, Refusal>
+    ensures looks { OnlyLooks S.Store store.old store.new }
+    ensures counted { store.new.faults ≡ faults_after (outcome_of result) store.old.faults }
+    ensures finds { IsHonest S.Store store.new → (b : History) → Stands S.Store b store.old
+        → Finds (policy_view policy.now) (account_asked account.entry) reading query.now (outcome_of result) b
+        (finding_of result) }
+    ensures read { IfOk result (IsReadFrom query.now) }
+    ensures last { IsHonest S.Store store.new → (b : History) → Stands S.Store b store.old
+        → IfOk result (HasLast (greatest_serial b)) }
+    ensures unasked { (rule : Rule) → IsFirstFailing (HoldsUnasked (policy_view policy.now) (account_asked account.entry)
+        query.now) rule → (finding_of result ≡ Fails rule) × (store.new ≡ store.old) }
+    ensures refusals { IfErr result IsOfLooks }
+{
+    requests_have_one_reading();
+    verdicts_are_one();
+    let request = match read_request(query) {
+        Ok(request) => request,
+        Err(_) => return Ok(Found::Fails(Rule::Spelling)),
+    };
+    match judge_request(policy, account, &request) {
+        Some(rule) => Ok(Found::Fails(rule)),
+        None => ask(store, policy, account, reading, request),
+    }
+}

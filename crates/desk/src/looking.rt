@@ -1,0 +1,123 @@
+//! What the store says of the clock.
+ghost use Rattle.std.specs.Prelude.{◌≡◌, ◌⊎◌, ℕ, ◌≤◌, pos, Option, Some, None, option_map, IfOk, IfErr, MatchResult, MatchOption};
+ghost use Rattle.gentime.specs.GenTime.{last_moment};
+ghost use Rattle.tables.specs.Base.{IsHonest};
+ghost use Rattle.store.specs.History.{History};
+ghost use Rattle.store.specs.Stands.{Stands, OnlyLooks};
+ghost use Rattle.store.specs.Fault.{count_after};
+ghost use Rattle.store.specs.Values.{calibration_option};
+ghost use Rattle.desk.specs.Facts.{now_with, is_held_at};
+ghost use Rattle.desk.specs.Calls.{looked_at, calibrations_as, moment_or_last};
+
+use decide::{Calibration, ClockFacts, now_of};
+use gentime::GenTime;
+use sqlite::Alter;
+use store::{Store, StoreFault};
+
+/// The last moment that a genTime can state, 9999-12-31T23:59:59.999999Z.
+const LAST_MOMENT: i64 = 253_402_300_799_999_999;
+
+/// The facts of the clock, and the greatest serial number.
+#[derive(Clone, Copy, Debug)]
+pub(crate) struct Looked {
+    pub(crate) clock: ClockFacts,
+    pub(crate) serial: u64,
+}
+
+/// The same calibration, as it is judged.
+fn calibration_as(latest: Option<store::Calibration>) -> Option<Calibration>
+    ensures { result ≡ calibrations_as (calibration_option latest) }
+{
+    match latest {
+        None => None,
+        Some(latest) => Some(Calibration {
+            reading: latest.reading,
+            offset: latest.offset,
+            uncertainty: latest.uncertainty,
+        }),
+    }
+}
+
+/// A moment that a genTime can state, and where it is later the last one. No sound history has a later one.
+fn moment_of(micros: u64) -> GenTime
+    ensures { result ≡ moment_or_last micros }
+{
+    let within = match i64::try_from(micros) {
+        Ok(micros) if micros < LAST_MOMENT => micros,
+        _ => LAST_MOMENT,
+    };
+    match GenTime::from_micros(within) {
+        Ok(moment) => moment,
+        Err(_) => unreachable!(),
+    }
+}
+
+/// The last genTime, as it is judged.
+fn last_moment_of(gen_time: Option<u64>) -> Option<GenTime>
+    ensures { result ≡ option_map moment_or_last gen_time }
+{
+    match gen_time {
+        None => None,
+        Some(micros) => Some(moment_of(micros)),
+    }
+}
+
+/// The moment, where a genTime can state it.
+fn statable(now: i128) -> Option<i64>
+    ensures { MatchOption result ((n : ℕ) → now ≡ pos n → n ≤ last_moment → ⊥)
+        (λ moment. (n : ℕ) × (now ≡ pos n) × (moment ≡ pos n) × (n ≤ last_moment)) }
+{
+    let moment = i64::try_from(now).ok()?;
+    if moment < 0 || moment > LAST_MOMENT {
+        return None;
+    }
+    Some(moment)
+}
+
+/// Whether the moment that the reading stands for is held.
+fn is_held<S: Alter + Drop>(
+    store: &mut Store<S>,
+    reading: i64,
+    calibration: Option<Calibration>,
+) -> Result<bool, StoreFault>
+    ensures looks { OnlyLooks S.Store store.old store.new }
+    ensures value { IsHonest S.Store store.new → (b : History) → Stands S.Store b store.old
+        → IfOk result (λ held. held ≡ is_held_at (now_with reading calibration) b) }
+    ensures refusals { IfErr result (λ e. (e ≡ StoreFault.Memory) ⊎ (e ≡ StoreFault.Database)) }
+    ensures faults { MatchResult result (λ _. store.new.faults ≡ store.old.faults)
+        (λ e. store.new.faults ≡ count_after e store.old.faults) }
+{
+    let Some(calibration) = calibration else {
+        return Ok(false);
+    };
+    match statable(now_of(reading, &calibration)) {
+        None => Ok(false),
+        Some(now) => Ok(store.held_at(now)?),
+    }
+}
+
+/// What the store says of the clock at a reading, and its greatest serial number.
+pub(crate) fn look<S: Alter + Drop>(
+    store: &mut Store<S>,
+    reading: i64,
+) -> Result<Looked, StoreFault>
+    ensures looks { OnlyLooks S.Store store.old store.new }
+    ensures value { IsHonest S.Store store.new → (b : History) → Stands S.Store b store.old
+        → IfOk result (λ looked. looked ≡ looked_at reading b) }
+    ensures refusals { IfErr result (λ e. (e ≡ StoreFault.Memory) ⊎ (e ≡ StoreFault.Database)) }
+    ensures faults { MatchResult result (λ _. store.new.faults ≡ store.old.faults)
+        (λ e. store.new.faults ≡ count_after e store.old.faults) }
+{
+    let last = store.last()?;
+    let calibration = calibration_as(store.calibration()?);
+    let held = is_held(store, reading, calibration)?;
+    Ok(Looked {
+        clock: ClockFacts {
+            reading,
+            calibration,
+            held,
+            last_gen_time: last_moment_of(last.gen_time),
+        },
+        serial: last.serial,
+    })
+}

@@ -1,0 +1,158 @@
+//! How a stamp is reserved.
+ghost use Rattle.std.specs.Prelude.{◌≡◌, ◌⊎◌, ℕ, ◌≤◌, ◌+◌, length, Ok, IfOk, IfErr, option_map};
+ghost use Rattle.tables.specs.Base.{IsHonest};
+ghost use Rattle.gentime.specs.GenTime.{last_moment};
+ghost use Rattle.tsp.specs.Request.{Spells};
+ghost use Rattle.tsp.specs.View.{request_view};
+ghost use Rattle.store.specs.History.{History, greatest_serial};
+ghost use Rattle.store.specs.Stands.{Stands};
+ghost use Rattle.desk.specs.Outcome.{faults_after};
+ghost use Rattle.desk.specs.Calls.{adding_refusal, outcome_of, plan_of, opening_view, IsPrepared, IsOfReserving, Reserves};
+
+use crate::finding::Planned;
+use crate::opening::Opening;
+use crate::pending::Pending;
+use crate::refusal::Refusal;
+use cms::attribute_text;
+use der::Oid;
+use gentime::GenTime;
+use sqlite::Alter;
+use std::alloc::Global;
+use store::{Reservation, Store, StoreFault};
+use tsp::{ObjectIdentifier, requests_have_one_reading, write_tst};
+
+/// The greatest serial number, 2^63 - 1.
+const GREATEST: u64 = 9_223_372_036_854_775_807;
+
+/// A stamp whose texts are written.
+#[derive(Debug, Drop)]
+struct Prepared<'p, 'a> {
+    serial: u64,
+    gen_time: u64,
+    policy: &'p Oid,
+    algorithm: &'a [u8],
+    digest: &'a [u8],
+    certificate: bool,
+    tst: Vec<u8>,
+    text: Vec<u8>,
+}
+
+/// The microseconds of a genTime since 1970-01-01T00:00:00Z.
+fn micros_of(gen_time: GenTime) -> u64
+    ensures same { result ≡ gen_time }
+    ensures within { gen_time ≤ last_moment }
+{
+    gen_time.micros() as u64
+}
+
+/// Writes the TSTInfo and what is to be signed under the next serial number: all the memory that a reservation takes.
+fn prepare<'p, 'a>(
+    alloc: Global,
+    opening: Opening<'p>,
+    planned: Planned<'p, 'a>,
+    query: &'a [u8],
+) -> Result<Prepared<'p, 'a>, Refusal>
+    requires spelled { Spells query.now (request_view planned.request) }
+    requires short { length query.now ≤ 65536 }
+    requires left { planned.last + 1 ≤ 9223372036854775807 }
+    ensures prepared { IfOk result (IsPrepared (opening_view opening.entry) (plan_of planned.entry)
+        (planned.entry.last + 1)) }
+    ensures memory { IfErr result (λ refusal. refusal ≡ Refusal.Growing) }
+{
+    requests_have_one_reading();
+    let Planned {
+        request,
+        policy,
+        gen_time,
+        last,
+    } = planned;
+    let serial = last + 1;
+    let algorithm = request.algorithm();
+    let digest = request.hash();
+    let certificate = request.cert_req();
+    let micros = micros_of(gen_time);
+    let policy_file = opening.policy;
+    let counter = &policy_file.counter;
+    let tst_info = request.into_tst_info(
+        ObjectIdentifier::of(policy),
+        serial,
+        gen_time,
+        counter.accuracy_us,
+        counter.ordering,
+    );
+    let tst = match write_tst(alloc, &tst_info) {
+        Ok(tst) => tst,
+        Err(_) => return Err(Refusal::Growing),
+    };
+    let text = match attribute_text(alloc, opening.identity, &tst) {
+        Ok(text) => text,
+        Err(_) => return Err(Refusal::Growing),
+    };
+    Ok(Prepared {
+        serial,
+        gen_time: micros,
+        policy,
+        algorithm,
+        digest,
+        certificate,
+        tst,
+        text,
+    })
+}
+
+/// Why the store reserved nothing.
+fn adding_refusal(fault: StoreFault) -> Refusal
+    ensures { result ≡ adding_refusal fault }
+{
+    match fault {
+        StoreFault::Full => Refusal::Spent,
+        fault => Refusal::Adding(fault),
+    }
+}
+
+/// Reserves the next serial number for a stamp that no rule refuses. Once the reservation is committed it succeeds.
+pub(crate) fn reserve_next<'p, 'a, S: Alter + Drop>(
+    store: &mut Store<S>,
+    alloc: Global,
+    opening: Opening<'p>,
+    account: &str,
+    planned: Planned<'p, 'a>,
+    query: &'a [u8],
+) -> Result<Pending<'p>, Refusal>
+    requires spelled { Spells query.now (request_view planned.request) }
+    requires short { length query.now ≤ 65536 }
+    ensures honest { IsHonest S.Store store.new → IsHonest S.Store store.old }
+    ensures counted { store.new.faults ≡ faults_after (outcome_of result) store.old.faults }
+    ensures reserves { IsHonest S.Store store.new → (b : History) → Stands S.Store b store.old
+        → greatest_serial b ≡ planned.entry.last
+        → Reserves S.Store (opening_view opening.entry) account.now (plan_of planned.entry) query.now b store.old
+        store.new result }
+    ensures refusals { IfErr result IsOfReserving }
+{
+    if planned.last >= GREATEST {
+        return Err(Refusal::Spent);
+    }
+    let prepared = prepare(alloc, opening, planned, query)?;
+    let reservation = Reservation {
+        serial: prepared.serial,
+        account,
+        gen_time: prepared.gen_time,
+        policy: prepared.policy.content(),
+        algorithm: prepared.algorithm,
+        digest: prepared.digest,
+        request: query,
+        tst: &prepared.tst,
+    };
+    match store.reserve(&reservation) {
+        Ok(()) => {}
+        Err(fault) => return Err(adding_refusal(fault)),
+    }
+    Ok(Pending {
+        serial: prepared.serial,
+        tst: prepared.tst,
+        text: prepared.text,
+        certificate: prepared.certificate,
+        identity: opening.identity,
+        algorithm: opening.algorithm,
+    })
+}
