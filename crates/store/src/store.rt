@@ -25,8 +25,9 @@ pub(crate) const GREATEST: u64 = 9_223_372_036_854_775_807;
 
 /// The history of what the counter accepted, kept in tables. Each change is one commit.
 ///
-/// A call refused with `Memory` or `Database` changes nothing, and `faults` counts exactly the refusals with `Database`. After a
-/// fault the database may be shut; each later call is then refused.
+/// A call refused with `Memory` or `Database` changes nothing that the store shows, and `faults` counts exactly the refusals with
+/// `Database`. After a fault the database may be shut; each later call is then refused, and where the fault came in the commit itself, a
+/// later opening may find the change.
 #[derive(Drop)]
 pub struct Store<S: Alter + Drop> {
     pub(crate) base: Base<S>,
