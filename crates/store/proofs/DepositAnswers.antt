@@ -17,17 +17,20 @@ use Rattle.store.proofs.DepositRows.{deposit_view_of, stamp_view_of, origin_view
 -- ---- a deposit with its stamp
 
 deposit_seen : (b : History) (n asked : ℕ) (found : Option Deposit) → IsSound b → IsAskedFor n asked
-    → IsFoundAs ShowsDeposit (is_deposit asked) (tables_of b).deposits found → option_map deposit_view found ≡ deposit_at n b
+    → IsFoundAs ShowsDeposit (is_deposit asked) (tables_of b).deposits found
+    → option_map deposit_view found ≡ deposit_at n b
 deposit_seen b n asked found s is rows = deposit_view_of b asked found s rows ∙ same_deposit b n asked s is
 
 stamp_seen : (b : History) (n asked : ℕ) (found : Option Stamp) → IsSound b → IsAskedFor n asked
     → IsFoundAs ShowsStamp (is_stamp asked) (tables_of b).stamps found → option_map stamp_view found ≡ stamp_at n b
 stamp_seen b n asked found s is rows = stamp_view_of b asked found s rows ∙ same_stamp b n asked s is
 
-pub without_deposit : (b : History) (n asked : ℕ) (found : Option Deposit) → IsSound b → IsAskedFor n asked → found ≡ None
+pub without_deposit : (b : History) (n asked : ℕ) (found : Option Deposit) → IsSound b → IsAskedFor n asked
+    → found ≡ None
     → IsFoundAs ShowsDeposit (is_deposit asked) (tables_of b).deposits found → None ≡ deposit_with_stamp n b
 without_deposit b n asked found s is none rows =
-    let at : deposit_at n b ≡ None = sym (deposit_seen b n asked found s is rows) ∙ ap (option_map deposit_view) none in rw at refl
+    let at : deposit_at n b ≡ None =
+    sym (deposit_seen b n asked found s is rows) ∙ ap (option_map deposit_view) none in rw at refl
 
 pub without_stamp : (b : History) (n asked : ℕ) (found : Option Stamp) → IsSound b → IsAskedFor n asked → found ≡ None
     → IsFoundAs ShowsStamp (is_stamp asked) (tables_of b).stamps found → None ≡ deposit_with_stamp n b
@@ -38,7 +41,8 @@ without_stamp b n asked found s is none rows =
       whatever at None e = rw e refl
       whatever at (Some d) e = rw (e, at) refl
 
-pub with_both : (b : History) (n asked : ℕ) (found : Option Deposit) (stamped : Option Stamp) (deposit : Deposit) (stamp : Stamp) → IsSound b
+pub with_both : (b : History) (n asked : ℕ) (found : Option Deposit) (stamped : Option Stamp) (deposit : Deposit)
+    (stamp : Stamp) → IsSound b
     → IsAskedFor n asked → found ≡ Some deposit → stamped ≡ Some stamp
     → IsFoundAs ShowsDeposit (is_deposit asked) (tables_of b).deposits found
     → IsFoundAs ShowsStamp (is_stamp asked) (tables_of b).stamps stamped
@@ -57,7 +61,8 @@ pub without_origin : (b : History) (n : ℕ) (found : Option Origin) → IsSound
 without_origin b n found s none rows =
     sym (unreserved_listing b n s (subst (λ o. IsOriginOf n b o) none (origin_view_of b n found s rows)))
 
-pub without_label : (b : History) (n : ℕ) (found : Option Origin) (origin : Origin) (account : List ℕ) (label : Option Label) → IsSound b
+pub without_label : (b : History) (n : ℕ) (found : Option Origin) (origin : Origin) (account : List ℕ)
+    (label : Option Label) → IsSound b
     → found ≡ Some origin → account ≡ string_bytes origin.account → label ≡ None
     → IsFoundAs ShowsOrigin (is_stamp n) (tables_of b).stamps found
     → IsFoundAs ShowsLabel (is_owned n account) (tables_of b).deposits label → None ≡ listing_at n b
@@ -68,11 +73,18 @@ without_label b n found origin account label s is named none rows labels =
     sym (unlabelled_listing b n origin s at
     (subst (λ l. IsFoundAs ShowsLabel (is_owned n (string_bytes origin.account)) (tables_of b).deposits l) none under))
 
-pub with_label : (b : History) (n : ℕ) (found : Option Origin) (origin : Origin) (account : List ℕ) (labelled : Option Label) (label : Label) → IsSound b
+pub with_label : (b : History) (n : ℕ) (found : Option Origin) (origin : Origin) (account : List ℕ)
+    (labelled : Option Label) (label : Label) → IsSound b
     → found ≡ Some origin → account ≡ string_bytes origin.account → labelled ≡ Some label
     → IsFoundAs ShowsOrigin (is_stamp n) (tables_of b).stamps found
     → IsFoundAs ShowsLabel (is_owned n account) (tables_of b).deposits labelled
-    → Some (record { number = n; owner = string_bytes label.owner; reference = string_bytes label.reference; gen_time = origin.gen_time })
+    → Some (record {
+      number = n;
+      owner = string_bytes label.owner;
+      reference =
+          string_bytes label.reference;
+      gen_time = origin.gen_time;
+    })
     ≡ listing_at n b
 with_label b n found origin account labelled label s is named some rows labels =
     let at = subst (λ o. IsOriginOf n b o) is (origin_view_of b n found s rows) in

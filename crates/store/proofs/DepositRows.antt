@@ -37,7 +37,8 @@ deposits_are (Revoked m a ∷ b) = deposits_are b
 -- ---- each number once
 
 -- a number with a token is not open yet
-token_before : (b : History) (m n : ℕ) (token : List ℕ) → (cond (m == n) (Some token) (token_of n b)) ≡ None → token_of n b ≡ None
+token_before : (b : History) (m n : ℕ) (token : List ℕ) → (cond (m == n) (Some token) (token_of n b)) ≡ None
+    → token_of n b ≡ None
 token_before b m n token e =
     elim (true_or_false (m == n)) [
       | inl t ↦ (let here : Some token ≡ None = sym (rw t refl) ∙ e in cc)
@@ -50,7 +51,8 @@ deposit_sealed (Reserved r ∷ b) d m e = deposit_sealed b d m e
 deposit_sealed (Sealed n token ∷ b) d m e = deposit_sealed b d m (token_before b n d.serial token e)
 deposit_sealed (Deposited x token ∷ b) d m e =
     elim (member_cases x d (deposits b) m) [
-      | inl same ↦ (let t : (x.serial == d.serial) ≡ true = eq-eqb x.serial d.serial (ap (λ (v : DepositRow). v.serial) same) in
+      | inl same ↦ (let t : (x.serial == d.serial) ≡ true =
+          eq-eqb x.serial d.serial (ap (λ (v : DepositRow). v.serial) same) in
           let here : Some token ≡ None = sym (rw t refl) ∙ e in cc)
       | inr m ↦ deposit_sealed b d m (token_before b x.serial d.serial token e)
     ]
@@ -59,7 +61,8 @@ deposit_sealed (Held h ∷ b) d m e = deposit_sealed b d m e
 deposit_sealed (Granted n a ∷ b) d m e = deposit_sealed b d m e
 deposit_sealed (Revoked n a ∷ b) d m e = deposit_sealed b d m e
 
-single_cons : {X : Type 0} (p : X → Bool) (x : X) (xs : List X) → (p x ≡ true → (y : X) → Contains xs y → p y ≡ true → ⊥) → IsSingle p xs → IsSingle p (x ∷ xs)
+single_cons : {X : Type 0} (p : X → Bool) (x : X) (xs : List X)
+    → (p x ≡ true → (y : X) → Contains xs y → p y ≡ true → ⊥) → IsSingle p xs → IsSingle p (x ∷ xs)
 single_cons p x xs apart single y z m k e f =
     elim (member_cases x y xs m) [
       | inl xy ↦ (elim (member_cases x z xs k) [
@@ -94,7 +97,8 @@ single_number (Revoked m a ∷ b) n s = single_number b n s.1
 -- ---- each reference of an owner once
 
 -- where a search finds nothing, none passes
-pub fails_where_none : {X : Type 0} (p : X → Bool) (xs : List X) → find p xs ≡ None → (y : X) → Contains xs y → p y ≡ true → ⊥
+pub fails_where_none : {X : Type 0} (p : X → Bool) (xs : List X) → find p xs ≡ None → (y : X) → Contains xs y
+    → p y ≡ true → ⊥
 fails_where_none p [] none y m e = no_member y m
 fails_where_none p (x ∷ xs) none y m e =
     elim (true_or_false (p x)) [
@@ -105,15 +109,19 @@ fails_where_none p (x ∷ xs) none y m e =
       ]
     ]
 
-reference_is : (owner reference : List ℕ) (d : DepositRow) → is_deposit_of owner reference d ≡ true → (d.owner ≡ owner) × (d.reference ≡ reference)
+reference_is : (owner reference : List ℕ) (d : DepositRow) → is_deposit_of owner reference d ≡ true
+    → (d.owner ≡ owner) × (d.reference ≡ reference)
 reference_is owner reference d e =
     let parts = both_true (bytes_eq d.owner owner) (bytes_eq d.reference reference) e in
     ((bytes_eq-Decides d.owner owner).0 parts.0, (bytes_eq-Decides d.reference reference).0 parts.1)
 
-reference_passes : (owner reference : List ℕ) (d : DepositRow) → d.owner ≡ owner → d.reference ≡ reference → is_deposit_of owner reference d ≡ true
-reference_passes owner reference d e f = rw ((bytes_eq-Decides d.owner owner).1 e, (bytes_eq-Decides d.reference reference).1 f) refl
+reference_passes : (owner reference : List ℕ) (d : DepositRow) → d.owner ≡ owner → d.reference ≡ reference
+    → is_deposit_of owner reference d ≡ true
+reference_passes owner reference d e f =
+    rw ((bytes_eq-Decides d.owner owner).1 e, (bytes_eq-Decides d.reference reference).1 f) refl
 
-pub single_reference : (b : History) (owner reference : List ℕ) → IsSound b → IsSingle (is_deposit_of owner reference) (deposits b)
+pub single_reference : (b : History) (owner reference : List ℕ) → IsSound b
+    → IsSingle (is_deposit_of owner reference) (deposits b)
 single_reference [] owner reference s = single_none (is_deposit_of owner reference)
 single_reference (Reserved r ∷ b) owner reference s = single_reference b owner reference s.1
 single_reference (Sealed m token ∷ b) owner reference s = single_reference b owner reference s.1
@@ -135,9 +143,11 @@ single_reference (Revoked m a ∷ b) owner reference s = single_reference b owne
 shown_of : {X Y : Type 0} (view : Y → X) (test : X → Bool) (rows : List X) (answer : Option Y) → IsSingle test rows
     → IsFoundAs (λ x y. view y ≡ x) test rows answer → option_map view answer ≡ find test rows
 shown_of view test rows None single found = sym (find_none test rows (none_pass test rows found))
-shown_of view test rows (Some y) single (x, m, passes, shows) = sym (find_single test rows x single m passes ∙ ap Some (sym shows))
+shown_of view test rows (Some y) single (x, m, passes, shows) =
+    sym (find_single test rows x single m passes ∙ ap Some (sym shows))
 
-pub deposit_view_of : (b : History) (n : ℕ) (answer : Option Deposit) → IsSound b → IsFoundAs ShowsDeposit (is_deposit n) (tables_of b).deposits answer
+pub deposit_view_of : (b : History) (n : ℕ) (answer : Option Deposit) → IsSound b
+    → IsFoundAs ShowsDeposit (is_deposit n) (tables_of b).deposits answer
     → option_map deposit_view answer ≡ deposit_at n b
 deposit_view_of b n answer s found =
     let P : List DepositRow → Type 0 = λ rows. IsFoundAs ShowsDeposit (is_deposit n) rows answer in
@@ -148,14 +158,17 @@ pub under_view_of : (b : History) (owner reference : List ℕ) (answer : Option 
     → option_map deposit_view answer ≡ deposit_under owner reference b
 under_view_of b owner reference answer s found =
     let P : List DepositRow → Type 0 = λ rows. IsFoundAs ShowsDeposit (is_deposit_of owner reference) rows answer in
-    shown_of deposit_view (is_deposit_of owner reference) (deposits b) answer (single_reference b owner reference s) (subst P (deposits_are b) found)
+    shown_of deposit_view (is_deposit_of owner reference) (deposits b) answer (single_reference b owner reference s)
+    (subst P (deposits_are b) found)
 
 single_stamp : (b : History) (n : ℕ) → IsSound b → IsSingle (is_stamp n) (stamps b)
 single_stamp b n s x y m k e f =
-    falling_single (λ (v : StampRow). v.serial) (stamps b) x y (stamps_fall b s) m k (eqb-true x.serial n e ∙ sym (eqb-true y.serial n f))
+    falling_single (λ (v : StampRow). v.serial) (stamps b) x y (stamps_fall b s) m k
+    (eqb-true x.serial n e ∙ sym (eqb-true y.serial n f))
 
 find_stamp : (b : History) (n : ℕ) (rs : List ReservationValue)
-    → find (is_stamp n) (map (λ r. stamp_of (token_of r.serial b) r) rs) ≡ option_map (stamp_of (token_of n b)) (find (λ r. r.serial == n) rs)
+    → find (is_stamp n) (map (λ r. stamp_of (token_of r.serial b) r) rs)
+    ≡ option_map (stamp_of (token_of n b)) (find (λ r. r.serial == n) rs)
 find_stamp b n [] = refl
 find_stamp b n (r ∷ rs) =
     elim (eqb_tells r.serial n) [
@@ -163,18 +176,22 @@ find_stamp b n (r ∷ rs) =
       | inr f ↦ rw f.0 (find_stamp b n rs)
     ]
 
-pub stamp_view_of : (b : History) (n : ℕ) (answer : Option Stamp) → IsSound b → IsFoundAs ShowsStamp (is_stamp n) (tables_of b).stamps answer
+pub stamp_view_of : (b : History) (n : ℕ) (answer : Option Stamp) → IsSound b
+    → IsFoundAs ShowsStamp (is_stamp n) (tables_of b).stamps answer
     → option_map stamp_view answer ≡ stamp_at n b
 stamp_view_of b n answer s found =
     let P : List StampRow → Type 0 = λ rows. IsFoundAs ShowsStamp (is_stamp n) rows answer in
-    shown_of stamp_view (is_stamp n) (stamps b) answer (single_stamp b n s) (subst P (stamps_are b s) found) ∙ find_stamp b n (reservations b)
+    shown_of stamp_view (is_stamp n) (stamps b) answer (single_stamp b n s) (subst P (stamps_are b s) found)
+    ∙ find_stamp b n (reservations b)
 
 -- whose stamp it is, and of when
-pub origin_view_of : (b : History) (n : ℕ) (answer : Option Origin) → IsSound b → IsFoundAs ShowsOrigin (is_stamp n) (tables_of b).stamps answer
+pub origin_view_of : (b : History) (n : ℕ) (answer : Option Origin) → IsSound b
+    → IsFoundAs ShowsOrigin (is_stamp n) (tables_of b).stamps answer
     → IsOriginOf n b answer
 origin_view_of b n answer s found =
     let P : List StampRow → Type 0 = λ rows. IsFoundAs ShowsOrigin (is_stamp n) rows answer in
-    let searched = found_is_searched ShowsOrigin (is_stamp n) (stamps b) answer (single_stamp b n s) (subst P (stamps_are b s) found) in
+    let searched = found_is_searched ShowsOrigin (is_stamp n) (stamps b) answer (single_stamp b n s)
+    (subst P (stamps_are b s) found) in
     of_found answer (reservation_at n b) refl (find_stamp b n (reservations b)) searched where
       of_found : (answer : Option Origin) (r : Option ReservationValue) → reservation_at n b ≡ r
           → find (is_stamp n) (stamps b) ≡ option_map (stamp_of (token_of n b)) (reservation_at n b)
@@ -186,8 +203,13 @@ origin_view_of b n answer s found =
           let none : find (is_stamp n) (stamps b) ≡ None = same ∙ rw e refl in cc
       of_found (Some o) (Some r) e same (row, is, shows) =
           let some : find (is_stamp n) (stamps b) ≡ Some (stamp_of (token_of n b) r) = same ∙ rw e refl in
-          let same_row : row ≡ stamp_of (token_of n b) r = cc in
-          (r, e, shows.0 ∙ ap (λ (v : StampRow). v.account) same_row, shows.1 ∙ ap (λ (v : StampRow). v.gen_time) same_row)
+          let same_row : row ≡ stamp_of (token_of n b) r = cc in (
+            r,
+            e,
+            shows.0 ∙ ap (λ (v : StampRow). v.account) same_row,
+            shows.1
+                ∙ ap (λ (v : StampRow). v.gen_time) same_row,
+          )
 
 -- the account of a deposit's reservation owns it
 owner_reserved : (b : History) (d : DepositRow) → IsSound b → Contains (deposits b) d
@@ -204,7 +226,8 @@ owner_reserved (Reserved x ∷ b) d s m =
 owner_reserved (Sealed n token ∷ b) d s m = owner_reserved b d s.1 m
 owner_reserved (Deposited x token ∷ b) d s m =
     elim (member_cases x d (deposits b) m) [
-      | inl same ↦ (let P : DepositRow → Type 0 = λ v. (r : ReservationValue) × (reservation_at v.serial b ≡ Some r) × (r.account ≡ v.owner) in
+      | inl same ↦ (let P : DepositRow → Type 0 =
+          λ v. (r : ReservationValue) × (reservation_at v.serial b ≡ Some r) × (r.account ≡ v.owner) in
           subst P same (s.0.sealed.reservation, s.0.sealed.reserved, s.0.owner))
       | inr m ↦ owner_reserved b d s.1 m
     ]
@@ -249,7 +272,8 @@ no_reader (Granted m x ∷ b) n a s none =
 no_reader (Revoked m x ∷ b) n a s none =
     elim (true_or_false ((m == n) && bytes_eq x a)) [ inl t ↦ rw t refl | inr f ↦ rw f (no_reader b n a s.1 none) ]
 
-owned_is : (ds : List DepositRow) (n : ℕ) (a : List ℕ) (d : DepositRow) → IsSingle (is_deposit n) ds → find (is_deposit n) ds ≡ Some d
+owned_is : (ds : List DepositRow) (n : ℕ) (a : List ℕ) (d : DepositRow) → IsSingle (is_deposit n) ds
+    → find (is_deposit n) ds ≡ Some d
     → list_any (is_owned n a) ds ≡ bytes_eq d.owner a
 owned_is ds n a d single is =
     let there = found_member (is_deposit n) ds d is in
@@ -264,39 +288,45 @@ owned_is ds n a d single is =
           ])) ∙ sym f
     ]
 
-owned_none : (ds : List DepositRow) (n : ℕ) (a : List ℕ) → find (is_deposit n) ds ≡ None → list_any (is_owned n a) ds ≡ false
+owned_none : (ds : List DepositRow) (n : ℕ) (a : List ℕ) → find (is_deposit n) ds ≡ None
+    → list_any (is_owned n a) ds ≡ false
 owned_none ds n a none =
     none_pass (is_owned n a) ds (λ y m.
     (elim (true_or_false (is_owned n a y)) [
-      | inl own ↦ (let parts = both_true (y.serial == n) (bytes_eq y.owner a) own in absurd (fails_where_none (is_deposit n) ds none y m parts.0))
+      | inl own ↦ (let parts = both_true (y.serial == n) (bytes_eq y.owner a) own in
+          absurd (fails_where_none (is_deposit n) ds none y m parts.0))
       | inr not ↦ not
     ]))
 
 visible_at : (b : History) (n : ℕ) (a : List ℕ) (o : Option DepositRow) → IsSound b → deposit_at n b ≡ o
-    → (list_any (is_owned n a) (deposits b) || is_reader n a b) ≡ is_some (option_and_then (shown_to a (is_reader n a b)) o)
+    → (list_any (is_owned n a) (deposits b) || is_reader n a b)
+    ≡ is_some (option_and_then (shown_to a (is_reader n a b)) o)
 visible_at b n a None s e = rw (owned_none (deposits b) n a e, no_reader b n a s e) refl
-visible_at b n a (Some d) s e = rw (owned_is (deposits b) n a d (single_number b n s) e) (choose (bytes_eq d.owner a || is_reader n a b)) where
-  choose : (v : Bool) → v ≡ is_some (cond v (Some d) None)
-  choose true = refl
-  choose false = refl
+visible_at b n a (Some d) s e =
+    rw (owned_is (deposits b) n a d (single_number b n s) e) (choose (bytes_eq d.owner a || is_reader n a b)) where
+      choose : (v : Bool) → v ≡ is_some (cond v (Some d) None)
+      choose true = refl
+      choose false = refl
 
 -- visible is what an owner's row or a reader's row has
 pub visible_view : (b : History) (n : ℕ) (a : List ℕ) → IsSound b
-    → (list_any (is_owned n a) (tables_of b).deposits || list_any (is_reader_row n a) (tables_of b).readers) ≡ is_visible a n b
+    → (list_any (is_owned n a) (tables_of b).deposits || list_any (is_reader_row n a) (tables_of b).readers)
+    ≡ is_visible a n b
 visible_view b n a s = rw (deposits_are b, readers_are b n a) (visible_at b n a (deposit_at n b) s refl)
 
 -- ---- numbers
 
 -- what isn't reserved is no deposit
 pub no_deposit : (b : History) (n : ℕ) → IsSound b → reservation_at n b ≡ None → deposit_at n b ≡ None
-no_deposit b n s none = find_none (is_deposit n) (deposits b) (none_pass (is_deposit n) (deposits b) (λ y m. fails y m)) where
-  fails : (y : DepositRow) → Contains (deposits b) y → is_deposit n y ≡ false
-  fails y m =
-      elim (true_or_false (is_deposit n y)) [
-        | inl t ↦ (let P : ℕ → Type 0 = λ k. token_of k b ≡ None in
-            absurd (deposit_sealed b y m (subst P (sym (eqb-true y.serial n t)) (unreserved b n s none))))
-        | inr f ↦ f
-      ]
+no_deposit b n s none = find_none (is_deposit n) (deposits b)
+    (none_pass (is_deposit n) (deposits b) (λ y m. fails y m)) where
+      fails : (y : DepositRow) → Contains (deposits b) y → is_deposit n y ≡ false
+      fails y m =
+          elim (true_or_false (is_deposit n y)) [
+            | inl t ↦ (let P : ℕ → Type 0 = λ k. token_of k b ≡ None in
+                absurd (deposit_sealed b y m (subst P (sym (eqb-true y.serial n t)) (unreserved b n s none))))
+            | inr f ↦ f
+          ]
 
 pub none_beyond : (b : History) (n : ℕ) → IsSound b → greatest_serial b < n → deposit_at n b ≡ None
 none_beyond b n s l = no_deposit b n s (absent_above (reservations b) n l)
@@ -345,7 +375,8 @@ same_stamp b n asked s (inr (zero_is, beyond)) =
     let at_number : reservation_at n b ≡ None = absent_above (reservations b) n (omega (arith, within, beyond)) in
     subst P (sym zero_is) at_zero ∙ rw at_number refl
 
-pub same_visible : (b : History) (n asked : ℕ) (a : List ℕ) → IsSound b → IsAskedFor n asked → is_visible a asked b ≡ is_visible a n b
+pub same_visible : (b : History) (n asked : ℕ) (a : List ℕ) → IsSound b → IsAskedFor n asked
+    → is_visible a asked b ≡ is_visible a n b
 same_visible b n asked a s (inl same) = ap (λ k. is_visible a k b) same
 same_visible b n asked a s (inr (zero_is, beyond)) =
     let within = serials_within b s in
@@ -361,51 +392,73 @@ unreserved_listing b n s none = rw (no_deposit b n s none) refl
 
 -- its label stands under the account of its stamp
 pub unlabelled_listing : (b : History) (n : ℕ) (origin : Origin) → IsSound b → IsOriginOf n b (Some origin)
-    → IsFoundAs ShowsLabel (is_owned n (string_bytes origin.account)) (tables_of b).deposits None → listing_at n b ≡ None
+    → IsFoundAs ShowsLabel (is_owned n (string_bytes origin.account)) (tables_of b).deposits None
+    → listing_at n b ≡ None
 unlabelled_listing b n origin s (r, at, account, gen_time) found =
-    let P : List DepositRow → Type 0 = λ rows. IsFoundAs ShowsLabel (is_owned n (string_bytes origin.account)) rows None in
+    let P : List DepositRow → Type 0 =
+    λ rows. IsFoundAs ShowsLabel (is_owned n (string_bytes origin.account)) rows None in
     none_found (subst P (deposits_are b) found) (deposit_at n b) refl where
-      none_found : IsFoundAs ShowsLabel (is_owned n (string_bytes origin.account)) (deposits b) None → (o : Option DepositRow) → deposit_at n b ≡ o
+      none_found : IsFoundAs ShowsLabel (is_owned n (string_bytes origin.account)) (deposits b) None
+          → (o : Option DepositRow) → deposit_at n b ≡ o
           → listing_at n b ≡ None
       none_found none None e = rw e refl
       none_found none (Some d) e =
           let own = deposit_origin b n d r s e at in
           let fails : is_owned n (string_bytes origin.account) d ≡ false = none d own.2 in
           let passes : is_owned n (string_bytes origin.account) d ≡ true =
-          rw (eq-eqb d.serial n own.0, (bytes_eq-Decides d.owner (string_bytes origin.account)).1 (sym (account ∙ own.1))) refl in cc
+          rw (
+            eq-eqb d.serial n own.0,
+            (bytes_eq-Decides d.owner (string_bytes origin.account)).1
+                (sym (account ∙ own.1)),
+          ) refl in cc
 
-pub labelled_listing : (b : History) (n : ℕ) (origin : Origin) (label : Label) → IsSound b → IsOriginOf n b (Some origin)
+pub labelled_listing : (b : History) (n : ℕ) (origin : Origin) (label : Label) → IsSound b
+    → IsOriginOf n b (Some origin)
     → IsFoundAs ShowsLabel (is_owned n (string_bytes origin.account)) (tables_of b).deposits (Some label)
-    → Some (record { number = n; owner = string_bytes label.owner; reference = string_bytes label.reference; gen_time = origin.gen_time })
+    → Some (record {
+      number = n;
+      owner = string_bytes label.owner;
+      reference =
+          string_bytes label.reference;
+      gen_time = origin.gen_time;
+    })
     ≡ listing_at n b
 labelled_listing b n origin label s (r, at, account, gen_time) (d, m, passes, shows) =
     let P : List DepositRow → Type 0 = λ rows. Contains rows d in
     let parts = both_true (d.serial == n) (bytes_eq d.owner (string_bytes origin.account)) passes in
-    let found : deposit_at n b ≡ Some d = find_single (is_deposit n) (deposits b) d (single_number b n s) (subst P (deposits_are b) m) parts.0 in
+    let found : deposit_at n b ≡ Some d =
+    find_single (is_deposit n) (deposits b) d (single_number b n s) (subst P (deposits_are b) m) parts.0 in
     let serial : d.serial ≡ n = eqb-true d.serial n parts.0 in
     rw (found, at, shows.0, shows.1, gen_time, serial) refl
 
 -- ---- who sees a number that is asked for
 
-pub seen_by_reader : (b : History) (n asked : ℕ) (a : List ℕ) (reads : Bool) → IsSound b → IsAskedFor n asked → reads ≡ true
+pub seen_by_reader : (b : History) (n asked : ℕ) (a : List ℕ) (reads : Bool) → IsSound b → IsAskedFor n asked
+    → reads ≡ true
     → reads ≡ list_any (is_reader_row asked a) (tables_of b).readers → true ≡ is_visible a n b
 seen_by_reader b n asked a reads s is true_is found =
     let row : list_any (is_reader_row asked a) (tables_of b).readers ≡ true = sym found ∙ true_is in
-    let view : (list_any (is_owned asked a) (tables_of b).deposits || list_any (is_reader_row asked a) (tables_of b).readers) ≡ is_visible a asked b =
+    let view : (list_any (is_owned asked a) (tables_of b).deposits || list_any (is_reader_row asked a)
+    (tables_of b).readers) ≡ is_visible a asked b =
     visible_view b asked a s in
-    sym (rw row (or_true (list_any (is_owned asked a) (tables_of b).deposits))) ∙ view ∙ same_visible b n asked a s is where
+    sym (rw row (or_true (list_any (is_owned asked a) (tables_of b).deposits))) ∙ view
+    ∙ same_visible b n asked a s is where
       or_true : (v : Bool) → (v || true) ≡ true
       or_true true = refl
       or_true false = refl
 
-pub seen_by_owner : (b : History) (n asked : ℕ) (a : List ℕ) (reads owns : Bool) → IsSound b → IsAskedFor n asked → reads ≡ false
-    → reads ≡ list_any (is_reader_row asked a) (tables_of b).readers → owns ≡ list_any (is_owned asked a) (tables_of b).deposits
+pub seen_by_owner : (b : History) (n asked : ℕ) (a : List ℕ) (reads owns : Bool) → IsSound b → IsAskedFor n asked
+    → reads ≡ false
+    → reads ≡ list_any (is_reader_row asked a) (tables_of b).readers
+    → owns ≡ list_any (is_owned asked a) (tables_of b).deposits
     → owns ≡ is_visible a n b
 seen_by_owner b n asked a reads owns s is false_is found own =
     let row : list_any (is_reader_row asked a) (tables_of b).readers ≡ false = sym found ∙ false_is in
-    let view : (list_any (is_owned asked a) (tables_of b).deposits || list_any (is_reader_row asked a) (tables_of b).readers) ≡ is_visible a asked b =
+    let view : (list_any (is_owned asked a) (tables_of b).deposits || list_any (is_reader_row asked a)
+    (tables_of b).readers) ≡ is_visible a asked b =
     visible_view b asked a s in
-    own ∙ sym (rw row (or_false (list_any (is_owned asked a) (tables_of b).deposits))) ∙ view ∙ same_visible b n asked a s is where
+    own ∙ sym (rw row (or_false (list_any (is_owned asked a) (tables_of b).deposits))) ∙ view
+    ∙ same_visible b n asked a s is where
       or_false : (v : Bool) → (v || false) ≡ v
       or_false true = refl
       or_false false = refl

@@ -22,9 +22,11 @@ use Rattle.store.proofs.Members.{both_true, true_or_false, none_pass, some_pass}
 -- the least number after one that passes
 abbrev IsNextOf : (ℕ → Bool) → ℕ → Option ℕ → Type 0
 IsNextOf test after None = (n : ℕ) → after < n → test n ≡ false
-IsNextOf test after (Some next) = (after < next) × (test next ≡ true) × ((n : ℕ) → after < n → n < next → test n ≡ false)
+IsNextOf test after (Some next) = (after < next) × (test next ≡ true) × ((n : ℕ) → after < n → n < next
+    → test n ≡ false)
 
-passes_later : {X : Type 0} (key : X → ℕ) (mine : X → Bool) (x : X) (n after : ℕ) → after < n → ((key x == n) && mine x) ≡ true
+passes_later : {X : Type 0} (key : X → ℕ) (mine : X → Bool) (x : X) (n after : ℕ) → after < n
+    → ((key x == n) && mine x) ≡ true
     → ((mine x && nat_lt after (key x)) ≡ true) × (key x ≡ n)
 passes_later key mine x n after later t =
     let parts = both_true (key x == n) (mine x) t in
@@ -35,13 +37,15 @@ passes_later key mine x n after later t =
 next_row : {X : Type 0} (key : X → ℕ) (mine : X → Bool) (rows : List X) (after : ℕ) (answer : Option ℕ)
     → IsLeastAs (λ x n. n ≡ key x) key (λ x. mine x && nat_lt after (key x)) rows answer
     → IsNextOf (λ n. list_any (λ x. (key x == n) && mine x) rows) after answer
-next_row {X} key mine rows after None found = λ n later. none_pass (λ x. (key x == n) && mine x) rows (fails n later) where
-  fails : (n : ℕ) → after < n → (x : X) → Contains rows x → ((key x == n) && mine x) ≡ false
-  fails n later x m =
-      elim (true_or_false ((key x == n) && mine x)) [
-        | inl t ↦ (let passes = passes_later key mine x n after later t in let fails = found x m in let no = passes.0 in cc)
-        | inr f ↦ f
-      ]
+next_row {X} key mine rows after None found =
+    λ n later. none_pass (λ x. (key x == n) && mine x) rows (fails n later) where
+      fails : (n : ℕ) → after < n → (x : X) → Contains rows x → ((key x == n) && mine x) ≡ false
+      fails n later x m =
+          elim (true_or_false ((key x == n) && mine x)) [
+            | inl t ↦ (let passes = passes_later key mine x n after later t in let fails = found x m in let no =
+                passes.0 in cc)
+            | inr f ↦ f
+          ]
 next_row {X} key mine rows after (Some next) (x, m, passes, least, shows) =
     let parts = both_true (mine x) (nat_lt after (key x)) passes in
     let lt : after < key x = ltb-true after (key x) parts.1 in
@@ -65,7 +69,8 @@ nat_cases n m =
     ]
 
 -- the lesser of two is the next of both
-least_next : (p q : ℕ → Bool) (after : ℕ) (a b : Option ℕ) → IsNextOf p after a → IsNextOf q after b → IsNextOf (λ n. p n || q n) after (least_of a b)
+least_next : (p q : ℕ → Bool) (after : ℕ) (a b : Option ℕ) → IsNextOf p after a → IsNextOf q after b
+    → IsNextOf (λ n. p n || q n) after (least_of a b)
 least_next p q after None None f g = λ n later. rw (f n later, g n later) refl
 least_next p q after None (Some m) f g =
     let here : p m ≡ false = f m g.0 in
@@ -74,30 +79,48 @@ least_next p q after (Some n) None f g = (f.0, rw f.1 refl, λ k later before. r
 least_next p q after (Some n) (Some m) f g =
     elim (nat_cases n m) [
       | inl less ↦ (let is : min n m ≡ n = omega (arith, less) in
-          let P : ℕ → Type 0 = λ v. (after < v) × ((p v || q v) ≡ true) × ((k : ℕ) → after < k → k < v → (p k || q k) ≡ false) in
-          subst P (sym is) (f.0, rw f.1 refl, λ k later before. rw (f.2 k later before, g.2 k later (omega (arith, before, less))) refl))
+          let P : ℕ → Type 0 = λ v. (after < v) × ((p v || q v) ≡ true) × ((k : ℕ) → after < k → k < v
+          → (p k || q k) ≡ false) in
+          subst P (sym is) (
+            f.0,
+            rw f.1 refl,
+            λ k later before. rw
+                (f.2 k later before, g.2 k later (omega (arith, before, less))) refl,
+          ))
       | inr more ↦ (let is : min n m ≡ m = omega (arith, more) in
-          let P : ℕ → Type 0 = λ v. (after < v) × ((p v || q v) ≡ true) × ((k : ℕ) → after < k → k < v → (p k || q k) ≡ false) in
-          subst P (sym is) (g.0, rw g.1 (or_true (p m)), λ k later before. rw (f.2 k later (omega (arith, before, more)), g.2 k later before) refl))
+          let P : ℕ → Type 0 = λ v. (after < v) × ((p v || q v) ≡ true) × ((k : ℕ) → after < k → k < v
+          → (p k || q k) ≡ false) in
+          subst P (sym is) (
+            g.0,
+            rw g.1 (or_true (p m)),
+            λ k later before. rw
+                (f.2 k later (omega (arith, before, more)), g.2 k later before) refl,
+          ))
     ] where
       or_true : (a : Bool) → (a || true) ≡ true
       or_true true = refl
       or_true false = refl
 
-seen_same : (p : ℕ → Bool) (b : History) (account : List ℕ) (after : ℕ) (answer : Option ℕ) → ((n : ℕ) → p n ≡ is_visible account n b) → IsNextOf p after answer
+seen_same : (p : ℕ → Bool) (b : History) (account : List ℕ) (after : ℕ) (answer : Option ℕ)
+    → ((n : ℕ) → p n ≡ is_visible account n b) → IsNextOf p after answer
     → IsNextSeen account after b answer
 seen_same p b account after None same next = λ n later. sym (same n) ∙ next n later
-seen_same p b account after (Some m) same next = (next.0, sym (same m) ∙ next.1, λ n later before. sym (same n) ∙ next.2 n later before)
+seen_same p b account after (Some m) same next =
+    (next.0, sym (same m) ∙ next.1, λ n later before. sym (same n) ∙ next.2 n later before)
 
-readable_same : (p : ℕ → Bool) (b : History) (account : List ℕ) (after : ℕ) (answer : Option ℕ) → ((n : ℕ) → p n ≡ is_reader n account b)
+readable_same : (p : ℕ → Bool) (b : History) (account : List ℕ) (after : ℕ) (answer : Option ℕ)
+    → ((n : ℕ) → p n ≡ is_reader n account b)
     → IsNextOf p after answer → IsNextReadable account after b answer
 readable_same p b account after None same next = λ n later. sym (same n) ∙ next n later
-readable_same p b account after (Some m) same next = (next.0, sym (same m) ∙ next.1, λ n later before. sym (same n) ∙ next.2 n later before)
+readable_same p b account after (Some m) same next =
+    (next.0, sym (same m) ∙ next.1, λ n later before. sym (same n) ∙ next.2 n later before)
 
-same_readable : (p : ℕ → Bool) (b : History) (account : List ℕ) (after : ℕ) (answer : Option ℕ) → ((n : ℕ) → p n ≡ is_reader n account b)
+same_readable : (p : ℕ → Bool) (b : History) (account : List ℕ) (after : ℕ) (answer : Option ℕ)
+    → ((n : ℕ) → p n ≡ is_reader n account b)
     → IsNextReadable account after b answer → IsNextOf p after answer
 same_readable p b account after None same next = λ n later. same n ∙ next n later
-same_readable p b account after (Some m) same next = (next.0, same m ∙ next.1, λ n later before. same n ∙ next.2 n later before)
+same_readable p b account after (Some m) same next =
+    (next.0, same m ∙ next.1, λ n later before. same n ∙ next.2 n later before)
 
 -- the next reader's row is the next deposit that the account reads
 pub readable_view : (b : History) (account : List ℕ) (after : ℕ) (readable : Option ℕ)
@@ -106,14 +129,17 @@ pub readable_view : (b : History) (account : List ℕ) (after : ℕ) (readable :
 readable_view b account after readable found =
     let q : ℕ → Bool = λ n. list_any (is_reader_row n account) (tables_of b).readers in
     let read : IsNextOf q after readable =
-    next_row (λ (row : ReaderRow). row.serial) (λ (row : ReaderRow). bytes_eq row.account account) (tables_of b).readers after readable found in
+    next_row (λ (row : ReaderRow). row.serial) (λ (row : ReaderRow). bytes_eq row.account account)
+    (tables_of b).readers after readable found in
     readable_same q b account after readable (λ n. readers_are b n account) read
 
 -- it stays so up to that deposit
-pub still_readable : (b : History) (account : List ℕ) (before after : ℕ) (readable : Option ℕ) → before < after → IfSome readable (λ n. after < n)
+pub still_readable : (b : History) (account : List ℕ) (before after : ℕ) (readable : Option ℕ) → before < after
+    → IfSome readable (λ n. after < n)
     → IsNextReadable account before b readable → IsNextReadable account after b readable
 still_readable b account before after None less above next = λ n later. next n (omega (arith, less, later))
-still_readable b account before after (Some m) less above next = (above, next.1, λ n later within. next.2 n (omega (arith, less, later)) within)
+still_readable b account before after (Some m) less above next =
+    (above, next.1, λ n later within. next.2 n (omega (arith, less, later)) within)
 
 -- the lesser of the next that the account owns and the next that it reads is the next that it sees
 pub next_view : (b : History) (account : List ℕ) (after : ℕ) (owned readable : Option ℕ) → IsSound b
@@ -123,9 +149,12 @@ next_view b account after owned readable s first second =
     let p : ℕ → Bool = λ n. list_any (is_owned n account) (tables_of b).deposits in
     let q : ℕ → Bool = λ n. list_any (is_reader_row n account) (tables_of b).readers in
     let own : IsNextOf p after owned =
-    next_row (λ (row : DepositRow). row.serial) (λ (row : DepositRow). bytes_eq row.owner account) (tables_of b).deposits after owned first in
-    let read : IsNextOf q after readable = same_readable q b account after readable (λ n. readers_are b n account) second in
-    seen_same (λ n. p n || q n) b account after (least_of owned readable) (λ n. visible_view b n account s) (least_next p q after owned readable own read)
+    next_row (λ (row : DepositRow). row.serial) (λ (row : DepositRow). bytes_eq row.owner account)
+    (tables_of b).deposits after owned first in
+    let read : IsNextOf q after readable =
+    same_readable q b account after readable (λ n. readers_are b n account) second in
+    seen_same (λ n. p n || q n) b account after (least_of owned readable) (λ n. visible_view b n account s)
+    (least_next p q after owned readable own read)
 
 -- the next is after the last
 pub later_view : (b : History) (account : List ℕ) (after : ℕ) (next : Option ℕ) → IsNextSeen account after b next
@@ -155,38 +184,45 @@ one_more account b n =
     ap (filter_map (listed_at account b)) (range_more 1 n ∙ ap (λ k. range_with_len 1 n ++ k ∷ []) same)
     ∙ filter_map-append (listed_at account b) (range_with_len 1 n) (suc n ∷ [])
     ∙ ap (λ l. listed_up_to account b n ++ l) (of_one (listed_at account b (suc n)) refl) where
-      of_one : (o : Option ListedValue) → listed_at account b (suc n) ≡ o → filter_map (listed_at account b) (suc n ∷ []) ≡ option_to_list o
+      of_one : (o : Option ListedValue) → listed_at account b (suc n) ≡ o
+          → filter_map (listed_at account b) (suc n ∷ []) ≡ option_to_list o
       of_one None e = rw e refl
       of_one (Some v) e = rw e refl
 
 hidden : (account : List ℕ) (b : History) (n : ℕ) → is_visible account n b ≡ false → listed_at account b n ≡ None
 hidden account b n e = go (seen_by account n b) e where
-  go : (o : Option DepositRow) → is_some o ≡ false → option_and_then (λ d. option_map (listed_as d) (reservation_at n b)) o ≡ None
+  go : (o : Option DepositRow) → is_some o ≡ false
+      → option_and_then (λ d. option_map (listed_as d) (reservation_at n b)) o ≡ None
   go None e = refl
   go (Some d) e = cc
 
 -- numbers that the account doesn't see add nothing
-passed_over : (account : List ℕ) (b : History) (from k : ℕ) → ((n : ℕ) → from < n → n ≤ from + k → is_visible account n b ≡ false)
+passed_over : (account : List ℕ) (b : History) (from k : ℕ)
+    → ((n : ℕ) → from < n → n ≤ from + k → is_visible account n b ≡ false)
     → listed_up_to account b (from + k) ≡ listed_up_to account b from
 passed_over account b from zero none = let same : from + 0 ≡ from = omega arith in ap (listed_up_to account b) same
 passed_over account b from (suc k) none =
     let same : from + suc k ≡ suc (from + k) = omega arith in
     let last = hidden account b (suc (from + k)) (none (suc (from + k)) (omega arith) (omega arith)) in
     ap (listed_up_to account b) same ∙ one_more account b (from + k)
-    ∙ rw last (append_nothing (listed_up_to account b (from + k))) ∙ passed_over account b from k (λ n later within. none n later (omega (arith, within))) where
+    ∙ rw last (append_nothing (listed_up_to account b (from + k)))
+    ∙ passed_over account b from k (λ n later within. none n later (omega (arith, within))) where
       append_nothing : (xs : List ListedValue) → xs ++ [] ≡ xs
       append_nothing [] = refl
       append_nothing (x ∷ xs) = ap (λ l. x ∷ l) (append_nothing xs)
 
-shown_whole : (account : List ℕ) (b : History) (n : ℕ) → is_visible account n b ≡ true → listed_at account b n ≡ listing_at n b
+shown_whole : (account : List ℕ) (b : History) (n : ℕ) → is_visible account n b ≡ true
+    → listed_at account b n ≡ listing_at n b
 shown_whole account b n e = go (deposit_at n b) e where
   go : (o : Option DepositRow) → is_some (option_and_then (shown_to account (is_reader n account b)) o) ≡ true
-      → option_and_then (λ d. option_map (listed_as d) (reservation_at n b)) (option_and_then (shown_to account (is_reader n account b)) o)
+      → option_and_then (λ d. option_map (listed_as d) (reservation_at n b))
+      (option_and_then (shown_to account (is_reader n account b)) o)
       ≡ option_and_then (λ d. option_map (listed_as d) (reservation_at n b)) o
   go None e = refl
   go (Some d) e = of_test (bytes_eq d.owner account || is_reader n account b) e where
     of_test : (v : Bool) → is_some (cond v (Some d) None) ≡ true
-        → option_and_then (λ d. option_map (listed_as d) (reservation_at n b)) (cond v (Some d) None) ≡ option_map (listed_as d) (reservation_at n b)
+        → option_and_then (λ d. option_map (listed_as d) (reservation_at n b)) (cond v (Some d) None)
+        ≡ option_map (listed_as d) (reservation_at n b)
     of_test true e = refl
     of_test false e = cc
 
@@ -205,7 +241,8 @@ next_listed account b after next is =
     ∙ ap (λ o. listed_up_to account b after ++ option_to_list o) (shown_whole account b next is.1)
 
 -- the end: all is listed
-pub all_listed : (account : List ℕ) (b : History) (after : ℕ) → IsSound b → IsNextSeen account after b None → listed_up_to account b after ≡ listed account b
+pub all_listed : (account : List ℕ) (b : History) (after : ℕ) → IsSound b → IsNextSeen account after b None
+    → listed_up_to account b after ≡ listed account b
 all_listed account b after s none =
     elim (nat_cases after (greatest_serial b)) [
       | inl before ↦ (let k : ℕ = greatest_serial b - after in
@@ -213,7 +250,8 @@ all_listed account b after s none =
           sym (sym (ap (listed_up_to account b) at) ∙ passed_over account b after k (λ n later within. none n later)))
       | inr beyond ↦ (let k : ℕ = after - greatest_serial b in
           let at : greatest_serial b + k ≡ after = omega (arith, beyond) in
-          sym (ap (listed_up_to account b) at) ∙ passed_over account b (greatest_serial b) k (λ n later within. unseen n later))
+          sym (ap (listed_up_to account b) at)
+          ∙ passed_over account b (greatest_serial b) k (λ n later within. unseen n later))
     ] where
       unseen : (n : ℕ) → greatest_serial b < n → is_visible account n b ≡ false
       unseen n later = rw (none_beyond b n s later) refl

@@ -26,7 +26,8 @@ key_is n a m x e =
 pub key_passes : (n : ℕ) (a : List ℕ) (m : ℕ) (x : List ℕ) → m ≡ n → x ≡ a → ((m == n) && bytes_eq x a) ≡ true
 key_passes n a m x e f = rw (eq-eqb m n e, (bytes_eq-Decides x a).1 f) refl
 
-pub row_is : (n : ℕ) (a : List ℕ) (row : ReaderRow) → is_reader_row n a row ≡ true → row ≡ record { serial = n; account = a }
+pub row_is : (n : ℕ) (a : List ℕ) (row : ReaderRow) → is_reader_row n a row ≡ true
+    → row ≡ record { serial = n; account = a }
 row_is n a row e = let k = key_is n a row.serial row.account e in rw (k.0, k.1) refl
 
 -- whether rows have a key, after the rows of one were taken
@@ -41,7 +42,8 @@ taken_same n a m x rows e =
     rw there refl)) rows
 
 taken_other : (n : ℕ) (a : List ℕ) (m : ℕ) (x : List ℕ) (rows : List ReaderRow) → ((m == n) && bytes_eq x a) ≡ false
-    → list_any (is_reader_row n a) (filter (λ row. not (is_reader_row m x row)) rows) ≡ list_any (is_reader_row n a) rows
+    → list_any (is_reader_row n a) (filter (λ row. not (is_reader_row m x row)) rows)
+    ≡ list_any (is_reader_row n a) rows
 taken_other n a m x rows e =
     any-filter_same (is_reader_row n a) (λ row. not (is_reader_row m x row)) true
     (λ row passes.
@@ -53,7 +55,8 @@ taken_other n a m x rows e =
     ])) rows
 
 -- a row is there where the right is
-pub readers_are : (b : History) (n : ℕ) (a : List ℕ) → list_any (is_reader_row n a) (tables_of b).readers ≡ is_reader n a b
+pub readers_are : (b : History) (n : ℕ) (a : List ℕ)
+    → list_any (is_reader_row n a) (tables_of b).readers ≡ is_reader n a b
 readers_are [] n a = refl
 readers_are (Reserved r ∷ b) n a = readers_are b n a
 readers_are (Sealed m token ∷ b) n a = readers_are b n a
@@ -76,7 +79,8 @@ abbrev pub AreOnce : List ReaderRow → Type 0
 AreOnce [] = Unit {0}
 AreOnce (row ∷ rows) = (list_any (is_reader_row row.serial row.account) rows ≡ false) × AreOnce rows
 
-none_left : (p q : ReaderRow → Bool) (rows : List ReaderRow) → list_any p rows ≡ false → list_any p (filter q rows) ≡ false
+none_left : (p q : ReaderRow → Bool) (rows : List ReaderRow) → list_any p rows ≡ false
+    → list_any p (filter q rows) ≡ false
 none_left p q [] e = refl
 none_left p q (row ∷ rows) e =
     let parts = neither_true (p row) (list_any p rows) e in
@@ -106,7 +110,8 @@ readers_once (Granted m x ∷ b) =
 readers_once (Revoked m x ∷ b) = left_once (λ row. not (is_reader_row m x row)) (tables_of b).readers (readers_once b)
 
 -- taking what isn't there takes nothing
-none_taken : (p : ReaderRow → Bool) (rows : List ReaderRow) → list_any p rows ≡ false → filter (λ row. not (p row)) rows ≡ rows
+none_taken : (p : ReaderRow → Bool) (rows : List ReaderRow) → list_any p rows ≡ false
+    → filter (λ row. not (p row)) rows ≡ rows
 none_taken p [] e = refl
 none_taken p (row ∷ rows) e =
     let parts = neither_true (p row) (list_any p rows) e in rw parts.0 (ap (λ l. row ∷ l) (none_taken p rows parts.1))
@@ -123,8 +128,13 @@ put_again n a (row ∷ rows) once e =
       | inl t ↦ (let is = row_is n a row t in
           let P : ReaderRow → Type 0 = λ r. list_any (is_reader_row r.serial r.account) rows ≡ false in
           let none : list_any (is_reader_row n a) rows ≡ false = subst P is once.0 in
-          let same : (record { serial = n; account = a } ∷ filter (λ row. not (is_reader_row n a row)) (row ∷ rows)) ≡ row ∷ rows =
-          rw (t, is) (ap (λ (l : List ReaderRow). record { serial = n; account = a } ∷ l) (none_taken (is_reader_row n a) rows none)) in
+          let same : (record { serial = n; account = a } ∷ filter (λ row. not (is_reader_row n a row)) (row ∷ rows))
+          ≡ row ∷ rows =
+          rw (t, is) (ap (λ (l : List ReaderRow). record {
+            serial = n;
+            account =
+                a;
+          } ∷ l) (none_taken (is_reader_row n a) rows none)) in
           subst (λ l. IsPermutation l (row ∷ rows)) (sym same) (IsPermutation-refl (row ∷ rows)))
       | inr f ↦ (let there : list_any (is_reader_row n a) rows ≡ true = sym (rw f refl) ∙ e in
           let rest = put_again n a rows once.1 there in
@@ -170,5 +180,8 @@ pub revoked_unneeded : {S : Type 0} (g : Ghosts S) (b : History) (n : ℕ) (a : 
     → is_reader n a b ≡ false → Keeps g (without_reader n a (tables_of b)) store → Keeps g (tables_of b) store
 revoked_unneeded g b n a store hasnt kept =
     let same : without_reader n a (tables_of b) ≡ tables_of b =
-    ap (λ (rows : List ReaderRow). record (tables_of b) { readers = rows }) (none_taken (is_reader_row n a) (tables_of b).readers (readers_are b n a ∙ hasnt)) in
+    ap (λ (rows : List ReaderRow). record (tables_of b) {
+      readers =
+          rows;
+    }) (none_taken (is_reader_row n a) (tables_of b).readers (readers_are b n a ∙ hasnt)) in
     subst (λ t. Keeps g t store) same kept

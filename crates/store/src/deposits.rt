@@ -94,7 +94,7 @@ impl<S: Alter + Drop> Store<S> {
         Ok(())
     }
 
-    /// The deposit with a number, and its stamp.
+    /// The deposit with a number, and its stamp, if there is one.
     pub fn deposit(&mut self, number: u64) -> Result<Option<StampedDeposit>, StoreFault>
         ensures looks { OnlyLooks S.Store self.old self.new }
         ensures opened { IsHonest S.Store self.new → OnOk result (IsOpen S.Store self.old) }
@@ -133,7 +133,7 @@ impl<S: Alter + Drop> Store<S> {
         Ok(owns)
     }
 
-    /// The deposit of an owner under one of its references.
+    /// The deposit of an owner under a reference, if there is one.
     pub fn by_reference(
         &mut self,
         owner: &str,

@@ -1,6 +1,8 @@
 //! The history of what the counter accepted, kept in tables.
 #![tactic(auto)]
 
+#[cfg(test)]
+mod deposit_tests;
 mod deposits;
 mod fault;
 mod laws;

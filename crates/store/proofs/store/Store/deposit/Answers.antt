@@ -9,12 +9,14 @@ returns-in_err-deposit-clause-looks g c = looks_now g.S.Store _ _ _ c.self.view_
 pub returns-in_default-clause-value : goal.returns-in_default-clause-value
 returns-in_default-clause-value g c honest b s =
     let kept = kept_seen g.S.Store _ _ b c.self.view_is s in
-    without_deposit b _ _ _ s.sound c.asked_for-asked.ensures c.in_default.is (c.in_ok-deposit.ensures.value honest _ kept)
+    without_deposit b _ _ _ s.sound c.asked_for-asked.ensures c.in_default.is
+    (c.in_ok-deposit.ensures.value honest _ kept)
 
 pub returns-in_default-2-clause-value : goal.returns-in_default-2-clause-value
 returns-in_default-2-clause-value g c honest b s =
     let kept = c.in_ok-deposit.ensures.reads.kept _ (kept_seen g.S.Store _ _ b c.self.view_is s) in
-    without_stamp b _ _ _ s.sound c.asked_for-asked.ensures c.in_default-2.is (c.in_ok-stamp.ensures.value honest _ kept)
+    without_stamp b _ _ _ s.sound c.asked_for-asked.ensures c.in_default-2.is
+    (c.in_ok-stamp.ensures.value honest _ kept)
 
 pub returns-clause-value : goal.returns-clause-value
 returns-clause-value g c honest b s =

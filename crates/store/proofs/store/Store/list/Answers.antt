@@ -13,7 +13,8 @@ returns-in_err-readable-clause-looks g c = looks_now g.S.Store _ _ _ c.self.view
 pub loop-rows-init : goal.loop-rows-init
 loop-rows-init g c =
     let found = c.in_ok-readable.ensures in
-    subst (λ items. HasListed g.S.Store c.args.self.now c.next_readable.new.self c.args.account.now (map listed_view items) 0 c.in_ok-readable.readable)
+    subst (λ items. HasListed g.S.Store c.args.self.now c.next_readable.new.self c.args.account.now
+    (map listed_view items) 0 c.in_ok-readable.readable)
     (sym c.new-rows.ensures.items)
     (nothing_listed g.S.Store c.args.self.now c.next_readable.new.self c.args.account.now c.in_ok-readable.readable
     (looks_now g.S.Store _ _ _ c.self.view_is c.in_ok-readable.ensures.reads)
@@ -25,18 +26,26 @@ loop-rows-init g c =
 pub loop-rows-preserved : goal.loop-rows-preserved
 loop-rows-preserved g c =
     let is = c.in-Some.is in
-    subst (λ rows. HasListed g.S.Store c.args.self.now c.next_readable-in-Some.new.self c.args.account.now rows c.in-Some.number c.in_ok-readable-2.readable)
+    subst (λ rows. HasListed g.S.Store c.args.self.now c.next_readable-in-Some.new.self c.args.account.now rows
+    c.in-Some.number c.in_ok-readable-2.readable)
     (sym c.in_ok-add_listed.ensures.added)
-    (row_listed g.S.Store c.args.self.now c.loop-rows.self c.next_seen.new.self c.listing.new.self c.next_readable-in-Some.new.self c.args.account.now
-    _ _ _ _ _ c.in_ok-row.row c.loop-rows.invariant c.in_ok-number.ensures.looks c.in_ok-row.ensures.looks c.in_ok-readable-2.ensures.looks
-    c.in_ok-number.ensures.faults c.in_ok-row.ensures.faults c.in_ok-readable-2.ensures.faults c.in_ok-number.ensures.opened
-    (subst (λ next. IfSome next (λ number. (c.loop-rows.last < number) × (number < 2 ^ 63))) is c.in_ok-number.ensures.rises).0
-    (λ h b s ahead. subst (λ next. IsNextSeen c.args.account.now c.loop-rows.last b next) is (c.in_ok-number.ensures.value h b s ahead))
+    (row_listed g.S.Store c.args.self.now c.loop-rows.self c.next_seen.new.self c.listing.new.self
+    c.next_readable-in-Some.new.self c.args.account.now
+    _ _ _ _ _ c.in_ok-row.row c.loop-rows.invariant c.in_ok-number.ensures.looks c.in_ok-row.ensures.looks
+    c.in_ok-readable-2.ensures.looks
+    c.in_ok-number.ensures.faults c.in_ok-row.ensures.faults c.in_ok-readable-2.ensures.faults
+    c.in_ok-number.ensures.opened
+    (subst (λ next. IfSome next (λ number. (c.loop-rows.last < number) × (number < 2 ^ 63))) is
+    c.in_ok-number.ensures.rises).0
+    (λ h b s ahead. subst (λ next. IsNextSeen c.args.account.now c.loop-rows.last b next) is
+    (c.in_ok-number.ensures.value h b s ahead))
     c.in_ok-row.ensures.value c.in_ok-readable-2.ensures.value c.in_ok-readable-2.ensures.small)
 
 pub returns-clause-value : goal.returns-clause-value
 returns-clause-value g c =
     let is = c.in_default.is in
-    whole_listed g.S.Store c.args.self.now c.loop-rows.self c.next_seen.new.self c.args.account.now _ _ _ c.loop-rows.invariant
+    whole_listed g.S.Store c.args.self.now c.loop-rows.self c.next_seen.new.self c.args.account.now _ _ _
+    c.loop-rows.invariant
     c.in_ok-number.ensures.looks
-    (λ h b s ahead. subst (λ next. IsNextSeen c.args.account.now c.loop-rows.last b next) is (c.in_ok-number.ensures.value h b s ahead))
+    (λ h b s ahead. subst (λ next. IsNextSeen c.args.account.now c.loop-rows.last b next) is
+    (c.in_ok-number.ensures.value h b s ahead))
