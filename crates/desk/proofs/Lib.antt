@@ -2,6 +2,7 @@ pub mod Agreeing
 pub mod Begins
 pub mod Clocks
 pub mod Given
+pub mod Granting
 pub mod Headline
 pub mod Judgement
 pub mod Keeping
@@ -11,6 +12,7 @@ pub mod Reserves
 pub mod Rows
 pub mod SameEffect
 pub mod Sealing
+pub mod Shows
 pub mod Sound
 pub mod Stamping
 pub mod Stepping

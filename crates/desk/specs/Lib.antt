@@ -9,8 +9,10 @@ pub mod Facts
 pub mod Fault
 pub mod Findings
 pub mod Laws
+pub mod Obstacles
 pub mod Outcome
 pub mod Runs
+pub mod Shown
 pub mod Stepped
 pub mod Steps
 pub mod Texts

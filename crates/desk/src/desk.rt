@@ -30,9 +30,9 @@ use store::Store;
 /// A call that is refused changes nothing, but for a reservation that was committed before the refusal: it stays void.
 #[derive(Drop)]
 pub struct Desk<'p, S: Alter + Drop> {
-    opening: Opening<'p>,
-    store: Store<S>,
-    alloc: Global,
+    pub(crate) opening: Opening<'p>,
+    pub(crate) store: Store<S>,
+    pub(crate) alloc: Global,
 }
 
 impl<'p, S: Alter + Drop> Model for Desk<'p, S> {

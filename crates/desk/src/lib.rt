@@ -4,17 +4,21 @@
 
 mod answering;
 mod beginning;
+mod deposits;
 mod desk;
 mod fault;
 mod finding;
 mod finishing;
 mod laws;
 mod looking;
+mod obstacle;
 mod opening;
 mod pending;
 mod refusal;
 mod reply;
 mod reserving;
+mod rights;
+mod showing;
 
 pub use desk::Desk;
 pub use fault::Fault;

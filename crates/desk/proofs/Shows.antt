@@ -1,0 +1,91 @@
+-- Who sees a deposit, and whom the policy file names.
+use Rattle.std.proofs.Common.{◌≡◌, ℕ, ◌==◌, ◌||◌, cond, Bool, true, false, is_some, List, [], ◌∷◌, map, Option, Some, None, refl, ap, ◌∙◌, subst}
+use Rattle.std.specs.List.{find}
+use Rattle.std.specs.Option.{option_and_then, option_map}
+use Rattle.std.specs.Str.{bytes_eq}
+use Rattle.std.proofs.lemmas.Bool.{eqb-true}
+use Rattle.policy.specs.Record.{AccountValue, PolicyValue}
+use Rattle.policy.specs.Kinds.{is_among}
+use Rattle.policy.specs.LookUp.{account_named}
+use Rattle.tables.specs.Tables.{DepositRow, StampRow}
+use Rattle.store.specs.History.{Entry, Reserved, Sealed, Deposited, Calibrated, Held, Granted, Revoked, History, ReservationValue, DepositValue, stamp_of, token_of, reservation_at, deposit_at}
+use Rattle.store.specs.Rights.{is_reader, shown_to, seen_by, deposit_with_stamp}
+use Rattle.store.specs.Sound.{Along, Fits, FitsSealed, IsSound}
+use Rattle.store.specs.Values.{stamped_view}
+use Rattle.store.specs.declared.values.StampedDeposit.{StampedDeposit}
+use Rattle.desk.specs.Effects.{has_account}
+use Rattle.desk.proofs.Views.{reservation_stays}
+
+abbrev with_stamp : Option (List ℕ) → Option ReservationValue → Option DepositRow → Option (DepositRow × StampRow)
+with_stamp token reserved at = option_and_then (λ d. option_map (λ s. (d, s)) (option_map (stamp_of token) reserved)) at
+
+abbrev pub found_as : Option StampedDeposit → Option (DepositRow × StampRow)
+found_as found = option_map stamped_view found
+
+-- a deposit's number is reserved
+reserved_here : (y d : DepositValue) (n : ℕ) (b : History) (same : Bool) → (y.serial == n) ≡ same
+    → FitsSealed y.serial b → (deposit_at n b ≡ Some d → (r : ReservationValue) × (reservation_at n b ≡ Some r))
+    → cond same (Some y) (deposit_at n b) ≡ Some d → (r : ReservationValue) × (reservation_at n b ≡ Some r)
+reserved_here y d n b true same fits later e =
+    (fits.reservation, subst (λ k. reservation_at k b ≡ Some fits.reservation) (eqb-true y.serial n same) fits.reserved)
+reserved_here y d n b false same fits later e = later e
+
+abbrev HasReservation : ℕ → History → Type 0
+HasReservation n b = (r : ReservationValue) × (reservation_at n b ≡ Some r)
+
+reservation_goes_on : (e : Entry) (b : History) → Fits e b → (n : ℕ) → HasReservation n b → HasReservation n (e ∷ b)
+reservation_goes_on e b fits n h = (h.0, reservation_stays e b fits n h.0 h.1)
+
+deposit_reserved : (b : History) → Along Fits b → (n : ℕ) (d : DepositValue) → deposit_at n b ≡ Some d
+    → HasReservation n b
+deposit_reserved [] g n d e = cc
+deposit_reserved (Reserved r ∷ b) g n d e =
+    reservation_goes_on (Reserved r) b g.0 n (deposit_reserved b g.1 n d e)
+deposit_reserved (Sealed m x ∷ b) g n d e =
+    reservation_goes_on (Sealed m x) b g.0 n (deposit_reserved b g.1 n d e)
+deposit_reserved (Deposited y x ∷ b) g n d e =
+    reservation_goes_on (Deposited y x) b g.0 n
+    (reserved_here y d n b (y.serial == n) refl g.0.sealed (deposit_reserved b g.1 n d) e)
+deposit_reserved (Calibrated c ∷ b) g n d e =
+    reservation_goes_on (Calibrated c) b g.0 n (deposit_reserved b g.1 n d e)
+deposit_reserved (Held h ∷ b) g n d e = reservation_goes_on (Held h) b g.0 n (deposit_reserved b g.1 n d e)
+deposit_reserved (Granted m a ∷ b) g n d e =
+    reservation_goes_on (Granted m a) b g.0 n (deposit_reserved b g.1 n d e)
+deposit_reserved (Revoked m a ∷ b) g n d e =
+    reservation_goes_on (Revoked m a) b g.0 n (deposit_reserved b g.1 n d e)
+
+absent_at : (token : Option (List ℕ)) (at : Option DepositRow) (reserved : Option ReservationValue)
+    → ((d : DepositRow) → at ≡ Some d → (r : ReservationValue) × (reserved ≡ Some r))
+    → None ≡ with_stamp token reserved at → at ≡ None
+absent_at token None reserved there e = refl
+absent_at token (Some d) None there e = let h = there d refl in let some : None ≡ Some h.0 = h.1 in cc
+absent_at token (Some d) (Some r) there e = cc
+
+-- where no deposit with a stamp is found, nobody sees one
+pub unseen : (account : List ℕ) (n : ℕ) (b : History) → IsSound b → None ≡ deposit_with_stamp n b
+    → seen_by account n b ≡ None
+unseen account n b sound e =
+    ap (option_and_then (shown_to account (is_reader n account b)))
+    (absent_at (token_of n b) (deposit_at n b) (reservation_at n b) (deposit_reserved b sound n) e)
+
+-- an account of the file has the name
+known_at : (name : List ℕ) (a : AccountValue) (accounts : List AccountValue) (here : Bool)
+    → is_some (find (λ x. bytes_eq x.name name) accounts) ≡ is_among (map (λ x. x.name) accounts) name
+    → is_some (cond here (Some a) (find (λ x. bytes_eq x.name name) accounts))
+    ≡ (here || is_among (map (λ x. x.name) accounts) name)
+known_at name a accounts true later = refl
+known_at name a accounts false later = later
+
+known_in : (name : List ℕ) (accounts : List AccountValue)
+    → is_some (find (λ x. bytes_eq x.name name) accounts) ≡ is_among (map (λ x. x.name) accounts) name
+known_in name [] = refl
+known_in name (a ∷ accounts) = known_at name a accounts (bytes_eq a.name name) (known_in name accounts)
+
+some_mapped : {A B : Type 0} (f : A → B) (o : Option A) → is_some o ≡ is_some (option_map f o)
+some_mapped f None = refl
+some_mapped f (Some x) = refl
+
+pub known_by : {A : Type 0} (f : A → AccountValue) (file : PolicyValue) (name : List ℕ) (o : Option A) (known : Bool)
+    → known ≡ is_some o → option_map f o ≡ account_named file name → known ≡ has_account file name
+known_by f file name o known is found =
+    is ∙ (some_mapped f o ∙ (ap is_some found ∙ known_in name file.accounts))

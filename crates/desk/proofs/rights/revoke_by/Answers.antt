@@ -1,0 +1,24 @@
+use Rattle.std.proofs.Common.{subst}
+use Rattle.policy.specs.View.{account_view}
+use Rattle.store.specs.History.{Revoked}
+use Rattle.desk.specs.Calls.{opening_view}
+use Rattle.desk.specs.Command.{Revoke}
+use Rattle.desk.specs.Obstacles.{MayName}
+use Rattle.desk.proofs.Granting.{right_entered}
+use Rattle.desk.proofs.rights.revoke_by.Goals as goal
+
+pub returns-in-Ok-revoke-clause-step : goal.returns-in-Ok-revoke-clause-step
+returns-in-Ok-revoke-clause-step g c =
+    let s = opening_view c.args.opening in
+    let a = account_view c.args.account.now in
+    let name = c.args.name.now in
+    let n = c.args.number in
+    right_entered g.S.Store s (Revoke a n name) a.name name n (Revoked n name) c.args.store.now c.may_name.new.store
+    c.revoke.new.self (record {
+      righting = λ o b e h. h;
+      fits = λ b f. f;
+      looks = c.in-Ok.ensures.looks;
+      uncounted = c.in-Ok.ensures.counted;
+      may = λ honest b st. subst (λ x. MayName s.file x name n b) c.as_str.ensures.value
+          (c.in-Ok.ensures.may honest b st);
+    }) c.in-Ok-revoke.ensures.honest c.in-Ok-revoke.ensures.faults c.in-Ok-revoke.ensures.opened c.in-Ok-revoke.ensures.ok

@@ -1,0 +1,109 @@
+-- What stands in the way of a call on deposits and rights: stepping stones of the proofs.
+use Rattle.std.specs.Prelude.{◌≡◌, ℕ, true, false, List, [], Some, None, option_map, Result, Ok, Err}
+use Rattle.std.specs.Str.{bytes_eq}
+use Rattle.policy.specs.Record.{PolicyValue}
+use Rattle.tables.specs.Queries.{deposit_view}
+use Rattle.store.specs.History.{History, DepositValue, token_of}
+use Rattle.store.specs.Rights.{seen_by}
+use Rattle.store.specs.declared.values.StampedDeposit.{StampedDeposit}
+use Rattle.desk.specs.Outcome.{Outcome, Wanting, all_fine}
+use Rattle.desk.specs.Command.{Answer, Refused}
+use Rattle.desk.specs.Effects.{fault_of, has_account}
+use Rattle.desk.specs.Calls.{call_of, store_cause, IsOfStore}
+use Rattle.desk.specs.declared.fault.Fault.{Fault}
+use Rattle.desk.specs.declared.fault.Fault.TheVariants as fault
+use Rattle.desk.specs.declared.obstacle.Obstacle.{Obstacle}
+use Rattle.desk.specs.declared.obstacle.Obstacle.TheVariants as obstacle
+
+abbrev pub fault_with : Obstacle → Fault
+fault_with obstacle.NotHere = fault.NotHere
+fault_with obstacle.NotOwner = fault.NotOwner
+fault_with obstacle.UnknownReader = fault.UnknownReader
+fault_with obstacle.SelfGrant = fault.SelfGrant
+fault_with (obstacle.Searching f) = fault_of (store_cause f)
+fault_with (obstacle.Looking f) = fault_of (store_cause f)
+fault_with obstacle.Growing = fault.Memory
+fault_with (obstacle.Adding f) = fault_of (store_cause f)
+
+-- all calls answered but the one that was refused
+abbrev pub hindered : Obstacle → Outcome
+hindered obstacle.NotHere = all_fine (Ok [])
+hindered obstacle.NotOwner = all_fine (Ok [])
+hindered obstacle.UnknownReader = all_fine (Ok [])
+hindered obstacle.SelfGrant = all_fine (Ok [])
+hindered (obstacle.Searching f) = record (all_fine (Ok [])) { searching = call_of f }
+hindered (obstacle.Looking f) = record (all_fine (Ok [])) { looking = call_of f }
+hindered obstacle.Growing = record (all_fine (Ok [])) { growing = Wanting }
+hindered (obstacle.Adding f) = record (all_fine (Ok [])) { adding = call_of f }
+
+abbrev pub outcome_with : {A : Type 0} → Result A Obstacle → Outcome
+outcome_with (Ok a) = all_fine (Ok [])
+outcome_with (Err obstacle) = hindered obstacle
+
+-- what is answered
+abbrev pub told_with : {A : Type 0} → (A → Answer) → Result A Obstacle → Answer
+told_with as_answer (Ok a) = as_answer a
+told_with as_answer (Err obstacle) = Refused (fault_with obstacle)
+
+-- what stands in the way of seeing a deposit
+abbrev pub IsOfSight : Obstacle → Type 0
+IsOfSight obstacle.NotHere = Unit {0}
+IsOfSight obstacle.NotOwner = ⊥
+IsOfSight obstacle.UnknownReader = ⊥
+IsOfSight obstacle.SelfGrant = ⊥
+IsOfSight (obstacle.Searching f) = IsOfStore f
+IsOfSight (obstacle.Looking f) = IsOfStore f
+IsOfSight obstacle.Growing = ⊥
+IsOfSight (obstacle.Adding f) = ⊥
+
+-- what stands in the way of giving or taking a right to it
+abbrev pub IsOfRight : Obstacle → Type 0
+IsOfRight obstacle.NotHere = Unit {0}
+IsOfRight obstacle.NotOwner = Unit {0}
+IsOfRight obstacle.UnknownReader = Unit {0}
+IsOfRight obstacle.SelfGrant = Unit {0}
+IsOfRight (obstacle.Searching f) = IsOfStore f
+IsOfRight (obstacle.Looking f) = IsOfStore f
+IsOfRight obstacle.Growing = ⊥
+IsOfRight (obstacle.Adding f) = ⊥
+
+-- the account sees this deposit, and its number has this token
+pub record Sees (account : List ℕ) (number : ℕ) (b : History) (found : StampedDeposit) : Type 0 where
+  pub seen : seen_by account number b ≡ Some (deposit_view found.deposit)
+  pub token : token_of number b ≡ option_map (λ t. t.items) found.stamp.token
+
+-- it sees none with that number, or what it sees couldn't be read
+abbrev pub IsUnseen : List ℕ → ℕ → History → Obstacle → Type 0
+IsUnseen account number b obstacle.NotHere = seen_by account number b ≡ None
+IsUnseen account number b obstacle.NotOwner = Unit {0}
+IsUnseen account number b obstacle.UnknownReader = Unit {0}
+IsUnseen account number b obstacle.SelfGrant = Unit {0}
+IsUnseen account number b (obstacle.Searching f) = Unit {0}
+IsUnseen account number b (obstacle.Looking f) = (d : DepositValue) × (seen_by account number b ≡ Some d)
+IsUnseen account number b obstacle.Growing = Unit {0}
+IsUnseen account number b (obstacle.Adding f) = Unit {0}
+
+-- the account may give and take a reader's right to the deposit
+pub record MayName (file : PolicyValue) (account reader : List ℕ) (number : ℕ) (b : History) : Type 0 where
+  pub deposit : DepositValue
+  pub seen : seen_by account number b ≡ Some deposit
+  pub owns : bytes_eq deposit.owner account ≡ true
+  pub known : has_account file reader ≡ true
+  pub another : bytes_eq reader account ≡ false
+
+-- and why not
+abbrev pub MayNot : PolicyValue → List ℕ → List ℕ → ℕ → History → Obstacle → Type 0
+MayNot file account reader number b obstacle.NotHere = seen_by account number b ≡ None
+MayNot file account reader number b obstacle.NotOwner =
+    (d : DepositValue) × ((seen_by account number b ≡ Some d) × (bytes_eq d.owner account ≡ false))
+MayNot file account reader number b obstacle.UnknownReader =
+    (d : DepositValue) × ((seen_by account number b ≡ Some d) × (bytes_eq d.owner account ≡ true)
+    × (has_account file reader ≡ false))
+MayNot file account reader number b obstacle.SelfGrant =
+    (d : DepositValue) × ((seen_by account number b ≡ Some d) × (bytes_eq d.owner account ≡ true)
+    × (has_account file reader ≡ true) × (bytes_eq reader account ≡ true))
+MayNot file account reader number b (obstacle.Searching f) = Unit {0}
+MayNot file account reader number b (obstacle.Looking f) =
+    (d : DepositValue) × (seen_by account number b ≡ Some d)
+MayNot file account reader number b obstacle.Growing = Unit {0}
+MayNot file account reader number b (obstacle.Adding f) = Unit {0}

@@ -1,0 +1,15 @@
+-- The answers of the machine that those of the calls on deposits and rights are.
+use Rattle.std.specs.Prelude.{ℕ, map, Vec}
+use Rattle.std.specs.declared.alloc.Global.{Global}
+use Rattle.store.specs.Values.{listed_view}
+use Rattle.store.specs.declared.values.Listed.{Listed as Row}
+use Rattle.desk.specs.Command.{Answer, Shown, Listed, Done}
+
+abbrev pub shown_as : Vec ℕ Global → Answer
+shown_as octets = Shown octets.items
+
+abbrev pub listed_as : Vec Row Global → Answer
+listed_as rows = Listed (map listed_view rows.items)
+
+abbrev pub done_as : Unit {0} → Answer
+done_as done = Done

@@ -1,0 +1,106 @@
+//! Who gives and takes rights.
+ghost use Rattle.std.specs.Prelude.{◌≡◌, ℕ, IfErr, MatchResult};
+ghost use Rattle.policy.specs.View.{account_view, policy_view};
+ghost use Rattle.tables.specs.Base.{IsHonest};
+ghost use Rattle.store.specs.History.{History};
+ghost use Rattle.store.specs.Stands.{Stands, OnlyLooks};
+ghost use Rattle.desk.specs.Calls.{opening_view};
+ghost use Rattle.desk.specs.Command.{Grant, Revoke};
+ghost use Rattle.desk.specs.Effects.{has_account};
+ghost use Rattle.desk.specs.Obstacles.{outcome_with, told_with, IsOfRight, MayName, MayNot};
+ghost use Rattle.desk.specs.Outcome.{faults_after};
+ghost use Rattle.desk.specs.Shown.{done_as};
+ghost use Rattle.desk.specs.Stepped.{StepsBy, no_signer};
+
+use crate::obstacle::Obstacle;
+use crate::opening::Opening;
+use crate::showing::see;
+use policy::{Account, Policy};
+use sqlite::Alter;
+use store::Store;
+
+/// Whether the policy file has an account of that name, active or not.
+fn is_known(policy: &Policy, name: &str) -> bool
+    ensures { result ≡ has_account (policy_view policy.now) name.now }
+{
+    policy.account_named(name).is_some()
+}
+
+/// Whether an account may give a reader the right to see a deposit, and take it: the owner may, and for another account.
+fn may_name<S: Alter + Drop>(
+    store: &mut Store<S>,
+    policy: &Policy,
+    account: &str,
+    number: u64,
+    name: &str,
+) -> Result<(), Obstacle>
+    ensures looks { OnlyLooks S.Store store.old store.new }
+    ensures counted { store.new.faults ≡ faults_after (outcome_with result) store.old.faults }
+    ensures may { IsHonest S.Store store.new → (b : History) → Stands S.Store b store.old
+        → MatchResult result (λ _. MayName (policy_view policy.now) account.now name.now number b)
+        (MayNot (policy_view policy.now) account.now name.now number b) }
+    ensures refusals { IfErr result IsOfRight }
+{
+    let found = match see(store, account, number) {
+        Ok(found) => found,
+        Err(unseen) => return Err(unseen),
+    };
+    if found.deposit.owner.as_str() != account {
+        return Err(Obstacle::NotOwner);
+    }
+    if !is_known(policy, name) {
+        return Err(Obstacle::UnknownReader);
+    }
+    if name == account {
+        return Err(Obstacle::SelfGrant);
+    }
+    Ok(())
+}
+
+/// Lets a reader see a deposit, from now on.
+pub(crate) fn grant_by<S: Alter + Drop>(
+    store: &mut Store<S>,
+    opening: Opening<'_>,
+    account: &Account,
+    number: u64,
+    name: &str,
+) -> Result<(), Obstacle>
+    ensures honest { IsHonest S.Store store.new → IsHonest S.Store store.old }
+    ensures step { StepsBy S.Store no_signer (opening_view opening.entry)
+        (Grant (account_view account.now) number name.now) (outcome_with result) store.old store.new
+        (told_with done_as result) }
+{
+    let policy = opening.policy;
+    match may_name(store, policy, account.name.as_str(), number, name) {
+        Ok(()) => {}
+        Err(obstacle) => return Err(obstacle),
+    }
+    match store.grant(number, name) {
+        Ok(()) => Ok(()),
+        Err(fault) => Err(Obstacle::Adding(fault)),
+    }
+}
+
+/// Takes that right away, from now on.
+pub(crate) fn revoke_by<S: Alter + Drop>(
+    store: &mut Store<S>,
+    opening: Opening<'_>,
+    account: &Account,
+    number: u64,
+    name: &str,
+) -> Result<(), Obstacle>
+    ensures honest { IsHonest S.Store store.new → IsHonest S.Store store.old }
+    ensures step { StepsBy S.Store no_signer (opening_view opening.entry)
+        (Revoke (account_view account.now) number name.now) (outcome_with result) store.old store.new
+        (told_with done_as result) }
+{
+    let policy = opening.policy;
+    match may_name(store, policy, account.name.as_str(), number, name) {
+        Ok(()) => {}
+        Err(obstacle) => return Err(obstacle),
+    }
+    match store.revoke(number, name) {
+        Ok(()) => Ok(()),
+        Err(fault) => Err(Obstacle::Adding(fault)),
+    }
+}

@@ -1,0 +1,98 @@
+//! What an account sees.
+ghost use Rattle.std.specs.Prelude.{◌≡◌, ℕ, IfErr, MatchResult};
+ghost use Rattle.policy.specs.View.{account_view};
+ghost use Rattle.tables.specs.Base.{IsHonest};
+ghost use Rattle.store.specs.History.{History};
+ghost use Rattle.store.specs.Stands.{Stands, OnlyLooks};
+ghost use Rattle.desk.specs.Command.{Setting, Show, Token, ListAll};
+ghost use Rattle.desk.specs.Obstacles.{outcome_with, told_with, IsOfSight, Sees, IsUnseen};
+ghost use Rattle.desk.specs.Outcome.{faults_after};
+ghost use Rattle.desk.specs.Shown.{shown_as, listed_as};
+ghost use Rattle.desk.specs.Stepped.{StepsBy, no_signer};
+
+use crate::obstacle::Obstacle;
+use policy::Account;
+use sqlite::Alter;
+use std::alloc::Global;
+use store::{Listed, StampedDeposit, Store};
+use tsp::write_granted;
+
+/// The deposit with a number, and its stamp, where the account sees it. It is read only then.
+pub(crate) fn see<S: Alter + Drop>(
+    store: &mut Store<S>,
+    account: &str,
+    number: u64,
+) -> Result<StampedDeposit, Obstacle>
+    ensures looks { OnlyLooks S.Store store.old store.new }
+    ensures counted { store.new.faults ≡ faults_after (outcome_with result) store.old.faults }
+    ensures sees { IsHonest S.Store store.new → (b : History) → Stands S.Store b store.old
+        → MatchResult result (Sees account.now number b) (IsUnseen account.now number b) }
+    ensures refusals { IfErr result IsOfSight }
+{
+    let visible = match store.visible(number, account) {
+        Ok(visible) => visible,
+        Err(fault) => return Err(Obstacle::Searching(fault)),
+    };
+    if !visible {
+        return Err(Obstacle::NotHere);
+    }
+    match store.deposit(number) {
+        Ok(Some(found)) => Ok(found),
+        Ok(None) => Err(Obstacle::NotHere),
+        Err(fault) => Err(Obstacle::Looking(fault)),
+    }
+}
+
+/// The octets of a deposit that the account sees.
+pub(crate) fn show_to<S: Alter + Drop>(
+    store: &mut Store<S>,
+    account: &Account,
+    number: u64,
+) -> Result<Vec<u8>, Obstacle>
+    ensures looks { OnlyLooks S.Store store.old store.new }
+    ensures step { (s : Setting) → StepsBy S.Store no_signer s (Show (account_view account.now) number)
+        (outcome_with result) store.old store.new (told_with shown_as result) }
+{
+    match see(store, account.name.as_str(), number) {
+        Ok(found) => Ok(found.deposit.bytes),
+        Err(obstacle) => Err(obstacle),
+    }
+}
+
+/// The granted reply with the token of a deposit that the account sees.
+pub(crate) fn token_to<S: Alter + Drop>(
+    store: &mut Store<S>,
+    alloc: Global,
+    account: &Account,
+    number: u64,
+) -> Result<Vec<u8>, Obstacle>
+    ensures looks { OnlyLooks S.Store store.old store.new }
+    ensures step { (s : Setting) → StepsBy S.Store no_signer s (Token (account_view account.now) number)
+        (outcome_with result) store.old store.new (told_with shown_as result) }
+{
+    match see(store, account.name.as_str(), number) {
+        Err(obstacle) => Err(obstacle),
+        Ok(found) => match &found.stamp.token {
+            None => Err(Obstacle::NotHere),
+            Some(token) => match write_granted(alloc, token) {
+                Ok(reply) => Ok(reply),
+                Err(_) => Err(Obstacle::Growing),
+            },
+        },
+    }
+}
+
+/// All that the account sees, by number.
+pub(crate) fn list_to<S: Alter + Drop>(
+    store: &mut Store<S>,
+    account: &Account,
+) -> Result<Vec<Listed>, Obstacle>
+    ensures looks { OnlyLooks S.Store store.old store.new }
+    ensures step { (s : Setting) → StepsBy S.Store no_signer s (ListAll (account_view account.now))
+        (outcome_with result) store.old store.new (told_with listed_as result) }
+{
+    match store.list(account.name.as_str()) {
+        Ok(rows) => Ok(rows),
+        Err(fault) => Err(Obstacle::Looking(fault)),
+    }
+}
