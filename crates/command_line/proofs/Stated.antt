@@ -11,7 +11,7 @@ use Rattle.clap.proofs.WalkLemmas.{first_value-rows, one_text-rows}
 use Rattle.command_line.specs.Words.{IsAsked, StatesHold, StatesNumber}
 use Rattle.command_line.specs.declared.words.HoldWords.{HoldWords}
 use Rattle.command_line.specs.declared.words.Word.{Word}
-use Rattle.command_line.specs.declared.words.Word.TheVariants.{Tst, Check, Init, Calibrate, Hold}
+use Rattle.command_line.specs.declared.words.Word.TheVariants.{Tst, Check, Init, Calibrate, Hold, Answer}
 
 pub reads_text : (f : Found) (name : Text) (result : Option (Bor Text)) (text : Bor Text)
     → option_map (λ s. s.now) result ≡ first_value f name → result ≡ Some text
@@ -48,6 +48,11 @@ pub unread_number : {E : Type 0} (G : List ℕ → Result ℕ E → Type 0) (f :
 unread_number {E} G f name result number value only is states small =
     let read : ReadsOne G states.text None = rw is at value states.text (one_text-rows f name ∙ states.given) in
     only states.text (Err read.0) read.1 (states.numeral, rw states.value at small)
+
+pub reads_some_text : (f : Found) (name : Text) (result : Option (Bor Text)) → option_map (λ s. s.now) result ≡
+    first_value f name
+    → first_of name (rows_of f) ≡ option_map (λ s. s.now) result
+reads_some_text f name result same = sym (first_value-rows f name) ∙ sym same
 
 pub one_number : (rows : List Row) (name : Text) (a b : ℕ) → StatesNumber rows name a → StatesNumber rows name b → a ≡ b
 one_number rows name a b first second =
@@ -105,3 +110,4 @@ not_hold name rows (Check words) is none asked = other (codes "hold") (codes "ch
 not_hold name rows (Init words) is none asked = other (codes "hold") (codes "init") is asked.0 (other_letter 104 105
     (λ h. omega arith))
 not_hold name rows (Calibrate words) is none asked = other (codes "hold") (codes "calibrate") is asked.0 (λ e. cc)
+not_hold name rows (Answer words) is none asked = other (codes "hold") (codes "answer") is asked.0 (λ e. cc)

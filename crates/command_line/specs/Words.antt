@@ -1,6 +1,6 @@
 -- What the words ask for: the command line of the program, and what each subcommand's options state. `clap` says which
 -- words a command takes, and what it finds in them.
-use Rattle.std.specs.Prelude.{◌≡◌, ◌≢◌, ◌⊎◌, ⊤, ℕ, Bool, true, false, pos, List, [], ◌∷◌, Some, None, codes}
+use Rattle.std.specs.Prelude.{◌≡◌, ◌≢◌, ◌⊎◌, ⊤, ℕ, Bool, true, false, pos, List, [], ◌∷◌, Some, None, codes, option_map}
 use Rattle.std.specs.Str.Parse.{IsNumeral, digits_value, without_leading_plus}
 use Rattle.clap.specs.Words.{App, IsAmong, Row, Rule, Text, fault_of, first_of, new_app, new_rule, one_of}
 use Rattle.clap.specs.Words.{subcommand_of, with_subcommand}
@@ -12,13 +12,14 @@ use Rattle.clap.specs.declared.error.kind.ErrorKind.{ErrorKind}
 use Rattle.clap.specs.declared.error.kind.ErrorKind.TheVariants.{DisplayHelp, DisplayVersion, OutOfMemory}
 use Rattle.command_line.specs.declared.refusal.Refusal.{Refusal}
 use Rattle.command_line.specs.declared.refusal.Refusal.TheVariants.{Help, Mistake, Memory}
+use Rattle.command_line.specs.declared.words.AnswerWords.{AnswerWords}
 use Rattle.command_line.specs.declared.words.CalibrateWords.{CalibrateWords}
 use Rattle.command_line.specs.declared.words.CheckWords.{CheckWords}
 use Rattle.command_line.specs.declared.words.HoldWords.{HoldWords}
 use Rattle.command_line.specs.declared.words.InitWords.{InitWords}
 use Rattle.command_line.specs.declared.words.TstWords.{TstWords}
 use Rattle.command_line.specs.declared.words.Word.{Word}
-use Rattle.command_line.specs.declared.words.Word.TheVariants.{Tst, Check, Init, Calibrate, Hold}
+use Rattle.command_line.specs.declared.words.Word.TheVariants.{Tst, Check, Init, Calibrate, Hold, Answer}
 
 -- `--name VALUE`, which has to be there
 abbrev pub required_option : Text → ValueParser → Rule
@@ -55,8 +56,11 @@ tst_options =
     ∷ optional_flag (codes "ordering")
     ∷ []
 
+abbrev pub rules_option : Rule
+rules_option = required_option (codes "rules") parser.String
+
 abbrev pub check_options : List Rule
-check_options = required_option (codes "rules") parser.String ∷ []
+check_options = rules_option ∷ []
 
 abbrev pub database_option : Rule
 database_option = required_option (codes "db") parser.String
@@ -84,6 +88,19 @@ hold_options =
     ∷ required_option (codes "to") microseconds
     ∷ []
 
+abbrev pub key_option : Rule
+key_option = optional_option (codes "key") parser.String
+
+abbrev pub answer_options : List Rule
+answer_options =
+    database_option
+    ∷ rules_option
+    ∷ required_option (codes "certificate") parser.String
+    ∷ required_option (codes "signing-key") parser.String
+    ∷ required_option (codes "reading") microseconds
+    ∷ key_option
+    ∷ []
+
 abbrev pub with_rules : List Rule → App → App
 with_rules rules = on_top (λ top. record top { rules = rules })
 
@@ -102,6 +119,9 @@ calibrate_command = with_rules calibrate_options (new_app (codes "calibrate"))
 abbrev pub hold_command : App
 hold_command = with_rules hold_options (new_app (codes "hold"))
 
+abbrev pub answer_command : App
+answer_command = with_rules answer_options (new_app (codes "answer"))
+
 abbrev pub with_subcommands : List App → App → App
 with_subcommands [] app = app
 with_subcommands (sub ∷ subs) app = with_subcommands subs (with_subcommand app sub.top)
@@ -113,6 +133,7 @@ subcommands =
     ∷ init_command
     ∷ calibrate_command
     ∷ hold_command
+    ∷ answer_command
     ∷ []
 
 -- the program: one of the subcommands has to be there
@@ -160,6 +181,14 @@ pub record StatesHold (rows : List Row) (words : HoldWords) : Type 0 where
   pub from : StatesNumber rows (codes "from") words.from
   pub to : StatesNumber rows (codes "to") words.to
 
+pub record StatesAnswer (rows : List Row) (words : AnswerWords) : Type 0 where
+  pub db : first_of (codes "db") rows ≡ Some words.db.now
+  pub rules : first_of (codes "rules") rows ≡ Some words.rules.now
+  pub certificate : first_of (codes "certificate") rows ≡ Some words.certificate.now
+  pub signing_key : first_of (codes "signing-key") rows ≡ Some words.signing_key.now
+  pub reading : StatesNumber rows (codes "reading") words.reading
+  pub key : first_of (codes "key") rows ≡ option_map (λ s. s.now) words.key
+
 -- the subcommand of this name, and what was found for its options, is what is asked
 abbrev pub IsAsked : Text → List Row → Word → Type 0
 IsAsked name rows (Tst words) = (name ≡ codes "tst") × StatesTst rows words
@@ -167,6 +196,7 @@ IsAsked name rows (Check words) = (name ≡ codes "check") × StatesCheck rows w
 IsAsked name rows (Init words) = (name ≡ codes "init") × StatesInit rows words
 IsAsked name rows (Calibrate words) = (name ≡ codes "calibrate") × StatesCalibrate rows words
 IsAsked name rows (Hold words) = (name ≡ codes "hold") × StatesHold rows words
+IsAsked name rows (Answer words) = (name ≡ codes "answer") × StatesAnswer rows words
 
 -- `clap` finds no fault with the words, of which the first is the program's name.
 abbrev pub AreTaken : List Text → Type 0

@@ -1,9 +1,11 @@
 //! The command line, for `clap`.
 ghost use Rattle.std.specs.Prelude.{◌≡◌, ◌^◌, ◌<◌, IfOk, false};
 ghost use Rattle.clap.specs.Words.{app_of, rule_of};
-ghost use Rattle.command_line.specs.Words.{calibrate_command, check_command, counter_command, database_option};
-ghost use Rattle.command_line.specs.Words.{hold_command, init_command, number_between, optional_flag, required_option};
-ghost use Rattle.command_line.specs.Words.{tst_command};
+ghost use Rattle.command_line.specs.Words.{answer_command, calibrate_command, check_command, counter_command};
+ghost use Rattle.command_line.specs.Words.{database_option};
+ghost use Rattle.command_line.specs.Words.{hold_command, init_command, key_option, number_between, optional_flag};
+ghost use Rattle.command_line.specs.Words.{optional_option, required_option};
+ghost use Rattle.command_line.specs.Words.{rules_option, tst_command};
 
 use clap::builder::ValueParser;
 use clap::{Arg, ArgAction, Command, value_parser};
@@ -90,6 +92,24 @@ fn database_option<'a>(alloc: Global) -> Arg<'a>
     option(alloc, "db", ValueParser::string(), "The database")
 }
 
+fn rules_option<'a>(alloc: Global) -> Arg<'a>
+    ensures rule { rule_of result ≡ rules_option }
+    ensures local { result.global ≡ false }
+{
+    option(alloc, "rules", ValueParser::string(), "The policy file")
+}
+
+fn key_option<'a>(alloc: Global) -> Arg<'a>
+    ensures rule { rule_of result ≡ key_option }
+    ensures local { result.global ≡ false }
+{
+    Arg::new(alloc, "key")
+        .long("key")
+        .action(ArgAction::Set)
+        .value_parser(ValueParser::string())
+        .help("The account's key; without it the anonymous account asks")
+}
+
 fn tst_command<'a>(alloc: Global) -> Result<Command<'a>, AllocError>
     ensures { IfOk result (λ command. app_of command ≡ tst_command) }
 {
@@ -117,7 +137,7 @@ fn tst_command<'a>(alloc: Global) -> Result<Command<'a>, AllocError>
 fn check_command<'a>(alloc: Global) -> Result<Command<'a>, AllocError>
     ensures { IfOk result (λ command. app_of command ≡ check_command) }
 {
-    let rules = option(alloc, "rules", ValueParser::string(), "The policy file");
+    let rules = rules_option(alloc);
     Command::new(alloc, "check")
         .about(
             "Reads a policy file, and writes how many algorithms, extensions, policies and accounts it has",
@@ -188,6 +208,40 @@ fn hold_command<'a>(alloc: Global) -> Result<Command<'a>, AllocError>
         .arg(to)
 }
 
+fn answer_command<'a>(alloc: Global) -> Result<Command<'a>, AllocError>
+    ensures { IfOk result (λ command. app_of command ≡ answer_command) }
+{
+    let db = database_option(alloc);
+    let rules = rules_option(alloc);
+    let certificate = option(
+        alloc,
+        "certificate",
+        ValueParser::string(),
+        "The certificate, a DER file",
+    );
+    let signing_key = option(
+        alloc,
+        "signing-key",
+        ValueParser::string(),
+        "The key of the stand-in signer, a file",
+    );
+    let reading = number_option(
+        alloc,
+        "reading",
+        MICROSECONDS,
+        "The clock's reading in microseconds",
+    );
+    let key = key_option(alloc);
+    Command::new(alloc, "answer")
+        .about("Reads a request in hexadecimal, and writes its token or its rejection")
+        .arg(db)?
+        .arg(rules)?
+        .arg(certificate)?
+        .arg(signing_key)?
+        .arg(reading)?
+        .arg(key)
+}
+
 /// The command line of the whole program. An error where memory runs out.
 pub fn command<'a>(alloc: Global) -> Result<Command<'a>, AllocError>
     ensures { IfOk result (λ command. app_of command ≡ counter_command) }
@@ -199,5 +253,6 @@ pub fn command<'a>(alloc: Global) -> Result<Command<'a>, AllocError>
         .subcommand(check_command(alloc)?)?
         .subcommand(init_command(alloc)?)?
         .subcommand(calibrate_command(alloc)?)?
-        .subcommand(hold_command(alloc)?)
+        .subcommand(hold_command(alloc)?)?
+        .subcommand(answer_command(alloc)?)
 }

@@ -9,4 +9,4 @@ mod tests;
 mod words;
 
 pub use refusal::Refusal;
-pub use words::{CalibrateWords, CheckWords, HoldWords, InitWords, TstWords, Word};
+pub use words::{AnswerWords, CalibrateWords, CheckWords, HoldWords, InitWords, TstWords, Word};

@@ -1,14 +1,15 @@
 //! What the words ask for, by what `clap` finds in them.
 ghost use Rattle.std.specs.Prelude.{◌≡◌, ◌≤◌, ◌⊎◌, ℕ, List, Some, IfOk, IfErr, IfSome, IsNone, map, string_bytes};
 ghost use Rattle.clap.specs.Words.{Row, Text, HasKind, fault_of, found_of, kind_of, rows_of, subcommand_rows_of};
-ghost use Rattle.command_line.specs.Words.{AskNothing, Asks, IsAsked, IsRefusal, IsShown, StatesCalibrate, StatesCheck};
-ghost use Rattle.command_line.specs.Words.{StatesHold, StatesInit, StatesNumber, StatesTst, counter_command};
+ghost use Rattle.command_line.specs.Words.{AskNothing, Asks, IsAsked, IsRefusal, IsShown, StatesAnswer};
+ghost use Rattle.command_line.specs.Words.{StatesCalibrate, StatesCheck, StatesHold, StatesInit, StatesNumber};
+ghost use Rattle.command_line.specs.Words.{StatesTst, counter_command};
 
 use crate::command::{
     ACCURACIES, DIGITS, MICROSECONDS, MOMENTS, Numbers, SERIALS, UNCERTAINTIES, command,
 };
 use crate::refusal::Refusal;
-use crate::words::{CalibrateWords, CheckWords, HoldWords, InitWords, TstWords, Word};
+use crate::words::{AnswerWords, CalibrateWords, CheckWords, HoldWords, InitWords, TstWords, Word};
 use clap::error::ErrorKind;
 use clap::{ArgMatches, Error};
 use std::alloc::{AllocError, Global};
@@ -75,6 +76,7 @@ fn word_of<'a>(matches: &ArgMatches<'a>) -> Option<Word<'a>>
         ("init", words) => Some(Word::Init(init_words(words)?)),
         ("calibrate", words) => Some(Word::Calibrate(calibrate_words(words)?)),
         ("hold", words) => Some(Word::Hold(hold_words(words)?)),
+        ("answer", words) => Some(Word::Answer(answer_words(words)?)),
         _ => None,
     }
 }
@@ -133,6 +135,20 @@ fn tst_words<'a>(matches: &ArgMatches<'a>) -> Option<TstWords<'a>>
         serial: number(matches, "serial", SERIALS)?,
         accuracy: number(matches, "accuracy", ACCURACIES)? as u32,
         ordering: matches.get_flag("ordering"),
+    })
+}
+
+fn answer_words<'a>(matches: &ArgMatches<'a>) -> Option<AnswerWords<'a>>
+    ensures found { IfSome result (StatesAnswer (rows_of (found_of matches.now))) }
+    ensures none { IsNone result → (words : AnswerWords) → StatesAnswer (rows_of (found_of matches.now)) words → ⊥ }
+{
+    Some(AnswerWords {
+        db: matches.get_str("db")?,
+        rules: matches.get_str("rules")?,
+        certificate: matches.get_str("certificate")?,
+        signing_key: matches.get_str("signing-key")?,
+        reading: number(matches, "reading", MICROSECONDS)?,
+        key: matches.get_str("key"),
     })
 }
 

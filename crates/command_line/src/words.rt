@@ -13,6 +13,26 @@ pub enum Word<'a> {
     Calibrate(CalibrateWords<'a>),
     /// Adds a hold to the database.
     Hold(HoldWords<'a>),
+    /// Answers a request by a token, or by a rejection.
+    Answer(AnswerWords<'a>),
+}
+
+/// The words of `answer`.
+#[derive(Clone, Copy, Debug, PartialEq, Eq)]
+pub struct AnswerWords<'a> {
+    /// The database's path.
+    pub db: &'a str,
+    /// The policy file's path.
+    pub rules: &'a str,
+    /// The certificate's path.
+    pub certificate: &'a str,
+    /// The path of the stand-in signer's key.
+    pub signing_key: &'a str,
+    /// The clock's reading, in microseconds.
+    pub reading: u64,
+    /// The key of the account that asks, where one is stated.
+    pub key: Option<&'a str>,
+    ghost some_reading: { reading < 2 ^ 63 },
 }
 
 /// The words of `init`.

@@ -1,12 +1,17 @@
 -- What the words write for the text that they read.
-use Rattle.std.specs.Prelude.{◌≡◌, ℕ, ◌<◌, List, [], Option, IfSome}
+use Rattle.std.specs.Prelude.{◌≡◌, ℕ, ◌<◌, List, [], Option, IfSome, Ok}
+use Rattle.counter.specs.Accounts.{IsKnown, account_shown}
 use Rattle.counter.specs.Counts.{Counts}
 use Rattle.counter.specs.Hexadecimal.{IsHexadecimal, line}
 use Rattle.counter.specs.Settings.{SettingsValue, States}
+use Rattle.counter.specs.Replies.{IsJudgedReply}
 use Rattle.counter.specs.Tst.{IsReply}
+use Rattle.policy.specs.Meaning.{meaning_of}
+use Rattle.policy.specs.Record.{PolicyValue}
+use Rattle.command_line.specs.declared.words.AnswerWords.{AnswerWords}
 use Rattle.command_line.specs.declared.words.TstWords.{TstWords}
 use Rattle.command_line.specs.declared.words.Word.{Word}
-use Rattle.command_line.specs.declared.words.Word.TheVariants.{Tst, Check, Init, Calibrate, Hold}
+use Rattle.command_line.specs.declared.words.Word.TheVariants.{Tst, Check, Init, Calibrate, Hold, Answer}
 
 -- The text spells a request's octets, the words state settings, and what is written is the line of a reply to the one
 -- by the other.
@@ -19,6 +24,17 @@ pub record Answers (words : TstWords) (text written : List ℕ) : Type 0 where
   pub replied : IsReply settings query reply
   pub digits : written ≡ line reply
 
+-- The text spells a request's octets, some text means a policy, and where a key is shown an account of it has that key.
+-- By the first rule of 1 to 9 that fails of the octets, the reply is that rule's rejection.
+pub record RepliesTo (words : AnswerWords) (text reply : List ℕ) : Type 0 where
+  pub rules : List ℕ
+  pub policy : PolicyValue
+  pub meant : meaning_of rules ≡ Ok policy
+  pub known : IsKnown policy words.key
+  pub query : List ℕ
+  pub spelled : IsHexadecimal text query
+  pub judged : IsJudgedReply policy (account_shown policy words.key) query reply
+
 -- What is written is what was asked for: nothing by the words that change the database. The text of standard input is
 -- none where a reader doesn't tell its octets.
 abbrev pub Does : Word → Option (List ℕ) → (List ℕ → Type 0) → Type 0
@@ -28,3 +44,5 @@ Does (Check words) input IsWritten = (written : List ℕ) × Counts written × I
 Does (Init words) input IsWritten = IsWritten []
 Does (Calibrate words) input IsWritten = IsWritten []
 Does (Hold words) input IsWritten = (words.from < words.to) × IsWritten []
+Does (Answer words) input IsWritten =
+    IfSome input (λ text. (reply : List ℕ) × RepliesTo words text reply × IsWritten (line reply))

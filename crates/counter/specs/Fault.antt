@@ -1,6 +1,8 @@
 -- The numbers of the program's own refusals, and the line that it prints of a refusal.
-use Rattle.std.specs.Prelude.{◌≡◌, ℕ, List, [], ◌∷◌, ◌++◌, codes}
+use Rattle.std.specs.Prelude.{◌≡◌, ◌⊎◌, ℕ, List, [], ◌∷◌, ◌++◌, codes}
 use Rattle.std.specs.Fmt.{decimal}
+use Rattle.cms.specs.Fault as cms
+use Rattle.cms.specs.declared.fault.CmsFault.{CmsFault}
 use Rattle.der.specs.Fault as der
 use Rattle.hex.specs.declared.error.FromHexError.{FromHexError}
 use Rattle.hex.specs.declared.error.FromHexError.TheVariants.{InvalidHexCharacter, OddLength, InvalidStringLength}
@@ -10,7 +12,7 @@ use Rattle.store.specs.Fault as store
 use Rattle.store.specs.declared.fault.StoreFault.{StoreFault}
 use Rattle.tsp.specs.Fault as tsp
 use Rattle.counter.specs.declared.fault.Fault.{Fault}
-use Rattle.counter.specs.declared.fault.Fault.TheVariants.{Der, Tsp, Policy, Store, Input}
+use Rattle.counter.specs.declared.fault.Fault.TheVariants.{Der, Tsp, Cms, Policy, Store, Input}
 use Rattle.counter.specs.declared.fault.InputFault.{InputFault}
 use Rattle.counter.specs.declared.fault.InputFault.TheVariants.{NotHexadecimal, File, Hold, Account, Failed, Address}
 use Rattle.counter.specs.declared.fault.InputFault.TheVariants.{Memory}
@@ -34,6 +36,7 @@ fault_of OutOfMemory = Memory
 abbrev pub number_of_fault : Fault → ℕ
 number_of_fault (Der fault) = der.number_of fault
 number_of_fault (Tsp fault) = tsp.number_of fault
+number_of_fault (Cms fault) = cms.number_of fault
 number_of_fault (Policy fault) = policy.number_of fault
 number_of_fault (Store fault) = store.number_of fault
 number_of_fault (Input fault) = number_of fault
@@ -42,6 +45,7 @@ number_of_fault (Input fault) = number_of fault
 abbrev pub line_beginning : Fault → List ℕ
 line_beginning (Der fault) = codes "counter: der "
 line_beginning (Tsp fault) = codes "counter: tsp "
+line_beginning (Cms fault) = codes "counter: cms "
 line_beginning (Policy fault) = codes "counter: policy "
 line_beginning (Store fault) = codes "counter: store "
 line_beginning (Input fault) = codes "counter: input "
@@ -53,3 +57,7 @@ fault_line fault = line_beginning fault ++ (decimal (number_of_fault fault) ++ 1
 -- the store refused
 abbrev pub IsStoreFault : Fault → Type 0
 IsStoreFault fault = (refusal : StoreFault) × (fault ≡ Store refusal)
+
+-- a file that says who signs was refused
+abbrev pub IsFileFault : Fault → Type 0
+IsFileFault fault = (fault ≡ Input File) ⊎ ((fault ≡ Input Memory) ⊎ ((refusal : CmsFault) × (fault ≡ Cms refusal)))

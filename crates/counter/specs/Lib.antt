@@ -1,3 +1,4 @@
+pub mod Accounts
 pub mod Additions
 pub mod Counts
 pub mod Answers
@@ -7,3 +8,4 @@ pub mod Known
 pub mod Settings
 pub mod Tst
 pub mod Writing
+pub mod Replies

@@ -1,10 +1,11 @@
 ghost use Rattle.std.specs.Prelude.{◌≡◌, ◌≤◌, ◌++◌, ◌∷◌, []};
 ghost use Rattle.std.specs.Fmt.{decimal};
-ghost use Rattle.counter.specs.declared.fault.Fault.TheVariants.{Der, Tsp, Policy, Store, Input};
+ghost use Rattle.counter.specs.declared.fault.Fault.TheVariants.{Der, Tsp, Cms, Policy, Store, Input};
 ghost use Rattle.counter.specs.declared.fault.InputFault.TheVariants.{Memory};
 ghost use Rattle.counter.specs.Fault.{fault_of};
 
 use crate::output::write_text;
+use cms::CmsFault;
 use der::DerFault;
 use hex::FromHexError;
 use policy::PolicyFault;
@@ -20,6 +21,8 @@ pub enum Fault {
     Der(DerFault),
     /// Memory ran out over a request or a TSTInfo.
     Tsp(TspFault),
+    /// A certificate isn't one, or memory ran out over it or a signer.
+    Cms(CmsFault),
     /// The policy file isn't one.
     Policy(PolicyFault),
     /// The database refused, or isn't the counter's.
@@ -52,6 +55,7 @@ impl Fault {
         match self {
             Fault::Der(_) => "counter: der ",
             Fault::Tsp(_) => "counter: tsp ",
+            Fault::Cms(_) => "counter: cms ",
             Fault::Policy(_) => "counter: policy ",
             Fault::Store(_) => "counter: store ",
             Fault::Input(_) => "counter: input ",
@@ -66,6 +70,7 @@ impl Fault {
         match self {
             Fault::Der(fault) => fault.number(),
             Fault::Tsp(fault) => fault.number(),
+            Fault::Cms(fault) => fault.number(),
             Fault::Policy(fault) => fault.number(),
             Fault::Store(fault) => fault.number(),
             Fault::Input(fault) => fault.number(),
@@ -86,6 +91,14 @@ impl From<TspFault> for Fault {
 
     fn from(fault: TspFault) -> Fault {
         Fault::Tsp(fault)
+    }
+}
+
+impl From<CmsFault> for Fault {
+    ghost from_gives = { λ fault e. e ≡ Cms fault };
+
+    fn from(fault: CmsFault) -> Fault {
+        Fault::Cms(fault)
     }
 }
 
@@ -138,11 +151,11 @@ fn line_end(number: u8) -> &'static str
 pub enum InputFault {
     /// Standard input isn't hexadecimal text.
     NotHexadecimal = 1,
-    /// A file can't be read, or it has to be text and isn't UTF-8.
+    /// A file can't be read, has a wrong size, or has to be text and isn't UTF-8.
     File = 2,
     /// A hold doesn't begin before it ends.
     Hold = 3,
-    /// No account has that key or name. No word answers it yet.
+    /// No account has that key.
     Account = 4,
     /// Standard input or output failed.
     Failed = 5,

@@ -1,8 +1,11 @@
 //! The counter of a time-stamping authority (RFC 3161), as a program.
 #![tactic(auto)]
 
+mod accounts;
+mod answer;
 mod check;
 mod fault;
+mod files;
 mod hexadecimal;
 mod history;
 mod known;

@@ -3,14 +3,16 @@ ghost use Rattle.std.specs.Io.KnownBytes.{Appends};
 ghost use Rattle.std.specs.declared.alloc.Global.{Global};
 ghost use Rattle.command_line.specs.Words.{AreRefused, AreTaken, Asks, AsksHelp};
 ghost use Rattle.command_line.specs.declared.refusal.Refusal.TheVariants.{Help, Mistake};
-ghost use Rattle.counter.specs.Answers.{Answers, Does};
+ghost use Rattle.counter.specs.Answers.{Answers, Does, RepliesTo};
 ghost use Rattle.counter.specs.Counts.{Counts};
 ghost use Rattle.counter.specs.Fault.{fault_line};
+ghost use Rattle.counter.specs.Hexadecimal.{line};
 ghost use Rattle.counter.specs.Writing.{Begins};
 
 #[cfg(test)]
 mod tests;
 
+use crate::answer::{answer, octets_of};
 use crate::check::{read_policy, write_counts};
 use crate::fault::{Fault, InputFault};
 use crate::hexadecimal::{read_octets, write_octets};
@@ -18,7 +20,7 @@ use crate::history::{calibrate, hold, init};
 use crate::output::write_text;
 use crate::settings::Settings;
 use crate::tst::tst_reply;
-use command_line::{CheckWords, Refusal, TstWords, Word};
+use command_line::{AnswerWords, CheckWords, Refusal, TstWords, Word};
 use std::alloc::Global;
 use std::io::{Read, Write};
 use std::rt::HostRuntime;
@@ -84,11 +86,11 @@ fn process_words(rt: &HostRuntime) -> io::Result<Vec<String>> {
 /// status.
 ///
 /// 0 where it is done; a rejection and help are done too. 1 where a fault stopped it, whose line it writes to `errors`:
-/// `der`, `tsp`, `policy` and `store` with the number of those crates' refusals, and `input` 1 where the input isn't
-/// hexadecimal, 2 where the policy file can't be read or isn't UTF-8, 3 where a hold doesn't begin before it ends, 5
-/// where the input or the output fails, and 7 where memory runs out. 2 where the words are refused; why is written to
-/// `errors`. Where the status isn't 0 nothing is written to `output`, but where writing an answer or help fails: then a
-/// beginning of it stands there.
+/// `der`, `tsp`, `cms`, `policy` and `store` with the number of those crates' refusals, and `input` 1 where the input
+/// isn't hexadecimal, 2 where a file can't be read, has a wrong size or isn't UTF-8 where it has to be text, 3 where a
+/// hold doesn't begin before it ends, 4 where no account has the key, 5 where the input or the output fails, and 7
+/// where memory runs out. 2 where the words are refused; why is written to `errors`. Where the status isn't 0 nothing is
+/// written to `output`, but where writing an answer or help fails: then a beginning of it stands there.
 pub fn run_words<I: Read, O: Write, E: Write>(
     rt: &HostRuntime,
     words: &[String],
@@ -164,6 +166,7 @@ fn run_word<I: Read, O: Write>(
             hold(rt, words)?;
             Ok(Outcome::Changed)
         }
+        Word::Answer(words) => answer_request(rt, words, input, output),
     }
 }
 
@@ -208,6 +211,28 @@ fn tst<I: Read, O: Write>(
     let query = read_octets(alloc, input)?;
     let reply = tst_reply(alloc, query.as_slice(), &settings)?;
     write_octets(alloc, reply.as_slice(), output)?;
+    Ok(Outcome::Replied)
+}
+
+/// Reads a request, answers it over the database, and writes the reply.
+fn answer_request<I: Read, O: Write>(
+    rt: &HostRuntime,
+    words: &AnswerWords<'_>,
+    input: &mut I,
+    output: &mut O,
+) -> Result<Outcome, Fault>
+    ensures answered { OnOk result (IfSome (I.remaining input.old) (λ text.
+        (reply : List ℕ) × RepliesTo words.now text reply
+        × Appends (O.contents output.old) (O.contents output.new) (line reply))) }
+
+    // Before a fault nothing is written, but where there is a reply and writing it fails.
+    ensures kept { IfErr result (λ fault. (O.contents output.new ≡ O.contents output.old)
+        ⊎ ((fault ≡ Fault.Input InputFault.Failed) × IfSome (I.remaining input.old) (λ text.
+        (reply : List ℕ) × RepliesTo words.now text reply
+        × Begins (O.contents output.old) (O.contents output.new) (line reply)))) }
+{
+    let reply = answer(rt, words, input)?;
+    write_octets(rt.alloc(), octets_of(&reply), output)?;
     Ok(Outcome::Replied)
 }
 

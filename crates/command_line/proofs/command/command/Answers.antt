@@ -2,7 +2,8 @@ use Rattle.std.proofs.Common.{rules, ◌≡◌, true, refl, codes}
 use Rattle.std.proofs.lemmas.Result.{IfOk-weaker}
 use Rattle.clap.specs.Simple.{on_top}
 use Rattle.clap.specs.Words.{App, app_of, new_app}
-use Rattle.command_line.specs.Words.{calibrate_command, check_command, hold_command, init_command, tst_command}
+use Rattle.command_line.specs.Words.{answer_command, calibrate_command, check_command, hold_command, init_command}
+use Rattle.command_line.specs.Words.{tst_command}
 use Rattle.command_line.proofs.Commands.{adds_command}
 use Rattle.command_line.proofs.command.command.Goals as goal
 
@@ -18,5 +19,6 @@ returns c =
     let three = adds_command _ init_command _ _ _ two c.in_ok-init_command.ensures refl c.in_ok-subcommand-3.ensures in
     let four = adds_command _ calibrate_command _ _ _ three c.in_ok-calibrate_command.ensures refl
     c.in_ok-subcommand-4.ensures in
-    IfOk-weaker c.subcommand-5.result _ _ (λ command adds. adds_command _ hold_command _ command _ four
-    c.in_ok-hold_command.ensures refl adds) c.subcommand-5.ensures
+    let five = adds_command _ hold_command _ _ _ four c.in_ok-hold_command.ensures refl c.in_ok-subcommand-5.ensures in
+    IfOk-weaker c.subcommand-6.result _ _ (λ command adds. adds_command _ answer_command _ command _ five
+    c.in_ok-answer_command.ensures refl adds) c.subcommand-6.ensures

@@ -180,7 +180,7 @@ const ROWS: [Row; 23] = [
 ];
 
 /// A row's digits, without the spaces between them.
-fn digits_of(alloc: Global, row: &str) -> Result<String, AllocError> {
+pub(super) fn digits_of(alloc: Global, row: &str) -> Result<String, AllocError> {
     let mut digits = String::new(alloc);
     for letter in row.chars() {
         let piece = PIECES.iter().find(|piece| piece.0 == letter);

@@ -1,0 +1,22 @@
+use Rattle.std.proofs.Common.{◌∙◌, Err, ap, inl, inr}
+use Rattle.std.proofs.lemmas.Option.{IfSome_then}
+use Rattle.std.proofs.lemmas.Result.{err_from_is_err_and}
+use Rattle.counter.specs.Replies.{octets_of}
+use Rattle.counter.specs.declared.fault.Fault.TheVariants.{Input}
+use Rattle.counter.proofs.run.answer_request.Goals as goal
+
+pub returns-in_err-write_octets-clause-kept : goal.returns-in_err-write_octets-clause-kept
+returns-in_err-write_octets-clause-kept g c =
+    let failing = err_from_is_err_and c.from_residual-in_err-write_octets.result
+    c.from_residual-in_err-write_octets.ensures.1 in
+    let reply = octets_of c.in_ok-reply.reply in
+    rw failing.1
+    (elim c.in_err-write_octets.ensures.faults [
+      | inl failed ↦
+          let begun = rw c.octets_of.ensures at c.in_err-write_octets.ensures.begun (ap Err failed) in
+          inr (
+            failing.2 ∙ ap Input failed,
+            IfSome_then (g.I.Read.remaining c.args.input.now) c.in_ok-reply.ensures (λ text replies. (reply, replies, begun)),
+          )
+      | inr memory ↦ inl (c.in_err-write_octets.ensures.kept (ap Err memory))
+    ])
