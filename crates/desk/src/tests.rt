@@ -6,6 +6,10 @@ use crate::{
 };
 use tsp::Rule;
 
+mod octets;
+mod rows;
+mod setting;
+
 #[test]
 fn numbers_refusals(rt: HostRuntime) {
     let faults = [
