@@ -7,6 +7,7 @@ use crate::{
 use tsp::Rule;
 
 mod octets;
+mod rights;
 mod rows;
 mod setting;
 
