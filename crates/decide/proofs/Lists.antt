@@ -1,10 +1,10 @@
 -- Tests over lists, and what they tell of the values that the elements stand for.
 use Rattle.std.proofs.Common.{◌≡◌, ℕ, zero, suc, ◌<◌, Bool, true, false, Some, is_some, List, [], ◌∷◌, map, length}
-use Rattle.std.proofs.Common.{drop, get_or, ◌+◌, ◌≤◌, option_map, refl, sym, ap, ◌∙◌, subst, inl, inr, ◌⊎◌, arith}
-use Rattle.std.specs.Prelude.{Contains, slice_index_or}
-use Rattle.std.proofs.lemmas.List.{drop_more, drop_all}
-use Rattle.std.specs.Bool.{Decides}
-use Rattle.std.specs.List.{list_any, list_all, find, AllByRecursion}
+use Rattle.std.proofs.Common.{option_map, refl, sym, ap, ◌∙◌, subst, inl, inr, ◌⊎◌, arith}
+use Rattle.std.specs.Prelude.{Contains, ◌↔◌, IsTrue}
+use Rattle.std.proofs.lemmas.List.{length-map, get_or-map}
+use Rattle.std.specs.Bool.{Decides, MatchBool}
+use Rattle.std.specs.List.{list_any, list_all, find, AllByRecursion, HoldsAt, AllWithin}
 use Rattle.std.proofs.lemmas.Bool.Decides.{Decides-like, Decides-or, Decides-and}
 
 pub contains_here : {A : Type 0} (x : A) (xs : List A) → Contains (x ∷ xs) x
@@ -108,26 +108,24 @@ pub find_map : {A B : Type 0} (view : A → B) (test : B → Bool) (xs : List A)
 find_map view test [] = refl
 find_map view test (x ∷ xs) = find_map_at view test x xs (test (view x)) refl (find_map view test xs)
 
-left_over_at : {A : Type 0} (x y : A) (xs : List A) → (x ≡ y → ⊥) → (x ≡ y) ⊎ Contains xs y → Contains xs y
-left_over_at x y xs f (inl e) = absurd (f e)
-left_over_at x y xs f (inr h) = h
+-- an element with a value, where the value is among those of all
+value_among : {A B : Type 0} (view : A → B) (xs : List A) (y : B)
+    → (k : ℕ) × (k < length xs) × HoldsAt (λ x. view x ≡ y) xs k → Contains (map view xs) y
+value_among view [] y h = absurd (omega (arith, h.1))
+value_among view (x ∷ xs) y h =
+    (h.0, omega (arith, h.1, length-map (x ∷ xs) view), get_or-map view (x ∷ xs) h.0 x y h.1 ∙ h.2 x)
 
-left_over : {A : Type 0} (x y : A) (xs : List A) → (x ≡ y → ⊥) → Contains (x ∷ xs) y → Contains xs y
-left_over x y xs f h = left_over_at x y xs f (contains_first_or_other x y xs h)
+-- ..and none, where it isn't
+no_value : {A B : Type 0} (view : A → B) (xs : List A) (y : B)
+    → AllWithin (λ x. view x ≡ y → ⊥) xs 0 (length xs) → Contains (map view xs) y → ⊥
+no_value view [] y none h = absurd (omega (arith, h.1))
+no_value view (x ∷ xs) y none h =
+    let within : h.0 < length (x ∷ xs) = omega (arith, h.1, length-map (x ∷ xs) view) in
+    none h.0 x (omega arith) within (sym (get_or-map view (x ∷ xs) h.0 x y within) ∙ h.2)
 
--- a value that is among those left, and isn't the first of them, is among the others
-pub still_left : {A B : Type 0} (view : A → B) (xs : List A) (i : ℕ) (x : A) (y : B) → i < length xs
-    → x ≡ slice_index_or xs i x
-    → (view x ≡ y → ⊥) → Contains (map view (drop i xs)) y → Contains (map view (drop (i + 1) xs)) y
-still_left view xs i x y l e other h =
-    let step = drop_more xs i x l in
-    let first : Contains (view (get_or xs i x) ∷ map view (drop (i + 1) xs)) y =
-    subst (λ ys. Contains (map view ys) y) step h in
-    left_over (view (get_or xs i x)) y (map view (drop (i + 1) xs)) (λ k. other (ap view e ∙ k)) first
-
--- none is among those left at the end
-pub none_left : {A B : Type 0} (view : A → B) (xs : List A) (i : ℕ) (y : B) → length xs ≤ i
-    → Contains (map view (drop i xs)) y → ⊥
-none_left view xs i y l h =
-    let e : drop i xs ≡ [] = drop_all i xs l in
-    contains_none y (subst (λ ys. Contains (map view ys) y) e h)
+-- a search for an element with the value tells whether the value is among those of all
+pub tells_among : {A B : Type 0} (view : A → B) (xs : List A) (y : B) (r : Bool)
+    → MatchBool r ((k : ℕ) × (k < length xs) × HoldsAt (λ x. view x ≡ y) xs k)
+    (AllWithin (λ x. view x ≡ y → ⊥) xs 0 (length xs)) → IsTrue r ↔ Contains (map view xs) y
+tells_among view xs y true h = (λ _. value_among view xs y h, λ _. refl)
+tells_among view xs y false h = (λ e. absurd (cc e), λ among. absurd (no_value view xs y h among))

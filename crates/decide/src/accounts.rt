@@ -16,12 +16,7 @@ pub(crate) fn is_known(policy: &Policy, account: &Account) -> bool
 fn is_among(accounts: &[Account], account: &Account) -> bool
     ensures { IsTrue result ↔ Contains (map account_view accounts.now) (account_view account.now) }
 {
-    for other in accounts {
-        if is_same(other, account) {
-            return true;
-        }
-    }
-    false
+    accounts.iter().any(|other| is_same(other, account))
 }
 
 /// Whether two accounts are the same in all their fields.

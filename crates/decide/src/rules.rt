@@ -48,12 +48,7 @@ fn have_length(algorithms: &[Algorithm], identifier: &[u8], length: usize) -> bo
 fn has_name(names: &[String], name: &str) -> bool
     ensures { result ≡ is_among (map string_bytes names.now) name.now }
 {
-    for other in names {
-        if other.as_str() == name {
-            return true;
-        }
-    }
-    false
+    names.iter().any(|other| other.as_str() == name)
 }
 
 /// The policy that is asked for, by the contents octets of its object identifier: the request's, and else the account's
@@ -163,12 +158,9 @@ fn knows_extensions(
 ) -> bool
     ensures { result ≡ knows_extensions known.now tsa_policy.now extensions.now }
 {
-    for extension in extensions.again() {
-        if !knows_extension(known, tsa_policy, &extension) {
-            return false;
-        }
-    }
-    true
+    extensions
+        .again()
+        .all(|extension| knows_extension(known, tsa_policy, &extension))
 }
 
 /// Whether a policy lists a known extension with this identifier, and its value isn't too long.

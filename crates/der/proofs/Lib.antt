@@ -4,6 +4,7 @@ pub mod Lengths
 pub mod NumberContents
 pub mod OidContents
 pub mod OidNumbers
+pub mod OidOfTexts
 pub mod OidReading
 pub mod OidTextLoops
 pub mod OidTexts

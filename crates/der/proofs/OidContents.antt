@@ -283,7 +283,7 @@ small_decides [] = (λ _. tt, λ _. refl)
 small_decides (s ∷ ss) = Decides-and (ltb s (2 ^ 128)) (list_all (λ s. ltb s (2 ^ 128)) ss) (Decides-ltb s (2 ^ 128))
     (small_decides ss)
 
-is_oid-decides : (ss : List ℕ) → Decides (is_oid ss) (IsOid ss)
+pub is_oid-decides : (ss : List ℕ) → Decides (is_oid ss) (IsOid ss)
 is_oid-decides ss =
     let both = Decides-and (leb 1 (length ss) && leb (length ss) 32) (list_all (λ s. ltb s (2 ^ 128)) ss)
     (Decides-and (leb 1 (length ss)) (leb (length ss) 32) (leb-decides 1 (length ss)) (leb-decides (length ss) 32))

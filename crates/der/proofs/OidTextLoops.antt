@@ -1,6 +1,8 @@
 -- The loops over a text's numbers, and over the octets of which a text is written.
 use Rattle.std.proofs.Common.{◌≡◌, ℕ, ◌+◌, ◌-◌, ◌*◌, ◌^◌, ◌<◌, ◌≤◌, true, List, [], ◌∷◌, ◌++◌, length, drop, get_or}
-use Rattle.std.proofs.Common.{refl, sym, ap, subst, ◌∙◌, arith, append_assoc, length-append}
+use Rattle.std.proofs.Common.{refl, sym, ap, subst, ◌∙◌, arith, append_assoc, length-append, false}
+use Rattle.std.proofs.Common.{Result, Ok, Err, OnOk}
+use Rattle.std.specs.Result.{is_ok}
 use Rattle.std.specs.List.{flat_map}
 use Rattle.std.proofs.lemmas.List.{append-nil, drop_more, drop_all, flat_map_more, nil_from_length, length_push}
 use Rattle.der.specs.ObjectIdentifier.{ReadsAsOid, subidentifier_octets, oid_content, subidentifiers_after}
@@ -13,20 +15,28 @@ use Rattle.der.proofs.OidTexts.{dotted_head, dotted_of}
 
 -- ---- reading
 
--- `read` is read of a text and pushed onto the octets `old`, and no list with that text begins otherwise
-pub record IsPushed (text old content rest : List ℕ) (left : ℕ) : Type 0 where
+-- `read` is read of a text and, unless memory ran out, pushed onto the octets `old`; and no list with that text begins
+-- otherwise
+pub record IsPushed {E : Type 0} (pushed : Result (Unit {0}) E) (text old content rest : List ℕ)
+    (left : ℕ) : Type 0 where
   pub read : List ℕ
-  pub content_is : content ≡ old ++ oid_content read
+  pub content_is : OnOk pushed (content ≡ old ++ oid_content read)
   pub text_is : text ≡ flat_map dotted read ++ rest
   pub count : length read + left ≡ 31
   pub small : AreSmall read
   pub only : (others : List ℕ) → AreOthers others → text ≡ flat_map dotted others → (later : List ℕ)
       × (others ≡ read ++ later) × (rest ≡ flat_map dotted later)
 
-pub pushed_none : (text old : List ℕ) → IsPushed text old old text 31
-pushed_none text old = record {
+pushed_first : {E : Type 0} (pushed : Result (Unit {0}) E) (empty content old : List ℕ) → empty ≡ []
+    → OnOk pushed (content ≡ empty ++ old) → OnOk pushed (content ≡ old ++ [])
+pushed_first (Ok _) empty content old none e = e ∙ (ap (λ k. k ++ old) none ∙ sym (append-nil old))
+pushed_first (Err _) empty content old none e = tt
+
+pub pushed_none : {E : Type 0} (pushed : Result (Unit {0}) E) (text empty content old : List ℕ) → empty ≡ []
+    → OnOk pushed (content ≡ empty ++ old) → IsPushed pushed text old content text 31
+pushed_none pushed text empty content old none e = record {
   read = [];
-  content_is = sym (append-nil old);
+  content_is = pushed_first pushed empty content old none e;
   text_is = refl;
   count = omega arith;
   small = tt;
@@ -51,13 +61,26 @@ later_of others read (s ∷ later) rest n last small e at h =
     let head = dotted_head rest n last s later small.0 h at in
     (later, e ∙ (ap (λ k. read ++ (k ∷ later)) head.0 ∙ sym (append_assoc read (n ∷ []) later)), sym head.1)
 
-pub pushed_more : (text old content rest : List ℕ) (left left' : ℕ) (n : ℕ) (last new : List ℕ)
-    → IsPushed text old content rest left → IsDottedNumberAt rest n last → new ≡ content ++ subidentifier_octets n
-    → left ≡ left' + 1 → IsPushed text old new last left'
-pushed_more text old content rest left left' n last new h at push down = record {
+-- the next is pushed where those before it were
+pub content_more : {E : Type 0} (pushed next : Result (Unit {0}) E) (old content new read : List ℕ) (n : ℕ)
+    → is_ok pushed ≡ true → OnOk pushed (content ≡ old ++ oid_content read)
+    → OnOk next (new ≡ content ++ subidentifier_octets n) → OnOk next (new ≡ old ++ oid_content (read ++ n ∷ []))
+content_more (Ok _) (Ok _) old content new read n ok before push =
+    push ∙ (ap (λ k. k ++ subidentifier_octets n) before ∙ flat_map_more subidentifier_octets old read n)
+content_more (Err _) (Ok _) old content new read n ok before push = absurd (cc ok)
+content_more pushed (Err _) old content new read n ok before push = tt
+
+pub content_lost : {E : Type 0} (pushed : Result (Unit {0}) E) (P : Type 0) → is_ok pushed ≡ false → OnOk pushed P
+content_lost (Ok _) P lost = absurd (cc lost)
+content_lost (Err _) P lost = tt
+
+pub pushed_more : {E : Type 0} (pushed next : Result (Unit {0}) E) (text old content rest : List ℕ) (left left' n : ℕ)
+    (last new : List ℕ) (h : IsPushed pushed text old content rest left) → IsDottedNumberAt rest n last
+    → OnOk next (new ≡ old ++ oid_content (h.read ++ n ∷ [])) → left ≡ left' + 1
+    → IsPushed next text old new last left'
+pushed_more pushed next text old content rest left left' n last new h at push down = record {
   read = h.read ++ n ∷ [];
-  content_is = push ∙ (ap (λ k. k ++ subidentifier_octets n) h.content_is
-      ∙ flat_map_more subidentifier_octets old h.read n);
+  content_is = push;
   text_is = h.text_is ∙
       (ap (λ k. flat_map dotted h.read ++ k) at.spelled ∙
       (sym (append_assoc (flat_map dotted h.read) (dotted n) last)
@@ -77,10 +100,11 @@ none_later others read (s ∷ later) rest small at some none =
     (dotted_of s later small.0))
 
 -- characters stand there, and no number after a dot
-pub pushed_no_number : (text old content rest : List ℕ) (left : ℕ) → IsPushed text old content rest left
+pub pushed_no_number : {E : Type 0} (pushed : Result (Unit {0}) E) (text old content rest : List ℕ) (left : ℕ)
+    → IsPushed pushed text old content rest left
     → 0 < length rest → ((n : ℕ) (last : List ℕ) → IsDottedNumberAt rest n last → ⊥) → (others : List ℕ)
     → AreOthers others → text ≡ flat_map dotted others → ⊥
-pushed_no_number text old content rest left h some none others are e =
+pushed_no_number pushed text old content rest left h some none others are e =
     let later = h.only others are e in
     none_later others h.read later.0 rest (small_in others h.read later.0 are later.1) later.2 some none
 
@@ -89,9 +113,10 @@ some_later : (later rest : List ℕ) → rest ≡ flat_map dotted later → 0 < 
 some_later [] rest at some = omega (arith, ap length at)
 some_later (s ∷ later) rest at some = omega arith
 
-pub pushed_too_many : (text old content rest : List ℕ) (left : ℕ) → IsPushed text old content rest left
+pub pushed_too_many : {E : Type 0} (pushed : Result (Unit {0}) E) (text old content rest : List ℕ) (left : ℕ)
+    → IsPushed pushed text old content rest left
     → 0 < length rest → left ≡ 0 → (others : List ℕ) → AreOthers others → text ≡ flat_map dotted others → ⊥
-pushed_too_many text old content rest left h some none others are e =
+pushed_too_many pushed text old content rest left h some none others are e =
     let later = h.only others are e in
     omega (
       arith,
@@ -103,9 +128,10 @@ pushed_too_many text old content rest left h some none others are e =
     )
 
 -- all is read
-pub pushed_all : (text old content rest : List ℕ) (left : ℕ) → IsPushed text old content rest left → length rest ≡ 0
-    → (others : List ℕ) × AreOthers others × (text ≡ flat_map dotted others) × (content ≡ old ++ oid_content others)
-pushed_all text old content rest left h none = (
+pub pushed_all : {E : Type 0} (pushed : Result (Unit {0}) E) (text old content rest : List ℕ) (left : ℕ)
+    → IsPushed pushed text old content rest left → length rest ≡ 0 → (others : List ℕ) × AreOthers others
+    × (text ≡ flat_map dotted others) × OnOk pushed (content ≡ old ++ oid_content others)
+pushed_all pushed text old content rest left h none = (
   h.read,
   record { few = omega (arith, h.count); small = h.small },
   h.text_is ∙ (ap (λ k. flat_map dotted h.read ++ k) (nil_from_length rest none) ∙ append-nil (flat_map dotted h.read)),

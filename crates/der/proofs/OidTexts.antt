@@ -198,19 +198,12 @@ pub record IsMade (text content : List ℕ) : Type 0 where
   pub written : content ≡ oid_content made
 
 pub made_of : (text seen : List ℕ) (first : ℕ) (rest : List ℕ) (second : ℕ) (last : List ℕ) (s : ℕ)
-    (others empty mid content : List ℕ) → seen ≡ text → IsNumberAt seen first rest → IsDottedNumberAt rest second last
+    (others content : List ℕ) → seen ≡ text → IsNumberAt seen first rest → IsDottedNumberAt rest second last
     → s < 2 ^ 128 → first_arc s ≡ first → s - 40 * first_arc s ≡ second → AreOthers others
-    → last ≡ flat_map dotted others → empty ≡ [] → mid ≡ empty ++ subidentifier_octets s
-    → content ≡ mid ++ oid_content others → IsMade text content
-made_of text seen first rest second last s others empty mid content same h k small a b are e none front back =
+    → last ≡ flat_map dotted others → content ≡ oid_content (s ∷ others) → IsMade text content
+made_of text seen first rest second last s others content same h k small a b are e written =
     let is = parsed seen first rest second last s others h k small a b are e in
-    record {
-      made = s ∷ others;
-      oid = is.oid;
-      spelled = sym same ∙ is.spelled;
-      written = back ∙ (ap (λ t. t ++ oid_content others) front
-          ∙ ap (λ t. t ++ subidentifier_octets s ++ oid_content others) none);
-    }
+    record { made = s ∷ others; oid = is.oid; spelled = sym same ∙ is.spelled; written = written }
 
 pub ReadsAsOid-made : (text content : List ℕ) → IsMade text content → ReadsAsOid content
 ReadsAsOid-made text content h = ReadsAsOid-written content h.made h.oid h.written

@@ -3,7 +3,7 @@ use Rattle.std.proofs.Common.{◌≡◌, ℕ, zero, suc, ◌-◌, ◌<◌, ◌==
 use Rattle.std.proofs.Common.{Err, refl, sym, ap, ◌∙◌, arith}
 use Rattle.der.specs.Node.{Node, primitive, constructed, Nodes, no_nodes, node, bit_six}
 use Rattle.der.specs.Tree.{nodes}
-use Rattle.der.specs.Reading.{◌>>=◌, Fails, Piece, element_at, nodes_with, node_of, node_at}
+use Rattle.der.specs.Reading.{◌>>=◌, IsFaultOf, Piece, element_at, nodes_with, node_of, node_at}
 use Rattle.der.specs.declared.fault.DerFault.{DerFault}
 use Rattle.der.specs.declared.fault.DerFault.TheVariants.{Truncated, LengthForm, HighTag, WrongKind, TooDeep, TooLong}
 use Rattle.der.specs.declared.fault.DerFault.TheVariants.{Trailing, BadValue, Memory}
@@ -65,17 +65,17 @@ nodes_with_end one found (suc count) [] none = ap Ok (followed-none found)
 nodes_with_end one found count (octet ∷ octets) none = absurd (omega arith)
 
 -- a fault that one reading has, and another too
-pub Fails-along : {A B : Type 0} (fault : DerFault) (r : Result A DerFault) (s : Result B DerFault)
-    → ((e : DerFault) → r ≡ Err e → s ≡ Err e) → Fails fault r → Fails fault s
-Fails-along Truncated r s along fails = along Truncated fails
-Fails-along LengthForm r s along fails = along LengthForm fails
-Fails-along HighTag r s along fails = along HighTag fails
-Fails-along WrongKind r s along fails = along WrongKind fails
-Fails-along TooDeep r s along fails = along TooDeep fails
-Fails-along TooLong r s along fails = along TooLong fails
-Fails-along Trailing r s along fails = along Trailing fails
-Fails-along BadValue r s along fails = along BadValue fails
-Fails-along Memory r s along fails = tt
+pub IsFaultOf-along : {A B : Type 0} (fault : DerFault) (r : Result A DerFault) (s : Result B DerFault)
+    → ((e : DerFault) → r ≡ Err e → s ≡ Err e) → IsFaultOf fault r → IsFaultOf fault s
+IsFaultOf-along Truncated r s along fails = along Truncated fails
+IsFaultOf-along LengthForm r s along fails = along LengthForm fails
+IsFaultOf-along HighTag r s along fails = along HighTag fails
+IsFaultOf-along WrongKind r s along fails = along WrongKind fails
+IsFaultOf-along TooDeep r s along fails = along TooDeep fails
+IsFaultOf-along TooLong r s along fails = along TooLong fails
+IsFaultOf-along Trailing r s along fails = along Trailing fails
+IsFaultOf-along BadValue r s along fails = along BadValue fails
+IsFaultOf-along Memory r s along fails = tt
 
 one_fails : (one : Reader) (found : List Node) (count : ℕ) (octets : List ℕ) (e : DerFault) → 0 < count
     → 0 < length octets → one octets ≡ Err e → after_found found (nodes_with one count octets) ≡ Err e
@@ -86,9 +86,10 @@ one_fails one found (suc count) (octet ∷ octets) e room some first = rw first 
 
 -- the fault of the next value
 pub nodes_with_fails : (one : Reader) (found : List Node) (count : ℕ) (octets : List ℕ) (fault : DerFault) → 0 < count
-    → 0 < length octets → Fails fault (one octets) → Fails fault (after_found found (nodes_with one count octets))
+    → 0 < length octets → IsFaultOf fault (one octets)
+    → IsFaultOf fault (after_found found (nodes_with one count octets))
 nodes_with_fails one found count octets fault room some fails =
-    Fails-along fault (one octets) (after_found found (nodes_with one count octets))
+    IsFaultOf-along fault (one octets) (after_found found (nodes_with one count octets))
     (λ e first. one_fails one found count octets e room some first) fails
 
 -- no level is left
@@ -104,16 +105,16 @@ node_at_step zero octets some = absurd (omega arith)
 node_at_step (suc levels) octets some = let less : suc levels - 1 ≡ levels = omega arith in rw less refl
 
 -- a fault is one
-Fails-is : {A : Type 0} (fault : DerFault) (r : Result A DerFault) → r ≡ Err fault → Fails fault r
-Fails-is Truncated r e = e
-Fails-is LengthForm r e = e
-Fails-is HighTag r e = e
-Fails-is WrongKind r e = e
-Fails-is TooDeep r e = e
-Fails-is TooLong r e = e
-Fails-is Trailing r e = e
-Fails-is BadValue r e = e
-Fails-is Memory r e = tt
+IsFaultOf-is : {A : Type 0} (fault : DerFault) (r : Result A DerFault) → r ≡ Err fault → IsFaultOf fault r
+IsFaultOf-is Truncated r e = e
+IsFaultOf-is LengthForm r e = e
+IsFaultOf-is HighTag r e = e
+IsFaultOf-is WrongKind r e = e
+IsFaultOf-is TooDeep r e = e
+IsFaultOf-is TooLong r e = e
+IsFaultOf-is Trailing r e = e
+IsFaultOf-is BadValue r e = e
+IsFaultOf-is Memory r e = tt
 
 -- the value's own fault
 pub node_at_refused : (levels : ℕ) (octets : List ℕ) (fault : DerFault) → 0 < levels → element_at octets ≡ Err fault
@@ -122,9 +123,9 @@ node_at_refused levels octets fault some first =
     node_at_step levels octets some ∙ ap (λ found. found >>= node_of (node_at (levels - 1))) first
 
 pub node_at_fails : (levels : ℕ) (octets : List ℕ) (fault : DerFault) → 0 < levels → element_at octets ≡ Err fault
-    → Fails fault (node_at levels octets)
+    → IsFaultOf fault (node_at levels octets)
 node_at_fails levels octets fault some first =
-    Fails-is fault (node_at levels octets) (node_at_refused levels octets fault some first)
+    IsFaultOf-is fault (node_at levels octets) (node_at_refused levels octets fault some first)
 
 node_of_fails : (one : Reader) (found : Piece) (e : DerFault) → (bit_six found.identifier == 1) ≡ true
     → nodes_with one (length found.contents) found.contents ≡ Err e → node_of one found ≡ Err e
@@ -157,10 +158,11 @@ node_at_inner_refused levels octets found fault some first bit inner =
 
 pub node_at_inner_fails : (levels : ℕ) (octets : List ℕ) (found : Piece) (fault : DerFault) → 0 < levels
     → element_at octets ≡ Ok found → (bit_six found.identifier == 1) ≡ true
-    → Fails fault (nodes_with (node_at (levels - 1)) (length found.contents) found.contents)
-    → Fails fault (node_at levels octets)
+    → IsFaultOf fault (nodes_with (node_at (levels - 1)) (length found.contents) found.contents)
+    → IsFaultOf fault (node_at levels octets)
 node_at_inner_fails levels octets found fault some first bit fails =
-    Fails-along fault (nodes_with (node_at (levels - 1)) (length found.contents) found.contents) (node_at levels octets)
+    IsFaultOf-along fault (nodes_with (node_at (levels - 1)) (length found.contents) found.contents)
+    (node_at levels octets)
     (λ e inner. node_at_inner_refused levels octets found e some first bit inner) fails
 
 -- values are inside

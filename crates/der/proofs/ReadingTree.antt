@@ -2,12 +2,12 @@
 use Rattle.std.proofs.Common.{◌≡◌, ℕ, ◌<◌, ◌==◌, true, false, List, length, Result, Ok, Err, refl, sym, ap, ◌∙◌, arith}
 use Rattle.std.proofs.lemmas.Bool.{eq-eqb, ne_eqb}
 use Rattle.der.specs.Node.{Node, encoding, IsLawful}
-use Rattle.der.specs.Reading.{Fails, node_at, tree_of}
+use Rattle.der.specs.Reading.{IsFaultOf, node_at, tree_of}
 use Rattle.der.specs.declared.fault.DerFault.{DerFault}
 use Rattle.der.specs.declared.fault.DerFault.TheVariants.{Truncated, LengthForm, HighTag, WrongKind, TooDeep, TooLong}
 use Rattle.der.specs.declared.fault.DerFault.TheVariants.{Trailing, BadValue, Memory}
 use Rattle.der.proofs.ReadingSteps.{err_is_not}
-use Rattle.der.proofs.ReadingRuns.{Fails-along}
+use Rattle.der.proofs.ReadingRuns.{IsFaultOf-along}
 use Rattle.der.proofs.ReadingNodes.{tree_of-encoding}
 
 -- nothing follows the value
@@ -29,11 +29,12 @@ pub tree_of_no_node : (octets : List ℕ) (e : DerFault) → node_at 32 octets �
 unfolding tree_of
 tree_of_no_node octets e found = rw found refl
 
-pub tree_of_fails : (octets : List ℕ) (fault : DerFault) → Fails fault (node_at 32 octets)
-    → Fails fault (tree_of octets)
-tree_of_fails octets fault fails = Fails-along fault (node_at 32 octets) (tree_of octets) (tree_of_no_node octets) fails
+pub tree_of_fails : (octets : List ℕ) (fault : DerFault) → IsFaultOf fault (node_at 32 octets)
+    → IsFaultOf fault (tree_of octets)
+tree_of_fails octets fault fails =
+    IsFaultOf-along fault (node_at 32 octets) (tree_of octets) (tree_of_no_node octets) fails
 
-not_found : (fault : DerFault) (n : Node) (r : Result Node DerFault) → Fails fault r → r ≡ Ok n → fault ≡ Memory
+not_found : (fault : DerFault) (n : Node) (r : Result Node DerFault) → IsFaultOf fault r → r ≡ Ok n → fault ≡ Memory
 not_found Truncated n r fails found = absurd (err_is_not Truncated n (sym fails ∙ found))
 not_found LengthForm n r fails found = absurd (err_is_not LengthForm n (sym fails ∙ found))
 not_found HighTag n r fails found = absurd (err_is_not HighTag n (sym fails ∙ found))
@@ -45,7 +46,7 @@ not_found BadValue n r fails found = absurd (err_is_not BadValue n (sym fails �
 not_found Memory n r fails found = refl
 
 -- where a lawful value's encoding is refused, memory ran out
-pub refused_lawful : (octets : List ℕ) (fault : DerFault) (n : Node) → Fails fault (tree_of octets) → IsLawful n
+pub refused_lawful : (octets : List ℕ) (fault : DerFault) (n : Node) → IsFaultOf fault (tree_of octets) → IsLawful n
     → octets ≡ encoding n → fault ≡ Memory
 refused_lawful octets fault n fails lawful same =
     not_found fault n (tree_of octets) fails (ap tree_of same ∙ tree_of-encoding n lawful)

@@ -4,6 +4,7 @@ pub mod Fault
 pub mod Node
 pub mod Number
 pub mod ObjectIdentifier
+pub mod OidText
 pub mod Piece
 pub mod Reading
 pub mod Tree

@@ -14,20 +14,20 @@ abbrev pub ◌>>=◌ : {A B : Type 0} → Result A DerFault → (A → Result B 
 (Err e) >>= f = Err e
 
 -- What a function returned, seen by a view, is what reading gives, unless memory ran out.
-abbrev pub Fails : {Y : Type 0} → DerFault → Result Y DerFault → Type 0
-Fails Memory read = Unit {0}
-Fails Truncated read = read ≡ Err Truncated
-Fails LengthForm read = read ≡ Err LengthForm
-Fails HighTag read = read ≡ Err HighTag
-Fails WrongKind read = read ≡ Err WrongKind
-Fails TooDeep read = read ≡ Err TooDeep
-Fails TooLong read = read ≡ Err TooLong
-Fails Trailing read = read ≡ Err Trailing
-Fails BadValue read = read ≡ Err BadValue
+abbrev pub IsFaultOf : {Y : Type 0} → DerFault → Result Y DerFault → Type 0
+IsFaultOf Memory read = Unit {0}
+IsFaultOf Truncated read = read ≡ Err Truncated
+IsFaultOf LengthForm read = read ≡ Err LengthForm
+IsFaultOf HighTag read = read ≡ Err HighTag
+IsFaultOf WrongKind read = read ≡ Err WrongKind
+IsFaultOf TooDeep read = read ≡ Err TooDeep
+IsFaultOf TooLong read = read ≡ Err TooLong
+IsFaultOf Trailing read = read ≡ Err Trailing
+IsFaultOf BadValue read = read ≡ Err BadValue
 
 abbrev pub Gives : {X Y : Type 0} → (X → Y) → Result X DerFault → Result Y DerFault → Type 0
 Gives view (Ok x) read = read ≡ Ok (view x)
-Gives view (Err e) read = Fails e read
+Gives view (Err e) read = IsFaultOf e read
 
 -- What a function returned, seen by a view, is what reading gives.
 abbrev pub Reads : {X Y : Type 0} → (X → Y) → Result X DerFault → Result Y DerFault → Type 0

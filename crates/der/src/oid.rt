@@ -6,15 +6,13 @@ ghost use Rattle.std.proofs.lemmas.Cmp.{nat_list_eq_equiv};
 ghost use Rattle.std.specs.Cmp.{partial_equiv_from_equiv};
 ghost use Rattle.der.specs.Node.{AreOctets};
 ghost use Rattle.der.specs.ObjectIdentifier.{IsOid, IsOidContent, oid_content, oid_text, subidentifiers_of, oid_of};
+ghost use Rattle.der.specs.OidText.{oid_of_text};
 ghost use Rattle.der.specs.declared.fault.DerFault.TheVariants.{BadValue, Memory};
 
 use crate::fault::DerFault;
 use std::alloc::{AllocError, Global};
 use std::marker::Model;
-use text::{
-    dotted_number_at, joined_arcs, number_at, push_dotted, push_first_arcs, push_others,
-    push_subidentifier,
-};
+use text::{content_of, dotted_number_at, joined_arcs, number_at, push_dotted, push_first_arcs};
 
 mod text;
 
@@ -63,6 +61,7 @@ impl Oid {
         ensures only { (subidentifiers : List ℕ) → IsOid subidentifiers → text.now ≡ oid_text subidentifiers
             → MatchResult result (λ oid. oid ≡ subidentifiers) (λ e. e ≡ Memory) }
         ensures refusals { IfErr result (λ e. (e ≡ BadValue) ⊎ (e ≡ Memory)) }
+        ensures bad_value { (result ≡ Err BadValue) ↔ (oid_of_text text.now ≡ None) }
     {
         let Some((first, rest)) = number_at(text.as_bytes()) else {
             return Err(DerFault::BadValue);
@@ -73,10 +72,9 @@ impl Oid {
         let Some(subidentifier) = joined_arcs(first, second) else {
             return Err(DerFault::BadValue);
         };
-        let mut content = Vec::new(alloc);
-        push_subidentifier(&mut content, subidentifier)?;
-        push_others(&mut content, rest)?;
-        Ok(Oid { content })
+        Ok(Oid {
+            content: content_of(alloc, subidentifier, rest)?,
+        })
     }
 
     /// The text, as `1.2.840`: the arcs in decimal, without leading zeros, joined by dots. Refused with `Memory` where
@@ -178,6 +176,8 @@ pub fn oids_have_one_content_and_text()
     ensures one_text { (a b : List ℕ) → IsOid a → IsOid b → oid_text a ≡ oid_text b → a ≡ b }
     ensures computed { (oid : List ℕ) → IsOid oid → oid_of (oid_content oid) ≡ Some oid }
     ensures found { (octets oid : List ℕ) → oid_of octets ≡ Some oid → IsOid oid × (octets ≡ oid_content oid) }
+    ensures text_computed { (oid : List ℕ) → IsOid oid → oid_of_text (oid_text oid) ≡ Some oid }
+    ensures text_found { (text oid : List ℕ) → oid_of_text text ≡ Some oid → IsOid oid × (text ≡ oid_text oid) }
 {}
 
 #[cfg(test)]

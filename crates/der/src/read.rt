@@ -3,8 +3,8 @@ ghost use Rattle.std.specs.Prelude.{◌≡◌, ℕ, ◌≤◌, ◌<◌, ◌+◌,
 ghost use Rattle.der.specs.Node.{Node, encoding, IsLawful};
 ghost use Rattle.der.specs.Piece.{piece_view};
 ghost use Rattle.der.specs.Tree.{view, nodes, IsRead};
-ghost use Rattle.der.specs.Reading.{Gives, Reads, Fails, long_length, length_at, identifier_at, element_at, node_at};
-ghost use Rattle.der.specs.Reading.{nodes_with, tree_of};
+ghost use Rattle.der.specs.Reading.{Gives, Reads, IsFaultOf, long_length, length_at, identifier_at, element_at};
+ghost use Rattle.der.specs.Reading.{node_at, nodes_with, tree_of};
 
 use crate::fault::DerFault;
 use crate::tag::Tag;
@@ -153,7 +153,7 @@ fn read_nodes(alloc: Global, levels: u8, bytes: &[u8]) -> Result<Vec<Tree>, DerF
 pub fn read_tree(alloc: Global, bytes: &[u8]) -> Result<Tree, DerFault>
     ensures found { IfOk result (λ tree. IsLawful (view tree) × (bytes.now ≡ encoding (view tree))) }
     ensures only { (n : Node) → IsLawful n → bytes.now ≡ encoding n → IsRead result n }
-    ensures refusals { IfErr result (λ fault. Fails fault (tree_of bytes.now)) }
+    ensures refusals { IfErr result (λ fault. IsFaultOf fault (tree_of bytes.now)) }
 {
     let (tree, rest) = read_node(alloc, MAX_LEVELS, bytes)?;
     if !rest.is_empty() {

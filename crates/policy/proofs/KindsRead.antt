@@ -8,7 +8,7 @@ use Rattle.hex.specs.declared.error.FromHexError.{FromHexError}
 use Rattle.policy.specs.Kinds.{hash_in, oid_in}
 use Rattle.policy.specs.declared.fault.PolicyFault.TheVariants.{BadValue}
 use Rattle.policy.specs.declared.field.Field.{Field}
-use Rattle.policy.proofs.OidTexts.{oid_of_text-written, oid_of_text-other}
+use Rattle.der.proofs.OidOfTexts.{oid_of_text-written, oid_of_text-other}
 
 -- a text that isn't 64 hexadecimal digits
 pub hash_in-refused : (field : Field) (d : Data) (text : List ℕ) → Some text ≡ as_str d

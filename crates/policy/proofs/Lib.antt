@@ -2,7 +2,6 @@ pub mod Searches
 pub mod HashTable
 pub mod Keys
 pub mod KindsRead
-pub mod OidTexts
 pub mod EntriesRead
 pub mod SoundRecords
 pub mod Rows

@@ -7,7 +7,7 @@ use Rattle.policy.specs.Kinds.{number_in, is_name, name_in, some_name_in, oid_in
 use Rattle.policy.specs.Kinds.{values_in, names_in, tables_in, entry_in, array_in}
 use Rattle.policy.specs.Meaning.{counter_of, counter_in, algorithm_of, extension_of, tsa_policy_of, account_of}
 use Rattle.policy.specs.Meaning.{policy_in}
-use Rattle.policy.specs.OidText.{oid_of_text}
+use Rattle.der.specs.OidText.{oid_of_text}
 use Rattle.policy.specs.Record.{PolicyValue}
 use Rattle.policy.specs.declared.fault.PolicyFault.TheVariants.{BadValue, Duplicate, Missing, UnknownName}
 use Rattle.policy.specs.declared.field.Field.TheVariants as field

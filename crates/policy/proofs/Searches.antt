@@ -4,7 +4,7 @@ use Rattle.std.proofs.Common.{refl, ap, sym, ◌∙◌}
 use Rattle.std.specs.List.{find, list_any}
 
 -- one of the values passes a test where one of the elements passes the test of its value
-any_value : {A B : Type 0} (test : B → Bool) (view : A → B) (xs : List A)
+pub any_value : {A B : Type 0} (test : B → Bool) (view : A → B) (xs : List A)
     → list_any test (map view xs) ≡ list_any (λ x. test (view x)) xs
 any_value test view [] = refl
 any_value test view (x ∷ xs) = ap (λ b. test (view x) || b) (any_value test view xs)

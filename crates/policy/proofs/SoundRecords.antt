@@ -23,7 +23,7 @@ use Rattle.policy.specs.Kinds.{entry_in, tables_in, are_tables, count_of, array_
 use Rattle.policy.specs.Meaning.{lengths_of, is_none_or_among, counter_of, counter_in, algorithm_of, algorithm_in}
 use Rattle.policy.specs.Meaning.{extension_of, extension_in, tsa_policy_of, tsa_policy_in, account_of, account_in}
 use Rattle.policy.specs.Meaning.{policy_in, document_in, meaning_of}
-use Rattle.policy.specs.OidText.{oid_of_text}
+use Rattle.der.specs.OidText.{oid_of_text}
 use Rattle.policy.specs.Record.{AlgorithmValue, ExtensionValue, TsaPolicyValue, AccountValue, CounterValue, PolicyValue}
 use Rattle.policy.specs.Sound.{are_apart, same_hash, AreListed, IsCounter, IsAlgorithm, IsExtension, IsTsaPolicy}
 use Rattle.policy.specs.Sound.{IsAccount, AreEntries, AreAccounts, IsSound}
@@ -31,7 +31,7 @@ use Rattle.policy.specs.declared.fault.PolicyFault.{PolicyFault}
 use Rattle.policy.specs.declared.fault.PolicyFault.TheVariants.{BadValue, Duplicate, UnknownName, TooMany}
 use Rattle.policy.specs.declared.field.Field.{Field}
 use Rattle.policy.specs.declared.field.Field.TheVariants as field
-use Rattle.policy.proofs.OidTexts.{oid_of_text-is}
+use Rattle.der.proofs.OidOfTexts.{oid_of_text-some}
 
 -- ---- steps
 
@@ -115,7 +115,7 @@ identified : (name : Field) (d : Data) (x : List ℕ) → oid_in name d ≡ Ok x
 unfolding oid_in
 identified name d x e =
     let a = bound (given name (as_str d)) _ x e in
-    oid_of_text-is a.value x (present name (oid_of_text a.value) x a.after)
+    (oid_of_text-some a.value x (present name (oid_of_text a.value) x a.after)).0
 
 record IsNewOid (earlier : List (List ℕ)) (x : List ℕ) : Type 0 where
   fresh_one : is_among earlier (oid_content x) ≡ false

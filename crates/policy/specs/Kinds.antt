@@ -8,7 +8,7 @@ use Rattle.der.specs.ObjectIdentifier.{oid_content}
 use Rattle.hex.specs.Hex.{decode_sized}
 use Rattle.toml.specs.Data.{Data, Items, no_items, item, Members, no_members, member, get_member, as_str, as_integer}
 use Rattle.toml.specs.Data.{as_bool, as_array, as_table}
-use Rattle.policy.specs.OidText.{oid_of_text}
+use Rattle.der.specs.OidText.{oid_of_text}
 use Rattle.policy.specs.declared.fault.PolicyFault.{PolicyFault}
 use Rattle.policy.specs.declared.fault.PolicyFault.TheVariants.{Missing, BadValue, Duplicate, UnknownName, TooMany}
 use Rattle.policy.specs.declared.field.Field.{Field}

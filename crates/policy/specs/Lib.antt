@@ -1,7 +1,6 @@
 pub mod Fault
 pub mod Answers
 pub mod Record
-pub mod OidText
 pub mod HashAlgorithms
 pub mod Kinds
 pub mod Meaning

@@ -1,5 +1,5 @@
-/// An example of a policy file: two algorithms, an extension, two policies and five accounts. Tests of this crate and of
-/// those above start from it. `docs/example-policy.toml` has the same, with comments.
+/// An example of a policy file: two algorithms, an extension, two policies and five accounts. Tests of this crate and
+/// of those above start from it. `docs/example-policy.toml` has the same, with comments.
 pub const EXAMPLE: &str = r#"[counter]
 accuracy_us = 1000000
 fraction_digits = 0

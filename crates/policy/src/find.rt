@@ -176,10 +176,5 @@ pub(crate) fn are_distinct(names: &[String]) -> bool
 pub(crate) fn all_exist<T: Named>(entries: &[T], names: &[String]) -> bool
     ensures { result ≡ list_all (is_among (map T.name_of entries.now)) (map string_bytes names.now) }
 {
-    for name in names {
-        if !has_name(entries, name.as_str()) {
-            return false;
-        }
-    }
-    true
+    names.iter().all(|name| has_name(entries, name.as_str()))
 }

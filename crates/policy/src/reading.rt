@@ -151,12 +151,7 @@ pub(crate) fn hash(field: Field, value: &Value) -> Result<[u8; 32], PolicyFault>
 fn is_among(known: &[&str], text: &str) -> bool
     ensures { result ≡ is_among (map (λ k. k.now) known.now) text.now }
 {
-    for other in known {
-        if *other == text {
-            return true;
-        }
-    }
-    false
+    known.iter().any(|other| *other == text)
 }
 
 /// Refuses a table with a key that isn't one of these.

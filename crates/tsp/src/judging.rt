@@ -16,8 +16,8 @@ pub trait JudgesRequests {
 }
 
 /// Whoever judges requests: the first rule that fails of the request that octets spell is the first that fails of the
-/// octets, at most 65,536 of them; where no rule fails of the request, none does of the octets; and octets that spell no
-/// request, or are more, fail the rule on their spelling.
+/// octets, at most 65,536 of them; where no rule fails of the request, none does of the octets; and octets that spell
+/// no request, or are more, fail the rule on their spelling.
 pub fn octets_fail_as_their_request<J: JudgesRequests>()
     ensures first { (judge : J) (octets : List ℕ) (r : RequestValue) → Spells octets r → length octets ≤ 65536
         → J.holds_of judge r Spelling → (rule : Rule) → IsFirstFailing (J.holds_of judge r) rule

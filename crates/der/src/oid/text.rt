@@ -1,6 +1,6 @@
 //! The dotted text of object identifiers, and the octets of their subidentifiers.
-ghost use Rattle.std.specs.Prelude.{◌≡◌, ◌≢◌, Err, ℕ, ◌+◌, ◌-◌, ◌*◌, ◌^◌, ◌<◌, ◌≤◌, ◌⊎◌, List, [], ◌∷◌, ◌++◌, map};
-ghost use Rattle.std.specs.Prelude.{IfErr, OnOk, MatchOption, string_bytes};
+ghost use Rattle.std.specs.Prelude.{◌≡◌, Err, ℕ, ◌+◌, ◌-◌, ◌*◌, ◌^◌, ◌<◌, ◌≤◌, ◌⊎◌, List, [], ◌∷◌, ◌++◌, map};
+ghost use Rattle.std.specs.Prelude.{◌↔◌, IfOk, IfErr, OnOk, MatchOption, string_bytes};
 ghost use Rattle.std.specs.List.{flat_map};
 ghost use Rattle.std.specs.Int.Digits.{digits_of};
 ghost use Rattle.der.specs.ObjectIdentifier.{decimal, dotted, first_arc, oid_text, oid_content, subidentifier_octets};
@@ -8,7 +8,7 @@ ghost use Rattle.der.specs.ObjectIdentifier.{AreOthers, IsNumberAt, IsDottedNumb
 ghost use Rattle.der.specs.declared.fault.DerFault.TheVariants.{BadValue, Memory};
 
 use crate::fault::DerFault;
-use std::alloc::AllocError;
+use std::alloc::{AllocError, Global};
 
 /// Appends a number in decimal digits, without leading zeros.
 pub(super) fn push_decimal(text: &mut String, number: u128) -> Result<(), AllocError>
@@ -121,13 +121,17 @@ pub(super) fn push_subidentifier(
     Ok(())
 }
 
-/// Appends the octets of the subidentifiers that a text has, each after a dot, and nothing else: at most 31.
-pub(super) fn push_others(content: &mut Vec<u8>, text: &[u8]) -> Result<(), DerFault>
-    ensures found { OnOk result ((others : List ℕ) × AreOthers others × (text.now ≡ flat_map dotted others)
-        × (content.new.items ≡ content.old.items ++ oid_content others)) }
-    ensures only { (others : List ℕ) → AreOthers others → text.now ≡ flat_map dotted others → result ≢ Err BadValue }
+/// The contents octets of a first subidentifier and of those that a text has, each after a dot, and nothing else: at
+/// most 31. The text is read to its end also where memory ran out, so `BadValue` is answered of each other text.
+pub(super) fn content_of(alloc: Global, first: u128, text: &[u8]) -> Result<Vec<u8>, DerFault>
+    ensures found { IfOk result (λ content. (others : List ℕ) × AreOthers others × (text.now ≡ flat_map dotted others)
+        × (content.items ≡ oid_content (first ∷ others))) }
+    ensures bad_value { (result ≡ Err BadValue)
+        ↔ ((others : List ℕ) → AreOthers others → text.now ≡ flat_map dotted others → ⊥) }
     ensures refusals { IfErr result (λ e. (e ≡ BadValue) ⊎ (e ≡ Memory)) }
 {
+    let mut content = Vec::new(alloc);
+    let mut pushed = push_subidentifier(&mut content, first);
     let mut rest = text;
     let mut left: u8 = 31;
     while !rest.is_empty() {
@@ -137,9 +141,12 @@ pub(super) fn push_others(content: &mut Vec<u8>, text: &[u8]) -> Result<(), DerF
         let Some((number, others)) = dotted_number_at(rest) else {
             return Err(DerFault::BadValue);
         };
-        push_subidentifier(content, number)?;
+        if pushed.is_ok() {
+            pushed = push_subidentifier(&mut content, number);
+        }
         rest = others;
         left -= 1;
     }
-    Ok(())
+    pushed?;
+    Ok(content)
 }

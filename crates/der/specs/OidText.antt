@@ -7,8 +7,8 @@ use Rattle.der.specs.ObjectIdentifier.{is_oid, oid_text}
 abbrev pub arcs_after : ℕ → List ℕ → List ℕ
 arcs_after n [] = n ∷ []
 arcs_after n (character ∷ characters) =
-    if character == 46 then n ∷ arcs_after 0 characters
-    else arcs_after (n * 10 + (character - 48)) characters
+    if character == 0x2e then n ∷ arcs_after 0 characters
+    else arcs_after (n * 10 + (character - 0x30)) characters
 
 -- the first subidentifier joins the first two arcs (X.690 8.19.4)
 abbrev pub joined : List ℕ → List ℕ

@@ -1,17 +1,20 @@
 -- The text of an object identifier, read.
-use Rattle.std.proofs.Common.{◌≡◌, ℕ, zero, suc, ◌+◌, ◌-◌, ◌*◌, ◌<◌, ◌≤◌, Bool, true, false, ◌&&◌, eqb, ltb, leb, ◌^◌}
-use Rattle.std.proofs.Common.{Decides, List, [], ◌∷◌, ◌++◌, length, map, Some, None, refl, sym, ap, subst, ◌∙◌, arith}
+use Rattle.std.proofs.Common.{◌≡◌, ℕ, zero, suc, ◌+◌, ◌-◌, ◌*◌, ◌<◌, Bool, true, false, ◌&&◌, eqb, ◌^◌}
+use Rattle.std.proofs.Common.{Decides, List, [], ◌∷◌, ◌++◌, map, Some, None, refl, sym, ap, subst, ◌∙◌, arith}
 use Rattle.std.specs.Int.Digits.{digits_of, number_from_digits_after}
-use Rattle.std.specs.List.{flat_map, list_all, AllByRecursion}
+use Rattle.std.specs.List.{flat_map}
 use Rattle.std.specs.Prelude.{if◌then◌else◌}
 use Rattle.std.specs.Str.{bytes_eq}
 use Rattle.std.proofs.lemmas.Option.{same_Some}
-use Rattle.std.proofs.lemmas.Bool.{ne_eqb, cond-false, cond-true, leb-true, le-leb}
-use Rattle.std.proofs.lemmas.Bool.Decides.{nat_tests, Decides-and, Decides-ltb}
+use Rattle.std.proofs.lemmas.Bool.{ne_eqb, cond-false, cond-true}
+use Rattle.std.proofs.lemmas.Bool.Decides.{nat_tests, Decides-and}
 use Rattle.std.proofs.lemmas.Int.Digits.{number_digits_of}
 use Rattle.std.proofs.lemmas.Slice.Eq.{bytes_eq-Decides}
-use Rattle.der.specs.ObjectIdentifier.{IsOid, is_oid, oid_text, decimal, dotted, first_arc}
-use Rattle.policy.specs.OidText.{arcs_after, joined, oid_of_text}
+use Rattle.der.specs.ObjectIdentifier.{IsOid, is_oid, oid_text, decimal, dotted, first_arc, AreOthers, IsNumberAt}
+use Rattle.der.specs.ObjectIdentifier.{IsDottedNumberAt}
+use Rattle.der.specs.OidText.{arcs_after, joined, oid_of_text}
+use Rattle.der.proofs.OidContents.{is_oid-decides}
+use Rattle.der.proofs.OidTexts.{parsed}
 
 digit_step : (n d : ℕ) (cs : List ℕ) → arcs_after n ((48 + d) ∷ cs) ≡ arcs_after (n * 10 + d) cs
 digit_step n d cs =
@@ -57,21 +60,6 @@ read_back (s ∷ ss) h = arcs_read s ss
 
 -- ---- the tests
 
-leb-decides : (m n : ℕ) → Decides (leb m n) (m ≤ n)
-leb-decides m n = (leb-true m n, le-leb m n)
-
-small_decides : (ss : List ℕ) → Decides (list_all (λ s. ltb s (2 ^ 128)) ss) (AllByRecursion (λ s. s < 2 ^ 128) ss)
-small_decides [] = (λ _. tt, λ _. refl)
-small_decides (s ∷ ss) = Decides-and (ltb s (2 ^ 128)) (list_all (λ s. ltb s (2 ^ 128)) ss) (Decides-ltb s (2 ^ 128))
-    (small_decides ss)
-
-is_oid-decides : (ss : List ℕ) → Decides (is_oid ss) (IsOid ss)
-is_oid-decides ss =
-    let both = Decides-and (leb 1 (length ss) && leb (length ss) 32) (list_all (λ s. ltb s (2 ^ 128)) ss)
-    (Decides-and (leb 1 (length ss)) (leb (length ss) 32) (leb-decides 1 (length ss)) (leb-decides (length ss) 32))
-    (small_decides ss) in
-    (λ t. let p = both.0 t in record { some = p.0.0; few = p.0.1; small = p.1 }, λ h. both.1 ((h.some, h.few), h.small))
-
 -- the list is an object identifier with this text
 abbrev tests : List ℕ → List ℕ → Bool
 tests oid text = is_oid oid && bytes_eq (oid_text oid) text
@@ -101,14 +89,34 @@ oid_of_text-other text other =
     let oid : List ℕ = joined (arcs_after 0 text) in
     cond-false _ _ _ (no_text (tests oid text) oid text (tests_decide oid text) (other oid))
 
+-- what a text gives is an object identifier, and the text its own
 from_test : (b : Bool) (oid text x : List ℕ) → Decides b (IsOid oid × (oid_text oid ≡ text))
-    → (if b then Some oid else None) ≡ Some x → IsOid x
-from_test true oid text x h e = subst IsOid (same_Some oid x e) (h.0 refl).0
+    → (if b then Some oid else None) ≡ Some x → IsOid x × (text ≡ oid_text x)
+from_test true oid text x h e =
+    let same : oid ≡ x = same_Some oid x e in
+    (subst IsOid same (h.0 refl).0, sym (h.0 refl).1 ∙ ap oid_text same)
 from_test false oid text x h e = absurd (cc e)
 
--- what a text gives is an object identifier
-pub oid_of_text-is : (text x : List ℕ) → oid_of_text text ≡ Some x → IsOid x
+pub oid_of_text-some : (text x : List ℕ) → oid_of_text text ≡ Some x → IsOid x × (text ≡ oid_text x)
 unfolding oid_of_text
-oid_of_text-is text x e =
+oid_of_text-some text x e =
     let oid : List ℕ = joined (arcs_after 0 text) in
     from_test (tests oid text) oid text x (tests_decide oid text) e
+
+-- ---- what is answered
+
+-- a text that gives none is no object identifier's
+pub none-not_text : (text oid : List ℕ) → oid_of_text text ≡ None → IsOid oid → text ≡ oid_text oid → ⊥
+none-not_text text oid none is written =
+    let some : oid_of_text text ≡ Some oid = ap oid_of_text written ∙ oid_of_text-written oid is in
+    let same : Some oid ≡ None = sym some ∙ none in
+    cc
+
+-- ..so after its first two arcs no others follow
+pub none-no_others : (text seen : List ℕ) (first : ℕ) (rest : List ℕ) (second : ℕ) (last : List ℕ) (s : ℕ)
+    → seen ≡ text → IsNumberAt seen first rest → IsDottedNumberAt rest second last → s < 2 ^ 128
+    → first_arc s ≡ first → s - 40 * first_arc s ≡ second → oid_of_text text ≡ None → (others : List ℕ)
+    → AreOthers others → last ≡ flat_map dotted others → ⊥
+none-no_others text seen first rest second last s same h k small a b none others are e =
+    let is = parsed seen first rest second last s others h k small a b are e in
+    none-not_text text (s ∷ others) none is.oid (sym same ∙ is.spelled)
