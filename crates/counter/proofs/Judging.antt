@@ -1,5 +1,5 @@
 -- Rules that hold of the one request that octets spell, and of the octets.
-use Rattle.std.proofs.Common.{◌≡◌, ℕ, ◌<◌, ◌≤◌, List, length, Result, Ok, Err, IfOk, inl, inr, subst, arith}
+use Rattle.std.proofs.Common.{◌≡◌, ℕ, ◌<◌, ◌≤◌, List, length, inl, inr, subst, arith}
 use Rattle.der.specs.Node.{encoding}
 use Rattle.tsp.specs.Request.{RequestValue, Spells}
 use Rattle.tsp.specs.Rejection.{number_of, rejection}
@@ -17,6 +17,15 @@ pub record IsOnlyRequest (query : List ℕ) (r : RequestValue) : Type 0 where
   pub spelled : Spells query r
   pub only : (other : RequestValue) → Spells query other → r ≡ other
   pub short : length query ≤ 65536
+
+pub only_request : (query : List ℕ) (r : RequestValue) → Spells query r → length query ≤ 65536
+    → ((octets : List ℕ) (first second : RequestValue) → Spells octets first → Spells octets second → first ≡ second)
+    → IsOnlyRequest query r
+only_request query r spelled short one = record {
+  spelled = spelled;
+  only = λ other s. one query r other spelled s;
+  short = short;
+}
 
 pub lifted : (query : List ℕ) (r : RequestValue) → IsOnlyRequest query r → (rule : Rule) → HoldsOf r rule
     → Holds query rule
@@ -84,7 +93,3 @@ pub rejected : (settings : SettingsValue) (query : List ℕ) (rule : Rule) (octe
     → IsFirstFailing (Holds query) rule
     → octets ≡ encoding (rejection rule) → IsReply settings query octets
 rejected settings query rule octets first text = inr record { rule = rule; first = first; text = text }
-
-pub if_ok : {T E : Type 0} {P Q : T → Type 0} (r : Result T E) → ((x : T) → P x → Q x) → IfOk r P → IfOk r Q
-if_ok (Ok x) f h = f x h
-if_ok (Err e) f h = h

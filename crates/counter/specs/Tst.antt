@@ -7,11 +7,15 @@ use Rattle.tsp.specs.Request.{RequestValue, Spells}
 use Rattle.tsp.specs.Rejection.{rejection}
 use Rattle.tsp.specs.Rules.{HoldsOfOctets, HasVersionOne, HasKnownAlgorithm, HasAlgorithmLength, IsFirstFailing}
 use Rattle.tsp.specs.Tst.{TstValue, IsTst, tst_info}
+use Rattle.tsp.specs.declared.fault.TspFault.TheVariants as tsp
 use Rattle.tsp.specs.declared.rule.Rule.{Rule}
 use Rattle.tsp.specs.declared.rule.Rule.TheVariants.{Spelling, Version, Account, Algorithm, HashLength, Policy}
 use Rattle.tsp.specs.declared.rule.Rule.TheVariants.{PolicyAlgorithm, Extensions, Certificate, Clock, Quota, System}
 use Rattle.counter.specs.Known.{five_algorithms}
 use Rattle.counter.specs.Settings.{SettingsValue}
+use Rattle.counter.specs.declared.fault.Fault.{Fault}
+use Rattle.counter.specs.declared.fault.Fault.TheVariants.{Tsp, Input}
+use Rattle.counter.specs.declared.fault.InputFault.TheVariants.{Memory}
 
 -- the TSTInfo of a request: its policy is the request's where it states one, and its genTime the moment rounded down
 abbrev pub tst_of : SettingsValue → RequestValue → TstValue
@@ -65,3 +69,7 @@ pub record IsRejected (query octets : List ℕ) : Type 0 where
 
 abbrev pub IsReply : SettingsValue → List ℕ → List ℕ → Type 0
 IsReply settings query octets = IsGranted settings query octets ⊎ IsRejected query octets
+
+-- Memory is wanting for a reply: of a TSTInfo, where each rule holds, or of the program's own.
+abbrev pub IsReplyFault : List ℕ → Fault → Type 0
+IsReplyFault query fault = (fault ≡ Input Memory) ⊎ ((fault ≡ Tsp tsp.Memory) × ((rule : Rule) → Holds query rule))

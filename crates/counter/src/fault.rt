@@ -17,9 +17,9 @@ use tsp::TspFault;
 /// Why the program did not do what its words ask for: the part that refused, and its refusal.
 #[derive(Clone, Copy, Debug, PartialEq, Eq)]
 pub enum Fault {
-    /// An object identifier is malformed, or memory ran out over it.
+    /// An object identifier is malformed.
     Der(DerFault),
-    /// Memory ran out over a request or a TSTInfo.
+    /// Memory ran out over a TSTInfo.
     Tsp(TspFault),
     /// A certificate isn't one, or memory ran out over it or a signer.
     Cms(CmsFault),

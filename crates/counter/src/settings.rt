@@ -1,11 +1,11 @@
 ghost use Rattle.std.specs.Prelude.{◌≡◌, ◌⊎◌, ◌^◌, ◌<◌, ◌≤◌, List, ℕ, Err, IfOk, IfErr};
 ghost use Rattle.der.specs.ObjectIdentifier.{IsOid, oid_text};
-ghost use Rattle.der.specs.declared.fault.DerFault.TheVariants.{BadValue, Memory};
+ghost use Rattle.der.specs.declared.fault.DerFault.TheVariants.{BadValue};
 ghost use Rattle.gentime.specs.GenTime.{last_moment, round_down};
 
-use crate::fault::Fault;
+use crate::fault::{Fault, InputFault};
 use command_line::TstWords;
-use der::Oid;
+use der::{DerFault, Oid};
 use gentime::GenTime;
 use std::alloc::Global;
 
@@ -34,15 +34,16 @@ pub struct Settings {
 impl Settings {
     ghost use Rattle.counter.specs.Settings.{settings_value, States};
 
-    /// The settings that the words state. A policy that is no object identifier's text is refused as `der` 8, and `der`
-    /// 9 is want of memory.
+    /// The settings that the words state. A policy that is no object identifier's text is refused as `der` 8, and want
+    /// of memory is `input` 7.
     pub fn of_words(alloc: Global, words: &TstWords<'_>) -> Result<Settings, Fault>
         ensures found { IfOk result (λ settings. States words.now (settings_value settings)) }
         ensures refused { result ≡ Err (Fault.Der BadValue) → (oid : List ℕ) → IsOid oid
             → words.now.policy.now ≡ oid_text oid → ⊥ }
-        ensures faults { IfErr result (λ fault. (fault ≡ Fault.Der BadValue) ⊎ (fault ≡ Fault.Der Memory)) }
+        ensures faults { IfErr result (λ fault.
+            (fault ≡ Fault.Der BadValue) ⊎ (fault ≡ Fault.Input InputFault.Memory)) }
     {
-        let policy = Oid::parse_text(alloc, words.policy)?;
+        let policy = parse_policy(alloc, words.policy)?;
         let moment = GenTime::from_micros(words.moment as i64).unwrap();
         Ok(Settings {
             policy,
@@ -60,5 +61,21 @@ impl Settings {
         ensures bound { result ≤ last_moment }
     {
         self.moment.rounded_down(self.digits)
+    }
+}
+
+/// The object identifier of that text. Another text is refused as `der` 8, and want of memory is `input` 7.
+fn parse_policy(alloc: Global, text: &str) -> Result<Oid, Fault>
+    ensures found { IfOk result (λ oid. IsOid oid × (text.now ≡ oid_text oid)) }
+    ensures refused { result ≡ Err (Fault.Der BadValue) → (oid : List ℕ) → IsOid oid → text.now ≡ oid_text oid → ⊥ }
+    ensures faults { IfErr result (λ fault.
+        (fault ≡ Fault.Der BadValue) ⊎ (fault ≡ Fault.Input InputFault.Memory)) }
+{
+    match Oid::parse_text(alloc, text) {
+        Ok(policy) => Ok(policy),
+        Err(fault) => match fault {
+            DerFault::Memory => Err(Fault::Input(InputFault::Memory)),
+            _ => Err(Fault::Der(fault)),
+        },
     }
 }

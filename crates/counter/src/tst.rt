@@ -8,8 +8,9 @@ ghost use Rattle.tsp.specs.Tst.{tst_info};
 ghost use Rattle.tsp.specs.View.{request_view};
 ghost use Rattle.tsp.specs.declared.fault.TspFault.TheVariants.{Memory};
 ghost use Rattle.counter.specs.Settings.{settings_value};
-ghost use Rattle.counter.specs.Tst.{HasLawfulAnswers, IsReply, tst_of};
+ghost use Rattle.counter.specs.Tst.{HasLawfulAnswers, IsReply, IsReplyFault, tst_of};
 
+use crate::fault::{Fault, InputFault};
 use crate::rules::first_failing;
 use crate::settings::Settings;
 use der::oids_have_one_content_and_text;
@@ -21,18 +22,20 @@ use tsp::{
 
 /// The reply to a request: its TSTInfo (RFC 3161 2.4.2) by these settings, where every rule holds, and else the
 /// rejection by the first rule that fails. Judged are the rules on the request's spelling, its version, its hash
-/// algorithm, of the five that are known, and its hash's length. Refused only for want of memory.
-pub fn tst_reply(alloc: Global, query: &[u8], settings: &Settings) -> Result<Vec<u8>, TspFault>
+/// algorithm, of the five that are known, and its hash's length.
+///
+/// Refused only for want of memory: in place of a rejection as `input` 7, and in place of a TSTInfo as `tsp` 3.
+pub fn tst_reply(alloc: Global, query: &[u8], settings: &Settings) -> Result<Vec<u8>, Fault>
     ensures reply { IfOk result (λ reply. IsReply (settings_value settings.now) query.now reply.items) }
-    ensures memory { IfErr result (λ fault. fault ≡ Memory) }
+    ensures memory { IfErr result (IsReplyFault query.now) }
 {
     requests_have_one_reading();
     match read_request(query) {
         Ok(request) => match first_failing(&request) {
-            None => write_reply(alloc, request, settings),
-            Some(rule) => write_rejection(alloc, rule),
+            None => Ok(write_reply(alloc, request, settings)?),
+            Some(rule) => Ok(write_rejection(alloc, rule)?),
         },
-        Err(_) => write_rejection(alloc, Rule::Spelling),
+        Err(_) => Ok(write_rejection(alloc, Rule::Spelling)?),
     }
 }
 
@@ -76,9 +79,9 @@ fn policy_of<'a>(request: &Request<'a>, settings: &'a Settings) -> ObjectIdentif
 }
 
 /// The octets of the rejection.
-fn write_rejection(alloc: Global, rule: Rule) -> Result<Vec<u8>, TspFault>
+fn write_rejection(alloc: Global, rule: Rule) -> Result<Vec<u8>, InputFault>
     ensures text { IfOk result (λ reply. reply.items ≡ encoding (rejection rule)) }
-    ensures memory { IfErr result (λ fault. fault ≡ Memory) }
+    ensures memory { IfErr result (λ fault. fault ≡ InputFault.Memory) }
 {
     Ok(Vec::from_slice(alloc, Rejection::of(rule).as_slice())?)
 }
