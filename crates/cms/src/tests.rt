@@ -126,8 +126,8 @@ fn asks_over_frames(rt: HostRuntime) -> Result<(), Fail> {
     Ok(())
 }
 
-// To be run with each allocation refused in turn too. A call that tells of memory, made once more, gives the whole answer: it
-// has left all as it was.
+// `scripts/refused-memory` runs it with each allocation refused in turn. A call that tells of memory, made once more,
+// gives the whole answer: it has left all as it was, its signer's count of faults too.
 #[test]
 fn tells_of_memory_and_stays_usable(rt: HostRuntime) -> Result<(), Fail> {
     let alloc = rt.alloc();
@@ -150,6 +150,7 @@ fn tells_of_memory_and_stays_usable(rt: HostRuntime) -> Result<(), Fail> {
         answer => answer?,
     };
     assert_eq!(rt; signature.as_slice(), SIGNATURE);
+    assert_eq!(rt; holder.faults(), 0);
     let algorithm = match Algorithm::from_bytes(alloc, PRIVATE) {
         Err(CmsFault::Memory) => Algorithm::from_bytes(alloc, PRIVATE)?,
         answer => answer?,
@@ -164,7 +165,10 @@ fn tells_of_memory_and_stays_usable(rt: HostRuntime) -> Result<(), Fail> {
     let mut writer = written.as_mut_slice();
     let mut signer = FramedSigner::new(alloc, &mut reader, &mut writer, algorithm);
     let answer = match signer.sign(b"abc") {
-        Err(SignerFault::Memory) => signer.sign(b"abc")?,
+        Err(SignerFault::Memory) => {
+            assert_eq!(rt; signer.faults(), 0);
+            signer.sign(b"abc")?
+        }
         answer => answer?,
     };
     assert_eq!(rt; answer.as_slice(), b"sig".as_slice());

@@ -41,6 +41,7 @@ impl<R: Read> Read for FailingReader<R> {
         ensures bytes { ReadConsumes (take_remaining R.remaining self.old.reader)
             (take_remaining R.remaining self.new.reader) result buf.new }
         ensures calls { self.new.calls ≡ next_count self.old.calls }
+        ensures same_choice { self.new.chosen ≡ self.old.chosen }
         ensures chosen { Contains self.old.chosen.items (next_count self.old.calls) → IsErr result }
         ensures octets { take_limit self.old.reader ≡ 0 → IsErr result }
     {

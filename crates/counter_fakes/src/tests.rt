@@ -1,5 +1,5 @@
 use super::*;
-use cms::{Algorithm, FramedSigner, KeyedHash, Signer, SignerFault};
+use cms::{Algorithm, CmsFault, FramedSigner, KeyedHash, Signer, SignerFault};
 use std::alloc::Global;
 use std::io::{Read, Write};
 use std::test::Fail;
@@ -22,6 +22,33 @@ fn signer_fails_at_chosen_calls(rt: HostRuntime) -> Result<(), Fail> {
     Ok(())
 }
 
+// `scripts/refused-memory` runs it with each allocation refused in turn.
+#[test]
+fn want_of_memory_is_no_fault(rt: HostRuntime) -> Result<(), Fail> {
+    let alloc = rt.alloc();
+    let behind = match KeyedHash::new(alloc, b"k") {
+        Err(CmsFault::Memory) => KeyedHash::new(alloc, b"k")?,
+        answer => answer?,
+    };
+    let chosen = match vec![in alloc; 1] {
+        Ok(chosen) => chosen,
+        Err(_) => vec![in alloc; 1]?,
+    };
+    let mut signer = FailingSigner::new(behind, chosen);
+    assert_eq!(rt; signer.sign(b"abc").err(), Some(SignerFault::Failed));
+    assert_eq!(rt; signer.faults(), 1);
+    let signature = match signer.sign(b"abc") {
+        Err(SignerFault::Memory) => {
+            assert_eq!(rt; signer.faults(), 1);
+            signer.sign(b"abc")?
+        }
+        answer => answer?,
+    };
+    assert_eq!(rt; signature.len(), 32);
+    assert_eq!(rt; signer.faults(), 1);
+    Ok(())
+}
+
 #[test]
 fn reader_and_writer_fail_when_told(rt: HostRuntime) -> Result<(), Fail> {
     let alloc = rt.alloc();
@@ -37,6 +64,7 @@ fn reader_and_writer_fail_when_told(rt: HostRuntime) -> Result<(), Fail> {
     assert!(rt; writer.write(b"ef").is_err());
     assert_eq!(rt; writer.write(b"ef")?, 1);
     assert!(rt; writer.write(b"f").is_err());
+    assert!(rt; writer.flush().is_ok());
     assert_eq!(rt; writer.calls, 4);
     assert_eq!(rt; writer.writer.as_slice(), b"abcde".as_slice());
     Ok(())

@@ -1,6 +1,6 @@
-ghost use Rattle.std.specs.Prelude.{◌≡◌, ◌+◌, IfOk, IsErr, Contains};
+ghost use Rattle.std.specs.Prelude.{◌≡◌, ◌+◌, IfOk, OnErr, IsErr, Contains};
 ghost use Rattle.std.specs.Io.{WritesAtMost};
-ghost use Rattle.std.specs.Io.KnownBytes.{WriteAppends};
+ghost use Rattle.std.specs.Io.KnownBytes.{Keeps, WriteAppends};
 ghost use Rattle.cms.specs.Signer.{next_count};
 
 use std::io::{self, ErrorKind, Write};
@@ -39,9 +39,11 @@ impl<W: Write> Write for FailingWriter<W> {
         ensures bound { WritesAtMost result buf.now }
         ensures bytes { WriteAppends (W.contents self.old.writer) (W.contents self.new.writer) result buf.now }
         ensures calls { self.new.calls ≡ next_count self.old.calls }
+        ensures same_choice { self.new.chosen ≡ self.old.chosen }
         ensures chosen { Contains self.old.chosen.items (next_count self.old.calls) → IsErr result }
         ensures octets { self.old.octets ≡ 0 → IsErr result }
         ensures taken { IfOk result (λ taken. self.new.octets + taken ≡ self.old.octets) }
+        ensures refused { OnErr result (self.new.octets ≡ self.old.octets) }
     {
         self.calls = self.calls.wrapping_add(1);
         if self.chosen.contains(&self.calls) || self.octets == 0 {
@@ -53,7 +55,12 @@ impl<W: Write> Write for FailingWriter<W> {
         Ok(taken)
     }
 
-    fn flush(&mut self) -> io::Result<()> {
+    fn flush(&mut self) -> io::Result<()>
+        ensures bytes { Keeps (W.contents self.old.writer) (W.contents self.new.writer) }
+        ensures calls { self.new.calls ≡ self.old.calls }
+        ensures same_choice { self.new.chosen ≡ self.old.chosen }
+        ensures octets { self.new.octets ≡ self.old.octets }
+    {
         self.writer.flush()
     }
 }
