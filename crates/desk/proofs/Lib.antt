@@ -8,6 +8,7 @@ pub mod Judgement
 pub mod Keeping
 pub mod Opened
 pub mod Others
+pub mod Replying
 pub mod Reserves
 pub mod Rows
 pub mod SameEffect

@@ -11,6 +11,7 @@ pub mod Findings
 pub mod Laws
 pub mod Obstacles
 pub mod Outcome
+pub mod Replies
 pub mod Runs
 pub mod Shown
 pub mod Stepped

@@ -23,6 +23,10 @@ pub record DeskValue (S : Type 0) : Type 0 where
   pub setting : Setting
   pub store : BaseValue S
 
+-- the desk with another store
+abbrev pub with_store : {S : Type 0} → DeskValue S → BaseValue S → DeskValue S
+with_store desk store = record desk { store = store }
+
 -- the signer in a call: how its count of faults goes on, and how it moves by the text that it is asked to sign
 pub record SignerStep : Type 1 where
   pub counts : Result (List ℕ) SignerFault → Type 0

@@ -1,15 +1,22 @@
 //! The calls of the counter.
-ghost use Rattle.std.specs.Prelude.{◌≡◌, ◌⊎◌, ◌≤◌, length, IfErr};
+ghost use mir.Syntax.{named};
+ghost use Rattle.std.specs.Borrow.{Lends, sem};
+ghost use Rattle.std.specs.Prelude.{◌≡◌, ◌⊎◌, ◌≤◌, ℕ, List, [], length, IfErr};
 ghost use Rattle.policy.specs.View.{policy_view};
 ghost use Rattle.tsp.specs.Rules.{IsFirstFailing};
 ghost use Rattle.tsp.specs.declared.rule.Rule.{Rule};
 ghost use Rattle.decide.specs.View.{account_asked};
 ghost use Rattle.tables.specs.Base.{IsHonest};
+ghost use Rattle.store.specs.History.{History};
+ghost use Rattle.store.specs.Stands.{Stands};
 ghost use Rattle.desk.specs.Answers.{begun_as, reply_as, answered};
 ghost use Rattle.desk.specs.Calls.{opening_view};
-ghost use Rattle.desk.specs.Command.{Begin, Finish, Abandon, Stamp, Rejected, Done};
+ghost use Rattle.desk.specs.Command.{Begin, Finish, Abandon, Stamp, Stamped, Rejected, Done};
 ghost use Rattle.desk.specs.Findings.{HoldsUnasked};
-ghost use Rattle.desk.specs.Stepped.{IsStep, no_signer, with_signer};
+ghost use Rattle.desk.specs.Replies.{IsGranted, IsRejected};
+ghost use Rattle.desk.specs.Stepped.{IsStep, no_signer, with_signer, with_store};
+ghost use Rattle.store.specs.contracts.store.Store.{the_row as store_row};
+ghost use Rattle.desk.specs.contracts.desk.Desk.{the_row as desk_row};
 
 use crate::answering::answer_with;
 use crate::beginning::begin_with;
@@ -81,6 +88,16 @@ impl<'p, S: Alter + Drop> Desk<'p, S> {
         ensures { policy_view result.now ≡ self.now.setting.file }
     {
         self.opening.policy
+    }
+
+    /// The store, lent: what it becomes is what the desk's store is from then on. Takes no memory.
+    pub fn store(&mut self) -> &mut Store<S>
+        ensures* lends { sem 𝓛 (Lends (desk_row (record { mir = named 1; lft = [] }) S.row S.Store)
+            (store_row S.row S.Store) self.entry result (with_store self.old)) }
+        ensures same { result.now ≡ self.old.store }
+    {
+        let store = &mut self.store;
+        store
     }
 
     /// The store, taken back. Takes no memory.
@@ -173,6 +190,13 @@ impl<'p, S: Alter + Drop> Desk<'p, S> {
         ensures unasked { (rule : Rule) → IsFirstFailing (HoldsUnasked self.old.setting.file (account_asked account.entry)
             query.now) rule
             → (reply_as result ≡ Rejected rule) × (self.new ≡ self.old) × (signer.new ≡ signer.old) }
+        ensures granted { IsHonest S.Store self.new.store → (b : History) → Stands S.Store b self.old.store
+            → (serial : ℕ) (reply : List ℕ) → reply_as result ≡ Stamped serial reply
+            → IsGranted self.old.setting (λ text answer. G.signs signer.old text answer signer.new)
+            (account_asked account.entry) reading query.now b serial reply }
+        ensures rejected { IsHonest S.Store self.new.store → (b : History) → Stands S.Store b self.old.store
+            → (rule : Rule) → reply_as result ≡ Rejected rule
+            → IsRejected self.old.setting (account_asked account.entry) reading query.now b rule }
         ensures step { IsStep S.Store (with_signer G.signs G.fault_count signer.old signer.new) self.old.setting
             (Stamp (account_asked account.entry) reading query.now) self.old.store self.new.store (reply_as result) }
     {

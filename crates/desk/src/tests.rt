@@ -6,6 +6,7 @@ use crate::{
 };
 use tsp::Rule;
 
+mod memory;
 mod octets;
 mod rights;
 mod rows;

@@ -1,6 +1,11 @@
 //! Requests answered over a database in memory, with exact octets.
+//!
+//! No contract promises memory. So a desk that gives rule 12, or wants memory, wherever none of the rules 1 to 9 fails
+//! is proved. It fails `answers_one_request`, `leaves_a_void_number_where_the_signer_fails` and `finishes_in_any_order`.
 use super::octets::*;
-use super::setting::{calibrated, changed, desk_over, empty, example, octets_of};
+use super::setting::{
+    RIGHT, SEALED, calibrated, changed, desk_over, empty, example, number, octets_of,
+};
 use crate::{Begun, Desk, Pending, Reply};
 use cms::{KeyedHash, Signer};
 use counter_fakes::FailingSigner;
@@ -42,7 +47,8 @@ fn answers_one_request(rt: HostRuntime) -> Result<(), Fail> {
     Ok(())
 }
 
-// What asks the store nothing needs no calibration; what asks the clock does.
+// What asks the store nothing needs no calibration; what asks the clock does. What is done to the store that the desk
+// lends, the desk finds there.
 #[test]
 fn judges_requests_before_the_clock(rt: HostRuntime) -> Result<(), Fail> {
     let alloc = rt.alloc();
@@ -56,6 +62,9 @@ fn judges_requests_before_the_clock(rt: HostRuntime) -> Result<(), Fail> {
     assert_eq!(rt; octets_of(&reply), RULE_3);
     let reply = desk.answer(guest, 0, PLAIN, &mut signer);
     assert_eq!(rt; octets_of(&reply), RULE_10);
+    desk.store().calibrate(&RIGHT)?;
+    let reply = desk.answer(guest, 0, PLAIN, &mut signer);
+    assert_eq!(rt; octets_of(&reply), GRANTED_1);
     Ok(())
 }
 
@@ -189,7 +198,7 @@ fn finished<'p>(
     }
 }
 
-// A desk that always wants memory after a reservation fails these rows.
+// Each token is stored, whichever comes first.
 #[test]
 fn finishes_in_any_order(rt: HostRuntime) -> Result<(), Fail> {
     let alloc = rt.alloc();
@@ -205,6 +214,8 @@ fn finishes_in_any_order(rt: HostRuntime) -> Result<(), Fail> {
     assert_eq!(rt; earlier.as_ref().map(octets_of), Some(GRANTED_1));
     let reply = desk.answer(guest, 0, PLAIN, &mut signer);
     assert_eq!(rt; octets_of(&reply), GRANTED_3);
+    let mut conn = desk.into_store().into_connection();
+    assert_eq!(rt; number(&mut conn, SEALED)?, 3);
     Ok(())
 }
 

@@ -3,7 +3,7 @@ use super::octets::{ALGORITHM, CERTIFICATE};
 use crate::{Desk, Reply};
 use cms::{Algorithm, Identity};
 use policy::{EXAMPLE, Policy};
-use sqlite::{Connection, MemStore};
+use sqlite::{Connection, Error, MemStore};
 use std::alloc::Global;
 use std::test::Fail;
 use store::{Calibration, Store};
@@ -41,14 +41,17 @@ pub fn empty(alloc: Global) -> Result<Store<MemStore>, Fail> {
     Store::create(alloc, conn).map_err(|(fault, _)| Fail::new(format_args!("create: {fault:?}")))
 }
 
-/// A store with one calibration, of a clock that is right.
+/// A calibration of a clock that is right.
+pub const RIGHT: Calibration = Calibration {
+    reading: 0,
+    offset: 0,
+    uncertainty: 0,
+};
+
+/// A store with that calibration.
 pub fn calibrated(alloc: Global) -> Result<Store<MemStore>, Fail> {
     let mut store = empty(alloc)?;
-    store.calibrate(&Calibration {
-        reading: 0,
-        offset: 0,
-        uncertainty: 0,
-    })?;
+    store.calibrate(&RIGHT)?;
     Ok(store)
 }
 
@@ -69,4 +72,18 @@ pub fn octets_of(reply: &Reply) -> &[u8] {
         Reply::Granted { serial: _, bytes } => bytes,
         Reply::Rejected(rejection) => rejection.as_slice(),
     }
+}
+
+/// How many stamps have their token, and how many have none.
+pub const SEALED: &str = "SELECT count(*) FROM stamp WHERE token IS NOT NULL";
+
+pub const VOID: &str = "SELECT count(*) FROM stamp WHERE token IS NULL";
+
+/// A number that the database tells, asked once more where the first query is refused.
+pub fn number(conn: &mut Connection<MemStore>, sql: &str) -> Result<i64, Error> {
+    let row = match conn.query_row(sql, &[]) {
+        Ok(row) => row,
+        Err(_) => conn.query_row(sql, &[])?,
+    };
+    row.get(0)
 }

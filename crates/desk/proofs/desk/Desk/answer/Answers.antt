@@ -4,6 +4,7 @@ use Rattle.desk.specs.Answers.{reply_as}
 use Rattle.desk.specs.Calls.{opening_view}
 use Rattle.desk.specs.Command.{Stamp}
 use Rattle.desk.proofs.Opened.{steps_opened}
+use Rattle.desk.proofs.Replying.{granted_reply, rejected_reply}
 use Rattle.desk.proofs.desk.Desk.answer.Goals as goal
 
 pub returns-clause-step : goal.returns-clause-step
@@ -17,3 +18,15 @@ returns-clause-step g c =
           (ap (λ r. Stamp (account_asked c.args.account) r c.args.query.now) (to_z-of_z reading)) refl
           c.answer_with.ensures.step.1,
     )
+
+pub returns-clause-granted : goal.returns-clause-granted
+returns-clause-granted g c =
+    granted_reply g.S.Store g.G.Signer.signs g.G.Signer.fault_count c.args.signer.now c.answer_with.new.signer
+    c.args.self.now.setting (account_asked c.args.account) _ c.args.query.now c.args.self.now.store
+    c.answer_with.new.store (reply_as c.answer_with.result) (returns-clause-step g c)
+
+pub returns-clause-rejected : goal.returns-clause-rejected
+returns-clause-rejected g c =
+    rejected_reply g.S.Store g.G.Signer.signs g.G.Signer.fault_count c.args.signer.now c.answer_with.new.signer
+    c.args.self.now.setting (account_asked c.args.account) _ c.args.query.now c.args.self.now.store
+    c.answer_with.new.store (reply_as c.answer_with.result) (returns-clause-step g c)

@@ -1,0 +1,31 @@
+-- What a reply says of its request, over the history for which the store stood.
+use Rattle.std.specs.Prelude.{◌≡◌, ℕ, ◌+◌, ◌⊎◌, ℤ, List, Option, Result, Ok}
+use Rattle.policy.specs.Record.{AccountValue}
+use Rattle.tsp.specs.Granted.{granted_octets}
+use Rattle.tsp.specs.Rules.{IsFirstFailing}
+use Rattle.tsp.specs.declared.rule.Rule.{Rule}
+use Rattle.tsp.specs.declared.rule.Rule.TheVariants.{System}
+use Rattle.cms.specs.SignedData.{attribute_text, token}
+use Rattle.cms.specs.declared.signer.SignerFault.{SignerFault}
+use Rattle.store.specs.History.{History, greatest_serial}
+use Rattle.desk.specs.Command.{Setting}
+use Rattle.desk.specs.Findings.{PlanValue, IsAllowed, HoldsAt}
+use Rattle.desk.specs.Texts.{tst_of}
+
+-- A grant: none of the rules 1 to 11 fails; the serial number is the greatest plus one; and the octets are those of the
+-- token over the plan's one TSTInfo under that number, with the signer's answer to the token's attributes.
+pub record IsGranted (s : Setting) (signs : List ℕ → Result (List ℕ) SignerFault → Type 0)
+    (account : Option AccountValue) (reading : ℤ) (octets : List ℕ) (b : History) (serial : ℕ) (reply : List ℕ)
+    : Type 0 where
+  pub plan : PlanValue
+  pub allowed : IsAllowed s.file account reading octets b plan
+  pub number : serial ≡ greatest_serial b + 1
+  pub signature : List ℕ
+  pub signed : signs (attribute_text s.identity (tst_of s.file plan serial)) (Ok signature)
+  pub text : reply ≡ granted_octets (token s.identity s.algorithm (tst_of s.file plan serial) signature
+      plan.request.cert_req)
+
+-- A rejection: by the first rule that fails, or by rule 12.
+abbrev pub IsRejected : Setting → Option AccountValue → ℤ → List ℕ → History → Rule → Type 0
+IsRejected s account reading octets b rule = IsFirstFailing (HoldsAt s.file account reading octets b) rule
+    ⊎ (rule ≡ System)
