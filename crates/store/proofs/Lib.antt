@@ -1,6 +1,7 @@
 mod Rows
 pub mod Alike
 pub mod Calls
+pub mod Closing
 pub mod DepositAnswers
 pub mod DepositRows
 pub mod Falling

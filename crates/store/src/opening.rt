@@ -1,14 +1,15 @@
 //! How a store is made, opened and closed.
-ghost use Rattle.std.specs.Prelude.{◌≡◌, ◌≢◌, ◌⊎◌, ℕ, [], false, Ok, Err, IfOk, IfErr};
+ghost use Rattle.std.specs.Prelude.{◌≡◌, ◌⊎◌, ℕ, [], false, Ok, Err, IfOk, IfErr};
 ghost use Rattle.sqlite_wal.specs.Files.{image_at};
-ghost use Rattle.sqlite.specs.Files.{file_state};
+ghost use Rattle.sqlite_wal.specs.Reads.{AreClean};
+ghost use Rattle.sqlite.specs.Files.{file_state, over_files};
 ghost use Rattle.sqlite.specs.Held.{state};
 ghost use Rattle.sqlite.specs.State.{HasCleanDisk};
 ghost use Rattle.tables.specs.Asking.{Looks};
-ghost use Rattle.tables.specs.Opening.{IsFound, LooksOurs, Creates};
-ghost use Rattle.tables.specs.Schema.{no_schema, the_schema};
+ghost use Rattle.tables.specs.Opening.{IsFound, LooksOurs, LooksForeign, Creates, IsInTheWay, takes_name};
+ghost use Rattle.tables.specs.Schema.{no_schema};
 ghost use Rattle.store.specs.History.{History};
-ghost use Rattle.store.specs.Opening.{OpensFound};
+ghost use Rattle.store.specs.Opening.{OpensFound, LeavesFiles};
 ghost use Rattle.store.specs.Sound.{IsSound};
 ghost use Rattle.store.specs.Stands.{Stands};
 ghost use Rattle.store.specs.TablesOf.{tables_of};
@@ -16,7 +17,7 @@ ghost use Rattle.store.specs.TablesOf.{tables_of};
 use crate::fault::StoreFault;
 use crate::store::Store;
 use sqlite::{Alter, Connection, Error, ErrorCode, FileFrom, FileStore, Start};
-use sqlite_disk::Disk;
+use sqlite_disk::{Disk, Files};
 use std::alloc::Global;
 use tables::Base;
 
@@ -29,9 +30,9 @@ impl<S: Alter + Drop> Store<S> {
     ) -> Result<Store<S>, (StoreFault, Connection<S>)>
         requires { conn.in_transaction ≡ false }
         ensures stands { IfOk result (λ store. (state S.Store conn).now.schema ≡ no_schema → Stands S.Store [] store) }
-        ensures fresh { IfOk result (λ store. HasCleanDisk (state S.Store store.conn) → (state S.Store conn).now.schema ≢ the_schema) }
+        ensures unused { IfOk result (λ store. HasCleanDisk (state S.Store store.conn) → takes_name (state S.Store conn).now.schema ≡ false) }
         ensures made { IfOk result (λ store. Creates (state S.Store conn) (state S.Store store.conn) (Ok tt)) }
-        ensures not_ours { IfErr result (λ e. e.0 ≡ StoreFault.NotOurs → HasCleanDisk (state S.Store e.1) → (state S.Store conn).now.schema ≢ no_schema) }
+        ensures taken { IfErr result (λ e. e.0 ≡ StoreFault.NotOurs → HasCleanDisk (state S.Store e.1) → IsInTheWay (state S.Store conn).now.schema) }
         ensures undone { IfErr result (λ e. (error : _) × Creates (state S.Store conn) (state S.Store e.1) (Err error)) }
         ensures closed { IfErr result (λ e. e.1.in_transaction ≡ false) }
         ensures uncounted { IfOk result (λ store. store.faults ≡ 0) }
@@ -57,6 +58,7 @@ impl<S: Alter + Drop> Store<S> {
         ensures unchanged { IfErr result (λ e. Looks (state S.Store conn) (state S.Store e.1)) }
         ensures not_ours { IfErr result (λ e. e.0 ≡ StoreFault.NotOurs → HasCleanDisk (state S.Store e.1)
             → (b : History) → ¬ IsFound (tables_of b) (state S.Store conn)) }
+        ensures foreign { IfErr result (λ e. e.0 ≡ StoreFault.NotOurs → HasCleanDisk (state S.Store e.1) → LooksForeign (state S.Store conn)) }
         ensures closed { IfErr result (λ e. e.1.in_transaction ≡ false) }
         ensures uncounted { IfOk result (λ store. store.faults ≡ 0) }
         ensures refusals { IfErr result (λ e. (e.0 ≡ StoreFault.Memory) ⊎ ((e.0 ≡ StoreFault.Database) ⊎ (e.0 ≡ StoreFault.NotOurs))) }
@@ -69,14 +71,17 @@ impl<S: Alter + Drop> Store<S> {
 }
 
 impl<D: Disk + Drop> Store<FileStore<D>> {
-    /// Copies what was committed into the database file and closes the files. Refused with `Memory` or `Database`; what was committed
-    /// stays then.
-    pub fn close(self) -> Result<(), StoreFault>
-        ensures { IfErr result (λ e. (e ≡ StoreFault.Memory) ⊎ (e ≡ StoreFault.Database)) }
+    /// Copies what was committed into the database file, and gives back the log and that file, which close where they are dropped: from
+    /// then on the database file alone is the database. Refused with `Memory` or `Database`, and the files are closed; what was committed
+    /// stays in the log then.
+    pub fn close(self) -> Result<Files<D>, StoreFault>
+        ensures copied { IfOk result (λ files. AreClean D.Disk files.log files.db
+            → (b : History) → Stands over_files b self → LeavesFiles D.Disk b files) }
+        ensures refusals { IfErr result (λ e. (e ≡ StoreFault.Memory) ⊎ (e ≡ StoreFault.Database)) }
     {
-        match self.into_connection().close() {
-            Ok(()) => Ok(()),
-            Err(error) => Err(closing_fault(error)),
+        match self.into_connection().close_files() {
+            Ok(files) => Ok(files),
+            Err((error, _left)) => Err(closing_fault(error)),
         }
     }
 }

@@ -14,7 +14,7 @@ use Rattle.sqlite.specs.Listing.{understood}
 use Rattle.sqlite.specs.State.{State, HasCleanDisk, Survives, IsRolledBack, IsUnchanged, KeepsCommit, IsNotRun, FailsToQuery, FailsToShow, IsTooLate, Shown, ShowsRows}
 use Rattle.sqlite.proofs.Callers.{reads_as, command_of}
 use Rattle.tables.specs.Schema.{the_schema}
-use Rattle.tables.specs.Asking.{IsQueryText, TellsRows, Looks}
+use Rattle.tables.specs.Asking.{IsQueryText, IsPlainIn, Answers, TellsRows, Looks}
 
 unchanged_keeps : (old new : State) → IsUnchanged old new → KeepsCommit old new
 unchanged_keeps old new u = record { was_open = λ o. u.0.was_open; committed = λ o. u.0.committed_is }
@@ -61,6 +61,13 @@ module _ (sql : List ℕ) (params : Row) (old new : State) where
       let it = reads_as sql params old new the_schema has (command_of (understood the_schema sql)) refl text.plain text.unlisted rows h in
       subst (λ s. Reads (command_of (understood the_schema sql)) (record { schema = s; trees = old.now.trees }) params rows) has it
 
+  pub shown_answers : IsPlainIn old.now.schema sql → (rows : List Row) → Shown sql params old new rows → Answers sql params old.now rows
+  unfolding Shown
+  shown_answers plain rows h =
+      let bare = plain h.0 h.1.is in
+      let it = rw (bare.0, bare.1, append-nil params) at h.2 in
+      (h.0, h.1.is, it.0, it.1, it.2)
+
 module _ {S R : Type 0} (g : Ghosts S) (items : R → List Row) (old mid last : Held S) (sql : List ℕ) (params : Row) (text : IsQueryText sql) (result : Result R Error)
     (first : Survives (state g (record old { in_transaction = true })) (state g mid) (λ _. ⊥)) (then : Survives (state g mid) (state g last) (λ _. ⊥))
     (undone : HasCleanDisk (state g last) → IsRolledBack (state g mid) (state g last))
@@ -106,6 +113,15 @@ module _ {S R : Type 0} (g : Ghosts S) (items : R → List Row) (old mid last : 
 
   pub told : HasCleanDisk (state g last) → (state g old).now.schema ≡ the_schema → IfOk result (λ rows. TellsRows sql params (state g old).now.trees (items rows))
   told clean has = tells result has (ok (middle clean))
+
+  answers : (r : Result R Error) → IsPlainIn (state g old).now.schema sql
+      → IfOk r (λ rows. Shown sql params (state g (record old { in_transaction = true })) (state g mid) (items rows))
+      → IfOk r (λ rows. Answers sql params (state g old).now (items rows))
+  answers (Ok rows) plain ok = shown_answers sql params (state g (record old { in_transaction = true })) (state g mid) plain (items rows) ok
+  answers (Err e) plain ok = tt
+
+  pub answered : HasCleanDisk (state g last) → IsPlainIn (state g old).now.schema sql → IfOk result (λ rows. Answers sql params (state g old).now (items rows))
+  answered clean plain = answers result plain (ok (middle clean))
 
   pub was_opened : HasCleanDisk (state g last) → OnOk result (IsTrue (state g old).is_open)
   was_opened clean = opens result (ok (middle clean))

@@ -50,15 +50,15 @@ module _ (sql : List ℕ) (old new : State) (schema : Schema) (has : old.now.sch
       ] in
       subst₂ (λ k t. Runs old new None k t [] count) (ap command_of known ∙ is) (ap (statement_of sql) known) (rw (bare.0, bare.1) at ran)
 
-went : {B E R : Type 0} {b : B} {Stops : E → Type 0} → ((stop : E) × Stops stop × (Ok b ≡ Err stop)) ⊎ R → R
+pub went : {B E R : Type 0} {b : B} {Stops : E → Type 0} → ((stop : E) × Stops stop × (Ok b ≡ Err stop)) ⊎ R → R
 went (inl stopped) = absurd (let e = stopped.2 in cc)
 went (inr on) = on
 
-on : {B E R : Type 0} {b : B} {Stops : E → Type 0} → ((stop : E) × (◌≡◌ {A = Result B E} (Ok b) (Err stop)) × Stops stop) ⊎ R → R
+pub on : {B E R : Type 0} {b : B} {Stops : E → Type 0} → ((stop : E) × (◌≡◌ {A = Result B E} (Ok b) (Err stop)) × Stops stop) ⊎ R → R
 on (inl stopped) = absurd (let e = stopped.1 in cc)
 on (inr rest) = rest
 
-same_ok : {B E : Type 0} {a b : B} → ◌≡◌ {A = Result B E} (Ok a) (Ok b) → a ≡ b
+pub same_ok : {B E : Type 0} {a b : B} → ◌≡◌ {A = Result B E} (Ok a) (Ok b) → a ≡ b
 same_ok e = cc
 
 pub makes_table : (sql : List ℕ) (old new : State) (schema : Schema) (table : Table) (count : ℕ) → old.now.schema ≡ schema → command_of (understood schema sql) ≡ CreateTable → IsPlain (understood schema sql)
@@ -267,7 +267,7 @@ module _ {S : Type 0} (g : Ghosts S) where
   unfolding ExecutesAllInside
   begun old new r ran = ran
 
-  in_turn : (old new : Held S) → ExecutesAllInside g 0 make_all old new (Ok tt)
+  pub in_turn : (old new : Held S) → ExecutesAllInside g 0 make_all old new (Ok tt)
       → (a : Held S) × (b : Held S) × (c : Held S) × (d : Held S) × (e : Held S) × (f : Held S) × (h : Held S) × (i : Held S)
       × Ran piece_0 old a × Ran piece_1 a b × Ran piece_2 b c × Ran piece_3 c d × Ran piece_4 d e × Ran piece_5 e f × Ran piece_6 f h × Ran piece_7 h i × (new ≡ i)
   in_turn old new ran =

@@ -8,10 +8,13 @@ mod CommitLemmas
 mod CountLemmas
 mod CreateLemmas
 mod DepositLookups
+mod FillLemmas
 mod FrameLemmas
+mod FreeLemmas
 mod InsertLemmas
 mod ListLemmas
 mod LookupLemmas
+mod NameLemmas
 mod OpenLemmas
 mod QueryLemmas
 mod ReadLemmas

@@ -1,5 +1,5 @@
 -- Whether tables are ours.
-use Rattle.std.proofs.Common.{◌≡◌, ◌⊎◌, codes, ℕ, pos, true, false, List, [], ◌∷◌, map, filter, length, Result, Ok, Err, IfErr, IfOk, OnOk, IsTrue, refl, sym, ap, ◌∙◌, subst, inl, inr, IsPermutation, arith}
+use Rattle.std.proofs.Common.{◌≡◌, ◌⊎◌, codes, ℕ, ◌+◌, None, Option, pos, true, false, List, [], ◌∷◌, map, filter, length, Result, Ok, Err, IfErr, IfOk, OnOk, IsTrue, refl, sym, ap, ◌∙◌, subst, inl, inr, IsPermutation, arith}
 use Rattle.sqlite_value.specs.declared.value.Value.TheVariants.{Int}
 use Rattle.sqlite_value.specs.Order.{Row}
 use Rattle.sqlite_trees.specs.Tree.{Trees}
@@ -16,13 +16,20 @@ use Rattle.sqlite.specs.declared.error.Error.TheVariants.{SqlInputError}
 use Rattle.sqlite.specs.Outline.{Outline}
 use Rattle.sqlite.specs.Steps.{Outlines}
 use Rattle.sqlite.specs.Effect.{Database, Reads}
-use Rattle.sqlite.specs.Listing.{understood, reads_listing}
+use Rattle.sqlite.specs.Listing.{understood, reads_listing, listing_schema, if_select}
+use Rattle.sqlite_syntax.specs.declared.statement.Parsed.{Parsed}
+use Rattle.sqlite_schema.specs.declared.schema.Schema.{Schema}
+use Rattle.sqlite_schema.specs.declared.command.Returning.{Returning}
+use Rattle.sqlite_resolve.specs.declared.error.CompileError.TheVariants.{NoSuchTable}
+use Rattle.sqlite_resolve.specs.Lowering.{Checked, and_then}
+use Rattle.sqlite_resolve.specs.Compile.{first, compiled, planned, meaning, returning, timed, small, with_command}
+use Rattle.std.proofs.lemmas.Bool.{cases_Bool}
 use Rattle.sqlite.specs.State.{State, HasCleanDisk, Survives, IsUnchanged, IsNotRun, store_error}
 use Rattle.sqlite.proofs.Callers.{IsPlain, command_of, one_permutation}
 use Rattle.tables.specs.Schema.{the_schema}
 use Rattle.tables.specs.Tables.{Tables}
 use Rattle.tables.specs.Holding.{IsDatabaseOf, version_cells}
-use Rattle.tables.specs.Asking.{IsQueryText, TellsRows, Looks}
+use Rattle.tables.specs.Asking.{IsQueryText, IsPlainIn, TellsRows, Looks}
 use Rattle.tables.specs.Opening.{all_columns, version_query, IsUnderstood, IsFound}
 use Rattle.tables.proofs.ReadLemmas.{program_of, no_limit, passes, shows, answered}
 use Rattle.tables.proofs.ChangeLemmas.{found_are}
@@ -60,16 +67,24 @@ no_input_error Full f e = cc
 no_input_error Broken f e = cc
 no_input_error Unstorable f e = cc
 
+-- a text that is refused so isn't understood
+pub never_known : (old new : State) (f : CompileError) → IsNotRun old new all_columns [] (SqlInputError f) → ¬ IsUnderstood (understood old.now.schema all_columns)
+unfolding IsNotRun
+never_known old new f (inl (inl fault, same)) known = subst IsUnderstood fault.1 known
+never_known old new f (inl (inr (c, is, inl many), same)) known = cc
+never_known old new f (inl (inr (c, is, inr (inl count)), same)) known = cc
+never_known old new f (inl (inr (c, is, inr (inr clock)), same)) known = cc
+never_known old new f (inr fails) known = no_input_error fails.0 f fails.1
+
+-- nor is anything changed then
+pub unknown_same : (old new : State) (f : CompileError) → IsNotRun old new all_columns [] (SqlInputError f) → new.now ≡ old.now
+unfolding IsNotRun
+unknown_same old new f (inl none) = none.1.0.now_is
+unknown_same old new f (inr fails) = absurd (no_input_error fails.0 f fails.1)
+
 -- a text isn't understood only where the schema isn't ours
 pub never_unknown : (old new : State) (f : CompileError) → IsNotRun old new all_columns [] (SqlInputError f) → ¬ (old.now.schema ≡ the_schema)
-unfolding IsNotRun
-never_unknown old new f (inl (inl fault, same)) has =
-    let bad : understood the_schema all_columns ≡ Err fault.0 = ap (λ s. understood s all_columns) (sym has) ∙ fault.1 in
-    subst IsUnderstood bad columns_known
-never_unknown old new f (inl (inr (c, is, inl many), same)) has = cc
-never_unknown old new f (inl (inr (c, is, inr (inl count)), same)) has = cc
-never_unknown old new f (inl (inr (c, is, inr (inr clock)), same)) has = cc
-never_unknown old new f (inr fails) has = no_input_error fails.0 f fails.1
+never_unknown old new f h has = never_known old new f h (subst (λ s. IsUnderstood (understood s all_columns)) (sym has) columns_known)
 
 version_command : command_of (understood the_schema version_query) ≡ Select (program_of 0 [] (col 1 1 ∷ []) [] no_limit) (codes "version" ∷ [])
 unfolding understood everything
@@ -95,3 +110,44 @@ pub prepare_looks : {X : Type 0} (P : X → Type 0) (old new : State) (sql : Lis
     → (HasCleanDisk new → IfErr r (λ e. (params : Row) → IsNotRun old new sql params e)) → Looks old new
 prepare_looks P old new sql (Ok s) survives ok err = prepared_looks old new survives (λ clean. (ok clean).1)
 prepare_looks P old new sql (Err e) survives ok err = unprepared_looks old new sql e survives (λ clean. err clean [])
+
+-- ---- the text has the same outline in each schema
+
+abbrev returned_in : Schema → Checked Parsed → Checked (Option Returning)
+returned_in s (Ok p) = returning s (small p.names + small (timed s p.formats p.statement)) p.statement
+returned_in s (Err e) = Err e
+
+abbrev timed_in : Schema → Checked Parsed → List (List ℕ)
+timed_in s (Ok p) = timed s p.formats p.statement
+timed_in s (Err e) = []
+
+outline : (p : Parsed) (shown : Checked (Option Returning)) (k : Checked Command) (formats : List (List ℕ)) (c : Compiled)
+    → and_then (and_then (and_then shown (λ shown. and_then k (λ c. Ok (c, shown)))) (λ found. Ok (formats, found))) (λ plan. Ok (with_command p plan)) ≡ Ok c
+    → shown ≡ Ok None → formats ≡ [] → (c.returning ≡ None) × (c.formats ≡ [])
+outline p (Err e) k formats c is none empty = absurd (let apart = is in cc)
+outline p (Ok shown) (Err e) formats c is none empty = absurd (let apart = is in cc)
+outline p (Ok shown) (Ok k) formats c is none empty =
+    let same : with_command p (formats, (k, shown)) ≡ c = cc in
+    let no_shown : shown ≡ None = cc in
+    (subst (λ (x : Compiled). x.returning ≡ None) same no_shown, subst (λ (x : Compiled). x.formats ≡ []) same empty)
+
+compiled_plain : (s : Schema) (sql : List ℕ) (r : Checked Parsed) (c : Compiled) → and_then r (λ p. and_then (planned s p) (λ plan. Ok (with_command p plan))) ≡ Ok c
+    → returned_in s r ≡ Ok None → timed_in s r ≡ [] → (c.returning ≡ None) × (c.formats ≡ [])
+unfolding planned meaning
+compiled_plain s sql (Err e) c is none empty = absurd (let apart = is in cc)
+compiled_plain s sql (Ok p) c is none empty = outline p _ _ _ c is none empty
+
+not_listed : if_select (compiled listing_schema version_query) ≡ Err NoSuchTable
+unfolding everything listing_schema
+not_listed = refl
+
+version_outline : (s : Schema) → (returned_in s (first version_query) ≡ Ok None) × (timed_in s (first version_query) ≡ [])
+unfolding everything
+version_outline s = (refl, refl)
+
+pub version_plain : (s : Schema) → IsPlainIn s version_query
+unfolding understood compiled
+version_plain s c is = elim (cases_Bool (reads_listing s version_query)) [
+  | inl missed ↦ absurd (let apart = sym not_listed ∙ rw missed at is in cc)
+  | inr found ↦ compiled_plain s version_query (first version_query) c (rw found at is) (version_outline s).0 (version_outline s).1
+]

@@ -1,7 +1,7 @@
--- In a database without tables, the making of ours isn't refused for a name.
-use Rattle.std.proofs.Common.{◌≡◌, ◌≢◌, ◌⊎◌, ℕ, Bool, true, false, List, [], ◌∷◌, length, None, Some, Option, Result, Ok, Err, IfOk, IfErr, refl, sym, ap, ◌∙◌, subst, subst₂, inl, inr}
+-- The making of our tables is refused for a name only where one of theirs is used.
+use Rattle.std.proofs.Common.{◌≡◌, ◌≢◌, ◌⊎◌, ℕ, Bool, true, false, List, [], ◌∷◌, length, None, Some, Option, codes, slice_get, Result, Ok, Err, IfOk, IfErr, refl, sym, ap, ◌∙◌, subst, subst₂, inl, inr}
 use Rattle.std.proofs.lemmas.Bool.{cases_Bool}
-use Rattle.std.specs.List.{AllByRecursion}
+use Rattle.std.specs.List.{AllByRecursion, list_any}
 use Rattle.sqlite_trees.specs.Tree.{Trees}
 use Rattle.sqlite_trees.specs.declared.store.Store.{Ghosts}
 use Rattle.sqlite_trees.specs.declared.error.StoreError.{StoreError}
@@ -23,14 +23,14 @@ use Rattle.sqlite_schema.specs.Rules.{Refers}
 use Rattle.sqlite_resolve.specs.Compile.{table_defined_by}
 use Rattle.sqlite_resolve.specs.declared.compiled.Compiled.{Compiled}
 use Rattle.sqlite_resolve.specs.declared.error.CompileError.{CompileError}
-use Rattle.sqlite_catalog.specs.Change.{created, is_used, automatics}
+use Rattle.sqlite_catalog.specs.Change.{created, is_used, automatics, next_tree}
 use Rattle.sqlite_catalog.specs.Calls.{RefusesTable}
 use Rattle.sqlite_tied.specs.Compute.{everything}
 use Rattle.sqlite.specs.declared.error.Error.{Error}
 use Rattle.sqlite.specs.declared.run.Mode.{Mode}
 use Rattle.sqlite.specs.Batch.{Step, Stops, RunInTurn, ExecutesAllInside}
 use Rattle.sqlite.specs.Clock.{timed}
-use Rattle.sqlite.specs.Does.{Tally, Does, MakesTable, MakesSequence, Tested, Concludes, lacks_sequence}
+use Rattle.sqlite.specs.Does.{Tally, Does, OnRows, MakesTable, MakesSequence, Tested, Concludes, lacks_sequence}
 use Rattle.sqlite.specs.Effect.{Database, edit_error, alter_error}
 use Rattle.sqlite.specs.Held.{Held, state}
 use Rattle.sqlite.specs.Listing.{understood}
@@ -38,10 +38,13 @@ use Rattle.sqlite.specs.Rows.{Part, Then, Gives, Task, Written, Sourced, Edited,
 use Rattle.sqlite.specs.State.{State, HasCleanDisk, RunsCommand, RunsAlone, IsStatement, ExecutesIn, IsNotRun, text_of, shows_rows, mode_of, store_error}
 use Rattle.sqlite.proofs.Callers.{IsPlain, command_of, statement_of}
 use Rattle.tables.specs.Statements.{make_all}
-use Rattle.tables.specs.Schema.{the_schema, no_schema, placed, meta, stamp, calibration, hold, deposit, reader, tally}
-use Rattle.tables.specs.Opening.{IsUnderstood, tells_taken}
+use Rattle.tables.specs.Schema.{the_schema, placed, meta, stamp, calibration, hold, deposit, reader, tally}
+use Rattle.tables.specs.Opening.{IsUnderstood, IsInTheWay, takes_name, takes_index, tells_taken}
 use Rattle.tables.proofs.WriteLemmas.{plain_mode}
-use Rattle.tables.proofs.CreateLemmas.{schema_0, schema_1, schema_2, schema_3, schema_4, schema_5, schema_6, rest_1, rest_2, rest_3, rest_4, rest_5, rest_6, rest_7, piece_0, piece_1, piece_2, piece_3, piece_4, piece_5, piece_6, piece_7, is_0, is_1, is_2, is_3, is_4, is_5, is_6, is_7, version_terms, makes_table, Ran, Turns, turn_0, turn_1, turn_2, turn_3, turn_4, turn_5, turn_6, turn_7, begun}
+use Rattle.tables.proofs.CreateLemmas.{rest_1, rest_2, rest_3, rest_4, rest_5, rest_6, rest_7, piece_0, piece_1, piece_2, piece_3, piece_4, piece_5, piece_6, piece_7, version_terms, makes_table, Turns, turn_0, turn_1, turn_2, turn_3, turn_4, turn_5, turn_6, turn_7, begun}
+use Rattle.tables.proofs.NameLemmas.{Depends, Alone, free_as_alone, depends_0, depends_1, depends_2, depends_3, depends_4, depends_5, depends_6, alone_0, alone_1, alone_2, alone_3, alone_4, alone_5, alone_6}
+use Rattle.tables.proofs.FreeLemmas.{clashes, AreFree, stay_free, lacks_still, HasMeta, made_meta, still_meta}
+use Rattle.tables.proofs.FillLemmas.{fills, fill_facts}
 
 -- an error of another kind, or a row that can't be stored
 abbrev IsSpared : Option Error → Type 0
@@ -158,16 +161,16 @@ module _ (db : Database) (schema : Schema) (text : List ℕ) (table : Table) (ha
   created_never limit mode e (inr (after, made, gives)) = absurd (let apart = gives in cc)
 
 -- nor is the row of `meta`
-module _ (limit : Option ℕ) (db : Trees) (text : List ℕ) where
+module _ (limit : Option ℕ) (db : Trees) (text : List ℕ) (schema : Schema) (tree : ℕ) where
   abbrev task : Task
-  task = record { limit = limit; keys = plain_mode.keys; schema = the_schema; table = placed 0 meta; params = [] }
+  task = record { limit = limit; keys = plain_mode.keys; schema = schema; table = placed tree meta; params = [] }
 
-  sourced_never : NeverTaken (Sourced limit (record { schema = the_schema; trees = db }) (stamped (placed 0 meta) []) (Values version_terms 2))
+  sourced_never : NeverTaken (Sourced limit (record { schema = schema; trees = db }) (stamped (placed tree meta) []) (Values version_terms 2))
   sourced_never None h = tt
   sourced_never (Some e) (inl mismatch) = ap tells_taken mismatch.0
   sourced_never (Some e) (inr stopped) = ap tells_taken stopped.0
 
-  edited_never : (now : Trees) (edit : Edit) → NeverTaken (Edited the_schema plain_mode.keys now edit)
+  edited_never : (now : Trees) (edit : Edit) → NeverTaken (Edited schema plain_mode.keys now edit)
   edited_never now edit stop (None, writes, is) = subst IsSpared (sym is) tt
   edited_never now edit stop (Some reason, writes, is) = subst IsSpared (sym is) (edit_never reason)
 
@@ -183,9 +186,13 @@ module _ (limit : Option ℕ) (db : Trees) (text : List ℕ) where
   inserts_never stop (inr (rows, source, inr (counter, counted, inr (mid, edited, inl (s, counts, is))))) = absurd (let apart = counts in cc)
   inserts_never stop (inr (rows, source, inr (counter, counted, inr (mid, edited, inr (next, counts, is))))) = absurd (let apart = is in cc)
 
-  pub inserted_never : (e : Error) → Does limit plain_mode [] (record { schema = the_schema; trees = db }) text None (Insert 0 (Values version_terms 2)) (Err (Some e)) → tells_taken e ≡ false
-  inserted_never e (inl (s, inserts, is)) = subst IsSpared (sym (same_err is)) (inserts_never s inserts)
-  inserted_never e (inr (w, inserts, concludes)) = concluded_never w (Some e) concludes
+  on_meta_never : (e : Error) → OnRows task plain_mode None (Insert 0 (Values version_terms 2)) db (Err (Some e)) → tells_taken e ≡ false
+  on_meta_never e (inl (s, inserts, is)) = subst IsSpared (sym (same_err is)) (inserts_never s inserts)
+  on_meta_never e (inr (w, inserts, concludes)) = concluded_never w (Some e) concludes
+
+  pub inserted_never : (at : ℕ) → slice_get schema.tables at ≡ Some (placed tree meta) → (e : Error)
+      → Does limit plain_mode [] (record { schema = schema; trees = db }) text None (Insert at (Values version_terms 2)) (Err (Some e)) → tells_taken e ≡ false
+  inserted_never at there e does = on_meta_never e (rw there at does)
 
 module _ {S : Type 0} (g : Ghosts S) (new : Held S) where
   -- what stops a statement of the batch
@@ -212,120 +219,187 @@ each_free schema [] all index there = absurd there
 each_free schema (i ∷ indexes) all index (inl same) = subst (λ (x : Index). is_used schema x.name ≡ false) (sym same) all.0
 each_free schema (i ∷ indexes) all index (inr there) = each_free schema indexes all.1 index there
 
-free_0 : (is_used schema_0 meta.name ≡ false) × AllByRecursion (λ (i : Index). is_used schema_0 i.name ≡ false) (automatics meta 0 0 meta.uniques)
+-- ---- the names, in the order in which the batch takes them
+
+abbrev deposit_index : List ℕ
+deposit_index = codes "sqlite_autoindex_deposit_1"
+
+abbrev reader_index : List ℕ
+reader_index = codes "sqlite_autoindex_reader_1"
+
+abbrev tally_index : List ℕ
+tally_index = codes "sqlite_autoindex_tally_1"
+
+abbrev names_6 : List (List ℕ)
+names_6 = tally.name ∷ tally_index ∷ []
+
+abbrev names_5 : List (List ℕ)
+names_5 = reader.name ∷ reader_index ∷ names_6
+
+abbrev names_4 : List (List ℕ)
+names_4 = deposit.name ∷ deposit_index ∷ names_5
+
+abbrev names_3 : List (List ℕ)
+names_3 = hold.name ∷ names_4
+
+abbrev names_2 : List (List ℕ)
+names_2 = calibration.name ∷ names_3
+
+abbrev names_1 : List (List ℕ)
+names_1 = stamp.name ∷ names_2
+
+abbrev names_0 : List (List ℕ)
+names_0 = meta.name ∷ names_1
+
+abbrev Apart : Table → List (List ℕ) → Type 0
+Apart table names = (tree : ℕ) → AllByRecursion (λ name. clashes table tree name ≡ false) names
+
+apart_0 : Apart meta names_1
 unfolding everything
-free_0 = (refl, tt)
+apart_0 tree = (refl, (refl, (refl, (refl, (refl, (refl, (refl, (refl, (refl, tt)))))))))
 
-free_1 : (is_used schema_1 stamp.name ≡ false) × AllByRecursion (λ (i : Index). is_used schema_1 i.name ≡ false) (automatics stamp 0 0 stamp.uniques)
+apart_1 : Apart stamp names_2
 unfolding everything
-free_1 = (refl, tt)
+apart_1 tree = (refl, (refl, (refl, (refl, (refl, (refl, (refl, (refl, tt))))))))
 
-free_2 : (is_used schema_2 calibration.name ≡ false) × AllByRecursion (λ (i : Index). is_used schema_2 i.name ≡ false) (automatics calibration 0 0 calibration.uniques)
+apart_2 : Apart calibration names_3
 unfolding everything
-free_2 = (refl, tt)
+apart_2 tree = (refl, (refl, (refl, (refl, (refl, (refl, (refl, tt)))))))
 
-free_3 : (is_used schema_3 hold.name ≡ false) × AllByRecursion (λ (i : Index). is_used schema_3 i.name ≡ false) (automatics hold 0 0 hold.uniques)
+apart_3 : Apart hold names_4
 unfolding everything
-free_3 = (refl, tt)
+apart_3 tree = (refl, (refl, (refl, (refl, (refl, (refl, tt))))))
 
-free_4 : (is_used schema_4 deposit.name ≡ false) × AllByRecursion (λ (i : Index). is_used schema_4 i.name ≡ false) (automatics deposit 0 0 deposit.uniques)
+apart_4 : Apart deposit names_5
 unfolding everything
-free_4 = (refl, (refl, tt))
+apart_4 tree = (refl, (refl, (refl, (refl, tt))))
 
-free_5 : (is_used schema_5 reader.name ≡ false) × AllByRecursion (λ (i : Index). is_used schema_5 i.name ≡ false) (automatics reader 0 0 reader.uniques)
+apart_5 : Apart reader names_6
 unfolding everything
-free_5 = (refl, (refl, tt))
+apart_5 tree = (refl, (refl, tt))
 
-free_6 : (is_used schema_6 tally.name ≡ false) × AllByRecursion (λ (i : Index). is_used schema_6 i.name ≡ false) (automatics tally 0 0 tally.uniques)
+deposit_index_free : (s : Schema) → is_used s deposit_index ≡ false → AllByRecursion (λ (i : Index). is_used s i.name ≡ false) (automatics deposit 0 0 deposit.uniques)
 unfolding everything
-free_6 = (refl, (refl, tt))
+deposit_index_free s free = (free, tt)
 
-known_0 : IsUnderstood (understood schema_0 piece_0)
-unfolding understood everything
-known_0 = tt
+reader_index_free : (s : Schema) → is_used s reader_index ≡ false → AllByRecursion (λ (i : Index). is_used s i.name ≡ false) (automatics reader 0 0 reader.uniques)
+unfolding everything
+reader_index_free s free = (free, tt)
 
-known_1 : IsUnderstood (understood schema_1 piece_1)
-unfolding understood everything
-known_1 = tt
+tally_index_free : (s : Schema) → is_used s tally_index ≡ false → AllByRecursion (λ (i : Index). is_used s i.name ≡ false) (automatics tally 0 0 tally.uniques)
+unfolding everything
+tally_index_free s free = (free, tt)
 
-known_2 : IsUnderstood (understood schema_2 piece_2)
-unfolding understood everything
-known_2 = tt
+-- ---- the batch, over a database in which none of them is used
 
-known_3 : IsUnderstood (understood schema_3 piece_3)
-unfolding understood everything
-known_3 = tt
+-- a schema before a table is made, with names that are free
+record Before (s : Schema) (names : List (List ℕ)) : Type 0 where
+  free : AreFree s names
+  counted : lacks_sequence s ≡ false
 
-known_4 : IsUnderstood (understood schema_4 piece_4)
-unfolding understood everything
-known_4 = tt
+next_before : (s : Schema) (table : Table) (names : List (List ℕ)) → table.is_counted ≡ false → Apart table names → lacks_sequence s ≡ false → AreFree s names → Before (created s table) names
+next_before s table names uncounted apart counted free = record {
+  free = stay_free s table names free (apart (next_tree s));
+  counted = lacks_still s table uncounted counted;
+}
 
-known_5 : IsUnderstood (understood schema_5 piece_5)
-unfolding understood everything
-known_5 = tt
-
-known_6 : IsUnderstood (understood schema_6 piece_6)
-unfolding understood everything
-known_6 = tt
-
-known_7 : IsUnderstood (understood the_schema piece_7)
-unfolding understood everything
-known_7 = tt
+plain_known : (r : Result Compiled CompileError) → IsPlain r → IsUnderstood r
+plain_known (Ok c) plain = tt
+plain_known (Err e) plain = absurd plain
 
 module _ {S : Type 0} (g : Ghosts S) (new : Held S) (r : Result (Unit {0}) Error) where
   abbrev Spared : Type 0
   Spared = IfErr r (λ e. tells_taken e ≡ false)
 
-  from_7 : (old : Held S) → (state g old).now.schema ≡ the_schema → Turns g 1008 piece_7 [] old new r → Spared
-  from_7 old has (inl stops) =
+  make_turn : (sql : List ℕ) (table : Table) (most : ℕ) (rest : List ℕ) → Depends sql table.name → Alone sql table → (s : Schema) (old : Held S) → (state g old).now.schema ≡ s
+      → is_used s table.name ≡ false → AllByRecursion (λ (i : Index). is_used s i.name ≡ false) (automatics table 0 0 table.uniques) → lacks_sequence (created s table) ≡ false
+      → ((mid : Held S) → (state g mid).now.schema ≡ created s table → RunInTurn g (Some 0) most rest mid new r → Spared) → Turns g most sql rest old new r → Spared
+  make_turn sql table most rest depends alone s old has free indexes_free counted next turns =
+      let same = free_as_alone sql table depends alone s free in
+      table_turn g new sql s table most rest old r has
+      (subst (λ r. (command_of r ≡ CreateTable) × (table_defined_by (statement_of sql r) ≡ Ok table) × IsPlain r) (sym same) alone)
+      (plain_known (understood s sql) (subst IsPlain (sym same) alone.2)) free (each_free s (automatics table 0 0 table.uniques) indexes_free) counted next turns
+
+  from_7 : (s : Schema) → HasMeta s → (old : Held S) → (state g old).now.schema ≡ s → Turns g 1008 piece_7 [] old new r → Spared
+  from_7 s made old has (inl stops) =
+      let facts = fill_facts made.at in
+      let same = fills s made in
+      let text = statement_of piece_7 (understood s piece_7) in
       stopped_never g new piece_7 old r
-      (λ e runs. failed_as piece_7 (state g old) (state g new) the_schema has (Insert 0 (Values version_terms 2)) is_7.0 is_7.1 known_7 e
-      (λ does. inserted_never (state g old).step_limit (state g old).now.trees (statement_of piece_7 (understood the_schema piece_7)) e
-      (subst (λ (s : Schema). Does (state g old).step_limit plain_mode [] (record { schema = s; trees = (state g old).now.trees }) (statement_of piece_7 (understood the_schema piece_7)) None (Insert 0 (Values version_terms 2)) (Err (Some e))) has does)) runs) stops
-  from_7 old has (inr (mid, ran, others)) = subst (λ (x : Result (Unit {0}) Error). IfErr x (λ e. tells_taken e ≡ false)) (sym others.0) tt
+      (λ e runs. failed_as piece_7 (state g old) (state g new) s has (Insert made.at (Values version_terms 2)) (ap command_of same ∙ facts.0) (subst IsPlain (sym same) facts.1)
+      (subst IsUnderstood (sym same) facts.2) e
+      (λ does. inserted_never (state g old).step_limit (state g old).now.trees text s made.tree made.at made.there e
+      (subst (λ (s : Schema). Does (state g old).step_limit plain_mode [] (record { schema = s; trees = (state g old).now.trees }) text None (Insert made.at (Values version_terms 2)) (Err (Some e))) has does)) runs) stops
+  from_7 s made old has (inr (mid, ran, others)) = subst (λ (x : Result (Unit {0}) Error). IfErr x (λ e. tells_taken e ≡ false)) (sym others.0) tt
 
-  from_6 : (old : Held S) → (state g old).now.schema ≡ schema_6 → Turns g 1009 piece_6 rest_7 old new r → Spared
-  from_6 old has turns = table_turn g new piece_6 schema_6 tally 1009 rest_7 old r has is_6 known_6 free_6.0 (each_free schema_6 (automatics tally 0 0 tally.uniques) free_6.1) refl (λ mid has others. from_7 mid has (turn_7 g mid new r others)) turns
+  from_6 : (s : Schema) → HasMeta s → Before s names_6 → (old : Held S) → (state g old).now.schema ≡ s → Turns g 1009 piece_6 rest_7 old new r → Spared
+  from_6 s made b old has turns =
+      make_turn piece_6 tally 1009 rest_7 depends_6 alone_6 s old has b.free.0 (tally_index_free s b.free.1.0) (lacks_still s tally refl b.counted)
+      (λ mid is others. from_7 (created s tally) (still_meta s tally made) mid is (turn_7 g mid new r others)) turns
 
-  from_5 : (old : Held S) → (state g old).now.schema ≡ schema_5 → Turns g 1010 piece_5 rest_6 old new r → Spared
-  from_5 old has turns = table_turn g new piece_5 schema_5 reader 1010 rest_6 old r has is_5 known_5 free_5.0 (each_free schema_5 (automatics reader 0 0 reader.uniques) free_5.1) refl (λ mid has others. from_6 mid has (turn_6 g mid new r others)) turns
+  from_5 : (s : Schema) → HasMeta s → Before s names_5 → (old : Held S) → (state g old).now.schema ≡ s → Turns g 1010 piece_5 rest_6 old new r → Spared
+  from_5 s made b old has turns =
+      let after = next_before s reader names_6 refl apart_5 b.counted b.free.1.1 in
+      make_turn piece_5 reader 1010 rest_6 depends_5 alone_5 s old has b.free.0 (reader_index_free s b.free.1.0) after.counted
+      (λ mid is others. from_6 (created s reader) (still_meta s reader made) after mid is (turn_6 g mid new r others)) turns
 
-  from_4 : (old : Held S) → (state g old).now.schema ≡ schema_4 → Turns g 1011 piece_4 rest_5 old new r → Spared
-  from_4 old has turns = table_turn g new piece_4 schema_4 deposit 1011 rest_5 old r has is_4 known_4 free_4.0 (each_free schema_4 (automatics deposit 0 0 deposit.uniques) free_4.1) refl (λ mid has others. from_5 mid has (turn_5 g mid new r others)) turns
+  from_4 : (s : Schema) → HasMeta s → Before s names_4 → (old : Held S) → (state g old).now.schema ≡ s → Turns g 1011 piece_4 rest_5 old new r → Spared
+  from_4 s made b old has turns =
+      let after = next_before s deposit names_5 refl apart_4 b.counted b.free.1.1 in
+      make_turn piece_4 deposit 1011 rest_5 depends_4 alone_4 s old has b.free.0 (deposit_index_free s b.free.1.0) after.counted
+      (λ mid is others. from_5 (created s deposit) (still_meta s deposit made) after mid is (turn_5 g mid new r others)) turns
 
-  from_3 : (old : Held S) → (state g old).now.schema ≡ schema_3 → Turns g 1012 piece_3 rest_4 old new r → Spared
-  from_3 old has turns = table_turn g new piece_3 schema_3 hold 1012 rest_4 old r has is_3 known_3 free_3.0 (each_free schema_3 (automatics hold 0 0 hold.uniques) free_3.1) refl (λ mid has others. from_4 mid has (turn_4 g mid new r others)) turns
+  from_3 : (s : Schema) → HasMeta s → Before s names_3 → (old : Held S) → (state g old).now.schema ≡ s → Turns g 1012 piece_3 rest_4 old new r → Spared
+  from_3 s made b old has turns =
+      let after = next_before s hold names_4 refl apart_3 b.counted b.free.1 in
+      make_turn piece_3 hold 1012 rest_4 depends_3 alone_3 s old has b.free.0 tt after.counted
+      (λ mid is others. from_4 (created s hold) (still_meta s hold made) after mid is (turn_4 g mid new r others)) turns
 
-  from_2 : (old : Held S) → (state g old).now.schema ≡ schema_2 → Turns g 1013 piece_2 rest_3 old new r → Spared
-  from_2 old has turns = table_turn g new piece_2 schema_2 calibration 1013 rest_3 old r has is_2 known_2 free_2.0 (each_free schema_2 (automatics calibration 0 0 calibration.uniques) free_2.1) refl (λ mid has others. from_3 mid has (turn_3 g mid new r others)) turns
+  from_2 : (s : Schema) → HasMeta s → Before s names_2 → (old : Held S) → (state g old).now.schema ≡ s → Turns g 1013 piece_2 rest_3 old new r → Spared
+  from_2 s made b old has turns =
+      let after = next_before s calibration names_3 refl apart_2 b.counted b.free.1 in
+      make_turn piece_2 calibration 1013 rest_3 depends_2 alone_2 s old has b.free.0 tt after.counted
+      (λ mid is others. from_3 (created s calibration) (still_meta s calibration made) after mid is (turn_3 g mid new r others)) turns
 
-  from_1 : (old : Held S) → (state g old).now.schema ≡ schema_1 → Turns g 1014 piece_1 rest_2 old new r → Spared
-  from_1 old has turns = table_turn g new piece_1 schema_1 stamp 1014 rest_2 old r has is_1 known_1 free_1.0 (each_free schema_1 (automatics stamp 0 0 stamp.uniques) free_1.1) refl (λ mid has others. from_2 mid has (turn_2 g mid new r others)) turns
+  from_1 : (s : Schema) → HasMeta s → Before s names_1 → (old : Held S) → (state g old).now.schema ≡ s → Turns g 1014 piece_1 rest_2 old new r → Spared
+  from_1 s made b old has turns =
+      let after = next_before s stamp names_2 refl apart_1 b.counted b.free.1 in
+      make_turn piece_1 stamp 1014 rest_2 depends_1 alone_1 s old has b.free.0 tt after.counted
+      (λ mid is others. from_2 (created s stamp) (still_meta s stamp made) after mid is (turn_2 g mid new r others)) turns
 
-  from_0 : (old : Held S) → (state g old).now.schema ≡ schema_0 → Turns g 1015 piece_0 rest_1 old new r → Spared
-  from_0 old has turns = table_turn g new piece_0 schema_0 meta 1015 rest_1 old r has is_0 known_0 free_0.0 (each_free schema_0 (automatics meta 0 0 meta.uniques) free_0.1) refl (λ mid has others. from_1 mid has (turn_1 g mid new r others)) turns
+  from_0 : (s : Schema) → Before s names_0 → (old : Held S) → (state g old).now.schema ≡ s → Turns g 1015 piece_0 rest_1 old new r → Spared
+  from_0 s b old has turns =
+      let after = next_before s meta names_1 refl apart_0 b.counted b.free.1 in
+      make_turn piece_0 meta 1015 rest_1 depends_0 alone_0 s old has b.free.0 tt after.counted
+      (λ mid is others. from_1 (created s meta) (made_meta s b.free.0) after mid is (turn_1 g mid new r others)) turns
 
-pub never_taken : {S : Type 0} (g : Ghosts S) (old new : Held S) (r : Result (Unit {0}) Error) → (state g old).now.schema ≡ no_schema → ExecutesAllInside g 0 make_all old new r
-    → IfErr r (λ e. tells_taken e ≡ false)
-never_taken g old new r has ran = from_0 g new r old has (turn_0 g old new r (begun g old new r ran))
+none_any : {X : Type 0} (p : X → Bool) (xs : List X) → list_any p xs ≡ false → AllByRecursion (λ x. p x ≡ false) xs
+none_any p [] none = tt
+none_any p (x ∷ xs) none = elim (cases_Bool (p x)) [
+  | inl here ↦ absurd (let e = rw here at none in cc)
+  | inr later ↦ (later, none_any p xs (rw later at none))
+]
 
--- over our own tables the first statement isn't understood
-taken_0 : ¬ IsUnderstood (understood the_schema piece_0)
-unfolding understood everything
-taken_0 = λ known. known
+all_free : (s : Schema) → takes_name s ≡ false → takes_index s ≡ false → AreFree s names_0
+unfolding everything
+all_free s names indexes =
+    let t = none_any (λ (table : Table). is_used s table.name) the_schema.tables names in
+    let i = none_any (λ (index : Index). is_used s index.name) the_schema.indexes indexes in
+    (t.0, (t.1.0, (t.1.1.0, (t.1.1.1.0, (t.1.1.1.1.0, (i.0, (t.1.1.1.1.1.0, (i.1.0, (t.1.1.1.1.1.1.0, (i.1.1.0, tt))))))))))
 
-understood_if : {r : Result Compiled CompileError} {c : Compiled} → r ≡ Ok c → IsUnderstood r
-understood_if is = subst IsUnderstood (sym is) tt
-
-module _ {S : Type 0} (g : Ghosts S) (old new : Held S) (has : (state g old).now.schema ≡ the_schema) where
-  not_ran : (mid : State) (count : ℕ) → ExecutesIn true piece_0 [] (state g old) mid (Ok count) → ⊥
-  unfolding ExecutesIn
-  not_ran mid count (c, it, runs) = taken_0 (understood_if (ap (λ s. understood s piece_0) (sym has) ∙ it.is))
-
-  remade : Turns g 1015 piece_0 rest_1 old new (Ok tt) → ⊥
-  remade (inl stops) = absurd (let apart = stops.1 in cc)
-  remade (inr (mid, ran, others)) = not_ran (state g mid) ran.0 ran.1
-
-pub never_remade : {S : Type 0} (g : Ghosts S) (old new : Held S) (r : Result (Unit {0}) Error) → ExecutesAllInside g 0 make_all old new r → IfOk r (λ _. (state g old).now.schema ≢ the_schema)
-never_remade g old new (Ok u) ran = λ has. remade g old new has (turn_0 g old new (Ok tt) (begun g old new (Ok tt) ran))
-never_remade g old new (Err e) ran = tt
+-- the batch is refused for a name only where something stands in its way
+pub in_the_way : {S : Type 0} (g : Ghosts S) (old new : Held S) (r : Result (Unit {0}) Error) → ExecutesAllInside g 0 make_all old new r
+    → IfErr r (λ e. tells_taken e ≡ true → IsInTheWay (state g old).now.schema)
+in_the_way g old new (Ok u) ran = tt
+in_the_way g old new (Err e) ran = λ taken.
+    let s = (state g old).now.schema in
+    elim (cases_Bool (takes_name s)) [
+      | inl name ↦ inl name
+      | inr names ↦ elim (cases_Bool (takes_index s)) [
+        | inl index ↦ inr (inl index)
+        | inr indexes ↦ elim (cases_Bool (lacks_sequence s)) [
+          | inl lacks ↦ inr (inr lacks)
+          | inr counted ↦ absurd (let free = from_0 g new (Err e) s (record { free = all_free s names indexes; counted = counted }) old refl (turn_0 g old new (Err e) (begun g old new (Err e) ran)) in cc)
+        ]
+      ]
+    ]

@@ -1,12 +1,14 @@
 -- What a query tells, asked in a transaction of its own that is undone.
-use Rattle.std.specs.Prelude.{◌≡◌, ℕ, false, List, IsTrue, Option}
+use Rattle.std.specs.Prelude.{◌≡◌, ℕ, false, List, [], IsTrue, Option, None, Ok}
 use Rattle.std.specs.List.{slice_get}
 use Rattle.sqlite_value.specs.Order.{Row}
 use Rattle.sqlite_trees.specs.Tree.{Trees}
 use Rattle.sqlite_schema.specs.declared.command.Command.{Command}
-use Rattle.sqlite.specs.Effect.{Reads}
+use Rattle.sqlite_schema.specs.declared.schema.Schema.{Schema}
+use Rattle.sqlite_resolve.specs.declared.compiled.Compiled.{Compiled}
+use Rattle.sqlite.specs.Effect.{Database, Reads}
 use Rattle.sqlite.specs.Given.{IsPlain}
-use Rattle.sqlite.specs.Listing.{understood, reads_listing}
+use Rattle.sqlite.specs.Listing.{understood, reads_listing, IsSourceOf}
 use Rattle.sqlite.specs.State.{State, HasCleanDisk}
 use Rattle.sqlite.proofs.Callers.{command_of}
 use Rattle.tables.specs.Schema.{the_schema}
@@ -19,6 +21,15 @@ pub record IsQueryText (sql : List ℕ) : Type 0 where
 -- the rows are an answer of the query over these trees
 abbrev pub TellsRows : List ℕ → Row → Trees → List Row → Type 0
 TellsRows sql params db rows = Reads (command_of (understood the_schema sql)) (record { schema = the_schema; trees = db }) params rows
+
+-- the text has no RETURNING and reads no time, where the schema understands it
+abbrev pub IsPlainIn : Schema → List ℕ → Type 0
+IsPlainIn schema sql = (c : Compiled) → understood schema sql ≡ Ok c → (c.returning ≡ None) × (c.formats ≡ [])
+
+-- the rows are an answer of the query on this database, whatever its schema
+abbrev pub Answers : List ℕ → Row → Database → List Row → Type 0
+Answers sql params d rows =
+    (c : Compiled) × (understood d.schema sql ≡ Ok c) × (source : Database) × IsSourceOf (reads_listing d.schema sql) d source × Reads c.command source params rows
 
 -- nothing changes, whatever the query answers
 pub record Looks (old new : State) : Type 0 where

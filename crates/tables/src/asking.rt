@@ -7,7 +7,7 @@ ghost use Rattle.sqlite.specs.State.{HasCleanDisk};
 ghost use Rattle.sqlite.specs.Values.{bound};
 ghost use Rattle.tables.specs.Holding.{token_cell};
 ghost use Rattle.tables.specs.Schema.{the_schema};
-ghost use Rattle.tables.specs.Asking.{IsQueryText, TellsRows, TellsFirst, Looks};
+ghost use Rattle.tables.specs.Asking.{IsQueryText, IsPlainIn, Answers, TellsRows, TellsFirst, Looks};
 
 use sqlite::types::ValueRef;
 use sqlite::{Alter, Connection, Error, Row};
@@ -28,6 +28,8 @@ pub(crate) fn rows_of<S: Alter>(
     ensures opened { HasCleanDisk (state S.Store conn.new) → OnOk result (IsTrue (state S.Store conn.old).is_open) }
     ensures told { HasCleanDisk (state S.Store conn.new) → (state S.Store conn.old).now.schema ≡ the_schema
         → IfOk result (λ rows. TellsRows sql.now (bound params.now) (state S.Store conn.old).now.trees rows.items) }
+    ensures answered { HasCleanDisk (state S.Store conn.new) → IsPlainIn (state S.Store conn.old).now.schema sql.now
+        → IfOk result (λ rows. Answers sql.now (bound params.now) (state S.Store conn.old).now rows.items) }
 {
     let mut tx = conn.transaction();
     let rows = tx.query_all(sql, params);

@@ -4,8 +4,8 @@ ghost use Rattle.std.specs.Prelude.{◌≡◌, ◌≢◌, ◌⊎◌, true, false
 ghost use Rattle.sqlite.specs.Held.{state};
 ghost use Rattle.sqlite.specs.State.{HasCleanDisk};
 ghost use Rattle.tables.specs.Asking.{Looks};
-ghost use Rattle.tables.specs.Opening.{IsFound, LooksOurs, Creates, tells_taken};
-ghost use Rattle.tables.specs.Schema.{no_schema, the_schema};
+ghost use Rattle.tables.specs.Opening.{IsFound, LooksOurs, LooksForeign, Creates, IsInTheWay, takes_name, tells_taken};
+ghost use Rattle.tables.specs.Schema.{no_schema};
 ghost use Rattle.sqlite_trees.specs.Tree.{Trees};
 ghost use Rattle.tables.specs.Tables.{Tables, no_rows};
 ghost use Rattle.tables.specs.Base.{IsHonest, IsOpen, Keeps, Recovers, Holds};
@@ -66,11 +66,11 @@ impl<S: Alter + Drop> Base<S> {
     pub fn create(mut conn: Connection<S>) -> Result<Base<S>, (OpenFault, Connection<S>)>
         requires { conn.in_transaction ≡ false }
         ensures made { IfOk result (λ base. Creates (state S.Store conn) (state S.Store base.conn) (Ok tt)) }
-        ensures fresh { IfOk result (λ base. HasCleanDisk (state S.Store base.conn) → (state S.Store conn).now.schema ≢ the_schema) }
+        ensures unused { IfOk result (λ base. HasCleanDisk (state S.Store base.conn) → takes_name (state S.Store conn).now.schema ≡ false) }
         ensures keeps { IfOk result (λ base. (state S.Store conn).now.schema ≡ no_schema → Keeps S.Store no_rows base) }
         ensures uncounted { IfOk result (λ base. base.faults ≡ 0) }
         ensures undone { IfErr result (λ e. (error : _) × Creates (state S.Store conn) (state S.Store e.1) (Err error)) }
-        ensures not_ours { IfErr result (λ e. e.0 ≡ OpenFault.NotOurs → HasCleanDisk (state S.Store e.1) → (state S.Store conn).now.schema ≢ no_schema) }
+        ensures taken { IfErr result (λ e. e.0 ≡ OpenFault.NotOurs → HasCleanDisk (state S.Store e.1) → IsInTheWay (state S.Store conn).now.schema) }
         ensures closed { IfErr result (λ e. e.1.in_transaction ≡ false) }
     {
         match make_tables(&mut conn) {
@@ -88,6 +88,7 @@ impl<S: Alter + Drop> Base<S> {
         ensures uncounted { IfOk result (λ base. base.faults ≡ 0) }
         ensures unchanged { IfErr result (λ e. Looks (state S.Store conn) (state S.Store e.1)) }
         ensures not_ours { IfErr result (λ e. e.0 ≡ OpenFault.NotOurs → HasCleanDisk (state S.Store e.1) → (t : Tables) → ¬ IsFound t (state S.Store conn)) }
+        ensures foreign { IfErr result (λ e. e.0 ≡ OpenFault.NotOurs → HasCleanDisk (state S.Store e.1) → LooksForeign (state S.Store conn)) }
         ensures closed { IfErr result (λ e. e.1.in_transaction ≡ false) }
     {
         match is_ours(&mut conn) {

@@ -1,11 +1,11 @@
 //! Making the tables.
 
-ghost use Rattle.std.specs.Prelude.{◌≡◌, ◌≢◌, false, IsTrue, IfOk, IfErr};
+ghost use Rattle.std.specs.Prelude.{◌≡◌, true, false, IsTrue, IfOk, IfErr};
 ghost use Rattle.sqlite.specs.Held.{state};
 ghost use Rattle.sqlite.specs.State.{HasCleanDisk};
 ghost use Rattle.tables.specs.Carrying.{CarriesFrom, CommitsFrom};
-ghost use Rattle.tables.specs.Opening.{tells_taken};
-ghost use Rattle.tables.specs.Schema.{no_schema, the_schema};
+ghost use Rattle.tables.specs.Opening.{IsInTheWay, takes_name, tells_taken};
+ghost use Rattle.tables.specs.Schema.{no_schema};
 ghost use Rattle.tables.specs.Tables.{no_rows};
 
 use sqlite::{Alter, Connection, Error, Transaction};
@@ -16,8 +16,9 @@ const MAKE_ALL: &str =
 fn make_all<S: Alter>(tx: &mut Transaction<'_, S>) -> Result<(), Error>
     ensures same_reference { tx.new.conn.ghost_name ≡ tx.old.conn.ghost_name }
     ensures carries { CarriesFrom (λ _ d. d.schema ≡ no_schema) (IsTrue (state S.Store tx.old.conn.now).is_open) (λ _. no_rows) (state S.Store tx.old.conn.now) (state S.Store tx.new.conn.now) result }
-    ensures free { HasCleanDisk (state S.Store tx.new.conn.now) → (state S.Store tx.old.conn.now).now.schema ≡ no_schema → IfErr result (λ e. tells_taken e ≡ false) }
-    ensures fresh { HasCleanDisk (state S.Store tx.new.conn.now) → IfOk result (λ _. (state S.Store tx.old.conn.now).now.schema ≢ the_schema) }
+    ensures taken { HasCleanDisk (state S.Store tx.new.conn.now)
+        → IfErr result (λ e. tells_taken e ≡ true → IsInTheWay (state S.Store tx.old.conn.now).now.schema) }
+    ensures unused { HasCleanDisk (state S.Store tx.new.conn.now) → IfOk result (λ _. takes_name (state S.Store tx.old.conn.now).now.schema ≡ false) }
 {
     tx.execute_batch(MAKE_ALL)
 }
@@ -27,8 +28,8 @@ pub fn make_tables<S: Alter>(conn: &mut Connection<S>) -> Result<(), Error>
     requires { conn.old.in_transaction ≡ false }
     ensures closed { conn.new.in_transaction ≡ false }
     ensures commits { CommitsFrom (λ _ d. d.schema ≡ no_schema) (IsTrue (state S.Store conn.old).is_open) (λ _. no_rows) (state S.Store conn.old) (state S.Store conn.new) result }
-    ensures free { HasCleanDisk (state S.Store conn.new) → (state S.Store conn.old).now.schema ≡ no_schema → IfErr result (λ e. tells_taken e ≡ false) }
-    ensures fresh { HasCleanDisk (state S.Store conn.new) → IfOk result (λ _. (state S.Store conn.old).now.schema ≢ the_schema) }
+    ensures taken { HasCleanDisk (state S.Store conn.new) → IfErr result (λ e. tells_taken e ≡ true → IsInTheWay (state S.Store conn.old).now.schema) }
+    ensures unused { HasCleanDisk (state S.Store conn.new) → IfOk result (λ _. takes_name (state S.Store conn.old).now.schema ≡ false) }
 {
     let mut tx = conn.transaction();
     make_all(&mut tx)?;

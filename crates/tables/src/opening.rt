@@ -1,13 +1,13 @@
 //! Whether the tables of a connection are ours.
 
-ghost use Rattle.std.specs.Prelude.{◌≡◌, [], ◌∷◌, pos, false, IsTrue, IfOk, OnOk};
+ghost use Rattle.std.specs.Prelude.{◌≡◌, ◌↔◌, [], ◌∷◌, pos, false, IsTrue, IfOk, OnOk};
 ghost use Rattle.sqlite_value.specs.declared.value.Value.TheVariants.{Int};
 ghost use Rattle.sqlite.specs.Held.{state};
 ghost use Rattle.sqlite.specs.Listing.{understood};
 ghost use Rattle.sqlite.specs.State.{HasCleanDisk};
-ghost use Rattle.tables.specs.Asking.{Looks, TellsRows};
+ghost use Rattle.tables.specs.Asking.{Answers, Looks};
 ghost use Rattle.tables.specs.Holding.{IsDatabaseOf};
-ghost use Rattle.tables.specs.Opening.{all_columns, version_query, IsUnderstood, IsFound, IsVersionOne, LooksOurs};
+ghost use Rattle.tables.specs.Opening.{all_columns, version_query, IsUnderstood, IsFound, IsVersionOne, LooksOurs, LooksForeign};
 ghost use Rattle.tables.specs.Schema.{the_schema};
 ghost use Rattle.tables.specs.Tables.{Tables};
 
@@ -26,7 +26,8 @@ fn understands_tables<S: Alter>(conn: &mut Connection<S>) -> Result<bool, Error>
     ensures closed { conn.new.in_transaction ≡ false }
     ensures looks { Looks (state S.Store conn.old) (state S.Store conn.new) }
     ensures ours { HasCleanDisk (state S.Store conn.new) → (state S.Store conn.old).now.schema ≡ the_schema → IfOk result IsTrue }
-    ensures tables { HasCleanDisk (state S.Store conn.new) → IfOk result (λ yes. IsTrue yes → IsUnderstood (understood (state S.Store conn.old).now.schema all_columns)) }
+    ensures same { HasCleanDisk (state S.Store conn.new) → OnOk result ((state S.Store conn.new).now ≡ (state S.Store conn.old).now) }
+    ensures tables { HasCleanDisk (state S.Store conn.new) → IfOk result (λ yes. IsTrue yes ↔ IsUnderstood (understood (state S.Store conn.old).now.schema all_columns)) }
 {
     match conn.prepare(ALL_COLUMNS) {
         Ok(_) => Ok(true),
@@ -37,7 +38,7 @@ fn understands_tables<S: Alter>(conn: &mut Connection<S>) -> Result<bool, Error>
 
 fn is_version_one(rows: &[Row]) -> bool
     ensures ours { rows.now ≡ (Int (pos 1) ∷ []) ∷ [] → IsTrue result }
-    ensures one { IsTrue result → IsVersionOne rows.now }
+    ensures one { IsTrue result ↔ IsVersionOne rows.now }
 {
     if rows.len() != 1 {
         return false;
@@ -54,8 +55,8 @@ fn has_version_one<S: Alter>(conn: &mut Connection<S>) -> Result<bool, Error>
     ensures looks { Looks (state S.Store conn.old) (state S.Store conn.new) }
     ensures opened { HasCleanDisk (state S.Store conn.new) → OnOk result (IsTrue (state S.Store conn.old).is_open) }
     ensures ours { HasCleanDisk (state S.Store conn.new) → (t : Tables) → IsDatabaseOf t (state S.Store conn.old).now → IfOk result IsTrue }
-    ensures one { HasCleanDisk (state S.Store conn.new) → (state S.Store conn.old).now.schema ≡ the_schema → IfOk result (λ yes. IsTrue yes
-        → (rows : _) × TellsRows version_query [] (state S.Store conn.old).now.trees rows × IsVersionOne rows) }
+    ensures one { HasCleanDisk (state S.Store conn.new) → IfOk result (λ yes.
+        (rows : _) × Answers version_query [] (state S.Store conn.old).now rows × (IsTrue yes ↔ IsVersionOne rows)) }
 {
     let rows = rows_of(conn, VERSION, &[])?;
     Ok(is_version_one(rows.as_slice()))
@@ -68,6 +69,7 @@ pub(crate) fn is_ours<S: Alter>(conn: &mut Connection<S>) -> Result<bool, Error>
     ensures looks { Looks (state S.Store conn.old) (state S.Store conn.new) }
     ensures ours { HasCleanDisk (state S.Store conn.new) → (t : Tables) → IsFound t (state S.Store conn.old) → IfOk result IsTrue }
     ensures shown { HasCleanDisk (state S.Store conn.new) → IfOk result (λ yes. IsTrue yes → LooksOurs (state S.Store conn.old)) }
+    ensures foreign { HasCleanDisk (state S.Store conn.new) → IfOk result (λ yes. yes ≡ false → LooksForeign (state S.Store conn.old)) }
 {
     if !understands_tables(conn)? {
         return Ok(false);

@@ -123,6 +123,31 @@ fn changes_and_queries(rt: HostRuntime) -> Result<(), Fail> {
 }
 
 #[test]
+fn names_that_are_taken(rt: HostRuntime) -> Result<(), Fail> {
+    let texts: [(&str, bool); 6] = [
+        ("CREATE TABLE other (meta)", true),
+        ("CREATE TABLE Stamp (a)", false),
+        ("CREATE TABLE reader (serial, account)", false),
+        ("CREATE TABLE tally (a)", false),
+        ("CREATE VIEW hold AS SELECT 1", false),
+        (
+            "CREATE TABLE other (a); CREATE INDEX deposit ON other (a)",
+            false,
+        ),
+    ];
+    for (text, is_made) in texts {
+        let mut conn = Connection::open_in_memory(rt.alloc())?;
+        conn.execute_batch(text)?;
+        assert!(rt; conn.is_autocommit());
+        match Base::create(conn) {
+            Ok(_) => assert!(rt; is_made),
+            Err((fault, _)) => assert!(rt; !is_made && fault == OpenFault::NotOurs),
+        }
+    }
+    Ok(())
+}
+
+#[test]
 fn tables_of_others(rt: HostRuntime) -> Result<(), Fail> {
     let conn = made(rt.alloc())?.into_connection();
     assert!(rt; conn.is_autocommit());

@@ -1,5 +1,6 @@
 use Rattle.tables.proofs.CreateLemmas.{all_carried}
-use Rattle.tables.proofs.RefusalLemmas.{never_taken, never_remade}
+use Rattle.tables.proofs.RefusalLemmas.{in_the_way}
+use Rattle.tables.proofs.NameLemmas.{names_free_if}
 use Rattle.tables.proofs.creating.make_all.Goals as goal
 
 pub returns-clause-carries : goal.returns-clause-carries
@@ -7,8 +8,8 @@ returns-clause-carries g c =
     let e = c.execute_batch.ensures in
     all_carried g.S.Store _ _ _ e.survives e.ran e.kept e.inside
 
-pub returns-clause-free : goal.returns-clause-free
-returns-clause-free g c clean has = never_taken g.S.Store _ _ _ has (c.execute_batch.ensures.ran clean)
+pub returns-clause-taken : goal.returns-clause-taken
+returns-clause-taken g c clean = in_the_way g.S.Store _ _ _ (c.execute_batch.ensures.ran clean)
 
-pub returns-clause-fresh : goal.returns-clause-fresh
-returns-clause-fresh g c clean = never_remade g.S.Store _ _ _ (c.execute_batch.ensures.ran clean)
+pub returns-clause-unused : goal.returns-clause-unused
+returns-clause-unused g c clean = names_free_if g.S.Store _ _ _ (c.execute_batch.ensures.ran clean)

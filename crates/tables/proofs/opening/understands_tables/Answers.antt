@@ -2,7 +2,7 @@ use Rattle.std.proofs.Common.{refl, subst, []}
 use Rattle.sqlite.specs.Held.{state}
 use Rattle.sqlite.specs.State.{IsNotRun}
 use Rattle.tables.specs.Opening.{all_columns}
-use Rattle.tables.proofs.OpenLemmas.{prepare_looks, never_unknown, outlined}
+use Rattle.tables.proofs.OpenLemmas.{prepare_looks, never_known, never_unknown, unknown_same, outlined}
 use Rattle.tables.proofs.opening.understands_tables.Goals.{in-Ok, in-Err-SqlInputError, in-Err}
 use Rattle.tables.proofs.opening.understands_tables.Goals as goal
 
@@ -22,9 +22,20 @@ returns-clause-ours g c clean has = elim c.match-prepare.branch [
   | in-Err w ↦ rw w.result-is tt
 ]
 
+pub returns-clause-same : goal.returns-clause-same
+returns-clause-same g c clean = elim c.match-prepare.branch [
+  | in-Ok w ↦ rw w.result-is ((w.in-Ok.ensures.ok clean).1.0.now_is)
+  | in-Err-SqlInputError w ↦
+      let it = w.in-Err-SqlInputError in
+      rw w.result-is (unknown_same _ _ it.field-0-0 (subst (IsNotRun (state g.S.Store c.args.conn.now) (state g.S.Store c.prepare.new.self) all_columns []) it.field-0-is (it.ensures.err clean [])))
+  | in-Err w ↦ rw w.result-is tt
+]
+
 pub returns-clause-tables : goal.returns-clause-tables
 returns-clause-tables g c clean = elim c.match-prepare.branch [
-  | in-Ok w ↦ rw w.result-is (λ _. outlined _ _ (w.in-Ok.ensures.shape clean))
-  | in-Err-SqlInputError w ↦ rw w.result-is (λ yes. cc)
+  | in-Ok w ↦ rw w.result-is ((λ _. outlined _ _ (w.in-Ok.ensures.shape clean)), (λ _. refl))
+  | in-Err-SqlInputError w ↦
+      let it = w.in-Err-SqlInputError in
+      rw w.result-is ((λ is. cc), (λ known. absurd (never_known _ _ it.field-0-0 (subst (IsNotRun (state g.S.Store c.args.conn.now) (state g.S.Store c.prepare.new.self) all_columns []) it.field-0-is (it.ensures.err clean [])) known)))
   | in-Err w ↦ rw w.result-is tt
 ]

@@ -1,0 +1,8 @@
+use Rattle.std.proofs.Common.{◌≡◌, sym, subst}
+use Rattle.sqlite.specs.Closing.{IsCopied}
+use Rattle.store.proofs.Closing.{leaves_files}
+use Rattle.store.proofs.opening.Store+FileStore+D.close.Goals as goal
+
+pub returns-in-Ok-clause-copied : goal.returns-in-Ok-clause-copied
+returns-in-Ok-clause-copied g c clean b s =
+    leaves_files _ _ b (subst (λ conn. IsCopied conn c.in-Ok.files) c.into_connection.ensures.same (c.in-Ok.ensures.copied clean)) s
