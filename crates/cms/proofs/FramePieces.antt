@@ -1,5 +1,6 @@
 -- Frames that go out and come in piece by piece.
-use Rattle.std.proofs.Common.{◌≡◌, ◌⊎◌, ℕ, ◌+◌, ◌<◌, ◌≤◌, ◌^◌, List, [], ◌∷◌, ◌++◌, Option, length, take, drop, refl, sym, ap, ◌∙◌, subst, append_assoc, arith}
+use Rattle.std.proofs.Common.{◌≡◌, ◌⊎◌, ℕ, ◌+◌, ◌<◌, ◌≤◌, ◌^◌, List, [], ◌∷◌, ◌++◌, Option, length, take, drop, refl}
+use Rattle.std.proofs.Common.{sym, ap, ◌∙◌, subst, append_assoc, arith}
 use Rattle.std.specs.Int.{to_be_bytes, from_be_bytes, w32}
 use Rattle.std.specs.Io.KnownBytes.{Appends, Consumes}
 use Rattle.std.proofs.KnownBytes.{Appends-trans, Consumes-trans}
@@ -15,7 +16,8 @@ frame_is octets = refl
 pub length-frame : (octets : List ℕ) → length (frame octets) ≡ 4 + length octets
 length-frame octets = ap length (frame_is octets) ∙ length-append (to_be_bytes w32 (length octets)) octets
 
-pub sends_header : (u v : Option (List ℕ)) (octets : List ℕ) → SendsBeginning u v (to_be_bytes w32 (length octets)) → SendsBeginning u v (frame octets)
+pub sends_header : (u v : Option (List ℕ)) (octets : List ℕ) → SendsBeginning u v (to_be_bytes w32 (length octets))
+    → SendsBeginning u v (frame octets)
 sends_header u v octets s = record {
   sent = s.sent;
   unsent = s.unsent ++ octets;
@@ -23,25 +25,30 @@ sends_header u v octets s = record {
   grown = s.grown;
 }
 
-pub sends_octets : (u v w : Option (List ℕ)) (octets : List ℕ) → Appends u v (to_be_bytes w32 (length octets)) → SendsBeginning v w octets → SendsBeginning u w (frame octets)
+pub sends_octets : (u v w : Option (List ℕ)) (octets : List ℕ) → Appends u v (to_be_bytes w32 (length octets))
+    → SendsBeginning v w octets → SendsBeginning u w (frame octets)
 sends_octets u v w octets first s = record {
   sent = to_be_bytes w32 (length octets) ++ s.sent;
   unsent = s.unsent;
-  split = frame_is octets ∙ ap (λ rest. to_be_bytes w32 (length octets) ++ rest) s.split ∙ sym (append_assoc (to_be_bytes w32 (length octets)) s.sent s.unsent);
+  split = frame_is octets ∙ ap (λ rest. to_be_bytes w32 (length octets) ++ rest) s.split
+      ∙ sym (append_assoc (to_be_bytes w32 (length octets)) s.sent s.unsent);
   grown = Appends-trans u v w (to_be_bytes w32 (length octets)) s.sent first s.grown;
 }
 
-pub sends_frame : (u v w : Option (List ℕ)) (octets : List ℕ) → Appends u v (to_be_bytes w32 (length octets)) → Appends v w octets → Appends u w (frame octets)
+pub sends_frame : (u v w : Option (List ℕ)) (octets : List ℕ) → Appends u v (to_be_bytes w32 (length octets))
+    → Appends v w octets → Appends u w (frame octets)
 sends_frame u v w octets first second =
     let P : List ℕ → Type 0 = λ sent. Appends u w sent in
     subst P (sym (frame_is octets)) (Appends-trans u v w (to_be_bytes w32 (length octets)) octets first second)
 
 -- an answer's frame has at least five octets
-too_short : (received answer rest : List ℕ) → length received < 5 → IsAnswer answer → received ≡ frame answer ++ rest → ⊥
+too_short : (received answer rest : List ℕ) → length received < 5 → IsAnswer answer → received ≡ frame answer ++ rest
+    → ⊥
 too_short received answer rest short is same =
     absurd (omega (arith, is.some, short, ap length same, length-append (frame answer) rest, length-frame answer))
 
-pub receives_too_few : (u v : Option (List ℕ)) (received : List ℕ) → length received < 5 → Consumes u v received → ReceivesNoAnswer u v
+pub receives_too_few : (u v : Option (List ℕ)) (received : List ℕ) → length received < 5 → Consumes u v received
+    → ReceivesNoAnswer u v
 receives_too_few u v received short taken = record {
   received = received;
   few = omega (arith, short);
@@ -54,10 +61,15 @@ cut_answer : (count : ℕ) (part answer rest : List ℕ) → count < 2 ^ 32 → 
     → to_be_bytes w32 count ++ part ≡ frame answer ++ rest → ⊥
 cut_answer count part answer rest fits short is same =
     let header = to_be_bytes w32 (length answer) in
-    let regrouped : to_be_bytes w32 count ++ part ≡ header ++ (answer ++ rest) = same ∙ ap (λ front. front ++ rest) (frame_is answer) ∙ append_assoc header answer rest in
-    let headers : to_be_bytes w32 count ≡ header = sym (take-append_seam (to_be_bytes w32 count) part) ∙ ap (take 4) regrouped ∙ take-append_seam header (answer ++ rest) in
-    let parts : part ≡ answer ++ rest = sym (drop-append_seam (to_be_bytes w32 count) part) ∙ ap (drop 4) regrouped ∙ drop-append_seam header (answer ++ rest) in
-    let counts : count ≡ length answer = sym (from_be_bytes-to_be_bytes_4 count fits) ∙ ap (from_be_bytes w32) headers ∙ from_be_bytes-to_be_bytes_4 (length answer) (omega (arith, is.few)) in
+    let regrouped : to_be_bytes w32 count ++ part ≡ header ++ (answer ++ rest) =
+    same ∙ ap (λ front. front ++ rest) (frame_is answer) ∙ append_assoc header answer rest in
+    let headers : to_be_bytes w32 count ≡ header =
+    sym (take-append_seam (to_be_bytes w32 count) part) ∙ ap (take 4) regrouped
+    ∙ take-append_seam header (answer ++ rest) in
+    let parts : part ≡ answer ++ rest = sym (drop-append_seam (to_be_bytes w32 count) part) ∙ ap (drop 4) regrouped
+    ∙ drop-append_seam header (answer ++ rest) in
+    let counts : count ≡ length answer = sym (from_be_bytes-to_be_bytes_4 count fits) ∙ ap (from_be_bytes w32) headers
+    ∙ from_be_bytes-to_be_bytes_4 (length answer) (omega (arith, is.few)) in
     absurd (omega (arith, counts, short, ap length parts, length-append answer rest))
 
 pub receives_part : (u v w : Option (List ℕ)) (count : ℕ) (part : List ℕ) → count ≤ 4096 → length part < count
@@ -73,5 +85,6 @@ pub receives_frame : (u v w : Option (List ℕ)) (count : ℕ) (answer : List �
     → Consumes u v (to_be_bytes w32 count) → Consumes v w answer → Consumes u w (frame answer)
 receives_frame u v w count answer same first second =
     let P : List ℕ → Type 0 = λ taken. Consumes u w taken in
-    let whole : to_be_bytes w32 count ++ answer ≡ frame answer = ap (λ n. to_be_bytes w32 n ++ answer) (sym same) ∙ sym (frame_is answer) in
+    let whole : to_be_bytes w32 count ++ answer ≡ frame answer =
+    ap (λ n. to_be_bytes w32 n ++ answer) (sym same) ∙ sym (frame_is answer) in
     subst P whole (Consumes-trans u v w (to_be_bytes w32 count) answer first second)

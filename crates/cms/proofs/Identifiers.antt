@@ -2,7 +2,8 @@
 use Rattle.std.proofs.Common.{◌≡◌, pos, [], ◌∷◌, refl}
 use Rattle.der.specs.Number.{number_content}
 use Rattle.der.specs.ObjectIdentifier.{oid_content, subidentifier_octets}
-use Rattle.cms.specs.SignedData.{id_signed_data, id_ct_tst_info, id_content_type, id_message_digest, id_signing_certificate_v2, id_sha256}
+use Rattle.cms.specs.SignedData.{id_signed_data, id_ct_tst_info, id_content_type, id_message_digest}
+use Rattle.cms.specs.SignedData.{id_signing_certificate_v2, id_sha256}
 
 pub signed_data_content : oid_content id_signed_data ≡ 42 ∷ 134 ∷ 72 ∷ 134 ∷ 247 ∷ 13 ∷ 1 ∷ 7 ∷ 2 ∷ []
 unfolding id_signed_data subidentifier_octets
@@ -20,7 +21,8 @@ pub message_digest_content : oid_content id_message_digest ≡ 42 ∷ 134 ∷ 72
 unfolding id_message_digest subidentifier_octets
 message_digest_content = refl
 
-pub signing_certificate_content : oid_content id_signing_certificate_v2 ≡ 42 ∷ 134 ∷ 72 ∷ 134 ∷ 247 ∷ 13 ∷ 1 ∷ 9 ∷ 16 ∷ 2 ∷ 47 ∷ []
+pub signing_certificate_content : oid_content id_signing_certificate_v2 ≡ 42 ∷ 134 ∷ 72 ∷ 134 ∷ 247 ∷ 13 ∷ 1 ∷ 9 ∷ 16
+    ∷ 2 ∷ 47 ∷ []
 unfolding id_signing_certificate_v2 subidentifier_octets
 signing_certificate_content = refl
 

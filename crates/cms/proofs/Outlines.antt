@@ -1,13 +1,18 @@
 -- A certificate's and an algorithm's values are read as their parts, and what is read so is such a value.
-use Rattle.std.proofs.Common.{◌≡◌, ◌≢◌, ℕ, Bool, true, false, cond, ◌&&◌, List, Option, Some, None, refl, sym, ap, ◌∙◌, subst, eqb, arith}
+use Rattle.std.proofs.Common.{◌≡◌, ◌≢◌, ℕ, Bool, true, false, cond, ◌&&◌, List, Option, Some, None, refl, sym, ap, ◌∙◌}
+use Rattle.std.proofs.Common.{subst, eqb, arith}
 use Rattle.std.specs.Option.{option_and_then, option_map, is_some, IfSome, MatchOption}
 use Rattle.std.proofs.lemmas.Option.{option_and_then_some, cond_some, none-some, same_Some}
 use Rattle.std.proofs.lemmas.Bool.{eqb-true}
-use Rattle.der.specs.Node.{Node, primitive, constructed, Nodes, no_nodes, node, contents_of, components_of, identifier_of, first_of, take_under, is_end, IsFormed, AreFormed, IsLawful, encoding}
+use Rattle.der.specs.Node.{Node, primitive, constructed, Nodes, no_nodes, node, contents_of, components_of}
+use Rattle.der.specs.Node.{identifier_of, first_of, take_under, is_end, IsFormed, AreFormed, IsLawful, encoding}
 use Rattle.der.specs.Number.{is_shortest}
 use Rattle.der.specs.ObjectIdentifier.{oid_of, oid_content, IsOid}
-use Rattle.cms.specs.Certificate.{CertificateParts, with_version, serial_number, issuer_name, after_serial, after_issuer, tbs_certificate, certificate, IsCertificate, optional, algorithm_identifier, IsAlgorithm}
-use Rattle.cms.specs.Outline.{Outline, outline, sequence_at, serial_at, after_version, outline_of, is_optional, algorithm_of}
+use Rattle.cms.specs.Certificate.{CertificateParts, with_version, serial_number, issuer_name, after_serial}
+use Rattle.cms.specs.Certificate.{after_issuer, tbs_certificate, certificate, IsCertificate, optional}
+use Rattle.cms.specs.Certificate.{algorithm_identifier, IsAlgorithm}
+use Rattle.cms.specs.Outline.{Outline, outline, sequence_at, serial_at, after_version, outline_of, is_optional}
+use Rattle.cms.specs.Outline.{algorithm_of}
 
 contents_takes : (tag : ℕ) (n : Node) (c : List ℕ) → contents_of tag n ≡ Some c → n ≡ primitive tag c
 contents_takes tag (primitive t d) c e =
@@ -27,31 +32,43 @@ front_takes : (ns : Nodes) (found : Node × Nodes) → first_of ns ≡ Some foun
 front_takes no_nodes found e = cc
 front_takes (node first others) found e = cc
 
-sequence_takes : (ns : Nodes) (found : Node × Nodes) → sequence_at ns ≡ Some found → (inside : Nodes) × (ns ≡ node (constructed 48 inside) found.1) × (found.0 ≡ constructed 48 inside)
+sequence_takes : (ns : Nodes) (found : Node × Nodes) → sequence_at ns ≡ Some found
+    → (inside : Nodes) × (ns ≡ node (constructed 48 inside) found.1) × (found.0 ≡ constructed 48 inside)
 unfolding sequence_at
 sequence_takes ns found e = option_and_then_some _ (first_of ns) found e (λ first e1 r1.
     option_and_then_some _ (components_of 48 first.0) found r1 (λ inside e2 r2.
     let same : first ≡ found = cc in
     let is = components_takes 48 first.0 inside e2 in
-    let front = front_takes ns first e1 in
-    (inside, front ∙ ap (λ n. node n first.1) is ∙ ap (λ (f : Node × Nodes). node (constructed 48 inside) f.1) same, sym (ap (λ (f : Node × Nodes). f.0) same) ∙ is)))
+    let front = front_takes ns first e1 in (
+      inside,
+      front ∙ ap (λ n. node n first.1) is ∙ ap (λ (f : Node × Nodes). node (constructed 48 inside) f.1) same,
+      sym (ap (λ (f : Node × Nodes). f.0) same) ∙ is,
+    )))
 
 serial_takes : (ns : Nodes) (found : Node × Nodes) → serial_at ns ≡ Some found
-    → (octets : List ℕ) × (ns ≡ node (primitive 2 octets) found.1) × (found.0 ≡ primitive 2 octets) × (is_shortest octets ≡ true)
+    → (octets : List ℕ) × (ns ≡ node (primitive 2 octets) found.1) × (found.0 ≡ primitive 2 octets)
+    × (is_shortest octets ≡ true)
 unfolding serial_at
 serial_takes ns found e = option_and_then_some _ (first_of ns) found e (λ first e1 r1.
     option_and_then_some _ (contents_of 2 first.0) found r1 (λ octets e2 r2.
     let test = cond_some (is_shortest octets) first found r2 in
     let is = contents_takes 2 first.0 octets e2 in
-    let front = front_takes ns first e1 in
-    (octets, front ∙ ap (λ n. node n first.1) is ∙ ap (λ (f : Node × Nodes). node (primitive 2 octets) f.1) test.1, sym (ap (λ (f : Node × Nodes). f.0) test.1) ∙ is, test.0)))
+    let front = front_takes ns first e1 in (
+      octets,
+      front ∙ ap (λ n. node n first.1) is ∙ ap (λ (f : Node × Nodes). node (primitive 2 octets) f.1) test.1,
+      sym (ap (λ (f : Node × Nodes). f.0) test.1) ∙ is,
+      test.0,
+    )))
 
 under_zero : (n : Node) → identifier_of n ≡ 160 → IsFormed n → (inside : Nodes) × (n ≡ constructed 160 inside)
 under_zero (primitive t c) e formed = absurd (omega (arith, e, formed.1))
 under_zero (constructed t inside) e formed = (inside, ap (λ x. constructed x inside) e)
 
-version_cases : (b : Bool) (first : Node) (others : Nodes) → (b ≡ true → (inside : Nodes) × (first ≡ constructed 160 inside))
-    → (version : Option Nodes) × (node first others ≡ with_version version (cond {A = Option Node × Nodes} b (Some first, others) (None, node first others)).1)
+version_cases : (b : Bool) (first : Node) (others : Nodes)
+    → (b ≡ true → (inside : Nodes) × (first ≡ constructed 160 inside))
+    → (version : Option Nodes)
+    × (node first others
+    ≡ with_version version (cond {A = Option Node × Nodes} b (Some first, others) (None, node first others)).1)
 version_cases true first others is = let under = is refl in (Some under.0, ap (λ n. node n others) under.1)
 version_cases false first others is = (None, refl)
 
@@ -59,7 +76,8 @@ version_takes : (ns : Nodes) → AreFormed ns → (version : Option Nodes) × (n
 unfolding after_version
 version_takes no_nodes formed = (None, refl)
 version_takes (node first others) formed =
-    version_cases (eqb (identifier_of first) 160) first others (λ e. under_zero first (eqb-true (identifier_of first) 160 e) formed.0)
+    version_cases (eqb (identifier_of first) 160) first others
+    (λ e. under_zero first (eqb-true (identifier_of first) 160 e) formed.0)
 
 -- What is read as an outline is the outline of a certificate's parts.
 pub outline_takes : (n : Node) (found : Outline) → IsFormed n → outline_of n ≡ Some found
@@ -76,7 +94,8 @@ outline_takes n found formed e = option_and_then_some _ (components_of 48 n) fou
     let outer = components_takes 48 n members e1 in
     let front = front_takes members tbs e2 in
     let within = components_takes 48 tbs.0 inside e3 in
-    let whole : n ≡ constructed 48 (node (constructed 48 inside) tbs.1) = outer ∙ ap (constructed 48) (front ∙ ap (λ x. node x tbs.1) within) in
+    let whole : n ≡ constructed 48 (node (constructed 48 inside) tbs.1) =
+    outer ∙ ap (constructed 48) (front ∙ ap (λ x. node x tbs.1) within) in
     let all_formed = subst IsFormed whole formed in
     let version = version_takes inside all_formed.2.0.2 in
     let (digits, is_serial, at_serial, shortest) = serial_takes (after_version inside) serial e4 in
@@ -95,22 +114,35 @@ outline_takes n found formed e = option_and_then_some _ (components_of 48 n) fou
       after = tbs.1;
     } in
     let from_validity : issuer.1 ≡ after_issuer p = is_validity ∙ ap (node (constructed 48 in_validity)) is_subject in
-    let from_signature : serial.1 ≡ after_serial p = is_signature ∙ ap (node (constructed 48 in_signature)) (is_issuer ∙ ap (node (constructed 48 in_issuer)) from_validity) in
-    let from_serial : after_version inside ≡ node (serial_number p) (after_serial p) = is_serial ∙ ap (node (primitive 2 digits)) from_signature in
-    let tbs_is : inside ≡ with_version version.0 (node (serial_number p) (after_serial p)) = version.1 ∙ ap (with_version version.0) from_serial in
+    let from_signature : serial.1 ≡ after_serial p =
+    is_signature ∙ ap (node (constructed 48 in_signature)) (is_issuer
+    ∙ ap (node (constructed 48 in_issuer)) from_validity) in
+    let from_serial : after_version inside ≡ node (serial_number p) (after_serial p) =
+    is_serial ∙ ap (node (primitive 2 digits)) from_signature in
+    let tbs_is : inside ≡ with_version version.0 (node (serial_number p) (after_serial p)) =
+    version.1 ∙ ap (with_version version.0) from_serial in
     let certificate_is : n ≡ certificate p = whole ∙ ap (λ x. constructed 48 (node (constructed 48 x) tbs.1)) tbs_is in
-    let read : Outline = record { serial = serial.0; after_serial = serial.1; issuer = issuer.0; after_issuer = issuer.1; after = tbs.1 } in
+    let read : Outline =
+    record {
+      serial = serial.0;
+      after_serial = serial.1;
+      issuer = issuer.0;
+      after_issuer = issuer.1;
+      after = tbs.1;
+    } in
     let found_is : read ≡ found = cc in
     let outline_is : read ≡ outline p = cc in
     (p, certificate_is, shortest, sym found_is ∙ outline_is)))))))))
 
 outline_version : (p : CertificateParts) (version : Option Nodes) → is_shortest p.serial ≡ true
-    → outline_of (constructed 48 (node (constructed 48 (with_version version (node (serial_number p) (after_serial p)))) p.after)) ≡ Some (outline p)
+    → outline_of (constructed 48 (node (constructed 48 (with_version version (node (serial_number p) (after_serial p))))
+    p.after)) ≡ Some (outline p)
 unfolding outline_of serial_at sequence_at after_version
 outline_version p None shortest = rw shortest refl
 outline_version p (Some inside) shortest = rw shortest refl
 
-pub outline_of-certificate : (p : CertificateParts) → is_shortest p.serial ≡ true → outline_of (certificate p) ≡ Some (outline p)
+pub outline_of-certificate : (p : CertificateParts) → is_shortest p.serial ≡ true
+    → outline_of (certificate p) ≡ Some (outline p)
 outline_of-certificate p shortest = outline_version p p.version shortest
 
 optional_takes : (ns : Nodes) → is_optional ns ≡ true → (parameters : Option Node) × (ns ≡ optional parameters)
@@ -129,17 +161,24 @@ both true b e = (refl, e)
 both false b e = cc
 
 pub algorithm_takes : (n : Node) → algorithm_of n ≡ Some tt
-    → (octets : List ℕ) × (parameters : Option Node) × (n ≡ constructed 48 (node (primitive 6 octets) (optional parameters))) × (is_some (oid_of octets) ≡ true)
+    → (octets : List ℕ) × (parameters : Option Node)
+    × (n ≡ constructed 48 (node (primitive 6 octets) (optional parameters))) × (is_some (oid_of octets) ≡ true)
 unfolding algorithm_of
 algorithm_takes n e = option_and_then_some _ (components_of 48 n) tt e (λ members e1 r1.
     option_and_then_some _ (first_of members) tt r1 (λ first e2 r2.
     option_and_then_some _ (contents_of 6 first.0) tt r2 (λ octets e3 r3.
-    let tests = both (is_some (oid_of octets)) (is_optional first.1) (cond_some (is_some (oid_of octets) && is_optional first.1) tt tt r3).0 in
+    let tests = both (is_some (oid_of octets)) (is_optional first.1)
+    (cond_some (is_some (oid_of octets) && is_optional first.1) tt tt r3).0 in
     let rest = optional_takes first.1 tests.1 in
     let outer = components_takes 48 n members e1 in
     let front = front_takes members first e2 in
-    let is = contents_takes 6 first.0 octets e3 in
-    (octets, rest.0, outer ∙ ap (constructed 48) (front ∙ ap (λ x. node x first.1) is ∙ ap (node (primitive 6 octets)) rest.1), tests.0))))
+    let is = contents_takes 6 first.0 octets e3 in (
+      octets,
+      rest.0,
+      outer
+          ∙ ap (constructed 48) (front ∙ ap (λ x. node x first.1) is ∙ ap (node (primitive 6 octets)) rest.1),
+      tests.0,
+    ))))
 
 pub algorithm_of-identifier : (octets : List ℕ) (parameters : Option Node) → is_some (oid_of octets) ≡ true
     → algorithm_of (constructed 48 (node (primitive 6 octets) (optional parameters))) ≡ Some tt
@@ -148,17 +187,26 @@ algorithm_of-identifier octets parameters e = rw (e, is_optional-optional parame
 
 -- ---- what an outline's reader answers, seen by a view
 
-pub outline_found : {A : Type 0} (view : A → Outline) (r : Option A) (octets : List ℕ) (n : Node) → option_map view r ≡ outline_of n → IsLawful n → octets ≡ encoding n
+pub outline_found : {A : Type 0} (view : A → Outline) (r : Option A) (octets : List ℕ) (n : Node)
+    → option_map view r ≡ outline_of n → IsLawful n → octets ≡ encoding n
     → IfSome r (λ found. (p : CertificateParts) × (IsCertificate octets p × (view found ≡ outline p)))
 outline_found view None octets n e lawful is = tt
 outline_found view (Some a) octets n e lawful is =
-    let read = outline_takes n (view a) lawful.formed (sym e) in
-    (read.0, (record { lawful = subst IsLawful read.1 lawful; encoded = is ∙ ap encoding read.1; shortest = read.2 }, read.3))
+    let read = outline_takes n (view a) lawful.formed (sym e) in (
+      read.0,
+      (
+        record { lawful = subst IsLawful read.1 lawful; encoded = is ∙ ap encoding read.1; shortest = read.2 },
+        read.3,
+      ),
+    )
 
-pub outline_only : {A : Type 0} (view : A → Outline) (r : Option A) (n : Node) (p : CertificateParts) → option_map view r ≡ outline_of n → n ≡ certificate p
+pub outline_only : {A : Type 0} (view : A → Outline) (r : Option A) (n : Node) (p : CertificateParts)
+    → option_map view r ≡ outline_of n → n ≡ certificate p
     → is_shortest p.serial ≡ true → MatchOption r ⊥ (λ found. view found ≡ outline p)
-outline_only view None n p e is shortest = let all = e ∙ ap outline_of is ∙ outline_of-certificate p shortest in none-some (outline p) all
-outline_only view (Some a) n p e is shortest = let all = e ∙ ap outline_of is ∙ outline_of-certificate p shortest in same_Some (view a) (outline p) all
+outline_only view None n p e is shortest = let all = e ∙ ap outline_of is ∙ outline_of-certificate p shortest in
+    none-some (outline p) all
+outline_only view (Some a) n p e is shortest = let all = e ∙ ap outline_of is ∙ outline_of-certificate p shortest in
+    same_Some (view a) (outline p) all
 
 -- ---- algorithms
 
@@ -170,16 +218,25 @@ some_of : {A : Type 0} (o : Option A) → is_some o ≡ true → (x : A) × (o �
 some_of None e = cc
 some_of (Some x) e = (x, refl)
 
-pub algorithm_found : ((octets oid : List ℕ) → oid_of octets ≡ Some oid → IsOid oid × (octets ≡ oid_content oid)) → (octets : List ℕ) (n : Node) → IsLawful n → octets ≡ encoding n
+pub algorithm_found : ((octets oid : List ℕ) → oid_of octets ≡ Some oid → IsOid oid × (octets ≡ oid_content oid))
+    → (octets : List ℕ) (n : Node) → IsLawful n → octets ≡ encoding n
     → algorithm_of n ≡ Some tt → IsAlgorithm octets
 algorithm_found law octets n lawful is e =
     let read = algorithm_takes n e in
     let oid = some_of (oid_of read.0) read.3 in
     let content = law read.0 oid.0 oid.1 in
-    let same : n ≡ algorithm_identifier oid.0 read.1 = read.2 ∙ ap (λ c. constructed 48 (node (primitive 6 c) (optional read.1))) content.1 in
-    record { subidentifiers = oid.0; parameters = read.1; oid = content.0; lawful = subst IsLawful same lawful; encoded = is ∙ ap encoding same }
+    let same : n ≡ algorithm_identifier oid.0 read.1 =
+    read.2 ∙ ap (λ c. constructed 48 (node (primitive 6 c) (optional read.1))) content.1 in
+    record {
+      subidentifiers = oid.0;
+      parameters = read.1;
+      oid = content.0;
+      lawful = subst IsLawful same lawful;
+      encoded = is ∙ ap encoding same;
+    }
 
-pub algorithm_only : ((oid : List ℕ) → IsOid oid → oid_of (oid_content oid) ≡ Some oid) → (octets : List ℕ) (n : Node) (is : IsAlgorithm octets)
+pub algorithm_only : ((oid : List ℕ) → IsOid oid → oid_of (oid_content oid) ≡ Some oid)
+    → (octets : List ℕ) (n : Node) (is : IsAlgorithm octets)
     → n ≡ algorithm_identifier is.subidentifiers is.parameters → algorithm_of n ≡ Some tt
 algorithm_only law octets n is same =
     let known : is_some (oid_of (oid_content is.subidentifiers)) ≡ true = ap is_some (law is.subidentifiers is.oid) in

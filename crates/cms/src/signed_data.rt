@@ -2,7 +2,11 @@
 ghost use Rattle.std.specs.Prelude.{◌≡◌, ◌≤◌, ◌++◌, [], length, IfOk, IfErr, OnOk};
 ghost use Rattle.der.specs.Node.{element};
 ghost use Rattle.cms.specs.Grammar.{joined};
-ghost use Rattle.cms.specs.SignedData.{sha256_identifier, signing_certificate_v2, signed_attributes, issuer_and_serial_number, encapsulated_content_info, attribute_text as text_of_attributes, signer_info as info_of_signer, content_info as info_of_content, signed_data as data_signed, certificates, token as text_of_token};
+ghost use Rattle.cms.specs.SignedData.{sha256_identifier, signing_certificate_v2, signed_attributes};
+ghost use Rattle.cms.specs.SignedData.{issuer_and_serial_number, encapsulated_content_info};
+ghost use Rattle.cms.specs.SignedData.{attribute_text as text_of_attributes, signer_info as info_of_signer};
+ghost use Rattle.cms.specs.SignedData.{content_info as info_of_content, signed_data as data_signed, certificates};
+ghost use Rattle.cms.specs.SignedData.{token as text_of_token};
 ghost use Rattle.cms.specs.declared.fault.CmsFault.TheVariants.{Memory};
 
 use crate::algorithm::Algorithm;

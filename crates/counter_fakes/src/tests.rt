@@ -70,8 +70,8 @@ fn reader_and_writer_fail_when_told(rt: HostRuntime) -> Result<(), Fail> {
     Ok(())
 }
 
-/// How a framed signer fares whose ends give and take so many octets: whether it answers, how many faults it has counted
-/// after one more call, and how many octets were written.
+/// How a framed signer fares whose ends give and take so many octets: whether it answers, how many faults it has
+/// counted after one more call, and how many octets were written.
 fn framed(alloc: Global, given: u64, taken: usize) -> Result<(bool, u64, usize), Fail> {
     let reader = FailingReader::new(b"\x00\x00\x00\x03sig".as_slice(), Vec::new(alloc), given);
     let mut writer = FailingWriter::new(Vec::new(alloc), Vec::new(alloc), taken);

@@ -1,16 +1,23 @@
 -- Equal tables, up to the order of their rows, come from histories with equal views.
-use Rattle.std.proofs.Common.{◌≡◌, ℕ, ◌<◌, ◌≤◌, ◌+◌, ◌==◌, max, Bool, true, false, List, [], ◌∷◌, map, find, filter_map, Option, Some, None, option_map, refl, sym, ap, ◌∙◌, subst, subst₂, inl, inr, ◌⊎◌, arith, Contains, IsPermutation}
+use Rattle.std.proofs.Common.{◌≡◌, ℕ, ◌<◌, ◌≤◌, ◌+◌, ◌==◌, max, Bool, true, false, List, [], ◌∷◌, map, find, filter_map}
+use Rattle.std.proofs.Common.{Option, Some, None, option_map, refl, sym, ap, ◌∙◌, subst, subst₂, inl, inr, ◌⊎◌, arith}
+use Rattle.std.proofs.Common.{Contains, IsPermutation}
 use Rattle.std.proofs.lemmas.Bool.Decides.{eqb_tells}
 use Rattle.std.proofs.lemmas.List.Sorted.{Contains-permutation, IsPermutation-sym}
 use Rattle.std.proofs.Math.Nat.{le-max_left, le-max_right}
 use Rattle.std.specs.List.{AllByRecursion, list_any, range_with_len, cons_option}
-use Rattle.tables.specs.Tables.{StampRow, DepositRow, CalibrationRow, HoldRow, ReaderRow, Tables, is_stamp, is_deposit, is_deposit_of, is_reader_row}
+use Rattle.tables.specs.Tables.{StampRow, DepositRow, CalibrationRow, HoldRow, ReaderRow, Tables, is_stamp, is_deposit}
+use Rattle.tables.specs.Tables.{is_deposit_of, is_reader_row}
 use Rattle.store.specs.Alike.{HaveSameRows, AreAlike}
-use Rattle.store.specs.History.{History, ReservationValue, CalibrationValue, HoldValue, reservations, calibrations, holds, deposits, greatest_of, greatest_serial, last_gen_time, count_of_day, latest_calibration, is_held, token_of, stamp_of, stamps, stamp_at, reservation_at, stamps_between, deposit_at, deposit_under, is_of_day, first_of}
+use Rattle.store.specs.History.{History, ReservationValue, CalibrationValue, HoldValue, reservations, calibrations}
+use Rattle.store.specs.History.{holds, deposits, greatest_of, greatest_serial, last_gen_time, count_of_day}
+use Rattle.store.specs.History.{latest_calibration, is_held, token_of, stamp_of, stamps, stamp_at, reservation_at}
+use Rattle.store.specs.History.{stamps_between, deposit_at, deposit_under, is_of_day, first_of}
 use Rattle.store.specs.Rights.{is_reader, seen_by, listed, listed_at, listed_as, shown_to, deposit_with_stamp}
 use Rattle.store.specs.Sound.{IsSound, FitsReserved}
 use Rattle.store.specs.TablesOf.{tables_of, calibration_row, hold_row}
-use Rattle.store.proofs.Members.{IsFalling, IsSingle, member_here, member_after, member_cases, no_member, all_of, some_pass, none_pass, fails_each, true_or_false, find_none, find_single, found_member}
+use Rattle.store.proofs.Members.{IsFalling, IsSingle, member_here, member_after, member_cases, no_member, all_of}
+use Rattle.store.proofs.Members.{some_pass, none_pass, fails_each, true_or_false, find_none, find_single, found_member}
 use Rattle.store.proofs.Falling.{stamps_fall}
 use Rattle.store.proofs.Numbered.{numbered, numbers_fall, calibrations_are, holds_are}
 use Rattle.store.proofs.Stamps.{stamps_are}
@@ -35,27 +42,34 @@ falling_heads key x y xs ys f h w v =
       | inl same ↦ sym same
       | inr m ↦ elim (member_cases x y xs (v y (member_here y ys))) [
         | inl same ↦ same
-        | inr k ↦ absurd (let l = all_of (λ z. key z < key y) ys x h.0 m in let r = all_of (λ z. key z < key x) xs y f.0 k in omega (arith, l, r))
+        | inr k ↦ absurd (let l = all_of (λ z. key z < key y) ys x h.0 m in
+            let r = all_of (λ z. key z < key x) xs y f.0 k in omega (arith, l, r))
       ]
     ]
 
-falling_tails : {X : Type 0} (key : X → ℕ) (x y : X) (xs ys : List X) → x ≡ y → AllByRecursion (λ z. key z < key x) xs → Within (x ∷ xs) (y ∷ ys) → Within xs ys
+falling_tails : {X : Type 0} (key : X → ℕ) (x y : X) (xs ys : List X) → x ≡ y → AllByRecursion (λ z. key z < key x) xs
+    → Within (x ∷ xs) (y ∷ ys) → Within xs ys
 falling_tails key x y xs ys same below w z m =
     elim (member_cases y z ys (w z (member_after x z xs m))) [
-      | inl is ↦ absurd (let l = all_of (λ v. key v < key x) xs z below m in let e = ap key same in let f = ap key is in omega (arith, l, e, f))
+      | inl is ↦ absurd (let l = all_of (λ v. key v < key x) xs z below m in let e = ap key same in let f = ap key is in
+          omega (arith, l, e, f))
       | inr k ↦ k
     ]
 
-falling_same : {X : Type 0} (key : X → ℕ) (xs ys : List X) → IsFalling key xs → IsFalling key ys → Within xs ys → Within ys xs → xs ≡ ys
+falling_same : {X : Type 0} (key : X → ℕ) (xs ys : List X) → IsFalling key xs → IsFalling key ys → Within xs ys
+    → Within ys xs → xs ≡ ys
 falling_same key [] [] f h w v = refl
 falling_same key [] (y ∷ ys) f h w v = absurd (no_member y (v y (member_here y ys)))
 falling_same key (x ∷ xs) [] f h w v = absurd (no_member x (w x (member_here x xs)))
 falling_same key (x ∷ xs) (y ∷ ys) f h w v =
     let same : x ≡ y = falling_heads key x y xs ys f h w v in
-    let rest : xs ≡ ys = falling_same key xs ys f.1 h.1 (falling_tails key x y xs ys same f.0 w) (falling_tails key y x ys xs (sym same) h.0 v) in
+    let rest : xs ≡ ys =
+    falling_same key xs ys f.1 h.1 (falling_tails key x y xs ys same f.0 w)
+    (falling_tails key y x ys xs (sym same) h.0 v) in
     ap (λ z. z ∷ xs) same ∙ ap (λ zs. y ∷ zs) rest
 
-permuted_same : {X : Type 0} (key : X → ℕ) (xs ys : List X) → IsFalling key xs → IsFalling key ys → IsPermutation xs ys → xs ≡ ys
+permuted_same : {X : Type 0} (key : X → ℕ) (xs ys : List X) → IsFalling key xs → IsFalling key ys → IsPermutation xs ys
+    → xs ≡ ys
 permuted_same key xs ys f h p = falling_same key xs ys f h (within xs ys p) (back xs ys p)
 
 -- a test is passed in both or in neither
@@ -64,7 +78,8 @@ any_same p xs ys perm =
     elim (true_or_false (list_any p ys)) [
       | inl some ↦ elim (true_or_false (list_any p xs)) [
         | inl there ↦ there ∙ sym some
-        | inr none ↦ absurd (let e : list_any p ys ≡ false = none_pass p ys (λ y m. fails_each p xs y none (back xs ys perm y m)) in cc)
+        | inr none ↦ absurd (let e : list_any p ys
+            ≡ false = none_pass p ys (λ y m. fails_each p xs y none (back xs ys perm y m)) in cc)
       ]
       | inr none ↦ none_pass p xs (λ x m. fails_each p ys x none (within xs ys perm x m)) ∙ sym none
     ]
@@ -85,19 +100,31 @@ find_same {X} p xs ys single perm = go (find p xs) refl where
         | inl t ↦ absurd (let some : Some x ≡ None = sym (rw t refl) ∙ e in cc)
         | inr f ↦ rw f (any_of_find p xs (sym (rw f refl) ∙ e))
       ]
-  go (Some x) e = let there = found_member p xs x e in e ∙ sym (find_single p ys x single (within xs ys perm x there.0) there.1)
+  go (Some x) e = let there = found_member p xs x e in
+      e ∙ sym (find_single p ys x single (within xs ys perm x there.0) there.1)
 
 -- a reservation without its token and day
 unsealed : StampRow → ReservationValue
-unsealed s = record { serial = s.serial; account = s.account; gen_time = s.gen_time; policy = s.policy; algorithm = s.algorithm; digest = s.digest; request = s.request; tst = s.tst }
+unsealed s = record {
+  serial = s.serial;
+  account = s.account;
+  gen_time = s.gen_time;
+  policy = s.policy;
+  algorithm = s.algorithm;
+  digest = s.digest;
+  request = s.request;
+  tst = s.tst;
+}
 
-reserved_of : (b : History) (rs : List ReservationValue) → map unsealed (map (λ r. stamp_of (token_of r.serial b) r) rs) ≡ rs
+reserved_of : (b : History) (rs : List ReservationValue) → map unsealed (map (λ r. stamp_of (token_of r.serial b) r) rs)
+    ≡ rs
 unfolding unsealed
 reserved_of b [] = refl
 reserved_of b (r ∷ rs) = ap (λ zs. r ∷ zs) (reserved_of b rs)
 
 found_stamp : (b : History) (n : ℕ) (rs : List ReservationValue)
-    → find (is_stamp n) (map (λ r. stamp_of (token_of r.serial b) r) rs) ≡ option_map (stamp_of (token_of n b)) (find (λ r. r.serial == n) rs)
+    → find (is_stamp n) (map (λ r. stamp_of (token_of r.serial b) r) rs)
+    ≡ option_map (stamp_of (token_of n b)) (find (λ r. r.serial == n) rs)
 found_stamp b n [] = refl
 found_stamp b n (r ∷ rs) =
     elim (eqb_tells r.serial n) [
@@ -105,20 +132,26 @@ found_stamp b n (r ∷ rs) =
       | inr f ↦ rw f.0 (found_stamp b n rs)
     ]
 
-unnumbered : {X Y : Type 0} (row : X → ℕ → Y) (from : Y → X) → ((x : X) (n : ℕ) → from (row x n) ≡ x) → (xs : List X) → map from (numbered row xs) ≡ xs
+unnumbered : {X Y : Type 0} (row : X → ℕ → Y) (from : Y → X) → ((x : X) (n : ℕ) → from (row x n) ≡ x) → (xs : List X)
+    → map from (numbered row xs) ≡ xs
 unnumbered row from is [] = refl
-unnumbered row from is (x ∷ xs) = ap (λ z. z ∷ map from (numbered row xs)) (is x _) ∙ ap (λ zs. x ∷ zs) (unnumbered row from is xs)
+unnumbered row from is (x ∷ xs) =
+    ap (λ z. z ∷ map from (numbered row xs)) (is x _) ∙ ap (λ zs. x ∷ zs) (unnumbered row from is xs)
 
-numbered_same : {X Y : Type 0} (row : X → ℕ → Y) (key : Y → ℕ) (from : Y → X) → ((x : X) (n : ℕ) → key (row x n) ≡ n) → ((x : X) (n : ℕ) → from (row x n) ≡ x)
+numbered_same : {X Y : Type 0} (row : X → ℕ → Y) (key : Y → ℕ) (from : Y → X) → ((x : X) (n : ℕ) → key (row x n) ≡ n)
+    → ((x : X) (n : ℕ) → from (row x n) ≡ x)
     → (xs ys : List X) → IsPermutation (numbered row xs) (numbered row ys) → xs ≡ ys
 numbered_same row key from keyed is xs ys p =
-    let rows = permuted_same key (numbered row xs) (numbered row ys) (numbers_fall row key keyed xs) (numbers_fall row key keyed ys) p in
+    let rows = permuted_same key (numbered row xs) (numbered row ys) (numbers_fall row key keyed xs)
+    (numbers_fall row key keyed ys) p in
     sym (unnumbered row from is xs) ∙ ap (map from) rows ∙ unnumbered row from is ys
 
-filter_map_same : {X Y : Type 0} (f h : X → Option Y) → ((x : X) → f x ≡ h x) → (xs : List X) → filter_map f xs ≡ filter_map h xs
+filter_map_same : {X Y : Type 0} (f h : X → Option Y) → ((x : X) → f x ≡ h x) → (xs : List X)
+    → filter_map f xs ≡ filter_map h xs
 filter_map_same f h same [] = refl
 filter_map_same {X} {Y} f h same (x ∷ xs) =
-    ap (λ (o : Option Y). cons_option o (filter_map f xs)) (same x) ∙ ap (cons_option (h x)) (filter_map_same f h same xs)
+    ap (λ (o : Option Y). cons_option o (filter_map f xs)) (same x)
+    ∙ ap (cons_option (h x)) (filter_map_same f h same xs)
 
 module _ (b d : History) (sound : IsSound b) (other : IsSound d) (rows : HaveSameRows (tables_of b) (tables_of d)) where
   stamps_same : stamps b ≡ stamps d
@@ -127,30 +160,39 @@ module _ (b d : History) (sound : IsSound b) (other : IsSound d) (rows : HaveSam
       (subst₂ (λ (xs ys : List StampRow). IsPermutation xs ys) (stamps_are b sound) (stamps_are d other) rows.stamps)
 
   reservations_same : reservations b ≡ reservations d
-  reservations_same = sym (reserved_of b (reservations b)) ∙ ap (map unsealed) stamps_same ∙ reserved_of d (reservations d)
+  reservations_same = sym (reserved_of b (reservations b)) ∙ ap (map unsealed) stamps_same
+      ∙ reserved_of d (reservations d)
 
   calibrations_same : calibrations b ≡ calibrations d
   calibrations_same =
-      numbered_same calibration_row (λ row. row.n) (λ row. record { reading = row.reading; offset = row.offset; uncertainty = row.uncertainty }) (λ x n. refl) (λ x n. refl)
+      numbered_same calibration_row (λ row. row.n)
+      (λ row. record { reading = row.reading; offset = row.offset; uncertainty = row.uncertainty }) (λ x n. refl)
+      (λ x n. refl)
       (calibrations b) (calibrations d)
-      (subst₂ (λ (xs ys : List CalibrationRow). IsPermutation xs ys) (calibrations_are b) (calibrations_are d) rows.calibrations)
+      (subst₂ (λ (xs ys : List CalibrationRow). IsPermutation xs ys) (calibrations_are b) (calibrations_are d)
+      rows.calibrations)
 
   holds_same : holds b ≡ holds d
   holds_same =
-      numbered_same hold_row (λ row. row.n) (λ row. record { from = row.from; to = row.to }) (λ x n. refl) (λ x n. refl) (holds b) (holds d)
+      numbered_same hold_row (λ row. row.n) (λ row. record { from = row.from; to = row.to }) (λ x n. refl) (λ x n. refl)
+      (holds b) (holds d)
       (subst₂ (λ (xs ys : List HoldRow). IsPermutation xs ys) (holds_are b) (holds_are d) rows.holds)
 
   deposits_permuted : IsPermutation (deposits b) (deposits d)
-  deposits_permuted = subst₂ (λ (xs ys : List DepositRow). IsPermutation xs ys) (deposits_are b) (deposits_are d) rows.deposits
+  deposits_permuted = subst₂ (λ (xs ys : List DepositRow). IsPermutation xs ys) (deposits_are b) (deposits_are d)
+      rows.deposits
 
   stamp_same : (n : ℕ) → stamp_at n b ≡ stamp_at n d
-  stamp_same n = sym (found_stamp b n (reservations b)) ∙ ap (find (is_stamp n)) stamps_same ∙ found_stamp d n (reservations d)
+  stamp_same n = sym (found_stamp b n (reservations b)) ∙ ap (find (is_stamp n)) stamps_same
+      ∙ found_stamp d n (reservations d)
 
   deposit_same : (n : ℕ) → deposit_at n b ≡ deposit_at n d
   deposit_same n = find_same (is_deposit n) (deposits b) (deposits d) (single_number d n other) deposits_permuted
 
   under_same : (owner reference : List ℕ) → deposit_under owner reference b ≡ deposit_under owner reference d
-  under_same owner reference = find_same (is_deposit_of owner reference) (deposits b) (deposits d) (single_reference d owner reference other) deposits_permuted
+  under_same owner reference =
+      find_same (is_deposit_of owner reference) (deposits b) (deposits d) (single_reference d owner reference other)
+      deposits_permuted
 
   reader_same : (n : ℕ) (a : List ℕ) → is_reader n a b ≡ is_reader n a d
   reader_same n a = sym (readers_are b n a) ∙ any_same (is_reader_row n a) _ _ rows.readers ∙ readers_are d n a
@@ -190,6 +232,7 @@ not_above (x ∷ rs) r m =
     let left : x.serial ≤ max x.serial (greatest_of rs) = le-max_left _ _ in
     let right : greatest_of rs ≤ max x.serial (greatest_of rs) = le-max_right _ _ in
     elim (member_cases x r rs m) [
-      | inl same ↦ (let e : x.serial ≡ r.serial = ap (λ (v : ReservationValue). v.serial) same in omega (arith, left, e))
+      | inl same ↦ (let e : x.serial ≡ r.serial = ap (λ (v : ReservationValue). v.serial) same in
+          omega (arith, left, e))
       | inr k ↦ (let rest = not_above rs r k in omega (arith, right, rest))
     ]

@@ -21,17 +21,20 @@ looks g old new reads = record {
 -- a look-up, then a commit that fails
 pub crash_after : {S : Type 0} (g : Ghosts S) (entry : Entry) (step : Tables → Tables) (old mid new : BaseValue S)
     → OnlyReads g old mid → (IsHonest g new → IsHonest g mid)
-    → (IsHonest g new → (db : Trees) → Recovers g new db → Recovers g mid db ⊎ ((t : Tables) → Keeps g t mid → Holds (step t) db))
+    → (IsHonest g new → (db : Trees) → Recovers g new db → Recovers g mid db
+    ⊎ ((t : Tables) → Keeps g t mid → Holds (step t) db))
     → (IsHonest g mid → (b : History) → Stands g b old → step (tables_of b) ≡ tables_of (entry ∷ b))
     → LeavesOrAdds g entry old new
 crash_after g entry step old mid new reads honest crash same h db r =
     elim (crash h db r) [
       | inl before ↦ inl (reads.leaves (honest h) db before)
-      | inr adds ↦ inr (λ b s fits. subst (λ t. Holds t db) (same (honest h) b s) (adds (tables_of b) (reads.kept (tables_of b) s.kept)))
+      | inr adds ↦ inr (λ b s fits. subst (λ t. Holds t db) (same (honest h) b s)
+          (adds (tables_of b) (reads.kept (tables_of b) s.kept)))
     ]
 
 -- a look-up, then a commit
-pub adds_after : {S : Type 0} (g : Ghosts S) (entry : Entry) (step : Tables → Tables) (old mid new : BaseValue S) (b : History)
+pub adds_after : {S : Type 0} (g : Ghosts S) (entry : Entry) (step : Tables → Tables) (old mid new : BaseValue S)
+    (b : History)
     → OnlyReads g old mid → (IsHonest g new → IsHonest g mid)
     → ((t : Tables) → Keeps g t mid → Keeps g (step t) new)
     → (IsHonest g mid → (b : History) → Stands g b old → step (tables_of b) ≡ tables_of (entry ∷ b))
@@ -43,27 +46,35 @@ adds_after g entry step old mid new b reads honest ok same s fits = record {
 }
 
 -- what a store's own field says is said of the store
-pub looks_now : {S : Type 0} (g : Ghosts S) (seen old new : BaseValue S) → seen ≡ old → OnlyReads g seen new → OnlyLooks g old new
+pub looks_now : {S : Type 0} (g : Ghosts S) (seen old new : BaseValue S) → seen ≡ old → OnlyReads g seen new
+    → OnlyLooks g old new
 looks_now g seen old new e reads = subst (λ v. OnlyLooks g v new) e (looks g seen new reads)
 
-pub reads_now : {S : Type 0} (g : Ghosts S) (seen old new : BaseValue S) → seen ≡ old → OnlyReads g seen new → OnlyReads g old new
+pub reads_now : {S : Type 0} (g : Ghosts S) (seen old new : BaseValue S) → seen ≡ old → OnlyReads g seen new
+    → OnlyReads g old new
 reads_now g seen old new e reads = subst (λ v. OnlyReads g v new) e reads
 
-pub kept_seen : {S : Type 0} (g : Ghosts S) (seen old : BaseValue S) (b : History) → seen ≡ old → Stands g b old → Keeps g (tables_of b) seen
+pub kept_seen : {S : Type 0} (g : Ghosts S) (seen old : BaseValue S) (b : History) → seen ≡ old → Stands g b old
+    → Keeps g (tables_of b) seen
 kept_seen g seen old b e s = subst (λ v. Keeps g (tables_of b) v) (sym e) s.kept
 
 -- a commit that fails after a look-up leaves the history
-pub err_after : {S : Type 0} (g : Ghosts S) (old mid new : BaseValue S) (b : History) → OnlyReads g old mid → ((t : Tables) → Keeps g t mid → Keeps g t new)
+pub err_after : {S : Type 0} (g : Ghosts S) (old mid new : BaseValue S) (b : History) → OnlyReads g old mid
+    → ((t : Tables) → Keeps g t mid → Keeps g t new)
     → Stands g b old → Stands g b new
-err_after g old mid new b reads err s = record { sound = s.sound; kept = err (tables_of b) (reads.kept (tables_of b) s.kept) }
+err_after g old mid new b reads err s =
+    record { sound = s.sound; kept = err (tables_of b) (reads.kept (tables_of b) s.kept) }
 
-pub err_looked : {S : Type 0} (g : Ghosts S) (old mid new : BaseValue S) (b : History) → OnlyLooks g old mid → ((t : Tables) → Keeps g t mid → Keeps g t new)
+pub err_looked : {S : Type 0} (g : Ghosts S) (old mid new : BaseValue S) (b : History) → OnlyLooks g old mid
+    → ((t : Tables) → Keeps g t mid → Keeps g t new)
     → Stands g b old → Stands g b new
 err_looked g old mid new b looks err s = record { sound = s.sound; kept = err (tables_of b) (looks.stands b s).kept }
 
 -- one commit
-pub crash_now : {S : Type 0} (g : Ghosts S) (entry : Entry) (step : Tables → Tables) (seen old new : BaseValue S) → seen ≡ old
-    → (IsHonest g new → (db : Trees) → Recovers g new db → Recovers g seen db ⊎ ((t : Tables) → Keeps g t seen → Holds (step t) db))
+pub crash_now : {S : Type 0} (g : Ghosts S) (entry : Entry) (step : Tables → Tables) (seen old new : BaseValue S)
+    → seen ≡ old
+    → (IsHonest g new → (db : Trees) → Recovers g new db → Recovers g seen db
+    ⊎ ((t : Tables) → Keeps g t seen → Holds (step t) db))
     → ((b : History) → step (tables_of b) ≡ tables_of (entry ∷ b)) → LeavesOrAdds g entry old new
 crash_now g entry step seen old new e crash same h db r =
     elim (crash h db r) [
@@ -72,8 +83,10 @@ crash_now g entry step seen old new e crash same h db r =
     ]
 
 -- a look-up of the store itself, then a commit
-pub crash_looked : {S : Type 0} (g : Ghosts S) (entry : Entry) (step : Tables → Tables) (old mid new : BaseValue S) → OnlyLooks g old mid → (IsHonest g new → IsHonest g mid)
-    → (IsHonest g new → (db : Trees) → Recovers g new db → Recovers g mid db ⊎ ((t : Tables) → Keeps g t mid → Holds (step t) db))
+pub crash_looked : {S : Type 0} (g : Ghosts S) (entry : Entry) (step : Tables → Tables) (old mid new : BaseValue S)
+    → OnlyLooks g old mid → (IsHonest g new → IsHonest g mid)
+    → (IsHonest g new → (db : Trees) → Recovers g new db → Recovers g mid db
+    ⊎ ((t : Tables) → Keeps g t mid → Holds (step t) db))
     → ((b : History) → step (tables_of b) ≡ tables_of (entry ∷ b)) → LeavesOrAdds g entry old new
 crash_looked g entry step old mid new looks honest crash same h db r =
     elim (crash h db r) [
@@ -86,5 +99,6 @@ pub on_err : {A E : Type 0} (r : Result A E) (P : Type 0) → P → OnErr r P
 on_err (Ok a) P p = tt
 on_err (Err e) P p = p
 
-pub looked_seen : {S : Type 0} (g : Ghosts S) (old seen new : BaseValue S) → seen ≡ new → OnlyLooks g old new → OnlyLooks g old seen
+pub looked_seen : {S : Type 0} (g : Ghosts S) (old seen new : BaseValue S) → seen ≡ new → OnlyLooks g old new
+    → OnlyLooks g old seen
 looked_seen g old seen new e looks = subst (λ v. OnlyLooks g old v) (sym e) looks

@@ -12,9 +12,13 @@ use Rattle.store.specs.Opening.{LeavesFiles}
 use Rattle.store.specs.Stands.{Stands}
 use Rattle.store.specs.TablesOf.{tables_of}
 
-pub leaves_files : {D : Type 0} {g : Ghosts D} (store : BaseValue (FileStore D g)) (files : Files D) (b : History) → IsCopied store.conn files → Stands over_files b store
+pub leaves_files : {D : Type 0} {g : Ghosts D} (store : BaseValue (FileStore D g)) (files : Files D) (b : History)
+    → IsCopied store.conn files → Stands over_files b store
     → LeavesFiles g b files
 leaves_files store files b copied s =
     let kept = s.kept copied.was_clean copied.was_open in
     let holds = subst (λ (d : Database). Holds (tables_of b) d.trees) kept.settled kept.holds in
-    record { seen = ((file_state store.conn).committed.trees, holds, copied.seen); left = λ image may. ((file_state store.conn).committed.trees, holds, copied.left image may) }
+    record {
+      seen = ((file_state store.conn).committed.trees, holds, copied.seen);
+      left = λ image may. ((file_state store.conn).committed.trees, holds, copied.left image may);
+    }

@@ -1,5 +1,6 @@
 -- From what the tables answer to what the look-ups of deposits answer.
-use Rattle.std.proofs.Common.{◌≡◌, ℕ, Bool, true, false, List, Option, Some, None, option_map, option_and_then, refl, sym, ap, ◌∙◌, subst, string_bytes}
+use Rattle.std.proofs.Common.{◌≡◌, ℕ, Bool, true, false, List, Option, Some, None, option_map, option_and_then, refl}
+use Rattle.std.proofs.Common.{sym, ap, ◌∙◌, subst, string_bytes}
 use Rattle.tables.specs.Found.{IsFoundAs}
 use Rattle.tables.specs.Tables.{DepositRow, StampRow, is_stamp, is_deposit}
 use Rattle.tables.specs.Queries.{ShowsStamp, ShowsDeposit, ShowsLabel, ShowsOrigin, stamp_view, deposit_view, is_owned}
@@ -12,7 +13,8 @@ use Rattle.store.specs.Rights.{ListedValue, deposit_with_stamp}
 use Rattle.store.specs.Sound.{IsSound}
 use Rattle.store.specs.Steps.{IsAskedFor, IsOriginOf, listing_at}
 use Rattle.store.specs.TablesOf.{tables_of}
-use Rattle.store.proofs.DepositRows.{deposit_view_of, stamp_view_of, origin_view_of, same_deposit, same_stamp, unreserved_listing, unlabelled_listing, labelled_listing}
+use Rattle.store.proofs.DepositRows.{deposit_view_of, stamp_view_of, origin_view_of, same_deposit, same_stamp}
+use Rattle.store.proofs.DepositRows.{unreserved_listing, unlabelled_listing, labelled_listing}
 
 -- ---- a deposit with its stamp
 

@@ -1,5 +1,6 @@
 -- Serial numbers fall along a history, newest entry first: look-ups of stamps in the tables are the history's.
-use Rattle.std.proofs.Common.{◌≡◌, ℕ, ◌<◌, ◌≤◌, ◌+◌, ◌==◌, max, Bool, true, false, List, [], ◌∷◌, map, find, Option, Some, None, option_map, refl, sym, ap, ◌∙◌, subst, inl, inr, arith, Contains}
+use Rattle.std.proofs.Common.{◌≡◌, ℕ, ◌<◌, ◌≤◌, ◌+◌, ◌==◌, max, Bool, true, false, List, [], ◌∷◌, map, find, Option}
+use Rattle.std.proofs.Common.{Some, None, option_map, refl, sym, ap, ◌∙◌, subst, inl, inr, arith, Contains}
 use Rattle.std.specs.List.{AllByRecursion}
 use Rattle.std.proofs.lemmas.Bool.{eqb-true}
 use Rattle.std.proofs.Math.Nat.{le-max_left, le-max_right}
@@ -7,13 +8,16 @@ use Rattle.tables.specs.Tables.{StampRow, Tables, is_stamp}
 use Rattle.tables.specs.Found.{IsGreatestAs}
 use Rattle.tables.specs.Queries.{ShowsLast}
 use Rattle.tables.specs.declared.rows.LastStamp.{LastStamp}
-use Rattle.store.specs.History.{Entry, Reserved, Sealed, Deposited, Calibrated, Held, Granted, Revoked, History, ReservationValue, reservations, reservation_at, greatest_of, greatest_serial, last_gen_time, token_of, stamp_of, stamps, first_of, stamp_at}
+use Rattle.store.specs.History.{Entry, Reserved, Sealed, Deposited, Calibrated, Held, Granted, Revoked, History}
+use Rattle.store.specs.History.{ReservationValue, reservations, reservation_at, greatest_of, greatest_serial}
+use Rattle.store.specs.History.{last_gen_time, token_of, stamp_of, stamps, first_of, stamp_at}
 use Rattle.store.specs.Sound.{Fits, FitsReserved, IsSound}
 use Rattle.store.specs.TablesOf.{tables_of}
 use Rattle.store.specs.Values.{last_of}
 use Rattle.store.specs.Steps.{last_from}
 use Rattle.store.specs.declared.values.Last.{Last}
-use Rattle.store.proofs.Members.{IsFalling, IsFirstAs, falling_map, greatest_is_first, member_cases, all_of, falling_single, IsSingle}
+use Rattle.store.proofs.Members.{IsFalling, IsFirstAs, falling_map, greatest_is_first, member_cases, all_of}
+use Rattle.store.proofs.Members.{falling_single, IsSingle}
 use Rattle.store.proofs.Stamps.{stamps_are}
 
 -- none has a serial number above the greatest
@@ -35,14 +39,16 @@ reservations_fall (Granted n a ∷ b) s = reservations_fall b s.1
 reservations_fall (Revoked n a ∷ b) s = reservations_fall b s.1
 
 pub stamps_fall : (b : History) → IsSound b → IsFalling (λ s. s.serial) (stamps b)
-stamps_fall b s = falling_map (λ s. s.serial) (λ r. stamp_of (token_of r.serial b) r) (reservations b) (reservations_fall b s)
+stamps_fall b s = falling_map (λ s. s.serial) (λ r. stamp_of (token_of r.serial b) r) (reservations b)
+    (reservations_fall b s)
 
 -- the newest has the greatest serial number
 greatest_below : (rs : List ReservationValue) (n : ℕ) → AllByRecursion (λ r. r.serial < n) rs → greatest_of rs ≤ n
 greatest_below [] n all = omega arith
 greatest_below (r ∷ rs) n all = let rest = greatest_below rs n all.1 in omega (arith, all.0, rest)
 
-pub newest_greatest : (rs : List ReservationValue) (r : ReservationValue) → IsFalling (λ r. r.serial) rs → first_of rs ≡ Some r → greatest_of rs ≡ r.serial
+pub newest_greatest : (rs : List ReservationValue) (r : ReservationValue) → IsFalling (λ r. r.serial) rs
+    → first_of rs ≡ Some r → greatest_of rs ≡ r.serial
 newest_greatest [] r fall e = cc
 newest_greatest (x ∷ rs) r fall e =
     let rest = greatest_below rs x.serial fall.0 in
@@ -62,7 +68,8 @@ last_of_first b (r ∷ rs) (Some last) fall (row, is, shows) =
     let gen_time : r.gen_time ≡ row.gen_time = ap (λ (v : StampRow). v.gen_time) row_is in
     rw greatest (rw shows (rw serial (rw gen_time refl)))
 
-pub last_view : (b : History) (answer : Option LastStamp) → IsSound b → IsGreatestAs ShowsLast (λ row. row.serial) (tables_of b).stamps answer
+pub last_view : (b : History) (answer : Option LastStamp) → IsSound b
+    → IsGreatestAs ShowsLast (λ row. row.serial) (tables_of b).stamps answer
     → last_from answer ≡ last_of b
 last_view b answer s found =
     let P : List StampRow → Type 0 = λ rows. IsGreatestAs ShowsLast (λ row. row.serial) rows answer in

@@ -1,5 +1,7 @@
 -- Members of a list: where they stand, and searches that find one.
-use Rattle.std.proofs.Common.{◌≡◌, ◌≢◌, ℕ, zero, suc, ◌<◌, ◌≤◌, ◌+◌, ◌==◌, Bool, true, false, cond, not, ◌&&◌, ◌||◌, List, [], ◌∷◌, length, map, filter, find, get_or, Option, Some, None, refl, sym, ap, ◌∙◌, subst, inl, inr, ◌⊎◌, arith, Contains, add-one}
+use Rattle.std.proofs.Common.{◌≡◌, ◌≢◌, ℕ, zero, suc, ◌<◌, ◌≤◌, ◌+◌, ◌==◌, Bool, true, false, cond, not, ◌&&◌, ◌||◌}
+use Rattle.std.proofs.Common.{List, [], ◌∷◌, length, map, filter, find, get_or, Option, Some, None, refl, sym, ap, ◌∙◌}
+use Rattle.std.proofs.Common.{subst, inl, inr, ◌⊎◌, arith, Contains, add-one}
 use Rattle.std.specs.List.{AllByRecursion, list_any}
 use Rattle.tables.specs.Found.{IsFoundAs, IsGreatestAs}
 use Rattle.store.specs.History.{first_of}
@@ -50,7 +52,8 @@ some_pass p (x ∷ xs) y m e =
       or_true true = refl
       or_true false = refl
 
-pub none_pass : {X : Type 0} (p : X → Bool) (xs : List X) → ((y : X) → Contains xs y → p y ≡ false) → list_any p xs ≡ false
+pub none_pass : {X : Type 0} (p : X → Bool) (xs : List X) → ((y : X) → Contains xs y → p y ≡ false)
+    → list_any p xs ≡ false
 none_pass p [] f = refl
 none_pass p (x ∷ xs) f = rw (f x (member_here x xs)) (none_pass p xs (λ y m. f y (member_after x y xs m)))
 
@@ -76,7 +79,8 @@ found_member p (x ∷ xs) y e =
     ]
 
 -- a search finds a member that passes, where there is one
-find_some : {X : Type 0} (p : X → Bool) (xs : List X) (y : X) → Contains xs y → p y ≡ true → (x : X) × (find p xs ≡ Some x)
+find_some : {X : Type 0} (p : X → Bool) (xs : List X) (y : X) → Contains xs y → p y ≡ true
+    → (x : X) × (find p xs ≡ Some x)
 find_some p [] y m e = absurd (no_member y m)
 find_some p (x ∷ xs) y m e =
     elim (true_or_false (p x)) [
@@ -87,7 +91,8 @@ find_some p (x ∷ xs) y m e =
       later f = elim (member_cases x y xs m) [ inl same ↦ (let t = ap p same ∙ e in cc) | inr m ↦ m ]
 
 -- the only one that passes is the one that is found
-pub find_single : {X : Type 0} (p : X → Bool) (xs : List X) (y : X) → IsSingle p xs → Contains xs y → p y ≡ true → find p xs ≡ Some y
+pub find_single : {X : Type 0} (p : X → Bool) (xs : List X) (y : X) → IsSingle p xs → Contains xs y → p y ≡ true
+    → find p xs ≡ Some y
 find_single p xs y single m e =
     let found = find_some p xs y m e in
     let there = found_member p xs found.0 found.1 in
@@ -98,24 +103,29 @@ abbrev pub IsFalling : {X : Type 0} → (X → ℕ) → List X → Type 0
 IsFalling key [] = Unit {0}
 IsFalling key (x ∷ xs) = AllByRecursion (λ y. key y < key x) xs × IsFalling key xs
 
-pub falling_single : {X : Type 0} (key : X → ℕ) (xs : List X) (x y : X) → IsFalling key xs → Contains xs x → Contains xs y → key x ≡ key y → x ≡ y
+pub falling_single : {X : Type 0} (key : X → ℕ) (xs : List X) (x y : X) → IsFalling key xs → Contains xs x
+    → Contains xs y → key x ≡ key y → x ≡ y
 falling_single key [] x y f m k e = absurd (no_member x m)
 falling_single key (z ∷ xs) x y f m k e =
     elim (member_cases z x xs m) [
       | inl zx ↦ (elim (member_cases z y xs k) [
         | inl zy ↦ sym zx ∙ zy
-        | inr k ↦ absurd (let l = all_of (λ v. key v < key z) xs y f.0 k in let same = ap key zx in omega (arith, l, same, e))
+        | inr k ↦ absurd (let l = all_of (λ v. key v < key z) xs y f.0 k in let same = ap key zx in
+            omega (arith, l, same, e))
       ])
       | inr m ↦ (elim (member_cases z y xs k) [
-        | inl zy ↦ absurd (let l = all_of (λ v. key v < key z) xs x f.0 m in let same = ap key zy in omega (arith, l, same, e))
+        | inl zy ↦ absurd (let l = all_of (λ v. key v < key z) xs x f.0 m in let same = ap key zy in
+            omega (arith, l, same, e))
         | inr k ↦ falling_single key xs x y f.1 m k e
       ])
     ]
 
-pub falling_map : {X Y : Type 0} (key : Y → ℕ) (f : X → Y) (xs : List X) → IsFalling (λ x. key (f x)) xs → IsFalling key (map f xs)
+pub falling_map : {X Y : Type 0} (key : Y → ℕ) (f : X → Y) (xs : List X) → IsFalling (λ x. key (f x)) xs
+    → IsFalling key (map f xs)
 falling_map key f [] fall = tt
 falling_map {X} key f (x ∷ xs) fall = (below xs fall.0, falling_map key f xs fall.1) where
-  below : (ys : List X) → AllByRecursion (λ y. key (f y) < key (f x)) ys → AllByRecursion (λ y. key y < key (f x)) (map f ys)
+  below : (ys : List X) → AllByRecursion (λ y. key (f y) < key (f x)) ys
+      → AllByRecursion (λ y. key y < key (f x)) (map f ys)
   below [] all = tt
   below (y ∷ ys) all = (all.0, below ys all.1)
 
@@ -133,7 +143,8 @@ greatest_is_first Shows key [] (Some y) fall (x, m, greatest, shows) = absurd (n
 greatest_is_first Shows key (first ∷ xs) (Some y) fall (x, m, greatest, shows) =
     elim (member_cases first x xs m) [
       | inl same ↦ (first, refl, subst (λ v. Shows v y) (sym same) shows)
-      | inr m ↦ absurd (let l = all_of (λ v. key v < key first) xs x fall.0 m in let g = greatest first (member_here first xs) in omega (arith, l, g))
+      | inr m ↦ absurd (let l = all_of (λ v. key v < key first) xs x fall.0 m in
+          let g = greatest first (member_here first xs) in omega (arith, l, g))
     ]
 
 -- what is shown of the one that a search finds
@@ -144,4 +155,5 @@ IsSearchedAs {X} Shows test rows (Some y) = (x : X) × (find test rows ≡ Some 
 pub found_is_searched : {X Y : Type 0} (Shows : X → Y → Type 0) (test : X → Bool) (rows : List X) (answer : Option Y)
     → IsSingle test rows → IsFoundAs Shows test rows answer → IsSearchedAs Shows test rows answer
 found_is_searched Shows test rows None single found = find_none test rows (none_pass test rows found)
-found_is_searched Shows test rows (Some y) single (x, m, passes, shows) = (x, find_single test rows x single m passes, shows)
+found_is_searched Shows test rows (Some y) single (x, m, passes, shows) =
+    (x, find_single test rows x single m passes, shows)

@@ -1,11 +1,13 @@
 -- Calibrations and holds are numbered in the order of their entries, so the greatest number is the newest's.
-use Rattle.std.proofs.Common.{◌≡◌, ℕ, suc, ◌<◌, ◌≤◌, ◌+◌, ◌||◌, Bool, true, false, ℤ, List, [], ◌∷◌, map, length, Option, Some, None, option_map, refl, sym, ap, ◌∙◌, subst, arith}
+use Rattle.std.proofs.Common.{◌≡◌, ℕ, suc, ◌<◌, ◌≤◌, ◌+◌, ◌||◌, Bool, true, false, ℤ, List, [], ◌∷◌, map, length}
+use Rattle.std.proofs.Common.{Option, Some, None, option_map, refl, sym, ap, ◌∙◌, subst, arith}
 use Rattle.std.specs.List.{AllByRecursion, list_any}
 use Rattle.tables.specs.Tables.{CalibrationRow, HoldRow, Tables, with_hold, with_calibration}
 use Rattle.tables.specs.Found.{IsGreatestAs}
 use Rattle.tables.specs.Queries.{ShowsCalibration, ShowsNumber, holds_at}
 use Rattle.tables.specs.declared.rows.LatestCalibration.{LatestCalibration}
-use Rattle.store.specs.History.{Entry, Reserved, Sealed, Deposited, Calibrated, Held, Granted, Revoked, History, CalibrationValue, HoldValue, calibrations, holds, latest_calibration, is_held, first_of}
+use Rattle.store.specs.History.{Entry, Reserved, Sealed, Deposited, Calibrated, Held, Granted, Revoked, History}
+use Rattle.store.specs.History.{CalibrationValue, HoldValue, calibrations, holds, latest_calibration, is_held, first_of}
 use Rattle.store.specs.Steps.{calibration_from, next_number}
 use Rattle.store.specs.TablesOf.{tables_of, calibration_row, hold_row}
 use Rattle.store.proofs.Members.{IsFalling, IsFirstAs, greatest_is_first}
@@ -19,18 +21,22 @@ length_numbered : {X Y : Type 0} (row : X → ℕ → Y) (xs : List X) → lengt
 length_numbered row [] = refl
 length_numbered row (x ∷ xs) = ap suc (length_numbered row xs)
 
-numbers_below : {X Y : Type 0} (row : X → ℕ → Y) (key : Y → ℕ) → ((x : X) (n : ℕ) → key (row x n) ≡ n) → (xs : List X) (n : ℕ) → length xs < n
+numbers_below : {X Y : Type 0} (row : X → ℕ → Y) (key : Y → ℕ) → ((x : X) (n : ℕ) → key (row x n) ≡ n)
+    → (xs : List X) (n : ℕ) → length xs < n
     → AllByRecursion (λ y. key y < n) (numbered row xs)
 numbers_below row key is [] n l = tt
 numbers_below row key is (x ∷ xs) n l =
     let here = is x (length xs + 1) in
     (omega (arith, here, l), numbers_below row key is xs n (omega (arith, l)))
 
-pub numbers_fall : {X Y : Type 0} (row : X → ℕ → Y) (key : Y → ℕ) → ((x : X) (n : ℕ) → key (row x n) ≡ n) → (xs : List X) → IsFalling key (numbered row xs)
+pub numbers_fall : {X Y : Type 0} (row : X → ℕ → Y) (key : Y → ℕ) → ((x : X) (n : ℕ) → key (row x n) ≡ n)
+    → (xs : List X) → IsFalling key (numbered row xs)
 numbers_fall row key is [] = tt
 numbers_fall {X} {Y} row key is (x ∷ xs) =
-    let P : ℕ → Type 0 = λ n. AllByRecursion (λ y. key y < n) (numbered row xs) in
-    (subst P (sym (is x (length xs + 1))) (numbers_below row key is xs (length xs + 1) (omega arith)), numbers_fall row key is xs)
+    let P : ℕ → Type 0 = λ n. AllByRecursion (λ y. key y < n) (numbered row xs) in (
+      subst P (sym (is x (length xs + 1))) (numbers_below row key is xs (length xs + 1) (omega arith)),
+      numbers_fall row key is xs,
+    )
 
 pub calibrations_are : (b : History) → (tables_of b).calibrations ≡ numbered calibration_row (calibrations b)
 calibrations_are [] = refl
@@ -39,7 +45,8 @@ calibrations_are (Sealed n token ∷ b) = calibrations_are b
 calibrations_are (Deposited d token ∷ b) = calibrations_are b
 calibrations_are (Calibrated c ∷ b) =
     let rest = calibrations_are b in
-    let long : length (tables_of b).calibrations ≡ length (calibrations b) = ap length rest ∙ length_numbered calibration_row (calibrations b) in
+    let long : length (tables_of b).calibrations ≡ length (calibrations b) =
+    ap length rest ∙ length_numbered calibration_row (calibrations b) in
     rw (long, rest) refl
 calibrations_are (Held h ∷ b) = calibrations_are b
 calibrations_are (Granted n a ∷ b) = calibrations_are b
@@ -58,8 +65,10 @@ holds_are (Held h ∷ b) =
 holds_are (Granted n a ∷ b) = holds_are b
 holds_are (Revoked n a ∷ b) = holds_are b
 
-calibration_of_first : (cs : List CalibrationValue) (answer : Option LatestCalibration) → IsFirstAs ShowsCalibration (numbered calibration_row cs) answer
-    → (option_map calibration_from answer ≡ first_of cs) × (next_number (option_map (λ c. c.n) answer) ≡ length (numbered calibration_row cs) + 1)
+calibration_of_first : (cs : List CalibrationValue) (answer : Option LatestCalibration)
+    → IsFirstAs ShowsCalibration (numbered calibration_row cs) answer
+    → (option_map calibration_from answer ≡ first_of cs)
+    × (next_number (option_map (λ c. c.n) answer) ≡ length (numbered calibration_row cs) + 1)
 calibration_of_first [] None first = (refl, refl)
 calibration_of_first [] (Some c) (row, is, shows) = cc
 calibration_of_first (x ∷ cs) None first = cc
@@ -74,12 +83,15 @@ calibration_of_first (x ∷ cs) (Some c) (row, is, shows) =
 
 pub calibration_view_of : (b : History) (answer : Option LatestCalibration)
     → IsGreatestAs ShowsCalibration (λ row. row.n) (tables_of b).calibrations answer
-    → (option_map calibration_from answer ≡ latest_calibration b) × (next_number (option_map (λ c. c.n) answer) ≡ length (tables_of b).calibrations + 1)
+    → (option_map calibration_from answer ≡ latest_calibration b)
+    × (next_number (option_map (λ c. c.n) answer) ≡ length (tables_of b).calibrations + 1)
 calibration_view_of b answer found =
     let P : List CalibrationRow → Type 0 = λ rows. IsGreatestAs ShowsCalibration (λ row. row.n) rows answer in
-    let here : IsGreatestAs ShowsCalibration (λ row. row.n) (numbered calibration_row (calibrations b)) answer = subst P (calibrations_are b) found in
+    let here : IsGreatestAs ShowsCalibration (λ row. row.n) (numbered calibration_row (calibrations b)) answer =
+    subst P (calibrations_are b) found in
     let fall = numbers_fall calibration_row (λ row. row.n) (λ x n. refl) (calibrations b) in
-    let both = calibration_of_first (calibrations b) answer (greatest_is_first ShowsCalibration (λ row. row.n) _ answer fall here) in
+    let both = calibration_of_first (calibrations b) answer
+    (greatest_is_first ShowsCalibration (λ row. row.n) _ answer fall here) in
     let Q : List CalibrationRow → Type 0 = λ rows. next_number (option_map (λ c. c.n) answer) ≡ length rows + 1 in
     (both.0, subst Q (sym (calibrations_are b)) both.1)
 
@@ -97,14 +109,16 @@ pub hold_number : (b : History) (answer : Option ℕ) → IsGreatestAs ShowsNumb
     → next_number answer ≡ length (tables_of b).holds + 1
 hold_number b answer found =
     let P : List HoldRow → Type 0 = λ rows. IsGreatestAs ShowsNumber (λ row. row.n) rows answer in
-    let here : IsGreatestAs ShowsNumber (λ row. row.n) (numbered hold_row (holds b)) answer = subst P (holds_are b) found in
+    let here : IsGreatestAs ShowsNumber (λ row. row.n) (numbered hold_row (holds b)) answer =
+    subst P (holds_are b) found in
     let fall = numbers_fall hold_row (λ row. row.n) (λ x n. refl) (holds b) in
     let first = hold_of_first (holds b) answer (greatest_is_first ShowsNumber (λ row. row.n) _ answer fall here) in
     let Q : List HoldRow → Type 0 = λ rows. next_number answer ≡ length rows + 1 in
     subst Q (sym (holds_are b)) first
 
 -- the moment is held by the rows as by the entries
-held_by_rows : (now : ℤ) (hs : List HoldValue) → list_any (holds_at now) (numbered hold_row hs) ≡ list_any (λ h. holds_at now (hold_row h 0)) hs
+held_by_rows : (now : ℤ) (hs : List HoldValue)
+    → list_any (holds_at now) (numbered hold_row hs) ≡ list_any (λ h. holds_at now (hold_row h 0)) hs
 held_by_rows now [] = refl
 held_by_rows now (h ∷ hs) = ap (λ (v : Bool). holds_at now (hold_row h 0) || v) (held_by_rows now hs)
 
@@ -112,15 +126,19 @@ pub held_view : (b : History) (now : ℤ) → list_any (holds_at now) (tables_of
 held_view b now = ap (list_any (holds_at now)) (holds_are b) ∙ held_by_rows now (holds b)
 
 -- the row that is added is the entry's
-pub hold_step : (b : History) (h : HoldValue) (from to : ℤ) (n : ℕ) → from ≡ h.from → to ≡ h.to → n ≡ length (tables_of b).holds + 1
+pub hold_step : (b : History) (h : HoldValue) (from to : ℤ) (n : ℕ) → from ≡ h.from → to ≡ h.to
+    → n ≡ length (tables_of b).holds + 1
     → with_hold record { n = n; from = from; to = to } (tables_of b) ≡ tables_of (Held h ∷ b)
 hold_step b h from to n e f k =
     let row : HoldRow = record { n = n; from = from; to = to } in
-    let same : row ≡ hold_row h (length (tables_of b).holds + 1) = rw (e, f, k) refl in ap (λ r. with_hold r (tables_of b)) same
+    let same : row ≡ hold_row h (length (tables_of b).holds + 1) = rw (e, f, k) refl in
+    ap (λ r. with_hold r (tables_of b)) same
 
-pub calibration_step : (b : History) (c : CalibrationValue) (reading offset : ℤ) (n : ℕ) → reading ≡ c.reading → offset ≡ c.offset
+pub calibration_step : (b : History) (c : CalibrationValue) (reading offset : ℤ) (n : ℕ) → reading ≡ c.reading
+    → offset ≡ c.offset
     → n ≡ length (tables_of b).calibrations + 1
-    → with_calibration record { n = n; reading = reading; offset = offset; uncertainty = c.uncertainty } (tables_of b) ≡ tables_of (Calibrated c ∷ b)
+    → with_calibration record { n = n; reading = reading; offset = offset; uncertainty = c.uncertainty } (tables_of b)
+    ≡ tables_of (Calibrated c ∷ b)
 calibration_step b c reading offset n e f k =
     let row : CalibrationRow = record { n = n; reading = reading; offset = offset; uncertainty = c.uncertainty } in
     let same : row ≡ calibration_row c (length (tables_of b).calibrations + 1) = rw (e, f, k) refl in

@@ -1,7 +1,9 @@
 -- The definitions, computed on a worked history.
 use Rattle.std.proofs.Common.{◌≡◌, ℕ, List, [], ◌∷◌, refl, Option, Some, None, Bool, true, false, pos, negsuc, codes}
 use Rattle.tables.specs.Tables.{Tables, StampRow, DepositRow}
-use Rattle.store.specs.History.{Entry, Reserved, Sealed, Deposited, Calibrated, Held, Granted, Revoked, History, ReservationValue, greatest_serial, last_gen_time, count_of_day, latest_calibration, is_held, token_of, stamp_at, stamps_between, deposit_at, deposit_under}
+use Rattle.store.specs.History.{Entry, Reserved, Sealed, Deposited, Calibrated, Held, Granted, Revoked, History}
+use Rattle.store.specs.History.{ReservationValue, greatest_serial, last_gen_time, count_of_day, latest_calibration}
+use Rattle.store.specs.History.{is_held, token_of, stamp_at, stamps_between, deposit_at, deposit_under}
 use Rattle.store.specs.Rights.{is_reader, seen_by, is_visible, listed}
 use Rattle.store.specs.TablesOf.{tables_of}
 
@@ -26,12 +28,16 @@ reserved serial gen_time = record {
 abbrev first_deposit : DepositRow
 first_deposit = record { serial = 3; owner = alice; reference = codes "plan-7"; bytes = 97 ∷ 98 ∷ 99 ∷ [] }
 
--- two reservations on the first day, one void, a third on the next that is a deposit's, granted to bob, revoked and granted again
+-- two reservations on the first day, one void, a third on the next that is a deposit's, granted to bob, revoked and
+-- granted again
 abbrev worked : History
 worked =
-    Granted 3 bob ∷ Revoked 3 bob ∷ Revoked 3 alice ∷ Granted 3 bob ∷ Deposited first_deposit (9 ∷ []) ∷ Reserved (reserved 3 86400000000)
-    ∷ Held record { from = pos 7; to = pos 9 } ∷ Reserved (reserved 2 86399999999) ∷ Sealed 1 (8 ∷ []) ∷ Reserved (reserved 1 5)
-    ∷ Calibrated record { reading = pos 5; offset = negsuc 0; uncertainty = 2 } ∷ Calibrated record { reading = pos 1; offset = pos 0; uncertainty = 0 } ∷ []
+    Granted 3 bob ∷ Revoked 3 bob ∷ Revoked 3 alice ∷ Granted 3 bob ∷ Deposited first_deposit (9 ∷ [])
+    ∷ Reserved (reserved 3 86400000000)
+    ∷ Held record { from = pos 7; to = pos 9 } ∷ Reserved (reserved 2 86399999999) ∷ Sealed 1 (8 ∷ [])
+    ∷ Reserved (reserved 1 5)
+    ∷ Calibrated record { reading = pos 5; offset = negsuc 0; uncertainty = 2 }
+    ∷ Calibrated record { reading = pos 1; offset = pos 0; uncertainty = 0 } ∷ []
 
 greatest_worked : greatest_serial worked ≡ 3
 greatest_worked = refl
@@ -63,7 +69,8 @@ seen_worked = refl
 hidden_worked : is_visible bob 1 worked ≡ false
 hidden_worked = refl
 
-listed_worked : listed bob worked ≡ record { number = 3; owner = alice; reference = codes "plan-7"; gen_time = 86400000000 } ∷ []
+listed_worked : listed bob worked
+    ≡ record { number = 3; owner = alice; reference = codes "plan-7"; gen_time = 86400000000 } ∷ []
 listed_worked = refl
 
 under_worked : deposit_under alice (codes "plan-7") worked ≡ Some first_deposit
@@ -77,5 +84,6 @@ readers_worked : (tables_of worked).readers ≡ record { serial = 3; account = b
 readers_worked = refl
 
 numbers_worked : (tables_of worked).calibrations
-    ≡ record { n = 2; reading = pos 5; offset = negsuc 0; uncertainty = 2 } ∷ record { n = 1; reading = pos 1; offset = pos 0; uncertainty = 0 } ∷ []
+    ≡ record { n = 2; reading = pos 5; offset = negsuc 0; uncertainty = 2 }
+    ∷ record { n = 1; reading = pos 1; offset = pos 0; uncertainty = 0 } ∷ []
 numbers_worked = refl

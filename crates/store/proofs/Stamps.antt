@@ -1,16 +1,23 @@
 -- The stamps of the tables are the reservations with their tokens, newest first, by falling serial numbers.
-use Rattle.std.proofs.Common.{◌≡◌, ◌≢◌, ℕ, ◌<◌, ◌≤◌, ◌+◌, ◌==◌, max, Bool, true, false, cond, List, [], ◌∷◌, map, find, Option, Some, None, option_map, refl, sym, ap, ◌∙◌, subst, inl, inr, ◌⊎◌, arith}
+use Rattle.std.proofs.Common.{◌≡◌, ◌≢◌, ℕ, ◌<◌, ◌≤◌, ◌+◌, ◌==◌, max, Bool, true, false, cond, List, [], ◌∷◌, map, find}
+use Rattle.std.proofs.Common.{Option, Some, None, option_map, refl, sym, ap, ◌∙◌, subst, inl, inr, ◌⊎◌, arith}
 use Rattle.std.proofs.lemmas.Bool.{eqb-true, eq-eqb, ne_eqb}
 use Rattle.std.proofs.lemmas.Bool.Decides.{eqb_tells}
 use Rattle.std.proofs.Math.Nat.{le-max_left, le-max_right}
 use Rattle.tables.specs.Tables.{StampRow, DepositRow, Tables, sealed_row}
-use Rattle.store.specs.History.{Entry, Reserved, Sealed, Deposited, Calibrated, Held, Granted, Revoked, History, ReservationValue, reservations, reservation_at, greatest_of, greatest_serial, token_of, stamp_of, stamps}
+use Rattle.store.specs.History.{Entry, Reserved, Sealed, Deposited, Calibrated, Held, Granted, Revoked, History}
+use Rattle.store.specs.History.{ReservationValue, reservations, reservation_at, greatest_of, greatest_serial, token_of}
+use Rattle.store.specs.History.{stamp_of, stamps}
 use Rattle.store.specs.Sound.{Fits, FitsReserved, FitsSealed, FitsDeposited, IsSound}
 use Rattle.store.specs.TablesOf.{tables_of}
 
 pub eqb_comm : (a b : ℕ) → (a == b) ≡ (b == a)
 eqb_comm a b =
-    elim (eqb_tells a b) [ inl t ↦ t.0 ∙ sym (eq-eqb b a (sym t.1)) | inr f ↦ f.0 ∙ sym (ne_eqb b a (λ e. f.1 (sym e))) ]
+    elim (eqb_tells a b) [
+      | inl t ↦ t.0 ∙ sym (eq-eqb b a (sym t.1))
+      | inr f ↦ f.0
+          ∙ sym (ne_eqb b a (λ e. f.1 (sym e)))
+    ]
 
 -- a number above all isn't reserved
 pub absent_above : (rs : List ReservationValue) (n : ℕ) → greatest_of rs < n → find (λ r. r.serial == n) rs ≡ None
@@ -22,11 +29,13 @@ absent_above (r ∷ rs) n l =
     rw differs (absent_above rs n (omega (arith, right, l)))
 
 -- the one that a search of the serial number finds has it
-pub found_serial : (rs : List ReservationValue) (n : ℕ) (r : ReservationValue) → find (λ r. r.serial == n) rs ≡ Some r → r.serial ≡ n
+pub found_serial : (rs : List ReservationValue) (n : ℕ) (r : ReservationValue) → find (λ r. r.serial == n) rs ≡ Some r
+    → r.serial ≡ n
 found_serial [] n r e = cc
 found_serial (x ∷ rs) n r e =
     elim (eqb_tells x.serial n) [
-      | inl t ↦ (let here : Some x ≡ Some r = sym (rw t.0 refl) ∙ e in let same : x ≡ r = cc in ap (λ (v : ReservationValue). v.serial) (sym same) ∙ t.1)
+      | inl t ↦ (let here : Some x ≡ Some r = sym (rw t.0 refl) ∙ e in let same : x ≡ r = cc in
+          ap (λ (v : ReservationValue). v.serial) (sym same) ∙ t.1)
       | inr f ↦ found_serial rs n r (sym (rw f.0 refl) ∙ e)
     ]
 
@@ -50,7 +59,11 @@ unreserved (Reserved r ∷ b) n s e = unreserved b n s.1 (absent_before r (reser
 unreserved (Sealed m token ∷ b) n s e =
     elim (eqb_tells m n) [ inl t ↦ absurd (sealed_absent b m n s.0 t.1 e) | inr f ↦ rw f.0 (unreserved b n s.1 e) ]
 unreserved (Deposited d token ∷ b) n s e =
-    elim (eqb_tells d.serial n) [ inl t ↦ absurd (sealed_absent b d.serial n s.0.sealed t.1 e) | inr f ↦ rw f.0 (unreserved b n s.1 e) ]
+    elim (eqb_tells d.serial n) [
+      | inl t ↦ absurd (sealed_absent b d.serial n s.0.sealed t.1 e)
+      | inr f ↦ rw f.0
+          (unreserved b n s.1 e)
+    ]
 unreserved (Calibrated c ∷ b) n s e = unreserved b n s.1 e
 unreserved (Held h ∷ b) n s e = unreserved b n s.1 e
 unreserved (Granted m a ∷ b) n s e = unreserved b n s.1 e
@@ -81,8 +94,10 @@ sealed_stamps b n token (r ∷ rs) =
 pub stamps_are : (b : History) → IsSound b → (tables_of b).stamps ≡ stamps b
 stamps_are [] s = refl
 stamps_are (Reserved r ∷ b) s = rw (fresh b r s.1 s.0) (ap (λ xs. stamp_of None r ∷ xs) (stamps_are b s.1))
-stamps_are (Sealed n token ∷ b) s = ap (map (sealed_row n token)) (stamps_are b s.1) ∙ sealed_stamps b n token (reservations b)
-stamps_are (Deposited d token ∷ b) s = ap (map (sealed_row d.serial token)) (stamps_are b s.1) ∙ sealed_stamps b d.serial token (reservations b)
+stamps_are (Sealed n token ∷ b) s =
+    ap (map (sealed_row n token)) (stamps_are b s.1) ∙ sealed_stamps b n token (reservations b)
+stamps_are (Deposited d token ∷ b) s =
+    ap (map (sealed_row d.serial token)) (stamps_are b s.1) ∙ sealed_stamps b d.serial token (reservations b)
 stamps_are (Calibrated c ∷ b) s = stamps_are b s.1
 stamps_are (Held h ∷ b) s = stamps_are b s.1
 stamps_are (Granted m a ∷ b) s = stamps_are b s.1

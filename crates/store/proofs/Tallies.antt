@@ -1,5 +1,7 @@
 -- The tallies count the reservations of an account on a day.
-use Rattle.std.proofs.Common.{◌≡◌, ℕ, ◌<◌, ◌≤◌, ◌+◌, ◌==◌, ◌&&◌, ◌||◌, Bool, true, false, cond, List, [], ◌∷◌, map, Option, Some, None, refl, sym, ap, ◌∙◌, subst, inl, inr, ◌⊎◌, arith, Contains, unwrap_or, count_by}
+use Rattle.std.proofs.Common.{◌≡◌, ℕ, ◌<◌, ◌≤◌, ◌+◌, ◌==◌, ◌&&◌, ◌||◌, Bool, true, false, cond, List, [], ◌∷◌, map}
+use Rattle.std.proofs.Common.{Option, Some, None, refl, sym, ap, ◌∙◌, subst, inl, inr, ◌⊎◌, arith, Contains, unwrap_or}
+use Rattle.std.proofs.Common.{count_by}
 use Rattle.std.specs.List.{AllByRecursion, list_any}
 use Rattle.std.specs.Str.{bytes_eq}
 use Rattle.std.proofs.lemmas.Bool.{eqb-true, eq-eqb}
@@ -8,9 +10,11 @@ use Rattle.std.proofs.lemmas.List.Sums.{sum_by-cons}
 use Rattle.tables.specs.Tables.{StampRow, TallyRow, Tables, is_tally_of, raised_row, with_one_more}
 use Rattle.tables.specs.Found.{IsFoundAs}
 use Rattle.tables.specs.Queries.{ShowsCount}
-use Rattle.store.specs.History.{Entry, Reserved, Sealed, Deposited, Calibrated, Held, Granted, Revoked, History, ReservationValue, reservations, day_of, is_of_day, count_of_day, stamp_of}
+use Rattle.store.specs.History.{Entry, Reserved, Sealed, Deposited, Calibrated, Held, Granted, Revoked, History}
+use Rattle.store.specs.History.{ReservationValue, reservations, day_of, is_of_day, count_of_day, stamp_of}
 use Rattle.store.specs.TablesOf.{tables_of}
-use Rattle.store.proofs.Members.{all_of, each_of, both_true, neither_true, true_or_false, none_pass, fails_each, member_here, member_after, member_cases, some_pass}
+use Rattle.store.proofs.Members.{all_of, each_of, both_true, neither_true, true_or_false, none_pass, fails_each}
+use Rattle.store.proofs.Members.{member_here, member_after, member_cases, some_pass}
 
 -- a test of a key is passed by that key alone
 key_is : (a : List ℕ) (d : ℕ) (x : List ℕ) (n : ℕ) → (bytes_eq x a && (n == d)) ≡ true → (x ≡ a) × (n ≡ d)
@@ -40,11 +44,13 @@ raised_member a d (x ∷ rows) row m =
       | inr m ↦ (let rest = raised_member a d rows row m in (rest.0, member_after x rest.0 rows rest.1, rest.2))
     ]
 
-raised_key : (a : List ℕ) (d : ℕ) (row : TallyRow) → ((raised_row a d row).account ≡ row.account) × ((raised_row a d row).day ≡ row.day)
+raised_key : (a : List ℕ) (d : ℕ) (row : TallyRow)
+    → ((raised_row a d row).account ≡ row.account) × ((raised_row a d row).day ≡ row.day)
 raised_key a d row =
     elim (true_or_false (is_tally_of a d row)) [ inl t ↦ rw t (refl, refl) | inr f ↦ rw f (refl, refl) ]
 
-raised_count : (a : List ℕ) (d : ℕ) (row : TallyRow) → (raised_row a d row).count ≡ cond (is_tally_of a d row) 1 0 + row.count
+raised_count : (a : List ℕ) (d : ℕ) (row : TallyRow)
+    → (raised_row a d row).count ≡ cond (is_tally_of a d row) 1 0 + row.count
 raised_count a d row =
     elim (true_or_false (is_tally_of a d row)) [ inl t ↦ rw t (omega arith) | inr f ↦ rw f (omega arith) ]
 
@@ -63,7 +69,8 @@ raised_any : (a : List ℕ) (d : ℕ) (account : List ℕ) (day : ℕ) (rows : L
     → list_any (is_tally_of account day) (map (raised_row a d) rows) ≡ list_any (is_tally_of account day) rows
 raised_any a d account day [] = refl
 raised_any a d account day (row ∷ rows) =
-    let k = raised_key a d row in rw (k.0, k.1) (ap (λ (v : Bool). is_tally_of account day row || v) (raised_any a d account day rows))
+    let k = raised_key a d row in
+    rw (k.0, k.1) (ap (λ (v : Bool). is_tally_of account day row || v) (raised_any a d account day rows))
 
 counted_more : (a : List ℕ) (d : ℕ) (count : List ℕ → ℕ → ℕ) (rows : List TallyRow) → AreCounted count rows
     → AreCounted (one_more a d count) (with_one_more a d rows)
@@ -78,7 +85,8 @@ counted_more a d count rows counted =
         none = λ account day e. none_absent account day e;
       })
     ] where
-      each_there : (row : TallyRow) → Contains (map (raised_row a d) rows) row → row.count ≡ one_more a d count row.account row.day
+      each_there : (row : TallyRow) → Contains (map (raised_row a d) rows) row
+          → row.count ≡ one_more a d count row.account row.day
       each_there row m =
           let old = raised_member a d rows row m in
           let k = raised_key a d old.0 in
@@ -87,17 +95,20 @@ counted_more a d count rows counted =
           let swapped = key_swap a d old.0.account old.0.day in
           rw old.2 (rw (k.0, k.1) (raised ∙ rw (before, swapped) refl))
 
-      none_there : list_any (is_tally_of a d) rows ≡ true → (account : List ℕ) (day : ℕ) → list_any (is_tally_of account day) (map (raised_row a d) rows) ≡ false
+      none_there : list_any (is_tally_of a d) rows ≡ true → (account : List ℕ) (day : ℕ)
+          → list_any (is_tally_of account day) (map (raised_row a d) rows) ≡ false
           → one_more a d count account day ≡ 0
       none_there there account day e =
           let before : list_any (is_tally_of account day) rows ≡ false = sym (raised_any a d account day rows) ∙ e in
           elim (true_or_false (bytes_eq a account && (d == day))) [
             | inl t ↦ (let k = key_is account day a d t in
-                let same : list_any (is_tally_of a d) rows ≡ list_any (is_tally_of account day) rows = rw (k.0, k.1) refl in cc)
+                let same : list_any (is_tally_of a d) rows ≡ list_any (is_tally_of account day) rows =
+                rw (k.0, k.1) refl in cc)
             | inr f ↦ rw (f, counted.none account day before) refl
           ]
 
-      each_absent : list_any (is_tally_of a d) rows ≡ false → (row : TallyRow) → Contains (record { account = a; day = d; count = 1 } ∷ rows) row
+      each_absent : list_any (is_tally_of a d) rows ≡ false → (row : TallyRow)
+          → Contains (record { account = a; day = d; count = 1 } ∷ rows) row
           → row.count ≡ one_more a d count row.account row.day
       each_absent absent row m =
           elim (member_cases (record { account = a; day = d; count = 1 }) row rows m) [
@@ -109,13 +120,15 @@ counted_more a d count rows counted =
                 rw other (counted.each row m ∙ omega arith))
           ]
 
-      none_absent : (account : List ℕ) (day : ℕ) → list_any (is_tally_of account day) (record { account = a; day = d; count = 1 } ∷ rows) ≡ false
+      none_absent : (account : List ℕ) (day : ℕ)
+          → list_any (is_tally_of account day) (record { account = a; day = d; count = 1 } ∷ rows) ≡ false
           → one_more a d count account day ≡ 0
       none_absent account day e =
           let parts = neither_true (bytes_eq a account && (d == day)) (list_any (is_tally_of account day) rows) e in
           rw (parts.0, counted.none account day parts.1) refl
 
-counted_same : (count other : List ℕ → ℕ → ℕ) (rows : List TallyRow) → ((a : List ℕ) (d : ℕ) → count a d ≡ other a d) → AreCounted count rows
+counted_same : (count other : List ℕ → ℕ → ℕ) (rows : List TallyRow) → ((a : List ℕ) (d : ℕ) → count a d ≡ other a d)
+    → AreCounted count rows
     → AreCounted other rows
 counted_same count other rows same counted = record {
   each = λ row m. counted.each row m ∙ same row.account row.day;
@@ -127,7 +140,8 @@ tallies_count [] = record { each = λ row m. absurd (no row m); none = λ accoun
   no : (row : TallyRow) → Contains [] row → ⊥
   no row (k, below, is) = absurd (omega arith)
 tallies_count (Reserved r ∷ b) =
-    counted_same (one_more r.account (day_of r.gen_time) (λ a d. count_of_day a d b)) (λ a d. count_of_day a d (Reserved r ∷ b)) _
+    counted_same (one_more r.account (day_of r.gen_time) (λ a d. count_of_day a d b))
+    (λ a d. count_of_day a d (Reserved r ∷ b)) _
     (λ a d. sym (sum_by-cons (λ x. cond (is_of_day a d x) 1 0) r (reservations b)))
     (counted_more r.account (day_of r.gen_time) (λ a d. count_of_day a d b) (tables_of b).tallies (tallies_count b))
 tallies_count (Sealed n token ∷ b) = tallies_count b
@@ -137,9 +151,11 @@ tallies_count (Held h ∷ b) = tallies_count b
 tallies_count (Granted n a ∷ b) = tallies_count b
 tallies_count (Revoked n a ∷ b) = tallies_count b
 
-pub count_view : (b : History) (account : List ℕ) (day : ℕ) (answer : Option ℕ) → IsFoundAs ShowsCount (is_tally_of account day) (tables_of b).tallies answer
+pub count_view : (b : History) (account : List ℕ) (day : ℕ) (answer : Option ℕ)
+    → IsFoundAs ShowsCount (is_tally_of account day) (tables_of b).tallies answer
     → unwrap_or answer 0 ≡ count_of_day account day b
-count_view b account day None found = sym ((tallies_count b).none account day (none_pass (is_tally_of account day) (tables_of b).tallies found))
+count_view b account day None found =
+    sym ((tallies_count b).none account day (none_pass (is_tally_of account day) (tables_of b).tallies found))
 count_view b account day (Some count) (row, m, passes, shows) =
     let k = key_is account day row.account row.day passes in
     shows ∙ (tallies_count b).each row m ∙ rw (k.0, k.1) refl

@@ -1,11 +1,15 @@
--- The history of what the counter accepted, newest entry first, and what it says: views are filters and searches of this one list.
-use Rattle.std.specs.Prelude.{ℕ, ◌+◌, ◌-◌, ◌/◌, ◌==◌, ◌&&◌, max, nat_le, ℤ, int_le, int_lt, Bool, true, false, List, [], ◌∷◌, map, filter, filter_map, find, count_by, reverse, Option, Some, None, option_map, if◌then◌else◌}
+-- The history of what the counter accepted, newest entry first, and what it says: views are filters and searches of
+-- this one list.
+use Rattle.std.specs.Prelude.{ℕ, ◌+◌, ◌-◌, ◌/◌, ◌==◌, ◌&&◌, max, nat_le, ℤ, int_le, int_lt, Bool, true, false, List, []}
+use Rattle.std.specs.Prelude.{◌∷◌, map, filter, filter_map, find, count_by, reverse, Option, Some, None, option_map}
+use Rattle.std.specs.Prelude.{if◌then◌else◌}
 use Rattle.std.specs.List.{list_any}
 use Rattle.std.specs.Str.{bytes_eq}
 use Rattle.tables.specs.Tables.{StampRow, DepositRow}
 
--- What is reserved for a stamp before it is signed (RFC 3161 2.4.2): genTime in microseconds since 1970-01-01T00:00:00Z; policy and
--- algorithm are the contents octets of object identifiers (X.690 8.19), as the tables keep them; request and tst are whole DER texts.
+-- What is reserved for a stamp before it is signed (RFC 3161 2.4.2): genTime in microseconds since
+-- 1970-01-01T00:00:00Z; policy and algorithm are the contents octets of object identifiers (X.690 8.19), as the tables
+-- keep them; request and tst are whole DER texts.
 pub record ReservationValue : Type 0 where
   pub serial : ℕ
   pub account : List ℕ

@@ -18,7 +18,8 @@ use Rattle.store.specs.Sound.{IsSound}
 use Rattle.store.specs.Stands.{Stands}
 use Rattle.store.specs.TablesOf.{tables_of}
 
--- a connection was opened over what the files held, and the store stands for each sound history whose tables it found there
+-- a connection was opened over what the files held, and the store stands for each sound history whose tables it found
+-- there
 pub record OpensFound {D : Type 0} {g : Ghosts D} (held : Image) (store : BaseValue (FileStore D g)) : Type 0 where
   pub was : Held (FileStore D g)
   pub opened : IsOpened was

@@ -1,10 +1,13 @@
--- Who sees which deposit: its owner, and its current readers, which are the accounts whose last entry about it is a grant.
-use Rattle.std.specs.Prelude.{ℕ, ◌==◌, ◌&&◌, ◌||◌, Bool, true, false, List, [], ◌∷◌, filter_map, Option, Some, None, option_map, option_and_then, if◌then◌else◌}
+-- Who sees which deposit: its owner, and its current readers, which are the accounts whose last entry about it is a
+-- grant.
+use Rattle.std.specs.Prelude.{ℕ, ◌==◌, ◌&&◌, ◌||◌, Bool, true, false, List, [], ◌∷◌, filter_map, Option, Some, None}
+use Rattle.std.specs.Prelude.{option_map, option_and_then, if◌then◌else◌}
 use Rattle.std.specs.Option.{is_some}
 use Rattle.std.specs.List.{range_with_len}
 use Rattle.std.specs.Str.{bytes_eq}
 use Rattle.tables.specs.Tables.{DepositRow, StampRow}
-use Rattle.store.specs.History.{Entry, Reserved, Sealed, Deposited, Calibrated, Held, Granted, Revoked, History, ReservationValue, greatest_serial, reservation_at, deposit_at, stamp_at}
+use Rattle.store.specs.History.{Entry, Reserved, Sealed, Deposited, Calibrated, Held, Granted, Revoked, History}
+use Rattle.store.specs.History.{ReservationValue, greatest_serial, reservation_at, deposit_at, stamp_at}
 
 -- whether the last entry about the deposit and the account is a grant
 abbrev pub is_reader : ℕ → List ℕ → History → Bool
@@ -14,8 +17,10 @@ is_reader number account (Sealed serial token ∷ b) = is_reader number account 
 is_reader number account (Deposited d token ∷ b) = is_reader number account b
 is_reader number account (Calibrated c ∷ b) = is_reader number account b
 is_reader number account (Held h ∷ b) = is_reader number account b
-is_reader number account (Granted n a ∷ b) = if (n == number) && bytes_eq a account then true else is_reader number account b
-is_reader number account (Revoked n a ∷ b) = if (n == number) && bytes_eq a account then false else is_reader number account b
+is_reader number account (Granted n a ∷ b) =
+    if (n == number) && bytes_eq a account then true else is_reader number account b
+is_reader number account (Revoked n a ∷ b) =
+    if (n == number) && bytes_eq a account then false else is_reader number account b
 
 -- a deposit, for an account that is a reader of it or isn't
 abbrev pub shown_to : List ℕ → Bool → DepositRow → Option DepositRow

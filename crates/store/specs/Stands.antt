@@ -7,8 +7,8 @@ use Rattle.store.specs.History.{Entry, History}
 use Rattle.store.specs.Sound.{Fits, IsSound}
 use Rattle.store.specs.TablesOf.{tables_of}
 
--- the history is sound, and while the connection is open and its disk returns what was written, the database holds its tables and a
--- crash leaves nothing else
+-- the history is sound, and while the connection is open and its disk returns what was written, the database holds its
+-- tables and a crash leaves nothing else
 pub record Stands {S : Type 0} (g : Ghosts S) (b : History) (store : BaseValue S) : Type 0 where
   pub sound : IsSound b
   pub kept : Keeps g (tables_of b) store

@@ -1,5 +1,6 @@
 -- What the calls make of a look-up's answer: stepping stones, no definitions.
-use Rattle.std.specs.Prelude.{◌≡◌, ◌⊎◌, ℕ, ◌+◌, ◌<◌, min, nat_lt, if◌then◌else◌, Bool, true, false, List, Option, Some, None, option_map, option_and_then, string_bytes}
+use Rattle.std.specs.Prelude.{◌≡◌, ◌⊎◌, ℕ, ◌+◌, ◌<◌, min, nat_lt, if◌then◌else◌, Bool, true, false, List, Option, Some}
+use Rattle.std.specs.Prelude.{None, option_map, option_and_then, string_bytes}
 use Rattle.tables.specs.declared.rows.LastStamp.{LastStamp}
 use Rattle.tables.specs.declared.rows.LatestCalibration.{LatestCalibration}
 use Rattle.tables.specs.declared.rows.Origin.{Origin}
@@ -31,13 +32,15 @@ IsAskedFor number asked = (asked ≡ number) ⊎ ((asked ≡ 0) × (greatest_num
 abbrev pub IsNextSeen : List ℕ → ℕ → History → Option ℕ → Type 0
 IsNextSeen account after b None = (number : ℕ) → after < number → is_visible account number b ≡ false
 IsNextSeen account after b (Some next) =
-    (after < next) × (is_visible account next b ≡ true) × ((number : ℕ) → after < number → number < next → is_visible account number b ≡ false)
+    (after < next) × (is_visible account next b ≡ true)
+    × ((number : ℕ) → after < number → number < next → is_visible account number b ≡ false)
 
 -- the first deposit after a number that the account reads, if there is one
 abbrev pub IsNextReadable : List ℕ → ℕ → History → Option ℕ → Type 0
 IsNextReadable account after b None = (number : ℕ) → after < number → is_reader number account b ≡ false
 IsNextReadable account after b (Some next) =
-    (after < next) × (is_reader next account b ≡ true) × ((number : ℕ) → after < number → number < next → is_reader number account b ≡ false)
+    (after < next) × (is_reader next account b ≡ true)
+    × ((number : ℕ) → after < number → number < next → is_reader number account b ≡ false)
 
 -- the lesser of what is there
 abbrev pub least_of : Option ℕ → Option ℕ → Option ℕ
@@ -58,4 +61,5 @@ listing_at number b = option_and_then (λ d. option_map (listed_as d) (reservati
 abbrev pub IsOriginOf : ℕ → History → Option Origin → Type 0
 IsOriginOf serial b None = reservation_at serial b ≡ None
 IsOriginOf serial b (Some origin) =
-    (r : ReservationValue) × (reservation_at serial b ≡ Some r) × (string_bytes origin.account ≡ r.account) × (origin.gen_time ≡ r.gen_time)
+    (r : ReservationValue) × (reservation_at serial b ≡ Some r) × (string_bytes origin.account ≡ r.account)
+    × (origin.gen_time ≡ r.gen_time)

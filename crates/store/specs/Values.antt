@@ -36,10 +36,16 @@ abbrev pub calibration_option : Option Calibration → Option CalibrationValue
 calibration_option found = option_map calibration_view found
 
 abbrev pub deposit_of : ℕ → List ℕ → List ℕ → List ℕ → DepositRow
-deposit_of serial owner reference bytes = record { serial = serial; owner = owner; reference = reference; bytes = bytes }
+deposit_of serial owner reference bytes =
+    record { serial = serial; owner = owner; reference = reference; bytes = bytes }
 
 abbrev pub stamped_view : StampedDeposit → DepositRow × StampRow
 stamped_view d = (deposit_view d.deposit, stamp_view d.stamp)
 
 abbrev pub listed_view : Listed → ListedValue
-listed_view l = record { number = l.number; owner = string_bytes l.owner; reference = string_bytes l.reference; gen_time = l.gen_time }
+listed_view l = record {
+  number = l.number;
+  owner = string_bytes l.owner;
+  reference = string_bytes l.reference;
+  gen_time = l.gen_time;
+}

@@ -1,5 +1,5 @@
-//! Rows of deposits and rights over a database in memory. A call that wants memory is made once more, and everything has to be as if
-//! it had never been refused: so the same rows show each allocation refused in turn.
+//! Rows of deposits and rights over a database in memory. A call that wants memory is made once more, and everything
+//! has to be as if it had never been refused: so the same rows show each allocation refused in turn.
 use super::*;
 use sqlite::{Connection, MemStore};
 use std::alloc::Global;

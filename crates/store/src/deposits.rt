@@ -1,5 +1,6 @@
 //! Deposits and rights: a deposit with its token, who may read it, and what an account sees.
-ghost use Rattle.std.specs.Prelude.{◌≡◌, ◌⊎◌, ◌∷◌, ◌<◌, ◌^◌, true, false, map, option_map, IfOk, IfErr, IfSome, OnOk, OnErr, MatchResult, IsTrue, ℕ, ◌++◌, option_to_list};
+ghost use Rattle.std.specs.Prelude.{◌≡◌, ◌⊎◌, ◌∷◌, ◌<◌, ◌^◌, true, false, map, option_map, IfOk, IfErr, IfSome, OnOk};
+ghost use Rattle.std.specs.Prelude.{OnErr, MatchResult, IsTrue, ℕ, ◌++◌, option_to_list};
 ghost use Rattle.tables.specs.Base.{IsHonest, IsOpen};
 ghost use Rattle.store.specs.History.{History, Deposited, Granted, Revoked, deposit_under};
 ghost use Rattle.store.specs.Rights.{is_reader, is_visible, listed, deposit_with_stamp};
@@ -17,8 +18,9 @@ use sqlite::Alter;
 use tables::{Change, Deposit};
 
 impl<S: Alter + Drop> Store<S> {
-    /// Stores a deposit and its token in one commit, which seals its serial number: that is the deposit's number from now on. The
-    /// caller's condition is that it is reserved for the owner and not sealed, and that the owner hasn't used the reference.
+    /// Stores a deposit and its token in one commit, which seals its serial number: that is the deposit's number from
+    /// now on. The caller's condition is that it is reserved for the owner and not sealed, and that the owner hasn't
+    /// used the reference.
     pub fn seal_deposit(
         &mut self,
         serial: u64,
@@ -50,8 +52,8 @@ impl<S: Alter + Drop> Store<S> {
         Ok(())
     }
 
-    /// Lets an account read a deposit, from now on. The caller's condition is that the number is a deposit's. A right that the account
-    /// has already is accepted again, and no table changes.
+    /// Lets an account read a deposit, from now on. The caller's condition is that the number is a deposit's. A right
+    /// that the account has already is accepted again, and no table changes.
     pub fn grant(&mut self, number: u64, account: &str) -> Result<(), StoreFault>
         ensures honest { IsHonest S.Store self.new → IsHonest S.Store self.old }
         ensures opened { IsHonest S.Store self.new → OnOk result (IsOpen S.Store self.old × IsOpen S.Store self.new) }
@@ -72,8 +74,8 @@ impl<S: Alter + Drop> Store<S> {
         Ok(())
     }
 
-    /// Takes the right to read a deposit from an account, from now on. The caller's condition is that the number is a deposit's. A
-    /// right that the account doesn't have may be taken all the same, and no table changes.
+    /// Takes the right to read a deposit from an account, from now on. The caller's condition is that the number is a
+    /// deposit's. A right that the account doesn't have may be taken all the same, and no table changes.
     pub fn revoke(&mut self, number: u64, account: &str) -> Result<(), StoreFault>
         ensures honest { IsHonest S.Store self.new → IsHonest S.Store self.old }
         ensures opened { IsHonest S.Store self.new → OnOk result (IsOpen S.Store self.old × IsOpen S.Store self.new) }
@@ -114,7 +116,8 @@ impl<S: Alter + Drop> Store<S> {
         Ok(Some(StampedDeposit { deposit, stamp }))
     }
 
-    /// Whether there is a deposit with a number that the account sees, as its owner or as a reader. No deposit's bytes are read.
+    /// Whether there is a deposit with a number that the account sees, as its owner or as a reader. No deposit's bytes
+    /// are read.
     pub fn visible(&mut self, number: u64, account: &str) -> Result<bool, StoreFault>
         ensures looks { OnlyLooks S.Store self.old self.new }
         ensures opened { IsHonest S.Store self.new → OnOk result (IsOpen S.Store self.old) }
@@ -151,7 +154,8 @@ impl<S: Alter + Drop> Store<S> {
         Ok(found)
     }
 
-    /// The deposits that an account sees, as their owner or as a reader, by number, each once. No deposit's bytes are read.
+    /// The deposits that an account sees, as their owner or as a reader, by number, each once. No deposit's bytes are
+    /// read.
     pub fn list(&mut self, account: &str) -> Result<Vec<Listed>, StoreFault>
         ensures looks { OnlyLooks S.Store self.old self.new }
         ensures opened { IsHonest S.Store self.new → OnOk result (IsOpen S.Store self.old) }
@@ -183,7 +187,8 @@ impl<S: Alter + Drop> Store<S> {
         requires { IfSome readable (λ n. n < 2 ^ 63) }
         ensures looks { OnlyLooks S.Store self.old self.new }
         ensures opened { IsHonest S.Store self.new → OnOk result (IsOpen S.Store self.old) }
-        ensures value { IsHonest S.Store self.new → (b : History) → Stands S.Store b self.old → IsNextReadable account.now after b readable
+        ensures value { IsHonest S.Store self.new → (b : History) → Stands S.Store b self.old
+            → IsNextReadable account.now after b readable
             → IfOk result (λ next. IsNextSeen account.now after b next) }
         ensures rises { IfOk result (λ next. IfSome next (λ number. (after < number) × (number < 2 ^ 63))) }
         ensures refusals { IfErr result (λ e. (e ≡ StoreFault.Memory) ⊎ (e ≡ StoreFault.Database)) }
@@ -194,8 +199,8 @@ impl<S: Alter + Drop> Store<S> {
         Ok(next_of(owned, readable, after))
     }
 
-    /// The first deposit after a number that the account reads. The one that was found before is still the first where it is after the
-    /// number, so that a list goes through the rights once.
+    /// The first deposit after a number that the account reads. The one that was found before is still the first where
+    /// it is after the number, so that a list goes through the rights once.
     fn next_readable(
         &mut self,
         account: &str,
@@ -204,8 +209,10 @@ impl<S: Alter + Drop> Store<S> {
     ) -> Result<Option<u64>, StoreFault>
         requires { IfSome found (λ n. n < 2 ^ 63) }
         ensures looks { OnlyLooks S.Store self.old self.new }
-        ensures value { IsHonest S.Store self.new → (b : History) → Stands S.Store b self.old → (before : ℕ) → before < after
-            → IsNextReadable account.now before b found → IfOk result (λ next. IsNextReadable account.now after b next) }
+        ensures value { IsHonest S.Store self.new → (b : History) → Stands S.Store b self.old → (before : ℕ)
+            → before < after
+            → IsNextReadable account.now before b found
+            → IfOk result (λ next. IsNextReadable account.now after b next) }
         ensures small { IfOk result (λ next. IfSome next (λ n. n < 2 ^ 63)) }
         ensures refusals { IfErr result (λ e. (e ≡ StoreFault.Memory) ⊎ (e ≡ StoreFault.Database)) }
         ensures faults { MatchResult result (λ _. self.new.faults ≡ self.old.faults)
@@ -250,8 +257,8 @@ fn asked_for(number: u64) -> u64
     if number > GREATEST { 0 } else { number }
 }
 
-/// The lesser of two numbers, where it is after a third. What a database tells is taken for the next number only where it is one, so
-/// that a walk ends whatever it tells.
+/// The lesser of two numbers, where it is after a third. What a database tells is taken for the next number only where
+/// it is one, so that a walk ends whatever it tells.
 fn next_of(owned: Option<u64>, readable: Option<u64>, after: u64) -> Option<u64>
     requires owned { IfSome owned (λ n. n < 2 ^ 63) }
     requires readable { IfSome readable (λ n. n < 2 ^ 63) }
@@ -281,7 +288,8 @@ fn is_after(found: Option<u64>, after: u64) -> bool
 
 /// Adds a row, if there is one.
 fn add_listed(rows: &mut Vec<Listed>, row: Option<Listed>) -> Result<(), StoreFault>
-    ensures added { OnOk result (map listed_view rows.new.items ≡ map listed_view rows.old.items ++ option_to_list (option_map listed_view row)) }
+    ensures added { OnOk result (map listed_view rows.new.items ≡ map listed_view rows.old.items
+        ++ option_to_list (option_map listed_view row)) }
     ensures memory { IfErr result (λ e. e ≡ StoreFault.Memory) }
 {
     if let Some(row) = row {

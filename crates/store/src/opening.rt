@@ -22,21 +22,24 @@ use std::alloc::Global;
 use tables::Base;
 
 impl<S: Alter + Drop> Store<S> {
-    /// Makes all tables in an empty database, in one commit. The caller's condition is a connection outside any transaction, which
-    /// comes back with a refusal: `Memory`, `Database`, or `NotOurs` where a table's name is taken.
+    /// Makes all tables in an empty database, in one commit. The caller's condition is a connection outside any
+    /// transaction, which comes back with a refusal: `Memory`, `Database`, or `NotOurs` where a table's name is taken.
     pub fn create(
         alloc: Global,
         conn: Connection<S>,
     ) -> Result<Store<S>, (StoreFault, Connection<S>)>
         requires { conn.in_transaction ≡ false }
         ensures stands { IfOk result (λ store. (state S.Store conn).now.schema ≡ no_schema → Stands S.Store [] store) }
-        ensures unused { IfOk result (λ store. HasCleanDisk (state S.Store store.conn) → takes_name (state S.Store conn).now.schema ≡ false) }
+        ensures unused { IfOk result (λ store. HasCleanDisk (state S.Store store.conn)
+            → takes_name (state S.Store conn).now.schema ≡ false) }
         ensures made { IfOk result (λ store. Creates (state S.Store conn) (state S.Store store.conn) (Ok tt)) }
-        ensures taken { IfErr result (λ e. e.0 ≡ StoreFault.NotOurs → HasCleanDisk (state S.Store e.1) → IsInTheWay (state S.Store conn).now.schema) }
+        ensures taken { IfErr result (λ e. e.0 ≡ StoreFault.NotOurs → HasCleanDisk (state S.Store e.1)
+            → IsInTheWay (state S.Store conn).now.schema) }
         ensures undone { IfErr result (λ e. (error : _) × Creates (state S.Store conn) (state S.Store e.1) (Err error)) }
         ensures closed { IfErr result (λ e. e.1.in_transaction ≡ false) }
         ensures uncounted { IfOk result (λ store. store.faults ≡ 0) }
-        ensures refusals { IfErr result (λ e. (e.0 ≡ StoreFault.Memory) ⊎ ((e.0 ≡ StoreFault.Database) ⊎ (e.0 ≡ StoreFault.NotOurs))) }
+        ensures refusals { IfErr result (λ e. (e.0 ≡ StoreFault.Memory)
+            ⊎ ((e.0 ≡ StoreFault.Database) ⊎ (e.0 ≡ StoreFault.NotOurs))) }
     {
         match Base::create(conn) {
             Ok(base) => Ok(Store { base, alloc }),
@@ -44,24 +47,27 @@ impl<S: Alter + Drop> Store<S> {
         }
     }
 
-    /// Takes a connection to tables that were made before. The caller's condition is a connection outside any transaction, which
-    /// comes back with a refusal: `Memory`, `Database`, or `NotOurs` where a query over the tables and columns isn't understood, or
-    /// `meta` isn't its one row.
+    /// Takes a connection to tables that were made before. The caller's condition is a connection outside any
+    /// transaction, which comes back with a refusal: `Memory`, `Database`, or `NotOurs` where a query over the tables
+    /// and columns isn't understood, or `meta` isn't its one row.
     pub fn adopt(
         alloc: Global,
         conn: Connection<S>,
     ) -> Result<Store<S>, (StoreFault, Connection<S>)>
         requires { conn.in_transaction ≡ false }
-        ensures stands { IfOk result (λ store. (b : History) → IsSound b → IsFound (tables_of b) (state S.Store conn) → Stands S.Store b store) }
+        ensures stands { IfOk result (λ store. (b : History) → IsSound b → IsFound (tables_of b) (state S.Store conn)
+            → Stands S.Store b store) }
         ensures ours { IfOk result (λ store. HasCleanDisk (state S.Store store.conn) → LooksOurs (state S.Store conn)) }
         ensures looks { IfOk result (λ store. Looks (state S.Store conn) (state S.Store store.conn)) }
         ensures unchanged { IfErr result (λ e. Looks (state S.Store conn) (state S.Store e.1)) }
         ensures not_ours { IfErr result (λ e. e.0 ≡ StoreFault.NotOurs → HasCleanDisk (state S.Store e.1)
             → (b : History) → ¬ IsFound (tables_of b) (state S.Store conn)) }
-        ensures foreign { IfErr result (λ e. e.0 ≡ StoreFault.NotOurs → HasCleanDisk (state S.Store e.1) → LooksForeign (state S.Store conn)) }
+        ensures foreign { IfErr result (λ e. e.0 ≡ StoreFault.NotOurs → HasCleanDisk (state S.Store e.1)
+            → LooksForeign (state S.Store conn)) }
         ensures closed { IfErr result (λ e. e.1.in_transaction ≡ false) }
         ensures uncounted { IfOk result (λ store. store.faults ≡ 0) }
-        ensures refusals { IfErr result (λ e. (e.0 ≡ StoreFault.Memory) ⊎ ((e.0 ≡ StoreFault.Database) ⊎ (e.0 ≡ StoreFault.NotOurs))) }
+        ensures refusals { IfErr result (λ e. (e.0 ≡ StoreFault.Memory)
+            ⊎ ((e.0 ≡ StoreFault.Database) ⊎ (e.0 ≡ StoreFault.NotOurs))) }
     {
         match Base::adopt(conn) {
             Ok(base) => Ok(Store { base, alloc }),
@@ -71,9 +77,9 @@ impl<S: Alter + Drop> Store<S> {
 }
 
 impl<D: Disk + Drop> Store<FileStore<D>> {
-    /// Copies what was committed into the database file, and gives back the log and that file, which close where they are dropped: from
-    /// then on the database file alone is the database. Refused with `Memory` or `Database`, and the files are closed; what was committed
-    /// stays in the log then.
+    /// Copies what was committed into the database file, and gives back the log and that file, which close where they
+    /// are dropped: from then on the database file alone is the database. Refused with `Memory` or `Database`, and the
+    /// files are closed; what was committed stays in the log then.
     pub fn close(self) -> Result<Files<D>, StoreFault>
         ensures copied { IfOk result (λ files. AreClean D.Disk files.log files.db
             → (b : History) → Stands over_files b self → LeavesFiles D.Disk b files) }
@@ -87,16 +93,18 @@ impl<D: Disk + Drop> Store<FileStore<D>> {
 }
 
 impl<T: Start + Drop> Store<FileStore<FileFrom<T>>> {
-    /// Opens the files at a path, and makes them where none stand, which is `NotOurs` then. Refused with `Memory`, with `Database` where
-    /// they can't be opened, and with `NotOurs` as `adopt`.
+    /// Opens the files at a path, and makes them where none stand, which is `NotOurs` then. Refused with `Memory`, with
+    /// `Database` where they can't be opened, and with `NotOurs` as `adopt`.
     pub fn open(
         rt: &HostRuntime,
         path: &str,
         start: T,
     ) -> Result<Store<FileStore<FileFrom<T>>>, StoreFault>
-        ensures found { IfOk result (λ store. HasCleanDisk (file_state store.conn) → OpensFound (image_at T.Start) store) }
+        ensures found { IfOk result (λ store. HasCleanDisk (file_state store.conn)
+            → OpensFound (image_at T.Start) store) }
         ensures uncounted { IfOk result (λ store. store.faults ≡ 0) }
-        ensures refusals { IfErr result (λ e. (e ≡ StoreFault.Memory) ⊎ ((e ≡ StoreFault.Database) ⊎ (e ≡ StoreFault.NotOurs))) }
+        ensures refusals { IfErr result (λ e. (e ≡ StoreFault.Memory)
+            ⊎ ((e ≡ StoreFault.Database) ⊎ (e ≡ StoreFault.NotOurs))) }
     {
         let conn = match Connection::open_from(rt, path, false, start) {
             Ok(conn) => conn,

@@ -1,4 +1,5 @@
-//! A run that goes on where one growth is refused: each call is made again then, and what was refused has changed nothing.
+//! A run that goes on where one growth is refused: each call is made again then, and what was refused has changed
+//! nothing.
 use super::*;
 use sqlite::{Connection, MemStore};
 use std::alloc::Global;

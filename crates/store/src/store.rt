@@ -1,9 +1,11 @@
 //! The store: each change of the history is one commit, each look-up answers a view of it.
-ghost use Rattle.std.specs.Prelude.{◌≡◌, ◌⊎◌, ℕ, ◌∷◌, Err, IfOk, IfErr, IsErr, OnOk, OnErr, MatchResult, ◌↔◌, ◌<◌, ◌^◌, false, IsTrue, option_map};
+ghost use Rattle.std.specs.Prelude.{◌≡◌, ◌⊎◌, ℕ, ◌∷◌, Err, IfOk, IfErr, IsErr, OnOk, OnErr, MatchResult, ◌↔◌, ◌<◌, ◌^◌};
+ghost use Rattle.std.specs.Prelude.{false, IsTrue, option_map};
 ghost use Rattle.std.specs.Option.{ForSome};
 ghost use Rattle.sqlite_trees.specs.Tree.{Trees};
 ghost use Rattle.tables.specs.Base.{IsHonest, IsOpen, Recovers};
-ghost use Rattle.store.specs.History.{History, Reserved, Sealed, Calibrated, Held, count_of_day, latest_calibration, is_held};
+ghost use Rattle.store.specs.History.{History, Reserved, Sealed, Calibrated, Held, count_of_day, latest_calibration};
+ghost use Rattle.store.specs.History.{is_held};
 ghost use Rattle.store.specs.Sound.{Fits, IsSpent, IsBackwards};
 ghost use Rattle.store.specs.Stands.{Stands, OnlyLooks, LeavesOrAdds, LeavesAsBefore};
 ghost use Rattle.store.specs.Fault.{count_after};
@@ -25,9 +27,9 @@ pub(crate) const GREATEST: u64 = 9_223_372_036_854_775_807;
 
 /// The history of what the counter accepted, kept in tables. Each change is one commit.
 ///
-/// A call refused with `Memory` or `Database` changes nothing that the store shows, and `faults` counts exactly the refusals with
-/// `Database`. After a fault the database may be shut; each later call is then refused, and where the fault came in the commit itself, a
-/// later opening may find the change.
+/// A call refused with `Memory` or `Database` changes nothing that the store shows, and `faults` counts exactly the
+/// refusals with `Database`. After a fault the database may be shut; each later call is then refused, and where the
+/// fault came in the commit itself, a later opening may find the change.
 #[derive(Drop)]
 pub struct Store<S: Alter + Drop> {
     pub(crate) base: Base<S>,
@@ -54,20 +56,23 @@ impl<S: Alter + Drop> Store<S> {
         ensures value { IsHonest S.Store self.new → (b : History) → Stands S.Store b self.old
             → IfOk result (λ last. last ≡ last_of b) }
         ensures refusals { IfErr result (λ e. (e ≡ StoreFault.Memory) ⊎ (e ≡ StoreFault.Database)) }
-        ensures faults { MatchResult result (λ _. self.new.faults ≡ self.old.faults) (λ e. self.new.faults ≡ count_after e self.old.faults) }
+        ensures faults { MatchResult result (λ _. self.new.faults ≡ self.old.faults) (λ e. self.new.faults
+            ≡ count_after e self.old.faults) }
     {
         let stamp = self.base.greatest_stamp()?;
         Ok(last_from(stamp))
     }
 
-    /// How many stamps the account has reserved on a day, counted from 1970-01-01 in UTC: those that never got their token too.
+    /// How many stamps the account has reserved on a day, counted from 1970-01-01 in UTC: those that never got their
+    /// token too.
     pub fn count_of_day(&mut self, account: &str, day: u64) -> Result<u64, StoreFault>
         ensures looks { OnlyLooks S.Store self.old self.new }
         ensures opened { IsHonest S.Store self.new → OnOk result (IsOpen S.Store self.old) }
         ensures value { IsHonest S.Store self.new → (b : History) → Stands S.Store b self.old
             → IfOk result (λ count. count ≡ count_of_day account.now day b) }
         ensures refusals { IfErr result (λ e. (e ≡ StoreFault.Memory) ⊎ (e ≡ StoreFault.Database)) }
-        ensures faults { MatchResult result (λ _. self.new.faults ≡ self.old.faults) (λ e. self.new.faults ≡ count_after e self.old.faults) }
+        ensures faults { MatchResult result (λ _. self.new.faults ≡ self.old.faults) (λ e. self.new.faults
+            ≡ count_after e self.old.faults) }
     {
         let count = self.base.tally(account, day)?;
         Ok(count.unwrap_or(0))
@@ -80,7 +85,8 @@ impl<S: Alter + Drop> Store<S> {
         ensures value { IsHonest S.Store self.new → (b : History) → Stands S.Store b self.old
             → IfOk result (λ found. calibration_option found ≡ latest_calibration b) }
         ensures refusals { IfErr result (λ e. (e ≡ StoreFault.Memory) ⊎ (e ≡ StoreFault.Database)) }
-        ensures faults { MatchResult result (λ _. self.new.faults ≡ self.old.faults) (λ e. self.new.faults ≡ count_after e self.old.faults) }
+        ensures faults { MatchResult result (λ _. self.new.faults ≡ self.old.faults) (λ e. self.new.faults
+            ≡ count_after e self.old.faults) }
     {
         let latest = self.base.latest_calibration()?;
         Ok(calibration_from(latest))
@@ -93,15 +99,16 @@ impl<S: Alter + Drop> Store<S> {
         ensures value { IsHonest S.Store self.new → (b : History) → Stands S.Store b self.old
             → IfOk result (λ held. held ≡ is_held now b) }
         ensures refusals { IfErr result (λ e. (e ≡ StoreFault.Memory) ⊎ (e ≡ StoreFault.Database)) }
-        ensures faults { MatchResult result (λ _. self.new.faults ≡ self.old.faults) (λ e. self.new.faults ≡ count_after e self.old.faults) }
+        ensures faults { MatchResult result (λ _. self.new.faults ≡ self.old.faults) (λ e. self.new.faults
+            ≡ count_after e self.old.faults) }
     {
         let held = self.base.held_at(now)?;
         Ok(held)
     }
 
-    /// Reserves a stamp, which counts on its UTC day from now on, whether it is sealed or not. The caller's condition is that its
-    /// serial number is the greatest plus one, where that is at most 2^63 - 1. Refused with `Full`, and no row is added, where the
-    /// greatest is 2^63 - 1.
+    /// Reserves a stamp, which counts on its UTC day from now on, whether it is sealed or not. The caller's condition
+    /// is that its serial number is the greatest plus one, where that is at most 2^63 - 1. Refused with `Full`, and no
+    /// row is added, where the greatest is 2^63 - 1.
     pub fn reserve(&mut self, reservation: &Reservation<'_>) -> Result<(), StoreFault>
         ensures honest { IsHonest S.Store self.new → IsHonest S.Store self.old }
         ensures opened { IsHonest S.Store self.new → OnOk result (IsOpen S.Store self.old × IsOpen S.Store self.new) }
@@ -109,11 +116,14 @@ impl<S: Alter + Drop> Store<S> {
             → OnOk result (Stands S.Store (Reserved (reservation_view reservation.now) ∷ b) self.new) }
         ensures err { (b : History) → Stands S.Store b self.old → OnErr result (Stands S.Store b self.new) }
         ensures crash { LeavesOrAdds S.Store (Reserved (reservation_view reservation.now)) self.old self.new }
-        ensures full { IsHonest S.Store self.new → (b : History) → Stands S.Store b self.old → result ≡ Err StoreFault.Full → IsSpent b }
+        ensures full { IsHonest S.Store self.new → (b : History) → Stands S.Store b self.old → result
+            ≡ Err StoreFault.Full → IsSpent b }
         ensures spent { IsHonest S.Store self.new → (b : History) → Stands S.Store b self.old → IsSpent b
             → IsErr result × LeavesAsBefore S.Store self.old self.new }
-        ensures refusals { IfErr result (λ e. (e ≡ StoreFault.Memory) ⊎ ((e ≡ StoreFault.Database) ⊎ (e ≡ StoreFault.Full))) }
-        ensures faults { MatchResult result (λ _. self.new.faults ≡ self.old.faults) (λ e. self.new.faults ≡ count_after e self.old.faults) }
+        ensures refusals { IfErr result (λ e. (e ≡ StoreFault.Memory)
+            ⊎ ((e ≡ StoreFault.Database) ⊎ (e ≡ StoreFault.Full))) }
+        ensures faults { MatchResult result (λ _. self.new.faults ≡ self.old.faults) (λ e. self.new.faults
+            ≡ count_after e self.old.faults) }
     {
         let last = self.last()?;
         if last.serial == GREATEST {
@@ -142,14 +152,15 @@ impl<S: Alter + Drop> Store<S> {
         ensures err { (b : History) → Stands S.Store b self.old → OnErr result (Stands S.Store b self.new) }
         ensures crash { LeavesOrAdds S.Store (Sealed serial token.now) self.old self.new }
         ensures refusals { IfErr result (λ e. (e ≡ StoreFault.Memory) ⊎ (e ≡ StoreFault.Database)) }
-        ensures faults { MatchResult result (λ _. self.new.faults ≡ self.old.faults) (λ e. self.new.faults ≡ count_after e self.old.faults) }
+        ensures faults { MatchResult result (λ _. self.new.faults ≡ self.old.faults) (λ e. self.new.faults
+            ≡ count_after e self.old.faults) }
     {
         self.base.commit(&Change::Seal { serial, token })?;
         Ok(())
     }
 
-    /// Adds a calibration, which is the latest from now on. The caller's condition is an uncertainty of at most 10^12. Refused with
-    /// `Backwards` where its reading is before that of the latest.
+    /// Adds a calibration, which is the latest from now on. The caller's condition is an uncertainty of at most 10^12.
+    /// Refused with `Backwards` where its reading is before that of the latest.
     pub fn calibrate(&mut self, calibration: &Calibration) -> Result<(), StoreFault>
         ensures honest { IsHonest S.Store self.new → IsHonest S.Store self.old }
         ensures opened { IsHonest S.Store self.new → OnOk result (IsOpen S.Store self.old × IsOpen S.Store self.new) }
@@ -157,12 +168,16 @@ impl<S: Alter + Drop> Store<S> {
             → OnOk result (Stands S.Store (Calibrated (calibration_view calibration.now) ∷ b) self.new) }
         ensures err { (b : History) → Stands S.Store b self.old → OnErr result (Stands S.Store b self.new) }
         ensures crash { LeavesOrAdds S.Store (Calibrated (calibration_view calibration.now)) self.old self.new }
-        ensures backwards { IsHonest S.Store self.new → (b : History) → Stands S.Store b self.old → result ≡ Err StoreFault.Backwards
+        ensures backwards { IsHonest S.Store self.new → (b : History) → Stands S.Store b self.old → result
+            ≡ Err StoreFault.Backwards
             → IsBackwards (calibration_view calibration.now) (latest_calibration b) }
         ensures refused { IsHonest S.Store self.new → (b : History) → Stands S.Store b self.old
-            → IsBackwards (calibration_view calibration.now) (latest_calibration b) → IsErr result × LeavesAsBefore S.Store self.old self.new }
-        ensures refusals { IfErr result (λ e. (e ≡ StoreFault.Memory) ⊎ ((e ≡ StoreFault.Database) ⊎ (e ≡ StoreFault.Backwards))) }
-        ensures faults { MatchResult result (λ _. self.new.faults ≡ self.old.faults) (λ e. self.new.faults ≡ count_after e self.old.faults) }
+            → IsBackwards (calibration_view calibration.now) (latest_calibration b)
+            → IsErr result × LeavesAsBefore S.Store self.old self.new }
+        ensures refusals { IfErr result (λ e. (e ≡ StoreFault.Memory)
+            ⊎ ((e ≡ StoreFault.Database) ⊎ (e ≡ StoreFault.Backwards))) }
+        ensures faults { MatchResult result (λ _. self.new.faults ≡ self.old.faults) (λ e. self.new.faults
+            ≡ count_after e self.old.faults) }
     {
         let latest = self.base.latest_calibration()?;
         if is_backwards(calibration, latest) {
@@ -191,7 +206,8 @@ impl<S: Alter + Drop> Store<S> {
         ensures err { (b : History) → Stands S.Store b self.old → OnErr result (Stands S.Store b self.new) }
         ensures crash { LeavesOrAdds S.Store (Held (hold_view hold.now)) self.old self.new }
         ensures refusals { IfErr result (λ e. (e ≡ StoreFault.Memory) ⊎ (e ≡ StoreFault.Database)) }
-        ensures faults { MatchResult result (λ _. self.new.faults ≡ self.old.faults) (λ e. self.new.faults ≡ count_after e self.old.faults) }
+        ensures faults { MatchResult result (λ _. self.new.faults ≡ self.old.faults) (λ e. self.new.faults
+            ≡ count_after e self.old.faults) }
     {
         let greatest = self.base.greatest_hold()?;
         let Hold { from, to } = *hold;

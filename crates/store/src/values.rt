@@ -26,8 +26,8 @@ pub struct Reservation<'a> {
 pub struct Calibration {
     /// The clock's reading then, in microseconds.
     pub reading: i64,
-    /// What has to be added to a reading for the moment, in microseconds since 1970-01-01T00:00:00Z; negative where the clock is
-    /// ahead.
+    /// What has to be added to a reading for the moment, in microseconds since 1970-01-01T00:00:00Z; negative where the
+    /// clock is ahead.
     pub offset: i64,
     /// How far the true moment may have been away from that one, in microseconds, at most 10^12.
     pub uncertainty: u64,

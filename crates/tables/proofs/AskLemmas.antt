@@ -1,5 +1,6 @@
 -- A query in a transaction that is undone.
-use Rattle.std.proofs.Common.{◌≡◌, ◌⊎◌, ℕ, List, [], None, Some, true, false, Result, Ok, Err, IfOk, IfErr, OnOk, IsTrue, refl, sym, ap, ◌∙◌, subst, inl, inr, arith, append-nil}
+use Rattle.std.proofs.Common.{◌≡◌, ◌⊎◌, ℕ, List, [], None, Some, true, false, Result, Ok, Err, IfOk, IfErr, OnOk}
+use Rattle.std.proofs.Common.{IsTrue, refl, sym, ap, ◌∙◌, subst, inl, inr, arith, append-nil}
 use Rattle.std.specs.Prelude.{IsSome, Option}
 use Rattle.sqlite_value.specs.Order.{Row}
 use Rattle.sqlite_trees.specs.Tree.{Trees}
@@ -11,7 +12,8 @@ use Rattle.sqlite_schema.specs.declared.command.Returning.{Returning}
 use Rattle.sqlite_resolve.specs.declared.compiled.Compiled.{Compiled}
 use Rattle.sqlite.specs.Held.{Held, state}
 use Rattle.sqlite.specs.Listing.{understood}
-use Rattle.sqlite.specs.State.{State, HasCleanDisk, Survives, IsRolledBack, IsUnchanged, KeepsCommit, IsNotRun, FailsToQuery, FailsToShow, IsTooLate, Shown, ShowsRows}
+use Rattle.sqlite.specs.State.{State, HasCleanDisk, Survives, IsRolledBack, IsUnchanged, KeepsCommit, IsNotRun}
+use Rattle.sqlite.specs.State.{FailsToQuery, FailsToShow, IsTooLate, Shown, ShowsRows}
 use Rattle.sqlite.proofs.Callers.{reads_as, command_of}
 use Rattle.tables.specs.Schema.{the_schema}
 use Rattle.tables.specs.Asking.{IsQueryText, IsPlainIn, Answers, TellsRows, Looks}
@@ -23,18 +25,21 @@ rolled_keeps : (old new : State) → IsRolledBack old new → KeepsCommit old ne
 rolled_keeps old new r = record { was_open = r.was_open; committed = λ o. (r.undone o).1 }
 
 module _ (sql : List ℕ) (params : Row) (old new : State) where
-  shows_keeps : (c : Compiled) (given : Row) (rows : List Row) (returning : Option Returning) → old.in_transaction ≡ true → ShowsRows old new sql c given rows returning
+  shows_keeps : (c : Compiled) (given : Row) (rows : List Row) (returning : Option Returning)
+      → old.in_transaction ≡ true → ShowsRows old new sql c given rows returning
       → KeepsCommit old new
   shows_keeps c given rows None inside h = unchanged_keeps old new h.3
   shows_keeps c given rows (Some what) inside h =
       let is = h.1.shown.committed_is in
       record { was_open = λ _. h.1.shown.was_open; committed = λ _. rw inside at is }
 
-  shows_opens : (c : Compiled) (given : Row) (rows : List Row) (returning : Option Returning) → ShowsRows old new sql c given rows returning → IsTrue old.is_open
+  shows_opens : (c : Compiled) (given : Row) (rows : List Row) (returning : Option Returning)
+      → ShowsRows old new sql c given rows returning → IsTrue old.is_open
   shows_opens c given rows None h = h.3.0.was_open
   shows_opens c given rows (Some what) h = h.1.shown.was_open
 
-  fails_shows : (c : Compiled) (given : Row) (e : Error) (returning : Option Returning) → FailsToShow old new sql c given e returning → KeepsCommit old new
+  fails_shows : (c : Compiled) (given : Row) (e : Error) (returning : Option Returning)
+      → FailsToShow old new sql c given e returning → KeepsCommit old new
   fails_shows c given e None h = unchanged_keeps old new h.3
   fails_shows c given e (Some what) (inl h) = unchanged_keeps old new h.1
   fails_shows c given e (Some what) (inr fails) = rolled_keeps old new fails.3
@@ -56,23 +61,32 @@ module _ (sql : List ℕ) (params : Row) (old new : State) where
   pub late_keeps : (e : Error) → IsTooLate sql params old new e → KeepsCommit old new
   late_keeps e h = unchanged_keeps old new h.5
 
-  pub shown_tells : IsQueryText sql → old.now.schema ≡ the_schema → (rows : List Row) → Shown sql params old new rows → TellsRows sql params old.now.trees rows
+  pub shown_tells : IsQueryText sql → old.now.schema ≡ the_schema → (rows : List Row) → Shown sql params old new rows
+      → TellsRows sql params old.now.trees rows
   shown_tells text has rows h =
-      let it = reads_as sql params old new the_schema has (command_of (understood the_schema sql)) refl text.plain text.unlisted rows h in
-      subst (λ s. Reads (command_of (understood the_schema sql)) (record { schema = s; trees = old.now.trees }) params rows) has it
+      let it = reads_as sql params old new the_schema has (command_of (understood the_schema sql)) refl text.plain
+      text.unlisted rows h in
+      subst (λ s. Reads (command_of (understood the_schema sql)) (record { schema = s; trees = old.now.trees }) params
+      rows) has it
 
-  pub shown_answers : IsPlainIn old.now.schema sql → (rows : List Row) → Shown sql params old new rows → Answers sql params old.now rows
+  pub shown_answers : IsPlainIn old.now.schema sql → (rows : List Row) → Shown sql params old new rows
+      → Answers sql params old.now rows
   unfolding Shown
   shown_answers plain rows h =
       let bare = plain h.0 h.1.is in
       let it = rw (bare.0, bare.1, append-nil params) at h.2 in
       (h.0, h.1.is, it.0, it.1, it.2)
 
-module _ {S R : Type 0} (g : Ghosts S) (items : R → List Row) (old mid last : Held S) (sql : List ℕ) (params : Row) (text : IsQueryText sql) (result : Result R Error)
-    (first : Survives (state g (record old { in_transaction = true })) (state g mid) (λ _. ⊥)) (then : Survives (state g mid) (state g last) (λ _. ⊥))
+module _ {S R : Type 0} (g : Ghosts S) (items : R → List Row) (old mid last : Held S) (sql : List ℕ) (params : Row)
+    (text : IsQueryText sql) (result : Result R Error)
+    (first : Survives (state g (record old { in_transaction = true })) (state g mid) (λ _. ⊥))
+    (then : Survives (state g mid) (state g last) (λ _. ⊥))
     (undone : HasCleanDisk (state g last) → IsRolledBack (state g mid) (state g last))
-    (ok : HasCleanDisk (state g mid) → IfOk result (λ rows. Shown sql params (state g (record old { in_transaction = true })) (state g mid) (items rows)))
-    (err : HasCleanDisk (state g mid) → IfErr result (λ e. FailsToQuery sql params (state g (record old { in_transaction = true })) (state g mid) e
+    (ok : HasCleanDisk (state g mid)
+    → IfOk result (λ rows. Shown sql params (state g (record old { in_transaction = true })) (state g mid)
+    (items rows)))
+    (err : HasCleanDisk (state g mid)
+    → IfErr result (λ e. FailsToQuery sql params (state g (record old { in_transaction = true })) (state g mid) e
     ⊎ IsTooLate sql params (state g (record old { in_transaction = true })) (state g mid) e)) where
   middle : HasCleanDisk (state g last) → HasCleanDisk (state g mid)
   middle clean = omega (arith, then.clean)
@@ -82,17 +96,22 @@ module _ {S R : Type 0} (g : Ghosts S) (items : R → List Row) (old mid last : 
       → IfErr r (λ e. FailsToQuery sql params (state g (record old { in_transaction = true })) (state g mid) e
       ⊎ IsTooLate sql params (state g (record old { in_transaction = true })) (state g mid) e)
       → KeepsCommit (state g (record old { in_transaction = true })) (state g mid)
-  keeps (Ok rows) ok err = shown_keeps sql params (state g (record old { in_transaction = true })) (state g mid) (items rows) refl ok
-  keeps (Err e) ok (inl fails) = fails_keeps sql params (state g (record old { in_transaction = true })) (state g mid) e fails
-  keeps (Err e) ok (inr late) = late_keeps sql params (state g (record old { in_transaction = true })) (state g mid) e late
+  keeps (Ok rows) ok err =
+      shown_keeps sql params (state g (record old { in_transaction = true })) (state g mid) (items rows) refl ok
+  keeps (Err e) ok (inl fails) =
+      fails_keeps sql params (state g (record old { in_transaction = true })) (state g mid) e fails
+  keeps (Err e) ok (inr late) =
+      late_keeps sql params (state g (record old { in_transaction = true })) (state g mid) e late
 
   pub looked : Looks (state g old) (state g last)
   looked = record {
     clean = λ clean. omega (arith, then.clean, first.clean);
-    reopens = λ clean is_open. (keeps result (ok (middle clean)) (err (middle clean))).was_open ((undone clean).was_open is_open);
+    reopens = λ clean is_open. (keeps result (ok (middle clean)) (err (middle clean))).was_open
+        ((undone clean).was_open is_open);
     kept = λ clean is_open settled.
         let back = (undone clean).undone is_open in
-        let before = (keeps result (ok (middle clean)) (err (middle clean))).committed ((undone clean).was_open is_open) in
+        let before = (keeps result (ok (middle clean)) (err (middle clean))).committed
+        ((undone clean).was_open is_open) in
         (back.0 ∙ before ∙ sym settled, back.0 ∙ sym back.1);
     leaves = λ clean db leaves. elim (then.crash clean db leaves) [
       | inl before ↦ elim (first.crash (middle clean) db before) [ inl start ↦ start | inr none ↦ absurd none ]
@@ -101,26 +120,32 @@ module _ {S R : Type 0} (g : Ghosts S) (items : R → List Row) (old mid last : 
   }
 
   opens : (r : Result R Error)
-      → IfOk r (λ rows. Shown sql params (state g (record old { in_transaction = true })) (state g mid) (items rows)) → OnOk r (IsTrue (state g old).is_open)
-  opens (Ok rows) ok = shown_opens sql params (state g (record old { in_transaction = true })) (state g mid) (items rows) ok
+      → IfOk r (λ rows. Shown sql params (state g (record old { in_transaction = true })) (state g mid) (items rows))
+      → OnOk r (IsTrue (state g old).is_open)
+  opens (Ok rows) ok =
+      shown_opens sql params (state g (record old { in_transaction = true })) (state g mid) (items rows) ok
   opens (Err e) ok = tt
 
   tells : (r : Result R Error) → (state g old).now.schema ≡ the_schema
       → IfOk r (λ rows. Shown sql params (state g (record old { in_transaction = true })) (state g mid) (items rows))
       → IfOk r (λ rows. TellsRows sql params (state g old).now.trees (items rows))
-  tells (Ok rows) has ok = shown_tells sql params (state g (record old { in_transaction = true })) (state g mid) text has (items rows) ok
+  tells (Ok rows) has ok =
+      shown_tells sql params (state g (record old { in_transaction = true })) (state g mid) text has (items rows) ok
   tells (Err e) has ok = tt
 
-  pub told : HasCleanDisk (state g last) → (state g old).now.schema ≡ the_schema → IfOk result (λ rows. TellsRows sql params (state g old).now.trees (items rows))
+  pub told : HasCleanDisk (state g last) → (state g old).now.schema ≡ the_schema
+      → IfOk result (λ rows. TellsRows sql params (state g old).now.trees (items rows))
   told clean has = tells result has (ok (middle clean))
 
   answers : (r : Result R Error) → IsPlainIn (state g old).now.schema sql
       → IfOk r (λ rows. Shown sql params (state g (record old { in_transaction = true })) (state g mid) (items rows))
       → IfOk r (λ rows. Answers sql params (state g old).now (items rows))
-  answers (Ok rows) plain ok = shown_answers sql params (state g (record old { in_transaction = true })) (state g mid) plain (items rows) ok
+  answers (Ok rows) plain ok =
+      shown_answers sql params (state g (record old { in_transaction = true })) (state g mid) plain (items rows) ok
   answers (Err e) plain ok = tt
 
-  pub answered : HasCleanDisk (state g last) → IsPlainIn (state g old).now.schema sql → IfOk result (λ rows. Answers sql params (state g old).now (items rows))
+  pub answered : HasCleanDisk (state g last) → IsPlainIn (state g old).now.schema sql
+      → IfOk result (λ rows. Answers sql params (state g old).now (items rows))
   answered clean plain = answers result plain (ok (middle clean))
 
   pub was_opened : HasCleanDisk (state g last) → OnOk result (IsTrue (state g old).is_open)

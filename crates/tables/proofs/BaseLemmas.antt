@@ -1,5 +1,6 @@
 -- What a commit makes of a connection that keeps tables.
-use Rattle.std.proofs.Common.{◌≡◌, ◌⊎◌, ℕ, true, false, Result, Ok, Err, OnOk, OnErr, IsTrue, refl, sym, ap, ◌∙◌, subst, inl, inr}
+use Rattle.std.proofs.Common.{◌≡◌, ◌⊎◌, ℕ, true, false, Result, Ok, Err, OnOk, OnErr, IsTrue, refl, sym, ap, ◌∙◌, subst}
+use Rattle.std.proofs.Common.{inl, inr}
 use Rattle.sqlite_trees.specs.Tree.{Trees}
 use Rattle.sqlite_trees.specs.declared.store.Store.{Ghosts}
 use Rattle.sqlite.specs.declared.error.Error.{Error}
@@ -18,45 +19,62 @@ use Rattle.tables.specs.Carrying.{Commits}
 abbrev pub IsSettled : {S : Type 0} → Ghosts S → Type 0
 IsSettled {S} g = (s : S) (db : Trees) → IsTrue (g.view s).is_open → g.recovers s db → db ≡ (g.view s).committed
 
-pub stands : {S : Type 0} (g : Ghosts S) → IsSettled g → (h : Held S) (t : Tables) → h.in_transaction ≡ false → IsTrue (state g h).is_open → (state g h).now ≡ (state g h).committed
+pub stands : {S : Type 0} (g : Ghosts S) → IsSettled g → (h : Held S) (t : Tables) → h.in_transaction ≡ false
+    → IsTrue (state g h).is_open → (state g h).now ≡ (state g h).committed
     → IsDatabaseOf t (state g h).now → StandsFor t (state g h)
 stands g settled h t closed is_open same d = record {
   schema = d.schema;
   holds = d.holds;
   settled = same;
   autocommit = closed;
-  leaves = λ db may. subst (Holds t) (ap (λ (x : Database). x.trees) same ∙ sym (settled h.store db is_open may)) d.holds;
+  leaves = λ db may. subst (Holds t) (ap (λ (x : Database). x.trees) same ∙ sym (settled h.store db is_open may))
+      d.holds;
 }
 
-module _ {S X : Type 0} (g : Ghosts S) (settled : IsSettled g) (step : Tables → Tables) (old new : Held S) (closed : new.in_transaction ≡ false) (t : Tables)
+module _ {S X : Type 0} (g : Ghosts S) (settled : IsSettled g) (step : Tables → Tables) (old new : Held S)
+    (closed : new.in_transaction ≡ false) (t : Tables)
     (keeps : HasCleanDisk (state g old) → IsTrue (state g old).is_open → StandsFor t (state g old)) where
-  pub keeps_on : (r : Result X Error) → Commits step (state g old) (state g new) r → OnOk r (HasCleanDisk (state g new) → IsTrue (state g new).is_open → StandsFor (step t) (state g new))
+  pub keeps_on : (r : Result X Error) → Commits step (state g old) (state g new) r
+      → OnOk r (HasCleanDisk (state g new) → IsTrue (state g new).is_open → StandsFor (step t) (state g new))
   keeps_on (Err e) c = tt
   keeps_on (Ok x) c = λ clean is_open.
       let s = keeps (c.clean clean) (c.opened clean).0 in
       let now = c.ok clean t (record { schema = s.schema; holds = s.holds }) in
       stands g settled new (step t) closed is_open now.1 now.0
 
-  pub keeps_still : (r : Result X Error) → Commits step (state g old) (state g new) r → OnErr r (HasCleanDisk (state g new) → IsTrue (state g new).is_open → StandsFor t (state g new))
+  pub keeps_still : (r : Result X Error) → Commits step (state g old) (state g new) r
+      → OnErr r (HasCleanDisk (state g new) → IsTrue (state g new).is_open → StandsFor t (state g new))
   keeps_still (Ok x) c = tt
   keeps_still (Err e) c = λ clean is_open.
       let s = keeps (c.clean clean) (c.reopens clean is_open) in
       let now = c.err clean is_open s.settled in
-      stands g settled new t closed is_open now.1 (record { schema = ap (λ (d : Database). d.schema) now.0 ∙ s.schema; holds = subst (λ (d : Database). Holds t d.trees) (sym now.0) s.holds })
+      stands g settled new t closed is_open now.1
+      (record {
+        schema = ap (λ (d : Database). d.schema) now.0 ∙ s.schema;
+        holds = subst (λ (d : Database). Holds t d.trees) (sym now.0) s.holds;
+      })
 
-pub crash_leaves : {S X : Type 0} (g : Ghosts S) (step : Tables → Tables) (old new : Held S) (r : Result X Error) → Commits step (state g old) (state g new) r → HasCleanDisk (state g new)
+pub crash_leaves : {S X : Type 0} (g : Ghosts S) (step : Tables → Tables) (old new : Held S) (r : Result X Error)
+    → Commits step (state g old) (state g new) r → HasCleanDisk (state g new)
     → (db : Trees) → (state g new).may_leave db
-    → (state g old).may_leave db ⊎ ((t : Tables) → (HasCleanDisk (state g old) → IsTrue (state g old).is_open → StandsFor t (state g old)) → Holds (step t) db)
+    → (state g old).may_leave db
+    ⊎ ((t : Tables) → (HasCleanDisk (state g old) → IsTrue (state g old).is_open → StandsFor t (state g old))
+    → Holds (step t) db)
 crash_leaves g step old new r c clean db may = elim (c.crash clean db may) [
   | inl before ↦ inl before
-  | inr now ↦ inr (λ t keeps. let s = keeps (c.clean clean) (now.0 tt) in now.1 t (record { schema = s.schema; holds = s.holds }))
+  | inr now ↦ inr (λ t keeps. let s = keeps (c.clean clean) (now.0 tt) in
+      now.1 t (record { schema = s.schema; holds = s.holds }))
 ]
 
-pub created_keeps : {S : Type 0} (g : Ghosts S) → IsSettled g → (old new : Held S) → new.in_transaction ≡ false → Creates (state g old) (state g new) (Ok tt) → (state g old).now.schema ≡ no_schema
+pub created_keeps : {S : Type 0} (g : Ghosts S) → IsSettled g → (old new : Held S) → new.in_transaction ≡ false
+    → Creates (state g old) (state g new) (Ok tt) → (state g old).now.schema ≡ no_schema
     → HasCleanDisk (state g new) → IsTrue (state g new).is_open → StandsFor no_rows (state g new)
-created_keeps g settled old new closed c has clean is_open = let now = c.ok clean no_rows has in stands g settled new no_rows closed is_open now.1 now.0
+created_keeps g settled old new closed c has clean is_open = let now = c.ok clean no_rows has in
+    stands g settled new no_rows closed is_open now.1 now.0
 
-pub adopted_keeps : {S : Type 0} (g : Ghosts S) → IsSettled g → (old new : Held S) → new.in_transaction ≡ false → Looks (state g old) (state g new) → (t : Tables) → IsFound t (state g old)
+pub adopted_keeps : {S : Type 0} (g : Ghosts S) → IsSettled g → (old new : Held S) → new.in_transaction ≡ false
+    → Looks (state g old) (state g new) → (t : Tables) → IsFound t (state g old)
     → HasCleanDisk (state g new) → IsTrue (state g new).is_open → StandsFor t (state g new)
 adopted_keeps g settled old new closed looks t found clean is_open =
-    let now = looks.kept clean is_open found.1 in stands g settled new t closed is_open now.1 (subst (IsDatabaseOf t) (sym now.0) found.0)
+    let now = looks.kept clean is_open found.1 in
+    stands g settled new t closed is_open now.1 (subst (IsDatabaseOf t) (sym now.0) found.0)

@@ -13,7 +13,8 @@ use Rattle.tables.specs.Schema.{the_schema}
 use Rattle.tables.specs.Tables.{Tables}
 
 -- it leaves what the tables are
-pub reads_only : {S : Type 0} (g : Ghosts S) (old new : BaseValue S) → new.conn.in_transaction ≡ false → Looks (state g old.conn) (state g new.conn) → OnlyReads g old new
+pub reads_only : {S : Type 0} (g : Ghosts S) (old new : BaseValue S) → new.conn.in_transaction ≡ false
+    → Looks (state g old.conn) (state g new.conn) → OnlyReads g old new
 reads_only g old new closed looks = record {
   honest = looks.clean;
   kept = λ t keeps clean is_open.
@@ -30,5 +31,6 @@ reads_only g old new closed looks = record {
 }
 
 -- the database that it reads is that of the tables
-pub database_of : {S : Type 0} (g : Ghosts S) (old : BaseValue S) (t : Tables) → Keeps g t old → IsHonest g old → IsOpen g old → IsDatabaseOf t (state g old.conn).now
+pub database_of : {S : Type 0} (g : Ghosts S) (old : BaseValue S) (t : Tables) → Keeps g t old → IsHonest g old
+    → IsOpen g old → IsDatabaseOf t (state g old.conn).now
 database_of g old t keeps honest is_open = let s = keeps honest is_open in record { schema = s.schema; holds = s.holds }

@@ -1,5 +1,6 @@
 -- A statement that is run inside a transaction, from what it makes of the tables.
-use Rattle.std.proofs.Common.{◌≡◌, ◌⊎◌, ℕ, true, false, List, [], Option, None, Some, Result, Ok, Err, OnOk, IsTrue, refl, sym, ap, ◌∙◌, subst, inl, inr}
+use Rattle.std.proofs.Common.{◌≡◌, ◌⊎◌, ℕ, true, false, List, [], Option, None, Some, Result, Ok, Err, OnOk, IsTrue}
+use Rattle.std.proofs.Common.{refl, sym, ap, ◌∙◌, subst, inl, inr}
 use Rattle.std.specs.Prelude.{unwrap_or}
 use Rattle.sqlite_value.specs.Order.{Row}
 use Rattle.sqlite_trees.specs.Tree.{Trees}
@@ -9,7 +10,8 @@ use Rattle.sqlite.specs.declared.error.Error.{Error}
 use Rattle.sqlite.specs.Effect.{Database}
 use Rattle.sqlite.specs.Listing.{understood}
 use Rattle.sqlite.specs.Does.{Tally, Does}
-use Rattle.sqlite.specs.State.{State, HasCleanDisk, Survives, KeepsCommit, ExecutesInside, IsUnchanged, IsRolledBack, Runs, Writes}
+use Rattle.sqlite.specs.State.{State, HasCleanDisk, Survives, KeepsCommit, ExecutesInside, IsUnchanged, IsRolledBack}
+use Rattle.sqlite.specs.State.{Runs, Writes}
 use Rattle.sqlite.proofs.Callers.{IsPlain, command_of, statement_of, runs_as}
 use Rattle.tables.specs.Schema.{the_schema}
 use Rattle.tables.specs.Tables.{Tables}
@@ -23,7 +25,8 @@ keeps_unchanged old new h = record { was_open = λ _. h.0.was_open; committed = 
 pub keeps_undone : (old new : State) → IsRolledBack old new → KeepsCommit old new
 keeps_undone old new h = record { was_open = h.was_open; committed = λ is_open. (h.undone is_open).1 }
 
-pub kept_inside : (sql : List ℕ) (params : Row) (old new : State) (result : Result ℕ Error) → ExecutesInside 0 sql params old new result → KeepsCommit old new
+pub kept_inside : (sql : List ℕ) (params : Row) (old new : State) (result : Result ℕ Error)
+    → ExecutesInside 0 sql params old new result → KeepsCommit old new
 kept_inside sql params old new (Ok count) h = record { was_open = λ _. h.1.was_open; committed = λ _. h.1.committed_is }
 kept_inside sql params old new (Err e) (inl (ran, inl same)) = keeps_unchanged old new same
 kept_inside sql params old new (Err e) (inl (ran, inr undone)) = keeps_undone old new undone
@@ -33,20 +36,33 @@ kept_inside sql params old new (Err e) (inr h) = keeps_unchanged old new h.2
 abbrev pub Makes : Command → Row → (Tables → Tables) → Type 0
 Makes command params step =
     (limit : Option ℕ) (text : List ℕ) (t : Tables) (db : Trees) (out : Tally × Database) → Holds t db
-    → Does limit plain_mode params (record { schema = the_schema; trees = db }) text None command (Ok out) → IsDatabaseOf (step t) out.1
+    → Does limit plain_mode params (record { schema = the_schema; trees = db }) text None command (Ok out)
+    → IsDatabaseOf (step t) out.1
 
-module _ (sql : List ℕ) (params : Row) (command : Command) (is : command_of (understood the_schema sql) ≡ command) (plain : IsPlain (understood the_schema sql))
-    (writes : (old new : State) (text : List ℕ) (count : ℕ) → Runs old new None command text params count → Writes old new None command text params count) where
+module _ (sql : List ℕ) (params : Row) (command : Command) (is : command_of (understood the_schema sql) ≡ command)
+    (plain : IsPlain (understood the_schema sql))
+    (writes : (old new : State) (text : List ℕ) (count : ℕ) → Runs old new None command text params count
+    → Writes old new None command text params count) where
   -- what it did, under the schema
   pub did : (old new : State) (count : ℕ) → old.now.schema ≡ the_schema → ExecutesInside 0 sql params old new (Ok count)
-      → (tally : Tally) × (text : List ℕ) × Does old.step_limit plain_mode params (record { schema = the_schema; trees = old.now.trees }) text None command (Ok (tally, new.now)) × (count ≡ unwrap_or tally.rows 0)
+      → (tally : Tally) × (text : List ℕ)
+      × Does old.step_limit plain_mode params (record { schema = the_schema; trees = old.now.trees }) text None command
+      (Ok (tally, new.now)) × (count ≡ unwrap_or tally.rows 0)
   did old new count has h =
       let text = statement_of sql (understood the_schema sql) in
-      let w = writes old new text count (runs_as sql params old new the_schema has command is plain count h.0) in
-      (w.tally, text, subst (λ s. Does old.step_limit plain_mode params (record { schema = s; trees = old.now.trees }) text None command (Ok (w.tally, new.now))) has w.changed, w.counted)
+      let w = writes old new text count (runs_as sql params old new the_schema has command is plain count h.0) in (
+        w.tally,
+        text,
+        subst (λ s. Does old.step_limit plain_mode params (record { schema = s; trees = old.now.trees })
+            text None command (Ok (w.tally, new.now))) has w.changed,
+        w.counted,
+      )
 
-  pub carried : (step : Tables → Tables) → Makes command params step → (old new : State) (result : Result ℕ Error) → Survives old new (λ _. ⊥)
-      → (given : Row) → given ≡ params → (HasCleanDisk new → IsTrue old.in_transaction → ExecutesInside 0 sql given old new result) → Carries step old new result
+  pub carried : (step : Tables → Tables) → Makes command params step → (old new : State) (result : Result ℕ Error)
+      → Survives old new (λ _. ⊥)
+      → (given : Row) → given ≡ params
+      → (HasCleanDisk new → IsTrue old.in_transaction → ExecutesInside 0 sql given old new result)
+      → Carries step old new result
   carried step makes old new result survives given same ran = record {
     survives = survives;
     kept = λ clean inside. kept_inside sql params old new result (runs clean inside);
@@ -54,12 +70,14 @@ module _ (sql : List ℕ) (params : Row) (command : Command) (is : command_of (u
   }
     where
       runs : HasCleanDisk new → IsTrue old.in_transaction → ExecutesInside 0 sql params old new result
-      runs = subst (λ ps. HasCleanDisk new → IsTrue old.in_transaction → ExecutesInside 0 sql ps old new result) same ran
+      runs = subst (λ ps. HasCleanDisk new → IsTrue old.in_transaction → ExecutesInside 0 sql ps old new result) same
+          ran
 
       went : (r : Result ℕ Error) → ExecutesInside 0 sql params old new r → OnOk r (Goes step old new)
       went (Err e) h = tt
       went (Ok count) h = record {
         was_open = λ _. h.1.was_open;
         inside = h.1.mode;
-        goes = λ t d. let it = did old new count d.schema h in makes old.step_limit it.1 t old.now.trees (it.0, new.now) d.holds it.2;
+        goes = λ t d. let it = did old new count d.schema h in
+            makes old.step_limit it.1 t old.now.trees (it.0, new.now) d.holds it.2;
       }

@@ -1,5 +1,6 @@
 -- A transaction that ends in a commit.
-use Rattle.std.proofs.Common.{◌≡◌, ◌⊎◌, [], ℕ, true, false, Result, Ok, Err, OnOk, OnErr, IfErr, IsTrue, refl, sym, ap, ◌∙◌, subst, inl, inr, arith}
+use Rattle.std.proofs.Common.{◌≡◌, ◌⊎◌, [], ℕ, true, false, Result, Ok, Err, OnOk, OnErr, IfErr, IsTrue, refl, sym, ap}
+use Rattle.std.proofs.Common.{◌∙◌, subst, inl, inr, arith}
 use Rattle.sqlite_trees.specs.Tree.{Trees}
 use Rattle.sqlite_trees.specs.declared.store.Store.{Ghosts}
 use Rattle.sqlite.specs.declared.error.Error.{Error}
@@ -13,43 +14,58 @@ use Rattle.tables.specs.Carrying.{GoesFrom, CarriesFrom, CommitsFrom}
 
 -- how a commit ends
 abbrev EndsWell : State → State → Result (Unit {0}) Error → Type 0
-EndsWell mid last r = OnOk r (IsTrue mid.in_transaction × Shows mid last mid.now mid.now false × KeepsCounts mid last × (last.marks ≡ []))
+EndsWell mid last r =
+    OnOk r (IsTrue mid.in_transaction × Shows mid last mid.now mid.now false × KeepsCounts mid last × (last.marks ≡ []))
 
-module _ {S X : Type 0} (g : Ghosts S) (Before : Tables → Database → Type 0) (Known : Type 0) (step : Tables → Tables) (old mid last : Held S) (x : X) (carries : CarriesFrom Before Known step (state g (record old { in_transaction = true })) (state g mid) (Ok x)) where
+module _ {S X : Type 0} (g : Ghosts S) (Before : Tables → Database → Type 0) (Known : Type 0) (step : Tables → Tables)
+    (old mid last : Held S) (x : X)
+    (carries : CarriesFrom Before Known step (state g (record old { in_transaction = true })) (state g mid)
+    (Ok x)) where
   module _ (survives : Survives (state g mid) (state g last) (λ db. db ≡ (state g mid).now.trees)) where
     middle : HasCleanDisk (state g last) → HasCleanDisk (state g mid)
     middle clean = omega (arith, survives.clean)
 
-    went : HasCleanDisk (state g last) → GoesFrom Before Known step (state g (record old { in_transaction = true })) (state g mid)
+    went : HasCleanDisk (state g last)
+        → GoesFrom Before Known step (state g (record old { in_transaction = true })) (state g mid)
     went clean = carries.ok (middle clean) refl
 
     kept : HasCleanDisk (state g last) → KeepsCommit (state g (record old { in_transaction = true })) (state g mid)
     kept clean = carries.kept (middle clean) refl
 
-    reopened : (r : Result (Unit {0}) Error) → EndsWell (state g mid) (state g last) r → IfErr r (FailsToCommit (state g mid) (state g last)) → IsTrue (state g last).is_open → IsTrue (state g mid).is_open
+    reopened : (r : Result (Unit {0}) Error) → EndsWell (state g mid) (state g last) r
+        → IfErr r (FailsToCommit (state g mid) (state g last)) → IsTrue (state g last).is_open
+        → IsTrue (state g mid).is_open
     reopened (Ok u) ok err is_open = ok.1.was_open
     reopened (Err e) ok (inl fails) is_open = fails.3.was_open is_open
     reopened (Err e) ok (inr late) is_open = late.2.0.was_open
 
-    opened : (r : Result (Unit {0}) Error) → HasCleanDisk (state g last) → EndsWell (state g mid) (state g last) r → OnOk r (IsTrue (state g old).is_open × IsTrue (state g last).is_open)
+    opened : (r : Result (Unit {0}) Error) → HasCleanDisk (state g last) → EndsWell (state g mid) (state g last) r
+        → OnOk r (IsTrue (state g old).is_open × IsTrue (state g last).is_open)
     opened (Ok u) clean ok = ((kept clean).was_open ok.1.was_open, ok.1.is_open)
     opened (Err e) clean ok = tt
 
-    stepped : (r : Result (Unit {0}) Error) → HasCleanDisk (state g last) → EndsWell (state g mid) (state g last) r → (t : Tables) → Before t (state g old).now
+    stepped : (r : Result (Unit {0}) Error) → HasCleanDisk (state g last) → EndsWell (state g mid) (state g last) r
+        → (t : Tables) → Before t (state g old).now
         → OnOk r (IsDatabaseOf (step t) (state g last).now × ((state g last).now ≡ (state g last).committed))
-    stepped (Ok u) clean ok t d = (subst (IsDatabaseOf (step t)) (sym ok.1.now_is) ((went clean).goes t d), ok.1.now_is ∙ sym ok.1.committed_is)
+    stepped (Ok u) clean ok t d =
+        (subst (IsDatabaseOf (step t)) (sym ok.1.now_is) ((went clean).goes t d), ok.1.now_is ∙ sym ok.1.committed_is)
     stepped (Err e) clean ok t d = tt
 
-    undone : (r : Result (Unit {0}) Error) → HasCleanDisk (state g last) → IfErr r (FailsToCommit (state g mid) (state g last)) → IsTrue (state g last).is_open → (state g old).now ≡ (state g old).committed
+    undone : (r : Result (Unit {0}) Error) → HasCleanDisk (state g last)
+        → IfErr r (FailsToCommit (state g mid) (state g last)) → IsTrue (state g last).is_open
+        → (state g old).now ≡ (state g old).committed
         → OnErr r (((state g last).now ≡ (state g old).now) × ((state g last).now ≡ (state g last).committed))
     undone (Ok u) clean err is_open settled = tt
     undone (Err e) clean (inl fails) is_open settled =
         let back = fails.3.undone is_open in
         let first = (kept clean).committed (fails.3.was_open is_open) in
         (back.0 ∙ first ∙ sym settled, back.0 ∙ sym back.1)
-    undone (Err e) clean (inr late) is_open settled = absurd (let inside = (went clean).inside in let e' = sym inside ∙ late.1 in cc)
+    undone (Err e) clean (inr late) is_open settled = absurd (let inside = (went clean).inside in
+        let e' = sym inside ∙ late.1 in cc)
 
-    pub committed : (r : Result (Unit {0}) Error) → (HasCleanDisk (state g last) → EndsWell (state g mid) (state g last) r) → (HasCleanDisk (state g last) → IfErr r (FailsToCommit (state g mid) (state g last)))
+    pub committed : (r : Result (Unit {0}) Error)
+        → (HasCleanDisk (state g last) → EndsWell (state g mid) (state g last) r)
+        → (HasCleanDisk (state g last) → IfErr r (FailsToCommit (state g mid) (state g last)))
         → CommitsFrom Before Known step (state g old) (state g last) r
     committed r ok err = record {
       clean = λ clean. omega (arith, survives.clean, carries.survives.clean);
@@ -58,7 +74,8 @@ module _ {S X : Type 0} (g : Ghosts S) (Before : Tables → Database → Type 0)
       ok = λ clean t d. stepped r clean (ok clean) t d;
       err = λ clean is_open settled. undone r clean (err clean) is_open settled;
       crash = λ clean db leaves. elim (survives.crash clean db leaves) [
-        | inl before ↦ elim (carries.survives.crash (middle clean) db before) [ inl first ↦ inl first | inr none ↦ absurd none ]
+        | inl before ↦ elim (carries.survives.crash (middle clean) db before)
+            [ inl first ↦ inl first | inr none ↦ absurd none ]
         | inr now ↦ inr ((went clean).was_open, λ t d. subst (Holds (step t)) (sym now) ((went clean).goes t d).holds)
       ];
     }

@@ -1,5 +1,6 @@
 -- Statements in turn, and the tally of a stamp.
-use Rattle.std.proofs.Common.{◌≡◌, ◌≢◌, ◌+◌, ◌||◌, ℕ, Bool, true, false, cond, List, [], ◌∷◌, map, filter, length, Result, Ok, Err, OnOk, IsTrue, refl, sym, ap, ◌∙◌, subst, inl, inr, arith}
+use Rattle.std.proofs.Common.{◌≡◌, ◌≢◌, ◌+◌, ◌||◌, ℕ, Bool, true, false, cond, List, [], ◌∷◌, map, filter, length}
+use Rattle.std.proofs.Common.{Result, Ok, Err, OnOk, IsTrue, refl, sym, ap, ◌∙◌, subst, inl, inr, arith}
 use Rattle.std.specs.List.{list_any}
 use Rattle.sqlite_trees.specs.Tree.{Trees}
 use Rattle.sqlite.specs.declared.error.Error.{Error}
@@ -12,14 +13,19 @@ use Rattle.tables.specs.Carrying.{Goes, Carries}
 use Rattle.tables.proofs.ListLemmas.{none_any, some_any}
 
 pub keeps_then : (a b c : State) → KeepsCommit a b → KeepsCommit b c → KeepsCommit a c
-keeps_then a b c p q = record { was_open = λ o. p.was_open (q.was_open o); committed = λ o. q.committed o ∙ p.committed (q.was_open o) }
+keeps_then a b c p q =
+    record { was_open = λ o. p.was_open (q.was_open o); committed = λ o. q.committed o ∙ p.committed (q.was_open o) }
 
 -- one statement, and then another
-pub chained : {X Y : Type 0} (f h : Tables → Tables) (a b c : State) (x : X) (result : Result Y Error) → Carries f a b (Ok x) → Carries h b c result → Carries (λ t. h (f t)) a c result
+pub chained : {X Y : Type 0} (f h : Tables → Tables) (a b c : State) (x : X) (result : Result Y Error)
+    → Carries f a b (Ok x) → Carries h b c result → Carries (λ t. h (f t)) a c result
 chained {X} {Y} f h a b c x result p q = record {
-  survives = survives_then a b c (λ _. ⊥) (λ _. ⊥) (λ _. ⊥) (λ _ db none. none) (λ _ db none. none) p.survives q.survives;
-  kept = λ clean inside. let early = clean_before clean in let one = p.ok early inside in keeps_then a b c (p.kept early inside) (q.kept clean one.inside);
-  ok = λ clean inside. let early = clean_before clean in let one = p.ok early inside in both one result (q.ok clean one.inside);
+  survives = survives_then a b c (λ _. ⊥) (λ _. ⊥) (λ _. ⊥) (λ _ db none. none) (λ _ db none. none) p.survives
+      q.survives;
+  kept = λ clean inside. let early = clean_before clean in let one = p.ok early inside in
+      keeps_then a b c (p.kept early inside) (q.kept clean one.inside);
+  ok = λ clean inside. let early = clean_before clean in let one = p.ok early inside in
+      both one result (q.ok clean one.inside);
 }
   where
     clean_before : HasCleanDisk c → HasCleanDisk b
@@ -27,40 +33,61 @@ chained {X} {Y} f h a b c x result p q = record {
 
     both : Goes f a b → (r : Result Y Error) → OnOk r (Goes h b c) → OnOk r (Goes (λ t. h (f t)) a c)
     both one (Err e) two = tt
-    both one (Ok y) two = record { was_open = one.was_open; inside = two.inside; goes = λ t d. two.goes (f t) (one.goes t d) }
+    both one (Ok y) two =
+        record { was_open = one.was_open; inside = two.inside; goes = λ t d. two.goes (f t) (one.goes t d) }
 
 -- a refusal, whatever was to follow
-pub refused : {X Y : Type 0} (f h : Tables → Tables) (a b : State) (e : Error) → Carries {X = X} f a b (Err e) → Carries {X = Y} h a b (Err e)
+pub refused : {X Y : Type 0} (f h : Tables → Tables) (a b : State) (e : Error) → Carries {X = X} f a b (Err e)
+    → Carries {X = Y} h a b (Err e)
 refused f h a b e p = record { survives = p.survives; kept = p.kept; ok = λ clean inside. tt }
 
 -- the same step in other words
 pub reworded : {X : Type 0} (f h : Tables → Tables) (a b : State) (result : Result X Error) → Carries f a b result
-    → (HasCleanDisk b → IsTrue a.in_transaction → (t : Tables) → IsDatabaseOf t a.now → f t ≡ h t) → Carries h a b result
-reworded {X} f h a b result p same = record { survives = p.survives; kept = p.kept; ok = λ clean inside. go result (same clean inside) (p.ok clean inside) }
+    → (HasCleanDisk b → IsTrue a.in_transaction → (t : Tables) → IsDatabaseOf t a.now → f t ≡ h t)
+    → Carries h a b result
+reworded {X} f h a b result p same =
+    record {
+      survives = p.survives;
+      kept = p.kept;
+      ok = λ clean inside. go result (same clean inside) (p.ok clean inside);
+    }
   where
-    go : (r : Result X Error) → ((t : Tables) → IsDatabaseOf t a.now → f t ≡ h t) → OnOk r (Goes f a b) → OnOk r (Goes h a b)
+    go : (r : Result X Error) → ((t : Tables) → IsDatabaseOf t a.now → f t ≡ h t) → OnOk r (Goes f a b)
+        → OnOk r (Goes h a b)
     go (Err e) is one = tt
-    go (Ok y) is one = record { was_open = one.was_open; inside = one.inside; goes = λ t d. subst (λ s. IsDatabaseOf s b.now) (is t d) (one.goes t d) }
+    go (Ok y) is one = record {
+      was_open = one.was_open;
+      inside = one.inside;
+      goes = λ t d. subst (λ s. IsDatabaseOf s b.now) (is t d) (one.goes t d);
+    }
 
-unraised : (account : List ℕ) (day : ℕ) (xs : List TallyRow) → list_any (is_tally_of account day) xs ≡ false → map (raised_row account day) xs ≡ xs
+unraised : (account : List ℕ) (day : ℕ) (xs : List TallyRow) → list_any (is_tally_of account day) xs ≡ false
+    → map (raised_row account day) xs ≡ xs
 unraised account day [] none = refl
 unraised account day (x ∷ xs) none = go (is_tally_of account day x) refl none (unraised account day xs)
   where
-    go : (b : Bool) → is_tally_of account day x ≡ b → (b || list_any (is_tally_of account day) xs) ≡ false → (list_any (is_tally_of account day) xs ≡ false → map (raised_row account day) xs ≡ xs)
+    go : (b : Bool) → is_tally_of account day x ≡ b → (b || list_any (is_tally_of account day) xs) ≡ false
+        → (list_any (is_tally_of account day) xs ≡ false → map (raised_row account day) xs ≡ xs)
         → cond b (record x { count = x.count + 1 }) x ∷ map (raised_row account day) xs ≡ x ∷ xs
     go true is h later = absurd (cc)
     go false is h later = ap (λ l. x ∷ l) (later h)
 
-module _ (account : List ℕ) (day : ℕ) (a b : State) (count : ℕ) (raised : Carries (with_raised account day) a b (Ok count))
-    (counts : HasCleanDisk b → IsTrue a.in_transaction → (t : Tables) → IsDatabaseOf t a.now → count ≡ length (filter (is_tally_of account day) t.tallies)) where
-  pub counted_first : (c : State) (result : Result ℕ Error) → count ≡ 0 → Carries (with_first_tally account day) b c result → Carries (with_count account day) a c result
+module _ (account : List ℕ) (day : ℕ) (a b : State) (count : ℕ)
+    (raised : Carries (with_raised account day) a b (Ok count))
+    (counts : HasCleanDisk b → IsTrue a.in_transaction → (t : Tables) → IsDatabaseOf t a.now → count
+    ≡ length (filter (is_tally_of account day) t.tallies)) where
+  pub counted_first : (c : State) (result : Result ℕ Error) → count ≡ 0
+      → Carries (with_first_tally account day) b c result → Carries (with_count account day) a c result
   counted_first c result none first =
-      reworded (λ t. with_first_tally account day (with_raised account day t)) (with_count account day) a c result (chained (with_raised account day) (with_first_tally account day) a b c count result raised first)
+      reworded (λ t. with_first_tally account day (with_raised account day t)) (with_count account day) a c result
+      (chained (with_raised account day) (with_first_tally account day) a b c count result raised first)
       (λ clean inside t d.
       let early : HasCleanDisk b = omega (arith, first.survives.clean) in
       let absent = none_any (is_tally_of account day) t.tallies (sym (counts early inside t d) ∙ none) in
-      ap (λ (l : List TallyRow). let u : Tables = record t { tallies = l } in u) (ap (λ l. record { account = account; day = day; count = 1 } ∷ l) (unraised account day t.tallies absent)
-      ∙ sym (ap (λ v. cond v (map (raised_row account day) t.tallies) (record { account = account; day = day; count = 1 } ∷ t.tallies)) absent)))
+      ap (λ (l : List TallyRow). let u : Tables = record t { tallies = l } in
+      u) (ap (λ l. record { account = account; day = day; count = 1 } ∷ l) (unraised account day t.tallies absent)
+      ∙ sym (ap (λ v. cond v (map (raised_row account day) t.tallies)
+      (record { account = account; day = day; count = 1 } ∷ t.tallies)) absent)))
 
   pub counted_more : count ≢ 0 → Carries (with_count account day) a b (Ok count)
   counted_more some =
@@ -68,4 +95,5 @@ module _ (account : List ℕ) (day : ℕ) (a b : State) (count : ℕ) (raised : 
       (λ clean inside t d.
       let present = some_any (is_tally_of account day) t.tallies (λ e. some (counts clean inside t d ∙ e)) in
       ap (λ (l : List TallyRow). let u : Tables = record t { tallies = l } in u)
-      (sym (ap (λ v. cond v (map (raised_row account day) t.tallies) (record { account = account; day = day; count = 1 } ∷ t.tallies)) present)))
+      (sym (ap (λ v. cond v (map (raised_row account day) t.tallies) (record { account = account; day = day; count = 1 }
+      ∷ t.tallies)) present)))

@@ -1,5 +1,6 @@
 -- The row of `meta` in any schema where the table has just been made.
-use Rattle.std.proofs.Common.{◌≡◌, ◌≢◌, ◌⊎◌, ℕ, ◌+◌, Bool, true, false, not, ◌||◌, if◌then◌else◌, List, [], ◌∷◌, ◌++◌, codes, None, Some, Option, Result, Ok, Err, refl, sym, ap, ◌∙◌, subst, inl, inr}
+use Rattle.std.proofs.Common.{◌≡◌, ◌≢◌, ◌⊎◌, ℕ, ◌+◌, Bool, true, false, not, ◌||◌, if◌then◌else◌, List, [], ◌∷◌, ◌++◌}
+use Rattle.std.proofs.Common.{codes, None, Some, Option, Result, Ok, Err, refl, sym, ap, ◌∙◌, subst, inl, inr}
 use Rattle.sqlite_ast.specs.declared.Rows.{Rows}
 use Rattle.sqlite_ast.specs.declared.Rows.TheVariants as rows
 use Rattle.std.specs.Prelude.{unwrap_or, option_map, option_and_then, slice_get}
@@ -35,23 +36,32 @@ statement_in (Ok p) other = p.statement
 statement_in (Err e) other = other
 
 abbrev filled : Schema → ℕ → Rows → Checked Command
-filled s base rows = on_table s (codes "meta") (λ at table. and_then (new_rows s table base (codes "version" ∷ []) rows) (λ from. Ok (Insert at from)))
+filled s base rows =
+    on_table s (codes "meta") (λ at table. and_then (new_rows s table base (codes "version" ∷ []) rows)
+    (λ from. Ok (Insert at from)))
 
 abbrev spread : List (List ℕ) → (ℕ → Checked Command) → Checked Compiled
 spread formats command =
-    let meaning : Checked (Command × Option Returning) = and_then (command (small [] + small formats)) (λ c. Ok (c, None)) in
-    let planned : Checked (List (List ℕ) × (Command × Option Returning)) = and_then meaning (λ found. Ok (formats, found)) in
-    and_then planned (λ plan. and_then (understood the_schema piece_7) (λ c. Ok (record c { command = plan.1.0; returning = plan.1.1; formats = plan.0 })))
+    let meaning : Checked (Command × Option Returning) =
+    and_then (command (small [] + small formats)) (λ c. Ok (c, None)) in
+    let planned : Checked (List (List ℕ) × (Command × Option Returning)) =
+    and_then meaning (λ found. Ok (formats, found)) in
+    and_then planned (λ plan. and_then (understood the_schema piece_7)
+    (λ c. Ok (record c { command = plan.1.0; returning = plan.1.1; formats = plan.0 })))
 
 abbrev heard : Checked Compiled → Checked Compiled
 heard r = if misses_table r then if_select (compiled listing_schema piece_7) else r
 
-depends_7 : (s : Schema) (other : Rows) (none : Statement) → understood s piece_7 ≡ heard (spread (formats_of s (codes "meta")) (λ base. filled s base (rows_in (statement_in (first piece_7) none) other)))
+depends_7 : (s : Schema) (other : Rows) (none : Statement)
+    → understood s piece_7
+    ≡ heard (spread (formats_of s (codes "meta"))
+    (λ base. filled s base (rows_in (statement_in (first piece_7) none) other)))
 unfolding understood everything
 depends_7 s other none = refl
 
 row_of_meta : (s : Schema) (tree : ℕ) (other : Rows) (none : Statement)
-    → new_rows s (placed tree meta) 0 (codes "version" ∷ []) (rows_in (statement_in (first piece_7) none) other) ≡ Ok (Values version_terms 2)
+    → new_rows s (placed tree meta) 0 (codes "version" ∷ []) (rows_in (statement_in (first piece_7) none) other)
+    ≡ Ok (Values version_terms 2)
 unfolding everything
 row_of_meta s tree other none = refl
 
@@ -60,16 +70,22 @@ meta_rows = rows_in (statement_in (first piece_7) written.Empty) rows.Defaults
 
 filled_as : (s : Schema) (has : HasMeta s) → filled s 0 meta_rows ≡ Ok (Insert has.at (Values version_terms 2))
 filled_as s has =
-    ap (λ found. and_then (or_else found NoSuchTable) (λ at. and_then (table_at s at) (λ table. and_then (new_rows s table 0 (codes "version" ∷ []) meta_rows) (λ from. Ok (Insert at from))))) has.named
-    ∙ ap (λ found. and_then (or_else found NoSuchTable) (λ table. and_then (new_rows s table 0 (codes "version" ∷ []) meta_rows) (λ from. Ok (Insert has.at from)))) has.there
+    ap (λ found. and_then (or_else found NoSuchTable)
+    (λ at. and_then (table_at s at) (λ table. and_then (new_rows s table 0 (codes "version" ∷ []) meta_rows)
+    (λ from. Ok (Insert at from))))) has.named
+    ∙ ap (λ found. and_then (or_else found NoSuchTable)
+    (λ table. and_then (new_rows s table 0 (codes "version" ∷ []) meta_rows) (λ from. Ok (Insert has.at from))))
+    has.there
     ∙ ap (λ rows. and_then rows (λ from. Ok (Insert has.at from))) (row_of_meta s has.tree rows.Defaults written.Empty)
 
 no_formats : (s : Schema) (has : HasMeta s) → formats_of s meta.name ≡ []
 no_formats s has =
-    ap (λ at. unwrap_or (option_map (λ (t : Table). t.stamps.formats) (option_and_then (slice_get s.tables) at)) []) has.named
+    ap (λ at. unwrap_or (option_map (λ (t : Table). t.stamps.formats) (option_and_then (slice_get s.tables) at)) [])
+    has.named
     ∙ ap (λ table. unwrap_or (option_map (λ (t : Table). t.stamps.formats) table) []) has.there
 
-pub fills : (s : Schema) (has : HasMeta s) → understood s piece_7 ≡ heard (spread [] (λ _. Ok (Insert has.at (Values version_terms 2))))
+pub fills : (s : Schema) (has : HasMeta s)
+    → understood s piece_7 ≡ heard (spread [] (λ _. Ok (Insert has.at (Values version_terms 2))))
 fills s has =
     depends_7 s rows.Defaults written.Empty
     ∙ ap (λ formats. heard (spread formats (λ base. filled s base meta_rows))) (no_formats s has)

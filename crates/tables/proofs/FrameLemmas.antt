@@ -6,17 +6,21 @@ use Rattle.sqlite_trees.specs.Tree.{Trees}
 use Rattle.sqlite_schema.specs.declared.schema.Table.{Table}
 use Rattle.tables.specs.Schema.{the_schema}
 use Rattle.tables.specs.Tables.{Tables, StampRow, CalibrationRow, HoldRow, DepositRow, ReaderRow, TallyRow}
-use Rattle.tables.specs.Holding.{AreRows, Holds, stamp_cells, calibration_cells, hold_cells, deposit_cells, reader_cells, tally_cells}
+use Rattle.tables.specs.Holding.{AreRows, Holds, stamp_cells, calibration_cells, hold_cells, deposit_cells}
+use Rattle.tables.specs.Holding.{reader_cells, tally_cells}
 
 -- the other tables are as they were
-still : {X : Type 0} {keyed : _} {cells : X → Row} {xs : List X} (db next : Trees) (n tree : ℕ) → (n ≢ tree → next n ≡ db n) → n ≢ tree → AreRows keyed cells xs (db n) → AreRows keyed cells xs (next n)
-still {keyed = keyed} {cells = cells} {xs = xs} db next n tree same apart = subst (AreRows keyed cells xs) (sym (same apart))
+still : {X : Type 0} {keyed : _} {cells : X → Row} {xs : List X} (db next : Trees) (n tree : ℕ)
+    → (n ≢ tree → next n ≡ db n) → n ≢ tree → AreRows keyed cells xs (db n) → AreRows keyed cells xs (next n)
+still {keyed = keyed} {cells = cells} {xs = xs} db next n tree same apart =
+    subst (AreRows keyed cells xs) (sym (same apart))
 
 abbrev pub OthersStay : ℕ → Trees → Trees → Type 0
 OthersStay tree db next = AllByRecursion (λ (t : Table). t.tree ≢ tree → next t.tree ≡ db t.tree) the_schema.tables
 
 module _ (db next : Trees) (t : Tables) (h : Holds t db) where
-  pub with_stamps : (xs : List StampRow) → OthersStay 1 db next → AreRows true stamp_cells xs (next 1) → Holds (record t { stamps = xs }) next
+  pub with_stamps : (xs : List StampRow) → OthersStay 1 db next → AreRows true stamp_cells xs (next 1)
+      → Holds (record t { stamps = xs }) next
   with_stamps xs others rows = record {
     version = still db next 0 1 others.0 (λ e. absurd (omega (arith, e))) h.version;
     stamps = rows;
@@ -28,7 +32,8 @@ module _ (db next : Trees) (t : Tables) (h : Holds t db) where
     counts = h.counts;
   }
 
-  pub with_calibrations : (xs : List CalibrationRow) → OthersStay 2 db next → AreRows true calibration_cells xs (next 2) → Holds (record t { calibrations = xs }) next
+  pub with_calibrations : (xs : List CalibrationRow) → OthersStay 2 db next → AreRows true calibration_cells xs (next 2)
+      → Holds (record t { calibrations = xs }) next
   with_calibrations xs others rows = record {
     version = still db next 0 2 others.0 (λ e. absurd (omega (arith, e))) h.version;
     stamps = still db next 1 2 others.1.0 (λ e. absurd (omega (arith, e))) h.stamps;
@@ -40,7 +45,8 @@ module _ (db next : Trees) (t : Tables) (h : Holds t db) where
     counts = h.counts;
   }
 
-  pub with_holds : (xs : List HoldRow) → OthersStay 3 db next → AreRows true hold_cells xs (next 3) → Holds (record t { holds = xs }) next
+  pub with_holds : (xs : List HoldRow) → OthersStay 3 db next → AreRows true hold_cells xs (next 3)
+      → Holds (record t { holds = xs }) next
   with_holds xs others rows = record {
     version = still db next 0 3 others.0 (λ e. absurd (omega (arith, e))) h.version;
     stamps = still db next 1 3 others.1.0 (λ e. absurd (omega (arith, e))) h.stamps;
@@ -52,7 +58,8 @@ module _ (db next : Trees) (t : Tables) (h : Holds t db) where
     counts = h.counts;
   }
 
-  pub with_deposits : (xs : List DepositRow) → OthersStay 4 db next → AreRows true deposit_cells xs (next 4) → Holds (record t { deposits = xs }) next
+  pub with_deposits : (xs : List DepositRow) → OthersStay 4 db next → AreRows true deposit_cells xs (next 4)
+      → Holds (record t { deposits = xs }) next
   with_deposits xs others rows = record {
     version = still db next 0 4 others.0 (λ e. absurd (omega (arith, e))) h.version;
     stamps = still db next 1 4 others.1.0 (λ e. absurd (omega (arith, e))) h.stamps;
@@ -64,7 +71,8 @@ module _ (db next : Trees) (t : Tables) (h : Holds t db) where
     counts = h.counts;
   }
 
-  pub with_readers : (xs : List ReaderRow) → OthersStay 6 db next → AreRows false reader_cells xs (next 6) → Holds (record t { readers = xs }) next
+  pub with_readers : (xs : List ReaderRow) → OthersStay 6 db next → AreRows false reader_cells xs (next 6)
+      → Holds (record t { readers = xs }) next
   with_readers xs others rows = record {
     version = still db next 0 6 others.0 (λ e. absurd (omega (arith, e))) h.version;
     stamps = still db next 1 6 others.1.0 (λ e. absurd (omega (arith, e))) h.stamps;
@@ -76,7 +84,8 @@ module _ (db next : Trees) (t : Tables) (h : Holds t db) where
     counts = h.counts;
   }
 
-  pub with_tallies : (xs : List TallyRow) → OthersStay 8 db next → AreRows false tally_cells xs (next 8) → AllByRecursion (λ row. row.count < 2 ^ 63) xs → Holds (record t { tallies = xs }) next
+  pub with_tallies : (xs : List TallyRow) → OthersStay 8 db next → AreRows false tally_cells xs (next 8)
+      → AllByRecursion (λ row. row.count < 2 ^ 63) xs → Holds (record t { tallies = xs }) next
   with_tallies xs others rows counts = record {
     version = still db next 0 8 others.0 (λ e. absurd (omega (arith, e))) h.version;
     stamps = still db next 1 8 others.1.0 (λ e. absurd (omega (arith, e))) h.stamps;

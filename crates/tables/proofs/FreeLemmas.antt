@@ -1,5 +1,7 @@
 -- What stays free while our tables are made, one after the other.
-use Rattle.std.proofs.Common.{◌≡◌, ◌≢◌, ◌⊎◌, ℕ, zero, suc, ◌+◌, Bool, true, false, not, ◌||◌, ◌&&◌, if◌then◌else◌, List, [], ◌∷◌, ◌++◌, codes, None, Some, Option, refl, sym, ap, ◌∙◌, subst, inl, inr, slice_get, length, arith}
+use Rattle.std.proofs.Common.{◌≡◌, ◌≢◌, ◌⊎◌, ℕ, zero, suc, ◌+◌, Bool, true, false, not, ◌||◌, ◌&&◌, if◌then◌else◌, List}
+use Rattle.std.proofs.Common.{[], ◌∷◌, ◌++◌, codes, None, Some, Option, refl, sym, ap, ◌∙◌, subst, inl, inr, slice_get}
+use Rattle.std.proofs.Common.{length, arith}
 use Rattle.std.specs.Prelude.{is_some, option_and_then}
 use Rattle.std.specs.List.{AllByRecursion, position_from, list_any}
 use Rattle.std.proofs.lemmas.Bool.{cases_Bool}
@@ -13,21 +15,24 @@ use Rattle.sqlite.specs.Rows.{sequence}
 use Rattle.sqlite_tied.specs.Compute.{everything}
 use Rattle.tables.specs.Schema.{placed, meta}
 
-none_placed : {X : Type 0} (p : X → Bool) (at : ℕ) (ys : List X) → list_any p ys ≡ false → is_some (position_from p at ys) ≡ false
+none_placed : {X : Type 0} (p : X → Bool) (at : ℕ) (ys : List X) → list_any p ys ≡ false
+    → is_some (position_from p at ys) ≡ false
 none_placed p at [] none = refl
 none_placed p at (y ∷ ys) none = elim (cases_Bool (p y)) [
   | inl here ↦ absurd (let e = rw here at none in cc)
   | inr later ↦ rw later (none_placed p (at + 1) ys (rw later at none))
 ]
 
-still_absent : {X : Type 0} (p : X → Bool) (at : ℕ) (xs ys : List X) → is_some (position_from p at xs) ≡ false → list_any p ys ≡ false → is_some (position_from p at (xs ++ ys)) ≡ false
+still_absent : {X : Type 0} (p : X → Bool) (at : ℕ) (xs ys : List X) → is_some (position_from p at xs) ≡ false
+    → list_any p ys ≡ false → is_some (position_from p at (xs ++ ys)) ≡ false
 still_absent p at [] ys none more = none_placed p at ys more
 still_absent p at (x ∷ xs) ys none more = elim (cases_Bool (p x)) [
   | inl here ↦ absurd (let e = rw here at none in cc)
   | inr later ↦ rw later (still_absent p (at + 1) xs ys (rw later at none) more)
 ]
 
-still_placed_at : {X : Type 0} (p : X → Bool) (at k : ℕ) (xs ys : List X) → position_from p at xs ≡ Some k → position_from p at (xs ++ ys) ≡ Some k
+still_placed_at : {X : Type 0} (p : X → Bool) (at k : ℕ) (xs ys : List X) → position_from p at xs ≡ Some k
+    → position_from p at (xs ++ ys) ≡ Some k
 still_placed_at p at k [] ys found = absurd (let e = found in cc)
 still_placed_at p at k (x ∷ xs) ys found = elim (cases_Bool (p x)) [
   | inl here ↦ rw here (rw here at found)
@@ -36,7 +41,10 @@ still_placed_at p at k (x ∷ xs) ys found = elim (cases_Bool (p x)) [
 
 -- the table or one of its indexes takes the name
 abbrev pub clashes : Table → ℕ → List ℕ → Bool
-clashes table tree name = same_name table.name name || list_any (λ (i : Index). same_name i.name name) (automatics (record table { tree = tree }) 0 (tree + 1) table.uniques)
+clashes table tree name =
+    same_name table.name name
+    || list_any (λ (i : Index). same_name i.name name)
+    (automatics (record table { tree = tree }) 0 (tree + 1) table.uniques)
 
 either_false : (a b : Bool) → a || b ≡ false → (a ≡ false) × (b ≡ false)
 either_false false false none = (refl, refl)
@@ -52,48 +60,63 @@ three_false false false true none = absurd (let e = none in cc)
 all_false : {a b c : Bool} → a ≡ false → b ≡ false → c ≡ false → a || b || c ≡ false
 all_false a b c = rw (a, b, c) refl
 
-created_free : (s : Schema) (table : Table) (name : List ℕ) → is_used s name ≡ false → clashes table (next_tree s) name ≡ false → is_used (created s table) name ≡ false
+created_free : (s : Schema) (table : Table) (name : List ℕ) → is_used s name ≡ false
+    → clashes table (next_tree s) name ≡ false → is_used (created s table) name ≡ false
 created_free s table name free apart =
-    let none = three_false (is_some (table_named s name)) (is_some (index_named s name)) (is_some (view_named s name)) free in
-    let new = either_false (same_name table.name name) (list_any (λ (i : Index). same_name i.name name) (automatics (record table { tree = next_tree s }) 0 (next_tree s + 1) table.uniques)) apart in
-    all_false (still_absent (λ (t : Table). same_name t.name name) 0 s.tables (record table { tree = next_tree s } ∷ []) none.0 (rw (new.0) refl))
-    (still_absent (λ (i : Index). same_name i.name name) 0 s.indexes (automatics (record table { tree = next_tree s }) 0 (next_tree s + 1) table.uniques) none.1 new.1) none.2
+    let none = three_false (is_some (table_named s name)) (is_some (index_named s name)) (is_some (view_named s name))
+    free in
+    let new = either_false (same_name table.name name)
+    (list_any (λ (i : Index). same_name i.name name)
+    (automatics (record table { tree = next_tree s }) 0 (next_tree s + 1) table.uniques)) apart in
+    all_false (still_absent (λ (t : Table). same_name t.name name) 0 s.tables (record table { tree = next_tree s } ∷ [])
+    none.0 (rw (new.0) refl))
+    (still_absent (λ (i : Index). same_name i.name name) 0 s.indexes
+    (automatics (record table { tree = next_tree s }) 0 (next_tree s + 1) table.uniques) none.1 new.1) none.2
 
 abbrev pub AreFree : Schema → List (List ℕ) → Type 0
 AreFree s names = AllByRecursion (λ name. is_used s name ≡ false) names
 
-pub stay_free : (s : Schema) (table : Table) (names : List (List ℕ)) → AreFree s names → AllByRecursion (λ name. clashes table (next_tree s) name ≡ false) names → AreFree (created s table) names
+pub stay_free : (s : Schema) (table : Table) (names : List (List ℕ)) → AreFree s names
+    → AllByRecursion (λ name. clashes table (next_tree s) name ≡ false) names → AreFree (created s table) names
 stay_free s table [] free apart = tt
-stay_free s table (name ∷ names) free apart = (created_free s table name free.0 apart.0, stay_free s table names free.1 apart.1)
+stay_free s table (name ∷ names) free apart =
+    (created_free s table name free.0 apart.0, stay_free s table names free.1 apart.1)
 
-any_append : {X : Type 0} (p : X → Bool) (xs ys : List X) → list_any p xs ≡ false → list_any p ys ≡ false → list_any p (xs ++ ys) ≡ false
+any_append : {X : Type 0} (p : X → Bool) (xs ys : List X) → list_any p xs ≡ false → list_any p ys ≡ false
+    → list_any p (xs ++ ys) ≡ false
 any_append p [] ys none more = more
 any_append p (x ∷ xs) ys none more = elim (cases_Bool (p x)) [
   | inl here ↦ absurd (let e = rw here at none in cc)
   | inr later ↦ rw later (any_append p xs ys (rw later at none) more)
 ]
 
-still_there : {X : Type 0} (xs ys : List X) (k : ℕ) → is_some (slice_get xs k) ≡ true → is_some (slice_get (xs ++ ys) k) ≡ true
+still_there : {X : Type 0} (xs ys : List X) (k : ℕ) → is_some (slice_get xs k) ≡ true
+    → is_some (slice_get (xs ++ ys) k) ≡ true
 still_there [] ys k there = absurd (let e = there in cc)
 still_there (x ∷ xs) ys zero there = refl
 still_there (x ∷ xs) ys (suc k) there = still_there xs ys k there
 
-counts_still : (s : Schema) (table : Table) (found : Option ℕ) → table_named s (codes "sqlite_sequence") ≡ found → is_some (option_and_then (slice_get s.tables) found) ≡ true → is_some (sequence (created s table)) ≡ true
+counts_still : (s : Schema) (table : Table) (found : Option ℕ) → table_named s (codes "sqlite_sequence") ≡ found
+    → is_some (option_and_then (slice_get s.tables) found) ≡ true → is_some (sequence (created s table)) ≡ true
 counts_still s table None is there = absurd (let e = there in cc)
 counts_still s table (Some k) is there =
     let new : List Table = record table { tree = next_tree s } ∷ [] in
     let found = still_placed_at (λ (t : Table). same_name t.name (codes "sqlite_sequence")) 0 k s.tables new is in
-    subst (λ f. is_some (option_and_then (slice_get (s.tables ++ new)) f) ≡ true) (sym found) (still_there s.tables new k there)
+    subst (λ f. is_some (option_and_then (slice_get (s.tables ++ new)) f) ≡ true) (sym found)
+    (still_there s.tables new k there)
 
 -- a table that doesn't count its rows asks for no table to count in
-pub lacks_still : (s : Schema) (table : Table) → table.is_counted ≡ false → lacks_sequence s ≡ false → lacks_sequence (created s table) ≡ false
+pub lacks_still : (s : Schema) (table : Table) → table.is_counted ≡ false → lacks_sequence s ≡ false
+    → lacks_sequence (created s table) ≡ false
 lacks_still s table uncounted lacks = elim (cases_Bool (list_any (λ (t : Table). t.is_counted) s.tables)) [
   | inl counts ↦
       elim (cases_Bool (is_some (sequence s))) [
-        | inl there ↦ rw (counts_still s table (table_named s (codes "sqlite_sequence")) refl there) (none (list_any (λ (t : Table). t.is_counted) (s.tables ++ record table { tree = next_tree s } ∷ [])))
+        | inl there ↦ rw (counts_still s table (table_named s (codes "sqlite_sequence")) refl there)
+            (none (list_any (λ (t : Table). t.is_counted) (s.tables ++ record table { tree = next_tree s } ∷ [])))
         | inr missing ↦ absurd (let e = rw (counts, missing) at lacks in cc)
       ]
-  | inr never ↦ rw (any_append (λ (t : Table). t.is_counted) s.tables (record table { tree = next_tree s } ∷ []) never (rw uncounted refl)) refl
+  | inr never ↦ rw (any_append (λ (t : Table). t.is_counted) s.tables (record table { tree = next_tree s } ∷ []) never
+      (rw uncounted refl)) refl
 ]
   where
     none : (b : Bool) → b && not true ≡ false
@@ -102,7 +125,8 @@ lacks_still s table uncounted lacks = elim (cases_Bool (list_any (λ (t : Table)
 
 -- ---- the table of the version, once it is made
 
-placed_last : {X : Type 0} (p : X → Bool) (at : ℕ) (xs : List X) (x : X) → is_some (position_from p at xs) ≡ false → p x ≡ true
+placed_last : {X : Type 0} (p : X → Bool) (at : ℕ) (xs : List X) (x : X) → is_some (position_from p at xs) ≡ false
+    → p x ≡ true
     → (j : ℕ) × (position_from p at (xs ++ x ∷ []) ≡ Some (at + j)) × (slice_get (xs ++ x ∷ []) j ≡ Some x)
 placed_last p at [] x none here = (0, rw here (ap Some (omega (arith))), refl)
 placed_last p at (y ∷ xs) x none here = elim (cases_Bool (p y)) [
@@ -129,14 +153,17 @@ itself = refl
 
 pub made_meta : (s : Schema) → is_used s meta.name ≡ false → HasMeta (created s meta)
 made_meta s free =
-    let none = three_false (is_some (table_named s meta.name)) (is_some (index_named s meta.name)) (is_some (view_named s meta.name)) free in
-    let last = placed_last (λ (t : Table). same_name t.name meta.name) 0 s.tables (placed (next_tree s) meta) none.0 itself in
+    let none = three_false (is_some (table_named s meta.name)) (is_some (index_named s meta.name))
+    (is_some (view_named s meta.name)) free in
+    let last = placed_last (λ (t : Table). same_name t.name meta.name) 0 s.tables (placed (next_tree s) meta) none.0
+    itself in
     record { at = last.0; tree = next_tree s; named = last.1 ∙ ap Some (omega (arith)); there = last.2 }
 
 pub still_meta : (s : Schema) (table : Table) → HasMeta s → HasMeta (created s table)
 still_meta s table has = record {
   at = has.at;
   tree = has.tree;
-  named = still_placed_at (λ (t : Table). same_name t.name meta.name) 0 has.at s.tables (placed (next_tree s) table ∷ []) has.named;
+  named = still_placed_at (λ (t : Table). same_name t.name meta.name) 0 has.at s.tables (placed (next_tree s) table
+      ∷ []) has.named;
   there = still_got s.tables (placed (next_tree s) table ∷ []) has.at (placed has.tree meta) has.there;
 }

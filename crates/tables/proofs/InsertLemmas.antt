@@ -1,5 +1,6 @@
 -- The statements that add a row, over the schema.
-use Rattle.std.proofs.Common.{◌≡◌, ◌≢◌, ℕ, ℤ, pos, Bool, true, false, cond, List, [], ◌∷◌, slice_get, Option, Some, None, Ok, Result, IsTrue, refl, sym, ap, ◌∙◌, subst, arith}
+use Rattle.std.proofs.Common.{◌≡◌, ◌≢◌, ℕ, ℤ, pos, Bool, true, false, cond, List, [], ◌∷◌, slice_get, Option, Some}
+use Rattle.std.proofs.Common.{None, Ok, Result, IsTrue, refl, sym, ap, ◌∙◌, subst, arith}
 use Rattle.std.specs.List.{AllByRecursion}
 use Rattle.sqlite_value.specs.declared.value.Value.{Value}
 use Rattle.sqlite_value.specs.declared.value.Value.TheVariants.{Null, Int, Text, Blob}
@@ -23,12 +24,16 @@ use Rattle.sqlite.specs.Listing.{understood}
 use Rattle.sqlite.specs.State.{State, HasCleanDisk, Survives, ExecutesInside}
 use Rattle.sqlite.proofs.Callers.{IsPlain, command_of}
 use Rattle.tables.specs.Carrying.{Carries}
-use Rattle.tables.specs.Statements.{insert_stamp, insert_calibration, insert_hold, insert_deposit, insert_reader, first_tally}
+use Rattle.tables.specs.Statements.{insert_stamp, insert_calibration, insert_hold, insert_deposit, insert_reader}
+use Rattle.tables.specs.Statements.{first_tally}
 use Rattle.tables.specs.Schema.{the_schema, stamp, calibration, hold, deposit, reader, tally, placed}
-use Rattle.tables.specs.Tables.{Tables, StampRow, CalibrationRow, HoldRow, DepositRow, ReaderRow, TallyRow, with_calibration, with_hold, with_deposit}
-use Rattle.tables.specs.Holding.{AreRows, Holds, IsDatabaseOf, stamp_cells, calibration_cells, hold_cells, deposit_cells, reader_cells, tally_cells}
+use Rattle.tables.specs.Tables.{Tables, StampRow, CalibrationRow, HoldRow, DepositRow, ReaderRow, TallyRow}
+use Rattle.tables.specs.Tables.{with_calibration, with_hold, with_deposit}
+use Rattle.tables.specs.Holding.{AreRows, Holds, IsDatabaseOf, stamp_cells, calibration_cells, hold_cells}
+use Rattle.tables.specs.Holding.{deposit_cells, reader_cells, tally_cells}
 use Rattle.tables.proofs.CarryLemmas.{carried, Makes}
-use Rattle.tables.proofs.FrameLemmas.{with_stamps, with_calibrations, with_holds, with_deposits, with_readers, with_tallies}
+use Rattle.tables.proofs.FrameLemmas.{with_stamps, with_calibrations, with_holds, with_deposits, with_readers}
+use Rattle.tables.proofs.FrameLemmas.{with_tallies}
 use Rattle.tables.proofs.WriteLemmas.{IsIdle, plain_mode, its_table, before, inserts}
 use Rattle.tables.proofs.ChangeLemmas.{inserted}
 
@@ -55,7 +60,9 @@ calibration_params r = Int (pos r.n) ∷ Int r.reading ∷ Int r.offset ∷ Int 
 abbrev pub calibration_terms : List Term
 calibration_terms = col 0 0 ∷ lit Null ∷ col 0 1 ∷ col 0 2 ∷ col 0 3 ∷ []
 
-calibration_news : (r : CalibrationRow) (db : Trees) → (edit_of db (placed 2 calibration) [] Chosen 0 (value_rows (calibration_params r) 5 1 calibration_terms)).news ≡ (calibration_cells r) ∷ []
+calibration_news : (r : CalibrationRow) (db : Trees)
+    → (edit_of db (placed 2 calibration) [] Chosen 0 (value_rows (calibration_params r) 5 1 calibration_terms)).news
+    ≡ (calibration_cells r) ∷ []
 calibration_news r db = simp (cast_int, cast_null)
 
 abbrev pub calibration_insert : Command
@@ -63,11 +70,13 @@ calibration_insert = Insert 2 (Values calibration_terms 5)
 
 pub calibration_makes : (r : CalibrationRow) → Makes calibration_insert (calibration_params r) (with_calibration r)
 calibration_makes r limit text t db out h does =
-    let made = inserts limit (calibration_params r) the_schema db text 2 idle _ _ _ _ _ _ _ 2 refl out calibration_terms 5 does in
+    let made = inserts limit (calibration_params r) the_schema db text 2 idle _ _ _ _ _ _ _ 2 refl out calibration_terms
+    5 does in
     record {
       schema = made.1;
       holds = with_calibrations db out.1.trees t h (r ∷ t.calibrations) made.0.tables
-          (inserted calibration_cells (λ x e. cc) true t.calibrations r (db 2) (out.1.trees 2) _ (calibration_cells r) h.calibrations made.0.keyed made.0.fresh made.0.rows (calibration_news r db) refl);
+          (inserted calibration_cells (λ x e. cc) true t.calibrations r (db 2) (out.1.trees 2) _ (calibration_cells r)
+          h.calibrations made.0.keyed made.0.fresh made.0.rows (calibration_news r db) refl);
     }
 
 calibration_is : command_of (understood the_schema insert_calibration) ≡ calibration_insert
@@ -78,9 +87,13 @@ calibration_plain : IsPlain (understood the_schema insert_calibration)
 unfolding understood everything
 calibration_plain = (refl, refl)
 
-pub calibration_carried : (r : CalibrationRow) (old new : State) (result : Result ℕ Error) → Survives old new (λ _. ⊥) → (given : Row) → given ≡ calibration_params r
-    → (HasCleanDisk new → IsTrue old.in_transaction → ExecutesInside 0 insert_calibration given old new result) → Carries (with_calibration r) old new result
-calibration_carried r = carried insert_calibration (calibration_params r) calibration_insert calibration_is calibration_plain (λ old new text count w. w) (with_calibration r) (calibration_makes r)
+pub calibration_carried : (r : CalibrationRow) (old new : State) (result : Result ℕ Error) → Survives old new (λ _. ⊥)
+    → (given : Row) → given ≡ calibration_params r
+    → (HasCleanDisk new → IsTrue old.in_transaction → ExecutesInside 0 insert_calibration given old new result)
+    → Carries (with_calibration r) old new result
+calibration_carried r =
+    carried insert_calibration (calibration_params r) calibration_insert calibration_is calibration_plain
+    (λ old new text count w. w) (with_calibration r) (calibration_makes r)
 
 -- ---- hold
 
@@ -90,7 +103,8 @@ hold_params r = Int (pos r.n) ∷ Int r.from ∷ Int r.to ∷ []
 abbrev pub hold_terms : List Term
 hold_terms = col 0 0 ∷ lit Null ∷ col 0 1 ∷ col 0 2 ∷ []
 
-hold_news : (r : HoldRow) (db : Trees) → (edit_of db (placed 3 hold) [] Chosen 0 (value_rows (hold_params r) 4 1 hold_terms)).news ≡ (hold_cells r) ∷ []
+hold_news : (r : HoldRow) (db : Trees)
+    → (edit_of db (placed 3 hold) [] Chosen 0 (value_rows (hold_params r) 4 1 hold_terms)).news ≡ (hold_cells r) ∷ []
 hold_news r db = simp (cast_int, cast_null)
 
 abbrev pub hold_insert : Command
@@ -102,7 +116,8 @@ hold_makes r limit text t db out h does =
     record {
       schema = made.1;
       holds = with_holds db out.1.trees t h (r ∷ t.holds) made.0.tables
-          (inserted hold_cells (λ x e. cc) true t.holds r (db 3) (out.1.trees 3) _ (hold_cells r) h.holds made.0.keyed made.0.fresh made.0.rows (hold_news r db) refl);
+          (inserted hold_cells (λ x e. cc) true t.holds r (db 3) (out.1.trees 3) _ (hold_cells r) h.holds made.0.keyed
+          made.0.fresh made.0.rows (hold_news r db) refl);
     }
 
 hold_is : command_of (understood the_schema insert_hold) ≡ hold_insert
@@ -113,9 +128,12 @@ hold_plain : IsPlain (understood the_schema insert_hold)
 unfolding understood everything
 hold_plain = (refl, refl)
 
-pub hold_carried : (r : HoldRow) (old new : State) (result : Result ℕ Error) → Survives old new (λ _. ⊥) → (given : Row) → given ≡ hold_params r
-    → (HasCleanDisk new → IsTrue old.in_transaction → ExecutesInside 0 insert_hold given old new result) → Carries (with_hold r) old new result
-hold_carried r = carried insert_hold (hold_params r) hold_insert hold_is hold_plain (λ old new text count w. w) (with_hold r) (hold_makes r)
+pub hold_carried : (r : HoldRow) (old new : State) (result : Result ℕ Error) → Survives old new (λ _. ⊥) → (given : Row)
+    → given ≡ hold_params r
+    → (HasCleanDisk new → IsTrue old.in_transaction → ExecutesInside 0 insert_hold given old new result)
+    → Carries (with_hold r) old new result
+hold_carried r = carried insert_hold (hold_params r) hold_insert hold_is hold_plain (λ old new text count w. w)
+    (with_hold r) (hold_makes r)
 
 -- ---- deposit
 
@@ -125,7 +143,9 @@ deposit_params r = Int (pos r.serial) ∷ Text r.owner ∷ Text r.reference ∷ 
 abbrev pub deposit_terms : List Term
 deposit_terms = col 0 0 ∷ lit Null ∷ col 0 1 ∷ col 0 2 ∷ col 0 3 ∷ []
 
-deposit_news : (r : DepositRow) (db : Trees) → (edit_of db (placed 4 deposit) [] Chosen 0 (value_rows (deposit_params r) 5 1 deposit_terms)).news ≡ (deposit_cells r) ∷ []
+deposit_news : (r : DepositRow) (db : Trees)
+    → (edit_of db (placed 4 deposit) [] Chosen 0 (value_rows (deposit_params r) 5 1 deposit_terms)).news
+    ≡ (deposit_cells r) ∷ []
 deposit_news r db = simp (cast_int, cast_null)
 
 abbrev pub deposit_insert : Command
@@ -133,11 +153,13 @@ deposit_insert = Insert 4 (Values deposit_terms 5)
 
 pub deposit_makes : (r : DepositRow) → Makes deposit_insert (deposit_params r) (with_deposit r)
 deposit_makes r limit text t db out h does =
-    let made = inserts limit (deposit_params r) the_schema db text 4 idle _ _ _ _ _ _ _ 4 refl out deposit_terms 5 does in
+    let made = inserts limit (deposit_params r) the_schema db text 4 idle _ _ _ _ _ _ _ 4 refl out deposit_terms 5
+    does in
     record {
       schema = made.1;
       holds = with_deposits db out.1.trees t h (r ∷ t.deposits) made.0.tables
-          (inserted deposit_cells (λ x e. cc) true t.deposits r (db 4) (out.1.trees 4) _ (deposit_cells r) h.deposits made.0.keyed made.0.fresh made.0.rows (deposit_news r db) refl);
+          (inserted deposit_cells (λ x e. cc) true t.deposits r (db 4) (out.1.trees 4) _ (deposit_cells r) h.deposits
+          made.0.keyed made.0.fresh made.0.rows (deposit_news r db) refl);
     }
 
 deposit_is : command_of (understood the_schema insert_deposit) ≡ deposit_insert
@@ -148,9 +170,12 @@ deposit_plain : IsPlain (understood the_schema insert_deposit)
 unfolding understood everything
 deposit_plain = (refl, refl)
 
-pub deposit_carried : (r : DepositRow) (old new : State) (result : Result ℕ Error) → Survives old new (λ _. ⊥) → (given : Row) → given ≡ deposit_params r
-    → (HasCleanDisk new → IsTrue old.in_transaction → ExecutesInside 0 insert_deposit given old new result) → Carries (with_deposit r) old new result
-deposit_carried r = carried insert_deposit (deposit_params r) deposit_insert deposit_is deposit_plain (λ old new text count w. w) (with_deposit r) (deposit_makes r)
+pub deposit_carried : (r : DepositRow) (old new : State) (result : Result ℕ Error) → Survives old new (λ _. ⊥)
+    → (given : Row) → given ≡ deposit_params r
+    → (HasCleanDisk new → IsTrue old.in_transaction → ExecutesInside 0 insert_deposit given old new result)
+    → Carries (with_deposit r) old new result
+deposit_carried r = carried insert_deposit (deposit_params r) deposit_insert deposit_is deposit_plain
+    (λ old new text count w. w) (with_deposit r) (deposit_makes r)
 
 -- ---- reader
 
@@ -160,19 +185,23 @@ reader_params r = Int (pos r.serial) ∷ Text r.account ∷ []
 abbrev pub reader_terms : List Term
 reader_terms = lit Null ∷ col 0 0 ∷ col 0 1 ∷ []
 
-reader_news : (r : ReaderRow) (db : Trees) → (edit_of db (placed 6 reader) [] Chosen 0 (value_rows (reader_params r) 3 1 reader_terms)).news ≡ (Int (next_rowid (db 6)) ∷ reader_cells r) ∷ []
+reader_news : (r : ReaderRow) (db : Trees)
+    → (edit_of db (placed 6 reader) [] Chosen 0 (value_rows (reader_params r) 3 1 reader_terms)).news
+    ≡ (Int (next_rowid (db 6)) ∷ reader_cells r) ∷ []
 reader_news r db = simp (cast_int, cast_null)
 
 abbrev pub reader_insert : Command
 reader_insert = Insert 5 (Values reader_terms 3)
 
-pub reader_makes : (r : ReaderRow) → Makes reader_insert (reader_params r) (λ (t : Tables). record t { readers = r ∷ t.readers })
+pub reader_makes : (r : ReaderRow)
+    → Makes reader_insert (reader_params r) (λ (t : Tables). record t { readers = r ∷ t.readers })
 reader_makes r limit text t db out h does =
     let made = inserts limit (reader_params r) the_schema db text 5 idle _ _ _ _ _ _ _ 6 refl out reader_terms 3 does in
     record {
       schema = made.1;
       holds = with_readers db out.1.trees t h (r ∷ t.readers) made.0.tables
-          (inserted reader_cells (λ x e. cc) false t.readers r (db 6) (out.1.trees 6) _ (Int (next_rowid (db 6)) ∷ reader_cells r) h.readers made.0.keyed made.0.fresh made.0.rows (reader_news r db) refl);
+          (inserted reader_cells (λ x e. cc) false t.readers r (db 6) (out.1.trees 6) _ (Int (next_rowid (db 6))
+          ∷ reader_cells r) h.readers made.0.keyed made.0.fresh made.0.rows (reader_news r db) refl);
     }
 
 reader_is : command_of (understood the_schema insert_reader) ≡ reader_insert
@@ -183,9 +212,12 @@ reader_plain : IsPlain (understood the_schema insert_reader)
 unfolding understood everything
 reader_plain = (refl, refl)
 
-pub reader_carried : (r : ReaderRow) (old new : State) (result : Result ℕ Error) → Survives old new (λ _. ⊥) → (given : Row) → given ≡ reader_params r
-    → (HasCleanDisk new → IsTrue old.in_transaction → ExecutesInside 0 insert_reader given old new result) → Carries (λ (t : Tables). record t { readers = r ∷ t.readers }) old new result
-reader_carried r = carried insert_reader (reader_params r) reader_insert reader_is reader_plain (λ old new text count w. w) (λ (t : Tables). record t { readers = r ∷ t.readers }) (reader_makes r)
+pub reader_carried : (r : ReaderRow) (old new : State) (result : Result ℕ Error) → Survives old new (λ _. ⊥)
+    → (given : Row) → given ≡ reader_params r
+    → (HasCleanDisk new → IsTrue old.in_transaction → ExecutesInside 0 insert_reader given old new result)
+    → Carries (λ (t : Tables). record t { readers = r ∷ t.readers }) old new result
+reader_carried r = carried insert_reader (reader_params r) reader_insert reader_is reader_plain
+    (λ old new text count w. w) (λ (t : Tables). record t { readers = r ∷ t.readers }) (reader_makes r)
 
 -- ---- stamp
 
@@ -193,24 +225,30 @@ abbrev pub unsealed : StampRow → StampRow
 unsealed r = record r { token = None }
 
 abbrev pub stamp_params : StampRow → Row
-stamp_params r = Int (pos r.serial) ∷ Text r.account ∷ Int (pos r.day) ∷ Int (pos r.gen_time) ∷ Blob r.policy ∷ Blob r.algorithm ∷ Blob r.digest ∷ Blob r.request ∷ Blob r.tst ∷ []
+stamp_params r = Int (pos r.serial) ∷ Text r.account ∷ Int (pos r.day) ∷ Int (pos r.gen_time) ∷ Blob r.policy
+    ∷ Blob r.algorithm ∷ Blob r.digest ∷ Blob r.request ∷ Blob r.tst ∷ []
 
 abbrev pub stamp_terms : List Term
-stamp_terms = col 0 0 ∷ lit Null ∷ col 0 1 ∷ col 0 2 ∷ col 0 3 ∷ col 0 4 ∷ col 0 5 ∷ col 0 6 ∷ col 0 7 ∷ col 0 8 ∷ lit Null ∷ []
+stamp_terms = col 0 0 ∷ lit Null ∷ col 0 1 ∷ col 0 2 ∷ col 0 3 ∷ col 0 4 ∷ col 0 5 ∷ col 0 6 ∷ col 0 7 ∷ col 0 8
+    ∷ lit Null ∷ []
 
-stamp_news : (r : StampRow) (db : Trees) → (edit_of db (placed 1 stamp) [] Chosen 0 (value_rows (stamp_params r) 11 1 stamp_terms)).news ≡ (stamp_cells (unsealed r)) ∷ []
+stamp_news : (r : StampRow) (db : Trees)
+    → (edit_of db (placed 1 stamp) [] Chosen 0 (value_rows (stamp_params r) 11 1 stamp_terms)).news
+    ≡ (stamp_cells (unsealed r)) ∷ []
 stamp_news r db = simp (cast_int, cast_null)
 
 abbrev pub stamp_insert : Command
 stamp_insert = Insert 1 (Values stamp_terms 11)
 
-pub stamp_makes : (r : StampRow) → Makes stamp_insert (stamp_params r) (λ (t : Tables). record t { stamps = unsealed r ∷ t.stamps })
+pub stamp_makes : (r : StampRow)
+    → Makes stamp_insert (stamp_params r) (λ (t : Tables). record t { stamps = unsealed r ∷ t.stamps })
 stamp_makes r limit text t db out h does =
     let made = inserts limit (stamp_params r) the_schema db text 1 idle _ _ _ _ _ _ _ 1 refl out stamp_terms 11 does in
     record {
       schema = made.1;
       holds = with_stamps db out.1.trees t h ((unsealed r) ∷ t.stamps) made.0.tables
-          (inserted stamp_cells (λ x e. cc) true t.stamps (unsealed r) (db 1) (out.1.trees 1) _ (stamp_cells (unsealed r)) h.stamps made.0.keyed made.0.fresh made.0.rows (stamp_news r db) refl);
+          (inserted stamp_cells (λ x e. cc) true t.stamps (unsealed r) (db 1) (out.1.trees 1) _
+          (stamp_cells (unsealed r)) h.stamps made.0.keyed made.0.fresh made.0.rows (stamp_news r db) refl);
     }
 
 stamp_is : command_of (understood the_schema insert_stamp) ≡ stamp_insert
@@ -221,9 +259,12 @@ stamp_plain : IsPlain (understood the_schema insert_stamp)
 unfolding understood everything
 stamp_plain = (refl, refl)
 
-pub stamp_carried : (r : StampRow) (old new : State) (result : Result ℕ Error) → Survives old new (λ _. ⊥) → (given : Row) → given ≡ stamp_params r
-    → (HasCleanDisk new → IsTrue old.in_transaction → ExecutesInside 0 insert_stamp given old new result) → Carries (λ (t : Tables). record t { stamps = unsealed r ∷ t.stamps }) old new result
-stamp_carried r = carried insert_stamp (stamp_params r) stamp_insert stamp_is stamp_plain (λ old new text count w. w) (λ (t : Tables). record t { stamps = unsealed r ∷ t.stamps }) (stamp_makes r)
+pub stamp_carried : (r : StampRow) (old new : State) (result : Result ℕ Error) → Survives old new (λ _. ⊥)
+    → (given : Row) → given ≡ stamp_params r
+    → (HasCleanDisk new → IsTrue old.in_transaction → ExecutesInside 0 insert_stamp given old new result)
+    → Carries (λ (t : Tables). record t { stamps = unsealed r ∷ t.stamps }) old new result
+stamp_carried r = carried insert_stamp (stamp_params r) stamp_insert stamp_is stamp_plain (λ old new text count w. w)
+    (λ (t : Tables). record t { stamps = unsealed r ∷ t.stamps }) (stamp_makes r)
 
 -- ---- tally
 
@@ -236,19 +277,24 @@ tally_params r = Text r.account ∷ Int (pos r.day) ∷ []
 abbrev pub tally_terms : List Term
 tally_terms = lit Null ∷ col 0 0 ∷ col 0 1 ∷ lit (Int (pos 1)) ∷ []
 
-tally_news : (r : TallyRow) (db : Trees) → (edit_of db (placed 8 tally) [] Chosen 0 (value_rows (tally_params r) 4 1 tally_terms)).news ≡ (Int (next_rowid (db 8)) ∷ tally_cells (first_of r)) ∷ []
+tally_news : (r : TallyRow) (db : Trees)
+    → (edit_of db (placed 8 tally) [] Chosen 0 (value_rows (tally_params r) 4 1 tally_terms)).news
+    ≡ (Int (next_rowid (db 8)) ∷ tally_cells (first_of r)) ∷ []
 tally_news r db = simp (cast_int, cast_null)
 
 abbrev pub tally_insert : Command
 tally_insert = Insert 6 (Values tally_terms 4)
 
-pub tally_makes : (r : TallyRow) → Makes tally_insert (tally_params r) (λ (t : Tables). record t { tallies = first_of r ∷ t.tallies })
+pub tally_makes : (r : TallyRow)
+    → Makes tally_insert (tally_params r) (λ (t : Tables). record t { tallies = first_of r ∷ t.tallies })
 tally_makes r limit text t db out h does =
     let made = inserts limit (tally_params r) the_schema db text 6 idle _ _ _ _ _ _ _ 8 refl out tally_terms 4 does in
     record {
       schema = made.1;
       holds = with_tallies db out.1.trees t h ((first_of r) ∷ t.tallies) made.0.tables
-          (inserted tally_cells (λ x e. cc) false t.tallies (first_of r) (db 8) (out.1.trees 8) _ (Int (next_rowid (db 8)) ∷ tally_cells (first_of r)) h.tallies made.0.keyed made.0.fresh made.0.rows (tally_news r db) refl) (omega arith, h.counts);
+          (inserted tally_cells (λ x e. cc) false t.tallies (first_of r) (db 8) (out.1.trees 8) _
+          (Int (next_rowid (db 8)) ∷ tally_cells (first_of r)) h.tallies made.0.keyed made.0.fresh made.0.rows
+          (tally_news r db) refl) (omega arith, h.counts);
     }
 
 tally_is : command_of (understood the_schema first_tally) ≡ tally_insert
@@ -259,6 +305,9 @@ tally_plain : IsPlain (understood the_schema first_tally)
 unfolding understood everything
 tally_plain = (refl, refl)
 
-pub tally_carried : (r : TallyRow) (old new : State) (result : Result ℕ Error) → Survives old new (λ _. ⊥) → (given : Row) → given ≡ tally_params r
-    → (HasCleanDisk new → IsTrue old.in_transaction → ExecutesInside 0 first_tally given old new result) → Carries (λ (t : Tables). record t { tallies = first_of r ∷ t.tallies }) old new result
-tally_carried r = carried first_tally (tally_params r) tally_insert tally_is tally_plain (λ old new text count w. w) (λ (t : Tables). record t { tallies = first_of r ∷ t.tallies }) (tally_makes r)
+pub tally_carried : (r : TallyRow) (old new : State) (result : Result ℕ Error) → Survives old new (λ _. ⊥)
+    → (given : Row) → given ≡ tally_params r
+    → (HasCleanDisk new → IsTrue old.in_transaction → ExecutesInside 0 first_tally given old new result)
+    → Carries (λ (t : Tables). record t { tallies = first_of r ∷ t.tallies }) old new result
+tally_carried r = carried first_tally (tally_params r) tally_insert tally_is tally_plain (λ old new text count w. w)
+    (λ (t : Tables). record t { tallies = first_of r ∷ t.tallies }) (tally_makes r)

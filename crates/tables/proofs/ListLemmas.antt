@@ -1,8 +1,10 @@
 -- Lists: a test that splits a list, an image of one, and what permutations keep.
-use Rattle.std.proofs.Common.{◌≡◌, ◌≢◌, arith, length, ◌⊎◌, Bool, true, false, not, cond, ◌||◌, List, [], ◌∷◌, ◌++◌, map, filter, flat_map, refl, sym, ap, ◌∙◌, subst, inl, inr, IsPermutation}
+use Rattle.std.proofs.Common.{◌≡◌, ◌≢◌, arith, length, ◌⊎◌, Bool, true, false, not, cond, ◌||◌, List, [], ◌∷◌, ◌++◌}
+use Rattle.std.proofs.Common.{map, filter, flat_map, refl, sym, ap, ◌∙◌, subst, inl, inr, IsPermutation}
 use Rattle.std.specs.List.{list_any, list_all}
 use Rattle.std.proofs.lemmas.List.{map-append}
-use Rattle.std.proofs.lemmas.List.Sorted.{IsPermutation-refl, IsPermutation-sym, IsPermutation-cons, IsPermutation-trans, IsPermutation-middle, Contains-permutation}
+use Rattle.std.proofs.lemmas.List.Sorted.{IsPermutation-refl, IsPermutation-sym, IsPermutation-cons}
+use Rattle.std.proofs.lemmas.List.Sorted.{IsPermutation-trans, IsPermutation-middle, Contains-permutation}
 use Rattle.sqlite_rules.specs.Lists.{Has}
 use Rattle.sqlite_rules.proofs.ListLemmas.{has_contained, contains_had, some_has, some_from}
 
@@ -28,28 +30,36 @@ pub filter_true : {X : Type 0} (xs : List X) → filter (λ x. true) xs ≡ xs
 filter_true [] = refl
 filter_true (x ∷ xs) = ap (λ l. x ∷ l) (filter_true xs)
 
-pub filter_neither : {X : Type 0} (a b : X → Bool) (xs : List X) → filter (λ x. not (b x)) (filter (λ x. not (a x)) xs) ≡ filter (λ x. not (a x || b x)) xs
+pub filter_neither : {X : Type 0} (a b : X → Bool) (xs : List X) → filter (λ x. not (b x)) (filter (λ x. not (a x)) xs)
+    ≡ filter (λ x. not (a x || b x)) xs
 filter_neither a b [] = refl
 filter_neither a b (x ∷ xs) = go (a x) (filter_neither a b xs)
   where
     go : (c : Bool) → filter (λ y. not (b y)) (filter (λ y. not (a y)) xs) ≡ filter (λ y. not (a y || b y)) xs
-        → filter (λ y. not (b y)) (cond (not c) (x ∷ filter (λ y. not (a y)) xs) (filter (λ y. not (a y)) xs)) ≡ cond (not (c || b x)) (x ∷ filter (λ y. not (a y || b y)) xs) (filter (λ y. not (a y || b y)) xs)
+        → filter (λ y. not (b y)) (cond (not c) (x ∷ filter (λ y. not (a y)) xs) (filter (λ y. not (a y)) xs))
+        ≡ cond (not (c || b x)) (x ∷ filter (λ y. not (a y || b y)) xs) (filter (λ y. not (a y || b y)) xs)
     go true later = later
     go false later = ap (λ l. cond (not (b x)) (x ∷ l) l) later
 
-pub flat_map_tested : {X Y : Type 0} (p : X → Bool) (f : X → Y) (xs : List X) → flat_map (λ x. cond (p x) (f x ∷ []) []) xs ≡ map f (filter p xs)
+pub flat_map_tested : {X Y : Type 0} (p : X → Bool) (f : X → Y) (xs : List X)
+    → flat_map (λ x. cond (p x) (f x ∷ []) []) xs ≡ map f (filter p xs)
 flat_map_tested p f [] = refl
 flat_map_tested p f (x ∷ xs) =
-    elim (p x) as (λ b. cond b (f x ∷ []) [] ++ flat_map (λ y. cond (p y) (f y ∷ []) []) xs ≡ map f (cond b (x ∷ filter p xs) (filter p xs)))
+    elim (p x) as (λ b. cond b (f x ∷ []) [] ++ flat_map (λ y. cond (p y) (f y ∷ []) []) xs
+    ≡ map f (cond b (x ∷ filter p xs) (filter p xs)))
     [ true ↦ ap (λ l. f x ∷ l) (flat_map_tested p f xs) | false ↦ flat_map_tested p f xs ]
 
 -- changing what passes is changing it apart from the rest
-pub split_changed : {X : Type 0} (p : X → Bool) (f : X → X) (xs : List X) → IsPermutation (map (λ x. cond (p x) (f x) x) xs) (map f (filter p xs) ++ filter (λ x. not (p x)) xs)
+pub split_changed : {X : Type 0} (p : X → Bool) (f : X → X) (xs : List X)
+    → IsPermutation (map (λ x. cond (p x) (f x) x) xs) (map f (filter p xs) ++ filter (λ x. not (p x)) xs)
 split_changed p f [] = IsPermutation-refl []
 split_changed p f (x ∷ xs) =
-    elim (p x) as (λ b. IsPermutation (cond b (f x) x ∷ map (λ y. cond (p y) (f y) y) xs) (map f (cond b (x ∷ filter p xs) (filter p xs)) ++ cond (not b) (x ∷ filter (λ y. not (p y)) xs) (filter (λ y. not (p y)) xs))) [
+    elim (p x) as (λ b. IsPermutation (cond b (f x) x ∷ map (λ y. cond (p y) (f y) y) xs)
+    (map f (cond b (x ∷ filter p xs) (filter p xs))
+    ++ cond (not b) (x ∷ filter (λ y. not (p y)) xs) (filter (λ y. not (p y)) xs))) [
       | true ↦ IsPermutation-cons (f x) _ _ (split_changed p f xs)
-      | false ↦ IsPermutation-trans _ _ _ (IsPermutation-cons x _ _ (split_changed p f xs)) (IsPermutation-sym _ _ (IsPermutation-middle (map f (filter p xs)) x (filter (λ y. not (p y)) xs)))
+      | false ↦ IsPermutation-trans _ _ _ (IsPermutation-cons x _ _ (split_changed p f xs))
+          (IsPermutation-sym _ _ (IsPermutation-middle (map f (filter p xs)) x (filter (λ y. not (p y)) xs)))
     ]
 
 pub map_same : {X Y : Type 0} (f g : X → Y) → ((x : X) → f x ≡ g x) → (xs : List X) → map f xs ≡ map g xs
@@ -73,7 +83,8 @@ pub none_any : {X : Type 0} (p : X → Bool) (xs : List X) → length (filter p 
 none_any p [] none = refl
 none_any p (x ∷ xs) none = go (p x) none (none_any p xs)
   where
-    go : (b : Bool) → length (cond b (x ∷ filter p xs) (filter p xs)) ≡ 0 → (length (filter p xs) ≡ 0 → list_any p xs ≡ false) → (b || list_any p xs) ≡ false
+    go : (b : Bool) → length (cond b (x ∷ filter p xs) (filter p xs)) ≡ 0
+        → (length (filter p xs) ≡ 0 → list_any p xs ≡ false) → (b || list_any p xs) ≡ false
     go true h later = absurd (omega (arith, h))
     go false h later = later h
 
@@ -81,6 +92,7 @@ pub some_any : {X : Type 0} (p : X → Bool) (xs : List X) → length (filter p 
 some_any p [] some = absurd (some refl)
 some_any p (x ∷ xs) some = go (p x) some (some_any p xs)
   where
-    go : (b : Bool) → length (cond b (x ∷ filter p xs) (filter p xs)) ≢ 0 → (length (filter p xs) ≢ 0 → list_any p xs ≡ true) → (b || list_any p xs) ≡ true
+    go : (b : Bool) → length (cond b (x ∷ filter p xs) (filter p xs)) ≢ 0
+        → (length (filter p xs) ≢ 0 → list_any p xs ≡ true) → (b || list_any p xs) ≡ true
     go true h later = refl
     go false h later = later h

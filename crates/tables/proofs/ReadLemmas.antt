@@ -1,5 +1,7 @@
 -- What a query over one table answers.
-use Rattle.std.proofs.Common.{◌≡◌, ℕ, ◌^◌, ◌-◌, flat_map, ℤ, pos, negsuc, Bool, true, false, cond, List, [], ◌∷◌, ◌++◌, map, filter, slice_get, Option, Some, None, nat_le, refl, sym, ap, ◌∙◌, subst, IsPermutation}
+use Rattle.std.proofs.Common.{◌≡◌, ℕ, ◌^◌, ◌-◌, flat_map, ℤ, pos, negsuc, Bool, true, false, cond, List, [], ◌∷◌, ◌++◌}
+use Rattle.std.proofs.Common.{map, filter, slice_get, Option, Some, None, nat_le, refl, sym, ap, ◌∙◌, subst}
+use Rattle.std.proofs.Common.{IsPermutation}
 use Rattle.std.specs.Prelude.{IsSorted}
 use Rattle.std.specs.List.{list_all}
 use Rattle.std.proofs.lemmas.List.Sorted.{IsPermutation-map}
@@ -17,7 +19,8 @@ use Rattle.sqlite.specs.Effect.{Answers}
 use Rattle.tables.proofs.ListLemmas.{flat_map_tested}
 
 nothing_given : (t : ℕ) → given_at [] t ≡ None
-nothing_given t = elim (nat_le (2 ^ 31) t) as (λ b. cond b (slice_get {X = List Row} [] (t - 2 ^ 31)) None ≡ None) [ true ↦ refl | false ↦ refl ]
+nothing_given t = elim (nat_le (2 ^ 31) t) as (λ b. cond b (slice_get {X = List Row} [] (t - 2 ^ 31)) None ≡ None)
+    [ true ↦ refl | false ↦ refl ]
 
 overlay_none : (db : Trees) (t : ℕ) → overlay db [] t ≡ db t
 overlay_none db t = rw (nothing_given t)
@@ -48,31 +51,45 @@ passes tests params row = list_all (holds (params ∷ row ∷ [])) tests
 abbrev pub shows : List Term → Row → Row → Row
 shows project params row = eval_all project (params ∷ row ∷ [])
 
-module _ (schema : Schema) (db : Trees) (params : Row) (tree : ℕ) (tests project : List Term) (order : List (Term × Key)) (limit : Term) where
+module _ (schema : Schema) (db : Trees) (params : Row) (tree : ℕ) (tests project : List Term)
+    (order : List (Term × Key)) (limit : Term) where
   abbrev query : Query
   query = query_of tree tests project order limit
 
   pub record IsOrdered (rows : List Row) : Type 0 where
     pub ordered : List Output
-    pub same : IsPermutation (map (λ r. output query (params ∷ r ∷ [])) (filter (passes tests params) (db tree))) ordered
+    pub same : IsPermutation (map (λ r. output query (params ∷ r ∷ [])) (filter (passes tests params) (db tree)))
+        ordered
     pub sorted : IsSorted (output_cmp query) ordered
     pub shown : rows ≡ page query params (map (λ o. o.1) ordered)
 
-  pub ordered_by : (rows : List Row) → Answers (record { schema = schema; trees = db }) (program_of tree tests project order limit) params rows → IsOrdered rows
+  pub ordered_by : (rows : List Row)
+      → Answers (record { schema = schema; trees = db }) (program_of tree tests project order limit) params rows
+      → IsOrdered rows
   ordered_by rows h =
       let a : IsAnswer query (overlay db []) params rows = h.answer Null in
-      let staged = a.grouped ∙ ap (λ all. flat_map (λ r. cond (passes tests params r) ((params ∷ r ∷ []) ∷ []) []) all) (overlay_none db tree)
+      let staged = a.grouped ∙ ap (λ all. flat_map (λ r. cond (passes tests params r) ((params ∷ r ∷ []) ∷ []) []) all)
+      (overlay_none db tree)
       ∙ flat_map_tested (passes tests params) (λ r. params ∷ r ∷ []) (db tree) in
       let kept : a.kept ≡ map (λ r. output query (params ∷ r ∷ [])) (filter (passes tests params) (db tree)) =
-      a.distinct ∙ ap (map (output query)) staged ∙ map-map (output query) (λ r. params ∷ r ∷ []) (filter (passes tests params) (db tree)) in
-      record { ordered = a.ordered; same = subst (λ k. IsPermutation k a.ordered) kept a.same; sorted = a.sorted; shown = a.shown }
+      a.distinct ∙ ap (map (output query)) staged
+      ∙ map-map (output query) (λ r. params ∷ r ∷ []) (filter (passes tests params) (db tree)) in
+      record {
+        ordered = a.ordered;
+        same = subst (λ k. IsPermutation k a.ordered) kept a.same;
+        sorted = a.sorted;
+        shown = a.shown;
+      }
 
 module _ (schema : Schema) (db : Trees) (params : Row) (tree : ℕ) (tests project : List Term) where
   -- each row that passes is shown
-  pub answered : (rows : List Row) → Answers (record { schema = schema; trees = db }) (program_of tree tests project [] no_limit) params rows
+  pub answered : (rows : List Row)
+      → Answers (record { schema = schema; trees = db }) (program_of tree tests project [] no_limit) params rows
       → IsPermutation (map (shows project params) (filter (passes tests params) (db tree))) rows
   answered rows h =
       let o = ordered_by schema db params tree tests project [] no_limit rows h in
       let images = IsPermutation-map (λ p. p.1) _ _ o.same in
       subst (IsPermutation (map (shows project params) (filter (passes tests params) (db tree)))) (sym o.shown)
-      (subst (λ l. IsPermutation l (map (λ p. p.1) o.ordered)) (map-map (λ p. p.1) (λ r. output (query_of tree tests project [] no_limit) (params ∷ r ∷ [])) (filter (passes tests params) (db tree))) images)
+      (subst (λ l. IsPermutation l (map (λ p. p.1) o.ordered))
+      (map-map (λ p. p.1) (λ r. output (query_of tree tests project [] no_limit) (params ∷ r ∷ []))
+      (filter (passes tests params) (db tree))) images)

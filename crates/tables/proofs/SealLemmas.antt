@@ -1,5 +1,7 @@
 -- The statements that change or delete rows, over the schema.
-use Rattle.std.proofs.Common.{◌≡◌, ◌<◌, ◌^◌, ◌+◌, ◌==◌, ◌&&◌, ℕ, ℤ, pos, negsuc, Bool, true, false, not, cond, List, [], ◌∷◌, map, filter, Option, Some, None, Ok, Result, IsTrue, refl, sym, ap, ap₂, ◌∙◌, subst, arith}
+use Rattle.std.proofs.Common.{◌≡◌, ◌<◌, ◌^◌, ◌+◌, ◌==◌, ◌&&◌, ℕ, ℤ, pos, negsuc, Bool, true, false, not, cond, List, []}
+use Rattle.std.proofs.Common.{◌∷◌, map, filter, Option, Some, None, Ok, Result, IsTrue, refl, sym, ap, ap₂, ◌∙◌, subst}
+use Rattle.std.proofs.Common.{arith}
 use Rattle.std.specs.Prelude.{bytes_eq, unwrap_or}
 use Rattle.std.specs.List.{AllByRecursion, list_any}
 use Rattle.sqlite_value.specs.declared.value.Value.{Value}
@@ -33,7 +35,8 @@ use Rattle.sqlite.proofs.Callers.{IsPlain, command_of}
 use Rattle.tables.specs.Carrying.{Carries}
 use Rattle.tables.specs.Statements.{set_token, raise_tally, delete_reader}
 use Rattle.tables.specs.Schema.{the_schema, placed, tally}
-use Rattle.tables.specs.Tables.{Tables, StampRow, ReaderRow, TallyRow, is_stamp, is_tally_of, is_reader_row, sealed_row, raised_row, with_token, without_reader}
+use Rattle.tables.specs.Tables.{Tables, StampRow, ReaderRow, TallyRow, is_stamp, is_tally_of, is_reader_row, sealed_row}
+use Rattle.tables.specs.Tables.{raised_row, with_token, without_reader}
 use Rattle.tables.specs.Steps.{with_raised}
 use Rattle.tables.specs.Holding.{AreRows, Holds, IsDatabaseOf, stamp_cells, reader_cells, tally_cells, token_cell}
 use Rattle.tables.proofs.CarryLemmas.{carried, did, Makes}
@@ -58,7 +61,8 @@ abbrev pub seal_params : ℕ → List ℕ → Row
 seal_params serial token = Int (pos serial) ∷ Blob token ∷ []
 
 abbrev pub seal_rest : List Term
-seal_rest = col 1 0 ∷ lit Null ∷ col 1 2 ∷ col 1 3 ∷ col 1 4 ∷ col 1 5 ∷ col 1 6 ∷ col 1 7 ∷ col 1 8 ∷ col 1 9 ∷ col 0 1 ∷ []
+seal_rest = col 1 0 ∷ lit Null ∷ col 1 2 ∷ col 1 3 ∷ col 1 4 ∷ col 1 5 ∷ col 1 6 ∷ col 1 7 ∷ col 1 8 ∷ col 1 9 ∷ col 0 1
+    ∷ []
 
 abbrev pub seal_update : Command
 seal_update = Update 1 (program_of 1 (equals 0 0 ∷ []) (col 1 0 ∷ seal_rest) [] no_limit)
@@ -66,9 +70,14 @@ seal_update = Update 1 (program_of 1 (equals 0 0 ∷ []) (col 1 0 ∷ seal_rest)
 pub seal_makes : (serial : ℕ) (token : List ℕ) → Makes seal_update (seal_params serial token) (with_token serial token)
 seal_makes serial token limit text t db out h does =
     let agree = λ (y : Value × StampRow). and_true _ ∙ test_number y.1.serial serial in
-    let it = updates_rows stamp_cells (λ x e. cc) limit (seal_params serial token) the_schema db text 1 idle _ _ _ _ _ _ _ 1 refl out true t.stamps h.stamps (equals 0 0 ∷ []) (is_stamp serial) agree
+    let it = updates_rows stamp_cells (λ x e. cc) limit (seal_params serial token) the_schema db text 1 idle _ _ _ _ _ _
+    _ 1 refl out true t.stamps h.stamps (equals 0 0 ∷ []) (is_stamp serial) agree
     seal_rest does (λ row. record row { token = Some token }) (λ y own ok typed. simp (cast_int, cast_null)) in
-    record { schema = it.1.1; holds = with_stamps db out.1.trees t h (map (sealed_row serial token) t.stamps) it.1.0 it.0 }
+    record {
+      schema = it.1.1;
+      holds = with_stamps db out.1.trees t h (map (sealed_row serial token) t.stamps) it.1.0
+          it.0;
+    }
 
 seal_is : command_of (understood the_schema set_token) ≡ seal_update
 unfolding understood everything
@@ -78,9 +87,13 @@ seal_plain : IsPlain (understood the_schema set_token)
 unfolding understood everything
 seal_plain = (refl, refl)
 
-pub seal_carried : (serial : ℕ) (token : List ℕ) (old new : State) (result : Result ℕ Error) → Survives old new (λ _. ⊥) → (given : Row) → given ≡ seal_params serial token
-    → (HasCleanDisk new → IsTrue old.in_transaction → ExecutesInside 0 set_token given old new result) → Carries (with_token serial token) old new result
-seal_carried serial token = carried set_token (seal_params serial token) seal_update seal_is seal_plain (λ old new text count w. w) (with_token serial token) (seal_makes serial token)
+pub seal_carried : (serial : ℕ) (token : List ℕ) (old new : State) (result : Result ℕ Error) → Survives old new (λ _. ⊥)
+    → (given : Row) → given ≡ seal_params serial token
+    → (HasCleanDisk new → IsTrue old.in_transaction → ExecutesInside 0 set_token given old new result)
+    → Carries (with_token serial token) old new result
+seal_carried serial token =
+    carried set_token (seal_params serial token) seal_update seal_is seal_plain (λ old new text count w. w)
+    (with_token serial token) (seal_makes serial token)
 
 -- ---- a right taken back
 
@@ -91,14 +104,21 @@ abbrev pub revoke_delete : Command
 revoke_delete = Delete 5 (program_of 6 (equals 1 0 ∷ equals 2 1 ∷ []) (col 1 0 ∷ []) [] no_limit)
 
 reader_test : (serial : ℕ) (account : List ℕ) (y : Value × ReaderRow)
-    → passes (equals 1 0 ∷ equals 2 1 ∷ []) (revoke_params serial account) (raw reader_cells (λ x e. cc) false y) ≡ is_reader_row serial account y.1
+    → passes (equals 1 0 ∷ equals 2 1 ∷ []) (revoke_params serial account) (raw reader_cells (λ x e. cc) false y)
+    ≡ is_reader_row serial account y.1
 reader_test serial account y = ap₂ ◌&&◌ (test_number y.1.serial serial) (and_true _ ∙ test_text y.1.account account)
 
-pub revoke_makes : (serial : ℕ) (account : List ℕ) → Makes revoke_delete (revoke_params serial account) (without_reader serial account)
+pub revoke_makes : (serial : ℕ) (account : List ℕ)
+    → Makes revoke_delete (revoke_params serial account) (without_reader serial account)
 revoke_makes serial account limit text t db out h does =
-    let it = deletes_rows reader_cells (λ x e. cc) limit (revoke_params serial account) the_schema db text 5 idle _ _ _ _ _ _ _ 6 refl out false t.readers h.readers (equals 1 0 ∷ equals 2 1 ∷ [])
+    let it = deletes_rows reader_cells (λ x e. cc) limit (revoke_params serial account) the_schema db text 5 idle _ _ _
+    _ _ _ _ 6 refl out false t.readers h.readers (equals 1 0 ∷ equals 2 1 ∷ [])
     (is_reader_row serial account) (reader_test serial account) does in
-    record { schema = it.1.1; holds = with_readers db out.1.trees t h (filter (λ row. not (is_reader_row serial account row)) t.readers) it.1.0 it.0 }
+    record {
+      schema = it.1.1;
+      holds = with_readers db out.1.trees t h (filter (λ row. not (is_reader_row serial account row)) t.readers)
+          it.1.0 it.0;
+    }
 
 revoke_is : command_of (understood the_schema delete_reader) ≡ revoke_delete
 unfolding understood everything
@@ -108,10 +128,13 @@ revoke_plain : IsPlain (understood the_schema delete_reader)
 unfolding understood everything
 revoke_plain = (refl, refl)
 
-pub revoke_carried : (serial : ℕ) (account : List ℕ) (old new : State) (result : Result ℕ Error) → Survives old new (λ _. ⊥) → (given : Row) → given ≡ revoke_params serial account
-    → (HasCleanDisk new → IsTrue old.in_transaction → ExecutesInside 0 delete_reader given old new result) → Carries (without_reader serial account) old new result
+pub revoke_carried : (serial : ℕ) (account : List ℕ) (old new : State) (result : Result ℕ Error)
+    → Survives old new (λ _. ⊥) → (given : Row) → given ≡ revoke_params serial account
+    → (HasCleanDisk new → IsTrue old.in_transaction → ExecutesInside 0 delete_reader given old new result)
+    → Carries (without_reader serial account) old new result
 revoke_carried serial account =
-    carried delete_reader (revoke_params serial account) revoke_delete revoke_is revoke_plain (λ old new text count w. w) (without_reader serial account) (revoke_makes serial account)
+    carried delete_reader (revoke_params serial account) revoke_delete revoke_is revoke_plain
+    (λ old new text count w. w) (without_reader serial account) (revoke_makes serial account)
 
 -- ---- a count raised
 
@@ -139,54 +162,79 @@ below_greatest : (n : ℕ) → n + 1 < 2 ^ 63 → plus_one n ≡ Int (pos (n + 1
 unfolding binary
 below_greatest n low = rw (lt-ltb (n + 1) (2 ^ 63) low)
 
-pub next_count : (n : ℕ) → n < 2 ^ 63 → is_of Integer (cast Integer (plus_one n)) ≡ true → (cast Integer (plus_one n) ≡ Int (pos (n + 1))) × (n + 1 < 2 ^ 63)
+pub next_count : (n : ℕ) → n < 2 ^ 63 → is_of Integer (cast Integer (plus_one n)) ≡ true
+    → (cast Integer (plus_one n) ≡ Int (pos (n + 1))) × (n + 1 < 2 ^ 63)
 next_count n low typed = elim (cases_lt (n + 1) (2 ^ 63)) [
   | inl fits ↦ (ap (cast Integer) (below_greatest n fits) ∙ cast_int (pos (n + 1)), fits)
-  | inr high ↦ absurd (let greatest : n ≡ 9223372036854775807 = omega arith in let e = sym (subst (λ k. is_of Integer (cast Integer (plus_one k)) ≡ true) greatest typed) ∙ past_greatest in cc)
+  | inr high ↦ absurd (let greatest : n ≡ 9223372036854775807 = omega arith in
+      let e = sym (subst (λ k. is_of Integer (cast Integer (plus_one k)) ≡ true) greatest typed) ∙ past_greatest in cc)
 ]
 
-tally_test : (account : List ℕ) (day : ℕ) (y : Value × TallyRow) → passes raise_tests (raise_params account day) (raw tally_cells (λ x e. cc) false y) ≡ is_tally_of account day y.1
+tally_test : (account : List ℕ) (day : ℕ) (y : Value × TallyRow)
+    → passes raise_tests (raise_params account day) (raw tally_cells (λ x e. cc) false y) ≡ is_tally_of account day y.1
 tally_test account day y = ap₂ ◌&&◌ (test_text y.1.account account) (and_true _ ∙ test_number y.1.day day)
 
 abbrev pub one_more : TallyRow → TallyRow
 one_more row = record row { count = row.count + 1 }
 
 abbrev raised_cells : List ℕ → ℕ → Value × TallyRow → Row
-raised_cells account day y = cast_row (placed 8 tally) (shows raise_rest (raise_params account day) (raw tally_cells (λ x e. cc) false y))
+raised_cells account day y =
+    cast_row (placed 8 tally) (shows raise_rest (raise_params account day) (raw tally_cells (λ x e. cc) false y))
 
 last_typed : (b c : Bool) → (b && (c && true)) ≡ true → c ≡ true
 last_typed b c h = (and_parts _ _ (and_parts b _ h).1).0
 
-raise_each : (account : List ℕ) (day : ℕ) (y : Value × TallyRow) → y.1.count < 2 ^ 63 → are_typed None 0 tally.columns (drop 1 (raised_cells account day y)) ≡ true
+raise_each : (account : List ℕ) (day : ℕ) (y : Value × TallyRow) → y.1.count < 2 ^ 63
+    → are_typed None 0 tally.columns (drop 1 (raised_cells account day y)) ≡ true
     → (drop 1 (raised_cells account day y) ≡ tally_cells (one_more y.1)) × (y.1.count + 1 < 2 ^ 63)
 raise_each account day y low typed =
-    let next = next_count y.1.count low (last_typed (is_of Integer (cast Integer (Int (pos y.1.day)))) (is_of Integer (cast Integer (plus_one y.1.count))) typed) in
+    let next = next_count y.1.count low
+    (last_typed (is_of Integer (cast Integer (Int (pos y.1.day))))
+    (is_of Integer (cast Integer (plus_one y.1.count))) typed) in
     (rw (cast_int (pos y.1.day), next.0), next.1)
 
 counts_raised : (account : List ℕ) (day : ℕ) (xs : List TallyRow) → ((x : TallyRow) → Has xs x → x.count < 2 ^ 63)
-    → ((x : TallyRow) → Has xs x → is_tally_of account day x ≡ true → x.count + 1 < 2 ^ 63) → AllByRecursion (λ row. row.count < 2 ^ 63) (map (raised_row account day) xs)
+    → ((x : TallyRow) → Has xs x → is_tally_of account day x ≡ true → x.count + 1 < 2 ^ 63)
+    → AllByRecursion (λ row. row.count < 2 ^ 63) (map (raised_row account day) xs)
 counts_raised account day [] low next = tt
-counts_raised account day (x ∷ xs) low next = (go (is_tally_of account day x) refl, counts_raised account day xs (λ y known. low y (inr known)) (λ y known. next y (inr known)))
+counts_raised account day (x ∷ xs) low next = (
+  go (is_tally_of account day x) refl,
+  counts_raised account day xs (λ y known. low y (inr known))
+      (λ y known. next y (inr known)),
+)
   where
     go : (b : Bool) → is_tally_of account day x ≡ b → (cond b (one_more x) x).count < 2 ^ 63
     go true is = next x (inl refl) is
     go false is = low x (inl refl)
 
-module _ (account : List ℕ) (day : ℕ) (limit : Option ℕ) (text : List ℕ) (t : Tables) (db : Trees) (out : Tally × Database) (h : Holds t db)
-    (does : Does limit plain_mode (raise_params account day) (record { schema = the_schema; trees = db }) text None raise_update (Ok out)) where
+module _ (account : List ℕ) (day : ℕ) (limit : Option ℕ) (text : List ℕ) (t : Tables) (db : Trees) (out : Tally
+    × Database) (h : Holds t db)
+    (does : Does limit plain_mode (raise_params account day) (record { schema = the_schema; trees = db }) text None
+    raise_update (Ok out)) where
   pub raise_does : IsDatabaseOf (with_raised account day t) out.1
   raise_does =
       let low : (x : TallyRow) → Has t.tallies x → x.count < 2 ^ 63 = λ x known. all_has _ t.tallies x h.counts known in
-      let it = updates_rows tally_cells (λ x e. cc) limit (raise_params account day) the_schema db text 6 idle _ _ _ _ _ _ _ 8 refl out false t.tallies h.tallies raise_tests (is_tally_of account day)
-      (tally_test account day) raise_rest does one_more (λ y own ok typed. (raise_each account day y (low y.1 own) typed).0) in
-      let next : (x : TallyRow) → Has t.tallies x → is_tally_of account day x ≡ true → x.count + 1 < 2 ^ 63 = λ x known ok.
-      let there = updates_typed tally_cells (λ x e. cc) limit (raise_params account day) the_schema db text 6 idle _ _ _ _ _ _ _ 8 refl out false t.tallies h.tallies raise_tests (is_tally_of account day)
+      let it = updates_rows tally_cells (λ x e. cc) limit (raise_params account day) the_schema db text 6 idle _ _ _ _ _
+      _ _ 8 refl out false t.tallies h.tallies raise_tests (is_tally_of account day)
+      (tally_test account day) raise_rest does one_more
+      (λ y own ok typed. (raise_each account day y (low y.1 own) typed).0) in
+      let next : (x : TallyRow) → Has t.tallies x → is_tally_of account day x ≡ true → x.count + 1 < 2 ^ 63 =
+      λ x known ok.
+      let there = updates_typed tally_cells (λ x e. cc) limit (raise_params account day) the_schema db text 6 idle _ _ _
+      _ _ _ _ 8 refl out false t.tallies h.tallies raise_tests (is_tally_of account day)
       (tally_test account day) raise_rest does x known ok in
-      subst (λ (z : TallyRow). z.count + 1 < 2 ^ 63) (sym there.1) (raise_each account day there.0 (subst (λ (z : TallyRow). z.count < 2 ^ 63) there.1 (low x known)) there.2).1 in
-      record { schema = it.1.1; holds = with_tallies db out.1.trees t h (map (raised_row account day) t.tallies) it.1.0 it.0 (counts_raised account day t.tallies low next) }
+      subst (λ (z : TallyRow). z.count + 1 < 2 ^ 63) (sym there.1)
+      (raise_each account day there.0 (subst (λ (z : TallyRow). z.count < 2 ^ 63) there.1 (low x known))
+      there.2).1 in
+      record {
+        schema = it.1.1;
+        holds = with_tallies db out.1.trees t h (map (raised_row account day) t.tallies) it.1.0
+            it.0 (counts_raised account day t.tallies low next);
+      }
 
   pub raise_count : out.0.rows ≡ Some (length (filter (is_tally_of account day) t.tallies))
-  raise_count = updates_count tally_cells (λ x e. cc) limit (raise_params account day) the_schema db text 6 idle _ _ _ _ _ _ _ 8 refl out false t.tallies h.tallies raise_tests (is_tally_of account day)
+  raise_count = updates_count tally_cells (λ x e. cc) limit (raise_params account day) the_schema db text 6 idle _ _ _ _
+      _ _ _ 8 refl out false t.tallies h.tallies raise_tests (is_tally_of account day)
       (tally_test account day) raise_rest does
 
 raise_is : command_of (understood the_schema raise_tally) ≡ raise_update
@@ -198,17 +246,26 @@ unfolding understood everything
 raise_plain = (refl, refl)
 
 module _ (account : List ℕ) (day : ℕ) (old new : State) where
-  pub raise_carried : (result : Result ℕ Error) → Survives old new (λ _. ⊥) → (given : Row) → given ≡ raise_params account day
-      → (HasCleanDisk new → IsTrue old.in_transaction → ExecutesInside 0 raise_tally given old new result) → Carries (with_raised account day) old new result
-  raise_carried result = carried raise_tally (raise_params account day) raise_update raise_is raise_plain (λ old new text count w. w) (with_raised account day) (raise_does account day) old new result
+  pub raise_carried : (result : Result ℕ Error) → Survives old new (λ _. ⊥) → (given : Row)
+      → given ≡ raise_params account day
+      → (HasCleanDisk new → IsTrue old.in_transaction → ExecutesInside 0 raise_tally given old new result)
+      → Carries (with_raised account day) old new result
+  raise_carried result =
+      carried raise_tally (raise_params account day) raise_update raise_is raise_plain (λ old new text count w. w)
+      (with_raised account day) (raise_does account day) old new result
 
-  pub raise_counted : (count : ℕ) (given : Row) → given ≡ raise_params account day → ExecutesInside 0 raise_tally given old new (Ok count) → (t : Tables) → IsDatabaseOf t old.now
+  pub raise_counted : (count : ℕ) (given : Row) → given ≡ raise_params account day
+      → ExecutesInside 0 raise_tally given old new (Ok count) → (t : Tables) → IsDatabaseOf t old.now
       → count ≡ length (filter (is_tally_of account day) t.tallies)
   raise_counted count given same ran t d =
-      let it = did raise_tally (raise_params account day) raise_update raise_is raise_plain (λ old new text count w. w) old new count d.schema (subst (λ ps. ExecutesInside 0 raise_tally ps old new (Ok count)) same ran) in
-      it.3 ∙ ap (λ o. unwrap_or o 0) (raise_count account day old.step_limit it.1 t old.now.trees (it.0, new.now) d.holds it.2)
+      let it = did raise_tally (raise_params account day) raise_update raise_is raise_plain (λ old new text count w. w)
+      old new count d.schema (subst (λ ps. ExecutesInside 0 raise_tally ps old new (Ok count)) same ran) in
+      it.3 ∙ ap (λ o. unwrap_or o 0) (raise_count account day old.step_limit it.1 t old.now.trees (it.0, new.now)
+      d.holds it.2)
 
-  pub raise_counts : (result : Result ℕ Error) (given : Row) → given ≡ raise_params account day → ExecutesInside 0 raise_tally given old new result
-      → IfOk result (λ count. (t : Tables) → IsDatabaseOf t old.now → count ≡ length (filter (is_tally_of account day) t.tallies))
+  pub raise_counts : (result : Result ℕ Error) (given : Row) → given ≡ raise_params account day
+      → ExecutesInside 0 raise_tally given old new result
+      → IfOk result (λ count. (t : Tables) → IsDatabaseOf t old.now → count
+      ≡ length (filter (is_tally_of account day) t.tallies))
   raise_counts (Err e) given same ran = tt
   raise_counts (Ok count) given same ran = raise_counted count given same ran

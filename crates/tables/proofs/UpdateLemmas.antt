@@ -1,5 +1,6 @@
 -- UPDATE and DELETE in one table, in terms of what its rows say.
-use Rattle.std.proofs.Common.{◌≡◌, ◌≢◌, ◌⊎◌, ℕ, ℤ, Bool, true, false, not, cond, ◌&&◌, List, [], ◌∷◌, ◌++◌, map, filter, drop, length, slice_get, Option, Some, None, Ok, refl, sym, ap, ◌∙◌, subst, IsPermutation}
+use Rattle.std.proofs.Common.{◌≡◌, ◌≢◌, ◌⊎◌, ℕ, ℤ, Bool, true, false, not, cond, ◌&&◌, List, [], ◌∷◌, ◌++◌, map, filter}
+use Rattle.std.proofs.Common.{drop, length, slice_get, Option, Some, None, Ok, refl, sym, ap, ◌∙◌, subst, IsPermutation}
 use Rattle.std.proofs.lemmas.Bool.{and_parts}
 use Rattle.std.proofs.lemmas.List.Sorted.{IsPermutation-map, length_permutation}
 use Rattle.std.proofs.lemmas.List.{length-map}
@@ -27,36 +28,54 @@ use Rattle.sqlite_rules.proofs.TableLemmas.{put_all_adds}
 use Rattle.sqlite.specs.Does.{Tally, Does}
 use Rattle.sqlite.specs.Effect.{Database, Answers}
 use Rattle.tables.specs.Holding.{AreRows, said}
-use Rattle.tables.proofs.WriteLemmas.{IsIdle, plain_mode, its_table, before, OthersHold, updates, deletes, Makes as MakesEdit}
+use Rattle.tables.proofs.WriteLemmas.{IsIdle, plain_mode, its_table, before, OthersHold, updates, deletes}
+use Rattle.tables.proofs.WriteLemmas.{Makes as MakesEdit}
 use Rattle.tables.proofs.ReadLemmas.{program_of, no_limit, passes, shows, answered}
 use Rattle.tables.proofs.ChangeLemmas.{raw, numbered_given, updated, deleted, found_are, changed_there}
 
-module _ {X : Type 0} (cells : X → Row) (some : (x : X) → cells x ≢ []) (limit : Option ℕ) (params : Row) (schema : Schema) (db : Trees) (text : List ℕ) (at : ℕ) (idle : IsIdle schema)
-    (name : List ℕ) (columns : List Column) (key : Option ℕ) (primary : List ℕ) (uniques : List (List ℕ)) (orders : List Order) (references : List Reference) (tree : ℕ) where
+module _ {X : Type 0} (cells : X → Row) (some : (x : X) → cells x ≢ []) (limit : Option ℕ) (params : Row)
+    (schema : Schema) (db : Trees) (text : List ℕ) (at : ℕ) (idle : IsIdle schema)
+    (name : List ℕ) (columns : List Column) (key : Option ℕ) (primary : List ℕ) (uniques : List (List ℕ))
+    (orders : List Order) (references : List Reference) (tree : ℕ) where
   abbrev table : Table
   table = its_table limit params schema db text at idle name columns key primary uniques orders references tree
 
-  module _ (listed : slice_get schema.tables at ≡ Some table) (out : Tally × Database) (keyed : Bool) (xs : List X) (h : AreRows keyed cells xs (db tree)) (tests : List Term) (test : X → Bool)
+  module _ (listed : slice_get schema.tables at ≡ Some table) (out : Tally × Database) (keyed : Bool) (xs : List X)
+      (h : AreRows keyed cells xs (db tree)) (tests : List Term) (test : X → Bool)
       (agree : (y : Value × X) → passes tests params (raw cells some keyed y) ≡ test y.1) where
     -- the rows that a statement finds have these rowids
-    ids_are : (rest : List Term) (rows : List Row) → Answers (record { schema = schema; trees = db }) (program_of tree tests (col 1 0 ∷ rest) [] no_limit) params rows
+    ids_are : (rest : List Term) (rows : List Row)
+        → Answers (record { schema = schema; trees = db }) (program_of tree tests (col 1 0 ∷ rest) [] no_limit) params
+        rows
         → IsPermutation (ids_of (filter (passes tests params) (db tree))) (ids_of rows)
     ids_are rest rows answer =
-        subst (λ l. IsPermutation l (ids_of rows)) (map-map (λ r. id_in (rowid r)) (shows (col 1 0 ∷ rest) params) (filter (passes tests params) (db tree)))
-        (IsPermutation-map (λ r. id_in (rowid r)) _ _ (answered schema db params tree tests (col 1 0 ∷ rest) rows answer))
+        subst (λ l. IsPermutation l (ids_of rows))
+        (map-map (λ r. id_in (rowid r)) (shows (col 1 0 ∷ rest) params) (filter (passes tests params) (db tree)))
+        (IsPermutation-map (λ r. id_in (rowid r)) _ _
+        (answered schema db params tree tests (col 1 0 ∷ rest) rows answer))
 
-    pub deletes_rows : Does limit plain_mode params (record { schema = schema; trees = db }) text None (Delete at (program_of tree tests (col 1 0 ∷ []) [] no_limit)) (Ok out)
+    pub deletes_rows : Does limit plain_mode params (record { schema = schema; trees = db }) text None
+        (Delete at (program_of tree tests (col 1 0 ∷ []) [] no_limit)) (Ok out)
         → AreRows keyed cells (filter (λ x. not (test x)) xs) (out.1.trees tree) × OthersHold schema db tree out
     deletes_rows does =
-        let it = deletes limit params schema db text at idle name columns key primary uniques orders references tree listed out _ does in
-        (deleted cells some keyed xs (db tree) h (passes tests params) test agree (ids_of it.0) (ids_are [] it.0 it.1) (out.1.trees tree) it.2.0.rows, (it.2.0.tables, it.2.1))
+        let it = deletes limit params schema db text at idle name columns key primary uniques orders references tree
+        listed out _ does in (
+          deleted cells some keyed xs (db tree) h (passes tests params) test agree (ids_of it.0) (ids_are [] it.0 it.1)
+              (out.1.trees tree) it.2.0.rows,
+          (it.2.0.tables, it.2.1),
+        )
 
     module _ (rest : List Term) where
-      module _ (does : Does limit plain_mode params (record { schema = schema; trees = db }) text None (Update at (program_of tree tests (col 1 0 ∷ rest) [] no_limit)) (Ok out)) where
-        abbrev it : (rows : List Row) × Answers (record { schema = schema; trees = db }) (program_of tree tests (col 1 0 ∷ rest) [] no_limit) params rows
-            × MakesEdit limit params schema db text at idle name columns key primary uniques orders references tree (edit_of db table (ids_of rows) Given 1 rows) out
+      module _ (does : Does limit plain_mode params (record { schema = schema; trees = db }) text None
+          (Update at (program_of tree tests (col 1 0 ∷ rest) [] no_limit)) (Ok out)) where
+        abbrev it : (rows : List Row)
+            × Answers (record { schema = schema; trees = db }) (program_of tree tests (col 1 0 ∷ rest) [] no_limit)
+            params rows
+            × MakesEdit limit params schema db text at idle name columns key primary uniques orders references tree
+            (edit_of db table (ids_of rows) Given 1 rows) out
             × (out.0.rows ≡ Some (length (edit_of db table (ids_of rows) Given 1 rows).news))
-        it = updates limit params schema db text at idle name columns key primary uniques orders references tree listed out _ does
+        it = updates limit params schema db text at idle name columns key primary uniques orders references tree listed
+            out _ does
 
         abbrev ids : List ℤ
         ids = ids_of it.0
@@ -72,8 +91,10 @@ module _ {X : Type 0} (cells : X → Row) (some : (x : X) → cells x ≢ []) (l
 
         are_news : IsPermutation (map upd (filter (passes tests params) (db tree))) news
         are_news =
-            subst (λ l. IsPermutation l news) (map-map (λ s. cast_row table (drop 1 s)) (shows (col 1 0 ∷ rest) params) (filter (passes tests params) (db tree)))
-            (IsPermutation-map (λ s. cast_row table (drop 1 s)) _ _ (answered schema db params tree tests (col 1 0 ∷ rest) it.0 it.1))
+            subst (λ l. IsPermutation l news) (map-map (λ s. cast_row table (drop 1 s)) (shows (col 1 0 ∷ rest) params)
+            (filter (passes tests params) (db tree)))
+            (IsPermutation-map (λ s. cast_row table (drop 1 s)) _ _
+            (answered schema db params tree tests (col 1 0 ∷ rest) it.0 it.1))
 
         fresh_news : are_fresh (without_all (db tree) ids) news ≡ true
         fresh_news = subst (λ l. are_fresh (without_all (db tree) ids) l ≡ true) same it.2.0.fresh
@@ -83,28 +104,39 @@ module _ {X : Type 0} (cells : X → Row) (some : (x : X) → cells x ≢ []) (l
 
         typed : (r : Row) → Has news r → are_typed key 0 columns (drop 1 r) ≡ true
         typed r there =
-            (and_parts _ _ (keeps_at Datatype schema out.1.trees table r (it.2.0.fits.rules Datatype (λ e. cc)) (has_got schema.tables at table listed)
+            (and_parts _ _ (keeps_at Datatype schema out.1.trees table r (it.2.0.fits.rules Datatype (λ e. cc))
+            (has_got schema.tables at table listed)
             (subst (λ l. Has l r) (sym rows_are) (put_all_adds news (without_all (db tree) ids) r fresh_news there)))).0
 
         -- each row that is found is of the columns' types afterwards
-        pub updates_typed : (x : X) → Has xs x → test x ≡ true → (y : Value × X) × (x ≡ y.1) × (are_typed key 0 columns (drop 1 (upd (raw cells some keyed y))) ≡ true)
+        pub updates_typed : (x : X) → Has xs x → test x ≡ true
+            → (y : Value × X) × (x ≡ y.1) × (are_typed key 0 columns (drop 1 (upd (raw cells some keyed y))) ≡ true)
         updates_typed x known ok =
-            let there = changed_there cells some keyed xs (db tree) h (passes tests params) test agree ids (ids_are rest it.0 it.1) upd news are_news x known ok in
+            let there = changed_there cells some keyed xs (db tree) h (passes tests params) test agree ids
+            (ids_are rest it.0 it.1) upd news are_news x known ok in
             (there.0, there.1, typed _ there.2)
 
-        pub updates_rows : (change : X → X) → ((y : Value × X) → Has xs y.1 → test y.1 ≡ true → are_typed key 0 columns (drop 1 (upd (raw cells some keyed y))) ≡ true
+        pub updates_rows : (change : X → X)
+            → ((y : Value × X) → Has xs y.1 → test y.1 ≡ true
+            → are_typed key 0 columns (drop 1 (upd (raw cells some keyed y))) ≡ true
             → said keyed (upd (raw cells some keyed y)) ≡ cells (change y.1))
-            → AreRows keyed cells (map (λ x. cond (test x) (change x) x) xs) (out.1.trees tree) × OthersHold schema db tree out
+            → AreRows keyed cells (map (λ x. cond (test x) (change x) x) xs) (out.1.trees tree)
+            × OthersHold schema db tree out
         updates_rows change each = (
-          updated cells some keyed xs (db tree) h (passes tests params) test agree ids (ids_are rest it.0 it.1) upd change news (out.1.trees tree) are_news
-              (subst (λ l. have_rowids l ≡ true) same it.2.0.keyed) fresh_news rows_are (λ y own ok there. each y own ok (typed _ there)),
+          updated cells some keyed xs (db tree) h (passes tests params) test agree ids (ids_are rest it.0 it.1) upd
+              change news (out.1.trees tree) are_news
+              (subst (λ l. have_rowids l ≡ true) same it.2.0.keyed) fresh_news rows_are
+              (λ y own ok there. each y own ok (typed _ there)),
           (it.2.0.tables, it.2.1),
         )
 
         -- how many rows it finds
         pub updates_count : out.0.rows ≡ Some (length (filter test xs))
         updates_count =
-            let found = found_are cells some keyed xs (db tree) h (passes tests params) test agree {Y = ℕ} (λ _. 0) (λ _. 0) (λ y. refl) (map (λ _. 0) it.0)
-            (subst (λ l. IsPermutation l (map (λ _. 0) it.0)) (map-map (λ _. 0) (shows (col 1 0 ∷ rest) params) (filter (passes tests params) (db tree)))
+            let found = found_are cells some keyed xs (db tree) h (passes tests params) test agree {Y = ℕ} (λ _. 0)
+            (λ _. 0) (λ y. refl) (map (λ _. 0) it.0)
+            (subst (λ l. IsPermutation l (map (λ _. 0) it.0))
+            (map-map (λ _. 0) (shows (col 1 0 ∷ rest) params) (filter (passes tests params) (db tree)))
             (IsPermutation-map (λ _. 0) _ _ (answered schema db params tree tests (col 1 0 ∷ rest) it.0 it.1))) in
-            it.3 ∙ ap Some (ap length same ∙ length-map it.0 (λ s. cast_row table (drop 1 s)) ∙ sym (length-map it.0 (λ _. 0)) ∙ length_permutation _ _ found ∙ length-map (filter test xs) (λ _. 0))
+            it.3 ∙ ap Some (ap length same ∙ length-map it.0 (λ s. cast_row table (drop 1 s))
+            ∙ sym (length-map it.0 (λ _. 0)) ∙ length_permutation _ _ found ∙ length-map (filter test xs) (λ _. 0))

@@ -1,5 +1,6 @@
 -- What INSERT, UPDATE and DELETE make of a table, in any schema whose references have no action.
-use Rattle.std.proofs.Common.{◌≡◌, ◌≢◌, ◌⊎◌, ℕ, ℤ, ◌/◌, Bool, true, false, List, [], ◌∷◌, ◌++◌, map, length, slice_get, Option, Some, None, Result, Ok, Err, refl, sym, ap, ◌∙◌, subst, inl, inr, append-nil}
+use Rattle.std.proofs.Common.{◌≡◌, ◌≢◌, ◌⊎◌, ℕ, ℤ, ◌/◌, Bool, true, false, List, [], ◌∷◌, ◌++◌, map, length, slice_get}
+use Rattle.std.proofs.Common.{Option, Some, None, Result, Ok, Err, refl, sym, ap, ◌∙◌, subst, inl, inr, append-nil}
 use Rattle.std.specs.List.{AllByRecursion, filter_map, flat_map}
 use Rattle.sqlite_value.specs.Order.{Row}
 use Rattle.sqlite_value.specs.declared.keys.Order.{Order}
@@ -29,21 +30,29 @@ use Rattle.tables.specs.Schema.{table_of, placed}
 
 -- no reference does anything where its parent goes or changes
 abbrev pub IsIdle : Schema → Type 0
-IsIdle schema = AllByRecursion (λ (t : Table). AllByRecursion (λ (ref : Reference). (ref.on_delete ≡ NoAction) × (ref.on_update ≡ NoAction)) t.references) schema.tables
+IsIdle schema = AllByRecursion
+    (λ (t : Table). AllByRecursion (λ (ref : Reference). (ref.on_delete ≡ NoAction) × (ref.on_update ≡ NoAction))
+    t.references) schema.tables
 
-no_deed : (b : Bool) (ref : Reference) → (ref.on_delete ≡ NoAction) × (ref.on_update ≡ NoAction) → deed_for Enforced b ref ≡ None
+no_deed : (b : Bool) (ref : Reference) → (ref.on_delete ≡ NoAction) × (ref.on_update ≡ NoAction)
+    → deed_for Enforced b ref ≡ None
 no_deed true ref h = rw h.0
 no_deed false ref h = rw h.1
 
-no_work : (schema : Schema) (tree : ℕ) (olds news : List Row) (child : Table) (refs : List Reference) → AllByRecursion (λ (ref : Reference). (ref.on_delete ≡ NoAction) × (ref.on_update ≡ NoAction)) refs
+no_work : (schema : Schema) (tree : ℕ) (olds news : List Row) (child : Table) (refs : List Reference)
+    → AllByRecursion (λ (ref : Reference). (ref.on_delete ≡ NoAction) × (ref.on_update ≡ NoAction)) refs
     → filter_map (work_for schema Enforced 0 tree olds news child) refs ≡ []
 no_work schema tree olds news child [] h = refl
-no_work schema tree olds news child (ref ∷ refs) h = rw (no_deed _ ref h.0, no_work schema tree olds news child refs h.1)
+no_work schema tree olds news child (ref ∷ refs) h =
+    rw (no_deed _ ref h.0, no_work schema tree olds news child refs h.1)
 
-idle_works : (schema : Schema) (tree : ℕ) (olds news : List Row) → IsIdle schema → works schema Enforced 0 tree olds news ≡ []
+idle_works : (schema : Schema) (tree : ℕ) (olds news : List Row) → IsIdle schema
+    → works schema Enforced 0 tree olds news ≡ []
 idle_works schema tree olds news idle = go schema.tables idle
   where
-    go : (ts : List Table) → AllByRecursion (λ (t : Table). AllByRecursion (λ (ref : Reference). (ref.on_delete ≡ NoAction) × (ref.on_update ≡ NoAction)) t.references) ts
+    go : (ts : List Table)
+        → AllByRecursion (λ (t : Table). AllByRecursion (λ (ref : Reference). (ref.on_delete ≡ NoAction)
+        × (ref.on_update ≡ NoAction)) t.references) ts
         → flat_map (λ child. filter_map (work_for schema Enforced 0 tree olds news child) child.references) ts ≡ []
     go [] h = refl
     go (t ∷ ts) h = rw (no_work schema tree olds news t t.references h.0, go ts h.1)
@@ -55,7 +64,9 @@ went (inr on) = on
 
 -- the other tables stay, and so does the schema
 abbrev pub OthersHold : Schema → Trees → ℕ → Tally × Database → Type 0
-OthersHold schema db tree out = AllByRecursion (λ (t : Table). t.tree ≢ tree → out.1.trees t.tree ≡ db t.tree) schema.tables × (out.1.schema ≡ schema)
+OthersHold schema db tree out =
+    AllByRecursion (λ (t : Table). t.tree ≢ tree → out.1.trees t.tree ≡ db t.tree) schema.tables
+    × (out.1.schema ≡ schema)
 
 same_ok : {B E : Type 0} {a b : B} → ◌≡◌ {A = Result B E} (Ok a) (Ok b) → a ≡ b
 same_ok e = cc
@@ -63,8 +74,10 @@ same_ok e = cc
 abbrev pub plain_mode : Mode
 plain_mode = record { keys = Enforced; in_doubt = false; may_wait = false }
 
-module _ (limit : Option ℕ) (params : Row) (schema : Schema) (db : Trees) (text : List ℕ) (at : ℕ) (idle : IsIdle schema)
-    (name : List ℕ) (columns : List Column) (key : Option ℕ) (primary : List ℕ) (uniques : List (List ℕ)) (orders : List Order) (references : List Reference) (tree : ℕ) where
+module _ (limit : Option ℕ) (params : Row) (schema : Schema) (db : Trees) (text : List ℕ) (at : ℕ)
+    (idle : IsIdle schema)
+    (name : List ℕ) (columns : List Column) (key : Option ℕ) (primary : List ℕ) (uniques : List (List ℕ))
+    (orders : List Order) (references : List Reference) (tree : ℕ) where
   abbrev pub its_table : Table
   its_table = placed tree (table_of name columns key primary uniques orders references)
 
@@ -79,7 +92,8 @@ module _ (limit : Option ℕ) (params : Row) (schema : Schema) (db : Trees) (tex
   task = record { limit = limit; keys = Enforced; schema = schema; table = its_table; params = params }
 
   concluded : (command : Command) (out : Tally × Database) → OnRows task plain_mode None command db (Ok out)
-      → (w : Written) × WritesRows task db command (Ok w) × (out.1 ≡ record { schema = schema; trees = w.trees }) × (out.0.rows ≡ Some (length w.rows))
+      → (w : Written) × WritesRows task db command (Ok w) × (out.1 ≡ record { schema = schema; trees = w.trees })
+      × (out.0.rows ≡ Some (length w.rows))
   concluded command out h =
       let done = went h in
       let tested = went done.2 in
@@ -88,13 +102,20 @@ module _ (limit : Option ℕ) (params : Row) (schema : Schema) (db : Trees) (tex
       (done.0, done.1, ap (λ (p : Tally × Database). p.1) is, ap (λ (p : Tally × Database). p.0.rows) is)
 
   made : (edit : Edit) (next : Trees) → Edited schema Enforced db edit (Ok next) → Applies schema Enforced db edit next
-  made edit next = one_step schema Enforced db next edit (idle_works schema edit.table.tree (taken_by db edit) edit.news idle)
+  made edit next = one_step schema Enforced db next edit
+      (idle_works schema edit.table.tree (taken_by db edit) edit.news idle)
 
   module _ (listed : slice_get schema.tables at ≡ Some its_table) (out : Tally × Database) where
-    on_table : (command : Command) → OnTable limit plain_mode params before at (λ t. OnRows t plain_mode None command db) (Ok out) → OnRows task plain_mode None command db (Ok out)
-    on_table command h = subst (λ o. AtPlace (λ table. OnRows (record { limit = limit; keys = Enforced; schema = schema; table = table; params = params }) plain_mode None command db) o (Ok out)) listed h
+    on_table : (command : Command)
+        → OnTable limit plain_mode params before at (λ t. OnRows t plain_mode None command db) (Ok out)
+        → OnRows task plain_mode None command db (Ok out)
+    on_table command h =
+        subst (λ o. AtPlace (λ table. OnRows
+        (record { limit = limit; keys = Enforced; schema = schema; table = table; params = params }) plain_mode None
+        command db) o (Ok out)) listed h
 
-    pub inserts : (terms : List Term) (width : ℕ) → Does limit plain_mode params before text None (Insert at (Values terms width)) (Ok out)
+    pub inserts : (terms : List Term) (width : ℕ)
+        → Does limit plain_mode params before text None (Insert at (Values terms width)) (Ok out)
         → Makes (edit_of db its_table [] Chosen 0 (value_rows params width (length terms / width) terms)) out
     inserts terms width h =
         let done = concluded (Insert at (Values terms width)) out (on_table (Insert at (Values terms width)) h) in
@@ -102,11 +123,15 @@ module _ (limit : Option ℕ) (params : Row) (schema : Schema) (db : Trees) (tex
         let counter = went given.2 in
         let written = went counter.2 in
         let counted = went written.2 in
-        let rows : given.0 ≡ value_rows params width (length terms / width) terms = given.1.1 ∙ ap (λ ps. value_rows ps width (length terms / width) terms) (append-nil params) in
+        let rows : given.0 ≡ value_rows params width (length terms / width) terms =
+        given.1.1 ∙ ap (λ ps. value_rows ps width (length terms / width) terms) (append-nil params) in
         let trees : done.0.trees ≡ written.0 = ap (λ (w : Written). w.trees) (same_ok counted.2) ∙ same_ok counted.1 in
         let applied = made _ written.0 written.1 in
-        let here = subst (λ all. Applies schema Enforced db (edit_of db its_table [] Chosen 0 all) written.0) rows applied in
-        (subst (Applies schema Enforced db _) (sym (ap (λ (d : Database). d.trees) done.2 ∙ trees)) here, ap (λ (d : Database). d.schema) done.2)
+        let here = subst (λ all. Applies schema Enforced db (edit_of db its_table [] Chosen 0 all) written.0) rows
+        applied in (
+          subst (Applies schema Enforced db _) (sym (ap (λ (d : Database). d.trees) done.2 ∙ trees)) here,
+          ap (λ (d : Database). d.schema) done.2,
+        )
 
     pub updates : (q : Program) → Does limit plain_mode params before text None (Update at q) (Ok out)
         → (rows : List Row) × Answers before q params rows × Makes (edit_of db its_table (ids_of rows) Given 1 rows) out
@@ -120,7 +145,10 @@ module _ (limit : Option ℕ) (params : Row) (schema : Schema) (db : Trees) (tex
         let trees : done.0.trees ≡ written.0 = ap (λ (w : Written). w.trees) end in (
           asked.0,
           asked.1,
-          (subst (Applies schema Enforced db _) (sym (ap (λ (d : Database). d.trees) done.2 ∙ trees)) applied, ap (λ (d : Database). d.schema) done.2),
+          (
+            subst (Applies schema Enforced db _) (sym (ap (λ (d : Database). d.trees) done.2 ∙ trees)) applied,
+            ap (λ (d : Database). d.schema) done.2,
+          ),
           done.3 ∙ ap (λ (w : Written). Some (length w.rows)) end,
         )
 
@@ -131,5 +159,12 @@ module _ (limit : Option ℕ) (params : Row) (schema : Schema) (db : Trees) (tex
         let asked = went done.1 in
         let written = went asked.2 in
         let applied = made _ written.0 written.1 in
-        let trees : done.0.trees ≡ written.0 = ap (λ (w : Written). w.trees) (same_ok written.2) in
-        (asked.0, asked.1, (subst (Applies schema Enforced db _) (sym (ap (λ (d : Database). d.trees) done.2 ∙ trees)) applied, ap (λ (d : Database). d.schema) done.2))
+        let trees : done.0.trees ≡ written.0 = ap (λ (w : Written). w.trees) (same_ok written.2) in (
+          asked.0,
+          asked.1,
+          (
+            subst (Applies schema Enforced db _) (sym (ap (λ (d : Database). d.trees) done.2 ∙ trees))
+                applied,
+            ap (λ (d : Database). d.schema) done.2,
+          ),
+        )

@@ -20,7 +20,8 @@ pub record IsQueryText (sql : List ℕ) : Type 0 where
 
 -- the rows are an answer of the query over these trees
 abbrev pub TellsRows : List ℕ → Row → Trees → List Row → Type 0
-TellsRows sql params db rows = Reads (command_of (understood the_schema sql)) (record { schema = the_schema; trees = db }) params rows
+TellsRows sql params db rows =
+    Reads (command_of (understood the_schema sql)) (record { schema = the_schema; trees = db }) params rows
 
 -- the text has no RETURNING and reads no time, where the schema understands it
 abbrev pub IsPlainIn : Schema → List ℕ → Type 0
@@ -29,13 +30,15 @@ IsPlainIn schema sql = (c : Compiled) → understood schema sql ≡ Ok c → (c.
 -- the rows are an answer of the query on this database, whatever its schema
 abbrev pub Answers : List ℕ → Row → Database → List Row → Type 0
 Answers sql params d rows =
-    (c : Compiled) × (understood d.schema sql ≡ Ok c) × (source : Database) × IsSourceOf (reads_listing d.schema sql) d source × Reads c.command source params rows
+    (c : Compiled) × (understood d.schema sql ≡ Ok c) × (source : Database)
+    × IsSourceOf (reads_listing d.schema sql) d source × Reads c.command source params rows
 
 -- nothing changes, whatever the query answers
 pub record Looks (old new : State) : Type 0 where
   pub clean : HasCleanDisk new → HasCleanDisk old
   pub reopens : HasCleanDisk new → IsTrue new.is_open → IsTrue old.is_open
-  pub kept : HasCleanDisk new → IsTrue new.is_open → old.now ≡ old.committed → (new.now ≡ old.now) × (new.now ≡ new.committed)
+  pub kept : HasCleanDisk new → IsTrue new.is_open → old.now ≡ old.committed
+      → (new.now ≡ old.now) × (new.now ≡ new.committed)
   pub leaves : HasCleanDisk new → (db : Trees) → new.may_leave db → old.may_leave db
 
 -- the first row of an answer, where there is one

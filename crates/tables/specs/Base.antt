@@ -16,7 +16,8 @@ pub record BaseValue (S : Type 0) : Type 0 where
 
 abbrev pub base_code : {S : Type 0} → Coded S → Coded (BaseValue S)
 base_code {S} store =
-    code_by (Held S × ℕ) (coded× (held_code store) coded_ℕ) (λ b. (b.conn, b.faults)) (λ p. record { conn = p.0; faults = p.1 }) (λ _. refl)
+    code_by (Held S × ℕ) (coded× (held_code store) coded_ℕ) (λ b. (b.conn, b.faults))
+    (λ p. record { conn = p.0; faults = p.1 }) (λ _. refl)
 
 -- what is seen and what was committed are these tables, and a crash leaves nothing else
 pub record StandsFor (t : Tables) (s : State) : Type 0 where

@@ -16,20 +16,25 @@ module _ (Before : Tables → Database → Type 0) (Known : Type 0) where
     pub goes : (t : Tables) → Before t old.now → IsDatabaseOf (step t) new.now
 
   -- nothing is committed, and a success takes the step
-  pub record CarriesFrom {X : Type 0} (step : Tables → Tables) (old new : State) (result : Result X Error) : Type 0 where
+  pub record CarriesFrom {X : Type 0} (step : Tables → Tables) (old new : State) (result : Result X Error) : Type
+      0 where
     pub survives : Survives old new (λ _. ⊥)
     pub kept : HasCleanDisk new → IsTrue old.in_transaction → KeepsCommit old new
     pub ok : HasCleanDisk new → IsTrue old.in_transaction → OnOk result (GoesFrom step old new)
 
   -- what a call is that commits the step, or nothing
-  pub record CommitsFrom {X : Type 0} (step : Tables → Tables) (old new : State) (result : Result X Error) : Type 0 where
+  pub record CommitsFrom {X : Type 0} (step : Tables → Tables) (old new : State) (result : Result X Error) : Type
+      0 where
     pub clean : HasCleanDisk new → HasCleanDisk old
     pub reopens : HasCleanDisk new → IsTrue new.is_open → IsTrue old.is_open
     pub opened : HasCleanDisk new → OnOk result (IsTrue old.is_open × IsTrue new.is_open)
-    pub ok : HasCleanDisk new → (t : Tables) → Before t old.now → OnOk result (IsDatabaseOf (step t) new.now × (new.now ≡ new.committed))
-    pub err : HasCleanDisk new → IsTrue new.is_open → old.now ≡ old.committed → OnErr result ((new.now ≡ old.now) × (new.now ≡ new.committed))
+    pub ok : HasCleanDisk new → (t : Tables) → Before t old.now
+        → OnOk result (IsDatabaseOf (step t) new.now × (new.now ≡ new.committed))
+    pub err : HasCleanDisk new → IsTrue new.is_open → old.now ≡ old.committed
+        → OnErr result ((new.now ≡ old.now) × (new.now ≡ new.committed))
     -- a crash leaves what it could leave before, or the step committed
-    pub crash : HasCleanDisk new → (db : Trees) → new.may_leave db → old.may_leave db ⊎ ((Known → IsTrue old.is_open) × ((t : Tables) → Before t old.now → Holds (step t) db))
+    pub crash : HasCleanDisk new → (db : Trees) → new.may_leave db
+        → old.may_leave db ⊎ ((Known → IsTrue old.is_open) × ((t : Tables) → Before t old.now → Holds (step t) db))
 
 abbrev pub Goes : (Tables → Tables) → State → State → Type 0
 Goes = GoesFrom IsDatabaseOf (Unit {0})

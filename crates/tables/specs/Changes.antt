@@ -1,6 +1,7 @@
 -- The changes, each committed at once.
 use Rattle.std.specs.Prelude.{◌≡◌, ℕ, ◌<◌, ◌^◌}
-use Rattle.tables.specs.Tables.{Tables, with_stamp, with_token, with_deposit, with_calibration, with_hold, with_reader, without_reader, StampRow}
+use Rattle.tables.specs.Tables.{Tables, with_stamp, with_token, with_deposit, with_calibration, with_hold, with_reader}
+use Rattle.tables.specs.Tables.{without_reader, StampRow}
 use Rattle.std.specs.Prelude.{None}
 use Rattle.tables.specs.declared.change.Change.{Change}
 use Rattle.tables.specs.declared.change.Change.TheVariants.{Reserve, Seal, Deposit, Calibrate, Hold, Grant, Revoke}
@@ -22,8 +23,11 @@ applied (Reserve serial account day gen_time policy algorithm digest request tst
   token = None;
 } t
 applied (Seal serial token) t = with_token serial token.now t
-applied (Deposit serial token owner reference bytes) t = with_deposit record { serial = serial; owner = owner.now; reference = reference.now; bytes = bytes.now } (with_token serial token.now t)
-applied (Calibrate n reading offset uncertainty) t = with_calibration record { n = n; reading = reading; offset = offset; uncertainty = uncertainty } t
+applied (Deposit serial token owner reference bytes) t =
+    with_deposit record { serial = serial; owner = owner.now; reference = reference.now; bytes = bytes.now }
+    (with_token serial token.now t)
+applied (Calibrate n reading offset uncertainty) t =
+    with_calibration record { n = n; reading = reading; offset = offset; uncertainty = uncertainty } t
 applied (Hold n from to) t = with_hold record { n = n; from = from; to = to } t
 applied (Grant serial account) t = with_reader serial account.now t
 applied (Revoke serial account) t = without_reader serial account.now t
@@ -34,7 +38,8 @@ IsCounted Database old new = new ≡ next_count old
 
 -- a column of INTEGER can have its numbers
 abbrev pub FitsColumns : Change → Type 0
-FitsColumns (Reserve serial account day gen_time policy algorithm digest request tst) = (serial < 2 ^ 63) × (day < 2 ^ 63) × (gen_time < 2 ^ 63)
+FitsColumns (Reserve serial account day gen_time policy algorithm digest request tst) =
+    (serial < 2 ^ 63) × (day < 2 ^ 63) × (gen_time < 2 ^ 63)
 FitsColumns (Seal serial token) = serial < 2 ^ 63
 FitsColumns (Deposit serial token owner reference bytes) = serial < 2 ^ 63
 FitsColumns (Calibrate n reading offset uncertainty) = (n < 2 ^ 63) × (uncertainty < 2 ^ 63)

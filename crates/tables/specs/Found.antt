@@ -9,10 +9,12 @@ IsFoundAs {X} Shows test rows (Some y) = (x : X) × Contains rows x × (test x �
 -- there is none, or this is what one shows that has the greatest key
 abbrev pub IsGreatestAs : {X Y : Type 0} → (X → Y → Type 0) → (X → ℕ) → List X → Option Y → Type 0
 IsGreatestAs {X} Shows key rows None = (x : X) → Contains rows x → ⊥
-IsGreatestAs {X} Shows key rows (Some y) = (x : X) × Contains rows x × ((other : X) → Contains rows other → key other ≤ key x) × Shows x y
+IsGreatestAs {X} Shows key rows (Some y) =
+    (x : X) × Contains rows x × ((other : X) → Contains rows other → key other ≤ key x) × Shows x y
 
 -- none passes the test, or this is what the one shows that passes and has the least key
 abbrev pub IsLeastAs : {X Y : Type 0} → (X → Y → Type 0) → (X → ℕ) → (X → Bool) → List X → Option Y → Type 0
 IsLeastAs {X} Shows key test rows None = (x : X) → Contains rows x → test x ≡ false
 IsLeastAs {X} Shows key test rows (Some y) =
-    (x : X) × Contains rows x × (test x ≡ true) × ((other : X) → Contains rows other → test other ≡ true → key x ≤ key other) × Shows x y
+    (x : X) × Contains rows x × (test x ≡ true)
+    × ((other : X) → Contains rows other → test other ≡ true → key x ≤ key other) × Shows x y

@@ -1,6 +1,7 @@
--- When a database holds the tables. A row of a database is its own number, the rowid, and then its columns. An INTEGER PRIMARY KEY
--- is the rowid itself, and its column is kept as NULL. Other tables have a rowid that says nothing.
-use Rattle.std.specs.Prelude.{◌≡◌, ◌<◌, ◌^◌, ℕ, pos, Bool, true, false, List, [], ◌∷◌, map, drop, Option, Some, None, IsPermutation}
+-- When a database holds the tables. A row of a database is its own number, the rowid, and then its columns. An INTEGER
+-- PRIMARY KEY is the rowid itself, and its column is kept as NULL. Other tables have a rowid that says nothing.
+use Rattle.std.specs.Prelude.{◌≡◌, ◌<◌, ◌^◌, ℕ, pos, Bool, true, false, List, [], ◌∷◌, map, drop, Option, Some, None}
+use Rattle.std.specs.Prelude.{IsPermutation}
 use Rattle.std.specs.List.{AllByRecursion}
 use Rattle.sqlite_value.specs.declared.value.Value.{Value}
 use Rattle.sqlite_value.specs.declared.value.Value.TheVariants.{Null, Int, Text, Blob}
@@ -21,7 +22,8 @@ version_cells version = Int (pos version) ∷ []
 
 abbrev pub stamp_cells : StampRow → Row
 stamp_cells s =
-    Int (pos s.serial) ∷ Null ∷ Text s.account ∷ Int (pos s.day) ∷ Int (pos s.gen_time) ∷ Blob s.policy ∷ Blob s.algorithm ∷ Blob s.digest
+    Int (pos s.serial) ∷ Null ∷ Text s.account ∷ Int (pos s.day) ∷ Int (pos s.gen_time) ∷ Blob s.policy
+    ∷ Blob s.algorithm ∷ Blob s.digest
     ∷ Blob s.request ∷ Blob s.tst ∷ token_cell s.token ∷ []
 
 abbrev pub calibration_cells : CalibrationRow → Row

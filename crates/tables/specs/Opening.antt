@@ -57,8 +57,8 @@ takes_name s = list_any (λ table. is_used s table.name) the_schema.tables
 abbrev pub takes_index : Schema → Bool
 takes_index s = list_any (λ index. is_used s index.name) the_schema.indexes
 
--- What stands in the way of our tables: such a name, or a table that counts its rows without the table of SQLite's that it counts them in,
--- which SQLite never leaves.
+-- What stands in the way of our tables: such a name, or a table that counts its rows without the table of SQLite's that
+-- it counts them in, which SQLite never leaves.
 abbrev pub IsInTheWay : Schema → Type 0
 IsInTheWay s = IsTrue (takes_name s) ⊎ (IsTrue (takes_index s) ⊎ IsTrue (lacks_sequence s))
 

@@ -1,5 +1,6 @@
 -- What the queries show of a row.
-use Rattle.std.specs.Prelude.{◌≡◌, ◌==◌, ℕ, ℤ, ◌&&◌, Bool, List, int_le, int_lt, nat_le, nat_lt, bytes_eq, string_bytes, option_map}
+use Rattle.std.specs.Prelude.{◌≡◌, ◌==◌, ℕ, ℤ, ◌&&◌, Bool, List, int_le, int_lt, nat_le, nat_lt, bytes_eq, string_bytes}
+use Rattle.std.specs.Prelude.{option_map}
 use Rattle.sqlite_trees.specs.Tree.{Trees}
 use Rattle.sqlite_trees.specs.declared.store.Store.{Ghosts}
 use Rattle.tables.specs.Tables.{Tables, StampRow, CalibrationRow, HoldRow, TallyRow, DepositRow, ReaderRow}
@@ -21,7 +22,8 @@ abbrev pub ShowsLast : StampRow → LastStamp → Type 0
 ShowsLast row last = last ≡ record { serial = row.serial; gen_time = row.gen_time }
 
 abbrev pub ShowsCalibration : CalibrationRow → LatestCalibration → Type 0
-ShowsCalibration row c = (c.n ≡ row.n) × (c.reading ≡ row.reading) × (c.offset ≡ row.offset) × (c.uncertainty ≡ row.uncertainty)
+ShowsCalibration row c = (c.n ≡ row.n) × (c.reading ≡ row.reading) × (c.offset ≡ row.offset)
+    × (c.uncertainty ≡ row.uncertainty)
 
 abbrev pub ShowsNumber : HoldRow → ℕ → Type 0
 ShowsNumber row n = n ≡ row.n
@@ -48,7 +50,12 @@ stamp_view s = record {
 }
 
 abbrev pub deposit_view : Deposit → DepositRow
-deposit_view d = record { serial = d.serial; owner = string_bytes d.owner; reference = string_bytes d.reference; bytes = d.bytes.items }
+deposit_view d = record {
+  serial = d.serial;
+  owner = string_bytes d.owner;
+  reference = string_bytes d.reference;
+  bytes = d.bytes.items;
+}
 
 abbrev pub ShowsStamp : StampRow → Stamp → Type 0
 ShowsStamp row s = stamp_view s ≡ row

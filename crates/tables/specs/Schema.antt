@@ -22,13 +22,15 @@ abbrev pub stamp_text : List ℕ
 stamp_text = codes "CREATE TABLE stamp (serial INTEGER PRIMARY KEY, account TEXT NOT NULL, day INTEGER NOT NULL, gen INTEGER NOT NULL, policy BLOB NOT NULL, algorithm BLOB NOT NULL, digest BLOB NOT NULL, request BLOB NOT NULL, tst BLOB NOT NULL, token BLOB) STRICT"
 
 abbrev pub calibration_text : List ℕ
-calibration_text = codes "CREATE TABLE calibration (n INTEGER PRIMARY KEY, reading INTEGER NOT NULL, offset_us INTEGER NOT NULL, uncertainty INTEGER NOT NULL) STRICT"
+calibration_text = codes
+    "CREATE TABLE calibration (n INTEGER PRIMARY KEY, reading INTEGER NOT NULL, offset_us INTEGER NOT NULL, uncertainty INTEGER NOT NULL) STRICT"
 
 abbrev pub hold_text : List ℕ
 hold_text = codes "CREATE TABLE hold (n INTEGER PRIMARY KEY, from_us INTEGER NOT NULL, to_us INTEGER NOT NULL) STRICT"
 
 abbrev pub deposit_text : List ℕ
-deposit_text = codes "CREATE TABLE deposit (serial INTEGER PRIMARY KEY REFERENCES stamp (serial), owner TEXT NOT NULL, reference TEXT NOT NULL, bytes BLOB NOT NULL, UNIQUE (owner, reference)) STRICT"
+deposit_text = codes
+    "CREATE TABLE deposit (serial INTEGER PRIMARY KEY REFERENCES stamp (serial), owner TEXT NOT NULL, reference TEXT NOT NULL, bytes BLOB NOT NULL, UNIQUE (owner, reference)) STRICT"
 
 abbrev pub reader_text : List ℕ
 reader_text = codes "CREATE TABLE reader (serial INTEGER NOT NULL REFERENCES deposit (serial), account TEXT NOT NULL, PRIMARY KEY (serial, account)) STRICT"
@@ -39,13 +41,22 @@ tally_text = codes "CREATE TABLE tally (account TEXT NOT NULL, day INTEGER NOT N
 -- ---- what they make
 
 abbrev pub key : List ℕ → Column
-key name = record { name = name; kind = Integer; is_strict = true; not_null = false; default = Null; collation = Binary }
+key name = record {
+  name = name;
+  kind = Integer;
+  is_strict = true;
+  not_null = false;
+  default = Null;
+  collation = Binary;
+}
 
 abbrev pub required : List ℕ → Kind → Column
-required name kind = record { name = name; kind = kind; is_strict = true; not_null = true; default = Null; collation = Binary }
+required name kind =
+    record { name = name; kind = kind; is_strict = true; not_null = true; default = Null; collation = Binary }
 
 abbrev pub optional : List ℕ → Kind → Column
-optional name kind = record { name = name; kind = kind; is_strict = true; not_null = false; default = Null; collation = Binary }
+optional name kind =
+    record { name = name; kind = kind; is_strict = true; not_null = false; default = Null; collation = Binary }
 
 abbrev pub reference_to : List ℕ → ℕ → List ℕ → Reference
 reference_to parent place column = record {
@@ -82,22 +93,27 @@ meta = table_of (codes "meta") (required (codes "version") Integer ∷ []) None 
 
 abbrev pub stamp : Table
 stamp = table_of (codes "stamp")
-    (key (codes "serial") ∷ required (codes "account") Text ∷ required (codes "day") Integer ∷ required (codes "gen") Integer
-    ∷ required (codes "policy") Blob ∷ required (codes "algorithm") Blob ∷ required (codes "digest") Blob ∷ required (codes "request") Blob
+    (key (codes "serial") ∷ required (codes "account") Text ∷ required (codes "day") Integer
+    ∷ required (codes "gen") Integer
+    ∷ required (codes "policy") Blob ∷ required (codes "algorithm") Blob ∷ required (codes "digest") Blob
+    ∷ required (codes "request") Blob
     ∷ required (codes "tst") Blob ∷ optional (codes "token") Blob ∷ [])
     (Some 0) (0 ∷ []) [] [] []
 
 abbrev pub calibration : Table
 calibration = table_of (codes "calibration")
-    (key (codes "n") ∷ required (codes "reading") Integer ∷ required (codes "offset_us") Integer ∷ required (codes "uncertainty") Integer ∷ [])
+    (key (codes "n") ∷ required (codes "reading") Integer ∷ required (codes "offset_us") Integer
+    ∷ required (codes "uncertainty") Integer ∷ [])
     (Some 0) (0 ∷ []) [] [] []
 
 abbrev pub hold : Table
-hold = table_of (codes "hold") (key (codes "n") ∷ required (codes "from_us") Integer ∷ required (codes "to_us") Integer ∷ []) (Some 0) (0 ∷ []) [] [] []
+hold = table_of (codes "hold") (key (codes "n") ∷ required (codes "from_us") Integer ∷ required (codes "to_us") Integer
+    ∷ []) (Some 0) (0 ∷ []) [] [] []
 
 abbrev pub deposit : Table
 deposit = table_of (codes "deposit")
-    (key (codes "serial") ∷ required (codes "owner") Text ∷ required (codes "reference") Text ∷ required (codes "bytes") Blob ∷ [])
+    (key (codes "serial") ∷ required (codes "owner") Text ∷ required (codes "reference") Text
+    ∷ required (codes "bytes") Blob ∷ [])
     (Some 0) (0 ∷ []) ((2 ∷ 3 ∷ []) ∷ []) (plain ∷ []) (reference_to (codes "stamp") 0 (codes "serial") ∷ [])
 
 abbrev pub reader : Table
@@ -105,7 +121,8 @@ reader = table_of (codes "reader") (required (codes "serial") Integer ∷ requir
     None (1 ∷ 2 ∷ []) ((1 ∷ 2 ∷ []) ∷ []) (plain ∷ []) (reference_to (codes "deposit") 1 (codes "serial") ∷ [])
 
 abbrev pub tally : Table
-tally = table_of (codes "tally") (required (codes "account") Text ∷ required (codes "day") Integer ∷ required (codes "count") Integer ∷ [])
+tally = table_of (codes "tally") (required (codes "account") Text ∷ required (codes "day") Integer
+    ∷ required (codes "count") Integer ∷ [])
     None (1 ∷ 2 ∷ []) ((1 ∷ 2 ∷ []) ∷ []) (plain ∷ []) []
 
 -- ---- the schema, as it is after each of the texts

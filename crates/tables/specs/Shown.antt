@@ -7,7 +7,8 @@ use Rattle.tables.specs.Tables.{StampRow, DepositRow, ReaderRow}
 
 abbrev pub stamp_shown : StampRow → Row
 stamp_shown s =
-    Int (pos s.serial) ∷ Text s.account ∷ Int (pos s.day) ∷ Int (pos s.gen_time) ∷ Blob s.policy ∷ Blob s.algorithm ∷ Blob s.digest
+    Int (pos s.serial) ∷ Text s.account ∷ Int (pos s.day) ∷ Int (pos s.gen_time) ∷ Blob s.policy ∷ Blob s.algorithm
+    ∷ Blob s.digest
     ∷ Blob s.request ∷ Blob s.tst ∷ token_cell s.token ∷ []
 
 abbrev pub origin_shown : StampRow → Row

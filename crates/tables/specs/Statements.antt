@@ -2,7 +2,8 @@
 use Rattle.std.specs.Prelude.{ℕ, List, codes}
 
 abbrev pub insert_stamp : List ℕ
-insert_stamp = codes "INSERT INTO stamp (serial, account, day, gen, policy, algorithm, digest, request, tst) VALUES (?1, ?2, ?3, ?4, ?5, ?6, ?7, ?8, ?9)"
+insert_stamp = codes
+    "INSERT INTO stamp (serial, account, day, gen, policy, algorithm, digest, request, tst) VALUES (?1, ?2, ?3, ?4, ?5, ?6, ?7, ?8, ?9)"
 
 abbrev pub raise_tally : List ℕ
 raise_tally = codes "UPDATE tally SET count = count + 1 WHERE account = ?1 AND day = ?2"

@@ -1,7 +1,8 @@
--- What the tables of the database hold: a record for each row, a list for each table, and the step that each change takes.
--- The order of a list says nothing. Moments and offsets are whole microseconds from 1970-01-01T00:00:00Z, days whole days from it,
--- and texts, object identifiers and blobs are their octets.
-use Rattle.std.specs.Prelude.{ℕ, ◌+◌, ℤ, Bool, not, ◌&&◌, ◌==◌, if◌then◌else◌, List, [], ◌∷◌, map, filter, bytes_eq, Option, Some, None}
+-- What the tables of the database hold: a record for each row, a list for each table, and the step that each change
+-- takes. The order of a list says nothing. Moments and offsets are whole microseconds from 1970-01-01T00:00:00Z, days
+-- whole days from it, and texts, object identifiers and blobs are their octets.
+use Rattle.std.specs.Prelude.{ℕ, ◌+◌, ℤ, Bool, not, ◌&&◌, ◌==◌, if◌then◌else◌, List, [], ◌∷◌, map, filter, bytes_eq}
+use Rattle.std.specs.Prelude.{Option, Some, None}
 use Rattle.std.specs.List.{list_any}
 
 -- a reservation of a serial number, and its token once it is sealed
@@ -85,7 +86,8 @@ raised_row account day row = if is_tally_of account day row then record row { co
 -- one more for the account on the day, which may have been the first
 abbrev pub with_one_more : List ℕ → ℕ → List TallyRow → List TallyRow
 with_one_more account day rows =
-    if list_any (is_tally_of account day) rows then map (raised_row account day) rows else record { account = account; day = day; count = 1 } ∷ rows
+    if list_any (is_tally_of account day) rows then map (raised_row account day) rows
+    else record { account = account; day = day; count = 1 } ∷ rows
 
 -- a reservation, which counts for its account and day
 abbrev pub with_stamp : StampRow → Tables → Tables
@@ -107,9 +109,11 @@ abbrev pub with_hold : HoldRow → Tables → Tables
 with_hold row t = record t { holds = row ∷ t.holds }
 
 abbrev pub without_reader : ℕ → List ℕ → Tables → Tables
-without_reader serial account t = record t { readers = filter (λ row. not (is_reader_row serial account row)) t.readers }
+without_reader serial account t =
+    record t { readers = filter (λ row. not (is_reader_row serial account row)) t.readers }
 
 -- a right is there once, however often it is granted
 abbrev pub with_reader : ℕ → List ℕ → Tables → Tables
 with_reader serial account t =
-    let others = without_reader serial account t in record others { readers = record { serial = serial; account = account } ∷ others.readers }
+    let others = without_reader serial account t in
+    record others { readers = record { serial = serial; account = account } ∷ others.readers }

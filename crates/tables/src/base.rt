@@ -66,11 +66,13 @@ impl<S: Alter + Drop> Base<S> {
     pub fn create(mut conn: Connection<S>) -> Result<Base<S>, (OpenFault, Connection<S>)>
         requires { conn.in_transaction ≡ false }
         ensures made { IfOk result (λ base. Creates (state S.Store conn) (state S.Store base.conn) (Ok tt)) }
-        ensures unused { IfOk result (λ base. HasCleanDisk (state S.Store base.conn) → takes_name (state S.Store conn).now.schema ≡ false) }
+        ensures unused { IfOk result (λ base. HasCleanDisk (state S.Store base.conn)
+            → takes_name (state S.Store conn).now.schema ≡ false) }
         ensures keeps { IfOk result (λ base. (state S.Store conn).now.schema ≡ no_schema → Keeps S.Store no_rows base) }
         ensures uncounted { IfOk result (λ base. base.faults ≡ 0) }
         ensures undone { IfErr result (λ e. (error : _) × Creates (state S.Store conn) (state S.Store e.1) (Err error)) }
-        ensures taken { IfErr result (λ e. e.0 ≡ OpenFault.NotOurs → HasCleanDisk (state S.Store e.1) → IsInTheWay (state S.Store conn).now.schema) }
+        ensures taken { IfErr result (λ e. e.0 ≡ OpenFault.NotOurs → HasCleanDisk (state S.Store e.1)
+            → IsInTheWay (state S.Store conn).now.schema) }
         ensures closed { IfErr result (λ e. e.1.in_transaction ≡ false) }
     {
         match make_tables(&mut conn) {
@@ -87,8 +89,10 @@ impl<S: Alter + Drop> Base<S> {
         ensures ours { IfOk result (λ base. HasCleanDisk (state S.Store base.conn) → LooksOurs (state S.Store conn)) }
         ensures uncounted { IfOk result (λ base. base.faults ≡ 0) }
         ensures unchanged { IfErr result (λ e. Looks (state S.Store conn) (state S.Store e.1)) }
-        ensures not_ours { IfErr result (λ e. e.0 ≡ OpenFault.NotOurs → HasCleanDisk (state S.Store e.1) → (t : Tables) → ¬ IsFound t (state S.Store conn)) }
-        ensures foreign { IfErr result (λ e. e.0 ≡ OpenFault.NotOurs → HasCleanDisk (state S.Store e.1) → LooksForeign (state S.Store conn)) }
+        ensures not_ours { IfErr result (λ e. e.0 ≡ OpenFault.NotOurs → HasCleanDisk (state S.Store e.1) → (t : Tables)
+            → ¬ IsFound t (state S.Store conn)) }
+        ensures foreign { IfErr result (λ e. e.0 ≡ OpenFault.NotOurs → HasCleanDisk (state S.Store e.1)
+            → LooksForeign (state S.Store conn)) }
         ensures closed { IfErr result (λ e. e.1.in_transaction ≡ false) }
     {
         match is_ours(&mut conn) {
@@ -116,7 +120,8 @@ impl<S: Alter + Drop> Base<S> {
     pub fn commit(&mut self, change: &Change<'_>) -> Result<(), TableFault>
         ensures honest { IsHonest S.Store self.new → IsHonest S.Store self.old }
         ensures opened { IsHonest S.Store self.new → OnOk result (IsOpen S.Store self.old × IsOpen S.Store self.new) }
-        ensures ok { (t : Tables) → Keeps S.Store t self.old → OnOk result (Keeps S.Store (applied change.now t) self.new) }
+        ensures ok { (t : Tables) → Keeps S.Store t self.old
+            → OnOk result (Keeps S.Store (applied change.now t) self.new) }
         ensures err { (t : Tables) → Keeps S.Store t self.old → OnErr result (Keeps S.Store t self.new) }
         ensures crash { IsHonest S.Store self.new → (db : Trees) → Recovers S.Store self.new db
             → Recovers S.Store self.old db ⊎ ((t : Tables) → Keeps S.Store t self.old → Holds (applied change.now t) db) }

@@ -11,14 +11,25 @@ ghost use Rattle.tables.specs.Tables.{no_rows};
 use sqlite::{Alter, Connection, Error, Transaction};
 
 const MAKE_ALL: &str =
-    "CREATE TABLE meta (version INTEGER NOT NULL) STRICT; CREATE TABLE stamp (serial INTEGER PRIMARY KEY, account TEXT NOT NULL, day INTEGER NOT NULL, gen INTEGER NOT NULL, policy BLOB NOT NULL, algorithm BLOB NOT NULL, digest BLOB NOT NULL, request BLOB NOT NULL, tst BLOB NOT NULL, token BLOB) STRICT; CREATE TABLE calibration (n INTEGER PRIMARY KEY, reading INTEGER NOT NULL, offset_us INTEGER NOT NULL, uncertainty INTEGER NOT NULL) STRICT; CREATE TABLE hold (n INTEGER PRIMARY KEY, from_us INTEGER NOT NULL, to_us INTEGER NOT NULL) STRICT; CREATE TABLE deposit (serial INTEGER PRIMARY KEY REFERENCES stamp (serial), owner TEXT NOT NULL, reference TEXT NOT NULL, bytes BLOB NOT NULL, UNIQUE (owner, reference)) STRICT; CREATE TABLE reader (serial INTEGER NOT NULL REFERENCES deposit (serial), account TEXT NOT NULL, PRIMARY KEY (serial, account)) STRICT; CREATE TABLE tally (account TEXT NOT NULL, day INTEGER NOT NULL, count INTEGER NOT NULL, PRIMARY KEY (account, day)) STRICT; INSERT INTO meta (version) VALUES (1)";
+    "CREATE TABLE meta (version INTEGER NOT NULL) STRICT; CREATE TABLE stamp (serial INTEGER PRIMARY KEY, account TEXT \
+    NOT NULL, day INTEGER NOT NULL, gen INTEGER NOT NULL, policy BLOB NOT NULL, algorithm BLOB NOT NULL, digest BLOB \
+    NOT NULL, request BLOB NOT NULL, tst BLOB NOT NULL, token BLOB) STRICT; CREATE TABLE calibration (n INTEGER \
+    PRIMARY KEY, reading INTEGER NOT NULL, offset_us INTEGER NOT NULL, uncertainty INTEGER NOT NULL) STRICT; CREATE \
+    TABLE hold (n INTEGER PRIMARY KEY, from_us INTEGER NOT NULL, to_us INTEGER NOT NULL) STRICT; CREATE TABLE deposit \
+    (serial INTEGER PRIMARY KEY REFERENCES stamp (serial), owner TEXT NOT NULL, reference TEXT NOT NULL, bytes BLOB \
+    NOT NULL, UNIQUE (owner, reference)) STRICT; CREATE TABLE reader (serial INTEGER NOT NULL REFERENCES deposit \
+    (serial), account TEXT NOT NULL, PRIMARY KEY (serial, account)) STRICT; CREATE TABLE tally (account TEXT NOT NULL, \
+    day INTEGER NOT NULL, count INTEGER NOT NULL, PRIMARY KEY (account, day)) STRICT; INSERT INTO meta (version) \
+    VALUES (1)";
 
 fn make_all<S: Alter>(tx: &mut Transaction<'_, S>) -> Result<(), Error>
     ensures same_reference { tx.new.conn.ghost_name ≡ tx.old.conn.ghost_name }
-    ensures carries { CarriesFrom (λ _ d. d.schema ≡ no_schema) (IsTrue (state S.Store tx.old.conn.now).is_open) (λ _. no_rows) (state S.Store tx.old.conn.now) (state S.Store tx.new.conn.now) result }
+    ensures carries { CarriesFrom (λ _ d. d.schema ≡ no_schema) (IsTrue (state S.Store tx.old.conn.now).is_open)
+        (λ _. no_rows) (state S.Store tx.old.conn.now) (state S.Store tx.new.conn.now) result }
     ensures taken { HasCleanDisk (state S.Store tx.new.conn.now)
         → IfErr result (λ e. tells_taken e ≡ true → IsInTheWay (state S.Store tx.old.conn.now).now.schema) }
-    ensures unused { HasCleanDisk (state S.Store tx.new.conn.now) → IfOk result (λ _. takes_name (state S.Store tx.old.conn.now).now.schema ≡ false) }
+    ensures unused { HasCleanDisk (state S.Store tx.new.conn.now)
+        → IfOk result (λ _. takes_name (state S.Store tx.old.conn.now).now.schema ≡ false) }
 {
     tx.execute_batch(MAKE_ALL)
 }
@@ -27,9 +38,12 @@ fn make_all<S: Alter>(tx: &mut Transaction<'_, S>) -> Result<(), Error>
 pub fn make_tables<S: Alter>(conn: &mut Connection<S>) -> Result<(), Error>
     requires { conn.old.in_transaction ≡ false }
     ensures closed { conn.new.in_transaction ≡ false }
-    ensures commits { CommitsFrom (λ _ d. d.schema ≡ no_schema) (IsTrue (state S.Store conn.old).is_open) (λ _. no_rows) (state S.Store conn.old) (state S.Store conn.new) result }
-    ensures taken { HasCleanDisk (state S.Store conn.new) → IfErr result (λ e. tells_taken e ≡ true → IsInTheWay (state S.Store conn.old).now.schema) }
-    ensures unused { HasCleanDisk (state S.Store conn.new) → IfOk result (λ _. takes_name (state S.Store conn.old).now.schema ≡ false) }
+    ensures commits { CommitsFrom (λ _ d. d.schema ≡ no_schema) (IsTrue (state S.Store conn.old).is_open) (λ _. no_rows)
+        (state S.Store conn.old) (state S.Store conn.new) result }
+    ensures taken { HasCleanDisk (state S.Store conn.new)
+        → IfErr result (λ e. tells_taken e ≡ true → IsInTheWay (state S.Store conn.old).now.schema) }
+    ensures unused { HasCleanDisk (state S.Store conn.new)
+        → IfOk result (λ _. takes_name (state S.Store conn.old).now.schema ≡ false) }
 {
     let mut tx = conn.transaction();
     make_all(&mut tx)?;

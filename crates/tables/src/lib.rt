@@ -1,5 +1,5 @@
-//! The tables of the time-stamping counter's database: their schema, the statements on them, and what each change and query
-//! means of their rows.
+//! The tables of the time-stamping counter's database: their schema, the statements on them, and what each change and
+//! query means of their rows.
 #![tactic(auto)]
 
 mod asking;

@@ -7,7 +7,9 @@ ghost use Rattle.sqlite.specs.State.{HasCleanDisk};
 ghost use Rattle.tables.specs.Asking.{Looks};
 ghost use Rattle.tables.specs.Found.{IsFoundAs, IsLeastAs};
 ghost use Rattle.tables.specs.Holding.{IsDatabaseOf};
-ghost use Rattle.tables.specs.Queries.{ShowsStamp, ShowsOrigin, ShowsDeposit, ShowsLabel, ShowsDepositSerial, ShowsReaderSerial, stamp_view, deposit_view, is_within, is_owned, is_owned_after, is_readable_after};
+ghost use Rattle.tables.specs.Queries.{ShowsStamp, ShowsOrigin, ShowsDeposit, ShowsLabel, ShowsDepositSerial};
+ghost use Rattle.tables.specs.Queries.{ShowsReaderSerial, stamp_view, deposit_view, is_within, is_owned};
+ghost use Rattle.tables.specs.Queries.{is_owned_after, is_readable_after};
 ghost use Rattle.tables.specs.Shown.{stamp_shown, origin_shown, deposit_shown, label_shown};
 ghost use Rattle.tables.specs.Tables.{Tables, StampRow, DepositRow, is_stamp, is_deposit, is_deposit_of, is_reader_row};
 
@@ -22,15 +24,16 @@ const STAMP: &str =
 const ORIGIN: &str = "SELECT account, gen FROM stamp WHERE serial = ?1";
 
 const NEXT_STAMP: &str =
-    "SELECT serial, account, day, gen, policy, algorithm, digest, request, tst, token FROM stamp WHERE serial >= ?1 AND serial <= ?2 ORDER BY serial LIMIT 1";
+    "SELECT serial, account, day, gen, policy, algorithm, digest, request, tst, token FROM stamp WHERE serial >= ?1 \
+    AND serial <= ?2 ORDER BY serial LIMIT 1";
 
 const DEPOSIT: &str = "SELECT serial, owner, reference, bytes FROM deposit WHERE serial = ?1";
 
 const DEPOSIT_UNDER: &str =
     "SELECT serial, owner, reference, bytes FROM deposit WHERE owner = ?1 AND reference = ?2";
 
-// `serial = ?1` would fetch the row by its number, with its bytes. By `IS` the rows of the index on owner and reference do, which
-// have no bytes.
+// `serial = ?1` would fetch the row by its number, with its bytes. By `IS` the rows of the index on owner and reference
+// do, which have no bytes.
 const LABEL: &str = "SELECT owner, reference FROM deposit WHERE serial IS ?1 AND owner = ?2";
 
 const IS_OWNER: &str = "SELECT serial FROM deposit WHERE serial IS ?1 AND owner = ?2";
@@ -335,7 +338,8 @@ pub(crate) fn next_owned<S: Alter>(
     ensures looks { Looks (state S.Store conn.old) (state S.Store conn.new) }
     ensures opened { HasCleanDisk (state S.Store conn.new) → OnOk result (IsTrue (state S.Store conn.old).is_open) }
     ensures value { HasCleanDisk (state S.Store conn.new) → (t : Tables) → IsDatabaseOf t (state S.Store conn.old).now
-        → IfOk result (λ found. IsLeastAs ShowsDepositSerial (λ row. row.serial) (is_owned_after account.now after) t.deposits found) }
+        → IfOk result (λ found. IsLeastAs ShowsDepositSerial (λ row. row.serial) (is_owned_after account.now after)
+        t.deposits found) }
     ensures small { IfOk result (λ found. IfSome found (λ number. number < 2 ^ 63)) }
 {
     if after > GREATEST {
@@ -369,7 +373,8 @@ pub(crate) fn next_readable<S: Alter>(
     ensures looks { Looks (state S.Store conn.old) (state S.Store conn.new) }
     ensures opened { HasCleanDisk (state S.Store conn.new) → OnOk result (IsTrue (state S.Store conn.old).is_open) }
     ensures value { HasCleanDisk (state S.Store conn.new) → (t : Tables) → IsDatabaseOf t (state S.Store conn.old).now
-        → IfOk result (λ found. IsLeastAs ShowsReaderSerial (λ row. row.serial) (is_readable_after account.now after) t.readers found) }
+        → IfOk result (λ found. IsLeastAs ShowsReaderSerial (λ row. row.serial) (is_readable_after account.now after)
+        t.readers found) }
     ensures small { IfOk result (λ found. IfSome found (λ number. number < 2 ^ 63)) }
 {
     if after > GREATEST {

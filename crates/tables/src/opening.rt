@@ -7,7 +7,8 @@ ghost use Rattle.sqlite.specs.Listing.{understood};
 ghost use Rattle.sqlite.specs.State.{HasCleanDisk};
 ghost use Rattle.tables.specs.Asking.{Answers, Looks};
 ghost use Rattle.tables.specs.Holding.{IsDatabaseOf};
-ghost use Rattle.tables.specs.Opening.{all_columns, version_query, IsUnderstood, IsFound, IsVersionOne, LooksOurs, LooksForeign};
+ghost use Rattle.tables.specs.Opening.{all_columns, version_query, IsUnderstood, IsFound, IsVersionOne, LooksOurs};
+ghost use Rattle.tables.specs.Opening.{LooksForeign};
 ghost use Rattle.tables.specs.Schema.{the_schema};
 ghost use Rattle.tables.specs.Tables.{Tables};
 
@@ -16,7 +17,11 @@ use sqlite::types::ValueRef;
 use sqlite::{Alter, Connection, Error, Row};
 
 const ALL_COLUMNS: &str =
-    "SELECT meta.version, stamp.serial, stamp.account, stamp.day, stamp.gen, stamp.policy, stamp.algorithm, stamp.digest, stamp.request, stamp.tst, stamp.token, calibration.n, calibration.reading, calibration.offset_us, calibration.uncertainty, hold.n, hold.from_us, hold.to_us, deposit.serial, deposit.owner, deposit.reference, deposit.bytes, reader.serial, reader.account, tally.account, tally.day, tally.count FROM meta, stamp, calibration, hold, deposit, reader, tally";
+    "SELECT meta.version, stamp.serial, stamp.account, stamp.day, stamp.gen, stamp.policy, stamp.algorithm, \
+    stamp.digest, stamp.request, stamp.tst, stamp.token, calibration.n, calibration.reading, calibration.offset_us, \
+    calibration.uncertainty, hold.n, hold.from_us, hold.to_us, deposit.serial, deposit.owner, deposit.reference, \
+    deposit.bytes, reader.serial, reader.account, tally.account, tally.day, tally.count FROM meta, stamp, calibration, \
+    hold, deposit, reader, tally";
 
 const VERSION: &str = "SELECT version FROM meta";
 
@@ -25,9 +30,12 @@ fn understands_tables<S: Alter>(conn: &mut Connection<S>) -> Result<bool, Error>
     requires { conn.old.in_transaction ≡ false }
     ensures closed { conn.new.in_transaction ≡ false }
     ensures looks { Looks (state S.Store conn.old) (state S.Store conn.new) }
-    ensures ours { HasCleanDisk (state S.Store conn.new) → (state S.Store conn.old).now.schema ≡ the_schema → IfOk result IsTrue }
-    ensures same { HasCleanDisk (state S.Store conn.new) → OnOk result ((state S.Store conn.new).now ≡ (state S.Store conn.old).now) }
-    ensures tables { HasCleanDisk (state S.Store conn.new) → IfOk result (λ yes. IsTrue yes ↔ IsUnderstood (understood (state S.Store conn.old).now.schema all_columns)) }
+    ensures ours { HasCleanDisk (state S.Store conn.new) → (state S.Store conn.old).now.schema ≡ the_schema
+        → IfOk result IsTrue }
+    ensures same { HasCleanDisk (state S.Store conn.new)
+        → OnOk result ((state S.Store conn.new).now ≡ (state S.Store conn.old).now) }
+    ensures tables { HasCleanDisk (state S.Store conn.new)
+        → IfOk result (λ yes. IsTrue yes ↔ IsUnderstood (understood (state S.Store conn.old).now.schema all_columns)) }
 {
     match conn.prepare(ALL_COLUMNS) {
         Ok(_) => Ok(true),
@@ -54,7 +62,8 @@ fn has_version_one<S: Alter>(conn: &mut Connection<S>) -> Result<bool, Error>
     ensures closed { conn.new.in_transaction ≡ false }
     ensures looks { Looks (state S.Store conn.old) (state S.Store conn.new) }
     ensures opened { HasCleanDisk (state S.Store conn.new) → OnOk result (IsTrue (state S.Store conn.old).is_open) }
-    ensures ours { HasCleanDisk (state S.Store conn.new) → (t : Tables) → IsDatabaseOf t (state S.Store conn.old).now → IfOk result IsTrue }
+    ensures ours { HasCleanDisk (state S.Store conn.new) → (t : Tables) → IsDatabaseOf t (state S.Store conn.old).now
+        → IfOk result IsTrue }
     ensures one { HasCleanDisk (state S.Store conn.new) → IfOk result (λ yes.
         (rows : _) × Answers version_query [] (state S.Store conn.old).now rows × (IsTrue yes ↔ IsVersionOne rows)) }
 {
@@ -67,9 +76,12 @@ pub(crate) fn is_ours<S: Alter>(conn: &mut Connection<S>) -> Result<bool, Error>
     requires { conn.old.in_transaction ≡ false }
     ensures closed { conn.new.in_transaction ≡ false }
     ensures looks { Looks (state S.Store conn.old) (state S.Store conn.new) }
-    ensures ours { HasCleanDisk (state S.Store conn.new) → (t : Tables) → IsFound t (state S.Store conn.old) → IfOk result IsTrue }
-    ensures shown { HasCleanDisk (state S.Store conn.new) → IfOk result (λ yes. IsTrue yes → LooksOurs (state S.Store conn.old)) }
-    ensures foreign { HasCleanDisk (state S.Store conn.new) → IfOk result (λ yes. yes ≡ false → LooksForeign (state S.Store conn.old)) }
+    ensures ours { HasCleanDisk (state S.Store conn.new) → (t : Tables) → IsFound t (state S.Store conn.old)
+        → IfOk result IsTrue }
+    ensures shown { HasCleanDisk (state S.Store conn.new)
+        → IfOk result (λ yes. IsTrue yes → LooksOurs (state S.Store conn.old)) }
+    ensures foreign { HasCleanDisk (state S.Store conn.new)
+        → IfOk result (λ yes. yes ≡ false → LooksForeign (state S.Store conn.old)) }
 {
     if !understands_tables(conn)? {
         return Ok(false);

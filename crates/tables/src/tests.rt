@@ -1,4 +1,5 @@
-//! Each change and each query over a database in memory. What a row should be is written out, and read by SQL of the test's own.
+//! Each change and each query over a database in memory. What a row should be is written out, and read by SQL of the
+//! test's own.
 
 use super::*;
 use sqlite::{Connection, Error, MemStore};
@@ -109,7 +110,8 @@ fn changes_and_queries(rt: HostRuntime) -> Result<(), Fail> {
     let sealed = "SELECT count(*) FROM stamp WHERE token IS NOT NULL";
     assert_eq!(rt; number(&mut conn, sealed)?, 2);
     let token =
-        "SELECT serial FROM stamp WHERE token = x'09' AND day = 20000 AND policy = x'2A03' AND algorithm = x'60' AND digest = x'0102' AND request = x'3000' AND tst = x'3001' AND account = 'carol'";
+        "SELECT serial FROM stamp WHERE token = x'09' AND day = 20000 AND policy = x'2A03' AND algorithm = x'60' AND \
+        digest = x'0102' AND request = x'3000' AND tst = x'3001' AND account = 'carol'";
     assert_eq!(rt; number(&mut conn, token)?, 2);
     let deposit =
         "SELECT serial FROM deposit WHERE owner = 'carol' AND reference = 'plan-7' AND bytes = x''";

@@ -6,7 +6,8 @@ ghost use Rattle.sqlite.specs.State.{HasCleanDisk};
 ghost use Rattle.tables.specs.Carrying.{Carries, Commits};
 ghost use Rattle.tables.specs.Changes.{applied, FitsColumns};
 ghost use Rattle.tables.specs.Holding.{IsDatabaseOf};
-ghost use Rattle.tables.specs.Tables.{Tables, StampRow, is_tally_of, with_calibration, with_hold, with_deposit, with_token, without_reader};
+ghost use Rattle.tables.specs.Tables.{Tables, StampRow, is_tally_of, with_calibration, with_hold, with_deposit};
+ghost use Rattle.tables.specs.Tables.{with_token, without_reader};
 ghost use Rattle.tables.specs.Steps.{with_stamp_alone, with_raised, with_first_tally, with_count, with_reader_alone};
 
 use crate::change::Change;
@@ -14,7 +15,8 @@ use sqlite::types::{ToSql, ValueRef};
 use sqlite::{Alter, Connection, Error, Transaction};
 
 const INSERT_STAMP: &str =
-    "INSERT INTO stamp (serial, account, day, gen, policy, algorithm, digest, request, tst) VALUES (?1, ?2, ?3, ?4, ?5, ?6, ?7, ?8, ?9)";
+    "INSERT INTO stamp (serial, account, day, gen, policy, algorithm, digest, request, tst) VALUES (?1, ?2, ?3, ?4, \
+    ?5, ?6, ?7, ?8, ?9)";
 
 const RAISE_TALLY: &str = "UPDATE tally SET count = count + 1 WHERE account = ?1 AND day = ?2";
 
@@ -50,7 +52,20 @@ fn put_stamp<'a, S: Alter>(
     requires day { day < 2 ^ 63 }
     requires gen_time { gen_time < 2 ^ 63 }
     ensures same_reference { tx.new.conn.ghost_name ≡ tx.old.conn.ghost_name }
-    ensures carries { Carries (with_stamp_alone (record { serial = serial; account = account.now; day = day; gen_time = gen_time; policy = policy.now; algorithm = algorithm.now; digest = digest.now; request = request.now; tst = tst.now; token = None }))
+    ensures carries { Carries
+        (with_stamp_alone (record {
+          serial = serial;
+          account = account.now;
+          day = day;
+          gen_time = gen_time;
+          policy = policy.now;
+          algorithm = algorithm.now;
+          digest = digest.now;
+          request = request.now;
+          tst =
+              tst.now;
+          token = None;
+        }))
         (state S.Store tx.old.conn.now) (state S.Store tx.new.conn.now) result }
 {
     tx.execute(
@@ -76,9 +91,12 @@ fn raise_tally<S: Alter>(
 ) -> Result<usize, Error>
     requires { day < 2 ^ 63 }
     ensures same_reference { tx.new.conn.ghost_name ≡ tx.old.conn.ghost_name }
-    ensures carries { Carries (with_raised account.now day) (state S.Store tx.old.conn.now) (state S.Store tx.new.conn.now) result }
-    ensures counts { HasCleanDisk (state S.Store tx.new.conn.now) → IsTrue (state S.Store tx.old.conn.now).in_transaction
-        → IfOk result (λ count. (t : Tables) → IsDatabaseOf t (state S.Store tx.old.conn.now).now → count ≡ length (filter (is_tally_of account.now day) t.tallies)) }
+    ensures carries { Carries (with_raised account.now day) (state S.Store tx.old.conn.now)
+        (state S.Store tx.new.conn.now) result }
+    ensures counts { HasCleanDisk (state S.Store tx.new.conn.now)
+        → IsTrue (state S.Store tx.old.conn.now).in_transaction
+        → IfOk result (λ count. (t : Tables) → IsDatabaseOf t (state S.Store tx.old.conn.now).now → count
+        ≡ length (filter (is_tally_of account.now day) t.tallies)) }
 {
     tx.execute(
         RAISE_TALLY,
@@ -96,7 +114,8 @@ fn first_tally<S: Alter>(
 ) -> Result<usize, Error>
     requires { day < 2 ^ 63 }
     ensures same_reference { tx.new.conn.ghost_name ≡ tx.old.conn.ghost_name }
-    ensures carries { Carries (with_first_tally account.now day) (state S.Store tx.old.conn.now) (state S.Store tx.new.conn.now) result }
+    ensures carries { Carries (with_first_tally account.now day) (state S.Store tx.old.conn.now)
+        (state S.Store tx.new.conn.now) result }
 {
     tx.execute(
         FIRST_TALLY,
@@ -115,7 +134,8 @@ fn count_stamp<S: Alter>(
 ) -> Result<usize, Error>
     requires { day < 2 ^ 63 }
     ensures same_reference { tx.new.conn.ghost_name ≡ tx.old.conn.ghost_name }
-    ensures carries { Carries (with_count account.now day) (state S.Store tx.old.conn.now) (state S.Store tx.new.conn.now) result }
+    ensures carries { Carries (with_count account.now day) (state S.Store tx.old.conn.now)
+        (state S.Store tx.new.conn.now) result }
 {
     let counted = raise_tally(tx, account, day)?;
     if counted == 0 {
@@ -135,7 +155,9 @@ fn put_calibration<'a, S: Alter>(
     requires number { n < 2 ^ 63 }
     requires uncertainty { uncertainty < 2 ^ 63 }
     ensures same_reference { tx.new.conn.ghost_name ≡ tx.old.conn.ghost_name }
-    ensures carries { Carries (with_calibration (record { n = n; reading = reading.now; offset = offset.now; uncertainty = uncertainty })) (state S.Store tx.old.conn.now) (state S.Store tx.new.conn.now) result }
+    ensures carries { Carries
+        (with_calibration (record { n = n; reading = reading.now; offset = offset.now; uncertainty = uncertainty }))
+        (state S.Store tx.old.conn.now) (state S.Store tx.new.conn.now) result }
 {
     tx.execute(
         INSERT_CALIBRATION,
@@ -156,7 +178,8 @@ fn put_hold<'a, S: Alter>(
 ) -> Result<usize, Error>
     requires { n < 2 ^ 63 }
     ensures same_reference { tx.new.conn.ghost_name ≡ tx.old.conn.ghost_name }
-    ensures carries { Carries (with_hold (record { n = n; from = from.now; to = to.now })) (state S.Store tx.old.conn.now) (state S.Store tx.new.conn.now) result }
+    ensures carries { Carries (with_hold (record { n = n; from = from.now; to = to.now }))
+        (state S.Store tx.old.conn.now) (state S.Store tx.new.conn.now) result }
 {
     tx.execute(
         INSERT_HOLD,
@@ -171,7 +194,8 @@ fn set_token<S: Alter>(
 ) -> Result<usize, Error>
     requires { serial < 2 ^ 63 }
     ensures same_reference { tx.new.conn.ghost_name ≡ tx.old.conn.ghost_name }
-    ensures carries { Carries (with_token serial token.now) (state S.Store tx.old.conn.now) (state S.Store tx.new.conn.now) result }
+    ensures carries { Carries (with_token serial token.now) (state S.Store tx.old.conn.now)
+        (state S.Store tx.new.conn.now) result }
 {
     tx.execute(
         SET_TOKEN,
@@ -188,7 +212,9 @@ fn put_deposit<'a, S: Alter>(
 ) -> Result<usize, Error>
     requires { serial < 2 ^ 63 }
     ensures same_reference { tx.new.conn.ghost_name ≡ tx.old.conn.ghost_name }
-    ensures carries { Carries (with_deposit (record { serial = serial; owner = owner.now; reference = reference.now; bytes = bytes.now })) (state S.Store tx.old.conn.now) (state S.Store tx.new.conn.now) result }
+    ensures carries { Carries
+        (with_deposit (record { serial = serial; owner = owner.now; reference = reference.now; bytes = bytes.now }))
+        (state S.Store tx.old.conn.now) (state S.Store tx.new.conn.now) result }
 {
     tx.execute(
         INSERT_DEPOSIT,
@@ -208,7 +234,8 @@ fn put_reader<S: Alter>(
 ) -> Result<usize, Error>
     requires { serial < 2 ^ 63 }
     ensures same_reference { tx.new.conn.ghost_name ≡ tx.old.conn.ghost_name }
-    ensures carries { Carries (with_reader_alone serial account.now) (state S.Store tx.old.conn.now) (state S.Store tx.new.conn.now) result }
+    ensures carries { Carries (with_reader_alone serial account.now) (state S.Store tx.old.conn.now)
+        (state S.Store tx.new.conn.now) result }
 {
     tx.execute(
         INSERT_READER,
@@ -226,7 +253,8 @@ fn drop_reader<S: Alter>(
 ) -> Result<usize, Error>
     requires { serial < 2 ^ 63 }
     ensures same_reference { tx.new.conn.ghost_name ≡ tx.old.conn.ghost_name }
-    ensures carries { Carries (without_reader serial account.now) (state S.Store tx.old.conn.now) (state S.Store tx.new.conn.now) result }
+    ensures carries { Carries (without_reader serial account.now) (state S.Store tx.old.conn.now)
+        (state S.Store tx.new.conn.now) result }
 {
     tx.execute(
         DELETE_READER,
@@ -241,7 +269,8 @@ fn drop_reader<S: Alter>(
 fn make<S: Alter>(tx: &mut Transaction<'_, S>, change: &Change<'_>) -> Result<usize, Error>
     requires { FitsColumns change.now }
     ensures same_reference { tx.new.conn.ghost_name ≡ tx.old.conn.ghost_name }
-    ensures carries { Carries (applied change.now) (state S.Store tx.old.conn.now) (state S.Store tx.new.conn.now) result }
+    ensures carries { Carries (applied change.now) (state S.Store tx.old.conn.now) (state S.Store tx.new.conn.now)
+        result }
 {
     match change {
         Change::Reserve {

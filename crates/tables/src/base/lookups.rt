@@ -1,11 +1,14 @@
-//! The queries of one stamp or one deposit by its key, of who may see a deposit, and of the next by number. Each may be refused with
-//! `Memory`, or with `Database`, which counts as a fault: a number of 2^63 or more is one, since no column can have it.
+//! The queries of one stamp or one deposit by its key, of who may see a deposit, and of the next by number. Each may be
+//! refused with `Memory`, or with `Database`, which counts as a fault: a number of 2^63 or more is one, since no column
+//! can have it.
 
 ghost use Rattle.std.specs.Prelude.{◌≡◌, ◌<◌, ◌^◌, IfOk, IfErr, IfSome, OnOk};
 ghost use Rattle.std.specs.List.{list_any};
 ghost use Rattle.tables.specs.Tables.{Tables, is_stamp, is_deposit, is_deposit_of, is_reader_row};
 ghost use Rattle.tables.specs.Found.{IsFoundAs, IsLeastAs};
-ghost use Rattle.tables.specs.Queries.{OnlyReads, ShowsStamp, ShowsOrigin, ShowsDeposit, ShowsLabel, ShowsDepositSerial, ShowsReaderSerial, is_within, is_owned, is_owned_after, is_readable_after};
+ghost use Rattle.tables.specs.Queries.{OnlyReads, ShowsStamp, ShowsOrigin, ShowsDeposit, ShowsLabel};
+ghost use Rattle.tables.specs.Queries.{ShowsDepositSerial, ShowsReaderSerial, is_within, is_owned, is_owned_after};
+ghost use Rattle.tables.specs.Queries.{is_readable_after};
 ghost use Rattle.tables.specs.Base.{IsHonest, IsOpen, Keeps};
 ghost use Rattle.tables.specs.Changes.{IsCounted};
 
@@ -95,8 +98,8 @@ impl<S: Alter + Drop> Base<S> {
         }
     }
 
-    /// The owner and the reference of the deposit with the number, where this account owns it. No deposit's bytes are read: it looks
-    /// through what an index has of the account's deposits.
+    /// The owner and the reference of the deposit with the number, where this account owns it. No deposit's bytes are
+    /// read: it looks through what an index has of the account's deposits.
     pub fn label(&mut self, serial: u64, owner: &str) -> Result<Option<Label>, TableFault>
         ensures reads { OnlyReads S.Store self.old self.new }
         ensures opened { IsHonest S.Store self.new → OnOk result (IsOpen S.Store self.old) }
@@ -146,7 +149,8 @@ impl<S: Alter + Drop> Base<S> {
         ensures reads { OnlyReads S.Store self.old self.new }
         ensures opened { IsHonest S.Store self.new → OnOk result (IsOpen S.Store self.old) }
         ensures value { IsHonest S.Store self.new → (t : Tables) → Keeps S.Store t self.old
-            → IfOk result (λ found. IsLeastAs ShowsDepositSerial (λ row. row.serial) (is_owned_after account.now after) t.deposits found) }
+            → IfOk result (λ found. IsLeastAs ShowsDepositSerial (λ row. row.serial) (is_owned_after account.now after)
+            t.deposits found) }
         ensures small { IfOk result (λ found. IfSome found (λ number. number < 2 ^ 63)) }
         ensures counted { IfErr result (λ e. IsCounted e self.old.faults self.new.faults) }
         ensures uncounted { OnOk result (self.new.faults ≡ self.old.faults) }
@@ -157,13 +161,14 @@ impl<S: Alter + Drop> Base<S> {
         }
     }
 
-    /// The least number after `after` of a deposit that the account is a reader of. It goes through the rights to deposits after
-    /// `after`, up to the one that it answers.
+    /// The least number after `after` of a deposit that the account is a reader of. It goes through the rights to
+    /// deposits after `after`, up to the one that it answers.
     pub fn next_readable(&mut self, account: &str, after: u64) -> Result<Option<u64>, TableFault>
         ensures reads { OnlyReads S.Store self.old self.new }
         ensures opened { IsHonest S.Store self.new → OnOk result (IsOpen S.Store self.old) }
         ensures value { IsHonest S.Store self.new → (t : Tables) → Keeps S.Store t self.old
-            → IfOk result (λ found. IsLeastAs ShowsReaderSerial (λ row. row.serial) (is_readable_after account.now after) t.readers found) }
+            → IfOk result (λ found. IsLeastAs ShowsReaderSerial (λ row. row.serial)
+            (is_readable_after account.now after) t.readers found) }
         ensures small { IfOk result (λ found. IfSome found (λ number. number < 2 ^ 63)) }
         ensures counted { IfErr result (λ e. IsCounted e self.old.faults self.new.faults) }
         ensures uncounted { OnOk result (self.new.faults ≡ self.old.faults) }

@@ -6,5 +6,6 @@ use Rattle.cms.proofs.encode.+append_digits.Goals as goal
 pub returns : goal.returns
 returns t c =
     let low : 256 ≤ c.args.n = omega (arith, c.if-n-lt256.false) in
-    let last : digits_of 256 c.args.n ≡ digits_of 256 (c.args.n / 256) ++ (c.args.n % 256 ∷ []) = digits_of_last c.args.n low in
+    let last : digits_of 256 c.args.n ≡ digits_of 256 (c.args.n / 256) ++ (c.args.n % 256 ∷ []) =
+    digits_of_last c.args.n low in
     search (rules, append_assoc)

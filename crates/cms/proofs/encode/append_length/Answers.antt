@@ -7,5 +7,6 @@ use Rattle.cms.proofs.encode.append_length.Goals as goal
 pub returns : goal.returns
 returns c =
     let low : 128 ≤ c.args.count = omega (arith, c.if-count-lt128.false) in
-    let long : length_octets c.args.count ≡ (128 + length (digits_of 256 c.args.count)) ∷ digits_of 256 c.args.count = length_octets_long c.args.count low in
+    let long : length_octets c.args.count ≡ (128 + length (digits_of 256 c.args.count)) ∷ digits_of 256 c.args.count =
+    length_octets_long c.args.count low in
     search (rules, append_assoc)

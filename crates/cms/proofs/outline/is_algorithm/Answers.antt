@@ -12,10 +12,13 @@ returns-in-Ok c =
     let (lawful, is) = c.in-Ok.ensures.found in (
       λ yes.
           let told : is_some c.algorithm_from.result ≡ true = search rules in
-          algorithm_found c.oids_have_one_content_and_text.ensures.found c.args.octets.now n lawful is (sym c.algorithm_from.ensures ∙ accepted c.algorithm_from.result told),
+          algorithm_found c.oids_have_one_content_and_text.ensures.found c.args.octets.now n lawful is
+          (sym c.algorithm_from.ensures ∙ accepted c.algorithm_from.result told),
       λ algorithm.
-          let read = c.in-Ok.ensures.only (algorithm_identifier algorithm.subidentifiers algorithm.parameters) algorithm.lawful algorithm.encoded in
-          let known : algorithm_of n ≡ Some tt = algorithm_only c.oids_have_one_content_and_text.ensures.computed c.args.octets.now n algorithm read in
+          let read = c.in-Ok.ensures.only (algorithm_identifier algorithm.subidentifiers algorithm.parameters)
+          algorithm.lawful algorithm.encoded in
+          let known : algorithm_of n ≡ Some tt =
+          algorithm_only c.oids_have_one_content_and_text.ensures.computed c.args.octets.now n algorithm read in
           let answered : c.algorithm_from.result ≡ Some tt = c.algorithm_from.ensures ∙ known in
           search rules,
     )
@@ -24,5 +27,6 @@ returns-in-Ok c =
 pub returns-in-Err : goal.returns-in-Err
 returns-in-Err c = (
   λ yes. search rules,
-  λ algorithm. absurd (c.in-Err.ensures.only (algorithm_identifier algorithm.subidentifiers algorithm.parameters) algorithm.lawful algorithm.encoded),
+  λ algorithm. absurd (c.in-Err.ensures.only (algorithm_identifier algorithm.subidentifiers algorithm.parameters)
+      algorithm.lawful algorithm.encoded),
 )

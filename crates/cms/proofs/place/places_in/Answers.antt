@@ -1,6 +1,7 @@
 use Rattle.std.proofs.Common.{◌≡◌, ap, sym, ◌∙◌, ℕ, List}
 use Rattle.der.specs.Node.{Node, Nodes, encoding, encodings}
-use Rattle.cms.specs.Certificate.{CertificateParts, IsCertificate, serial_number, issuer_name, after_serial, after_issuer, certificate}
+use Rattle.cms.specs.Certificate.{CertificateParts, IsCertificate, serial_number, issuer_name, after_serial}
+use Rattle.cms.specs.Certificate.{after_issuer, certificate}
 use Rattle.cms.specs.Outline.{Outline, outline}
 use Rattle.cms.specs.OutlineView.{outline_view}
 use Rattle.cms.specs.Place.{ArePlaces}
@@ -11,14 +12,23 @@ pub returns-clause-only : goal.returns-clause-only
 returns-clause-only c = λ p is.
     let same = c.in_ok-outline.ensures.only p is in
     let o = c.in_ok-outline.outline in
-    let issuer = (c.encodings_are_read.ensures.lawful _ o.issuer.lawful).1 ∙ ap encoding (ap (λ (x : Outline). x.issuer) same) in
-    let later = (c.encodings_are_read.ensures.all_lawful _ o.after_issuer.lawful).2 ∙ ap encodings (ap (λ (x : Outline). x.after_issuer) same) in
-    let last = (c.encodings_are_read.ensures.all_lawful _ o.after.lawful).2 ∙ ap encodings (ap (λ (x : Outline). x.after) same) in
-    let serial = (c.encodings_are_read.ensures.lawful _ o.serial.lawful).1 ∙ ap encoding (ap (λ (x : Outline). x.serial) same) in
-    let after = (c.encodings_are_read.ensures.all_lawful _ o.after_serial.lawful).2 ∙ ap encodings (ap (λ (x : Outline). x.after_serial) same) in
+    let issuer = (c.encodings_are_read.ensures.lawful _ o.issuer.lawful).1
+    ∙ ap encoding (ap (λ (x : Outline). x.issuer) same) in
+    let later = (c.encodings_are_read.ensures.all_lawful _ o.after_issuer.lawful).2
+    ∙ ap encodings (ap (λ (x : Outline). x.after_issuer) same) in
+    let last = (c.encodings_are_read.ensures.all_lawful _ o.after.lawful).2
+    ∙ ap encodings (ap (λ (x : Outline). x.after) same) in
+    let serial = (c.encodings_are_read.ensures.lawful _ o.serial.lawful).1
+    ∙ ap encoding (ap (λ (x : Outline). x.serial) same) in
+    let after = (c.encodings_are_read.ensures.all_lawful _ o.after_serial.lawful).2
+    ∙ ap encodings (ap (λ (x : Outline). x.after_serial) same) in
     record {
-      issuer_stands = place_is c.args.octets.now (encoding (certificate p)) _ _ _ (issuer_name p) (after_issuer p) p.after c.place_of.result is.encoded (issuer_stands p) issuer later last c.place_of.ensures.start c.place_of.ensures.end;
-      serial_stands = place_is c.args.octets.now (encoding (certificate p)) _ _ _ (serial_number p) (after_serial p) p.after c.place_of-2.result is.encoded (serial_stands p) serial after last c.place_of-2.ensures.start c.place_of-2.ensures.end;
+      issuer_stands = place_is c.args.octets.now (encoding (certificate p)) _ _ _ (issuer_name p) (after_issuer p)
+          p.after c.place_of.result is.encoded (issuer_stands p) issuer later last c.place_of.ensures.start
+          c.place_of.ensures.end;
+      serial_stands = place_is c.args.octets.now (encoding (certificate p)) _ _ _ (serial_number p) (after_serial p)
+          p.after c.place_of-2.result is.encoded (serial_stands p) serial after last c.place_of-2.ensures.start
+          c.place_of-2.ensures.end;
     }
 
 pub returns-clause-found : goal.returns-clause-found

@@ -6,5 +6,6 @@ use Rattle.cms.proofs.signed_data.content_info.Goals as goal
 
 pub returns : goal.returns
 returns c = c.in_ok-element_of.ensures
-    ∙ ap (element 48) (c.deref.ensures.value ∙ grown_two _ _ _ _ _ c.new-members.ensures.items c.in_ok-append_element.ensures c.in_ok-append_element-2.ensures)
+    ∙ ap (element 48) (c.deref.ensures.value
+    ∙ grown_two _ _ _ _ _ c.new-members.ensures.items c.in_ok-append_element.ensures c.in_ok-append_element-2.ensures)
     ∙ content_info_text c.args.content.now

@@ -5,6 +5,10 @@ use Rattle.cms.proofs.Texts.{encapsulated_text}
 use Rattle.cms.proofs.signed_data.encapsulated.Goals as goal
 
 pub returns : goal.returns
-returns c = let last = c.in_ok-append_element-2.ensures ∙ ap (λ x. c.append_element.new.octets.items ++ element 160 x) (c.deref.ensures.value ∙ c.in_ok-content.ensures) in
-    c.in_ok-element_of.ensures ∙ ap (element 48) (c.deref-2.ensures.value ∙ grown_two _ _ _ _ _ c.new-members.ensures.items c.in_ok-append_element.ensures last)
+returns c = let last =
+    c.in_ok-append_element-2.ensures ∙ ap (λ x. c.append_element.new.octets.items ++ element 160 x)
+    (c.deref.ensures.value ∙ c.in_ok-content.ensures) in
+    c.in_ok-element_of.ensures
+    ∙ ap (element 48) (c.deref-2.ensures.value
+    ∙ grown_two _ _ _ _ _ c.new-members.ensures.items c.in_ok-append_element.ensures last)
     ∙ encapsulated_text c.args.tst.now

@@ -12,6 +12,9 @@ returns-clause-commits g c =
     let begun = c.transaction-tx.ensures.begun in
     let mid = c.make_all.new.tx.conn.now in
     let same : c.commit.new.self.0 ≡ c.conn-2-1.given.0 = search rules in
-    subst (λ h. CommitsFrom (λ _ (d : Database). d.schema ≡ no_schema) (IsTrue (state g.S.Store c.args.conn.now).is_open) (λ _. no_rows) (state g.S.Store c.args.conn.now) (state g.S.Store h) c.commit.result) same
-    (committed g.S.Store (λ _ (d : Database). d.schema ≡ no_schema) (IsTrue (state g.S.Store c.args.conn.now).is_open) (λ _. no_rows) c.args.conn.now mid c.commit.new.self.0 tt (rw begun at (c.in_ok-make_all.ensures.carries))
+    subst (λ h. CommitsFrom (λ _ (d : Database). d.schema ≡ no_schema)
+    (IsTrue (state g.S.Store c.args.conn.now).is_open) (λ _. no_rows) (state g.S.Store c.args.conn.now)
+    (state g.S.Store h) c.commit.result) same
+    (committed g.S.Store (λ _ (d : Database). d.schema ≡ no_schema) (IsTrue (state g.S.Store c.args.conn.now).is_open)
+    (λ _. no_rows) c.args.conn.now mid c.commit.new.self.0 tt (rw begun at (c.in_ok-make_all.ensures.carries))
     c.commit.ensures.survives c.commit.result c.commit.ensures.ok c.commit.ensures.err)

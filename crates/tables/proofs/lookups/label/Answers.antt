@@ -10,7 +10,8 @@ first_row-requires-clause-text g c = label_text
 pub returns-in_ok-label-in-Some-clause-value : goal.returns-in_ok-label-in-Some-clause-value
 returns-in_ok-label-in-Some-clause-value g c honest t d =
     let serial_fits : c.args.serial < 2 ^ 63 = omega arith in
-    let found = label_found t _ c.args.serial c.args.owner.now _ _ d.holds (int_more (to_z_pos w64 serial_fits) (text_more c.as_bytes.ensures.value refl))
+    let found = label_found t _ c.args.serial c.args.owner.now _ _ d.holds
+    (int_more (to_z_pos w64 serial_fits) (text_more c.as_bytes.ensures.value refl))
     (c.in_ok-found.ensures.told honest d.schema) in
     let here = rw c.in-Some.is at found in
     (here.0, here.1, here.2, c.in_ok-label-in-Some.ensures here.0 here.3)
@@ -18,6 +19,7 @@ returns-in_ok-label-in-Some-clause-value g c honest t d =
 pub returns-in-None-clause-value : goal.returns-in-None-clause-value
 returns-in-None-clause-value g c honest t d =
     let serial_fits : c.args.serial < 2 ^ 63 = omega arith in
-    let found = label_found t _ c.args.serial c.args.owner.now _ _ d.holds (int_more (to_z_pos w64 serial_fits) (text_more c.as_bytes.ensures.value refl))
+    let found = label_found t _ c.args.serial c.args.owner.now _ _ d.holds
+    (int_more (to_z_pos w64 serial_fits) (text_more c.as_bytes.ensures.value refl))
     (c.in_ok-found.ensures.told honest d.schema) in
     rw c.in-None.is at found

@@ -11,7 +11,8 @@ first_row-requires-clause-text g c = next_owned_text
 pub returns-in_ok-next-in-Some-clause-value : goal.returns-in_ok-next-in-Some-clause-value
 returns-in_ok-next-in-Some-clause-value g c honest t d =
     let after_fits : c.args.after < 2 ^ 63 = omega arith in
-    let found = next_owned_found t _ c.args.account.now c.args.after _ _ d.holds (text_more c.as_bytes.ensures.value (int_more (to_z_pos w64 after_fits) refl))
+    let found = next_owned_found t _ c.args.account.now c.args.after _ _ d.holds
+    (text_more c.as_bytes.ensures.value (int_more (to_z_pos w64 after_fits) refl))
     (c.in_ok-found.ensures.told honest d.schema) in
     let here = rw c.in-Some.is at found in
     (here.0, here.1, here.2, here.3, number_of _ _ 0 _ _ here.4 c.in_ok-next-in-Some.ensures.read refl)
@@ -19,6 +20,7 @@ returns-in_ok-next-in-Some-clause-value g c honest t d =
 pub returns-in-None-clause-value : goal.returns-in-None-clause-value
 returns-in-None-clause-value g c honest t d =
     let after_fits : c.args.after < 2 ^ 63 = omega arith in
-    let found = next_owned_found t _ c.args.account.now c.args.after _ _ d.holds (text_more c.as_bytes.ensures.value (int_more (to_z_pos w64 after_fits) refl))
+    let found = next_owned_found t _ c.args.account.now c.args.after _ _ d.holds
+    (text_more c.as_bytes.ensures.value (int_more (to_z_pos w64 after_fits) refl))
     (c.in_ok-found.ensures.told honest d.schema) in
     rw c.in-None.is at found

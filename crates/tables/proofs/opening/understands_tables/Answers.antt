@@ -18,7 +18,8 @@ returns-clause-ours g c clean has = elim c.match-prepare.branch [
       let it = w.in-Err-SqlInputError in
       let old = state g.S.Store c.args.conn.now in
       let new = state g.S.Store c.prepare.new.self in
-      absurd (never_unknown old new it.field-0-0 (subst (IsNotRun old new all_columns []) it.field-0-is (it.ensures.err clean [])) has)
+      absurd (never_unknown old new it.field-0-0
+      (subst (IsNotRun old new all_columns []) it.field-0-is (it.ensures.err clean [])) has)
   | in-Err w ↦ rw w.result-is tt
 ]
 
@@ -27,7 +28,9 @@ returns-clause-same g c clean = elim c.match-prepare.branch [
   | in-Ok w ↦ rw w.result-is ((w.in-Ok.ensures.ok clean).1.0.now_is)
   | in-Err-SqlInputError w ↦
       let it = w.in-Err-SqlInputError in
-      rw w.result-is (unknown_same _ _ it.field-0-0 (subst (IsNotRun (state g.S.Store c.args.conn.now) (state g.S.Store c.prepare.new.self) all_columns []) it.field-0-is (it.ensures.err clean [])))
+      rw w.result-is (unknown_same _ _ it.field-0-0
+      (subst (IsNotRun (state g.S.Store c.args.conn.now) (state g.S.Store c.prepare.new.self) all_columns [])
+      it.field-0-is (it.ensures.err clean [])))
   | in-Err w ↦ rw w.result-is tt
 ]
 
@@ -36,6 +39,11 @@ returns-clause-tables g c clean = elim c.match-prepare.branch [
   | in-Ok w ↦ rw w.result-is ((λ _. outlined _ _ (w.in-Ok.ensures.shape clean)), (λ _. refl))
   | in-Err-SqlInputError w ↦
       let it = w.in-Err-SqlInputError in
-      rw w.result-is ((λ is. cc), (λ known. absurd (never_known _ _ it.field-0-0 (subst (IsNotRun (state g.S.Store c.args.conn.now) (state g.S.Store c.prepare.new.self) all_columns []) it.field-0-is (it.ensures.err clean [])) known)))
+      rw w.result-is (
+        (λ is. cc),
+        (λ known. absurd (never_known _ _ it.field-0-0
+            (subst (IsNotRun (state g.S.Store c.args.conn.now) (state g.S.Store c.prepare.new.self) all_columns [])
+            it.field-0-is (it.ensures.err clean [])) known)),
+      )
   | in-Err w ↦ rw w.result-is tt
 ]

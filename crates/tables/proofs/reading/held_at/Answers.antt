@@ -10,5 +10,6 @@ first_row-requires-clause-text g c = hold_at_text
 pub returns-clause-value : goal.returns-clause-value
 returns-clause-value g c honest t d =
     let fits : SFits w64 c.args.now.now = search rules in
-    let found = hold_at_found t _ c.args.now.now _ _ d.holds (int_more (to_z-of_z fits) refl) (c.in_ok-found.ensures.told honest d.schema) in
+    let found = hold_at_found t _ c.args.now.now _ _ d.holds (int_more (to_z-of_z fits) refl)
+    (c.in_ok-found.ensures.told honest d.schema) in
     c.is_some.ensures ∙ found_any _ _ _ _ found

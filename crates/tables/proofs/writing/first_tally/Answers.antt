@@ -5,4 +5,7 @@ use Rattle.tables.proofs.CellLemmas.{int_more, text_more, blob_more}
 use Rattle.tables.proofs.writing.first_tally.Goals as goal
 
 pub returns-clause-carries : goal.returns-clause-carries
-returns-clause-carries g c = tally_carried (record { account = c.args.account.now; day = c.args.day; count = 0 }) _ _ _ c.execute.ensures.survives _ (text_more c.as_bytes.ensures.value (int_more (to_z_pos w64 c.requires) refl)) c.execute.ensures.runs
+returns-clause-carries g c =
+    tally_carried (record { account = c.args.account.now; day = c.args.day; count = 0 }) _ _ _
+    c.execute.ensures.survives _ (text_more c.as_bytes.ensures.value (int_more (to_z_pos w64 c.requires) refl))
+    c.execute.ensures.runs

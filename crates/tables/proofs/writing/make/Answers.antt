@@ -4,14 +4,18 @@ use Rattle.tables.proofs.writing.make.Goals as goal
 
 pub returns-in_ok-put_stamp-in-Reserve-clause-carries :
     goal.returns-in_ok-put_stamp-in-Reserve-clause-carries
-returns-in_ok-put_stamp-in-Reserve-clause-carries g c = rw c.in-Reserve.is (chained _ _ _ _ _ _ _ c.in_ok-put_stamp-in-Reserve.ensures.carries c.count_stamp.ensures.carries)
+returns-in_ok-put_stamp-in-Reserve-clause-carries g c =
+    rw c.in-Reserve.is (chained _ _ _ _ _ _ _ c.in_ok-put_stamp-in-Reserve.ensures.carries
+    c.count_stamp.ensures.carries)
 
 pub returns-in-Seal-clause-carries : goal.returns-in-Seal-clause-carries
 returns-in-Seal-clause-carries g c = rw c.in-Seal.is c.set_token.ensures.carries
 
 pub returns-in_ok-set_token-in-Deposit-clause-carries :
     goal.returns-in_ok-set_token-in-Deposit-clause-carries
-returns-in_ok-set_token-in-Deposit-clause-carries g c = rw c.in-Deposit.is (chained _ _ _ _ _ _ _ c.in_ok-set_token-in-Deposit.ensures.carries c.put_deposit.ensures.carries)
+returns-in_ok-set_token-in-Deposit-clause-carries g c =
+    rw c.in-Deposit.is (chained _ _ _ _ _ _ _ c.in_ok-set_token-in-Deposit.ensures.carries
+    c.put_deposit.ensures.carries)
 
 pub returns-in-Calibrate-clause-carries : goal.returns-in-Calibrate-clause-carries
 returns-in-Calibrate-clause-carries g c = rw c.in-Calibrate.is c.put_calibration.ensures.carries
@@ -21,7 +25,8 @@ returns-in-Hold-clause-carries g c = rw c.in-Hold.is c.put_hold.ensures.carries
 
 pub returns-in_ok-drop_reader-in-Grant-clause-carries :
     goal.returns-in_ok-drop_reader-in-Grant-clause-carries
-returns-in_ok-drop_reader-in-Grant-clause-carries g c = rw c.in-Grant.is (chained _ _ _ _ _ _ _ c.in_ok-drop_reader-in-Grant.ensures.carries c.put_reader.ensures.carries)
+returns-in_ok-drop_reader-in-Grant-clause-carries g c =
+    rw c.in-Grant.is (chained _ _ _ _ _ _ _ c.in_ok-drop_reader-in-Grant.ensures.carries c.put_reader.ensures.carries)
 
 pub returns-in-Revoke-clause-carries : goal.returns-in-Revoke-clause-carries
 returns-in-Revoke-clause-carries g c = rw c.in-Revoke.is c.drop_reader-in-Revoke.ensures.carries

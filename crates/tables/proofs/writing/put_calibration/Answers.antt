@@ -7,4 +7,7 @@ use Rattle.tables.proofs.writing.put_calibration.Goals as goal
 pub returns-clause-carries : goal.returns-clause-carries
 returns-clause-carries g c =
     calibration_carried _ _ _ _ c.execute.ensures.survives _
-    (int_more (to_z_pos w64 c.requires.number) (value_more _ _ c.to_sql.ensures (value_more _ _ c.to_sql-2.ensures (int_more (to_z_pos w64 c.requires.uncertainty) refl)))) c.execute.ensures.runs
+    (int_more (to_z_pos w64 c.requires.number)
+    (value_more _ _ c.to_sql.ensures
+    (value_more _ _ c.to_sql-2.ensures (int_more (to_z_pos w64 c.requires.uncertainty) refl))))
+    c.execute.ensures.runs

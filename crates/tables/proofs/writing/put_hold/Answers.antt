@@ -7,4 +7,5 @@ use Rattle.tables.proofs.writing.put_hold.Goals as goal
 pub returns-clause-carries : goal.returns-clause-carries
 returns-clause-carries g c =
     hold_carried _ _ _ _ c.execute.ensures.survives _
-    (int_more (to_z_pos w64 c.requires) (value_more _ _ c.to_sql.ensures (value_more _ _ c.to_sql-2.ensures refl))) c.execute.ensures.runs
+    (int_more (to_z_pos w64 c.requires) (value_more _ _ c.to_sql.ensures (value_more _ _ c.to_sql-2.ensures refl)))
+    c.execute.ensures.runs

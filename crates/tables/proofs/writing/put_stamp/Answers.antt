@@ -18,4 +18,7 @@ returns-clause-carries g c =
       tst = c.args.tst.now;
       token = None;
     }) _ _ _ c.execute.ensures.survives _
-    (int_more (to_z_pos w64 c.requires.serial) (text_more c.as_bytes.ensures.value (int_more (to_z_pos w64 c.requires.day) (int_more (to_z_pos w64 c.requires.gen_time) refl)))) c.execute.ensures.runs
+    (int_more (to_z_pos w64 c.requires.serial)
+    (text_more c.as_bytes.ensures.value
+    (int_more (to_z_pos w64 c.requires.day) (int_more (to_z_pos w64 c.requires.gen_time) refl))))
+    c.execute.ensures.runs

@@ -5,4 +5,5 @@ use Rattle.tables.proofs.CellLemmas.{int_more, text_more, blob_more}
 use Rattle.tables.proofs.writing.set_token.Goals as goal
 
 pub returns-clause-carries : goal.returns-clause-carries
-returns-clause-carries g c = seal_carried _ _ _ _ _ c.execute.ensures.survives _ (int_more (to_z_pos w64 c.requires) refl) c.execute.ensures.runs
+returns-clause-carries g c =
+    seal_carried _ _ _ _ _ c.execute.ensures.survives _ (int_more (to_z_pos w64 c.requires) refl) c.execute.ensures.runs

@@ -5,4 +5,5 @@ use Rattle.store.proofs.opening.Store+FileStore+D.close.Goals as goal
 
 pub returns-in-Ok-clause-copied : goal.returns-in-Ok-clause-copied
 returns-in-Ok-clause-copied g c clean b s =
-    leaves_files _ _ b (subst (λ conn. IsCopied conn c.in-Ok.files) c.into_connection.ensures.same (c.in-Ok.ensures.copied clean)) s
+    leaves_files _ _ b (subst (λ conn. IsCopied conn c.in-Ok.files) c.into_connection.ensures.same
+    (c.in-Ok.ensures.copied clean)) s

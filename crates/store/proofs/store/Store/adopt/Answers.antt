@@ -11,4 +11,5 @@ not_ours opening.Database is = absurd (let apart = is in cc)
 not_ours opening.NotOurs is = refl
 
 pub returns-in-Err-clause-foreign : goal.returns-in-Err-clause-foreign
-returns-in-Err-clause-foreign g c told clean = c.in-Err.ensures.foreign (not_ours c.in-Err.fault (sym c.from.ensures ∙ told)) clean
+returns-in-Err-clause-foreign g c told clean =
+    c.in-Err.ensures.foreign (not_ours c.in-Err.fault (sym c.from.ensures ∙ told)) clean

@@ -1,4 +1,5 @@
-use Rattle.std.proofs.Common.{◌≡◌, ◌∙◌, ◌⊎◌, rules, SFits, w64, to_z, of_z, to_z-of_z, sym, subst, refl, false, true, IsTrue, option_map, Option}
+use Rattle.std.proofs.Common.{◌≡◌, ◌∙◌, ◌⊎◌, rules, SFits, w64, to_z, of_z, to_z-of_z, sym, subst, refl, false, true}
+use Rattle.std.proofs.Common.{IsTrue, option_map, Option}
 use Rattle.tables.specs.Tables.{Tables, with_calibration}
 use Rattle.store.specs.History.{Calibrated, CalibrationValue}
 use Rattle.store.specs.Sound.{IsBackwards}
@@ -10,8 +11,10 @@ use Rattle.store.proofs.store.Store.calibrate.Goals as goal
 -- the history's latest calibration is the one that was read
 pub returns-then-is_backwards-clause-backwards : goal.returns-then-is_backwards-clause-backwards
 returns-then-is_backwards-clause-backwards g c honest b s e =
-    let found = calibration_view_of b _ (c.in_ok-latest.ensures.value honest _ (kept_seen g.S.Store _ _ b c.self.view_is s)) in
-    subst (λ latest. IsBackwards (calibration_view c.args.calibration.now) latest) found.0 (c.is_backwards.ensures.0 c.if-is_backwards.true)
+    let found = calibration_view_of b _
+    (c.in_ok-latest.ensures.value honest _ (kept_seen g.S.Store _ _ b c.self.view_is s)) in
+    subst (λ latest. IsBackwards (calibration_view c.args.calibration.now) latest) found.0
+    (c.is_backwards.ensures.0 c.if-is_backwards.true)
 
 pub returns-in_err-commit-clause-crash : goal.returns-in_err-commit-clause-crash
 returns-in_err-commit-clause-crash g c =
@@ -27,7 +30,8 @@ returns-in_err-commit-clause-crash g c =
     c.args.self.now c.latest_calibration.new.self c.commit.new.self
     (reads_now g.S.Store _ _ _ c.self.view_is c.in_ok-latest.ensures.reads)
     c.in_err-commit.ensures.honest c.in_err-commit.ensures.crash
-    (λ honest b s. calibration_step b (calibration_view c.args.calibration.now) _ _ _ (to_z-of_z reading) (to_z-of_z offset)
+    (λ honest b s. calibration_step b (calibration_view c.args.calibration.now) _ _ _ (to_z-of_z reading)
+    (to_z-of_z offset)
     (c.next_calibration.ensures
     ∙ (calibration_view_of b _ (c.in_ok-latest.ensures.value honest _ (kept_seen g.S.Store _ _ b c.self.view_is s))).1))
 
@@ -45,7 +49,8 @@ returns-clause-ok g c b =
     c.args.self.now c.latest_calibration.new.self c.commit.new.self b
     (reads_now g.S.Store _ _ _ c.self.view_is c.in_ok-latest.ensures.reads)
     c.in_ok-commit.ensures.honest c.in_ok-commit.ensures.ok
-    (λ honest b s. calibration_step b (calibration_view c.args.calibration.now) _ _ _ (to_z-of_z reading) (to_z-of_z offset)
+    (λ honest b s. calibration_step b (calibration_view c.args.calibration.now) _ _ _ (to_z-of_z reading)
+    (to_z-of_z offset)
     (c.next_calibration.ensures
     ∙ (calibration_view_of b _ (c.in_ok-latest.ensures.value honest _ (kept_seen g.S.Store _ _ b c.self.view_is s))).1))
 
@@ -63,22 +68,28 @@ returns-clause-crash g c =
     c.args.self.now c.latest_calibration.new.self c.commit.new.self
     (reads_now g.S.Store _ _ _ c.self.view_is c.in_ok-latest.ensures.reads)
     c.in_ok-commit.ensures.honest c.in_ok-commit.ensures.crash
-    (λ honest b s. calibration_step b (calibration_view c.args.calibration.now) _ _ _ (to_z-of_z reading) (to_z-of_z offset)
+    (λ honest b s. calibration_step b (calibration_view c.args.calibration.now) _ _ _ (to_z-of_z reading)
+    (to_z-of_z offset)
     (c.next_calibration.ensures
     ∙ (calibration_view_of b _ (c.in_ok-latest.ensures.value honest _ (kept_seen g.S.Store _ _ b c.self.view_is s))).1))
 
 pub returns-in_err-commit-clause-refused : goal.returns-in_err-commit-clause-refused
 returns-in_err-commit-clause-refused g c honest b s backwards =
-    let found = calibration_view_of b _ (c.in_ok-latest.ensures.value (c.in_err-commit.ensures.honest honest) _ (kept_seen g.S.Store _ _ b c.self.view_is s)) in
-    let is = c.is_backwards.ensures.1 (subst (λ latest. IsBackwards (calibration_view c.args.calibration.now) latest) (sym found.0) backwards) in
+    let found = calibration_view_of b _ (c.in_ok-latest.ensures.value (c.in_err-commit.ensures.honest honest) _
+    (kept_seen g.S.Store _ _ b c.self.view_is s)) in
+    let is = c.is_backwards.ensures.1 (subst (λ latest. IsBackwards (calibration_view c.args.calibration.now) latest)
+    (sym found.0) backwards) in
     let isnt = c.if-is_backwards.false in cc
 
 pub returns-clause-refused : goal.returns-clause-refused
 returns-clause-refused g c honest b s backwards =
-    let found = calibration_view_of b _ (c.in_ok-latest.ensures.value (c.in_ok-commit.ensures.honest honest) _ (kept_seen g.S.Store _ _ b c.self.view_is s)) in
-    let is = c.is_backwards.ensures.1 (subst (λ latest. IsBackwards (calibration_view c.args.calibration.now) latest) (sym found.0) backwards) in
+    let found = calibration_view_of b _ (c.in_ok-latest.ensures.value (c.in_ok-commit.ensures.honest honest) _
+    (kept_seen g.S.Store _ _ b c.self.view_is s)) in
+    let is = c.is_backwards.ensures.1 (subst (λ latest. IsBackwards (calibration_view c.args.calibration.now) latest)
+    (sym found.0) backwards) in
     let isnt = c.if-is_backwards.false in cc
 
 pub returns-in_err-commit-clause-err : goal.returns-in_err-commit-clause-err
 returns-in_err-commit-clause-err g c b s =
-    on_err _ _ (err_after g.S.Store _ _ _ b (reads_now g.S.Store _ _ _ c.self.view_is c.in_ok-latest.ensures.reads) c.in_err-commit.ensures.err s)
+    on_err _ _ (err_after g.S.Store _ _ _ b (reads_now g.S.Store _ _ _ c.self.view_is c.in_ok-latest.ensures.reads)
+    c.in_err-commit.ensures.err s)

@@ -8,4 +8,5 @@ returns-in_err-count-clause-looks g c = looks_now g.S.Store _ _ _ c.self.view_is
 
 pub returns-clause-value : goal.returns-clause-value
 returns-clause-value g c honest b s =
-    c.unwrap_or.ensures ∙ count_view b _ _ _ (c.in_ok-count.ensures.value honest _ (kept_seen g.S.Store _ _ b c.self.view_is s))
+    c.unwrap_or.ensures ∙ count_view b _ _ _
+    (c.in_ok-count.ensures.value honest _ (kept_seen g.S.Store _ _ b c.self.view_is s))

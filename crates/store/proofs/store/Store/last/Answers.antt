@@ -8,4 +8,5 @@ returns-in_err-stamp-clause-looks g c = looks_now g.S.Store _ _ _ c.self.view_is
 
 pub returns-clause-value : goal.returns-clause-value
 returns-clause-value g c honest b s =
-    c.last_from.ensures ∙ last_view b _ s.sound (c.in_ok-stamp.ensures.value honest _ (kept_seen g.S.Store _ _ b c.self.view_is s))
+    c.last_from.ensures ∙ last_view b _ s.sound
+    (c.in_ok-stamp.ensures.value honest _ (kept_seen g.S.Store _ _ b c.self.view_is s))

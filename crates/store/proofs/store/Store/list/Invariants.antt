@@ -5,7 +5,8 @@ use Rattle.store.proofs.Walk.{HasListed}
 use Rattle.store.proofs.store.Store.list.Given as goal
 
 abbrev pub invariant-loop-rows : goal.invariant-loop-rows
-invariant-loop-rows g l = HasListed g.S.Store l.fn.self l.self l.account (map listed_view l.rows.items) l.last l.readable
+invariant-loop-rows g l =
+    HasListed g.S.Store l.fn.self l.self l.account (map listed_view l.rows.items) l.last l.readable
 
 abbrev pub decreases-loop-rows : goal.decreases-loop-rows
 decreases-loop-rows g l = 2 ^ 63 - l.last

@@ -8,11 +8,14 @@ use Rattle.store.proofs.store.Store.reserve.Goals as goal
 
 pub returns-in_err-commit-clause-err : goal.returns-in_err-commit-clause-err
 returns-in_err-commit-clause-err g c b s =
-    on_err _ _ (err_looked g.S.Store c.args.self.now c.self.inside.base _ b (looked_seen g.S.Store _ _ _ c.self.view_is c.in_ok-last.ensures.looks)
+    on_err _ _ (err_looked g.S.Store c.args.self.now c.self.inside.base _ b
+    (looked_seen g.S.Store _ _ _ c.self.view_is c.in_ok-last.ensures.looks)
     c.in_err-commit.ensures.err s)
 
 pub returns-in_err-commit-clause-crash : goal.returns-in_err-commit-clause-crash
 returns-in_err-commit-clause-crash g c =
-    crash_looked g.S.Store (Reserved (reservation_view c.args.reservation.now)) (with_stamp (stamp_of None (reservation_view c.args.reservation.now)))
-    c.args.self.now c.self.inside.base c.commit.new.self (looked_seen g.S.Store _ _ _ c.self.view_is c.in_ok-last.ensures.looks)
+    crash_looked g.S.Store (Reserved (reservation_view c.args.reservation.now))
+    (with_stamp (stamp_of None (reservation_view c.args.reservation.now)))
+    c.args.self.now c.self.inside.base c.commit.new.self
+    (looked_seen g.S.Store _ _ _ c.self.view_is c.in_ok-last.ensures.looks)
     c.in_err-commit.ensures.honest c.in_err-commit.ensures.crash (λ b. refl)

@@ -5,12 +5,15 @@ use Rattle.tables.proofs.base.Base.commit.Goals as goal
 
 pub returns-in-Ok-clause-ok : goal.returns-in-Ok-clause-ok
 returns-in-Ok-clause-ok g c t keeps =
-    keeps_on g.S.Store g.met.S.Store.settled (applied c.args.change.now) c.self.inside.conn c.commit_change.new.conn c.in-Ok.ensures.closed t (rw (← c.self.view_is) at keeps) _ c.in-Ok.ensures.commits
+    keeps_on g.S.Store g.met.S.Store.settled (applied c.args.change.now) c.self.inside.conn c.commit_change.new.conn
+    c.in-Ok.ensures.closed t (rw (← c.self.view_is) at keeps) _ c.in-Ok.ensures.commits
 
 pub returns-in-Ok-clause-crash : goal.returns-in-Ok-clause-crash
 returns-in-Ok-clause-crash g c =
-    rw (← c.self.view_is) (crash_leaves g.S.Store (applied c.args.change.now) c.self.inside.conn c.commit_change.new.conn _ c.in-Ok.ensures.commits)
+    rw (← c.self.view_is) (crash_leaves g.S.Store (applied c.args.change.now) c.self.inside.conn
+    c.commit_change.new.conn _ c.in-Ok.ensures.commits)
 
 pub returns-in-Err-clause-crash : goal.returns-in-Err-clause-crash
 returns-in-Err-clause-crash g c =
-    rw (← c.self.view_is, c.fault.ensures.same) (crash_leaves g.S.Store (applied c.args.change.now) c.self.inside.conn c.commit_change.new.conn _ c.in-Err.ensures.commits)
+    rw (← c.self.view_is, c.fault.ensures.same) (crash_leaves g.S.Store (applied c.args.change.now) c.self.inside.conn
+    c.commit_change.new.conn _ c.in-Err.ensures.commits)
