@@ -1,6 +1,8 @@
 -- What the words ask for: the command line of the program, and what each subcommand's options state. `clap` says which
 -- words a command takes, and what it finds in them.
 use Rattle.std.specs.Prelude.{◌≡◌, ◌≢◌, ◌⊎◌, ⊤, ℕ, Bool, true, false, pos, List, [], ◌∷◌, Some, None, codes, option_map}
+use Rattle.std.specs.Prelude.{map, String, string_bytes}
+use Rattle.std.specs.declared.alloc.Global.{Global}
 use Rattle.std.specs.Str.Parse.{IsNumeral, digits_value, without_leading_plus}
 use Rattle.clap.specs.Words.{App, IsAmong, Row, Rule, Text, fault_of, first_of, new_app, new_rule, one_of}
 use Rattle.clap.specs.Words.{subcommand_of, with_subcommand}
@@ -20,6 +22,10 @@ use Rattle.command_line.specs.declared.words.InitWords.{InitWords}
 use Rattle.command_line.specs.declared.words.TstWords.{TstWords}
 use Rattle.command_line.specs.declared.words.Word.{Word}
 use Rattle.command_line.specs.declared.words.Word.TheVariants.{Tst, Check, Init, Calibrate, Hold, Answer}
+
+-- the octets of each word
+abbrev pub texts_of : List (String Global) → List Text
+texts_of words = map string_bytes words
 
 -- `--name VALUE`, which has to be there
 abbrev pub required_option : Text → ValueParser → Rule

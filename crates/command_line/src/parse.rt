@@ -1,9 +1,9 @@
 //! What the words ask for, by what `clap` finds in them.
-ghost use Rattle.std.specs.Prelude.{◌≡◌, ◌≤◌, ◌⊎◌, ℕ, List, Some, IfOk, IfErr, IfSome, IsNone, map, string_bytes};
+ghost use Rattle.std.specs.Prelude.{◌≡◌, ◌≤◌, ◌⊎◌, ℕ, List, Some, IfOk, IfErr, IfSome, IsNone};
 ghost use Rattle.clap.specs.Words.{Row, Text, HasKind, fault_of, found_of, kind_of, rows_of, subcommand_rows_of};
 ghost use Rattle.command_line.specs.Words.{AskNothing, Asks, IsAsked, IsRefusal, IsShown, StatesAnswer};
 ghost use Rattle.command_line.specs.Words.{StatesCalibrate, StatesCheck, StatesHold, StatesInit, StatesNumber};
-ghost use Rattle.command_line.specs.Words.{StatesTst, counter_command};
+ghost use Rattle.command_line.specs.Words.{StatesTst, counter_command, texts_of};
 
 use crate::command::{
     ACCURACIES, DIGITS, MICROSECONDS, MOMENTS, Numbers, SERIALS, UNCERTAINTIES, command,
@@ -18,8 +18,8 @@ impl<'a> Word<'a> {
     /// Reads the words, of which the first is the program's name. They are a `Mistake` where they aren't understood,
     /// and `Help` where they ask for help; `Memory` where memory runs out.
     pub fn parse(alloc: Global, words: &'a [String]) -> Result<Word<'a>, Refusal>
-        ensures asked { IfOk result (Asks (map (λ word. string_bytes word) words.now)) }
-        ensures refused { IfErr result (IsRefusal (map (λ word. string_bytes word) words.now)) }
+        ensures asked { IfOk result (Asks (texts_of words.now)) }
+        ensures refused { IfErr result (IsRefusal (texts_of words.now)) }
     {
         match matched(alloc, words) {
             Ok(word) => Ok(word),
@@ -33,13 +33,13 @@ impl<'a> Word<'a> {
 
 /// The word, or `clap`'s error.
 fn matched<'a>(alloc: Global, words: &'a [String]) -> Result<Word<'a>, Error>
-    ensures asked { IfOk result (Asks (map (λ word. string_bytes word) words.now)) }
+    ensures asked { IfOk result (Asks (texts_of words.now)) }
 
     // Words are refused as `clap` says, for want of memory, or where they ask for nothing.
     ensures refused { IfErr result (λ error.
-        HasKind (fault_of counter_command (map (λ word. string_bytes word) words.now)) error
+        HasKind (fault_of counter_command (texts_of words.now)) error
         ⊎ ((kind_of error ≡ ErrorKind.MissingRequiredArgument)
-        × AskNothing (map (λ word. string_bytes word) words.now))) }
+        × AskNothing (texts_of words.now))) }
 {
     let mut command = command(alloc)?;
     let matches = command.try_get_matches_from_mut(words)?;

@@ -27,7 +27,8 @@ const TAKEN: [(&str, Word<'static>); 10] = [
         Word::Tst(TST),
     ),
     (
-        "counter tst --ordering --accuracy=+1 --serial 009223372036854775807 --digits 6 --moment 253402300799999999 --policy ''",
+        "counter tst --ordering --accuracy=+1 --serial 009223372036854775807 --digits 6 --moment 253402300799999999 \
+        --policy ''",
         Word::Tst(TstWords {
             policy: "",
             moment: 253_402_300_799_999_999,
@@ -64,7 +65,8 @@ const TAKEN: [(&str, Word<'static>); 10] = [
         }),
     ),
     (
-        "counter calibrate --behind --uncertainty=1000000000000 --offset 9223372036854775807 --reading 9223372036854775807 --db ''",
+        "counter calibrate --behind --uncertainty=1000000000000 --offset 9223372036854775807 \
+        --reading 9223372036854775807 --db ''",
         Word::Calibrate(CalibrateWords {
             db: "",
             reading: 9_223_372_036_854_775_807,

@@ -1,7 +1,7 @@
-ghost use Rattle.std.specs.Prelude.{◌≡◌, ◌≤◌, ◌⊎◌, List, ℕ, OnOk, IfSome, IfErr, String, map, string_bytes};
+ghost use Rattle.std.specs.Prelude.{◌≡◌, ◌≤◌, ◌⊎◌, List, ℕ, OnOk, IfSome, IfErr, String};
 ghost use Rattle.std.specs.Io.KnownBytes.{Appends};
 ghost use Rattle.std.specs.declared.alloc.Global.{Global};
-ghost use Rattle.command_line.specs.Words.{AreRefused, AreTaken, Asks, AsksHelp};
+ghost use Rattle.command_line.specs.Words.{AreRefused, AreTaken, Asks, AsksHelp, texts_of};
 ghost use Rattle.command_line.specs.declared.refusal.Refusal.TheVariants.{Help, Mistake};
 ghost use Rattle.counter.specs.Answers.{Answers, Does, RepliesTo};
 ghost use Rattle.counter.specs.Counts.{Counts};
@@ -89,8 +89,8 @@ fn process_words(rt: &HostRuntime) -> io::Result<Vec<String>> {
 /// `der`, `tsp`, `cms`, `policy` and `store` with the number of those crates' refusals, and `input` 1 where the input
 /// isn't hexadecimal, 2 where a file can't be read, has a wrong size or isn't UTF-8 where it has to be text, 3 where a
 /// hold doesn't begin before it ends, 4 where no account has the key, 5 where the input or the output fails, and 7
-/// where memory runs out. 2 where the words are refused; why is written to `errors`. Where the status isn't 0 nothing is
-/// written to `output`, but where writing an answer or help fails: then a beginning of it stands there.
+/// where memory runs out. 2 where the words are refused; why is written to `errors`. Where the status isn't 0 nothing
+/// is written to `output`, but where writing an answer or help fails: then a beginning of it stands there.
 pub fn run_words<I: Read, O: Write, E: Write>(
     rt: &HostRuntime,
     words: &[String],
@@ -101,19 +101,19 @@ pub fn run_words<I: Read, O: Write, E: Write>(
     ensures status { result ≤ 2 }
 
     // Where all is done, what the words ask for is written, or they ask for help.
-    ensures done { result ≡ 0 → ((word : Word) × Asks (map (λ word. string_bytes word) words.now) word
+    ensures done { result ≡ 0 → ((word : Word) × Asks (texts_of words.now) word
         × Does word (I.remaining input.old) (Appends (O.contents output.old) (O.contents output.new)))
-        ⊎ AsksHelp (map (λ word. string_bytes word) words.now) }
+        ⊎ AsksHelp (texts_of words.now) }
 
     // Where all is done, no fault is written.
     ensures silent { result ≡ 0 → E.contents errors.new ≡ E.contents errors.old }
 
     // Only words that aren't understood are refused, and they write to `errors` alone.
-    ensures refused { result ≡ 2 → AreRefused (map (λ word. string_bytes word) words.now) }
+    ensures refused { result ≡ 2 → AreRefused (texts_of words.now) }
     ensures unwritten { result ≡ 2 → O.contents output.new ≡ O.contents output.old }
 
     // Words that aren't taken read nothing, whatever the status.
-    ensures unread { (result ≡ 2) ⊎ (AreTaken (map (λ word. string_bytes word) words.now) → ⊥)
+    ensures unread { (result ≡ 2) ⊎ (AreTaken (texts_of words.now) → ⊥)
         → I.remaining input.new ≡ I.remaining input.old }
 
     // Where a fault stopped it, its line is written, as much of it as `errors` takes.
@@ -123,8 +123,8 @@ pub fn run_words<I: Read, O: Write, E: Write>(
     // Nothing but help or a beginning of an answer is written to the output then, and an answer's only where the fault
     // is `input` 5.
     ensures kept { result ≡ 1 → (O.contents output.new ≡ O.contents output.old)
-        ⊎ (AsksHelp (map (λ word. string_bytes word) words.now)
-        ⊎ ((word : Word) × Asks (map (λ word. string_bytes word) words.now) word
+        ⊎ (AsksHelp (texts_of words.now)
+        ⊎ ((word : Word) × Asks (texts_of words.now) word
         × Does word (I.remaining input.old) (Begins (O.contents output.old) (O.contents output.new))
         × Begins (E.contents errors.old) (E.contents errors.new) (fault_line (Fault.Input InputFault.Failed)))) }
 {

@@ -16,7 +16,8 @@ returns-in_err-write_octets-clause-kept g c =
           let begun = rw c.octets_of.ensures at c.in_err-write_octets.ensures.begun (ap Err failed) in
           inr (
             failing.2 ∙ ap Input failed,
-            IfSome_then (g.I.Read.remaining c.args.input.now) c.in_ok-reply.ensures (λ text replies. (reply, replies, begun)),
+            IfSome_then (g.I.Read.remaining c.args.input.now) c.in_ok-reply.ensures
+                (λ text replies. (reply, replies, begun)),
           )
       | inr memory ↦ inl (c.in_err-write_octets.ensures.kept (ap Err memory))
     ])

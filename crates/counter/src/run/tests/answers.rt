@@ -243,62 +243,74 @@ const FAULTS: [(&str, &str, &str); 13] = [
         "counter: input 2\n",
     ),
     (
-        "--db no/such.db --rules answers_of_a_test.key --certificate no/such.der --signing-key no/such.key --key nobody",
+        "--db no/such.db --rules answers_of_a_test.key --certificate no/such.der --signing-key no/such.key \
+        --key nobody",
         "zz",
         "counter: policy 1\n",
     ),
     (
-        "--db no/such.db --rules answers_of_a_test.toml --certificate no/such.der --signing-key no/such.key --key nobody",
+        "--db no/such.db --rules answers_of_a_test.toml --certificate no/such.der --signing-key no/such.key \
+        --key nobody",
         "zz",
         "counter: input 2\n",
     ),
     (
-        "--db no/such.db --rules answers_of_a_test.toml --certificate answers_of_a_test.key --signing-key no/such.key --key nobody",
+        "--db no/such.db --rules answers_of_a_test.toml --certificate answers_of_a_test.key --signing-key no/such.key \
+        --key nobody",
         "zz",
         "counter: cms 1\n",
     ),
     (
-        "--db no/such.db --rules answers_of_a_test.toml --certificate answers_of_a_test.der --signing-key no/such.key --key nobody",
+        "--db no/such.db --rules answers_of_a_test.toml --certificate answers_of_a_test.der --signing-key no/such.key \
+        --key nobody",
         "zz",
         "counter: input 2\n",
     ),
     (
-        "--db no/such.db --rules answers_of_a_test.toml --certificate answers_of_a_test.der --signing-key answers_of_a_test.long --key nobody",
+        "--db no/such.db --rules answers_of_a_test.toml --certificate answers_of_a_test.der \
+        --signing-key answers_of_a_test.long --key nobody",
         "zz",
         "counter: input 2\n",
     ),
     (
-        "--db no/such.db --rules answers_of_a_test.toml --certificate answers_of_a_test.der --signing-key answers_of_a_test.key --key nobody",
+        "--db no/such.db --rules answers_of_a_test.toml --certificate answers_of_a_test.der \
+        --signing-key answers_of_a_test.key --key nobody",
         "zz",
         "counter: input 4\n",
     ),
     (
-        "--db no/such.db --rules answers_of_a_test.toml --certificate answers_of_a_test.der --signing-key answers_of_a_test.key --key ''",
+        "--db no/such.db --rules answers_of_a_test.toml --certificate answers_of_a_test.der \
+        --signing-key answers_of_a_test.key --key ''",
         "zz",
         "counter: input 4\n",
     ),
     (
-        "--db no/such.db --rules answers_of_a_test.toml --certificate answers_of_a_test.der --signing-key answers_of_a_test.key --key hello",
+        "--db no/such.db --rules answers_of_a_test.toml --certificate answers_of_a_test.der \
+        --signing-key answers_of_a_test.key --key hello",
         "zz",
         "counter: input 1\n",
     ),
     (
-        "--db no/such.db --rules answers_of_a_test.toml --certificate answers_of_a_test.der --signing-key answers_of_a_test.key",
+        "--db no/such.db --rules answers_of_a_test.toml --certificate answers_of_a_test.der \
+        --signing-key answers_of_a_test.key",
         "303",
         "counter: input 1\n",
     ),
     (
-        "--db no/such.db --rules answers_of_a_test.toml --certificate answers_of_a_test.der --signing-key answers_of_a_test.key",
+        "--db no/such.db --rules answers_of_a_test.toml --certificate answers_of_a_test.der \
+        --signing-key answers_of_a_test.key",
         "",
         "counter: store 2\n",
     ),
     (
-        "--db answers_of_a_test.missing --rules answers_of_a_test.toml --certificate answers_of_a_test.der --signing-key answers_of_a_test.key",
+        "--db answers_of_a_test.missing --rules answers_of_a_test.toml --certificate answers_of_a_test.der \
+        --signing-key answers_of_a_test.key",
         "",
         "counter: store 2\n",
     ),
     (
-        "--db answers_of_a_test.toml --rules answers_of_a_test.toml --certificate answers_of_a_test.der --signing-key answers_of_a_test.key",
+        "--db answers_of_a_test.toml --rules answers_of_a_test.toml --certificate answers_of_a_test.der \
+        --signing-key answers_of_a_test.key",
         "",
         "counter: store 3\n",
     ),

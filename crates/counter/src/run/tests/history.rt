@@ -48,7 +48,8 @@ const ROWS: [(&str, &str); 13] = [
         "",
     ),
     (
-        "counter calibrate --db history_of_a_test.db --reading 9223372036854775807 --offset 9223372036854775807 --behind --uncertainty 1000000000000",
+        "counter calibrate --db history_of_a_test.db --reading 9223372036854775807 --offset 9223372036854775807 \
+        --behind --uncertainty 1000000000000",
         "",
     ),
     (
