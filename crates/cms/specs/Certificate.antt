@@ -21,33 +21,33 @@ pub record CertificateParts : Type 0 where
 -- version: under [0], where it stands
 abbrev pub with_version : Option Nodes → Nodes → Nodes
 with_version None others = others
-with_version (Some version) others = node (constructed 160 version) others
+with_version (Some version) others = node (constructed 0xa0 version) others
 
 -- CertificateSerialNumber: an INTEGER
 abbrev pub serial_number : CertificateParts → Node
-serial_number p = primitive 2 p.serial
+serial_number p = primitive 0x02 p.serial
 
 -- issuer: a Name, which is a SEQUENCE
 abbrev pub issuer_name : CertificateParts → Node
-issuer_name p = constructed 48 p.issuer
+issuer_name p = constructed 0x30 p.issuer
 
 -- the members from signature on
 abbrev pub after_serial : CertificateParts → Nodes
 after_serial p =
-    node (constructed 48 p.signature) (node (issuer_name p) (node (constructed 48 p.validity)
-    (node (constructed 48 p.subject) p.further)))
+    node (constructed 0x30 p.signature) (node (issuer_name p) (node (constructed 0x30 p.validity)
+    (node (constructed 0x30 p.subject) p.further)))
 
 -- the members from validity on
 abbrev pub after_issuer : CertificateParts → Nodes
-after_issuer p = node (constructed 48 p.validity) (node (constructed 48 p.subject) p.further)
+after_issuer p = node (constructed 0x30 p.validity) (node (constructed 0x30 p.subject) p.further)
 
 -- TBSCertificate
 abbrev pub tbs_certificate : CertificateParts → Node
-tbs_certificate p = constructed 48 (with_version p.version (node (serial_number p) (after_serial p)))
+tbs_certificate p = constructed 0x30 (with_version p.version (node (serial_number p) (after_serial p)))
 
 -- Certificate
 abbrev pub certificate : CertificateParts → Node
-certificate p = constructed 48 (node (tbs_certificate p) p.after)
+certificate p = constructed 0x30 (node (tbs_certificate p) p.after)
 
 -- The octets are the certificate of these parts, a lawful value, whose serial number is in the shortest form.
 pub record IsCertificate (octets : List ℕ) (p : CertificateParts) : Type 0 where
@@ -68,7 +68,7 @@ optional (Some value) = node value no_nodes
 -- AlgorithmIdentifier: an object identifier, and parameters of any kind where there are any (RFC 5280 4.1.1.2)
 abbrev pub algorithm_identifier : List ℕ → Option Node → Node
 algorithm_identifier subidentifiers parameters =
-    constructed 48 (node (primitive 6 (oid_content subidentifiers)) (optional parameters))
+    constructed 0x30 (node (primitive 0x06 (oid_content subidentifiers)) (optional parameters))
 
 -- The octets are an AlgorithmIdentifier, a lawful value.
 pub record IsAlgorithm (octets : List ℕ) : Type 0 where

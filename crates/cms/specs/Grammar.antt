@@ -11,21 +11,21 @@ joined [] = []
 joined (first ∷ others) = first ++ joined others
 
 abbrev pub integer : ℕ → List ℕ
-integer n = element 2 (number_content (pos n))
+integer n = element 0x02 (number_content (pos n))
 
 abbrev pub octet_string : List ℕ → List ℕ
-octet_string octets = element 4 octets
+octet_string octets = element 0x04 octets
 
 -- of its subidentifiers
 abbrev pub object_identifier : List ℕ → List ℕ
-object_identifier subidentifiers = element 6 (oid_content subidentifiers)
+object_identifier subidentifiers = element 0x06 (oid_content subidentifiers)
 
 abbrev pub sequence : List (List ℕ) → List ℕ
-sequence components = element 48 (joined components)
+sequence components = element 0x30 (joined components)
 
 abbrev pub set : List (List ℕ) → List ℕ
-set components = element 49 (joined components)
+set components = element 0x31 (joined components)
 
 -- under the context-specific tag [0]: one value where it is explicit, a SET's where it is implicit
 abbrev pub under_zero : List (List ℕ) → List ℕ
-under_zero components = element 160 (joined components)
+under_zero components = element 0xa0 (joined components)

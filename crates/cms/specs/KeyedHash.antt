@@ -11,4 +11,4 @@ SignsByHash before text answer after =
 
 -- the AlgorithmIdentifier of 2.999.9, without parameters
 abbrev pub keyed_hash_algorithm : List ℕ
-keyed_hash_algorithm = 48 ∷ 5 ∷ 6 ∷ 3 ∷ 136 ∷ 55 ∷ 9 ∷ []
+keyed_hash_algorithm = 0x30 ∷ 0x05 ∷ 0x06 ∷ 0x03 ∷ 0x88 ∷ 0x37 ∷ 0x09 ∷ []

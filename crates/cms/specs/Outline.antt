@@ -32,25 +32,25 @@ outline p = record {
 unfoldable pub sequence_at : Nodes → Option (Node × Nodes)
 sequence_at ns = do
   first ← first_of ns
-  inside ← components_of 48 first.0
+  inside ← components_of 0x30 first.0
   Some first
 
 -- the INTEGER in the shortest form at the front, and what is left
 unfoldable pub serial_at : Nodes → Option (Node × Nodes)
 serial_at ns = do
   first ← first_of ns
-  octets ← contents_of 2 first.0
+  octets ← contents_of 0x02 first.0
   if is_shortest octets then Some first else None
 
 -- without the version, where it stands
 unfoldable pub after_version : Nodes → Nodes
-after_version ns = (take_under 160 ns).1
+after_version ns = (take_under 0xa0 ns).1
 
 unfoldable pub outline_of : Node → Option Outline
 outline_of n = do
-  members ← components_of 48 n
+  members ← components_of 0x30 n
   tbs ← first_of members
-  inside ← components_of 48 tbs.0
+  inside ← components_of 0x30 tbs.0
   serial ← serial_at (after_version inside)
   signature ← sequence_at serial.1
   issuer ← sequence_at signature.1
@@ -72,7 +72,7 @@ is_optional (node value others) = is_end others
 -- whether a value is an AlgorithmIdentifier
 unfoldable pub algorithm_of : Node → Option (Unit {0})
 algorithm_of n = do
-  members ← components_of 48 n
+  members ← components_of 0x30 n
   first ← first_of members
-  octets ← contents_of 6 first.0
+  octets ← contents_of 0x06 first.0
   if is_some (oid_of octets) && is_optional first.1 then Some tt else None

@@ -6,9 +6,9 @@ use Rattle.policy.specs.Record.{PolicyValue}
 
 -- a line of words, joined by spaces
 abbrev pub line_of_words : List (List ℕ) → List ℕ
-line_of_words [] = 10 ∷ []
-line_of_words (word ∷ []) = word ++ 10 ∷ []
-line_of_words (word ∷ next ∷ words) = word ++ 32 ∷ line_of_words (next ∷ words)
+line_of_words [] = 0x0a ∷ []
+line_of_words (word ∷ []) = word ++ 0x0a ∷ []
+line_of_words (word ∷ next ∷ words) = word ++ 0x20 ∷ line_of_words (next ∷ words)
 
 -- how many algorithms, extensions, policies and accounts there are, in decimal
 abbrev pub counts_line : PolicyValue → List ℕ

@@ -52,7 +52,7 @@ line_beginning (Input fault) = codes "counter: input "
 
 -- the line of a refusal: who refused, and the refusal's number in decimal
 abbrev pub fault_line : Fault → List ℕ
-fault_line fault = line_beginning fault ++ (decimal (number_of_fault fault) ++ 10 ∷ [])
+fault_line fault = line_beginning fault ++ (decimal (number_of_fault fault) ++ 0x0a ∷ [])
 
 -- the store refused
 abbrev pub IsStoreFault : Fault → Type 0

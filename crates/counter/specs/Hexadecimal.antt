@@ -4,14 +4,14 @@ use Rattle.std.specs.Prelude.{None, List, [], ◌∷◌, ◌++◌, map, filter, 
 
 -- tab, line feed, carriage return and space
 abbrev pub is_blank : ℕ → Bool
-is_blank octet = octet == 9 || (octet == 10 || (octet == 13 || octet == 32))
+is_blank octet = octet == 0x09 || (octet == 0x0a || (octet == 0x0d || octet == 0x20))
 
--- the value of a digit: `A` to `F` are 65 to 70, `a` to `f` are 97 to 102, `0` to `9` are 48 to 57
+-- the value of a digit, `A` to `F`, `a` to `f` or `0` to `9`
 abbrev pub digit_value : ℕ → Option ℕ
 digit_value octet =
-    if nat_le 65 octet && nat_le octet 70 then Some (octet - 55)
-    else if nat_le 97 octet && nat_le octet 102 then Some (octet - 87)
-    else if nat_le 48 octet && nat_le octet 57 then Some (octet - 48)
+    if nat_le 0x41 octet && nat_le octet 0x46 then Some (octet - 0x37)
+    else if nat_le 0x61 octet && nat_le octet 0x66 then Some (octet - 0x57)
+    else if nat_le 0x30 octet && nat_le octet 0x39 then Some (octet - 0x30)
     else None
 
 -- the high four bits of each octet, and the low four
@@ -32,4 +32,4 @@ lower_digit value = slice_index (codes "0123456789abcdef") value
 
 -- one line of digits in lower case
 abbrev pub line : List ℕ → List ℕ
-line octets = map lower_digit (halves octets) ++ 10 ∷ []
+line octets = map lower_digit (halves octets) ++ 0x0a ∷ []

@@ -77,7 +77,7 @@ number_in field low high d = do
 
 -- a lower-case ASCII letter, a digit or a hyphen
 abbrev pub is_name_character : ℕ → Bool
-is_name_character c = (nat_le 97 c && nat_le c 122) || (nat_le 48 c && nat_le c 57) || (c == 45)
+is_name_character c = (nat_le 0x61 c && nat_le c 0x7a) || (nat_le 0x30 c && nat_le c 0x39) || (c == 0x2d)
 
 -- 1 to 32 of these
 unfoldable pub is_name : List ℕ → Bool
