@@ -1,5 +1,6 @@
-ghost use Rattle.std.specs.Prelude.{◌≡◌, ◌⊎◌, ◌^◌, ◌<◌, ◌≤◌, List, ℕ, Err, IfOk, IfErr};
+ghost use Rattle.std.specs.Prelude.{◌≡◌, ◌⊎◌, ◌↔◌, ◌^◌, ◌<◌, ◌≤◌, None, Err, IfOk, IfErr};
 ghost use Rattle.der.specs.ObjectIdentifier.{IsOid, oid_text};
+ghost use Rattle.der.specs.OidText.{oid_of_text};
 ghost use Rattle.der.specs.declared.fault.DerFault.TheVariants.{BadValue};
 ghost use Rattle.gentime.specs.GenTime.{last_moment, round_down};
 
@@ -34,12 +35,11 @@ pub struct Settings {
 impl Settings {
     ghost use Rattle.counter.specs.Settings.{settings_value, States};
 
-    /// The settings that the words state. A policy that is no object identifier's text is refused as `der` 8, and want
-    /// of memory is `input` 7.
+    /// The settings that the words state. A policy that is no object identifier's text is refused as `der` 8, whatever
+    /// memory there is, and want of memory over another is `input` 7.
     pub fn of_words(alloc: Global, words: &TstWords<'_>) -> Result<Settings, Fault>
         ensures found { IfOk result (λ settings. States words.now (settings_value settings)) }
-        ensures refused { result ≡ Err (Fault.Der BadValue) → (oid : List ℕ) → IsOid oid
-            → words.now.policy.now ≡ oid_text oid → ⊥ }
+        ensures refused { (result ≡ Err (Fault.Der BadValue)) ↔ (oid_of_text words.now.policy.now ≡ None) }
         ensures faults { IfErr result (λ fault.
             (fault ≡ Fault.Der BadValue) ⊎ (fault ≡ Fault.Input InputFault.Memory)) }
     {
@@ -64,10 +64,11 @@ impl Settings {
     }
 }
 
-/// The object identifier of that text. Another text is refused as `der` 8, and want of memory is `input` 7.
+/// The object identifier of that text. Another text is refused as `der` 8, whatever memory there is, and want of memory
+/// over an object identifier's is `input` 7.
 fn parse_policy(alloc: Global, text: &str) -> Result<Oid, Fault>
     ensures found { IfOk result (λ oid. IsOid oid × (text.now ≡ oid_text oid)) }
-    ensures refused { result ≡ Err (Fault.Der BadValue) → (oid : List ℕ) → IsOid oid → text.now ≡ oid_text oid → ⊥ }
+    ensures refused { (result ≡ Err (Fault.Der BadValue)) ↔ (oid_of_text text.now ≡ None) }
     ensures faults { IfErr result (λ fault.
         (fault ≡ Fault.Der BadValue) ⊎ (fault ≡ Fault.Input InputFault.Memory)) }
 {
