@@ -18,8 +18,10 @@ pub returns-in_ok-write_reply-in-None-clause-reply : goal.returns-in_ok-write_re
 returns-in_ok-write_reply-in-None-clause-reply c =
     let query = c.args.query.now in
     let r = request_view c.in-Ok.request in
-    let only = only_request query r c.in-Ok.ensures.found c.in-Ok.ensures.short c.requests_have_one_reading.ensures.one in
-    granted (settings_value c.args.settings.now) query r c.in_ok-write_reply-in-None.field-0.items only c.in-None.ensures
+    let only = only_request query r c.in-Ok.ensures.found c.in-Ok.ensures.short
+    c.requests_have_one_reading.ensures.one in
+    granted (settings_value c.args.settings.now) query r c.in_ok-write_reply-in-None.field-0.items only
+    c.in-None.ensures
     c.in_ok-write_reply-in-None.ensures.text
 
 -- a TSTInfo is written only where each rule holds
@@ -28,7 +30,8 @@ returns-in_err-write_reply-in-None-clause-memory c =
     let failing = err_from_is_err_and c.from_residual.result c.from_residual.ensures.1 in
     let query = c.args.query.now in
     let r = request_view c.in-Ok.request in
-    let only = only_request query r c.in-Ok.ensures.found c.in-Ok.ensures.short c.requests_have_one_reading.ensures.one in
+    let only = only_request query r c.in-Ok.ensures.found c.in-Ok.ensures.short
+    c.requests_have_one_reading.ensures.one in
     rw failing.1
     (inr (
       failing.2 ∙ ap Tsp c.in_err-write_reply-in-None.ensures.memory,
@@ -39,7 +42,8 @@ pub returns-in_ok-write_rejection-in-Some-clause-reply : goal.returns-in_ok-writ
 returns-in_ok-write_rejection-in-Some-clause-reply c =
     let query = c.args.query.now in
     let r = request_view c.in-Ok.request in
-    let only = only_request query r c.in-Ok.ensures.found c.in-Ok.ensures.short c.requests_have_one_reading.ensures.one in
+    let only = only_request query r c.in-Ok.ensures.found c.in-Ok.ensures.short
+    c.requests_have_one_reading.ensures.one in
     rejected (settings_value c.args.settings.now) query c.in-Some.rule c.in_ok-write_rejection-in-Some.field-0.items
     (first_lifted query r only c.in-Some.rule c.in-Some.ensures)
     c.in_ok-write_rejection-in-Some.ensures.text
