@@ -1,15 +1,15 @@
 -- A certificate's and an algorithm's values are read as their parts, and what is read so is such a value.
-use Rattle.std.proofs.Common.{◌≡◌, ◌≢◌, ℕ, Bool, true, false, cond, ◌&&◌, List, Option, Some, None, refl, sym, ap, ◌∙◌}
+use Rattle.std.proofs.Common.{◌≡◌, ℕ, Bool, true, false, cond, ◌&&◌, List, Option, Some, None, refl, sym, ap, ◌∙◌}
 use Rattle.std.proofs.Common.{subst, eqb, arith}
-use Rattle.std.specs.Option.{option_and_then, option_map, is_some, IfSome, MatchOption}
+use Rattle.std.specs.Option.{option_map, is_some, IfSome, MatchOption}
 use Rattle.std.proofs.lemmas.Option.{option_and_then_some, cond_some, none-some, same_Some}
 use Rattle.std.proofs.lemmas.Bool.{eqb-true}
 use Rattle.der.specs.Node.{Node, primitive, constructed, Nodes, no_nodes, node, contents_of, components_of}
-use Rattle.der.specs.Node.{identifier_of, first_of, take_under, is_end, IsFormed, AreFormed, IsLawful, encoding}
+use Rattle.der.specs.Node.{identifier_of, first_of, IsFormed, AreFormed, IsLawful, encoding}
 use Rattle.der.specs.Number.{is_shortest}
 use Rattle.der.specs.ObjectIdentifier.{oid_of, oid_content, IsOid}
-use Rattle.cms.specs.Certificate.{CertificateParts, with_version, serial_number, issuer_name, after_serial}
-use Rattle.cms.specs.Certificate.{after_issuer, tbs_certificate, certificate, IsCertificate, optional}
+use Rattle.cms.specs.Certificate.{CertificateParts, with_version, serial_number, after_serial}
+use Rattle.cms.specs.Certificate.{after_issuer, certificate, IsCertificate, optional}
 use Rattle.cms.specs.Certificate.{algorithm_identifier, IsAlgorithm}
 use Rattle.cms.specs.Outline.{Outline, outline, sequence_at, serial_at, after_version, outline_of, is_optional}
 use Rattle.cms.specs.Outline.{algorithm_of}

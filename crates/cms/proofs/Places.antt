@@ -1,13 +1,13 @@
 -- Where a certificate's issuer and serial number stand in its octets.
 use Rattle.std.proofs.Common.{◌≡◌, ℕ, ◌+◌, ◌-◌, ◌≤◌, List, [], ◌∷◌, ◌++◌, Option, Some, None, length, take, drop}
-use Rattle.std.proofs.Common.{slice_range, refl, sym, ap, ◌∙◌, subst, append_assoc, arith}
+use Rattle.std.proofs.Common.{slice_range, refl, sym, ap, ◌∙◌, append_assoc, arith}
 use Rattle.std.proofs.lemmas.List.{length-append}
 use Rattle.std.proofs.Math.Seq.{take-append_seam, drop-append_seam}
-use Rattle.der.specs.Node.{Node, primitive, constructed, Nodes, no_nodes, node, encoding, encodings, length_octets}
-use Rattle.cms.specs.Place.{IsPlace, ArePlaces}
+use Rattle.der.specs.Node.{Node, constructed, Nodes, node, encoding, encodings, length_octets}
+use Rattle.cms.specs.Place.{IsPlace}
 use Rattle.cms.specs.declared.place.Place.{Place}
 use Rattle.cms.specs.Certificate.{CertificateParts, with_version, serial_number, issuer_name, after_serial}
-use Rattle.cms.specs.Certificate.{after_issuer, tbs_certificate, certificate}
+use Rattle.cms.specs.Certificate.{after_issuer, certificate}
 
 -- octets stand where those before and after them say
 pub slice_of_part : (whole front part back : List ℕ) (start end : ℕ) → whole ≡ front ++ (part ++ back)

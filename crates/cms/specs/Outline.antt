@@ -1,5 +1,5 @@
 -- Reading a certificate and an algorithm from values: the answer, or none where the value isn't of the grammar.
-use Rattle.std.specs.Prelude.{ℕ, ◌&&◌, if◌then◌else◌, true, false, Bool, List, Option, Some, None, option_and_then}
+use Rattle.std.specs.Prelude.{◌&&◌, if◌then◌else◌, true, Bool, Option, Some, None, option_and_then}
 use Rattle.std.specs.Prelude.{is_some}
 use Rattle.der.specs.Node.{Node, Nodes, no_nodes, node, contents_of, components_of, first_of, take_under, is_end}
 use Rattle.der.specs.Number.{is_shortest}

@@ -1,20 +1,20 @@
 -- Equal tables, up to the order of their rows, come from histories with equal views.
-use Rattle.std.proofs.Common.{◌≡◌, ℕ, ◌<◌, ◌≤◌, ◌+◌, ◌==◌, max, Bool, true, false, List, [], ◌∷◌, map, find, filter_map}
-use Rattle.std.proofs.Common.{Option, Some, None, option_map, refl, sym, ap, ◌∙◌, subst, subst₂, inl, inr, ◌⊎◌, arith}
+use Rattle.std.proofs.Common.{◌≡◌, ℕ, ◌<◌, ◌≤◌, ◌==◌, max, Bool, false, List, [], ◌∷◌, map, find, filter_map}
+use Rattle.std.proofs.Common.{Option, Some, None, option_map, refl, sym, ap, ◌∙◌, subst₂, inl, inr, arith}
 use Rattle.std.proofs.Common.{Contains, IsPermutation}
 use Rattle.std.proofs.lemmas.Bool.Decides.{eqb_tells}
 use Rattle.std.proofs.lemmas.List.Sorted.{Contains-permutation, IsPermutation-sym}
 use Rattle.std.proofs.Math.Nat.{le-max_left, le-max_right}
 use Rattle.std.specs.List.{AllByRecursion, list_any, range_with_len, cons_option}
-use Rattle.tables.specs.Tables.{StampRow, DepositRow, CalibrationRow, HoldRow, ReaderRow, Tables, is_stamp, is_deposit}
+use Rattle.tables.specs.Tables.{StampRow, DepositRow, CalibrationRow, HoldRow, is_stamp, is_deposit}
 use Rattle.tables.specs.Tables.{is_deposit_of, is_reader_row}
 use Rattle.store.specs.Alike.{HaveSameRows, AreAlike}
-use Rattle.store.specs.History.{History, ReservationValue, CalibrationValue, HoldValue, reservations, calibrations}
-use Rattle.store.specs.History.{holds, deposits, greatest_of, greatest_serial, last_gen_time, count_of_day}
-use Rattle.store.specs.History.{latest_calibration, is_held, token_of, stamp_of, stamps, stamp_at, reservation_at}
-use Rattle.store.specs.History.{stamps_between, deposit_at, deposit_under, is_of_day, first_of}
-use Rattle.store.specs.Rights.{is_reader, seen_by, listed, listed_at, listed_as, shown_to, deposit_with_stamp}
-use Rattle.store.specs.Sound.{IsSound, FitsReserved}
+use Rattle.store.specs.History.{History, ReservationValue, reservations, calibrations}
+use Rattle.store.specs.History.{holds, deposits, greatest_of, greatest_serial}
+use Rattle.store.specs.History.{token_of, stamp_of, stamps, stamp_at}
+use Rattle.store.specs.History.{deposit_at, deposit_under, first_of}
+use Rattle.store.specs.Rights.{is_reader, seen_by, listed, listed_at}
+use Rattle.store.specs.Sound.{IsSound}
 use Rattle.store.specs.TablesOf.{tables_of, calibration_row, hold_row}
 use Rattle.store.proofs.Members.{IsFalling, IsSingle, member_here, member_after, member_cases, no_member, all_of}
 use Rattle.store.proofs.Members.{some_pass, none_pass, fails_each, true_or_false, find_none, find_single, found_member}

@@ -1,13 +1,13 @@
 -- From the clauses of the tables to those of the store.
-use Rattle.std.proofs.Common.{◌≡◌, ◌⊎◌, ℕ, inl, inr, ◌∷◌, subst, sym, Result, Ok, Err, OnErr}
+use Rattle.std.proofs.Common.{◌≡◌, ◌⊎◌, inl, inr, ◌∷◌, subst, sym, Result, Ok, Err, OnErr}
 use Rattle.sqlite_trees.specs.Tree.{Trees}
 use Rattle.sqlite_trees.specs.declared.store.Store.{Ghosts}
 use Rattle.tables.specs.Tables.{Tables}
 use Rattle.sqlite.specs.Held.{state}
-use Rattle.tables.specs.Base.{BaseValue, IsHonest, IsOpen, Keeps, Recovers, Holds, StandsFor}
+use Rattle.tables.specs.Base.{BaseValue, IsHonest, Keeps, Recovers, Holds, StandsFor}
 use Rattle.tables.specs.Queries.{OnlyReads}
 use Rattle.store.specs.History.{Entry, History}
-use Rattle.store.specs.Sound.{Fits, IsSound}
+use Rattle.store.specs.Sound.{Fits}
 use Rattle.store.specs.TablesOf.{tables_of}
 use Rattle.store.specs.Stands.{Stands, OnlyLooks, LeavesOrAdds}
 

@@ -1,15 +1,15 @@
 -- From what the tables answer to what the look-ups of deposits answer.
-use Rattle.std.proofs.Common.{◌≡◌, ℕ, Bool, true, false, List, Option, Some, None, option_map, option_and_then, refl}
+use Rattle.std.proofs.Common.{◌≡◌, ℕ, List, Option, Some, None, option_map, refl}
 use Rattle.std.proofs.Common.{sym, ap, ◌∙◌, subst, string_bytes}
 use Rattle.tables.specs.Found.{IsFoundAs}
-use Rattle.tables.specs.Tables.{DepositRow, StampRow, is_stamp, is_deposit}
+use Rattle.tables.specs.Tables.{DepositRow, is_stamp, is_deposit}
 use Rattle.tables.specs.Queries.{ShowsStamp, ShowsDeposit, ShowsLabel, ShowsOrigin, stamp_view, deposit_view, is_owned}
 use Rattle.tables.specs.declared.rows.Stamp.{Stamp}
 use Rattle.tables.specs.declared.rows.Deposit.{Deposit}
 use Rattle.tables.specs.declared.rows.Label.{Label}
 use Rattle.tables.specs.declared.rows.Origin.{Origin}
 use Rattle.store.specs.History.{History, deposit_at, stamp_at}
-use Rattle.store.specs.Rights.{ListedValue, deposit_with_stamp}
+use Rattle.store.specs.Rights.{deposit_with_stamp}
 use Rattle.store.specs.Sound.{IsSound}
 use Rattle.store.specs.Steps.{IsAskedFor, IsOriginOf, listing_at}
 use Rattle.store.specs.TablesOf.{tables_of}

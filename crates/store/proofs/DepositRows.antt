@@ -1,7 +1,7 @@
 -- The deposits of the tables are the history's, each number once and each reference of an owner once.
-use Rattle.std.proofs.Common.{◌≡◌, ◌≢◌, ℕ, ◌<◌, ◌≤◌, ◌+◌, ◌==◌, ◌&&◌, ◌||◌, max, Bool, true, false, cond, List, [], ◌∷◌}
+use Rattle.std.proofs.Common.{◌≡◌, ℕ, ◌<◌, ◌≤◌, ◌==◌, ◌&&◌, ◌||◌, Bool, true, false, cond, List, [], ◌∷◌}
 use Rattle.std.proofs.Common.{map, find, Option, Some, None, option_map, option_and_then, refl, sym, ap, ◌∙◌, subst}
-use Rattle.std.proofs.Common.{inl, inr, ◌⊎◌, arith, Contains, string_bytes}
+use Rattle.std.proofs.Common.{inl, inr, arith, Contains, string_bytes}
 use Rattle.std.specs.Option.{is_some}
 use Rattle.std.specs.List.{list_any}
 use Rattle.std.specs.Str.{bytes_eq}
@@ -9,26 +9,25 @@ use Rattle.std.proofs.lemmas.Bool.{eqb-true, eq-eqb, ne_eqb}
 use Rattle.std.proofs.lemmas.Bool.Decides.{eqb_tells}
 use Rattle.std.proofs.lemmas.Slice.Eq.{bytes_eq-Decides}
 use Rattle.tables.specs.Found.{IsFoundAs}
-use Rattle.tables.specs.Tables.{Tables, StampRow, DepositRow, ReaderRow, is_stamp, is_deposit, is_deposit_of}
+use Rattle.tables.specs.Tables.{StampRow, DepositRow, is_stamp, is_deposit, is_deposit_of}
 use Rattle.tables.specs.Tables.{is_reader_row}
 use Rattle.tables.specs.Queries.{ShowsStamp, ShowsDeposit, ShowsLabel, ShowsOrigin, stamp_view, deposit_view, is_owned}
 use Rattle.tables.specs.declared.rows.Stamp.{Stamp}
 use Rattle.tables.specs.declared.rows.Deposit.{Deposit}
 use Rattle.tables.specs.declared.rows.Label.{Label}
 use Rattle.tables.specs.declared.rows.Origin.{Origin}
-use Rattle.store.specs.History.{Entry, Reserved, Sealed, Deposited, Calibrated, Held, Granted, Revoked, History}
-use Rattle.store.specs.History.{ReservationValue, reservations, reservation_at, greatest_of, greatest_serial, deposits}
+use Rattle.store.specs.History.{Reserved, Sealed, Deposited, Calibrated, Held, Granted, Revoked, History}
+use Rattle.store.specs.History.{ReservationValue, reservations, reservation_at, greatest_serial, deposits}
 use Rattle.store.specs.History.{deposit_at, deposit_under, token_of, stamp_of, stamps, stamp_at}
-use Rattle.store.specs.Rights.{is_reader, shown_to, seen_by, is_visible}
-use Rattle.store.specs.Sound.{Fits, FitsReserved, FitsSealed, FitsDeposited, FitsRight, IsSound, greatest_number}
+use Rattle.store.specs.Rights.{is_reader, shown_to, is_visible}
+use Rattle.store.specs.Sound.{IsSound, greatest_number}
 use Rattle.store.specs.TablesOf.{tables_of}
 use Rattle.store.proofs.Falling.{stamps_fall}
 use Rattle.store.proofs.Members.{IsSingle, IsSearchedAs, both_true, true_or_false, found_is_searched, found_member}
-use Rattle.store.proofs.Members.{find_single, find_none, none_pass, some_pass, fails_each, falling_single, member_cases}
+use Rattle.store.proofs.Members.{find_single, find_none, none_pass, some_pass, falling_single, member_cases}
 use Rattle.store.proofs.Members.{no_member}
 use Rattle.store.proofs.Readers.{key_is, readers_are}
 use Rattle.store.specs.Steps.{IsAskedFor, IsOriginOf, listing_at}
-use Rattle.store.specs.Rights.{ListedValue, listed_as}
 use Rattle.store.proofs.Stamps.{stamps_are, absent_above, unreserved}
 
 pub deposits_are : (b : History) → (tables_of b).deposits ≡ deposits b

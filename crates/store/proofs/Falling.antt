@@ -1,23 +1,20 @@
 -- Serial numbers fall along a history, newest entry first: look-ups of stamps in the tables are the history's.
-use Rattle.std.proofs.Common.{◌≡◌, ℕ, ◌<◌, ◌≤◌, ◌+◌, ◌==◌, max, Bool, true, false, List, [], ◌∷◌, map, find, Option}
-use Rattle.std.proofs.Common.{Some, None, option_map, refl, sym, ap, ◌∙◌, subst, inl, inr, arith, Contains}
+use Rattle.std.proofs.Common.{◌≡◌, ℕ, ◌<◌, ◌≤◌, max, List, [], ◌∷◌, map, Option}
+use Rattle.std.proofs.Common.{Some, None, option_map, refl, ap, subst, arith}
 use Rattle.std.specs.List.{AllByRecursion}
-use Rattle.std.proofs.lemmas.Bool.{eqb-true}
 use Rattle.std.proofs.Math.Nat.{le-max_left, le-max_right}
-use Rattle.tables.specs.Tables.{StampRow, Tables, is_stamp}
+use Rattle.tables.specs.Tables.{StampRow}
 use Rattle.tables.specs.Found.{IsGreatestAs}
 use Rattle.tables.specs.Queries.{ShowsLast}
 use Rattle.tables.specs.declared.rows.LastStamp.{LastStamp}
-use Rattle.store.specs.History.{Entry, Reserved, Sealed, Deposited, Calibrated, Held, Granted, Revoked, History}
-use Rattle.store.specs.History.{ReservationValue, reservations, reservation_at, greatest_of, greatest_serial}
-use Rattle.store.specs.History.{last_gen_time, token_of, stamp_of, stamps, first_of, stamp_at}
-use Rattle.store.specs.Sound.{Fits, FitsReserved, IsSound}
+use Rattle.store.specs.History.{Reserved, Sealed, Deposited, Calibrated, Held, Granted, Revoked, History}
+use Rattle.store.specs.History.{ReservationValue, reservations, greatest_of}
+use Rattle.store.specs.History.{token_of, stamp_of, stamps, first_of}
+use Rattle.store.specs.Sound.{IsSound}
 use Rattle.store.specs.TablesOf.{tables_of}
 use Rattle.store.specs.Values.{last_of}
 use Rattle.store.specs.Steps.{last_from}
-use Rattle.store.specs.declared.values.Last.{Last}
-use Rattle.store.proofs.Members.{IsFalling, IsFirstAs, falling_map, greatest_is_first, member_cases, all_of}
-use Rattle.store.proofs.Members.{falling_single, IsSingle}
+use Rattle.store.proofs.Members.{IsFalling, IsFirstAs, falling_map, greatest_is_first}
 use Rattle.store.proofs.Stamps.{stamps_are}
 
 -- none has a serial number above the greatest

@@ -1,6 +1,6 @@
 -- A walk from one visible deposit to the next lists all of them, by number.
 use Rattle.std.proofs.Common.{◌≡◌, ℕ, zero, suc, ◌<◌, ◌≤◌, ◌+◌, ◌-◌, ◌==◌, ◌&&◌, ◌||◌, min, nat_lt, Bool, true, false}
-use Rattle.std.proofs.Common.{cond, List, [], ◌∷◌, ◌++◌, filter_map, find, Option, Some, None, option_map}
+use Rattle.std.proofs.Common.{cond, List, [], ◌∷◌, ◌++◌, filter_map, Option, Some, None, option_map}
 use Rattle.std.proofs.Common.{option_and_then, option_to_list, refl, sym, ap, ◌∙◌, subst, inl, inr, ◌⊎◌, arith}
 use Rattle.std.proofs.Common.{Contains, IfSome}
 use Rattle.std.specs.Option.{is_some}
@@ -9,9 +9,9 @@ use Rattle.std.specs.Str.{bytes_eq}
 use Rattle.std.proofs.lemmas.Bool.{eqb-true, eq-eqb, ltb-true, ltb-false, lt-ltb}
 use Rattle.std.proofs.lemmas.List.Elements.{filter_map-append}
 use Rattle.tables.specs.Found.{IsLeastAs}
-use Rattle.tables.specs.Tables.{Tables, DepositRow, ReaderRow, is_reader_row}
+use Rattle.tables.specs.Tables.{DepositRow, ReaderRow, is_reader_row}
 use Rattle.tables.specs.Queries.{ShowsDepositSerial, ShowsReaderSerial, is_owned, is_owned_after, is_readable_after}
-use Rattle.store.specs.History.{History, ReservationValue, deposit_at, reservation_at, greatest_serial}
+use Rattle.store.specs.History.{History, deposit_at, reservation_at, greatest_serial}
 use Rattle.store.specs.Rights.{ListedValue, listed_as, is_reader, shown_to, seen_by, is_visible, listed_at, listed}
 use Rattle.store.specs.Sound.{IsSound}
 use Rattle.store.specs.Steps.{IsNextSeen, IsNextReadable, least_of, later_of, listing_at}

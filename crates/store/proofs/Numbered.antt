@@ -1,12 +1,12 @@
 -- Calibrations and holds are numbered in the order of their entries, so the greatest number is the newest's.
-use Rattle.std.proofs.Common.{◌≡◌, ℕ, suc, ◌<◌, ◌≤◌, ◌+◌, ◌||◌, Bool, true, false, ℤ, List, [], ◌∷◌, map, length}
+use Rattle.std.proofs.Common.{◌≡◌, ℕ, suc, ◌<◌, ◌+◌, ◌||◌, Bool, ℤ, List, [], ◌∷◌, length}
 use Rattle.std.proofs.Common.{Option, Some, None, option_map, refl, sym, ap, ◌∙◌, subst, arith}
 use Rattle.std.specs.List.{AllByRecursion, list_any}
-use Rattle.tables.specs.Tables.{CalibrationRow, HoldRow, Tables, with_hold, with_calibration}
+use Rattle.tables.specs.Tables.{CalibrationRow, HoldRow, with_hold, with_calibration}
 use Rattle.tables.specs.Found.{IsGreatestAs}
 use Rattle.tables.specs.Queries.{ShowsCalibration, ShowsNumber, holds_at}
 use Rattle.tables.specs.declared.rows.LatestCalibration.{LatestCalibration}
-use Rattle.store.specs.History.{Entry, Reserved, Sealed, Deposited, Calibrated, Held, Granted, Revoked, History}
+use Rattle.store.specs.History.{Reserved, Sealed, Deposited, Calibrated, Held, Granted, Revoked, History}
 use Rattle.store.specs.History.{CalibrationValue, HoldValue, calibrations, holds, latest_calibration, is_held, first_of}
 use Rattle.store.specs.Steps.{calibration_from, next_number}
 use Rattle.store.specs.TablesOf.{tables_of, calibration_row, hold_row}

@@ -1,6 +1,6 @@
 -- The reader rows of the tables are the current readers, each once.
-use Rattle.std.proofs.Common.{◌≡◌, ◌≢◌, ℕ, ◌==◌, ◌&&◌, ◌||◌, not, Bool, true, false, cond, List, [], ◌∷◌, map, filter}
-use Rattle.std.proofs.Common.{refl, sym, ap, ◌∙◌, subst, inl, inr, ◌⊎◌, Some, Option, Result, OnOk, Ok, Err}
+use Rattle.std.proofs.Common.{◌≡◌, ℕ, ◌==◌, ◌&&◌, not, Bool, true, false, List, [], ◌∷◌, filter}
+use Rattle.std.proofs.Common.{refl, sym, ap, ◌∙◌, subst, inl, inr}
 use Rattle.std.proofs.Common.{IsPermutation}
 use Rattle.std.specs.List.{list_any}
 use Rattle.std.specs.Str.{bytes_eq}
@@ -14,9 +14,9 @@ use Rattle.sqlite_trees.specs.Tree.{Trees}
 use Rattle.sqlite_trees.specs.declared.store.Store.{Ghosts}
 use Rattle.sqlite.specs.State.{State}
 use Rattle.tables.specs.Base.{BaseValue, Keeps, StandsFor}
-use Rattle.tables.specs.Holding.{Holds, AreRows, reader_cells}
+use Rattle.tables.specs.Holding.{Holds, reader_cells}
 use Rattle.tables.specs.Tables.{Tables, ReaderRow, is_reader_row, with_reader, without_reader}
-use Rattle.store.specs.History.{Entry, Reserved, Sealed, Deposited, Calibrated, Held, Granted, Revoked, History}
+use Rattle.store.specs.History.{Reserved, Sealed, Deposited, Calibrated, Held, Granted, Revoked, History}
 use Rattle.store.specs.Rights.{is_reader}
 use Rattle.store.specs.TablesOf.{tables_of}
 use Rattle.store.proofs.Members.{both_true, neither_true, true_or_false}

@@ -1,14 +1,14 @@
 -- The stamps of the tables are the reservations with their tokens, newest first, by falling serial numbers.
-use Rattle.std.proofs.Common.{◌≡◌, ◌≢◌, ℕ, ◌<◌, ◌≤◌, ◌+◌, ◌==◌, max, Bool, true, false, cond, List, [], ◌∷◌, map, find}
-use Rattle.std.proofs.Common.{Option, Some, None, option_map, refl, sym, ap, ◌∙◌, subst, inl, inr, ◌⊎◌, arith}
-use Rattle.std.proofs.lemmas.Bool.{eqb-true, eq-eqb, ne_eqb}
+use Rattle.std.proofs.Common.{◌≡◌, ℕ, ◌<◌, ◌≤◌, ◌==◌, max, false, cond, List, [], ◌∷◌, map, find}
+use Rattle.std.proofs.Common.{Option, Some, None, refl, sym, ap, ◌∙◌, subst, inl, inr, arith}
+use Rattle.std.proofs.lemmas.Bool.{eq-eqb, ne_eqb}
 use Rattle.std.proofs.lemmas.Bool.Decides.{eqb_tells}
 use Rattle.std.proofs.Math.Nat.{le-max_left, le-max_right}
-use Rattle.tables.specs.Tables.{StampRow, DepositRow, Tables, sealed_row}
-use Rattle.store.specs.History.{Entry, Reserved, Sealed, Deposited, Calibrated, Held, Granted, Revoked, History}
-use Rattle.store.specs.History.{ReservationValue, reservations, reservation_at, greatest_of, greatest_serial, token_of}
+use Rattle.tables.specs.Tables.{sealed_row}
+use Rattle.store.specs.History.{Reserved, Sealed, Deposited, Calibrated, Held, Granted, Revoked, History}
+use Rattle.store.specs.History.{ReservationValue, reservations, reservation_at, greatest_of, token_of}
 use Rattle.store.specs.History.{stamp_of, stamps}
-use Rattle.store.specs.Sound.{Fits, FitsReserved, FitsSealed, FitsDeposited, IsSound}
+use Rattle.store.specs.Sound.{FitsReserved, FitsSealed, IsSound}
 use Rattle.store.specs.TablesOf.{tables_of}
 
 pub eqb_comm : (a b : ℕ) → (a == b) ≡ (b == a)

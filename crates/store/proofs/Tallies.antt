@@ -1,20 +1,19 @@
 -- The tallies count the reservations of an account on a day.
-use Rattle.std.proofs.Common.{◌≡◌, ℕ, ◌<◌, ◌≤◌, ◌+◌, ◌==◌, ◌&&◌, ◌||◌, Bool, true, false, cond, List, [], ◌∷◌, map}
-use Rattle.std.proofs.Common.{Option, Some, None, refl, sym, ap, ◌∙◌, subst, inl, inr, ◌⊎◌, arith, Contains, unwrap_or}
-use Rattle.std.proofs.Common.{count_by}
-use Rattle.std.specs.List.{AllByRecursion, list_any}
+use Rattle.std.proofs.Common.{◌≡◌, ℕ, ◌+◌, ◌==◌, ◌&&◌, ◌||◌, Bool, true, false, cond, List, [], ◌∷◌, map}
+use Rattle.std.proofs.Common.{Option, Some, None, refl, sym, ap, ◌∙◌, subst, inl, inr, arith, Contains, unwrap_or}
+use Rattle.std.specs.List.{list_any}
 use Rattle.std.specs.Str.{bytes_eq}
 use Rattle.std.proofs.lemmas.Bool.{eqb-true, eq-eqb}
 use Rattle.std.proofs.lemmas.Slice.Eq.{bytes_eq-Decides}
 use Rattle.std.proofs.lemmas.List.Sums.{sum_by-cons}
-use Rattle.tables.specs.Tables.{StampRow, TallyRow, Tables, is_tally_of, raised_row, with_one_more}
+use Rattle.tables.specs.Tables.{TallyRow, is_tally_of, raised_row, with_one_more}
 use Rattle.tables.specs.Found.{IsFoundAs}
 use Rattle.tables.specs.Queries.{ShowsCount}
-use Rattle.store.specs.History.{Entry, Reserved, Sealed, Deposited, Calibrated, Held, Granted, Revoked, History}
-use Rattle.store.specs.History.{ReservationValue, reservations, day_of, is_of_day, count_of_day, stamp_of}
+use Rattle.store.specs.History.{Reserved, Sealed, Deposited, Calibrated, Held, Granted, Revoked, History}
+use Rattle.store.specs.History.{reservations, day_of, is_of_day, count_of_day}
 use Rattle.store.specs.TablesOf.{tables_of}
-use Rattle.store.proofs.Members.{all_of, each_of, both_true, neither_true, true_or_false, none_pass, fails_each}
-use Rattle.store.proofs.Members.{member_here, member_after, member_cases, some_pass}
+use Rattle.store.proofs.Members.{both_true, neither_true, true_or_false, none_pass, fails_each}
+use Rattle.store.proofs.Members.{member_here, member_after, member_cases}
 
 -- a test of a key is passed by that key alone
 key_is : (a : List ℕ) (d : ℕ) (x : List ℕ) (n : ℕ) → (bytes_eq x a && (n == d)) ≡ true → (x ≡ a) × (n ≡ d)

@@ -1,6 +1,6 @@
 -- The walk of a list, one visible deposit after the other.
-use Rattle.std.proofs.Common.{◌≡◌, ℕ, ◌<◌, ◌^◌, IfSome, List, [], ◌∷◌, ◌++◌, map, Option, Some, None, option_map}
-use Rattle.std.proofs.Common.{option_to_list, refl, sym, ap, ◌∙◌, subst}
+use Rattle.std.proofs.Common.{◌≡◌, ℕ, ◌<◌, ◌^◌, IfSome, List, [], ◌++◌, Option, Some, None, option_map}
+use Rattle.std.proofs.Common.{option_to_list, refl, sym, ap, ◌∙◌}
 use Rattle.sqlite_trees.specs.declared.store.Store.{Ghosts}
 use Rattle.tables.specs.Base.{BaseValue, IsHonest, IsOpen}
 use Rattle.store.specs.History.{History}

@@ -1,5 +1,5 @@
 -- The store's refusals, their numbers, and the count of those that the database gave for another cause than memory.
-use Rattle.std.specs.Prelude.{◌≡◌, ◌≢◌, ℕ, ◌+◌, ◌%◌, ◌^◌}
+use Rattle.std.specs.Prelude.{ℕ}
 use Rattle.tables.specs.declared.fault.TableFault.{TableFault}
 use Rattle.tables.specs.declared.fault.TableFault.TheVariants as table
 use Rattle.tables.specs.declared.fault.OpenFault.{OpenFault}

@@ -1,6 +1,6 @@
 -- The history of what the counter accepted, newest entry first, and what it says: views are filters and searches of
 -- this one list.
-use Rattle.std.specs.Prelude.{ℕ, ◌+◌, ◌-◌, ◌/◌, ◌==◌, ◌&&◌, max, nat_le, ℤ, int_le, int_lt, Bool, true, false, List, []}
+use Rattle.std.specs.Prelude.{ℕ, ◌/◌, ◌==◌, ◌&&◌, max, nat_le, ℤ, int_le, int_lt, Bool, List, []}
 use Rattle.std.specs.Prelude.{◌∷◌, map, filter, filter_map, find, count_by, reverse, Option, Some, None, option_map}
 use Rattle.std.specs.Prelude.{if◌then◌else◌}
 use Rattle.std.specs.List.{list_any}

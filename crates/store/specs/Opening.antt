@@ -1,5 +1,4 @@
 -- What the store at a path stands for once it is opened, and what it leaves in its files once it is closed.
-use Rattle.std.specs.Prelude.{List}
 use Rattle.sqlite_disk.specs.declared.Disk.{Ghosts}
 use Rattle.sqlite_disk.specs.declared.Files.{Files}
 use Rattle.sqlite_trees.specs.Tree.{Trees}

@@ -1,9 +1,9 @@
 -- Which entries fit a history, and sound histories: what the counter may accept, of what the history alone says. What
 -- it says of DER texts and hashes stands above.
-use Rattle.std.specs.Prelude.{◌≡◌, ℕ, ◌<◌, ◌≤◌, ◌^◌, ◌<ℤ◌, List, [], ◌∷◌, Option, Some, None}
+use Rattle.std.specs.Prelude.{◌≡◌, ℕ, ◌<◌, ◌≤◌, ◌<ℤ◌, [], ◌∷◌, Option, Some, None}
 use Rattle.tables.specs.Tables.{DepositRow}
 use Rattle.store.specs.History.{Entry, Reserved, Sealed, Deposited, Calibrated, Held, Granted, Revoked, History}
-use Rattle.store.specs.History.{ReservationValue, CalibrationValue, HoldValue, greatest_serial, token_of}
+use Rattle.store.specs.History.{ReservationValue, CalibrationValue, greatest_serial, token_of}
 use Rattle.store.specs.History.{reservation_at, deposit_at, deposit_under}
 
 -- a fact of each entry and the history before it

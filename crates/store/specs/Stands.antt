@@ -1,5 +1,5 @@
 -- Which histories a store stands for, and what its calls leave.
-use Rattle.std.specs.Prelude.{◌≡◌, ◌≢◌, ◌⊎◌, ℕ, ◌<◌, ◌∷◌}
+use Rattle.std.specs.Prelude.{◌⊎◌, ◌∷◌}
 use Rattle.sqlite_trees.specs.Tree.{Trees}
 use Rattle.sqlite_trees.specs.declared.store.Store.{Ghosts}
 use Rattle.tables.specs.Base.{BaseValue, IsHonest, Keeps, Recovers, Holds}

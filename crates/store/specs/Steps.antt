@@ -1,5 +1,5 @@
 -- What the calls make of a look-up's answer: stepping stones, no definitions.
-use Rattle.std.specs.Prelude.{◌≡◌, ◌⊎◌, ℕ, ◌+◌, ◌<◌, min, nat_lt, if◌then◌else◌, Bool, true, false, List, Option, Some}
+use Rattle.std.specs.Prelude.{◌≡◌, ◌⊎◌, ℕ, ◌+◌, ◌<◌, min, nat_lt, if◌then◌else◌, true, false, List, Option, Some}
 use Rattle.std.specs.Prelude.{None, option_map, option_and_then, string_bytes}
 use Rattle.tables.specs.declared.rows.LastStamp.{LastStamp}
 use Rattle.tables.specs.declared.rows.LatestCalibration.{LatestCalibration}

@@ -1,5 +1,5 @@
 -- The tables of a history: for each entry one small step.
-use Rattle.std.specs.Prelude.{ℕ, ◌+◌, List, [], ◌∷◌, length, None}
+use Rattle.std.specs.Prelude.{ℕ, ◌+◌, [], ◌∷◌, length, None}
 use Rattle.tables.specs.Tables.{Tables, no_rows, with_stamp, with_token, with_deposit, with_calibration, with_hold}
 use Rattle.tables.specs.Tables.{with_reader, without_reader, CalibrationRow, HoldRow}
 use Rattle.store.specs.History.{Entry, Reserved, Sealed, Deposited, Calibrated, Held, Granted, Revoked, History}

@@ -1,15 +1,12 @@
 -- What a query makes of a connection that keeps tables.
-use Rattle.std.proofs.Common.{◌≡◌, ℕ, false, IsTrue, refl, sym, ap, ◌∙◌, subst}
-use Rattle.sqlite_trees.specs.Tree.{Trees}
+use Rattle.std.proofs.Common.{◌≡◌, false, sym, ap, ◌∙◌, subst}
 use Rattle.sqlite_trees.specs.declared.store.Store.{Ghosts}
 use Rattle.sqlite.specs.Effect.{Database}
-use Rattle.sqlite.specs.State.{State, HasCleanDisk}
-use Rattle.sqlite.specs.Held.{Held, state}
+use Rattle.sqlite.specs.Held.{state}
 use Rattle.tables.specs.Asking.{Looks}
-use Rattle.tables.specs.Base.{BaseValue, IsHonest, IsOpen, Keeps, StandsFor}
+use Rattle.tables.specs.Base.{BaseValue, IsHonest, IsOpen, Keeps}
 use Rattle.tables.specs.Holding.{Holds, IsDatabaseOf}
 use Rattle.tables.specs.Queries.{OnlyReads}
-use Rattle.tables.specs.Schema.{the_schema}
 use Rattle.tables.specs.Tables.{Tables}
 
 -- it leaves what the tables are

@@ -1,7 +1,6 @@
 -- A transaction that ends in a commit.
-use Rattle.std.proofs.Common.{◌≡◌, ◌⊎◌, [], ℕ, true, false, Result, Ok, Err, OnOk, OnErr, IfErr, IsTrue, refl, sym, ap}
+use Rattle.std.proofs.Common.{◌≡◌, [], true, false, Result, Ok, Err, OnOk, OnErr, IfErr, IsTrue, refl, sym}
 use Rattle.std.proofs.Common.{◌∙◌, subst, inl, inr, arith}
-use Rattle.sqlite_trees.specs.Tree.{Trees}
 use Rattle.sqlite_trees.specs.declared.store.Store.{Ghosts}
 use Rattle.sqlite.specs.declared.error.Error.{Error}
 use Rattle.sqlite.specs.Effect.{Database}

@@ -1,12 +1,11 @@
 -- Statements in turn, and the tally of a stamp.
 use Rattle.std.proofs.Common.{◌≡◌, ◌≢◌, ◌+◌, ◌||◌, ℕ, Bool, true, false, cond, List, [], ◌∷◌, map, filter, length}
-use Rattle.std.proofs.Common.{Result, Ok, Err, OnOk, IsTrue, refl, sym, ap, ◌∙◌, subst, inl, inr, arith}
+use Rattle.std.proofs.Common.{Result, Ok, Err, OnOk, IsTrue, refl, sym, ap, ◌∙◌, subst, arith}
 use Rattle.std.specs.List.{list_any}
-use Rattle.sqlite_trees.specs.Tree.{Trees}
 use Rattle.sqlite.specs.declared.error.Error.{Error}
-use Rattle.sqlite.specs.State.{State, HasCleanDisk, Survives, KeepsCommit}
+use Rattle.sqlite.specs.State.{State, HasCleanDisk, KeepsCommit}
 use Rattle.sqlite.proofs.StateLemmas.{survives_then}
-use Rattle.tables.specs.Tables.{Tables, TallyRow, is_tally_of, raised_row, with_one_more}
+use Rattle.tables.specs.Tables.{Tables, TallyRow, is_tally_of, raised_row}
 use Rattle.tables.specs.Steps.{with_raised, with_first_tally, with_count}
 use Rattle.tables.specs.Holding.{IsDatabaseOf}
 use Rattle.tables.specs.Carrying.{Goes, Carries}

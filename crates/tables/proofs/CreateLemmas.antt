@@ -1,21 +1,19 @@
 -- The batch that makes the tables, statement by statement.
-use Rattle.std.proofs.Common.{◌≡◌, ◌≢◌, ◌⊎◌, ℕ, zero, suc, ◌+◌, ◌-◌, pos, Bool, true, false, List, [], ◌∷◌, ◌++◌, codes}
-use Rattle.std.proofs.Common.{length, take, drop, map, Option, None, Some, Result, Ok, Err, OnOk, IsTrue, refl, sym, ap}
-use Rattle.std.proofs.Common.{◌∙◌, subst, subst₂, inl, inr, append-nil, arith}
+use Rattle.std.proofs.Common.{◌≡◌, ◌⊎◌, ℕ, suc, ◌-◌, pos, Bool, true, false, List, [], ◌∷◌, codes}
+use Rattle.std.proofs.Common.{take, drop, Option, None, Some, Result, Ok, Err, OnOk, IsTrue, refl, sym, ap}
+use Rattle.std.proofs.Common.{◌∙◌, subst, subst₂, inl, inr, arith}
 use Rattle.std.proofs.lemmas.Bool.{cases_Bool}
 use Rattle.std.proofs.lemmas.List.Sorted.{IsPermutation-refl}
-use Rattle.std.specs.List.{AllByRecursion}
 use Rattle.sqlite_value.specs.declared.value.Value.TheVariants.{Null, Int}
 use Rattle.sqlite_value.specs.Order.{Row}
 use Rattle.sqlite_trees.specs.Tree.{Trees}
 use Rattle.sqlite_trees.specs.declared.store.Store.{Ghosts}
-use Rattle.sqlite_sql.specs.Term.{Term, lit, col}
+use Rattle.sqlite_sql.specs.Term.{Term, lit}
 use Rattle.sqlite_schema.specs.declared.schema.Table.{Table}
 use Rattle.sqlite_schema.specs.declared.schema.Schema.{Schema}
 use Rattle.sqlite_schema.specs.declared.command.Command.{Command}
 use Rattle.sqlite_schema.specs.declared.command.Command.TheVariants.{CreateTable, Insert}
 use Rattle.sqlite_schema.specs.declared.command.Source.TheVariants.{Values}
-use Rattle.sqlite_syntax.specs.Lex.{past_semi}
 use Rattle.sqlite_resolve.specs.Compile.{table_defined_by}
 use Rattle.sqlite_catalog.specs.Change.{created, next_tree, KeepsRows}
 use Rattle.sqlite_rules.specs.declared.error.Rowids.TheVariants.{Chosen}
@@ -23,20 +21,20 @@ use Rattle.sqlite_rules.specs.Edit.{edit_of, next_rowid}
 use Rattle.sqlite_tied.specs.Compute.{everything}
 use Rattle.sqlite.specs.declared.error.Error.{Error}
 use Rattle.sqlite.specs.Effect.{Database, value_rows}
-use Rattle.sqlite.specs.Batch.{Step, Stops, RunInTurn, ExecutesAllInside, first_len}
+use Rattle.sqlite.specs.Batch.{Stops, RunInTurn, ExecutesAllInside, first_len}
 use Rattle.sqlite.specs.Clock.{timed}
 use Rattle.sqlite.specs.Does.{Tally, Does, lacks_sequence}
 use Rattle.sqlite.specs.Held.{Held, state}
 use Rattle.sqlite.specs.Listing.{understood}
-use Rattle.sqlite.specs.State.{State, HasCleanDisk, Survives, KeepsCommit, Runs, Writes, ExecutesIn, text_of}
-use Rattle.sqlite.specs.State.{shows_rows, mode_of}
+use Rattle.sqlite.specs.State.{State, HasCleanDisk, Survives, KeepsCommit, Runs, ExecutesIn, text_of}
+use Rattle.sqlite.specs.State.{shows_rows}
 use Rattle.sqlite.proofs.Callers.{IsPlain, command_of, statement_of}
 use Rattle.tables.specs.Statements.{make_all}
 use Rattle.tables.specs.Schema.{the_schema, no_schema, schema_after, placed, meta, stamp, calibration, hold, deposit}
 use Rattle.tables.specs.Schema.{reader, tally}
-use Rattle.tables.specs.Tables.{Tables, no_rows}
+use Rattle.tables.specs.Tables.{no_rows}
 use Rattle.tables.specs.Carrying.{GoesFrom, CarriesFrom}
-use Rattle.tables.specs.Holding.{AreRows, Holds, IsDatabaseOf, version_cells, stamp_cells, calibration_cells}
+use Rattle.tables.specs.Holding.{AreRows, IsDatabaseOf, version_cells, stamp_cells, calibration_cells}
 use Rattle.tables.specs.Holding.{hold_cells, deposit_cells, reader_cells, tally_cells}
 use Rattle.tables.proofs.WriteLemmas.{plain_mode, inserts}
 use Rattle.tables.proofs.InsertLemmas.{cast_int, cast_null, idle}

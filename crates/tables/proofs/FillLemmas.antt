@@ -1,6 +1,6 @@
 -- The row of `meta` in any schema where the table has just been made.
-use Rattle.std.proofs.Common.{◌≡◌, ◌≢◌, ◌⊎◌, ℕ, ◌+◌, Bool, true, false, not, ◌||◌, if◌then◌else◌, List, [], ◌∷◌, ◌++◌}
-use Rattle.std.proofs.Common.{codes, None, Some, Option, Result, Ok, Err, refl, sym, ap, ◌∙◌, subst, inl, inr}
+use Rattle.std.proofs.Common.{◌≡◌, ℕ, ◌+◌, if◌then◌else◌, List, [], ◌∷◌}
+use Rattle.std.proofs.Common.{codes, None, Option, Ok, Err, refl, ap, ◌∙◌}
 use Rattle.sqlite_ast.specs.declared.Rows.{Rows}
 use Rattle.sqlite_ast.specs.declared.Rows.TheVariants as rows
 use Rattle.std.specs.Prelude.{unwrap_or, option_map, option_and_then, slice_get}

@@ -1,10 +1,8 @@
 -- The statements that add a row, over the schema.
-use Rattle.std.proofs.Common.{◌≡◌, ◌≢◌, ℕ, ℤ, pos, Bool, true, false, cond, List, [], ◌∷◌, slice_get, Option, Some}
-use Rattle.std.proofs.Common.{None, Ok, Result, IsTrue, refl, sym, ap, ◌∙◌, subst, arith}
-use Rattle.std.specs.List.{AllByRecursion}
+use Rattle.std.proofs.Common.{◌≡◌, ℕ, ℤ, pos, Bool, true, false, cond, List, [], ◌∷◌}
+use Rattle.std.proofs.Common.{None, Result, IsTrue, refl, arith}
 use Rattle.sqlite_value.specs.declared.value.Value.{Value}
 use Rattle.sqlite_value.specs.declared.value.Value.TheVariants.{Null, Int, Text, Blob}
-use Rattle.sqlite_value.specs.Keys.{plain}
 use Rattle.sqlite_value.specs.Order.{Row}
 use Rattle.sqlite_trees.specs.Tree.{Trees}
 use Rattle.sqlite_sql.specs.Ops.{unary}
@@ -15,9 +13,8 @@ use Rattle.sqlite_schema.specs.declared.command.Command.TheVariants.{Insert}
 use Rattle.sqlite_schema.specs.declared.command.Source.TheVariants.{Values}
 use Rattle.sqlite_rules.specs.Cast.{cast}
 use Rattle.sqlite_rules.specs.declared.error.Rowids.TheVariants.{Chosen}
-use Rattle.sqlite_rules.specs.Edit.{Edit, edit_of, Applies, next_rowid}
-use Rattle.sqlite.specs.Effect.{Database, value_rows}
-use Rattle.sqlite.specs.Does.{Tally, Does}
+use Rattle.sqlite_rules.specs.Edit.{edit_of, next_rowid}
+use Rattle.sqlite.specs.Effect.{value_rows}
 use Rattle.sqlite_tied.specs.Compute.{everything}
 use Rattle.sqlite.specs.declared.error.Error.{Error}
 use Rattle.sqlite.specs.Listing.{understood}
@@ -29,12 +26,12 @@ use Rattle.tables.specs.Statements.{first_tally}
 use Rattle.tables.specs.Schema.{the_schema, stamp, calibration, hold, deposit, reader, tally, placed}
 use Rattle.tables.specs.Tables.{Tables, StampRow, CalibrationRow, HoldRow, DepositRow, ReaderRow, TallyRow}
 use Rattle.tables.specs.Tables.{with_calibration, with_hold, with_deposit}
-use Rattle.tables.specs.Holding.{AreRows, Holds, IsDatabaseOf, stamp_cells, calibration_cells, hold_cells}
+use Rattle.tables.specs.Holding.{stamp_cells, calibration_cells, hold_cells}
 use Rattle.tables.specs.Holding.{deposit_cells, reader_cells, tally_cells}
 use Rattle.tables.proofs.CarryLemmas.{carried, Makes}
 use Rattle.tables.proofs.FrameLemmas.{with_stamps, with_calibrations, with_holds, with_deposits, with_readers}
 use Rattle.tables.proofs.FrameLemmas.{with_tallies}
-use Rattle.tables.proofs.WriteLemmas.{IsIdle, plain_mode, its_table, before, inserts}
+use Rattle.tables.proofs.WriteLemmas.{IsIdle, inserts}
 use Rattle.tables.proofs.ChangeLemmas.{inserted}
 
 either : (b : Bool) (x : Value) → cond b x x ≡ x

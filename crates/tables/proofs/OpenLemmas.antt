@@ -1,10 +1,9 @@
 -- Whether tables are ours.
-use Rattle.std.proofs.Common.{◌≡◌, ◌⊎◌, codes, ℕ, ◌+◌, None, Option, pos, true, false, List, [], ◌∷◌, map, filter}
-use Rattle.std.proofs.Common.{length, Result, Ok, Err, IfErr, IfOk, OnOk, IsTrue, refl, sym, ap, ◌∙◌, subst, inl, inr}
-use Rattle.std.proofs.Common.{IsPermutation, arith}
+use Rattle.std.proofs.Common.{◌≡◌, codes, ℕ, ◌+◌, None, Option, pos, true, false, List, [], ◌∷◌}
+use Rattle.std.proofs.Common.{Result, Ok, Err, IfErr, IfOk, refl, sym, ◌∙◌, subst, inl, inr}
+use Rattle.std.proofs.Common.{arith}
 use Rattle.sqlite_value.specs.declared.value.Value.TheVariants.{Int}
 use Rattle.sqlite_value.specs.Order.{Row}
-use Rattle.sqlite_trees.specs.Tree.{Trees}
 use Rattle.sqlite_trees.specs.declared.error.StoreError.{StoreError}
 use Rattle.sqlite_trees.specs.declared.error.StoreError.TheVariants.{OutOfMemory, Io, Corrupt, Full, Broken, Unstorable}
 use Rattle.sqlite_sql.specs.Term.{col}
@@ -27,12 +26,12 @@ use Rattle.sqlite_resolve.specs.Lowering.{Checked, and_then}
 use Rattle.sqlite_resolve.specs.Compile.{first, compiled, planned, meaning, returning, timed, small, with_command}
 use Rattle.std.proofs.lemmas.Bool.{cases_Bool}
 use Rattle.sqlite.specs.State.{State, HasCleanDisk, Survives, IsUnchanged, IsNotRun, store_error}
-use Rattle.sqlite.proofs.Callers.{IsPlain, command_of, one_permutation}
+use Rattle.sqlite.proofs.Callers.{command_of, one_permutation}
 use Rattle.tables.specs.Schema.{the_schema}
 use Rattle.tables.specs.Tables.{Tables}
 use Rattle.tables.specs.Holding.{IsDatabaseOf, version_cells}
 use Rattle.tables.specs.Asking.{IsQueryText, IsPlainIn, TellsRows, Looks}
-use Rattle.tables.specs.Opening.{all_columns, version_query, IsUnderstood, IsFound}
+use Rattle.tables.specs.Opening.{all_columns, version_query, IsUnderstood}
 use Rattle.tables.proofs.ReadLemmas.{program_of, no_limit, passes, shows, answered}
 use Rattle.tables.proofs.ChangeLemmas.{found_are}
 

@@ -1,7 +1,7 @@
 -- What the queries tell of the tables.
-use Rattle.std.proofs.Common.{◌≡◌, ◌≢◌, ◌⊎◌, ℕ, ℤ, pos, negsuc, zero, suc, ◌≤◌, ◌<◌, ◌&&◌, Bool, true, false, cond}
-use Rattle.std.proofs.Common.{List, [], ◌∷◌, map, filter, length, take, Option, Some, None, refl, sym, ap, ap₂, ◌∙◌}
-use Rattle.std.proofs.Common.{subst, inl, inr, arith, Contains, IsPermutation, codes, is_lt, int_cmp, get_or, ◌||◌}
+use Rattle.std.proofs.Common.{◌≡◌, ◌≢◌, ◌⊎◌, ℕ, ℤ, pos, ◌≤◌, ◌<◌, ◌&&◌, Bool, true, false}
+use Rattle.std.proofs.Common.{List, [], ◌∷◌, map, filter, Option, Some, None, refl, sym, ap, ap₂, ◌∙◌}
+use Rattle.std.proofs.Common.{subst, inl, inr, arith, Contains, IsPermutation, codes, is_lt, int_cmp, ◌||◌}
 use Rattle.std.proofs.Common.{subst₂, Ordering, Less, Equal, Greater}
 use Rattle.std.specs.Option.{is_some}
 use Rattle.std.specs.Ordering.{ordering_then}
@@ -10,7 +10,7 @@ use Rattle.std.specs.Prelude.{IsSorted}
 use Rattle.std.proofs.lemmas.List.Sorted.{sorted_far, IsPermutation-sym}
 use Rattle.std.proofs.lemmas.List.MinMax.{ranks_by}
 use Rattle.sqlite_value.specs.declared.value.Value.{Value}
-use Rattle.sqlite_value.specs.declared.value.Value.TheVariants.{Null, Int, Text, Blob}
+use Rattle.sqlite_value.specs.declared.value.Value.TheVariants.{Int, Text, Blob}
 use Rattle.sqlite_value.specs.declared.keys.Key.{Key}
 use Rattle.sqlite_value.specs.declared.keys.Collation.TheVariants.{Binary}
 use Rattle.sqlite_value.specs.Order.{Row, column, value_cmp}
@@ -27,15 +27,14 @@ use Rattle.sqlite_rules.specs.Lists.{Has}
 use Rattle.sqlite_rules.proofs.ListLemmas.{has_contained, contains_had, has_filtered, has_kept}
 use Rattle.sqlite_tied.specs.Compute.{everything}
 use Rattle.sqlite.specs.Effect.{Reads}
-use Rattle.sqlite.specs.Given.{IsPlain}
-use Rattle.sqlite.specs.Listing.{understood, reads_listing}
+use Rattle.sqlite.specs.Listing.{understood}
 use Rattle.sqlite.proofs.Callers.{command_of}
-use Rattle.tables.specs.Asking.{IsQueryText, TellsRows, TellsFirst}
+use Rattle.tables.specs.Asking.{IsQueryText, TellsFirst}
 use Rattle.tables.specs.Found.{IsFoundAs, IsGreatestAs}
 use Rattle.tables.specs.Holding.{AreRows, Holds, stamp_cells, calibration_cells, hold_cells, tally_cells, token_cell}
 use Rattle.tables.specs.Queries.{holds_at}
 use Rattle.tables.specs.Schema.{the_schema}
-use Rattle.tables.specs.Tables.{Tables, StampRow, CalibrationRow, HoldRow, TallyRow, is_tally_of}
+use Rattle.tables.specs.Tables.{Tables, CalibrationRow, HoldRow, TallyRow, is_tally_of}
 use Rattle.tables.proofs.ChangeLemmas.{raw, found_are}
 use Rattle.tables.proofs.ListLemmas.{has_permutation, has_image, image_has}
 use Rattle.tables.proofs.ReadLemmas.{program_of, query_of, no_limit, passes, shows, answered, ordered_by, IsOrdered}

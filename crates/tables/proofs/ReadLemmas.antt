@@ -1,6 +1,6 @@
 -- What a query over one table answers.
-use Rattle.std.proofs.Common.{◌≡◌, ℕ, ◌^◌, ◌-◌, flat_map, ℤ, pos, negsuc, Bool, true, false, cond, List, [], ◌∷◌, ◌++◌}
-use Rattle.std.proofs.Common.{map, filter, slice_get, Option, Some, None, nat_le, refl, sym, ap, ◌∙◌, subst}
+use Rattle.std.proofs.Common.{◌≡◌, ℕ, ◌^◌, ◌-◌, flat_map, pos, negsuc, Bool, true, false, cond, List, [], ◌∷◌}
+use Rattle.std.proofs.Common.{map, filter, slice_get, None, nat_le, refl, sym, ap, ◌∙◌, subst}
 use Rattle.std.proofs.Common.{IsPermutation}
 use Rattle.std.specs.Prelude.{IsSorted}
 use Rattle.std.specs.List.{list_all}

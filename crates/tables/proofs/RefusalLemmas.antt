@@ -1,13 +1,12 @@
 -- The making of our tables is refused for a name only where one of theirs is used.
-use Rattle.std.proofs.Common.{◌≡◌, ◌≢◌, ◌⊎◌, ℕ, Bool, true, false, List, [], ◌∷◌, length, None, Some, Option, codes}
-use Rattle.std.proofs.Common.{slice_get, Result, Ok, Err, IfOk, IfErr, refl, sym, ap, ◌∙◌, subst, subst₂, inl, inr}
+use Rattle.std.proofs.Common.{◌≡◌, ◌⊎◌, ℕ, Bool, true, false, List, [], ◌∷◌, None, Some, Option, codes}
+use Rattle.std.proofs.Common.{slice_get, Result, Ok, Err, IfErr, refl, sym, ap, ◌∙◌, subst, subst₂, inl, inr}
 use Rattle.std.proofs.lemmas.Bool.{cases_Bool}
 use Rattle.std.specs.List.{AllByRecursion, list_any}
 use Rattle.sqlite_trees.specs.Tree.{Trees}
 use Rattle.sqlite_trees.specs.declared.store.Store.{Ghosts}
 use Rattle.sqlite_trees.specs.declared.error.StoreError.{StoreError}
 use Rattle.sqlite_trees.specs.declared.error.StoreError.TheVariants.{OutOfMemory, Io, Corrupt, Full, Broken, Unstorable}
-use Rattle.sqlite_sql.specs.Term.{Term}
 use Rattle.sqlite_schema.specs.declared.schema.Table.{Table}
 use Rattle.sqlite_schema.specs.declared.schema.Index.{Index}
 use Rattle.sqlite_schema.specs.declared.schema.Schema.{Schema}
@@ -20,7 +19,6 @@ use Rattle.sqlite_catalog.specs.declared.error.Refusal as alter
 use Rattle.sqlite_catalog.specs.declared.error.Refusal.TheVariants as why
 use Rattle.sqlite_rules.specs.Lists.{Has}
 use Rattle.sqlite_rules.specs.Edit.{Edit}
-use Rattle.sqlite_schema.specs.Rules.{Refers}
 use Rattle.sqlite_resolve.specs.Compile.{table_defined_by}
 use Rattle.sqlite_resolve.specs.declared.compiled.Compiled.{Compiled}
 use Rattle.sqlite_resolve.specs.declared.error.CompileError.{CompileError}
@@ -29,14 +27,14 @@ use Rattle.sqlite_catalog.specs.Calls.{RefusesTable}
 use Rattle.sqlite_tied.specs.Compute.{everything}
 use Rattle.sqlite.specs.declared.error.Error.{Error}
 use Rattle.sqlite.specs.declared.run.Mode.{Mode}
-use Rattle.sqlite.specs.Batch.{Step, Stops, RunInTurn, ExecutesAllInside}
+use Rattle.sqlite.specs.Batch.{Stops, RunInTurn, ExecutesAllInside}
 use Rattle.sqlite.specs.Clock.{timed}
-use Rattle.sqlite.specs.Does.{Tally, Does, OnRows, MakesTable, MakesSequence, Tested, Concludes, lacks_sequence}
+use Rattle.sqlite.specs.Does.{Does, OnRows, MakesTable, MakesSequence, Concludes, lacks_sequence}
 use Rattle.sqlite.specs.Effect.{Database, edit_error, alter_error}
 use Rattle.sqlite.specs.Held.{Held, state}
 use Rattle.sqlite.specs.Listing.{understood}
 use Rattle.sqlite.specs.Rows.{Part, Then, Gives, Task, Written, Sourced, Edited, Inserts, stamped}
-use Rattle.sqlite.specs.State.{State, HasCleanDisk, RunsCommand, RunsAlone, IsStatement, ExecutesIn, IsNotRun, text_of}
+use Rattle.sqlite.specs.State.{State, RunsAlone, IsStatement, ExecutesIn, IsNotRun}
 use Rattle.sqlite.specs.State.{shows_rows, mode_of, store_error}
 use Rattle.sqlite.proofs.Callers.{IsPlain, command_of, statement_of}
 use Rattle.tables.specs.Statements.{make_all}

@@ -1,9 +1,9 @@
 -- The statements that change or delete rows, over the schema.
-use Rattle.std.proofs.Common.{◌≡◌, ◌<◌, ◌^◌, ◌+◌, ◌==◌, ◌&&◌, ℕ, ℤ, pos, negsuc, Bool, true, false, not, cond, List, []}
+use Rattle.std.proofs.Common.{◌≡◌, ◌<◌, ◌^◌, ◌+◌, ◌&&◌, ℕ, pos, Bool, true, false, not, cond, List, []}
 use Rattle.std.proofs.Common.{◌∷◌, map, filter, Option, Some, None, Ok, Result, IsTrue, refl, sym, ap, ap₂, ◌∙◌, subst}
 use Rattle.std.proofs.Common.{arith}
-use Rattle.std.specs.Prelude.{bytes_eq, unwrap_or}
-use Rattle.std.specs.List.{AllByRecursion, list_any}
+use Rattle.std.specs.Prelude.{unwrap_or}
+use Rattle.std.specs.List.{AllByRecursion}
 use Rattle.sqlite_value.specs.declared.value.Value.{Value}
 use Rattle.sqlite_value.specs.declared.value.Value.TheVariants.{Null, Int, Text, Blob}
 use Rattle.sqlite_value.specs.declared.keys.Collation.TheVariants.{Binary}
@@ -14,7 +14,7 @@ use Rattle.sqlite_sql.specs.declared.ops.BinaryOp.TheVariants.{Compare, Arith}
 use Rattle.sqlite_sql.specs.declared.ops.ArithOp.TheVariants.{Add}
 use Rattle.std.specs.Float.Ieee
 use Rattle.std.proofs.lemmas.Bool.{cases_lt, and_parts}
-use Rattle.std.proofs.Common.{inl, inr, ◌⊎◌, ◌-◌, lt-ltb, length, drop, IfOk, Err}
+use Rattle.std.proofs.Common.{inl, inr, ◌-◌, lt-ltb, length, drop, IfOk, Err}
 use Rattle.sqlite_value.specs.Order.{value_cmp}
 use Rattle.sqlite_schema.specs.declared.schema.Kind.TheVariants.{Integer}
 use Rattle.sqlite_schema.specs.Rules.{is_of, are_typed}
@@ -38,7 +38,7 @@ use Rattle.tables.specs.Schema.{the_schema, placed, tally}
 use Rattle.tables.specs.Tables.{Tables, StampRow, ReaderRow, TallyRow, is_stamp, is_tally_of, is_reader_row, sealed_row}
 use Rattle.tables.specs.Tables.{raised_row, with_token, without_reader}
 use Rattle.tables.specs.Steps.{with_raised}
-use Rattle.tables.specs.Holding.{AreRows, Holds, IsDatabaseOf, stamp_cells, reader_cells, tally_cells, token_cell}
+use Rattle.tables.specs.Holding.{Holds, IsDatabaseOf, stamp_cells, reader_cells, tally_cells}
 use Rattle.tables.proofs.CarryLemmas.{carried, did, Makes}
 use Rattle.tables.proofs.FrameLemmas.{with_stamps, with_readers, with_tallies}
 use Rattle.tables.proofs.InsertLemmas.{cast_int, cast_null, idle}

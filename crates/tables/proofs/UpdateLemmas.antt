@@ -1,5 +1,5 @@
 -- UPDATE and DELETE in one table, in terms of what its rows say.
-use Rattle.std.proofs.Common.{◌≡◌, ◌≢◌, ◌⊎◌, ℕ, ℤ, Bool, true, false, not, cond, ◌&&◌, List, [], ◌∷◌, ◌++◌, map, filter}
+use Rattle.std.proofs.Common.{◌≡◌, ◌≢◌, ℕ, ℤ, Bool, true, not, cond, List, [], ◌∷◌, map, filter}
 use Rattle.std.proofs.Common.{drop, length, slice_get, Option, Some, None, Ok, refl, sym, ap, ◌∙◌, subst, IsPermutation}
 use Rattle.std.proofs.lemmas.Bool.{and_parts}
 use Rattle.std.proofs.lemmas.List.Sorted.{IsPermutation-map, length_permutation}
@@ -11,7 +11,7 @@ use Rattle.sqlite_value.specs.Order.{Row}
 use Rattle.sqlite_trees.specs.Tree.{Trees, rowid}
 use Rattle.sqlite_trees.proofs.ListLemmas.{map-map}
 use Rattle.sqlite_sql.specs.Term.{Term, col}
-use Rattle.sqlite_schema.specs.declared.schema.Constraint.TheVariants.{Datatype, ForeignKey}
+use Rattle.sqlite_schema.specs.declared.schema.Constraint.TheVariants.{Datatype}
 use Rattle.sqlite_schema.specs.declared.schema.Column.{Column}
 use Rattle.sqlite_schema.specs.declared.schema.Reference.{Reference}
 use Rattle.sqlite_schema.specs.declared.schema.Table.{Table}
@@ -28,7 +28,7 @@ use Rattle.sqlite_rules.proofs.TableLemmas.{put_all_adds}
 use Rattle.sqlite.specs.Does.{Tally, Does}
 use Rattle.sqlite.specs.Effect.{Database, Answers}
 use Rattle.tables.specs.Holding.{AreRows, said}
-use Rattle.tables.proofs.WriteLemmas.{IsIdle, plain_mode, its_table, before, OthersHold, updates, deletes}
+use Rattle.tables.proofs.WriteLemmas.{IsIdle, plain_mode, its_table, OthersHold, updates, deletes}
 use Rattle.tables.proofs.WriteLemmas.{Makes as MakesEdit}
 use Rattle.tables.proofs.ReadLemmas.{program_of, no_limit, passes, shows, answered}
 use Rattle.tables.proofs.ChangeLemmas.{raw, numbered_given, updated, deleted, found_are, changed_there}

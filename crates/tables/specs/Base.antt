@@ -1,5 +1,5 @@
 -- What a connection with the count of its faults holds, and the words under which it keeps tables.
-use Rattle.std.specs.Prelude.{◌≡◌, ℕ, ◌+◌, ◌%◌, ◌^◌, ◌⊎◌, false, IsTrue, List, Option}
+use Rattle.std.specs.Prelude.{◌≡◌, ℕ, ◌+◌, ◌%◌, ◌^◌, false, IsTrue}
 use Rattle.std.specs.Coded.{Coded, code_by, coded×, coded_ℕ}
 use Rattle.std.proofs.Common.{refl}
 use Rattle.sqlite.specs.Held.{Held, held_code, state}

@@ -1,5 +1,5 @@
 -- The schema, version 1: each table as its text makes it. The text is what the database keeps and sqlite3 shows.
-use Rattle.std.specs.Prelude.{true, false, ℕ, Bool, List, [], ◌∷◌, ◌++◌, codes, Option, Some, None}
+use Rattle.std.specs.Prelude.{true, false, ℕ, List, [], ◌∷◌, codes, Option, Some, None}
 use Rattle.sqlite_value.specs.declared.value.Value.TheVariants.{Null}
 use Rattle.sqlite_value.specs.declared.keys.Collation.TheVariants.{Binary}
 use Rattle.sqlite_value.specs.declared.keys.Order.{Order}

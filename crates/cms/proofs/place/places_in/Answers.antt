@@ -1,11 +1,9 @@
-use Rattle.std.proofs.Common.{◌≡◌, ap, sym, ◌∙◌, ℕ, List}
-use Rattle.der.specs.Node.{Node, Nodes, encoding, encodings}
-use Rattle.cms.specs.Certificate.{CertificateParts, IsCertificate, serial_number, issuer_name, after_serial}
+use Rattle.std.proofs.Common.{ap, ◌∙◌}
+use Rattle.der.specs.Node.{encoding, encodings}
+use Rattle.cms.specs.Certificate.{serial_number, issuer_name, after_serial}
 use Rattle.cms.specs.Certificate.{after_issuer, certificate}
 use Rattle.cms.specs.Outline.{Outline, outline}
-use Rattle.cms.specs.OutlineView.{outline_view}
-use Rattle.cms.specs.Place.{ArePlaces}
-use Rattle.cms.proofs.Places.{place_is, place_fits, issuer_stands, serial_stands}
+use Rattle.cms.proofs.Places.{place_is, issuer_stands, serial_stands}
 use Rattle.cms.proofs.place.places_in.Goals as goal
 
 pub returns-clause-only : goal.returns-clause-only

@@ -1,4 +1,4 @@
-use Rattle.std.proofs.Common.{◌≡◌, refl, sym, subst, rules, OnOk, IfOk, IsTrue}
+use Rattle.std.proofs.Common.{◌≡◌, subst, rules, OnOk, IfOk, IsTrue}
 use Rattle.sqlite.specs.Held.{state}
 use Rattle.sqlite.specs.State.{HasCleanDisk}
 use Rattle.sqlite.specs.Values.{bound}

@@ -1,4 +1,4 @@
-use Rattle.std.proofs.Common.{◌≡◌, refl, sym, subst, rules, IsTrue}
+use Rattle.std.proofs.Common.{◌≡◌, subst, rules, IsTrue}
 use Rattle.sqlite.specs.Effect.{Database}
 use Rattle.sqlite.specs.Held.{state}
 use Rattle.tables.specs.Carrying.{CommitsFrom}

@@ -1,4 +1,4 @@
-use Rattle.std.proofs.Common.{◌∙◌, ◌↔◌, sym, subst, IsTrue}
+use Rattle.std.proofs.Common.{◌∙◌, ◌↔◌, subst, IsTrue}
 use Rattle.sqlite.specs.Held.{state}
 use Rattle.tables.specs.Opening.{IsVersionOne}
 use Rattle.tables.proofs.OpenLemmas.{version_text, version_row, version_plain}

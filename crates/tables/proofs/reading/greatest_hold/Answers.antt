@@ -1,7 +1,5 @@
-use Rattle.std.proofs.Common.{◌≡◌, ◌∙◌, refl, sym, ap, subst, rules, w64, SFits, to_z-of_z}
-use Rattle.std.proofs.Math.Facts.{to_z_pos}
-use Rattle.tables.proofs.QueryLemmas.{greatest_hold_found, greatest_hold_text, number_of, signed_of}
-use Rattle.tables.proofs.CellLemmas.{int_more, text_more, blob_more}
+use Rattle.std.proofs.Common.{refl}
+use Rattle.tables.proofs.QueryLemmas.{greatest_hold_found, greatest_hold_text, number_of}
 use Rattle.tables.proofs.reading.greatest_hold.Goals as goal
 
 pub first_row-requires-clause-text : goal.first_row-requires-clause-text

@@ -1,7 +1,6 @@
-use Rattle.std.proofs.Common.{◌≡◌, ◌∙◌, refl, sym, ap, subst, rules, w64, SFits, to_z-of_z}
-use Rattle.std.proofs.Math.Facts.{to_z_pos}
-use Rattle.tables.proofs.QueryLemmas.{hold_at_found, hold_at_text, found_any, number_of, signed_of}
-use Rattle.tables.proofs.CellLemmas.{int_more, text_more, blob_more}
+use Rattle.std.proofs.Common.{◌∙◌, refl, rules, w64, SFits, to_z-of_z}
+use Rattle.tables.proofs.QueryLemmas.{hold_at_found, hold_at_text, found_any}
+use Rattle.tables.proofs.CellLemmas.{int_more}
 use Rattle.tables.proofs.reading.held_at.Goals as goal
 
 pub first_row-requires-clause-text : goal.first_row-requires-clause-text

@@ -1,7 +1,5 @@
-use Rattle.std.proofs.Common.{◌≡◌, ◌∙◌, refl, sym, ap, subst, rules, w64, SFits, to_z-of_z}
-use Rattle.std.proofs.Math.Facts.{to_z_pos}
+use Rattle.std.proofs.Common.{◌∙◌, refl, rules, w64, SFits, to_z-of_z}
 use Rattle.tables.proofs.QueryLemmas.{latest_calibration_found, latest_calibration_text, number_of, signed_of}
-use Rattle.tables.proofs.CellLemmas.{int_more, text_more, blob_more}
 use Rattle.tables.proofs.reading.latest_calibration.Goals as goal
 
 pub first_row-requires-clause-text : goal.first_row-requires-clause-text

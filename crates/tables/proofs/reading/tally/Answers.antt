@@ -1,7 +1,7 @@
-use Rattle.std.proofs.Common.{◌≡◌, ℕ, ◌<◌, ◌^◌, arith, ◌∙◌, refl, sym, ap, subst, rules, w64, SFits, to_z-of_z}
+use Rattle.std.proofs.Common.{◌<◌, ◌^◌, arith, refl, w64}
 use Rattle.std.proofs.Math.Facts.{to_z_pos}
-use Rattle.tables.proofs.QueryLemmas.{tally_found, tally_text, number_of, signed_of}
-use Rattle.tables.proofs.CellLemmas.{int_more, text_more, blob_more}
+use Rattle.tables.proofs.QueryLemmas.{tally_found, tally_text, number_of}
+use Rattle.tables.proofs.CellLemmas.{int_more, text_more}
 use Rattle.tables.proofs.reading.tally.Goals as goal
 
 pub first_row-requires-clause-text : goal.first_row-requires-clause-text

@@ -1,4 +1,4 @@
-use Rattle.std.proofs.Common.{◌≡◌, refl, sym, subst, rules}
+use Rattle.std.proofs.Common.{◌≡◌, subst, rules}
 use Rattle.sqlite.specs.Held.{state}
 use Rattle.tables.specs.Carrying.{Commits}
 use Rattle.tables.specs.Changes.{applied}

@@ -1,4 +1,3 @@
-use Rattle.std.proofs.Common.{refl}
 use Rattle.tables.proofs.CountLemmas.{chained}
 use Rattle.tables.proofs.writing.make.Goals as goal
 

@@ -1,7 +1,7 @@
 use Rattle.std.proofs.Common.{w64, refl}
-use Rattle.std.proofs.Math.Facts.{to_z_pos, to_z-of_z}
+use Rattle.std.proofs.Math.Facts.{to_z_pos}
 use Rattle.tables.proofs.InsertLemmas.{deposit_carried}
-use Rattle.tables.proofs.CellLemmas.{int_more, text_more, blob_more}
+use Rattle.tables.proofs.CellLemmas.{int_more, text_more}
 use Rattle.tables.proofs.writing.put_deposit.Goals as goal
 
 pub returns-clause-carries : goal.returns-clause-carries

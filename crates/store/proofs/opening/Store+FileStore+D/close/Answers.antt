@@ -1,4 +1,4 @@
-use Rattle.std.proofs.Common.{◌≡◌, sym, subst}
+use Rattle.std.proofs.Common.{subst}
 use Rattle.sqlite.specs.Closing.{IsCopied}
 use Rattle.store.proofs.Closing.{leaves_files}
 use Rattle.store.proofs.opening.Store+FileStore+D.close.Goals as goal

@@ -1,4 +1,3 @@
-use Rattle.std.proofs.Common.{◌≡◌}
 use Rattle.store.proofs.opening.Store+FileStore+FileFrom+T.open.Goals as goal
 
 pub returns-in-Ok-adopt-clause-found : goal.returns-in-Ok-adopt-clause-found

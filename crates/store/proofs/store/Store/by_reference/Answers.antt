@@ -1,4 +1,3 @@
-use Rattle.std.proofs.Common.{◌≡◌}
 use Rattle.store.proofs.Calls.{looks_now, kept_seen}
 use Rattle.store.proofs.DepositRows.{under_view_of}
 use Rattle.store.proofs.store.Store.by_reference.Goals as goal

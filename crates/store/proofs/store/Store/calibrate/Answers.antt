@@ -1,7 +1,6 @@
-use Rattle.std.proofs.Common.{◌≡◌, ◌∙◌, ◌⊎◌, rules, SFits, w64, to_z, of_z, to_z-of_z, sym, subst, refl, false, true}
-use Rattle.std.proofs.Common.{IsTrue, option_map, Option}
-use Rattle.tables.specs.Tables.{Tables, with_calibration}
-use Rattle.store.specs.History.{Calibrated, CalibrationValue}
+use Rattle.std.proofs.Common.{◌∙◌, rules, SFits, w64, to_z, of_z, to_z-of_z, sym, subst, false, true}
+use Rattle.tables.specs.Tables.{with_calibration}
+use Rattle.store.specs.History.{Calibrated}
 use Rattle.store.specs.Sound.{IsBackwards}
 use Rattle.store.specs.Values.{calibration_view}
 use Rattle.store.proofs.Calls.{reads_now, kept_seen, crash_after, adds_after, err_after, on_err}

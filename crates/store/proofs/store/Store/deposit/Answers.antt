@@ -1,4 +1,3 @@
-use Rattle.std.proofs.Common.{◌≡◌}
 use Rattle.store.proofs.Calls.{looks_now, kept_seen}
 use Rattle.store.proofs.DepositAnswers.{without_deposit, without_stamp, with_both}
 use Rattle.store.proofs.store.Store.deposit.Goals as goal

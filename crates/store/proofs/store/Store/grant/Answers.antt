@@ -1,4 +1,4 @@
-use Rattle.std.proofs.Common.{◌≡◌, refl}
+use Rattle.std.proofs.Common.{refl}
 use Rattle.tables.specs.Tables.{with_reader}
 use Rattle.store.specs.History.{Granted}
 use Rattle.store.proofs.Calls.{crash_now, kept_seen}

@@ -1,5 +1,5 @@
-use Rattle.std.proofs.Common.{◌≡◌, ◌∙◌, rules, SFits, w64, to_z, of_z, to_z-of_z}
-use Rattle.tables.specs.Tables.{Tables, with_hold}
+use Rattle.std.proofs.Common.{◌∙◌, rules, SFits, w64, to_z, of_z, to_z-of_z}
+use Rattle.tables.specs.Tables.{with_hold}
 use Rattle.store.specs.History.{Held}
 use Rattle.store.specs.Values.{hold_view}
 use Rattle.store.proofs.Calls.{reads_now, kept_seen, crash_after, adds_after, err_after, on_err}

@@ -1,6 +1,6 @@
-use Rattle.std.proofs.Common.{◌≡◌, ◌∙◌, ◌<◌, ◌^◌, IfSome, ap, sym, subst, map, option_map}
+use Rattle.std.proofs.Common.{◌∙◌, ◌<◌, ◌^◌, IfSome, ap, sym, subst, map}
 use Rattle.tables.specs.Base.{IsOpen}
-use Rattle.store.specs.Steps.{IsNextSeen, listing_at}
+use Rattle.store.specs.Steps.{IsNextSeen}
 use Rattle.store.specs.Values.{listed_view}
 use Rattle.store.proofs.Calls.{looks_now, kept_seen}
 use Rattle.store.proofs.Listing.{readable_view}

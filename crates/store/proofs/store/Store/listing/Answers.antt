@@ -1,4 +1,3 @@
-use Rattle.std.proofs.Common.{◌≡◌}
 use Rattle.store.proofs.Calls.{looks_now, kept_seen}
 use Rattle.store.proofs.DepositAnswers.{without_origin, without_label, with_label}
 use Rattle.store.proofs.store.Store.listing.Goals as goal

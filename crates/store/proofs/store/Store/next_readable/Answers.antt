@@ -1,4 +1,3 @@
-use Rattle.std.proofs.Common.{◌≡◌}
 use Rattle.store.proofs.Calls.{looks_now, kept_seen}
 use Rattle.store.proofs.Listing.{readable_view, still_readable}
 use Rattle.store.proofs.store.Store.next_readable.Goals as goal

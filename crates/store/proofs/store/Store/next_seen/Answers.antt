@@ -1,4 +1,4 @@
-use Rattle.std.proofs.Common.{◌≡◌, subst, sym}
+use Rattle.std.proofs.Common.{subst, sym}
 use Rattle.store.specs.Steps.{IsNextSeen}
 use Rattle.store.proofs.Calls.{looks_now, kept_seen}
 use Rattle.store.proofs.Listing.{next_view, later_view}

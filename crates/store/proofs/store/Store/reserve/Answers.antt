@@ -1,4 +1,4 @@
-use Rattle.std.proofs.Common.{◌≡◌, refl}
+use Rattle.std.proofs.Common.{refl}
 use Rattle.tables.specs.Tables.{with_stamp}
 use Rattle.std.specs.Prelude.{None}
 use Rattle.store.specs.History.{Reserved, stamp_of}

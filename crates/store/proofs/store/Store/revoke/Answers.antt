@@ -1,4 +1,4 @@
-use Rattle.std.proofs.Common.{◌≡◌, refl}
+use Rattle.std.proofs.Common.{refl}
 use Rattle.tables.specs.Tables.{without_reader}
 use Rattle.store.specs.History.{Revoked}
 use Rattle.store.proofs.Calls.{crash_now, kept_seen}

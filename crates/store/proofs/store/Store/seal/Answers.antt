@@ -1,4 +1,4 @@
-use Rattle.std.proofs.Common.{◌≡◌, refl}
+use Rattle.std.proofs.Common.{refl}
 use Rattle.tables.specs.Tables.{with_token}
 use Rattle.store.specs.History.{Sealed}
 use Rattle.store.proofs.Calls.{crash_now}

@@ -1,4 +1,4 @@
-use Rattle.std.proofs.Common.{◌≡◌, refl}
+use Rattle.std.proofs.Common.{refl}
 use Rattle.tables.specs.Tables.{DepositRow, with_token, with_deposit}
 use Rattle.store.specs.History.{Deposited}
 use Rattle.store.specs.Values.{deposit_of}

@@ -1,4 +1,3 @@
-use Rattle.std.proofs.Common.{◌≡◌}
 use Rattle.store.proofs.Calls.{looks_now, kept_seen}
 use Rattle.store.proofs.DepositRows.{seen_by_reader, seen_by_owner}
 use Rattle.store.proofs.store.Store.visible.Goals as goal

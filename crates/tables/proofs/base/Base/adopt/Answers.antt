@@ -1,4 +1,4 @@
-use Rattle.tables.proofs.BaseLemmas.{created_keeps, adopted_keeps}
+use Rattle.tables.proofs.BaseLemmas.{adopted_keeps}
 use Rattle.tables.proofs.base.Base.adopt.Goals as goal
 
 pub returns-in-Ok-true-clause-keeps : goal.returns-in-Ok-true-clause-keeps

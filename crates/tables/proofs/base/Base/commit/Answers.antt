@@ -1,4 +1,3 @@
-use Rattle.std.proofs.Common.{refl, Ok, Err}
 use Rattle.tables.specs.Changes.{applied}
 use Rattle.tables.proofs.BaseLemmas.{keeps_on, crash_leaves}
 use Rattle.tables.proofs.base.Base.commit.Goals as goal

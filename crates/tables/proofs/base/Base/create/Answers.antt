@@ -1,4 +1,4 @@
-use Rattle.tables.proofs.BaseLemmas.{created_keeps, adopted_keeps}
+use Rattle.tables.proofs.BaseLemmas.{created_keeps}
 use Rattle.tables.proofs.base.Base.create.Goals as goal
 
 pub returns-in-Ok-clause-keeps : goal.returns-in-Ok-clause-keeps
