@@ -1,0 +1,45 @@
+//! Tokens over a database.
+use crate::setting::{CERTIFICATE, REQUEST, setting_of};
+use cms::{KeyedHash, Signer};
+use desk::{Desk, Reply};
+use policy::Account;
+use sqlite::Alter;
+use sqlite_disk::Unknown;
+use store::Store;
+
+/// Answers the request as many times, over the database at a path, and tells how many times by a token.
+pub fn grants(rt: &HostRuntime, path: &str, count: u64) -> anyhow::Result<u64> {
+    let alloc = rt.alloc();
+    let setting = setting_of(alloc, CERTIFICATE)?;
+    let mut signer = KeyedHash::new(alloc, b"k")?;
+    let store = Store::open(rt, path, Unknown)?;
+    let mut desk = Desk::new(
+        alloc,
+        &setting.policy,
+        &setting.identity,
+        &setting.algorithm,
+        store,
+    );
+    let granted = answered(&mut desk, setting.policy.anonymous(), &mut signer, count);
+    let _files = desk.into_store().close()?;
+    Ok(granted)
+}
+
+fn answered<S: Alter + Drop, G: Signer>(
+    desk: &mut Desk<'_, S>,
+    account: Option<&Account>,
+    signer: &mut G,
+    count: u64,
+) -> u64 {
+    let mut granted = 0u64;
+    for _ in 0..count {
+        if let Reply::Granted {
+            serial: _,
+            bytes: _,
+        } = desk.answer(account, 0, &REQUEST, signer)
+        {
+            granted = granted.saturating_add(1);
+        }
+    }
+    granted
+}
