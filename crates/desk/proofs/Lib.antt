@@ -6,6 +6,9 @@ pub mod Granting
 pub mod Headline
 pub mod Judgement
 pub mod Keeping
+pub mod KnownDeposits
+pub mod Late
+pub mod NewDeposits
 pub mod Opened
 pub mod Others
 pub mod Replying

@@ -54,7 +54,7 @@ unjudged_joined : (s : Setting) (account : Option AccountValue) (reading : ℤ) 
     → IsUnjudged s.file account reading (joined o signing finished) b cause
 unjudged_joined s account reading o finished signing b cause h = h
 
-finds_joined : (s : Setting) (account : Option AccountValue) (reading : ℤ) (octets : List ℕ) (o finished : Outcome)
+pub finds_joined : (s : Setting) (account : Option AccountValue) (reading : ℤ) (octets : List ℕ) (o finished : Outcome)
     (signing : Result (List ℕ) SignerFault) (b : History) (f : Finding)
     → Finds s.file account reading octets o b f
     → Finds s.file account reading octets (joined o signing finished) b f
@@ -407,12 +407,12 @@ same_adds adds (inl none) begun b = rw (none [], none begun)
 same_adds adds (inr more) begun b = rw (more.1 [], more.1 begun)
 
 -- nothing is in doubt after a beginning that reserved
-sure : (s : Setting) (account : Option AccountValue) (reading : ℤ) (octets : List ℕ) (b : History) (db : Trees)
+pub sure : (s : Setting) (account : Option AccountValue) (reading : ℤ) (octets : List ℕ) (b : History) (db : Trees)
     → IsDoubted s (Begin account reading octets) (all_fine (Ok [])) b db → ⊥
 sure s account reading octets b db d = d.refused refl refl
 
 -- a beginning that reserved added something
-begun_adds : (s : Setting) (account : Option AccountValue) (reading : ℤ) (octets : List ℕ) (b : History)
+pub begun_adds : (s : Setting) (account : Option AccountValue) (reading : ℤ) (octets : List ℕ) (b : History)
     (p : PendingValue) (e : Effect) → IsBegun s account reading octets b p e → e.adds ≡ [] → ⊥
 begun_adds s account reading octets b p e begun none =
     let adds = ap (λ x. x.adds) begun.effect in cc

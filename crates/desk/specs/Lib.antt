@@ -4,6 +4,7 @@ pub mod Calls
 pub mod Codes
 pub mod Command
 pub mod Content
+pub mod Depositing
 pub mod Effects
 pub mod Facts
 pub mod Fault

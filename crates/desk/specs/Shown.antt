@@ -3,7 +3,11 @@ use Rattle.std.specs.Prelude.{ℕ, map, Vec}
 use Rattle.std.specs.declared.alloc.Global.{Global}
 use Rattle.store.specs.Values.{listed_view}
 use Rattle.store.specs.declared.values.Listed.{Listed as Row}
-use Rattle.desk.specs.Command.{Answer, Shown, Listed, Done}
+use Rattle.desk.specs.Command.{Answer, Kept, Shown, Listed, Done}
+use Rattle.desk.specs.declared.reply.Deposited.{Deposited}
+
+abbrev pub deposited_as : Deposited → Answer
+deposited_as d = Kept d.number d.is_new
 
 abbrev pub shown_as : Vec ℕ Global → Answer
 shown_as octets = Shown octets.items

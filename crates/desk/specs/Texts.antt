@@ -1,5 +1,5 @@
 -- The texts that a stamp consists of.
-use Rattle.std.specs.Prelude.{ℕ, false, List, [], ◌∷◌, Option, None, option_map, unwrap_or}
+use Rattle.std.specs.Prelude.{ℕ, Bool, false, List, [], ◌∷◌, Option, None, option_map, unwrap_or}
 use Rattle.std.specs.List.{find}
 use Rattle.std.specs.Str.{bytes_eq}
 use Rattle.der.specs.Node.{encoding}
@@ -51,11 +51,14 @@ abbrev pub default_of : PolicyValue → List (List ℕ) → Option TsaPolicyValu
 default_of file [] = None
 default_of file (name ∷ names) = find (λ p. bytes_eq p.name name) file.policies
 
+-- that policy gives the certificate out
+abbrev pub gives_certificate : PolicyValue → AccountValue → Bool
+gives_certificate file owner = unwrap_or (option_map (λ p. p.certificate) (default_of file owner.policies)) false
+
 -- A deposit is stamped as this request: SHA-256 with NULL parameters, no policy, nonce or extension, and certReq
 -- exactly where the owner's default policy gives the certificate out.
 abbrev pub request_for : PolicyValue → AccountValue → List ℕ → RequestValue
-request_for file owner bytes = sha256_request (sha256 bytes) (unwrap_or (option_map (λ p. p.certificate)
-    (default_of file owner.policies)) false)
+request_for file owner bytes = sha256_request (sha256 bytes) (gives_certificate file owner)
 
 -- its octets, in which no FALSE is stated
 abbrev pub octets_for : PolicyValue → AccountValue → List ℕ → List ℕ

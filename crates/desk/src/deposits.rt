@@ -1,21 +1,65 @@
 //! The calls of the counter on deposits and the rights to them.
-ghost use Rattle.std.specs.Prelude.{◌≡◌};
+ghost use Rattle.std.specs.Prelude.{◌≡◌, ◌<◌, length, Err, IfErr};
 ghost use Rattle.policy.specs.View.{account_view};
 ghost use Rattle.tables.specs.Base.{IsHonest};
 ghost use Rattle.desk.specs.Answers.{answered};
-ghost use Rattle.desk.specs.Command.{Show, Token, ListAll, Grant, Revoke};
-ghost use Rattle.desk.specs.Shown.{shown_as, listed_as, done_as};
-ghost use Rattle.desk.specs.Stepped.{IsStep, no_signer};
+ghost use Rattle.desk.specs.Command.{Deposit, Show, Token, ListAll, Grant, Revoke};
+ghost use Rattle.desk.specs.Fault.{IsOfDeposit};
+ghost use Rattle.desk.specs.Shown.{deposited_as, shown_as, listed_as, done_as};
+ghost use Rattle.desk.specs.Stepped.{IsStep, no_signer, with_signer};
 
+use crate::depositing::deposit_with;
 use crate::desk::Desk;
 use crate::fault::Fault;
+use crate::reply::Deposited;
 use crate::rights::{grant_by, revoke_by};
 use crate::showing::{list_to, show_to, token_to};
+use cms::Signer;
 use policy::Account;
 use sqlite::Alter;
 use store::Listed;
 
 impl<'p, S: Alter + Drop> Desk<'p, S> {
+    /// Stamps octets for the account (RFC 3161 2.4.1, with SHA-256), and keeps them with their token under the owner's
+    /// reference, in one commit: the deposit's number, which is its stamp's serial number. Under a reference that the owner
+    /// has used, the same octets are answered by the old number, and nothing is reserved. A reference has 1 to 64 ASCII
+    /// letters, digits, `.`, `_` or `-`, which the caller sees to. The reading is the clock's, in microseconds.
+    ///
+    /// Refused in this order: `TooLarge` for more than 1,048,576 octets, which asks neither the store nor the signer;
+    /// `Conflict` where the owner has used the reference for other octets; `Rejected` with the first rule of 3 to 11 that
+    /// fails of the stamp's request, which asks for no policy and for the certificate where the account's default policy
+    /// gives it out. `Memory`, `Store` and `Signer` come where they are met, `Store` also where no serial number is left;
+    /// where that is after the reservation, the reservation stays void, and nothing is deposited.
+    pub fn deposit<G: Signer>(
+        &mut self,
+        account: &Account,
+        reading: i64,
+        reference: &str,
+        bytes: &[u8],
+        signer: &mut G,
+    ) -> Result<Deposited, Fault>
+        ensures setting { self.new.setting ≡ self.old.setting }
+        ensures honest { IsHonest S.Store self.new.store → IsHonest S.Store self.old.store }
+        ensures large { 1048576 < length bytes.now
+            → (result ≡ Err Fault.TooLarge) × (self.new ≡ self.old) × (signer.new ≡ signer.old) }
+        ensures refusals { IfErr result IsOfDeposit }
+        ensures step { IsStep S.Store (with_signer G.signs G.fault_count signer.old signer.new) self.old.setting
+            (Deposit (account_view account.now) reading reference.now bytes.now) self.old.store self.new.store
+            (answered deposited_as result) }
+    {
+        let opening = self.opening;
+        deposit_with(
+            &mut self.store,
+            self.alloc,
+            opening,
+            account,
+            reading,
+            reference,
+            bytes,
+            signer,
+        )
+    }
+
     /// The octets of a deposit that is visible to the account: it is its owner, or the last right about it was granted. Any
     /// other is `NotHere`, as is a number that no deposit has. Refused also with `Memory` or `Store`.
     pub fn show(&mut self, account: &Account, number: u64) -> Result<Vec<u8>, Fault>

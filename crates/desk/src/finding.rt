@@ -9,8 +9,9 @@ ghost use Rattle.tables.specs.Base.{IsHonest};
 ghost use Rattle.store.specs.History.{History, greatest_serial, day_of};
 ghost use Rattle.store.specs.Fault.{count_after};
 ghost use Rattle.store.specs.Stands.{Stands, OnlyLooks};
-ghost use Rattle.tsp.specs.Rules.{IsFirstFailing};
+ghost use Rattle.tsp.specs.Rules.{HasVersionOne, IsFirstFailing};
 ghost use Rattle.tsp.specs.declared.rule.Rule.{Rule};
+ghost use Rattle.desk.specs.Depositing.{FailsLate};
 ghost use Rattle.desk.specs.Findings.{HoldsUnasked, Finds, Fails};
 ghost use Rattle.desk.specs.Outcome.{faults_after};
 ghost use Rattle.desk.specs.Calls.{outcome_of, finding_of, count_for, IsOfLooks, HasRequest, IsReadFrom, HasLast};
@@ -78,6 +79,7 @@ fn ask<'p, 'a, S: Alter + Drop>(
         → Finds (policy_view policy.now) (account_asked account.entry) reading octets (outcome_of result) b
         (finding_of result) }
     ensures same { IfOk result (HasRequest (request_view request.entry)) }
+    ensures late { HasVersionOne (request_view request.entry) → IfOk result FailsLate }
     ensures last { IsHonest S.Store store.new → (b : History) → Stands S.Store b store.old
         → IfOk result (HasLast (greatest_serial b)) }
     ensures refusals { IfErr result IsOfLooks }
@@ -106,6 +108,37 @@ fn ask<'p, 'a, S: Alter + Drop>(
     }
 }
 
+/// Judges the rules 2 to 11 of a request in their order: `find`, once the request is read.
+pub(crate) fn judge<'p, 'a, S: Alter + Drop>(
+    store: &mut Store<S>,
+    policy: &'p Policy,
+    account: Option<&Account>,
+    reading: i64,
+    request: Request<'a>,
+) -> Result<Found<'p, 'a>, Refusal>
+    ensures looks { OnlyLooks S.Store store.old store.new }
+    ensures counted { store.new.faults ≡ faults_after (outcome_of result) store.old.faults }
+    ensures finds { IsHonest S.Store store.new → (b : History) → Stands S.Store b store.old → (octets : List ℕ)
+        → Spells octets (request_view request.entry) → length octets ≤ 65536
+        → Finds (policy_view policy.now) (account_asked account.entry) reading octets (outcome_of result) b
+        (finding_of result) }
+    ensures same { IfOk result (HasRequest (request_view request.entry)) }
+    ensures late { HasVersionOne (request_view request.entry) → IfOk result FailsLate }
+    ensures last { IsHonest S.Store store.new → (b : History) → Stands S.Store b store.old
+        → IfOk result (HasLast (greatest_serial b)) }
+    ensures unasked { (octets : List ℕ) → Spells octets (request_view request.entry) → length octets ≤ 65536
+        → (rule : Rule) → IsFirstFailing (HoldsUnasked (policy_view policy.now) (account_asked account.entry) octets) rule
+        → (finding_of result ≡ Fails rule) × (store.new ≡ store.old) }
+    ensures refusals { IfErr result IsOfLooks }
+{
+    requests_have_one_reading();
+    verdicts_are_one();
+    match judge_request(policy, account, &request) {
+        Some(rule) => Ok(Found::Fails(rule)),
+        None => ask(store, policy, account, reading, request),
+    }
+}
+
 /// Judges the rules 1 to 11 in their order. A request that fails one of the rules 1 to 9 is answered without a call of
 /// the store and without memory; the day is counted only where the clock is good.
 pub(crate) fn find<'p, 'a, S: Alter + Drop>(
@@ -127,14 +160,9 @@ pub(crate) fn find<'p, 'a, S: Alter + Drop>(
         query.now) rule → (finding_of result ≡ Fails rule) × (store.new ≡ store.old) }
     ensures refusals { IfErr result IsOfLooks }
 {
-    requests_have_one_reading();
-    verdicts_are_one();
     let request = match read_request(query) {
         Ok(request) => request,
         Err(_) => return Ok(Found::Fails(Rule::Spelling)),
     };
-    match judge_request(policy, account, &request) {
-        Some(rule) => Ok(Found::Fails(rule)),
-        None => ask(store, policy, account, reading, request),
-    }
+    judge(store, policy, account, reading, request)
 }

@@ -4,6 +4,7 @@
 
 mod answering;
 mod beginning;
+mod depositing;
 mod deposits;
 mod desk;
 mod fault;
@@ -28,7 +29,7 @@ pub use laws::{
     texts_are_reserved,
 };
 pub use pending::Pending;
-pub use reply::{Begun, Reply};
+pub use reply::{Begun, Deposited, Reply};
 
 #[cfg(test)]
 mod tests;

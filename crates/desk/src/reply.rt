@@ -23,3 +23,12 @@ pub enum Reply {
     /// The first rule that fails, or rule 12.
     Rejected(Rejection),
 }
+
+/// What `deposit` answers.
+#[derive(Clone, Copy, Debug, PartialEq, Eq)]
+pub struct Deposited {
+    /// The deposit's number, which is the serial number of its stamp.
+    pub number: u64,
+    /// Whether it is new: not where the owner had deposited the same octets under the reference before.
+    pub is_new: bool,
+}

@@ -22,7 +22,7 @@ use store::{Reservation, Store, StoreFault};
 use tsp::{ObjectIdentifier, requests_have_one_reading, write_tst};
 
 /// The greatest serial number, 2^63 - 1.
-const GREATEST: u64 = 9_223_372_036_854_775_807;
+pub(crate) const GREATEST: u64 = 9_223_372_036_854_775_807;
 
 /// A stamp whose texts are written.
 #[derive(Debug, Drop)]

@@ -6,6 +6,7 @@ use Rattle.decide.specs.Clock.{IsGood, IsGoodAt}
 use Rattle.decide.specs.View.{account_asked}
 use Rattle.desk.specs.Facts.{clock_of, facts_of}
 use Rattle.desk.proofs.Judgement.{same_cause, facts_are, first_lifted, all_lifted, unasked_lifted, answered_for, looks_then}
+use Rattle.desk.proofs.Late.{late_with}
 use Rattle.desk.proofs.finding.ask.Goals as goal
 
 pub returns-in-Err-clause-finds : goal.returns-in-Err-clause-finds
@@ -96,3 +97,8 @@ returns-in-Allow-clause-finds g c honest b st octets spelled short judged =
       refl,
       refl,
     )
+
+pub returns-in-Deny-clause-late : goal.returns-in-Deny-clause-late
+returns-in-Deny-clause-late g c one =
+    late_with (policy_view c.args.policy.now) (account_asked c.args.account) (request_view c.args.request) _
+    c.in-Deny.rule one c.in-Deny.ensures.verdict

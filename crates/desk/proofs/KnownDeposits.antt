@@ -1,0 +1,230 @@
+-- What is looked up before a deposit: too many octets, a reference that is used, or one that isn't.
+use Rattle.std.proofs.Common.{◌≡◌, ℕ, ◌<◌, nat_le, cond, ℤ, Bool, true, false, List, [], Option, Some, None, Result, Ok}
+use Rattle.std.proofs.Common.{length, refl, sym, ap, ◌∙◌, subst, inl, inr, arith}
+use Rattle.std.specs.Str.{bytes_eq}
+use Rattle.std.proofs.lemmas.Bool.Decides.{nat_tests}
+use Rattle.sqlite_trees.specs.declared.store.Store.{Ghosts}
+use Rattle.policy.specs.Record.{AccountValue}
+use Rattle.cms.specs.Signer.{count_after}
+use Rattle.cms.specs.declared.signer.SignerFault.{SignerFault}
+use Rattle.tables.specs.Base.{BaseValue, IsHonest}
+use Rattle.store.specs.Fault.{count_after as count_with}
+use Rattle.store.specs.History.{History, DepositValue, deposit_under}
+use Rattle.store.specs.Stands.{Stands, OnlyLooks}
+use Rattle.store.specs.declared.fault.StoreFault.{StoreFault}
+use Rattle.store.specs.declared.fault.StoreFault.TheVariants as store
+use Rattle.desk.specs.Calls.{call_of, store_cause, IsOfStore}
+use Rattle.desk.specs.Command.{Setting, Command, Deposit, Answer, Stamped, Rejected, Begun, Kept, Shown, Listed, Done}
+use Rattle.desk.specs.Command.{Refused}
+use Rattle.desk.specs.Depositing.{known_in, IsUnused, StepsWhere}
+use Rattle.desk.specs.Effects.{only, fault_of, too_large}
+use Rattle.desk.specs.Outcome.{Outcome, faults_after, all_fine}
+use Rattle.desk.specs.Steps.{HasEffect, Keeps, KeepsUnless, KeepsUnder}
+use Rattle.desk.specs.Stepped.{StepsBy, IsBlamed, IsBlamedFor, SignerStep, with_signer}
+use Rattle.desk.specs.declared.depositing.Known.{Known}
+use Rattle.desk.specs.declared.depositing.Known.TheVariants as known
+use Rattle.desk.specs.declared.fault.Fault.{Fault}
+use Rattle.desk.specs.declared.fault.Fault.TheVariants as fault
+use Rattle.desk.proofs.Judgement.{same_cause, same_count}
+
+is_many : (n : ℕ) → 1_048_576 < n → nat_le n 1_048_576 ≡ false
+is_many n h = grind (arith, nat_tests)
+
+-- too many octets
+pub is_too_large : {S X : Type 0} (g : Ghosts S) (signs : X → List ℕ → Result (List ℕ) SignerFault → X → Type 0)
+    (count : X → ℕ) (x : X) (s : Setting) (a : AccountValue) (reading : ℤ) (reference bytes : List ℕ)
+    (v : BaseValue S) → 1_048_576 < length bytes
+    → StepsBy g (with_signer signs count x x) s (Deposit a reading reference bytes) (all_fine (Ok [])) v v
+    (Refused fault.TooLarge)
+is_too_large g signs count x s a reading reference bytes v many = record {
+  counted = refl;
+  signer = refl;
+  blames = tt;
+  steps = λ honest b stands met. record {
+    effect = only too_large;
+    has = subst (λ few. Keeps s a reading reference bytes (all_fine (Ok [])) b few (only too_large))
+        (sym (is_many (length bytes) many)) refl;
+    says = refl;
+    moves = refl;
+    stands = stands;
+    left = λ db r. inl (refl, r);
+  };
+}
+
+-- a look-up that decides
+looked : {S X : Type 0} (g : Ghosts S) (signs : X → List ℕ → Result (List ℕ) SignerFault → X → Type 0)
+    (count : X → ℕ) (x : X) (s : Setting) (c : Command) (o : Outcome) (old new : BaseValue S) (said : Answer)
+    → OnlyLooks g old new → new.faults ≡ faults_after o old.faults → o.signing ≡ Ok []
+    → IsBlamed g c o old new said
+    → (IsHonest g new → (b : History) → Stands g b old → HasEffect s c o b (only said))
+    → StepsBy g (with_signer signs count x x) s c o old new said
+looked g signs count x s c o old new said looks faults unsigned blamed has = record {
+  counted = faults;
+  signer = sym (ap (λ r. count_after r (count x)) unsigned);
+  blames = blamed;
+  steps = λ honest b stands met. record {
+    effect = only said;
+    has = has honest b stands;
+    says = refl;
+    moves = refl;
+    stands = looks.stands b stands;
+    left = λ db r. inl (refl, looks.leaves honest db r);
+  };
+}
+
+-- the look-up is refused
+abbrev pub unsearched : StoreFault → Outcome
+unsearched f = record (all_fine (Ok [])) { searching = call_of f }
+
+search_blamed : {S : Type 0} (g : Ghosts S) (c : Command) (f : StoreFault) (old new : BaseValue S) → IsOfStore f
+    → IsBlamedFor g c (unsearched f) old new (fault_of (store_cause f))
+search_blamed g c store.Memory old new h = tt
+search_blamed g c store.Database old new h = inl (inl refl)
+search_blamed g c store.NotOurs old new (inl e) = cc
+search_blamed g c store.NotOurs old new (inr e) = cc
+search_blamed g c store.Full old new (inl e) = cc
+search_blamed g c store.Full old new (inr e) = cc
+search_blamed g c store.Backwards old new (inl e) = cc
+search_blamed g c store.Backwards old new (inr e) = cc
+
+pub is_unsearched : {S X : Type 0} (g : Ghosts S) (signs : X → List ℕ → Result (List ℕ) SignerFault → X → Type 0)
+    (count : X → ℕ) (x : X) (s : Setting) (a : AccountValue) (reading : ℤ) (reference bytes : List ℕ)
+    (old new : BaseValue S) (f : StoreFault) → nat_le (length bytes) 1_048_576 ≡ true → IsOfStore f
+    → OnlyLooks g old new → new.faults ≡ count_with f old.faults
+    → StepsBy g (with_signer signs count x x) s (Deposit a reading reference bytes) (unsearched f) old new
+    (Refused (fault_of (store_cause f)))
+is_unsearched g signs count x s a reading reference bytes old new f few of looks faults =
+    let c = Deposit a reading reference bytes in
+    let said = Refused (fault_of (store_cause f)) in
+    looked g signs count x s c (unsearched f) old new said looks (faults ∙ same_count f old.faults) refl
+    (search_blamed g c f old new of)
+    (λ honest b stands. subst (λ t. Keeps s a reading reference bytes (unsearched f) b t (only said)) (sym few)
+    (subst (λ t. KeepsUnless s a reading reference bytes (unsearched f) b t (only said)) (sym (same_cause f of)) refl))
+
+-- what is found is what the owner has used the reference for
+under_named : (bytes reference : List ℕ) (b : History) (owner name : List ℕ) (found is : Known) → owner ≡ name
+    → found ≡ is → found ≡ known_in bytes (deposit_under owner reference b)
+    → is ≡ known_in bytes (deposit_under name reference b)
+under_named bytes reference b owner name found is named told value =
+    sym told ∙ (value ∙ ap (λ n. known_in bytes (deposit_under n reference b)) named)
+
+-- the reference is used
+same_at : (same : Bool) (serial number : ℕ) → known.Same number ≡ cond same (known.Same serial) known.Other
+    → only (Kept number false) ≡ only (cond same (Kept serial false) (Refused fault.Conflict))
+same_at true serial number e = let is : number ≡ serial = cc in ap (λ n. only (Kept n false)) is
+same_at false serial number e = cc
+
+same_under : (s : Setting) (a : AccountValue) (reading : ℤ) (reference bytes : List ℕ) (o : Outcome) (b : History)
+    (under : Option DepositValue) (number : ℕ) → known.Same number ≡ known_in bytes under
+    → KeepsUnder s a reading reference bytes o b under (only (Kept number false))
+same_under s a reading reference bytes o b None number e = cc
+same_under s a reading reference bytes o b (Some d) number e = same_at (bytes_eq d.bytes bytes) d.serial number e
+
+other_at : (same : Bool) (serial : ℕ) → known.Other ≡ cond same (known.Same serial) known.Other
+    → only (Refused fault.Conflict) ≡ only (cond same (Kept serial false) (Refused fault.Conflict))
+other_at true serial e = cc
+other_at false serial e = refl
+
+other_under : (s : Setting) (a : AccountValue) (reading : ℤ) (reference bytes : List ℕ) (o : Outcome) (b : History)
+    (under : Option DepositValue) → known.Other ≡ known_in bytes under
+    → KeepsUnder s a reading reference bytes o b under (only (Refused fault.Conflict))
+other_under s a reading reference bytes o b None e = cc
+other_under s a reading reference bytes o b (Some d) e = other_at (bytes_eq d.bytes bytes) d.serial e
+
+pub is_same : {S X : Type 0} (g : Ghosts S) (signs : X → List ℕ → Result (List ℕ) SignerFault → X → Type 0)
+    (count : X → ℕ) (x : X) (s : Setting) (a : AccountValue) (reading : ℤ) (reference bytes : List ℕ)
+    (old new : BaseValue S) (owner : List ℕ) (found : Known) (number : ℕ) → nat_le (length bytes) 1_048_576 ≡ true
+    → OnlyLooks g old new → new.faults ≡ old.faults → owner ≡ a.name → found ≡ known.Same number
+    → (IsHonest g new → (b : History) → Stands g b old → found ≡ known_in bytes (deposit_under owner reference b))
+    → StepsBy g (with_signer signs count x x) s (Deposit a reading reference bytes) (all_fine (Ok [])) old new
+    (Kept number false)
+is_same g signs count x s a reading reference bytes old new owner found number few looks faults named told is =
+    let o = all_fine (Ok []) in
+    looked g signs count x s (Deposit a reading reference bytes) o old new (Kept number false) looks faults refl tt
+    (λ honest b stands. subst (λ t. Keeps s a reading reference bytes o b t (only (Kept number false))) (sym few)
+    (same_under s a reading reference bytes o b (deposit_under a.name reference b) number
+    (under_named bytes reference b owner a.name found (known.Same number) named told (is honest b stands))))
+
+pub is_other : {S X : Type 0} (g : Ghosts S) (signs : X → List ℕ → Result (List ℕ) SignerFault → X → Type 0)
+    (count : X → ℕ) (x : X) (s : Setting) (a : AccountValue) (reading : ℤ) (reference bytes : List ℕ)
+    (old new : BaseValue S) (owner : List ℕ) (found : Known) → nat_le (length bytes) 1_048_576 ≡ true
+    → OnlyLooks g old new → new.faults ≡ old.faults → owner ≡ a.name → found ≡ known.Other
+    → (IsHonest g new → (b : History) → Stands g b old → found ≡ known_in bytes (deposit_under owner reference b))
+    → StepsBy g (with_signer signs count x x) s (Deposit a reading reference bytes) (all_fine (Ok [])) old new
+    (Refused fault.Conflict)
+is_other g signs count x s a reading reference bytes old new owner found few looks faults named told is =
+    let o = all_fine (Ok []) in
+    looked g signs count x s (Deposit a reading reference bytes) o old new (Refused fault.Conflict) looks faults refl
+    tt
+    (λ honest b stands. subst (λ t. Keeps s a reading reference bytes o b t (only (Refused fault.Conflict))) (sym few)
+    (other_under s a reading reference bytes o b (deposit_under a.name reference b)
+    (under_named bytes reference b owner a.name found known.Other named told (is honest b stands))))
+
+-- it isn't
+none_at : (same : Bool) (serial : ℕ) → known.Nothing ≡ cond same (known.Same serial) known.Other → ⊥
+none_at true serial e = cc
+none_at false serial e = cc
+
+none_under : (bytes : List ℕ) (under : Option DepositValue) → known.Nothing ≡ known_in bytes under → under ≡ None
+none_under bytes None e = refl
+none_under bytes (Some d) e = absurd (none_at (bytes_eq d.bytes bytes) d.serial e)
+
+pub is_unused : (a : AccountValue) (bytes reference : List ℕ) (b : History) (owner : List ℕ) (found : Known)
+    → owner ≡ a.name → found ≡ known.Nothing → found ≡ known_in bytes (deposit_under owner reference b)
+    → IsUnused a reference b
+is_unused a bytes reference b owner found named told value =
+    none_under bytes (deposit_under a.name reference b)
+    (under_named bytes reference b owner a.name found known.Nothing named told value)
+
+-- what the store stands for after the look-up, it stood for before
+blamed_before : {S : Type 0} (g : Ghosts S) (c : Command) (o : Outcome) (old mid new : BaseValue S) (f : Fault)
+    → OnlyLooks g old mid → IsBlamedFor g c o mid new f → IsBlamedFor g c o old new f
+blamed_before g c o old mid new fault.NotHere looks h = tt
+blamed_before g c o old mid new fault.NotOwner looks h = tt
+blamed_before g c o old mid new fault.Conflict looks h = tt
+blamed_before g c o old mid new fault.UnknownReader looks h = tt
+blamed_before g c o old mid new fault.SelfGrant looks h = tt
+blamed_before g c o old mid new fault.TooLarge looks h = tt
+blamed_before g c o old mid new (fault.Rejected rule) looks h = tt
+blamed_before g c o old mid new fault.Memory looks h = tt
+blamed_before g c o old mid new fault.Store looks (inl broken) = inl broken
+blamed_before g c o old mid new fault.Store looks (inr spent) =
+    inr (λ honest b stands. spent honest b (looks.stands b stands))
+blamed_before g c o old mid new fault.Signer looks h = h
+
+said_before : {S : Type 0} (g : Ghosts S) (c : Command) (o : Outcome) (old mid new : BaseValue S) (said : Answer)
+    → OnlyLooks g old mid → IsBlamed g c o mid new said → IsBlamed g c o old new said
+said_before g c o old mid new (Stamped serial octets) looks h = tt
+said_before g c o old mid new (Rejected rule) looks h = tt
+said_before g c o old mid new (Begun p) looks h = tt
+said_before g c o old mid new (Kept number is_new) looks h = tt
+said_before g c o old mid new (Shown octets) looks h = tt
+said_before g c o old mid new (Listed rows) looks h = tt
+said_before g c o old mid new Done looks h = tt
+said_before g c o old mid new (Refused f) looks h = blamed_before g c o old mid new f looks h
+
+-- a step after the look-up is one from before it
+pub is_after : {S : Type 0} (g : Ghosts S) (t : SignerStep) (s : Setting) (c : Command) (P : History → Type 0)
+    (o : Outcome) (old mid new : BaseValue S) (said : Answer)
+    → OnlyLooks g old mid → mid.faults ≡ old.faults
+    → (IsHonest g mid → (b : History) → Stands g b old → P b)
+    → (IsHonest g new → IsHonest g mid)
+    → StepsWhere g t s c P o mid new said → StepsBy g t s c o old new said
+is_after g t s c P o old mid new said looks faults holds honest step = record {
+  counted = step.counted ∙ ap (faults_after o) faults;
+  signer = step.signer;
+  blames = said_before g c o old mid new said looks step.blames;
+  steps = λ kept b stands met.
+      let h = step.steps kept b (looks.stands b stands) (holds (honest kept) b stands) in
+      record {
+        effect = h.effect;
+        has = h.has;
+        says = h.says;
+        moves = h.moves;
+        stands = h.stands;
+        left = λ db r. elim (h.left db r) [
+          | inl before ↦ inl (before.0, looks.leaves (honest kept) db before.1)
+          | inr later ↦ inr later
+        ];
+      };
+}

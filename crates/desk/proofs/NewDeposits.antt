@@ -1,0 +1,581 @@
+-- A deposit is a beginning, a signature, and the commit of token and deposit.
+use Rattle.std.proofs.Common.{◌≡◌, ℕ, ◌<◌, ◌≤◌, ◌⊎◌, nat_le, ℤ, Bool, true, List, [], ◌∷◌, ◌++◌, length, Option, Some}
+use Rattle.std.proofs.Common.{None, Result, Ok, Err, refl, sym, ◌∙◌, ap, subst, inl, inr, arith}
+use Rattle.std.proofs.lemmas.Bool.{eq-eqb}
+use Rattle.std.proofs.lemmas.Bool.Decides.{nat_tests}
+use Rattle.sqlite_trees.specs.Tree.{Trees}
+use Rattle.sqlite_trees.specs.declared.store.Store.{Ghosts}
+use Rattle.sha2.specs.Sha256.{sha256}
+use Rattle.policy.specs.Record.{AccountValue, PolicyValue}
+use Rattle.tsp.specs.Request.{RequestValue, Spells, sha256_request}
+use Rattle.tsp.specs.declared.rule.Rule.{Rule}
+use Rattle.cms.specs.SignedData.{attribute_text}
+use Rattle.cms.specs.Signer.{count_after}
+use Rattle.cms.specs.declared.signer.SignerFault.{SignerFault}
+use Rattle.cms.specs.declared.signer.SignerFault.TheVariants as signer
+use Rattle.tables.specs.Base.{BaseValue, IsHonest, IsOpen, Recovers, Holds}
+use Rattle.store.specs.History.{Entry, Reserved, Deposited, History, ReservationValue, DepositValue, greatest_serial}
+use Rattle.store.specs.History.{deposit_under}
+use Rattle.store.specs.Sound.{Along, Fits, FitsDeposited}
+use Rattle.store.specs.Stands.{Stands, LeavesOrAdds}
+use Rattle.store.specs.Fault.{count_after as count_with}
+use Rattle.store.specs.TablesOf.{tables_of}
+use Rattle.store.specs.declared.fault.StoreFault.{StoreFault}
+use Rattle.store.specs.declared.fault.StoreFault.TheVariants as store
+use Rattle.desk.specs.Outcome.{Call, Fine, Wanting, Broken, Outcome, Cause, cause_of, counted, all_fine}
+use Rattle.desk.specs.Findings.{PlanValue, Finding, Fails, Unanswered, Allowed, Finds}
+use Rattle.desk.specs.Command.{Setting, PendingValue, Command, Begin, Deposit, Answer, Rejected, Begun, Kept, Refused}
+use Rattle.desk.specs.Texts.{gives_certificate, pending_of, token_with, request_for, octets_for}
+use Rattle.desk.specs.Effects.{Effect, only, fault_of, no_number, no_seal, next_reservation, sealed_or_void}
+use Rattle.desk.specs.Effects.{signed_or_void, stamping_of, begin_effect, begin_found, deposit_row, deposit_effect}
+use Rattle.desk.specs.Effects.{deposit_found}
+use Rattle.desk.specs.Steps.{HasEffect, Keeps, KeepsUnless, KeepsUnder, Moves}
+use Rattle.desk.specs.Runs.{after}
+use Rattle.desk.specs.Stepped.{StepsBy, IsBlamed, IsBlamedFor, IsExcused, MayBeLeft, IsDoubted, no_signer, with_signer}
+use Rattle.desk.specs.Stepped.{settled_by}
+use Rattle.desk.specs.Wholes.{joined}
+use Rattle.desk.specs.Calls.{refused, cause_with, store_cause, signer_cause, IsOfBeginning}
+use Rattle.desk.specs.Depositing.{kept_by, kept, MayStayKept, KeepsBy, SignsAndKeeps, StepsWhere, IsUnused}
+use Rattle.desk.specs.declared.fault.Fault.{Fault}
+use Rattle.desk.specs.declared.fault.Fault.TheVariants as fault
+use Rattle.desk.specs.declared.refusal.Refusal.{Refusal}
+use Rattle.desk.specs.declared.refusal.Refusal.TheVariants as refusal
+use Rattle.desk.proofs.Stamping.{IsBegun, stamp_begun, finds_joined, begun_adds, sure}
+use Rattle.desk.proofs.Views.{unsealed_above}
+
+-- the request as which a deposit is stamped
+pub request_is : (file : PolicyValue) (a : AccountValue) (bytes digest : List ℕ) (certificate : Bool)
+    (r : RequestValue) → r ≡ sha256_request digest certificate → digest ≡ sha256 bytes
+    → certificate ≡ gives_certificate file a → r ≡ request_for file a bytes
+request_is file a bytes digest certificate r made hashed gives =
+    made ∙ (ap (λ d. sha256_request d certificate) hashed ∙ ap (sha256_request (sha256 bytes)) gives)
+
+-- From the signature on.
+
+-- no memory for the token
+pub unwrapped : {S : Type 0} (g : Ghosts S) (p : PendingValue) (d : DepositValue) (signature : List ℕ)
+    (v : BaseValue S)
+    → KeepsBy g p d (Ok signature) (refused refusal.Wrapping) v v (Refused fault.Memory)
+unwrapped g p d signature v = record {
+  counted = refl;
+  blames = λ c first. tt;
+  steps = λ honest b stands fits. record { says = refl; stands = stands; left = λ db r. inl (refl, r) };
+}
+
+-- token and deposit are stored
+stored_as : {S : Type 0} (g : Ghosts S) (p : PendingValue) (d : DepositValue) (signature : List ℕ)
+    (old new : BaseValue S) → new.faults ≡ old.faults
+    → (IsHonest g new → IsOpen g old × IsOpen g new)
+    → ((b : History) → Stands g b old → Fits (Deposited d (token_with p signature)) b
+    → Stands g (Deposited d (token_with p signature) ∷ b) new)
+    → KeepsBy g p d (Ok signature) (all_fine (Ok [])) old new (Kept d.serial true)
+stored_as g p d signature old new same opened ok = record {
+  counted = same;
+  blames = λ c first. tt;
+  steps = λ honest b stands fits.
+      let now = ok b stands fits in
+      record {
+        says = refl;
+        stands = now;
+        left = λ db r. inr (inl ((now.kept honest (opened honest).1).leaves db r));
+      };
+}
+
+pub stored : {S : Type 0} (g : Ghosts S) (p : PendingValue) (owner reference bytes signature : List ℕ) (serial : ℕ)
+    (token : List ℕ) (old new : BaseValue S) → serial ≡ p.serial → token ≡ token_with p signature
+    → new.faults ≡ old.faults
+    → (IsHonest g new → IsOpen g old × IsOpen g new)
+    → ((b : History) → Stands g b old → Fits (Deposited (deposit_row serial owner reference bytes) token) b
+    → Stands g (Deposited (deposit_row serial owner reference bytes) token ∷ b) new)
+    → KeepsBy g p (deposit_row p.serial owner reference bytes) (Ok signature) (all_fine (Ok [])) old new
+    (Kept serial true)
+stored g p owner reference bytes signature serial token old new number is same opened ok =
+    let row = λ (n : ℕ). deposit_row n owner reference bytes in
+    subst (λ n. KeepsBy g p (row p.serial) (Ok signature) (all_fine (Ok [])) old new (Kept n true)) (sym number)
+    (stored_as g p (row p.serial) signature old new same opened
+    (subst (λ x. (b : History) → Stands g b old → Fits (Deposited (row p.serial) x) b
+    → Stands g (Deposited (row p.serial) x ∷ b) new) is
+    (subst (λ n. (b : History) → Stands g b old → Fits (Deposited (row n) token) b
+    → Stands g (Deposited (row n) token ∷ b) new) number ok)))
+
+-- the commit is refused by this fault
+unstored_as : {S : Type 0} (g : Ghosts S) (p : PendingValue) (d : DepositValue) (signature : List ℕ)
+    (old new : BaseValue S) (o : Outcome) (cause : Cause)
+    → no_seal o ≡ Some cause → no_seal (record o { sealing = Fine }) ≡ None → (o.sealing ≡ Fine → ⊥)
+    → ((c : Command) (first : BaseValue S)
+    → IsBlamed g c (joined (all_fine (Ok [])) (Ok signature) o) first new (Refused (fault_of cause)))
+    → new.faults ≡ counted o.sealing (counted o.wrapping old.faults)
+    → ((b : History) → Stands g b old → Stands g b new)
+    → LeavesOrAdds g (Deposited d (token_with p signature)) old new
+    → KeepsBy g p d (Ok signature) o old new (Refused (fault_of cause))
+unstored_as g p d signature old new o cause why answered was_refused blamed faults err crash = record {
+  counted = faults;
+  blames = blamed;
+  steps = λ honest b stands fits. record {
+    says = sym (ap (λ x. (kept_by p d signature [] x).says) why);
+    stands = subst (λ x. Stands g ((kept_by p d signature [] x).adds ++ b) new) (sym why) (err b stands);
+    left = λ db r. elim (crash honest db r) [
+      | inl before ↦ inl (ap (λ x. (kept_by p d signature [] x).adds) why, before)
+      | inr adds ↦ inr (inr (
+        was_refused,
+        subst (λ x. Holds (tables_of ((kept_by p d signature [] x).adds ++ b)) db) (sym answered) (adds b stands fits),
+      ))
+    ];
+  };
+}
+
+unstored_by : {S : Type 0} (g : Ghosts S) (p : PendingValue) (d : DepositValue) (signature : List ℕ)
+    (old new : BaseValue S) (f : StoreFault) → (f ≡ store.Memory) ⊎ (f ≡ store.Database)
+    → new.faults ≡ count_with f old.faults
+    → ((b : History) → Stands g b old → Stands g b new)
+    → LeavesOrAdds g (Deposited d (token_with p signature)) old new
+    → KeepsBy g p d (Ok signature) (refused (refusal.Sealing f)) old new (Refused (fault_of (store_cause f)))
+unstored_by g p d signature old new store.Memory which faults err crash =
+    unstored_as g p d signature old new (refused (refusal.Sealing store.Memory)) _ refl refl (λ e. cc) (λ c first. tt)
+    faults err crash
+unstored_by g p d signature old new store.Database which faults err crash =
+    unstored_as g p d signature old new (refused (refusal.Sealing store.Database)) _ refl refl (λ e. cc)
+    (λ c first. inl (inr (inr (inr (inr (inr (inr refl))))))) faults err crash
+unstored_by g p d signature old new store.NotOurs which faults err crash =
+    absurd (elim which [ inl e ↦ cc | inr e ↦ cc ])
+unstored_by g p d signature old new store.Full which faults err crash =
+    absurd (elim which [ inl e ↦ cc | inr e ↦ cc ])
+unstored_by g p d signature old new store.Backwards which faults err crash =
+    absurd (elim which [ inl e ↦ cc | inr e ↦ cc ])
+
+pub unstored : {S : Type 0} (g : Ghosts S) (p : PendingValue) (owner reference bytes signature : List ℕ) (serial : ℕ)
+    (token : List ℕ) (old new : BaseValue S) (f : StoreFault) → serial ≡ p.serial → token ≡ token_with p signature
+    → (f ≡ store.Memory) ⊎ (f ≡ store.Database)
+    → new.faults ≡ count_with f old.faults
+    → ((b : History) → Stands g b old → Stands g b new)
+    → LeavesOrAdds g (Deposited (deposit_row serial owner reference bytes) token) old new
+    → KeepsBy g p (deposit_row p.serial owner reference bytes) (Ok signature) (refused (refusal.Sealing f)) old new
+    (Refused (fault_of (store_cause f)))
+unstored g p owner reference bytes signature serial token old new f number is which faults err crash =
+    let row = λ (n : ℕ). deposit_row n owner reference bytes in
+    unstored_by g p (row p.serial) signature old new f which faults err
+    (subst (λ x. LeavesOrAdds g (Deposited (row p.serial) x) old new) is
+    (subst (λ n. LeavesOrAdds g (Deposited (row n) token) old new) number crash))
+
+-- From the reservation on.
+
+-- the signer gives no signature
+unsigned_blamed : {S : Type 0} (g : Ghosts S) (f : SignerFault) (c : Command) (first new : BaseValue S)
+    → IsBlamed g c (joined (all_fine (Ok [])) (Err f) (all_fine (Ok []))) first new
+    (Refused (fault_of (signer_cause f)))
+unsigned_blamed g signer.Failed c first new = refl
+unsigned_blamed g signer.Memory c first new = tt
+
+pub unsigned : {S : Type 0} (g : Ghosts S) (p : PendingValue) (d : DepositValue) (f : SignerFault) (v : BaseValue S)
+    → KeepsBy g p d (Err f) (all_fine (Ok [])) v v (Refused (fault_of (signer_cause f)))
+unsigned g p d f v = record {
+  counted = refl;
+  blames = λ c first. unsigned_blamed g f c first v;
+  steps = λ honest b stands fits. record { says = refl; stands = stands; left = λ db r. inl (refl, r) };
+}
+
+-- The whole.
+
+-- A command is a deposit of new octets, whose request has these octets: what it has done where a plan was found, or
+-- none. P is what is known of the history.
+pub record IsNew (s : Setting) (c : Command) (a : AccountValue) (reading : ℤ) (reference bytes octets : List ℕ)
+    (P : History → Type 0) : Type 0 where
+  pub unused : (b : History) → P b → deposit_under a.name reference b ≡ None
+  pub has : (o : Outcome) (b : History) (f : Finding) → P b → o.searching ≡ Fine
+      → Finds s.file (Some a) reading octets o b f
+      → HasEffect s c o b (deposit_found s a.name reference bytes octets o b f)
+  pub excused : (b : History) → IsExcused (Begin (Some a) reading octets) b → IsExcused c b
+
+-- a plan is found as for a stamp
+under_octets : (s : Setting) (a : AccountValue) (reading : ℤ) (reference bytes : List ℕ) (o : Outcome) (b : History)
+    (f : Finding) → nat_le (length bytes) 1_048_576 ≡ true → deposit_under a.name reference b ≡ None
+    → Spells (octets_for s.file a bytes) (request_for s.file a bytes) → o.searching ≡ Fine
+    → Finds s.file (Some a) reading (octets_for s.file a bytes) o b f
+    → HasEffect s (Deposit a reading reference bytes) o b
+    (deposit_found s a.name reference bytes (octets_for s.file a bytes) o b f)
+under_octets s a reading reference bytes o b f few unused spelled fine found =
+    let e = deposit_found s a.name reference bytes (octets_for s.file a bytes) o b f in
+    subst (λ x. Keeps s a reading reference bytes o b x e) (sym few)
+    (subst (λ x. KeepsUnless s a reading reference bytes o b (cause_of x) e) (sym fine)
+    (subst (λ x. KeepsUnder s a reading reference bytes o b x e) (sym unused) (spelled, (f, found, refl))))
+
+pub is_few : (n : ℕ) → n ≤ 1_048_576 → nat_le n 1_048_576 ≡ true
+is_few n h = grind (arith, nat_tests)
+
+pub new_deposit : (s : Setting) (a : AccountValue) (reading : ℤ) (reference bytes : List ℕ)
+    → length bytes ≤ 1_048_576
+    → Spells (octets_for s.file a bytes) (request_for s.file a bytes)
+    → IsNew s (Deposit a reading reference bytes) a reading reference bytes (octets_for s.file a bytes)
+    (IsUnused a reference)
+new_deposit s a reading reference bytes few spelled = record {
+  unused = λ b p. p;
+  has = λ o b f p fine found. under_octets s a reading reference bytes o b f (is_few (length bytes) few) p spelled fine
+      found;
+  excused = λ b e. e;
+}
+
+-- where a beginning is refused, so is the deposit
+refused_by : (s : Setting) (owner reference bytes octets : List ℕ) (o : Outcome) (b : History) (plan : PlanValue)
+    (f : Fault) (why : Option Cause) → (begin_effect s owner plan octets b why).says ≡ Refused f
+    → (deposit_effect s owner reference bytes (stamping_of s owner plan octets o b why) ≡ only (Refused f))
+    × (begin_effect s owner plan octets b why ≡ only (Refused f))
+refused_by s owner reference bytes octets o b plan f None e = cc
+refused_by s owner reference bytes octets o b plan f (Some cause) e = (ap only e, ap only e)
+
+refused_found : (s : Setting) (owner reference bytes octets : List ℕ) (o : Outcome) (b : History) (f : Fault)
+    (found : Finding) → (begin_found s owner octets o b found).says ≡ Refused f
+    → (deposit_found s owner reference bytes octets o b found ≡ only (Refused f))
+    × (begin_found s owner octets o b found ≡ only (Refused f))
+refused_found s owner reference bytes octets o b f (Fails rule) e = cc
+refused_found s owner reference bytes octets o b f (Unanswered cause) e = (ap only e, ap only e)
+refused_found s owner reference bytes octets o b f (Allowed plan) e =
+    refused_by s owner reference bytes octets o b plan f (no_number o b) e
+
+-- and where a rule fails, it is rejected by it
+rejected_by : (s : Setting) (owner octets : List ℕ) (b : History) (plan : PlanValue) (rule : Rule)
+    (why : Option Cause) → (begin_effect s owner plan octets b why).says ≡ Rejected rule → ⊥
+rejected_by s owner octets b plan rule None e = cc
+rejected_by s owner octets b plan rule (Some cause) e = cc
+
+rejected_found : (s : Setting) (owner reference bytes octets : List ℕ) (o : Outcome) (b : History) (rule : Rule)
+    (found : Finding) → (begin_found s owner octets o b found).says ≡ Rejected rule
+    → (deposit_found s owner reference bytes octets o b found ≡ only (Refused (fault.Rejected rule)))
+    × (begin_found s owner octets o b found ≡ only (Rejected rule))
+rejected_found s owner reference bytes octets o b rule (Fails first) e =
+    let same : first ≡ rule = cc in (ap (λ x. only (Refused (fault.Rejected x))) same, ap only e)
+rejected_found s owner reference bytes octets o b rule (Unanswered cause) e = cc
+rejected_found s owner reference bytes octets o b rule (Allowed plan) e =
+    absurd (rejected_by s owner octets b plan rule (no_number o b) e)
+
+-- where the signer fails, a deposit adds what a beginning adds
+void_planned : (s : Setting) (owner reference bytes : List ℕ) (plan : PlanValue) (octets : List ℕ) (o : Outcome)
+    (b : History) (why : Option Cause) → o.signing ≡ Err signer.Failed
+    → (deposit_effect s owner reference bytes (stamping_of s owner plan octets o b why)).adds
+    ≡ (begin_effect s owner plan octets b why).adds
+void_planned s owner reference bytes plan octets o b (Some cause) e = refl
+void_planned s owner reference bytes plan octets o b None e =
+    let r = next_reservation s owner plan octets b in
+    ap (λ signing. (deposit_effect s owner reference bytes (signed_or_void (pending_of s plan r) r signing o)).adds) e
+
+void_found : (s : Setting) (owner reference bytes octets : List ℕ) (o : Outcome) (b : History) (found : Finding)
+    → o.signing ≡ Err signer.Failed
+    → (deposit_found s owner reference bytes octets o b found).adds ≡ (begin_found s owner octets o b found).adds
+void_found s owner reference bytes octets o b (Fails rule) e = refl
+void_found s owner reference bytes octets o b (Unanswered cause) e = refl
+void_found s owner reference bytes octets o b (Allowed plan) e =
+    void_planned s owner reference bytes plan octets o b (no_number o b) e
+
+-- what is in doubt after a beginning that added nothing is in doubt after its deposit
+doubted : {S : Type 0} (g : Ghosts S) (s : Setting) (c : Command) (a : AccountValue) (reading : ℤ)
+    (reference bytes octets : List ℕ) (P : History → Type 0) (o : Outcome) (b : History) (old : BaseValue S)
+    (answer : Answer) (db : Trees) → IsNew s c a reading reference bytes octets P → P b → o.searching ≡ Fine
+    → o.sealing ≡ Fine → (call : Call) → o.adding ≡ call
+    → IsDoubted s (Begin (Some a) reading octets) o b db
+    → MayBeLeft g s c o b old (only answer) db
+doubted g s c a reading reference bytes octets P o b old answer db new p fine sealed Fine is d =
+    absurd (d.refused is sealed)
+doubted g s c a reading reference bytes octets P o b old answer db new p fine sealed Wanting is d =
+    let has = subst (λ x. HasEffect s (Begin (Some a) reading octets) (settled_by x o) b d.doubted) is d.has in
+    let o2 = record o { adding = Fine; signing = Err signer.Failed } in
+    let e = deposit_found s a.name reference bytes octets o2 b has.0 in
+    inr (inr (record {
+      refused = d.refused;
+      doubted = e;
+      has = subst (λ x. HasEffect s c (settled_by x o) b e) (sym is) (new.has o2 b has.0 p fine has.1);
+      holds = subst (λ es. Holds (tables_of (es ++ b)) db)
+          (ap (λ x. x.adds) has.2 ∙ sym (void_found s a.name reference bytes octets o2 b has.0 refl)) d.holds;
+    }))
+doubted g s c a reading reference bytes octets P o b old answer db new p fine sealed Broken is d =
+    let has = subst (λ x. HasEffect s (Begin (Some a) reading octets) (settled_by x o) b d.doubted) is d.has in
+    let o2 = record o { adding = Fine; signing = Err signer.Failed } in
+    let e = deposit_found s a.name reference bytes octets o2 b has.0 in
+    inr (inr (record {
+      refused = d.refused;
+      doubted = e;
+      has = subst (λ x. HasEffect s c (settled_by x o) b e) (sym is) (new.has o2 b has.0 p fine has.1);
+      holds = subst (λ es. Holds (tables_of (es ++ b)) db)
+          (ap (λ x. x.adds) has.2 ∙ sym (void_found s a.name reference bytes octets o2 b has.0 refl)) d.holds;
+    }))
+
+-- a deposit that its beginning decides: nothing is added, and no signer is asked
+decided : {S X : Type 0} (g : Ghosts S) (signs : X → List ℕ → Result (List ℕ) SignerFault → X → Type 0)
+    (count : X → ℕ) (x : X) (s : Setting) (c : Command) (a : AccountValue) (reading : ℤ)
+    (reference bytes octets : List ℕ) (P : History → Type 0) (o : Outcome) (old new : BaseValue S)
+    (said answer : Answer) → IsNew s c a reading reference bytes octets P → o.searching ≡ Fine → o.sealing ≡ Fine
+    → o.signing ≡ Ok []
+    → StepsBy g no_signer s (Begin (Some a) reading octets) o old new said
+    → ((b : History) (f : Finding) → (begin_found s a.name octets o b f).says ≡ said
+    → (deposit_found s a.name reference bytes octets o b f ≡ only answer)
+    × (begin_found s a.name octets o b f ≡ only said))
+    → IsBlamed g c o old new answer
+    → StepsWhere g (with_signer signs count x x) s c P o old new answer
+decided g signs count x s c a reading reference bytes octets P o old new said answer is_new fine sealed unsigned begin
+    decides blamed = record {
+      counted = begin.counted;
+      signer = sym (ap (λ r. count_after r (count x)) unsigned);
+      blames = blamed;
+      steps = λ honest b stands p.
+          let h = begin.steps honest b stands tt in
+          let f = h.has.0 in
+          let d = decides b f (sym (h.says ∙ ap (λ y. y.says) h.has.2)) in
+          let none : h.effect.adds ≡ [] = ap (λ y. y.adds) (h.has.2 ∙ d.1) in
+          record {
+            effect = only answer;
+            has = subst (HasEffect s c o b) d.0 (is_new.has o b f p fine h.has.1);
+            says = refl;
+            moves = refl;
+            stands = subst (λ es. Stands g (es ++ b) new) none h.stands;
+            left = λ db r. elim (h.left db r) [
+              | inl before ↦ inl (refl, before.1)
+              | inr (inl holds) ↦ inr (inl (subst (λ es. Holds (tables_of (es ++ b)) db) none holds))
+              | inr (inr doubt) ↦ doubted g s c a reading reference bytes octets P o b old answer db is_new p fine
+                  sealed o.adding refl doubt
+            ];
+          };
+    }
+
+pub is_rejected : {S X : Type 0} (g : Ghosts S) (signs : X → List ℕ → Result (List ℕ) SignerFault → X → Type 0)
+    (count : X → ℕ) (x : X) (s : Setting) (c : Command) (a : AccountValue) (reading : ℤ)
+    (reference bytes octets : List ℕ) (P : History → Type 0) (old new : BaseValue S) (rule : Rule)
+    → IsNew s c a reading reference bytes octets P
+    → StepsBy g no_signer s (Begin (Some a) reading octets) (all_fine (Ok [])) old new (Rejected rule)
+    → StepsWhere g (with_signer signs count x x) s c P (all_fine (Ok [])) old new (Refused (fault.Rejected rule))
+is_rejected g signs count x s c a reading reference bytes octets P old new rule is_new begin =
+    decided g signs count x s c a reading reference bytes octets P (all_fine (Ok [])) old new (Rejected rule)
+    (Refused (fault.Rejected rule)) is_new refl refl refl begin
+    (λ b f. rejected_found s a.name reference bytes octets (all_fine (Ok [])) b rule f) tt
+
+-- a beginning that is refused was refused by a look-up or by its reservation
+beginning_calls : (r : Refusal) → IsOfBeginning r
+    → ((refused r).searching ≡ Fine) × ((refused r).sealing ≡ Fine) × ((refused r).signing ≡ Ok [])
+beginning_calls (refusal.Looking f) h = (refl, refl, refl)
+beginning_calls (refusal.Counting f) h = (refl, refl, refl)
+beginning_calls refusal.Spent h = (refl, refl, refl)
+beginning_calls refusal.Growing h = (refl, refl, refl)
+beginning_calls (refusal.Adding f) h = (refl, refl, refl)
+beginning_calls (refusal.Signing f) h = absurd (elim h [ inl x ↦ x | inr x ↦ x ])
+beginning_calls refusal.Wrapping h = absurd (elim h [ inl x ↦ x | inr x ↦ x ])
+beginning_calls (refusal.Sealing f) h = absurd (elim h [ inl x ↦ x | inr x ↦ x ])
+
+-- its fault names what the deposit's does
+blamed_too : {S : Type 0} (g : Ghosts S) (one other : Command) (o : Outcome) (old new : BaseValue S) (f : Fault)
+    → ((b : History) → IsExcused one b → IsExcused other b)
+    → IsBlamedFor g one o old new f → IsBlamedFor g other o old new f
+blamed_too g one other o old new fault.NotHere excused h = tt
+blamed_too g one other o old new fault.NotOwner excused h = tt
+blamed_too g one other o old new fault.Conflict excused h = tt
+blamed_too g one other o old new fault.UnknownReader excused h = tt
+blamed_too g one other o old new fault.SelfGrant excused h = tt
+blamed_too g one other o old new fault.TooLarge excused h = tt
+blamed_too g one other o old new (fault.Rejected rule) excused h = tt
+blamed_too g one other o old new fault.Memory excused h = tt
+blamed_too g one other o old new fault.Store excused (inl broken) = inl broken
+blamed_too g one other o old new fault.Store excused (inr spent) =
+    inr (λ honest b stands. excused b (spent honest b stands))
+blamed_too g one other o old new fault.Signer excused h = h
+
+pub is_refused : {S X : Type 0} (g : Ghosts S) (signs : X → List ℕ → Result (List ℕ) SignerFault → X → Type 0)
+    (count : X → ℕ) (x : X) (s : Setting) (c : Command) (a : AccountValue) (reading : ℤ)
+    (reference bytes octets : List ℕ) (P : History → Type 0) (old new : BaseValue S) (r : Refusal)
+    → IsNew s c a reading reference bytes octets P → IsOfBeginning r
+    → StepsBy g no_signer s (Begin (Some a) reading octets) (refused r) old new (Refused (fault_of (cause_with r)))
+    → StepsWhere g (with_signer signs count x x) s c P (refused r) old new (Refused (fault_of (cause_with r)))
+is_refused g signs count x s c a reading reference bytes octets P old new r is_new of begin =
+    let calls = beginning_calls r of in
+    let f = fault_of (cause_with r) in
+    decided g signs count x s c a reading reference bytes octets P (refused r) old new (Refused f) (Refused f)
+    is_new calls.0 calls.1 calls.2 begin
+    (λ b found. refused_found s a.name reference bytes octets (refused r) b f found)
+    (blamed_too g (Begin (Some a) reading octets) c (refused r) old new f is_new.excused begin.blames)
+
+-- what follows a reservation is the deposit's effect
+begun_by : (s : Setting) (owner octets : List ℕ) (b : History) (plan : PlanValue) (p : PendingValue)
+    (why : Option Cause) → (begin_effect s owner plan octets b why).says ≡ Begun p
+    → (why ≡ None) × (p ≡ pending_of s plan (next_reservation s owner plan octets b))
+begun_by s owner octets b plan p None e = (refl, cc)
+begun_by s owner octets b plan p (Some cause) e = cc
+
+sealed_kept : (s : Setting) (plan : PlanValue) (r : ReservationValue) (owner reference bytes signature : List ℕ)
+    (why : Option Cause)
+    → kept_by (pending_of s plan r) (deposit_row r.serial owner reference bytes) signature (Reserved r ∷ []) why
+    ≡ deposit_effect s owner reference bytes (sealed_or_void r (token_with (pending_of s plan r) signature) why)
+sealed_kept s plan r owner reference bytes signature None = refl
+sealed_kept s plan r owner reference bytes signature (Some cause) = refl
+
+signed_kept : (s : Setting) (plan : PlanValue) (r : ReservationValue) (owner reference bytes : List ℕ)
+    (o finished : Outcome) (signing : Result (List ℕ) SignerFault)
+    → kept (pending_of s plan r) (deposit_row r.serial owner reference bytes) signing (Reserved r ∷ []) finished
+    ≡ deposit_effect s owner reference bytes (signed_or_void (pending_of s plan r) r signing
+    (joined o signing finished))
+signed_kept s plan r owner reference bytes o finished (Ok signature) =
+    sealed_kept s plan r owner reference bytes signature (no_seal finished)
+signed_kept s plan r owner reference bytes o finished (Err signer.Failed) = refl
+signed_kept s plan r owner reference bytes o finished (Err signer.Memory) = refl
+
+kept_found : (s : Setting) (owner reference bytes octets : List ℕ) (o finished : Outcome)
+    (signing : Result (List ℕ) SignerFault) (b : History) (p : PendingValue) (f : Finding)
+    → (begin_found s owner octets o b f).says ≡ Begun p
+    → kept p (deposit_row p.serial owner reference bytes) signing (begin_found s owner octets o b f).adds finished
+    ≡ deposit_found s owner reference bytes octets (joined o signing finished) b f
+kept_found s owner reference bytes octets o finished signing b p (Fails rule) e = cc
+kept_found s owner reference bytes octets o finished signing b p (Unanswered cause) e = cc
+kept_found s owner reference bytes octets o finished signing b p (Allowed plan) e =
+    let by = begun_by s owner octets b plan p (no_number o b) e in
+    let r = next_reservation s owner plan octets b in
+    let row = λ (n : ℕ). deposit_row n owner reference bytes in
+    ap (λ (x : Effect). kept p (row p.serial) signing x.adds finished) (ap (begin_effect s owner plan octets b) by.0)
+    ∙ (ap (λ (x : PendingValue). kept x (row x.serial) signing (Reserved r ∷ []) finished) by.1
+    ∙ (signed_kept s plan r owner reference bytes o finished signing
+    ∙ ap (λ why. deposit_effect s owner reference bytes (stamping_of s owner plan octets (joined o signing finished) b
+    why)) (sym by.0)))
+
+-- the deposit fits after its reservation
+fits_reserved : (r : ReservationValue) (owner reference bytes : List ℕ) (b : History) → Along Fits b
+    → greatest_serial b < r.serial → r.account ≡ owner → deposit_under owner reference b ≡ None
+    → FitsDeposited (deposit_row r.serial owner reference bytes) (Reserved r ∷ b)
+fits_reserved r owner reference bytes b sound above own unused = record {
+  sealed = record {
+    reservation = r;
+    reserved = rw (eq-eqb r.serial r.serial refl);
+    open_yet = unsealed_above b sound r.serial above;
+  };
+  owner = own;
+  unused = unused;
+}
+
+fits_begun : (s : Setting) (a : AccountValue) (reading : ℤ) (reference bytes octets : List ℕ) (b : History)
+    (p : PendingValue) (e : Effect) → Along Fits b → deposit_under a.name reference b ≡ None
+    → IsBegun s (Some a) reading octets b p e
+    → FitsDeposited (deposit_row p.serial a.name reference bytes) (after e b)
+fits_begun s a reading reference bytes octets b p e sound unused begun =
+    let r = next_reservation s a.name begun.plan octets b in
+    subst (λ (x : PendingValue). FitsDeposited (deposit_row x.serial a.name reference bytes) (after e b))
+    (sym begun.pending)
+    (subst (λ es. FitsDeposited (deposit_row r.serial a.name reference bytes) (es ++ b))
+    (sym (ap (λ x. x.adds) begun.effect))
+    (fits_reserved r a.name reference bytes b sound (omega arith) refl unused))
+
+-- and is added to it
+added_kept : (p : PendingValue) (d : DepositValue) (signature : List ℕ) (why : Option Cause) (begun : List Entry)
+    (b : History)
+    → (kept_by p d signature [] why).adds ++ (begun ++ b) ≡ (kept_by p d signature begun why).adds ++ b
+added_kept p d signature None begun b = refl
+added_kept p d signature (Some cause) begun b = refl
+
+added : (p : PendingValue) (d : DepositValue) (signing : Result (List ℕ) SignerFault) (finished : Outcome)
+    (begun : List Entry) (b : History)
+    → (kept p d signing [] finished).adds ++ (begun ++ b) ≡ (kept p d signing begun finished).adds ++ b
+added p d (Ok signature) finished begun b = added_kept p d signature (no_seal finished) begun b
+added p d (Err f) finished begun b = refl
+
+says_kept : (p : PendingValue) (d : DepositValue) (signature : List ℕ) (why : Option Cause) (begun : List Entry)
+    → (kept_by p d signature [] why).says ≡ (kept_by p d signature begun why).says
+says_kept p d signature None begun = refl
+says_kept p d signature (Some cause) begun = refl
+
+says : (p : PendingValue) (d : DepositValue) (signing : Result (List ℕ) SignerFault) (finished : Outcome)
+    (begun : List Entry) → (kept p d signing [] finished).says ≡ (kept p d signing begun finished).says
+says p d (Ok signature) finished begun = says_kept p d signature (no_seal finished) begun
+says p d (Err f) finished begun = refl
+
+asks_kept : (p : PendingValue) (d : DepositValue) (signature : List ℕ) (why : Option Cause) (begun : List Entry)
+    → Some (attribute_text p.identity p.tst) ≡ (kept_by p d signature begun why).asks
+asks_kept p d signature None begun = refl
+asks_kept p d signature (Some cause) begun = refl
+
+asks : (p : PendingValue) (d : DepositValue) (signing : Result (List ℕ) SignerFault) (finished : Outcome)
+    (begun : List Entry) → Some (attribute_text p.identity p.tst) ≡ (kept p d signing begun finished).asks
+asks p d (Ok signature) finished begun = asks_kept p d signature (no_seal finished) begun
+asks p d (Err f) finished begun = refl
+
+-- a deposit of new octets whose beginning reserved, and what it has done then
+pub record IsReserved (s : Setting) (c : Command) (a : AccountValue) (reading : ℤ)
+    (reference bytes octets : List ℕ) (b : History) (p : PendingValue) (e : Effect) : Type 0 where
+  pub begun : IsBegun s (Some a) reading octets b p e
+  pub has : (signing : Result (List ℕ) SignerFault) (finished : Outcome)
+      → HasEffect s c (joined (all_fine (Ok [])) signing finished) b
+      (kept p (deposit_row p.serial a.name reference bytes) signing e.adds finished)
+
+reserved : (s : Setting) (c : Command) (a : AccountValue) (reading : ℤ) (reference bytes octets : List ℕ)
+    (P : History → Type 0) (b : History) (p : PendingValue) (e : Effect)
+    → IsNew s c a reading reference bytes octets P → P b
+    → HasEffect s (Begin (Some a) reading octets) (all_fine (Ok [])) b e → e.says ≡ Begun p
+    → IsReserved s c a reading reference bytes octets b p e
+reserved s c a reading reference bytes octets P b p e is_new holds h said =
+    let o = all_fine (Ok []) in
+    let d = deposit_row p.serial a.name reference bytes in
+    record {
+      begun = (stamp_begun s (Some a) reading octets o o (Ok []) b e p h said).0;
+      has = λ signing finished.
+          let found = is_new.has (joined o signing finished) b h.0 holds refl
+          (finds_joined s (Some a) reading octets o finished signing b h.0 h.1) in
+          subst (HasEffect s c (joined o signing finished) b)
+          (sym (ap (λ (x : Effect). kept p d signing x.adds finished) h.2
+          ∙ kept_found s a.name reference bytes octets o finished signing b p h.0
+          (sym (ap (λ x. x.says) h.2) ∙ said))) found;
+    }
+
+-- what a stop leaves after it
+left_kept : {S : Type 0} (g : Ghosts S) (s : Setting) (c : Command) (a : AccountValue) (reading : ℤ)
+    (reference bytes octets : List ℕ) (p : PendingValue) (signing : Result (List ℕ) SignerFault) (finished : Outcome)
+    (b : History) (old mid : BaseValue S) (e : Effect) (db : Trees)
+    → IsReserved s c a reading reference bytes octets b p e
+    → ((db : Trees) → Recovers g mid db
+    → MayBeLeft g s (Begin (Some a) reading octets) (all_fine (Ok [])) b old e db)
+    → MayStayKept g p (deposit_row p.serial a.name reference bytes) signing finished (after e b) mid db
+    → MayBeLeft g s c (joined (all_fine (Ok [])) signing finished) b old
+    (kept p (deposit_row p.serial a.name reference bytes) signing e.adds finished) db
+left_kept g s c a reading reference bytes octets p signing finished b old mid e db is before (inl none) =
+    let d = deposit_row p.serial a.name reference bytes in
+    elim (before db none.1) [
+      | inl nothing ↦ absurd (begun_adds s (Some a) reading octets b p e is.begun nothing.0)
+      | inr (inl holds) ↦ inr (inl (subst (λ es. Holds (tables_of es) db)
+          (ap (λ (es : List Entry). es ++ (e.adds ++ b)) (sym none.0) ∙ added p d signing finished e.adds b) holds))
+      | inr (inr doubt) ↦ absurd (sure s (Some a) reading octets b db doubt)
+    ]
+left_kept g s c a reading reference bytes octets p signing finished b old mid e db is before (inr (inl holds)) =
+    let d = deposit_row p.serial a.name reference bytes in
+    inr (inl (subst (λ es. Holds (tables_of es) db) (added p d signing finished e.adds b) holds))
+left_kept g s c a reading reference bytes octets p signing finished b old mid e db is before (inr (inr doubt)) =
+    let d = deposit_row p.serial a.name reference bytes in
+    let sealed = record finished { sealing = Fine } in
+    inr (inr (record {
+      refused = λ adding sealing. doubt.0 sealing;
+      doubted = kept p d signing e.adds sealed;
+      has = is.has signing sealed;
+      holds = subst (λ es. Holds (tables_of es) db) (added p d signing sealed e.adds b) doubt.1;
+    }))
+
+-- a deposit whose beginning reserved: the signer is asked, and token and deposit are stored where it answers
+pub is_kept : {S X : Type 0} (g : Ghosts S) (signs : X → List ℕ → Result (List ℕ) SignerFault → X → Type 0)
+    (count : X → ℕ) (x y : X) (s : Setting) (c : Command) (a : AccountValue) (reading : ℤ)
+    (reference bytes octets : List ℕ) (P : History → Type 0) (p : PendingValue)
+    (signing : Result (List ℕ) SignerFault) (finished : Outcome) (old mid new : BaseValue S) (answer : Answer)
+    → IsNew s c a reading reference bytes octets P
+    → StepsBy g no_signer s (Begin (Some a) reading octets) (all_fine (Ok [])) old mid (Begun p)
+    → (IsHonest g new → IsHonest g mid)
+    → SignsAndKeeps g (with_signer signs count x y) p (deposit_row p.serial a.name reference bytes) signing finished
+    mid new answer
+    → StepsWhere g (with_signer signs count x y) s c P (joined (all_fine (Ok [])) signing finished) old new answer
+is_kept g signs count x y s c a reading reference bytes octets P p signing finished old mid new answer is_new begin
+    honest done = record {
+      counted = done.keeps.counted ∙ ap (λ n. counted finished.sealing (counted finished.wrapping n)) begin.counted;
+      signer = done.signer;
+      blames = done.keeps.blames c old;
+      steps = λ kept_disk b stands holds.
+          let d = deposit_row p.serial a.name reference bytes in
+          let h = begin.steps (honest kept_disk) b stands tt in
+          let is = reserved s c a reading reference bytes octets P b p h.effect is_new holds h.has (sym h.says) in
+          let fits = fits_begun s a reading reference bytes octets b p h.effect stands.sound (is_new.unused b holds)
+          is.begun in
+          let after_it = done.keeps.steps kept_disk (after h.effect b) h.stands fits in
+          record {
+            effect = kept p d signing h.effect.adds finished;
+            has = is.has signing finished;
+            says = after_it.says ∙ says p d signing finished h.effect.adds;
+            moves = subst (λ asked. Moves signs asked signing x y) (asks p d signing finished h.effect.adds) done.moves;
+            stands = subst (λ es. Stands g es new) (added p d signing finished h.effect.adds b) after_it.stands;
+            left = λ db r. left_kept g s c a reading reference bytes octets p signing finished b old mid h.effect db is
+                h.left (after_it.left db r);
+          };
+    }

@@ -1,0 +1,22 @@
+use Rattle.std.proofs.Common.{refl, ap, SFits, w64, to_z-of_z, rules}
+use Rattle.policy.specs.View.{account_view}
+use Rattle.desk.specs.Answers.{answered}
+use Rattle.desk.specs.Calls.{opening_view}
+use Rattle.desk.specs.Command.{Deposit}
+use Rattle.desk.specs.Shown.{deposited_as}
+use Rattle.desk.proofs.Opened.{steps_opened}
+use Rattle.desk.proofs.desk.Desk.deposit.Goals as goal
+
+pub returns-clause-step : goal.returns-clause-step
+returns-clause-step g c =
+    let reading : SFits w64 c.args.reading = search rules in
+    let a = account_view c.args.account.now in
+    let said = answered deposited_as c.deposit_with.result in (
+      c.deposit_with.ensures.step.0,
+      steps_opened g.S.Store _
+          (record { setting = opening_view c.self.inside.opening; store = c.self.inside.store }) c.args.self.now _
+          (Deposit a c.args.reading c.args.reference.now c.args.bytes.now) c.deposit_with.ensures.step.0
+          c.deposit_with.new.store said said c.self.view_is
+          (ap (λ r. Deposit a r c.args.reference.now c.args.bytes.now) (to_z-of_z reading)) refl
+          c.deposit_with.ensures.step.1,
+    )

@@ -1,0 +1,104 @@
+-- A deposit in its parts: stepping stones of the proofs.
+use Rattle.std.specs.Prelude.{◌≡◌, ◌⊎◌, ℕ, ◌≤◌, true, if◌then◌else◌, List, [], ◌∷◌, ◌++◌, Option, Some, None, Result}
+use Rattle.std.specs.Prelude.{Ok, Err}
+use Rattle.std.specs.Str.{bytes_eq}
+use Rattle.sqlite_trees.specs.Tree.{Trees}
+use Rattle.sqlite_trees.specs.declared.store.Store.{Ghosts}
+use Rattle.policy.specs.Record.{AccountValue}
+use Rattle.cms.specs.SignedData.{attribute_text}
+use Rattle.cms.specs.declared.signer.SignerFault.{SignerFault}
+use Rattle.tables.specs.Base.{BaseValue, IsHonest, Recovers, Holds}
+use Rattle.store.specs.History.{Entry, Deposited, History, DepositValue, deposit_under}
+use Rattle.store.specs.Sound.{FitsDeposited}
+use Rattle.store.specs.Stands.{Stands}
+use Rattle.store.specs.TablesOf.{tables_of}
+use Rattle.desk.specs.Outcome.{Fine, Outcome, Cause, counted, faults_after, all_fine}
+use Rattle.desk.specs.Command.{Setting, PendingValue, Command, Answer, Kept, Refused}
+use Rattle.desk.specs.Texts.{token_with}
+use Rattle.desk.specs.Effects.{Effect, fault_of, no_seal}
+use Rattle.desk.specs.Stepped.{SignerStep, IsBlamed, HasStepped}
+use Rattle.desk.specs.Calls.{signer_cause}
+use Rattle.desk.specs.Wholes.{joined}
+use Rattle.desk.specs.Fault.{IsLate}
+use Rattle.desk.specs.declared.finding.Found.{Found}
+use Rattle.desk.specs.declared.finding.Found.TheVariants as found
+use Rattle.desk.specs.declared.reply.Begun.{Begun}
+use Rattle.desk.specs.declared.reply.Begun.TheVariants as begun
+use Rattle.desk.specs.declared.depositing.Known.{Known}
+use Rattle.desk.specs.declared.depositing.Known.TheVariants as known
+
+-- what stands under a reference, as the octets are told from others
+abbrev pub known_in : List ℕ → Option DepositValue → Known
+known_in bytes None = known.Nothing
+known_in bytes (Some d) = if bytes_eq d.bytes bytes then known.Same d.serial else known.Other
+
+-- what follows the reservation, once it stands: token and deposit, or why there are none
+abbrev pub kept_by : PendingValue → DepositValue → List ℕ → List Entry → Option Cause → Effect
+kept_by p d signature begun None = record {
+  adds = Deposited d (token_with p signature) ∷ begun;
+  asks = Some (attribute_text p.identity p.tst);
+  says = Kept d.serial true;
+}
+kept_by p d signature begun (Some cause) =
+    record { adds = begun; asks = Some (attribute_text p.identity p.tst); says = Refused (fault_of cause) }
+
+abbrev pub kept : PendingValue → DepositValue → Result (List ℕ) SignerFault → List Entry → Outcome → Effect
+kept p d (Ok signature) begun sealed = kept_by p d signature begun (no_seal sealed)
+kept p d (Err fault) begun sealed = record {
+  adds = begun;
+  asks = Some (attribute_text p.identity p.tst);
+  says = Refused (fault_of (signer_cause fault));
+}
+
+-- what a stop leaves after that: what it could leave before, the tables with the deposit, or those in doubt
+abbrev pub MayStayKept : {S : Type 0} → Ghosts S → PendingValue → DepositValue → Result (List ℕ) SignerFault → Outcome
+    → History → BaseValue S → Trees → Type 0
+MayStayKept g p d signing o b old db =
+    (((kept p d signing [] o).adds ≡ []) × Recovers g old db)
+    ⊎ (Holds (tables_of ((kept p d signing [] o).adds ++ b)) db
+    ⊎ ((o.sealing ≡ Fine → ⊥)
+    × Holds (tables_of ((kept p d signing [] (record o { sealing = Fine })).adds ++ b)) db))
+
+-- what holds after it, where the store stood for the history b
+pub record HasKept {S : Type 0} (g : Ghosts S) (p : PendingValue) (d : DepositValue)
+    (signing : Result (List ℕ) SignerFault) (o : Outcome) (b : History) (old new : BaseValue S) (answer : Answer)
+    : Type 0 where
+  pub says : answer ≡ (kept p d signing [] o).says
+  pub stands : Stands g ((kept p d signing [] o).adds ++ b) new
+  pub left : (db : Trees) → Recovers g new db → MayStayKept g p d signing o b old db
+
+-- A deposit from its signature on: token and deposit are stored in one commit.
+pub record KeepsBy {S : Type 0} (g : Ghosts S) (p : PendingValue) (d : DepositValue)
+    (signing : Result (List ℕ) SignerFault) (o : Outcome) (old new : BaseValue S) (answer : Answer) : Type 0 where
+  pub counted : new.faults ≡ counted o.sealing (counted o.wrapping old.faults)
+  pub blames : (c : Command) (first : BaseValue S) → IsBlamed g c (joined (all_fine (Ok [])) signing o) first new answer
+  pub steps : IsHonest g new → (b : History) → Stands g b old → FitsDeposited d b
+      → HasKept g p d signing o b old new answer
+
+-- The same from its reservation on: the signer is asked first.
+pub record SignsAndKeeps {S : Type 0} (g : Ghosts S) (t : SignerStep) (p : PendingValue) (d : DepositValue)
+    (signing : Result (List ℕ) SignerFault) (o : Outcome) (old new : BaseValue S) (answer : Answer) : Type 0 where
+  pub signer : t.counts signing
+  pub moves : t.moves (Some (attribute_text p.identity p.tst)) signing
+  pub keeps : KeepsBy g p d signing o old new answer
+
+-- how a deposit's rules fail
+abbrev pub FailsLate : Found → Type 0
+FailsLate (found.Fails rule) = IsLate rule
+FailsLate (found.Allows p) = Unit {0}
+
+abbrev pub IsRejectedLate : Begun → Type 0
+IsRejectedLate (begun.Rejected rejection) = IsLate rejection.rule
+IsRejectedLate (begun.Pending p) = Unit {0}
+
+-- A step of the machine from each history of which P holds.
+pub record StepsWhere {S : Type 0} (g : Ghosts S) (t : SignerStep) (s : Setting) (c : Command) (P : History → Type 0)
+    (o : Outcome) (old new : BaseValue S) (answer : Answer) : Type 0 where
+  pub counted : new.faults ≡ faults_after o old.faults
+  pub signer : t.counts o.signing
+  pub blames : IsBlamed g c o old new answer
+  pub steps : IsHonest g new → (b : History) → Stands g b old → P b → HasStepped g t s c o b old new answer
+
+-- the owner hasn't used the reference
+abbrev pub IsUnused : AccountValue → List ℕ → History → Type 0
+IsUnused owner reference b = deposit_under owner.name reference b ≡ None

@@ -1,0 +1,304 @@
+//! A deposit: its stamp, and both in one commit.
+ghost use Rattle.std.specs.Prelude.{◌≡◌, ◌⊎◌, ℕ, ◌<◌, ◌≤◌, List, Some, Ok, Err, Result, length, IfOk, IfErr};
+ghost use Rattle.std.specs.Prelude.{MatchResult};
+ghost use Rattle.cms.specs.declared.signer.SignerFault.{SignerFault as SpecFault};
+ghost use Rattle.der.specs.Node.{encoding, IsLawful};
+ghost use Rattle.policy.specs.View.{account_view, policy_view};
+ghost use Rattle.tables.specs.Base.{IsHonest};
+ghost use Rattle.tsp.specs.Request.{Spells, time_stamp_req, unstated};
+ghost use Rattle.tsp.specs.View.{request_view};
+ghost use Rattle.store.specs.Fault.{count_after};
+ghost use Rattle.store.specs.History.{History, deposit_under, greatest_serial};
+ghost use Rattle.store.specs.Stands.{Stands, OnlyLooks};
+ghost use Rattle.desk.specs.Answers.{answered, begun_as, told};
+ghost use Rattle.desk.specs.Calls.{outcome_of, opening_view, plan_of, IsOfBeginning, IsOfReserving, Reserves};
+ghost use Rattle.desk.specs.Command.{Begin, Deposit};
+ghost use Rattle.desk.specs.Depositing.{known_in, IsRejectedLate, IsUnused, KeepsBy, SignsAndKeeps, StepsWhere};
+ghost use Rattle.desk.specs.Effects.{deposit_row};
+ghost use Rattle.desk.specs.Fault.{IsOfDeposit};
+ghost use Rattle.desk.specs.Outcome.{Outcome, faults_after};
+ghost use Rattle.desk.specs.Shown.{deposited_as};
+ghost use Rattle.desk.specs.Stepped.{IsStep, StepsBy, no_signer, with_signer};
+ghost use Rattle.desk.specs.Texts.{gives_certificate, octets_for, request_for};
+
+use crate::fault::Fault;
+use crate::finding::{Found, Planned, judge};
+use crate::obstacle::Obstacle;
+use crate::opening::Opening;
+use crate::pending::Pending;
+use crate::refusal::Refusal;
+use crate::reply::{Begun, Deposited};
+use crate::reserving::{GREATEST, reserve_next};
+use cms::{Signer, token};
+use policy::{Account, Policy};
+use sha2::{Digest, Sha256};
+use sqlite::Alter;
+use std::alloc::Global;
+use store::{Store, StoreFault};
+use tsp::{Rejection, Request, requests_have_one_reading, write_request};
+
+/// The most octets of a deposit.
+const MOST: usize = 1_048_576;
+
+/// What stands under a reference.
+#[derive(Clone, Copy, Debug, PartialEq, Eq)]
+pub(crate) enum Known {
+    /// No deposit.
+    Nothing,
+    /// One of the same octets, with this number.
+    Same(u64),
+    /// One of other octets.
+    Other,
+}
+
+/// What an owner has deposited under a reference, as the octets are told from others.
+fn find_known<S: Alter + Drop>(
+    store: &mut Store<S>,
+    owner: &str,
+    reference: &str,
+    bytes: &[u8],
+) -> Result<Known, StoreFault>
+    ensures looks { OnlyLooks S.Store store.old store.new }
+    ensures value { IsHonest S.Store store.new → (b : History) → Stands S.Store b store.old
+        → IfOk result (λ known. known ≡ known_in bytes.now (deposit_under owner.now reference.now b)) }
+    ensures refusals { IfErr result (λ e. (e ≡ StoreFault.Memory) ⊎ (e ≡ StoreFault.Database)) }
+    ensures faults { MatchResult result (λ _. store.new.faults ≡ store.old.faults)
+        (λ e. store.new.faults ≡ count_after e store.old.faults) }
+{
+    let Some(deposit) = store.by_reference(owner, reference)? else {
+        return Ok(Known::Nothing);
+    };
+    if deposit.bytes.as_slice() == bytes {
+        Ok(Known::Same(deposit.serial))
+    } else {
+        Ok(Known::Other)
+    }
+}
+
+/// Whether the account's default policy gives the certificate out.
+fn gives_certificate(policy: &Policy, account: &Account) -> bool
+    ensures { result ≡ gives_certificate (policy_view policy.now) (account_view account.now) }
+{
+    match policy.default_policy(account) {
+        None => false,
+        Some(default) => default.certificate,
+    }
+}
+
+/// The octets of a request that no rule refuses, where a serial number is left.
+fn octets_of(alloc: Global, planned: &Planned<'_, '_>) -> Result<Vec<u8>, Refusal>
+    requires { IsLawful (time_stamp_req unstated (request_view planned.now.request)) }
+    ensures octets { IfOk result (λ octets. octets.items
+        ≡ encoding (time_stamp_req unstated (request_view planned.now.request))) }
+    ensures left { IfErr result (λ refusal. ((refusal ≡ Refusal.Spent) × (9223372036854775807 ≤ planned.now.last))
+        ⊎ ((refusal ≡ Refusal.Growing) × (planned.now.last < 9223372036854775807))) }
+{
+    if planned.last >= GREATEST {
+        return Err(Refusal::Spent);
+    }
+    match write_request(alloc, &planned.request) {
+        Ok(octets) => Ok(octets),
+        Err(_) => Err(Refusal::Growing),
+    }
+}
+
+/// Reserves the next serial number for the request without its stated FALSEs: `reserve_next` on the octets that are
+/// written first.
+fn reserve<'p, S: Alter + Drop>(
+    store: &mut Store<S>,
+    alloc: Global,
+    opening: Opening<'p>,
+    account: &str,
+    planned: Planned<'p, '_>,
+) -> Result<Pending<'p>, Refusal>
+    requires spelled { Spells (encoding (time_stamp_req unstated (request_view planned.request)))
+        (request_view planned.request) }
+    requires short { length (encoding (time_stamp_req unstated (request_view planned.request))) ≤ 65536 }
+    ensures honest { IsHonest S.Store store.new → IsHonest S.Store store.old }
+    ensures counted { store.new.faults ≡ faults_after (outcome_of result) store.old.faults }
+    ensures reserves { IsHonest S.Store store.new → (b : History) → Stands S.Store b store.old
+        → greatest_serial b ≡ planned.entry.last
+        → Reserves S.Store (opening_view opening.entry) account.now (plan_of planned.entry)
+        (encoding (time_stamp_req unstated (request_view planned.entry.request))) b store.old store.new result }
+    ensures refusals { IfErr result IsOfReserving }
+{
+    requests_have_one_reading();
+    let octets = match octets_of(alloc, &planned) {
+        Ok(octets) => octets,
+        Err(refusal) => return Err(refusal),
+    };
+    match reserve_next(store, alloc, opening, account, planned, &octets) {
+        Ok(pending) => Ok(pending),
+        Err(refusal) => Err(refusal),
+    }
+}
+
+/// Judges the request as which a deposit is stamped, and reserves the next serial number where no rule fails. The
+/// octets of the deposit are hashed here, and nowhere else.
+fn begin<'p, S: Alter + Drop>(
+    store: &mut Store<S>,
+    alloc: Global,
+    opening: Opening<'p>,
+    account: &Account,
+    reading: i64,
+    bytes: &[u8],
+) -> Result<Begun<'p>, Refusal>
+    ensures honest { IsHonest S.Store store.new → IsHonest S.Store store.old }
+    ensures step { StepsBy S.Store no_signer (opening_view opening.entry)
+        (Begin (Some (account_view account.now)) reading
+        (octets_for (policy_view opening.entry.policy.now) (account_view account.now) bytes.now))
+        (outcome_of result) store.old store.new (told begun_as result) }
+    ensures spelled { Spells (octets_for (policy_view opening.entry.policy.now) (account_view account.now) bytes.now)
+        (request_for (policy_view opening.entry.policy.now) (account_view account.now) bytes.now) }
+    ensures late { IfOk result IsRejectedLate }
+    ensures refusals { IfErr result IsOfBeginning }
+{
+    let policy = opening.policy;
+    let digest = Sha256::digest(bytes);
+    let request = Request::of_sha256(&digest, gives_certificate(policy, account));
+    match judge(store, policy, Some(account), reading, request) {
+        Err(refusal) => Err(refusal),
+        Ok(Found::Fails(rule)) => Ok(Begun::Rejected(Rejection::of(rule))),
+        Ok(Found::Allows(planned)) => {
+            match reserve(store, alloc, opening, account.name.as_str(), planned) {
+                Ok(pending) => Ok(Begun::Pending(pending)),
+                Err(refusal) => Err(refusal),
+            }
+        }
+    }
+}
+
+/// Stores a deposit with its token over a signature, in one commit. The token's memory is taken before.
+fn seal<S: Alter + Drop>(
+    store: &mut Store<S>,
+    alloc: Global,
+    pending: Pending<'_>,
+    signature: &[u8],
+    owner: &str,
+    reference: &str,
+    bytes: &[u8],
+) -> Result<Deposited, Refusal>
+    requires some { 1 ≤ length signature.now }
+    requires few { length signature.now ≤ 4096 }
+    ensures honest { IsHonest S.Store store.new → IsHonest S.Store store.old }
+    ensures keeps { KeepsBy S.Store pending.entry
+        (deposit_row pending.entry.serial owner.now reference.now bytes.now) (Ok signature.now) (outcome_of result)
+        store.old store.new (told deposited_as result) }
+{
+    let Pending {
+        serial,
+        tst,
+        text: _,
+        certificate,
+        identity,
+        algorithm,
+    } = pending;
+    let token = match token(alloc, identity, algorithm, &tst, signature, certificate) {
+        Ok(token) => token,
+        Err(_) => return Err(Refusal::Wrapping),
+    };
+    match store.seal_deposit(serial, &token, owner, reference, bytes) {
+        Ok(()) => Ok(Deposited {
+            number: serial,
+            is_new: true,
+        }),
+        Err(fault) => Err(Refusal::Sealing(fault)),
+    }
+}
+
+/// Has the text of a reservation signed, and stores the deposit with its token. Where the signer, memory or the store
+/// refuses, the reservation stays void.
+fn sign_and_seal<S: Alter + Drop, X: Signer>(
+    store: &mut Store<S>,
+    alloc: Global,
+    pending: Pending<'_>,
+    owner: &str,
+    reference: &str,
+    bytes: &[u8],
+    signer: &mut X,
+) -> Result<Deposited, Refusal>
+    ensures honest { IsHonest S.Store store.new → IsHonest S.Store store.old }
+    ensures keeps { (signing : Result (List ℕ) SpecFault) × (o : Outcome)
+        × SignsAndKeeps S.Store (with_signer X.signs X.fault_count signer.old signer.new) pending.entry
+        (deposit_row pending.entry.serial owner.now reference.now bytes.now) signing o store.old store.new
+        (told deposited_as result) }
+{
+    match signer.sign(pending.text()) {
+        Ok(signature) => {
+            match seal(store, alloc, pending, &signature, owner, reference, bytes) {
+                Ok(deposited) => Ok(deposited),
+                Err(refusal) => Err(refusal),
+            }
+        }
+        Err(fault) => {
+            pending.abandon();
+            Err(Refusal::Signing(fault))
+        }
+    }
+}
+
+/// Stamps and stores a deposit whose owner hasn't used the reference.
+fn deposit_new<S: Alter + Drop, X: Signer>(
+    store: &mut Store<S>,
+    alloc: Global,
+    opening: Opening<'_>,
+    account: &Account,
+    reading: i64,
+    reference: &str,
+    bytes: &[u8],
+    signer: &mut X,
+) -> Result<Deposited, Fault>
+    requires few { length bytes.now ≤ 1048576 }
+    ensures honest { IsHonest S.Store store.new → IsHonest S.Store store.old }
+    ensures refusals { IfErr result IsOfDeposit }
+    ensures step { (o : Outcome) × StepsWhere S.Store (with_signer X.signs X.fault_count signer.old signer.new)
+        (opening_view opening.entry) (Deposit (account_view account.now) reading reference.now bytes.now)
+        (IsUnused (account_view account.now) reference.now) o store.old store.new (answered deposited_as result) }
+{
+    let owner = account.name.as_str();
+    match begin(store, alloc, opening, account, reading, bytes) {
+        Err(refusal) => Err(Fault::from(refusal)),
+        Ok(Begun::Rejected(rejection)) => Err(Fault::Rejected(rejection.rule)),
+        Ok(Begun::Pending(pending)) => {
+            match sign_and_seal(store, alloc, pending, owner, reference, bytes, signer) {
+                Ok(deposited) => Ok(deposited),
+                Err(refusal) => Err(Fault::from(refusal)),
+            }
+        }
+    }
+}
+
+/// Stamps and stores a deposit, or tells the number under which the owner has deposited the same octets.
+pub(crate) fn deposit_with<S: Alter + Drop, X: Signer>(
+    store: &mut Store<S>,
+    alloc: Global,
+    opening: Opening<'_>,
+    account: &Account,
+    reading: i64,
+    reference: &str,
+    bytes: &[u8],
+    signer: &mut X,
+) -> Result<Deposited, Fault>
+    ensures honest { IsHonest S.Store store.new → IsHonest S.Store store.old }
+    ensures large { 1048576 < length bytes.now
+        → (result ≡ Err Fault.TooLarge) × (store.new ≡ store.old) × (signer.new ≡ signer.old) }
+    ensures refusals { IfErr result IsOfDeposit }
+    ensures step { IsStep S.Store (with_signer X.signs X.fault_count signer.old signer.new) (opening_view opening.entry)
+        (Deposit (account_view account.now) reading reference.now bytes.now) store.old store.new
+        (answered deposited_as result) }
+{
+    if bytes.len() > MOST {
+        return Err(Fault::TooLarge);
+    }
+    match find_known(store, account.name.as_str(), reference, bytes) {
+        Err(fault) => Err(Fault::from(Obstacle::Searching(fault))),
+        Ok(Known::Same(number)) => Ok(Deposited {
+            number,
+            is_new: false,
+        }),
+        Ok(Known::Other) => Err(Fault::Conflict),
+        Ok(Known::Nothing) => deposit_new(
+            store, alloc, opening, account, reading, reference, bytes, signer,
+        ),
+    }
+}
