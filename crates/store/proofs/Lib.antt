@@ -1,5 +1,6 @@
 mod Rows
 pub mod Alike
+pub mod Between
 pub mod Calls
 pub mod Closing
 pub mod DepositAnswers

@@ -1,10 +1,12 @@
 -- What the calls make of a look-up's answer: stepping stones, no definitions.
-use Rattle.std.specs.Prelude.{◌≡◌, ◌⊎◌, ℕ, ◌+◌, ◌<◌, min, nat_lt, if◌then◌else◌, true, false, List, Option, Some}
+use Rattle.std.specs.Prelude.{◌≡◌, ◌⊎◌, ℕ, ◌+◌, ◌<◌, ◌≤◌, ◌&&◌, min, nat_lt, nat_le, if◌then◌else◌, true, false, List, [], ◌∷◌, Option, Some}
 use Rattle.std.specs.Prelude.{None, option_map, option_and_then, string_bytes}
 use Rattle.tables.specs.declared.rows.LastStamp.{LastStamp}
 use Rattle.tables.specs.declared.rows.LatestCalibration.{LatestCalibration}
 use Rattle.tables.specs.declared.rows.Origin.{Origin}
-use Rattle.store.specs.History.{CalibrationValue, ReservationValue, History, deposit_at, reservation_at}
+use Rattle.tables.specs.declared.rows.Stamp.{Stamp}
+use Rattle.tables.specs.Queries.{stamp_view}
+use Rattle.store.specs.History.{CalibrationValue, ReservationValue, History, deposit_at, reservation_at, stamps_between}
 use Rattle.store.specs.Rights.{ListedValue, listed_as, is_reader, is_visible}
 use Rattle.store.specs.Sound.{greatest_number}
 use Rattle.store.specs.declared.values.Last.{Last}
@@ -63,3 +65,18 @@ IsOriginOf serial b None = reservation_at serial b ≡ None
 IsOriginOf serial b (Some origin) =
     (r : ReservationValue) × (reservation_at serial b ≡ Some r) × (string_bytes origin.account ≡ r.account)
     × (origin.gen_time ≡ r.gen_time)
+
+-- a number of a range, both ends in it
+pub record IsWithin (from to number : ℕ) : Type 0 where
+  pub least : from ≤ number
+  pub most : number ≤ to
+
+-- the stamp of a range with the least serial number, and what is left of the range then; or none is in it
+abbrev pub IsNextStamp : ℕ → ℕ → History → Option Stamp → Type 0
+IsNextStamp from to b None = stamps_between from to b ≡ []
+IsNextStamp from to b (Some stamp) = stamps_between from to b ≡ stamp_view stamp ∷ stamps_between (stamp.serial + 1) to b
+
+-- a stamp, where its serial number is in the range
+abbrev pub only_within : ℕ → ℕ → Option Stamp → Option Stamp
+only_within from to None = None
+only_within from to (Some stamp) = if nat_le from stamp.serial && nat_le stamp.serial to then Some stamp else None

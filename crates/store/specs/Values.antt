@@ -1,7 +1,8 @@
 -- The calls' arguments and answers, as the entries and views of a history.
-use Rattle.std.specs.Prelude.{ℕ, List, Option, option_map, string_bytes}
+use Rattle.std.specs.Prelude.{◌≡◌, ℕ, List, [], ◌∷◌, Option, Some, None, option_map, string_bytes}
 use Rattle.tables.specs.Tables.{DepositRow, StampRow}
 use Rattle.tables.specs.Queries.{deposit_view, stamp_view}
+use Rattle.tables.specs.declared.rows.Stamp.{Stamp}
 use Rattle.store.specs.History.{ReservationValue, CalibrationValue, HoldValue, History, greatest_serial, last_gen_time}
 use Rattle.store.specs.declared.values.Reservation.{Reservation}
 use Rattle.store.specs.declared.values.Calibration.{Calibration}
@@ -49,3 +50,8 @@ listed_view l = record {
   reference = string_bytes l.reference;
   gen_time = l.gen_time;
 }
+
+-- a walk hands out the first of the stamps that were left, or none is left
+abbrev pub HandsOut : List StampRow → List StampRow → Option Stamp → Type 0
+HandsOut before after None = (before ≡ []) × (after ≡ [])
+HandsOut before after (Some stamp) = before ≡ stamp_view stamp ∷ after

@@ -8,6 +8,9 @@ mod fault;
 mod laws;
 mod opening;
 #[cfg(test)]
+mod range_tests;
+mod ranges;
+#[cfg(test)]
 mod refusals;
 mod store;
 #[cfg(test)]
@@ -16,6 +19,7 @@ mod values;
 
 pub use fault::StoreFault;
 pub use laws::{equal_tables_tell_the_same, serials_rise};
+pub use ranges::StampsBetween;
 pub use store::Store;
 pub use tables::{Deposit, Stamp};
 pub use values::{Calibration, Hold, Last, Listed, Reservation, StampedDeposit};

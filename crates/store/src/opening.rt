@@ -77,9 +77,8 @@ impl<S: Alter + Drop> Store<S> {
 }
 
 impl<D: Disk + Drop> Store<FileStore<D>> {
-    /// Copies what was committed into the database file, and gives back the log and that file, which close where they
-    /// are dropped: from then on the database file alone is the database. Refused with `Memory` or `Database`, and the
-    /// files are closed; what was committed stays in the log then.
+    /// Copies what was committed into the database file, and gives back the log and that file, which close where they are dropped: from
+    /// then on the database file alone is the database. Refused with `Memory` or `Database`, which closes the files as they are.
     pub fn close(self) -> Result<Files<D>, StoreFault>
         ensures copied { IfOk result (λ files. AreClean D.Disk files.log files.db
             → (b : History) → Stands over_files b self → LeavesFiles D.Disk b files) }

@@ -18,6 +18,7 @@ struct Shown {
     has_deposit: bool,
     is_visible: bool,
     listed: usize,
+    first: Option<u64>,
 }
 
 #[derive(Debug, Clone, Copy)]
@@ -40,6 +41,7 @@ fn look(store: &mut Store<MemStore>) -> Result<Shown, StoreFault> {
         has_deposit: store.by_reference("alice", "plan-7")?.is_some(),
         is_visible: store.visible(2, "bob")?,
         listed: store.list("bob")?.len(),
+        first: store.stamps_between(1, 9).next()?.map(|stamp| stamp.serial),
     })
 }
 
@@ -140,6 +142,7 @@ fn a_refused_growth_changes_nothing(rt: HostRuntime) -> Result<(), Fail> {
         has_deposit: true,
         is_visible: true,
         listed: 1,
+        first: Some(1),
     };
     assert_eq!(rt; seen(&mut store)?, wanted);
     let mut outcome = take(&mut store, Step::Revoke);
