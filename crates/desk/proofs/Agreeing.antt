@@ -1,5 +1,7 @@
 -- Histories that agree for an account agree again after its commands.
-use Rattle.std.proofs.Common.{◌≡◌, ℕ, ◌<◌, ◌==◌, ◌&&◌, ◌||◌, ◌⊎◌, max, nat_le, cond, ℤ, Bool, true, false, List, [], ◌∷◌, ◌++◌, length, Option, Some, None, Result, Ok, Err, refl, sym, ◌∙◌, ap, subst, inl, inr, arith}
+use Rattle.std.proofs.Common.{◌≡◌, ℕ, ◌<◌, ◌==◌, ◌&&◌, ◌||◌, ◌⊎◌, max, nat_le, cond, ℤ, Bool, true, false, List, []}
+use Rattle.std.proofs.Common.{◌∷◌, ◌++◌, length, Option, Some, None, Result, Ok, Err, refl, sym, ◌∙◌, ap, subst, inl}
+use Rattle.std.proofs.Common.{inr, arith}
 use Rattle.std.specs.Prelude.{filter, map, option_map}
 use Rattle.std.specs.Option.{option_and_then}
 use Rattle.std.specs.Str.{bytes_eq}
@@ -9,15 +11,20 @@ use Rattle.policy.specs.Record.{AccountValue, PolicyValue}
 use Rattle.cms.specs.declared.signer.SignerFault.{SignerFault}
 use Rattle.cms.specs.declared.signer.SignerFault.TheVariants as signer
 use Rattle.tables.specs.Tables.{StampRow, DepositRow}
-use Rattle.store.specs.History.{Entry, Reserved, Sealed, Deposited, Granted, Revoked, History, ReservationValue, reservations, stamps, stamp_of, greatest_serial, token_of, reservation_at, deposit_at, deposit_under}
+use Rattle.store.specs.History.{Entry, Reserved, Sealed, Deposited, Granted, Revoked, History, ReservationValue}
+use Rattle.store.specs.History.{reservations, stamps, stamp_of, greatest_serial, token_of, reservation_at, deposit_at}
+use Rattle.store.specs.History.{deposit_under}
 use Rattle.store.specs.Rights.{seen_by, shown_to, is_reader, listed}
 use Rattle.store.specs.Sound.{Along, Fits}
 use Rattle.desk.specs.Agreement.{SeenValue, seen_as, Agree, IsCommandOf}
 use Rattle.desk.specs.Outcome.{Outcome, Cause, cause_of, first_cause}
 use Rattle.desk.specs.Findings.{PlanValue, Finding, Fails, Unanswered, Allowed}
-use Rattle.desk.specs.Command.{Setting, PendingValue, Command, Stamp, Begin, Finish, Abandon, Deposit, Show, Token, ListAll, Grant, Revoke, Calibrate, Hold, Listed, Done, Refused}
+use Rattle.desk.specs.Command.{Setting, PendingValue, Command, Stamp, Begin, Finish, Abandon, Deposit, Show, Token}
+use Rattle.desk.specs.Command.{ListAll, Grant, Revoke, Calibrate, Hold, Listed, Done, Refused}
 use Rattle.desk.specs.Texts.{octets_for, pending_of, token_with}
-use Rattle.desk.specs.Effects.{Effect, only, unless, Stamping, Unreserved, Void, Sealing, no_number, no_seal, next_reservation, sealed_or_void, signed_or_void, stamping_of, stamp_effect, stamp_found, deposit_row, deposit_effect, deposit_found, has_account, right_of_owner, right_effect}
+use Rattle.desk.specs.Effects.{Effect, only, unless, Stamping, Unreserved, Void, Sealing, no_number, no_seal}
+use Rattle.desk.specs.Effects.{next_reservation, sealed_or_void, signed_or_void, stamping_of, stamp_effect, stamp_found}
+use Rattle.desk.specs.Effects.{deposit_row, deposit_effect, deposit_found, has_account, right_of_owner, right_effect}
 use Rattle.desk.specs.declared.fault.Fault.TheVariants as fault
 use Rattle.desk.specs.Steps.{KeepsUnder, KeepsUnless, Keeps, HasEffect}
 use Rattle.desk.proofs.Views.{unsealed_above, sealed_below, deposit_sealed}

@@ -1,5 +1,6 @@
 -- The exits of a stamp up to its reservation.
-use Rattle.std.proofs.Common.{◌≡◌, ℕ, ◌≤◌, nat_le, cond, ℤ, Bool, true, false, List, [], ◌∷◌, Option, Some, None, Result, Ok, Err, refl, sym, ap, ◌∙◌, subst, inl, inr, arith}
+use Rattle.std.proofs.Common.{◌≡◌, ℕ, ◌≤◌, nat_le, cond, ℤ, Bool, true, false, List, [], ◌∷◌, Option, Some, None}
+use Rattle.std.proofs.Common.{Result, Ok, Err, refl, sym, ap, ◌∙◌, subst, inl, inr, arith}
 use Rattle.std.proofs.lemmas.Bool.Decides.{nat_tests}
 use Rattle.policy.specs.Record.{AccountValue}
 use Rattle.tsp.specs.declared.rule.Rule.{Rule}
@@ -10,11 +11,13 @@ use Rattle.store.specs.Sound.{greatest_number}
 use Rattle.store.specs.Stands.{Stands, OnlyLooks}
 use Rattle.store.specs.declared.fault.StoreFault.{StoreFault}
 use Rattle.store.specs.declared.fault.StoreFault.TheVariants as store
-use Rattle.desk.specs.Calls.{store_cause, cause_with, refused, outcome_of, IsOfStore, IsOfLooks, IsOfReserving, pending_as, reserving, Reserves}
+use Rattle.desk.specs.Calls.{store_cause, cause_with, refused, outcome_of, IsOfStore, IsOfLooks, IsOfReserving}
+use Rattle.desk.specs.Calls.{pending_as, reserving, Reserves}
 use Rattle.desk.specs.Command.{Setting, PendingValue, Command, Begin, Rejected, Refused}
 use Rattle.desk.specs.Effects.{only, fault_of, no_number, begin_effect, name_of}
 use Rattle.desk.specs.Findings.{PlanValue, Fails, Unanswered, Allowed, Finds}
-use Rattle.desk.specs.Outcome.{Call, Outcome, Fine, Wanting, Broken, Cause, OfStore, first_cause, faults_after, all_fine}
+use Rattle.desk.specs.Outcome.{Call, Outcome, Fine, Wanting, Broken, Cause, OfStore, first_cause, faults_after}
+use Rattle.desk.specs.Outcome.{all_fine}
 use Rattle.desk.specs.Stepped.{no_signer, IsBlamedFor, IsBlamed, IsExcused, StepsBy, settled_by, settled}
 use Rattle.desk.specs.declared.refusal.Refusal.{Refusal}
 use Rattle.desk.specs.declared.refusal.Refusal.TheVariants as refusal

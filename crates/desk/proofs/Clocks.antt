@@ -2,7 +2,8 @@
 use Rattle.std.proofs.Common.{◌≡◌, ℕ, ◌≤◌, ℤ, Bool, [], ◌∷◌, Option, Some, None, refl, ap, ◌∙◌, arith}
 use Rattle.std.specs.Prelude.{option_map}
 use Rattle.gentime.specs.GenTime.{last_moment}
-use Rattle.store.specs.History.{Reserved, Sealed, Deposited, Calibrated, Held, Granted, Revoked, History, CalibrationValue, latest_calibration, last_gen_time, greatest_serial}
+use Rattle.store.specs.History.{Reserved, Sealed, Deposited, Calibrated, Held, Granted, Revoked, History}
+use Rattle.store.specs.History.{CalibrationValue, latest_calibration, last_gen_time, greatest_serial}
 use Rattle.store.specs.Sound.{IsSound}
 use Rattle.store.specs.Values.{last_of}
 use Rattle.store.specs.declared.values.Last.{Last}

@@ -1,15 +1,23 @@
 -- What is given out to be signed is over the reservation that the same command adds first.
-use Rattle.std.proofs.Common.{arith, ◌≡◌, ℕ, ◌+◌, ◌<◌, nat_le, ℤ, cond, Bool, true, false, List, [], ◌∷◌, ◌++◌, length, Option, Some, None, refl, sym, ap, subst}
+use Rattle.std.proofs.Common.{arith, ◌≡◌, ℕ, ◌+◌, ◌<◌, nat_le, ℤ, cond, Bool, true, false, List, [], ◌∷◌, ◌++◌, length}
+use Rattle.std.proofs.Common.{Option, Some, None, refl, sym, ap, subst}
 use Rattle.std.specs.Str.{bytes_eq}
 use Rattle.policy.specs.Record.{AccountValue}
 use Rattle.cms.specs.SignedData.{attribute_text}
-use Rattle.store.specs.History.{Entry, Reserved, Sealed, Deposited, Calibrated, Held, Granted, Revoked, History, ReservationValue, DepositValue, greatest_serial, latest_calibration, token_of, deposit_under}
+use Rattle.store.specs.History.{Entry, Reserved, Sealed, Deposited, Calibrated, Held, Granted, Revoked, History}
+use Rattle.store.specs.History.{ReservationValue, DepositValue, greatest_serial, latest_calibration, token_of}
+use Rattle.store.specs.History.{deposit_under}
 use Rattle.store.specs.Rights.{seen_by, listed}
 use Rattle.desk.specs.Outcome.{Outcome, Cause, cause_of}
 use Rattle.desk.specs.Findings.{PlanValue, Finding, Fails, Unanswered, Allowed}
-use Rattle.desk.specs.Command.{Setting, PendingValue, Command, Stamp, Begin, Finish, Abandon, Deposit, Show, Token, ListAll, Grant, Revoke, Calibrate, Hold, Answer, Begun, Kept, Listed, Shown, Done, Refused}
+use Rattle.desk.specs.Command.{Setting, PendingValue, Command, Stamp, Begin, Finish, Abandon, Deposit, Show, Token}
+use Rattle.desk.specs.Command.{ListAll, Grant, Revoke, Calibrate, Hold, Answer, Begun, Kept, Listed, Shown, Done}
+use Rattle.desk.specs.Command.{Refused}
 use Rattle.desk.specs.Texts.{octets_for, pending_of}
-use Rattle.desk.specs.Effects.{Effect, only, Stamping, Unreserved, Void, Sealing, no_number, no_seal, no_sight, next_reservation, stamping_of, stamp_effect, stamp_found, begin_effect, begin_found, finish_effect, deposit_effect, deposit_found, deposit_row, fault_of, show_effect, token_effect, reply_or_nothing, right_effect, is_backwards, calibrate_effect, name_of}
+use Rattle.desk.specs.Effects.{Effect, only, Stamping, Unreserved, Void, Sealing, no_number, no_seal, no_sight}
+use Rattle.desk.specs.Effects.{next_reservation, stamping_of, stamp_effect, stamp_found, begin_effect, begin_found}
+use Rattle.desk.specs.Effects.{finish_effect, deposit_effect, deposit_found, deposit_row, fault_of, show_effect}
+use Rattle.desk.specs.Effects.{token_effect, reply_or_nothing, right_effect, is_backwards, calibrate_effect, name_of}
 use Rattle.desk.specs.declared.fault.Fault.{Fault}
 use Rattle.desk.specs.declared.fault.Fault.TheVariants as fault
 use Rattle.desk.specs.Steps.{KeepsUnder, KeepsUnless, Keeps, HasEffect}

@@ -1,5 +1,6 @@
 -- A right is entered.
-use Rattle.std.proofs.Common.{◌≡◌, ℕ, cond, Bool, true, false, List, [], ◌∷◌, Option, Some, None, Ok, refl, sym, ap, ◌∙◌, inl, inr}
+use Rattle.std.proofs.Common.{◌≡◌, ℕ, cond, Bool, true, false, List, [], ◌∷◌, Option, Some, None, Ok, refl, sym, ap}
+use Rattle.std.proofs.Common.{◌∙◌, inl, inr}
 use Rattle.std.specs.Str.{bytes_eq}
 use Rattle.policy.specs.Record.{PolicyValue}
 use Rattle.sqlite_trees.specs.declared.store.Store.{Ghosts}

@@ -1,5 +1,7 @@
 -- What a stamp's answer says.
-use Rattle.std.proofs.Common.{arith, Contains, ◌≡◌, ℕ, zero, suc, ◌≤◌, ◌+◌, ◌*◌, ◌-◌, ◌<◌, ◌⊎◌, ◌==◌, nat_le, if◌then◌else◌, ℤ, Bool, true, false, List, [], ◌∷◌, get_or, Option, Some, None, Result, Ok, Err, refl, sym, ◌∙◌, ap, subst, inl, inr}
+use Rattle.std.proofs.Common.{arith, Contains, ◌≡◌, ℕ, zero, suc, ◌≤◌, ◌+◌, ◌*◌, ◌-◌, ◌<◌, ◌⊎◌, ◌==◌, nat_le}
+use Rattle.std.proofs.Common.{if◌then◌else◌, ℤ, Bool, true, false, List, [], ◌∷◌, get_or, Option, Some, None, Result}
+use Rattle.std.proofs.Common.{Ok, Err, refl, sym, ◌∙◌, ap, subst, inl, inr}
 use Rattle.der.specs.Node.{encoding, length_octets}
 use Rattle.der.specs.Number.{number_content}
 use Rattle.policy.specs.Record.{AccountValue}
@@ -7,17 +9,20 @@ use Rattle.tsp.specs.Granted.{granted_octets}
 use Rattle.tsp.specs.Rejection.{number_of, rejection}
 use Rattle.tsp.specs.Rules.{IsFirstFailing}
 use Rattle.tsp.specs.declared.rule.Rule.{Rule}
-use Rattle.tsp.specs.declared.rule.Rule.TheVariants.{Spelling, Version, Account, Algorithm, HashLength, Policy, PolicyAlgorithm, Extensions, Certificate, Clock, Quota, System}
+use Rattle.tsp.specs.declared.rule.Rule.TheVariants.{Spelling, Version, Account, Algorithm, HashLength, Policy}
+use Rattle.tsp.specs.declared.rule.Rule.TheVariants.{PolicyAlgorithm, Extensions, Certificate, Clock, Quota, System}
 use Rattle.cms.specs.declared.signer.SignerFault.{SignerFault}
 use Rattle.cms.specs.declared.signer.SignerFault.TheVariants as signer
 use Rattle.store.specs.History.{History, ReservationValue, greatest_serial}
 use Rattle.store.specs.Sound.{greatest_number}
 use Rattle.std.proofs.lemmas.Bool.Decides.{nat_tests}
-use Rattle.desk.specs.Outcome.{Outcome, Cause, OfMemory, OfStore, OfSigner, cause_of, cause_of_signing, first_cause, all_fine}
+use Rattle.desk.specs.Outcome.{Outcome, Cause, OfMemory, OfStore, OfSigner, cause_of, cause_of_signing, first_cause}
+use Rattle.desk.specs.Outcome.{all_fine}
 use Rattle.desk.specs.Findings.{IsUnjudged, PlanValue, IsAllowed, HoldsAt, Finding, Fails, Unanswered, Allowed, Finds}
 use Rattle.desk.specs.Command.{Setting, PendingValue, Stamp, Stamped, Rejected}
 use Rattle.desk.specs.Texts.{pending_of, token_with}
-use Rattle.desk.specs.Effects.{Effect, Stamping, Unreserved, Void, Sealing, no_number, no_seal, next_reservation, sealed_or_void, signed_or_void, stamping_of, stamp_effect, stamp_found, name_of}
+use Rattle.desk.specs.Effects.{Effect, Stamping, Unreserved, Void, Sealing, no_number, no_seal, next_reservation}
+use Rattle.desk.specs.Effects.{sealed_or_void, signed_or_void, stamping_of, stamp_effect, stamp_found, name_of}
 use Rattle.desk.specs.Steps.{HasEffect}
 use Rattle.desk.specs.Laws.{causes_of, IsUnanswered, IsGrant, IsRejection}
 

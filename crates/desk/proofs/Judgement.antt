@@ -1,5 +1,6 @@
 -- From what is judged of a request to what is found of its octets.
-use Rattle.std.proofs.Common.{◌≡◌, ℕ, ◌<◌, ◌≤◌, ◌⊎◌, ℤ, pos, List, [], length, Option, Some, None, Ok, refl, sym, ap, ◌∙◌, subst, inl, inr, arith}
+use Rattle.std.proofs.Common.{◌≡◌, ℕ, ◌<◌, ◌≤◌, ◌⊎◌, ℤ, pos, List, [], length, Option, Some, None, Ok, refl, sym, ap}
+use Rattle.std.proofs.Common.{◌∙◌, subst, inl, inr, arith}
 use Rattle.std.specs.Prelude.{option_map}
 use Rattle.policy.specs.Record.{AccountValue, PolicyValue}
 use Rattle.tsp.specs.Request.{RequestValue, Spells}
@@ -9,7 +10,8 @@ use Rattle.tsp.specs.declared.fault.TspFault.TheVariants.{Form, TooLong}
 use Rattle.tsp.specs.Rules.{IsSpelled, HoldsOfOctets, IsFirstFailing}
 use Rattle.tsp.specs.RulesOfOctets.{SpellsOnly, to_octets, first_of_octets}
 use Rattle.tsp.specs.declared.rule.Rule.{Rule}
-use Rattle.tsp.specs.declared.rule.Rule.TheVariants.{Spelling, Version, Account, Algorithm, HashLength, Policy, PolicyAlgorithm, Extensions, Certificate, Clock, Quota, System}
+use Rattle.tsp.specs.declared.rule.Rule.TheVariants.{Spelling, Version, Account, Algorithm, HashLength, Policy}
+use Rattle.tsp.specs.declared.rule.Rule.TheVariants.{PolicyAlgorithm, Extensions, Certificate, Clock, Quota, System}
 use Rattle.decide.specs.Clock.{IsGoodAt, now_at}
 use Rattle.decide.specs.Rules.{Holds, HoldsOf}
 use Rattle.decide.specs.Verdict.{IsJudged}

@@ -1,17 +1,24 @@
 -- What was acknowledged still stands after each step, and journeys have their properties.
-use Rattle.std.proofs.Common.{arith, Contains, ◌≡◌, ℕ, suc, nat_le, cond, ℤ, Bool, true, false, List, [], ◌∷◌, ◌++◌, length, Option, Some, None, drop, refl, sym, ◌∙◌, ap, subst}
+use Rattle.std.proofs.Common.{arith, Contains, ◌≡◌, ℕ, suc, nat_le, cond, ℤ, Bool, true, false, List, [], ◌∷◌, ◌++◌}
+use Rattle.std.proofs.Common.{length, Option, Some, None, drop, refl, sym, ◌∙◌, ap, subst}
 use Rattle.std.specs.List.{AllByRecursion}
 use Rattle.std.proofs.lemmas.Bool.{eq-eqb}
 use Rattle.std.specs.Str.{bytes_eq}
 use Rattle.policy.specs.Record.{AccountValue}
-use Rattle.store.specs.History.{Entry, Calibrated, Held, Granted, Revoked, History, DepositValue, token_of, deposit_at, deposit_under, latest_calibration}
+use Rattle.store.specs.History.{Entry, Calibrated, Held, Granted, Revoked, History, DepositValue, token_of, deposit_at}
+use Rattle.store.specs.History.{deposit_under, latest_calibration}
 use Rattle.store.specs.Rights.{seen_by, listed}
 use Rattle.store.specs.Sound.{Fits}
 use Rattle.desk.specs.Outcome.{Outcome, Cause, cause_of, first_cause}
 use Rattle.desk.specs.Findings.{PlanValue, Finding, Fails, Unanswered, Allowed}
-use Rattle.desk.specs.Command.{Setting, PendingValue, Command, Stamp, Begin, Finish, Abandon, Deposit, Show, Token, ListAll, Grant, Revoke, Calibrate, Hold, Answer, Stamped, Rejected, Begun, Kept, Shown, Listed, Done, Refused}
+use Rattle.desk.specs.Command.{Setting, PendingValue, Command, Stamp, Begin, Finish, Abandon, Deposit, Show, Token}
+use Rattle.desk.specs.Command.{ListAll, Grant, Revoke, Calibrate, Hold, Answer, Stamped, Rejected, Begun, Kept, Shown}
+use Rattle.desk.specs.Command.{Listed, Done, Refused}
 use Rattle.desk.specs.Texts.{octets_for, token_with}
-use Rattle.desk.specs.Effects.{has_account, Effect, only, fault_of, unless, Stamping, Unreserved, Void, Sealing, no_number, no_seal, stamping_of, stamp_effect, stamp_found, begin_effect, begin_found, finish_effect, deposit_row, deposit_effect, deposit_found, show_effect, token_effect, reply_or_nothing, right_of_owner, right_effect, is_backwards, calibrate_effect, name_of}
+use Rattle.desk.specs.Effects.{has_account, Effect, only, fault_of, unless, Stamping, Unreserved, Void, Sealing}
+use Rattle.desk.specs.Effects.{no_number, no_seal, stamping_of, stamp_effect, stamp_found, begin_effect, begin_found}
+use Rattle.desk.specs.Effects.{finish_effect, deposit_row, deposit_effect, deposit_found, show_effect, token_effect}
+use Rattle.desk.specs.Effects.{reply_or_nothing, right_of_owner, right_effect, is_backwards, calibrate_effect, name_of}
 use Rattle.desk.specs.declared.fault.Fault.{Fault}
 use Rattle.desk.specs.declared.fault.Fault.TheVariants as fault
 use Rattle.desk.specs.Steps.{KeepsUnder, KeepsUnless, Keeps, HasEffect, IsMet}

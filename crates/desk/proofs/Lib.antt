@@ -1,4 +1,7 @@
+pub mod Acknowledged
+pub mod Added
 pub mod Agreeing
+pub mod Alone
 pub mod Begins
 pub mod Clocks
 pub mod Given
@@ -14,6 +17,7 @@ pub mod Others
 pub mod Replying
 pub mod Reserves
 pub mod Rows
+pub mod RunsOn
 pub mod SameEffect
 pub mod Sealing
 pub mod Shows

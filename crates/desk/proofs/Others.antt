@@ -1,24 +1,31 @@
 -- What another account's command leaves of what an account may know.
-use Rattle.std.proofs.Common.{◌≡◌, ℕ, ◌<◌, ◌≤◌, ◌==◌, ◌&&◌, ◌||◌, nat_le, cond, ℤ, Bool, true, false, List, [], ◌∷◌, ◌++◌, length, Option, Some, None, refl, sym, ◌∙◌, ap, subst, inl, inr, arith}
+use Rattle.std.proofs.Common.{◌≡◌, ℕ, ◌<◌, ◌≤◌, ◌==◌, ◌&&◌, ◌||◌, nat_le, cond, ℤ, Bool, true, false, List, [], ◌∷◌}
+use Rattle.std.proofs.Common.{◌++◌, length, Option, Some, None, refl, sym, ◌∙◌, ap, subst, inl, inr, arith}
 use Rattle.std.specs.Prelude.{filter, map, option_map}
 use Rattle.std.specs.Option.{option_and_then}
 use Rattle.std.specs.Str.{bytes_eq}
 use Rattle.std.proofs.lemmas.Bool.{eqb-true}
 use Rattle.policy.specs.Record.{AccountValue}
 use Rattle.tables.specs.Tables.{StampRow, DepositRow}
-use Rattle.store.specs.History.{deposits, Entry, Reserved, Sealed, Deposited, Calibrated, Held, Granted, Revoked, History, ReservationValue, reservations, stamps, stamp_of, greatest_of, greatest_serial, token_of, reservation_at, deposit_at, deposit_under}
+use Rattle.store.specs.History.{deposits, Entry, Reserved, Sealed, Deposited, Calibrated, Held, Granted, Revoked}
+use Rattle.store.specs.History.{History, ReservationValue, reservations, stamps, stamp_of, greatest_of, greatest_serial}
+use Rattle.store.specs.History.{token_of, reservation_at, deposit_at, deposit_under}
 use Rattle.store.specs.Rights.{seen_by, shown_to, is_reader, listed}
 use Rattle.store.specs.Sound.{Along, Fits, FitsRight}
 use Rattle.desk.specs.Agreement.{SeenValue, seen_as, seen_at}
 use Rattle.desk.specs.Outcome.{Outcome, Cause, cause_of, first_cause}
 use Rattle.desk.specs.Findings.{Finding, Fails, Unanswered, Allowed}
-use Rattle.desk.specs.Command.{Setting, Command, Stamp, Begin, Finish, Abandon, Deposit, Show, Token, ListAll, Grant, Revoke, Calibrate, Hold, Listed}
+use Rattle.desk.specs.Command.{Setting, Command, Stamp, Begin, Finish, Abandon, Deposit, Show, Token, ListAll, Grant}
+use Rattle.desk.specs.Command.{Revoke, Calibrate, Hold, Listed}
 use Rattle.desk.specs.Texts.{octets_for}
-use Rattle.desk.specs.Effects.{Effect, unless, Stamping, Unreserved, Void, Sealing, no_number, next_reservation, stamping_of, stamp_effect, stamp_found, deposit_row, deposit_effect, deposit_found, right_effect}
+use Rattle.desk.specs.Effects.{Effect, unless, Stamping, Unreserved, Void, Sealing, no_number, next_reservation}
+use Rattle.desk.specs.Effects.{stamping_of, stamp_effect, stamp_found, deposit_row, deposit_effect, deposit_found}
+use Rattle.desk.specs.Effects.{right_effect}
 use Rattle.desk.specs.Steps.{KeepsUnder, KeepsUnless, Keeps, HasEffect}
 use Rattle.desk.specs.Laws.{IsCommandOfOther, Concerns, StaysFor}
 use Rattle.desk.proofs.Views.{sealed_below, deposit_sealed}
-use Rattle.desk.proofs.Stepping.{right_seen, shows_none, tokens_none, answers_none, IsAtMost, at_most_unless, right_at_most}
+use Rattle.desk.proofs.Stepping.{right_seen, shows_none, tokens_none, answers_none, IsAtMost, at_most_unless}
+use Rattle.desk.proofs.Stepping.{right_at_most}
 use Rattle.desk.proofs.Agreeing.{differ, seen_beside, IsNext, next_stamping, next_above}
 
 deposit_below : (b : History) → Along Fits b → (n : ℕ) → FitsRight n b → n ≤ greatest_serial b

@@ -13,7 +13,8 @@ use Rattle.desk.specs.Outcome.{Outcome}
 use Rattle.desk.specs.Findings.{PlanValue, IsAllowed, Finding, Fails, Unanswered, Allowed, Finds}
 use Rattle.desk.specs.Command.{Setting, Stamp, Answer, Stamped, Rejected}
 use Rattle.desk.specs.Texts.{tst_of}
-use Rattle.desk.specs.Effects.{Stamping, Unreserved, Void, Sealing, no_number, stamping_of, stamp_effect, stamp_found, name_of}
+use Rattle.desk.specs.Effects.{Stamping, Unreserved, Void, Sealing, no_number, stamping_of, stamp_effect, stamp_found}
+use Rattle.desk.specs.Effects.{name_of}
 use Rattle.desk.specs.Steps.{Moves}
 use Rattle.desk.specs.Laws.{IsRejection}
 use Rattle.desk.specs.Replies.{IsGranted, IsRejected}

@@ -6,13 +6,15 @@ use Rattle.policy.specs.Record.{AccountValue, PolicyValue}
 use Rattle.tsp.specs.Request.{sha256_request}
 use Rattle.tsp.specs.declared.rule.Rule.TheVariants.{System}
 use Rattle.cms.specs.declared.signer.SignerFault.TheVariants as signer
-use Rattle.store.specs.History.{Reserved, Deposited, Calibrated, Held, Granted, Revoked, History, ReservationValue, DepositValue}
+use Rattle.store.specs.History.{Reserved, Deposited, Calibrated, Held, Granted, Revoked, History, ReservationValue}
+use Rattle.store.specs.History.{DepositValue}
 use Rattle.store.specs.Rights.{seen_by}
 use Rattle.desk.specs.Facts.{facts_of, count_in, gen_time_in}
 use Rattle.desk.specs.Outcome.{Wanting, Broken, OfMemory, OfStore, all_fine, faults_after}
 use Rattle.desk.specs.Findings.{PlanValue}
 use Rattle.desk.specs.Command.{Setting, Rejected, Refused, Kept, Done}
-use Rattle.desk.specs.Effects.{no_number, next_reservation, stamping_of, stamp_effect, deposit_effect, known_effect, right_effect, show_effect}
+use Rattle.desk.specs.Effects.{no_number, next_reservation, stamping_of, stamp_effect, deposit_effect, known_effect}
+use Rattle.desk.specs.Effects.{right_effect, show_effect}
 use Rattle.desk.specs.declared.fault.Fault.TheVariants as fault
 
 abbrev alice : AccountValue

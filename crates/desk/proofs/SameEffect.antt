@@ -1,5 +1,6 @@
 -- A command of an account has one and the same effect in two histories that agree for it.
-use Rattle.std.proofs.Common.{if◌then◌else◌, pos, negsuc, ◌≡◌, ℕ, ◌+◌, ◌==◌, ◌&&◌, nat_le, cond, ℤ, Bool, true, false, List, [], ◌∷◌, length, Option, Some, None, refl, sym, ◌∙◌, ap, subst, inl, inr}
+use Rattle.std.proofs.Common.{if◌then◌else◌, pos, negsuc, ◌≡◌, ℕ, ◌+◌, ◌==◌, ◌&&◌, nat_le, cond, ℤ, Bool, true, false}
+use Rattle.std.proofs.Common.{List, [], ◌∷◌, length, Option, Some, None, refl, sym, ◌∙◌, ap, subst, inl, inr}
 use Rattle.std.specs.Prelude.{filter, filter_map, map, option_map, int_le, int_lt}
 use Rattle.std.proofs.Math.Nat.{add-zero}
 use Rattle.std.specs.Option.{option_and_then}
@@ -13,16 +14,21 @@ use Rattle.tsp.specs.declared.rule.Rule.{Rule}
 use Rattle.decide.specs.Clock.{IsGood, IsGoodAt}
 use Rattle.decide.specs.Rules.{Holds}
 use Rattle.tables.specs.Tables.{StampRow, DepositRow}
-use Rattle.store.specs.History.{Granted, Revoked, History, ReservationValue, reservations, deposits, holds, stamps, stamp_of, day_of, is_of_day, count_of_day, latest_calibration, greatest_serial, token_of, reservation_at, deposit_under}
+use Rattle.store.specs.History.{Granted, Revoked, History, ReservationValue, reservations, deposits, holds, stamps}
+use Rattle.store.specs.History.{stamp_of, day_of, is_of_day, count_of_day, latest_calibration, greatest_serial}
+use Rattle.store.specs.History.{token_of, reservation_at, deposit_under}
 use Rattle.store.specs.Rights.{seen_by, ListedValue, listed_as, listed_at, listed}
 use Rattle.desk.specs.Agreement.{SeenValue, seen_as, Agree, IsCommandOf}
 use Rattle.desk.specs.Facts.{now_in, is_held_at, gen_time_of, gen_time_in, count_in, facts_of}
 use Rattle.desk.specs.Outcome.{Outcome, Cause, OfStore, cause_of, first_cause}
 use Rattle.desk.specs.Findings.{IsUnjudged, PlanValue, IsAllowed, Finding, Fails, Unanswered, Allowed, Finds}
-use Rattle.desk.specs.Command.{Setting, Command, Stamp, Begin, Finish, Abandon, Deposit, Show, Token, ListAll, Grant, Revoke, Calibrate, Hold, Listed}
+use Rattle.desk.specs.Command.{Setting, Command, Stamp, Begin, Finish, Abandon, Deposit, Show, Token, ListAll, Grant}
+use Rattle.desk.specs.Command.{Revoke, Calibrate, Hold, Listed}
 use Rattle.store.specs.Sound.{greatest_number}
 use Rattle.desk.specs.Texts.{octets_for, reservation_of, pending_of}
-use Rattle.desk.specs.Effects.{Stamping, Unreserved, signed_or_void, stamping_of, stamp_effect, deposit_effect, no_number, reply_or_nothing, Effect, only, unless, stamp_found, deposit_found, show_effect, token_effect, right_effect}
+use Rattle.desk.specs.Effects.{Stamping, Unreserved, signed_or_void, stamping_of, stamp_effect, deposit_effect}
+use Rattle.desk.specs.Effects.{no_number, reply_or_nothing, Effect, only, unless, stamp_found, deposit_found}
+use Rattle.desk.specs.Effects.{show_effect, token_effect, right_effect}
 use Rattle.desk.specs.Steps.{KeepsUnder, KeepsUnless, Keeps, HasEffect}
 
 -- the day's count is that of the account's own stamps

@@ -1,5 +1,6 @@
 -- Who sees a deposit, and whom the policy file names.
-use Rattle.std.proofs.Common.{◌≡◌, ℕ, ◌==◌, ◌||◌, cond, Bool, true, false, is_some, List, [], ◌∷◌, map, Option, Some, None, refl, ap, ◌∙◌, subst}
+use Rattle.std.proofs.Common.{◌≡◌, ℕ, ◌==◌, ◌||◌, cond, Bool, true, false, is_some, List, [], ◌∷◌, map, Option, Some}
+use Rattle.std.proofs.Common.{None, refl, ap, ◌∙◌, subst}
 use Rattle.std.specs.List.{find}
 use Rattle.std.specs.Option.{option_and_then, option_map}
 use Rattle.std.specs.Str.{bytes_eq}
@@ -8,7 +9,8 @@ use Rattle.policy.specs.Record.{AccountValue, PolicyValue}
 use Rattle.policy.specs.Kinds.{is_among}
 use Rattle.policy.specs.LookUp.{account_named}
 use Rattle.tables.specs.Tables.{DepositRow, StampRow}
-use Rattle.store.specs.History.{Entry, Reserved, Sealed, Deposited, Calibrated, Held, Granted, Revoked, History, ReservationValue, DepositValue, stamp_of, token_of, reservation_at, deposit_at}
+use Rattle.store.specs.History.{Entry, Reserved, Sealed, Deposited, Calibrated, Held, Granted, Revoked, History}
+use Rattle.store.specs.History.{ReservationValue, DepositValue, stamp_of, token_of, reservation_at, deposit_at}
 use Rattle.store.specs.Rights.{is_reader, shown_to, seen_by, deposit_with_stamp}
 use Rattle.store.specs.Sound.{Along, Fits, FitsSealed, IsSound}
 use Rattle.store.specs.Values.{stamped_view}

@@ -1,5 +1,6 @@
 -- Each step leaves a sound history sound, and keeps what was acknowledged.
-use Rattle.std.proofs.Common.{zero, ◌∙◌, if◌then◌else◌, ◌≡◌, ℕ, suc, ◌<◌, ◌≤◌, ◌^◌, ◌+◌, ◌-◌, nat_le, ℤ, Bool, true, false, List, [], ◌∷◌, ◌++◌, length, Option, Some, None, drop, refl, sym, arith}
+use Rattle.std.proofs.Common.{zero, ◌∙◌, if◌then◌else◌, ◌≡◌, ℕ, suc, ◌<◌, ◌≤◌, ◌^◌, ◌+◌, ◌-◌, nat_le, ℤ, Bool, true}
+use Rattle.std.proofs.Common.{false, List, [], ◌∷◌, ◌++◌, length, Option, Some, None, drop, refl, sym, arith}
 use Rattle.der.specs.Node.{IsLawful}
 use Rattle.der.specs.ObjectIdentifier.{IsOid}
 use Rattle.gentime.specs.GenTime.{last_moment}

@@ -1,11 +1,13 @@
 -- A stamp is a beginning, a signature and a finish, one after the other.
-use Rattle.std.proofs.Common.{◌≡◌, ℕ, ◌<◌, ◌⊎◌, ℤ, List, [], ◌∷◌, ◌++◌, Option, Some, None, Result, Ok, Err, refl, sym, ◌∙◌, ap, subst, inl, inr, arith}
+use Rattle.std.proofs.Common.{◌≡◌, ℕ, ◌<◌, ◌⊎◌, ℤ, List, [], ◌∷◌, ◌++◌, Option, Some, None, Result, Ok, Err, refl, sym}
+use Rattle.std.proofs.Common.{◌∙◌, ap, subst, inl, inr, arith}
 use Rattle.std.proofs.lemmas.Bool.{eq-eqb}
 use Rattle.sqlite_trees.specs.Tree.{Trees}
 use Rattle.sqlite_trees.specs.declared.store.Store.{Ghosts}
 use Rattle.policy.specs.Record.{AccountValue}
 use Rattle.tsp.specs.declared.rule.Rule.{Rule}
-use Rattle.tsp.specs.declared.rule.Rule.TheVariants.{Spelling, Version, Account, Algorithm, HashLength, Policy, PolicyAlgorithm, Extensions, Certificate, Clock, Quota, System}
+use Rattle.tsp.specs.declared.rule.Rule.TheVariants.{Spelling, Version, Account, Algorithm, HashLength, Policy}
+use Rattle.tsp.specs.declared.rule.Rule.TheVariants.{PolicyAlgorithm, Extensions, Certificate, Clock, Quota, System}
 use Rattle.cms.specs.SignedData.{attribute_text}
 use Rattle.cms.specs.Signer.{count_after}
 use Rattle.cms.specs.declared.signer.SignerFault.{SignerFault}
@@ -16,10 +18,13 @@ use Rattle.store.specs.Sound.{Along, Fits}
 use Rattle.store.specs.Stands.{Stands}
 use Rattle.store.specs.TablesOf.{tables_of}
 use Rattle.desk.specs.Outcome.{Call, Fine, Wanting, Broken, Outcome, Cause, counted, faults_after, all_fine}
-use Rattle.desk.specs.Findings.{IsUnjudged, IsAnsweredFor, PlanValue, IsAllowed, Finding, Fails, Unanswered, Allowed, Finds}
+use Rattle.desk.specs.Findings.{IsUnjudged, IsAnsweredFor, PlanValue, IsAllowed, Finding, Fails, Unanswered, Allowed}
+use Rattle.desk.specs.Findings.{Finds}
 use Rattle.desk.specs.Command.{Setting, PendingValue, Command, Stamp, Begin, Finish, Answer, Rejected, Begun, Refused}
 use Rattle.desk.specs.Texts.{pending_of, token_with}
-use Rattle.desk.specs.Effects.{Effect, only, fault_of, unless, no_number, no_seal, next_reservation, sealed_or_void, signed_or_void, stamping_of, stamp_effect, stamp_found, begin_effect, begin_found, finish_effect, name_of}
+use Rattle.desk.specs.Effects.{Effect, only, fault_of, unless, no_number, no_seal, next_reservation, sealed_or_void}
+use Rattle.desk.specs.Effects.{signed_or_void, stamping_of, stamp_effect, stamp_found, begin_effect, begin_found}
+use Rattle.desk.specs.Effects.{finish_effect, name_of}
 use Rattle.desk.specs.Steps.{HasEffect, IsWaiting, IsSignature, Moves}
 use Rattle.desk.specs.Runs.{after}
 use Rattle.desk.specs.Answers.{reply_as}
@@ -483,7 +488,8 @@ stamp_is_completed g signs count x y s account reading octets p signing finished
             stands = subst (λ es. Stands g es new)
                 (same_adds (λ es. (stamped p signing es finished).adds) (adds_stamped p signing finished)
                 h.effect.adds b) done.stands;
-            left = λ db r. left_completed g s account reading octets p signing finished b old mid h.effect db h.has h.says
+            left = λ db r. left_completed g s account reading octets p signing finished b old mid h.effect db h.has
+                h.says
                 h.left (done.left db r);
           };
     }

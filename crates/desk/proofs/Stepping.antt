@@ -1,5 +1,6 @@
 -- What a step adds fits, is true of texts and hashes, and rises.
-use Rattle.std.proofs.Common.{zero, ◌≡◌, ℕ, suc, ◌⊎◌, nat_le, cond, ℤ, Bool, true, false, List, [], ◌∷◌, ◌++◌, length, Option, Some, None, Result, Ok, Err, drop, refl, sym, ◌∙◌, ap, subst, inl, inr}
+use Rattle.std.proofs.Common.{zero, ◌≡◌, ℕ, suc, ◌⊎◌, nat_le, cond, ℤ, Bool, true, false, List, [], ◌∷◌, ◌++◌, length}
+use Rattle.std.proofs.Common.{Option, Some, None, Result, Ok, Err, drop, refl, sym, ◌∙◌, ap, subst, inl, inr}
 use Rattle.std.specs.Option.{option_and_then}
 use Rattle.std.specs.Str.{bytes_eq}
 use Rattle.std.proofs.lemmas.Bool.{eq-eqb}
@@ -8,15 +9,22 @@ use Rattle.policy.specs.Record.{AccountValue, PolicyValue}
 use Rattle.tsp.specs.Request.{Spells}
 use Rattle.cms.specs.declared.signer.SignerFault.{SignerFault}
 use Rattle.cms.specs.declared.signer.SignerFault.TheVariants as signer
-use Rattle.store.specs.History.{Entry, Reserved, Sealed, Deposited, Calibrated, Held, Granted, Revoked, History, ReservationValue, DepositValue, CalibrationValue, greatest_serial, latest_calibration, token_of, deposit_at, deposit_under}
+use Rattle.store.specs.History.{Entry, Reserved, Sealed, Deposited, Calibrated, Held, Granted, Revoked, History}
+use Rattle.store.specs.History.{ReservationValue, DepositValue, CalibrationValue, greatest_serial, latest_calibration}
+use Rattle.store.specs.History.{token_of, deposit_at, deposit_under}
 use Rattle.store.specs.Rights.{seen_by, shown_to, is_reader}
 use Rattle.store.specs.Sound.{Along, Fits, FitsSealed, FitsRight, greatest_number}
 use Rattle.desk.specs.Content.{IsTrueOf}
 use Rattle.desk.specs.Outcome.{Outcome, Cause, cause_of}
 use Rattle.desk.specs.Findings.{PlanValue, IsAllowed, Finding, Fails, Unanswered, Allowed, Finds}
-use Rattle.desk.specs.Command.{Setting, PendingValue, Command, Stamp, Begin, Finish, Abandon, Deposit, Show, Token, ListAll, Grant, Revoke, Calibrate, Hold, Answer, Done}
+use Rattle.desk.specs.Command.{Setting, PendingValue, Command, Stamp, Begin, Finish, Abandon, Deposit, Show, Token}
+use Rattle.desk.specs.Command.{ListAll, Grant, Revoke, Calibrate, Hold, Answer, Done}
 use Rattle.desk.specs.Texts.{octets_for, request_for, pending_of, token_with}
-use Rattle.desk.specs.Effects.{Effect, only, unless, Stamping, Unreserved, Void, Sealing, no_number, no_seal, next_reservation, sealed_or_void, signed_or_void, stamping_of, stamp_effect, stamp_found, begin_effect, begin_found, finish_effect, deposit_row, deposit_effect, deposit_found, known_effect, show_effect, token_effect, right_effect, is_backwards, calibrate_effect, name_of}
+use Rattle.desk.specs.Effects.{Effect, only, unless, Stamping, Unreserved, Void, Sealing, no_number, no_seal}
+use Rattle.desk.specs.Effects.{next_reservation, sealed_or_void, signed_or_void, stamping_of, stamp_effect, stamp_found}
+use Rattle.desk.specs.Effects.{begin_effect, begin_found, finish_effect, deposit_row, deposit_effect, deposit_found}
+use Rattle.desk.specs.Effects.{known_effect, show_effect, token_effect, right_effect, is_backwards, calibrate_effect}
+use Rattle.desk.specs.Effects.{name_of}
 use Rattle.desk.specs.Steps.{KeepsUnder, KeepsUnless, Keeps, HasEffect, IsMet}
 use Rattle.desk.specs.Runs.{IsProper}
 use Rattle.desk.proofs.Views.{unsealed_above}

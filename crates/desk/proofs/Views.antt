@@ -1,10 +1,13 @@
 -- What a history shows stays so when an entry fits it.
-use Rattle.std.proofs.Common.{◌≡◌, ℕ, ◌<◌, ◌≤◌, ◌==◌, ◌&&◌, cond, Bool, true, false, List, [], ◌∷◌, Option, Some, None, refl, sym, arith}
+use Rattle.std.proofs.Common.{◌≡◌, ℕ, ◌<◌, ◌≤◌, ◌==◌, ◌&&◌, cond, Bool, true, false, List, [], ◌∷◌, Option, Some, None}
+use Rattle.std.proofs.Common.{refl, sym, arith}
 use Rattle.std.specs.List.{find}
 use Rattle.std.specs.Str.{bytes_eq}
 use Rattle.std.proofs.lemmas.Bool.{eqb-true, eq-eqb}
 use Rattle.std.proofs.lemmas.Slice.Eq.{bytes_eq-Decides}
-use Rattle.store.specs.History.{Entry, Reserved, Sealed, Deposited, Calibrated, Held, Granted, Revoked, History, ReservationValue, DepositValue, reservations, greatest_of, greatest_serial, token_of, reservation_at, deposit_at, deposit_under}
+use Rattle.store.specs.History.{Entry, Reserved, Sealed, Deposited, Calibrated, Held, Granted, Revoked, History}
+use Rattle.store.specs.History.{ReservationValue, DepositValue, reservations, greatest_of, greatest_serial, token_of}
+use Rattle.store.specs.History.{reservation_at, deposit_at, deposit_under}
 use Rattle.store.specs.Sound.{Along, Fits, FitsReserved, FitsSealed}
 
 abbrev search_serial : ℕ → List ReservationValue → Option ReservationValue

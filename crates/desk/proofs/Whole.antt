@@ -6,7 +6,8 @@ use Rattle.store.specs.Sound.{IsSound}
 use Rattle.desk.specs.Agreement.{Agree, IsCommandOf}
 use Rattle.desk.specs.Content.{IsSoundInFull}
 use Rattle.desk.specs.Outcome.{Outcome}
-use Rattle.desk.specs.Command.{Setting, Command, Stamp, Begin, Finish, Abandon, Deposit, Show, Token, ListAll, Grant, Revoke, Calibrate, Hold, Answer}
+use Rattle.desk.specs.Command.{Setting, Command, Stamp, Begin, Finish, Abandon, Deposit, Show, Token, ListAll, Grant}
+use Rattle.desk.specs.Command.{Revoke, Calibrate, Hold, Answer}
 use Rattle.desk.specs.Effects.{Effect}
 use Rattle.desk.specs.Steps.{HasEffect, IsMet}
 use Rattle.desk.specs.Runs.{IsProper, Told, Journey, goes, stops, after, cut, Runs, HasProperties}
@@ -48,7 +49,7 @@ continued_by s c cs o os b w b' w' e proper met j h others (inl stop) =
     (stops s c o e stop.0 proper met h j))
 continued_by s c cs o os b w b' w' e proper met j h others (inr more) = others (goes s c o e proper met h j) more
 
-continued : (s : Setting) (cs : List Command) (os : List Outcome) (b : History) (w : List Told) (b' : History)
+pub continued : (s : Setting) (cs : List Command) (os : List Outcome) (b : History) (w : List Told) (b' : History)
     (w' : List Told) → IsProper s → AreMet cs
     → Journey b w → Continues s cs os b w b' w' → Journey b' w'
 continued s [] [] b w b' w' proper met j h = subst (λ x. Journey x w') (sym h.0) (subst (λ x. Journey b x)

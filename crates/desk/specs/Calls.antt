@@ -1,5 +1,6 @@
 -- What the parts of a call answer, and what the program's types stand for: stepping stones of the proofs.
-use Rattle.std.specs.Prelude.{◌≡◌, ◌⊎◌, ℕ, ◌≤◌, min, ℤ, List, [], length, Option, Some, None, option_map, Result, Ok, Err}
+use Rattle.std.specs.Prelude.{◌≡◌, ◌⊎◌, ℕ, ◌≤◌, min, ℤ, List, [], length, Option, Some, None, option_map, Result, Ok}
+use Rattle.std.specs.Prelude.{Err}
 use Rattle.gentime.specs.GenTime.{last_moment}
 use Rattle.der.specs.ObjectIdentifier.{oid_content}
 use Rattle.policy.specs.Record.{AccountValue}

@@ -1,12 +1,14 @@
 -- What a command adds to the history, what it has signed, and what it answers.
-use Rattle.std.specs.Prelude.{ℕ, ◌+◌, nat_le, int_lt, Bool, true, false, if◌then◌else◌, List, [], ◌∷◌, map, Option, Some, None, Result, Ok, Err}
+use Rattle.std.specs.Prelude.{ℕ, ◌+◌, nat_le, int_lt, Bool, true, false, if◌then◌else◌, List, [], ◌∷◌, map, Option}
+use Rattle.std.specs.Prelude.{Some, None, Result, Ok, Err}
 use Rattle.std.specs.Str.{bytes_eq}
 use Rattle.policy.specs.Record.{AccountValue, PolicyValue}
 use Rattle.policy.specs.Kinds.{is_among}
 use Rattle.tsp.specs.declared.rule.Rule.TheVariants.{System}
 use Rattle.cms.specs.SignedData.{attribute_text}
 use Rattle.cms.specs.declared.signer.SignerFault.{SignerFault}
-use Rattle.store.specs.History.{Entry, Reserved, Sealed, Deposited, Calibrated, History, ReservationValue, DepositValue, CalibrationValue, greatest_serial, latest_calibration}
+use Rattle.store.specs.History.{Entry, Reserved, Sealed, Deposited, Calibrated, History, ReservationValue, DepositValue}
+use Rattle.store.specs.History.{CalibrationValue, greatest_serial, latest_calibration}
 use Rattle.store.specs.Sound.{greatest_number}
 use Rattle.desk.specs.Outcome.{Outcome, Cause, OfMemory, OfStore, OfSigner, cause_of, cause_of_signing, first_cause}
 use Rattle.desk.specs.Findings.{PlanValue, Finding, Fails, Unanswered, Allowed}

@@ -1,5 +1,6 @@
 -- What is promised of the machine: of grants and rejections, of journeys that go on, and of an account's commands.
-use Rattle.std.specs.Prelude.{◌≡◌, ℕ, ◌+◌, ◌<◌, ◌≤◌, ◌⊎◌, ℤ, false, List, [], ◌∷◌, ◌++◌, filter, Option, Some, None, Result, Ok}
+use Rattle.std.specs.Prelude.{◌≡◌, ℕ, ◌+◌, ◌<◌, ◌≤◌, ◌⊎◌, ℤ, false, List, [], ◌∷◌, ◌++◌, filter, Option, Some, None}
+use Rattle.std.specs.Prelude.{Result, Ok}
 use Rattle.std.specs.List.{Contains}
 use Rattle.std.specs.Str.{bytes_eq}
 use Rattle.policy.specs.Record.{AccountValue}
@@ -9,12 +10,14 @@ use Rattle.tsp.specs.declared.rule.Rule.{Rule}
 use Rattle.tsp.specs.declared.rule.Rule.TheVariants.{System}
 use Rattle.cms.specs.SignedData.{attribute_text}
 use Rattle.cms.specs.declared.signer.SignerFault.{SignerFault}
-use Rattle.store.specs.History.{Entry, Reserved, History, ReservationValue, stamps, deposits, holds, latest_calibration, greatest_serial}
+use Rattle.store.specs.History.{Entry, Reserved, History, ReservationValue, stamps, deposits, holds, latest_calibration}
+use Rattle.store.specs.History.{greatest_serial}
 use Rattle.store.specs.Sound.{greatest_number}
 use Rattle.desk.specs.Agreement.{seen_at, Agree, IsCommandOf}
 use Rattle.desk.specs.Outcome.{Outcome, Cause, cause_of, cause_of_signing}
 use Rattle.desk.specs.Findings.{PlanValue, IsAllowed, HoldsAt}
-use Rattle.desk.specs.Command.{Setting, PendingValue, Command, Stamp, Begin, Finish, Abandon, Deposit, Show, Token, ListAll, Grant, Revoke, Calibrate, Hold, Answer}
+use Rattle.desk.specs.Command.{Setting, PendingValue, Command, Stamp, Begin, Finish, Abandon, Deposit, Show, Token}
+use Rattle.desk.specs.Command.{ListAll, Grant, Revoke, Calibrate, Hold, Answer}
 use Rattle.desk.specs.Texts.{pending_of, token_with}
 use Rattle.desk.specs.Effects.{Effect, next_reservation, name_of}
 use Rattle.desk.specs.Steps.{HasEffect, IsMet}

@@ -1,5 +1,6 @@
 pub mod Agreement
 pub mod Answers
+pub mod Asked
 pub mod Calls
 pub mod Codes
 pub mod Command
@@ -9,9 +10,12 @@ pub mod Effects
 pub mod Facts
 pub mod Fault
 pub mod Findings
+pub mod Isolation
 pub mod Laws
 pub mod Obstacles
 pub mod Outcome
+pub mod Ran
+pub mod Readers
 pub mod Replies
 pub mod Runs
 pub mod Shown

@@ -11,7 +11,9 @@ use Rattle.store.specs.Sound.{greatest_number}
 use Rattle.store.specs.Stands.{Stands}
 use Rattle.store.specs.TablesOf.{tables_of}
 use Rattle.desk.specs.Outcome.{Call, Fine, Wanting, Broken, Outcome, faults_after}
-use Rattle.desk.specs.Command.{Setting, Command, Stamp, Begin, Finish, Abandon, Deposit, Show, Token, ListAll, Grant, Revoke, Calibrate, Hold, Answer, Stamped, Rejected, Begun, Kept, Shown, Listed, Done, Refused}
+use Rattle.desk.specs.Command.{Setting, Command, Stamp, Begin, Finish, Abandon, Deposit, Show, Token, ListAll, Grant}
+use Rattle.desk.specs.Command.{Revoke, Calibrate, Hold, Answer, Stamped, Rejected, Begun, Kept, Shown, Listed, Done}
+use Rattle.desk.specs.Command.{Refused}
 use Rattle.desk.specs.declared.fault.Fault.{Fault}
 use Rattle.desk.specs.declared.fault.Fault.TheVariants as fault
 use Rattle.desk.specs.Effects.{Effect, is_backwards}

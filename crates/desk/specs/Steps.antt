@@ -1,15 +1,20 @@
 -- The machine: which effects a command may have on a history, by what store, signer and memory answer.
-use Rattle.std.specs.Prelude.{◌≡◌, ℕ, ◌≤◌, ℤ, ◌<ℤ◌, nat_le, Bool, true, false, List, [], ◌∷◌, length, Option, Some, None, Result}
+use Rattle.std.specs.Prelude.{◌≡◌, ℕ, ◌≤◌, ℤ, ◌<ℤ◌, nat_le, Bool, true, false, List, [], ◌∷◌, length, Option, Some}
+use Rattle.std.specs.Prelude.{None, Result}
 use Rattle.policy.specs.Record.{AccountValue}
 use Rattle.tsp.specs.Request.{Spells}
 use Rattle.cms.specs.declared.signer.SignerFault.{SignerFault}
-use Rattle.store.specs.History.{Granted, Revoked, Held, History, ReservationValue, DepositValue, reservation_at, token_of, deposit_under}
+use Rattle.store.specs.History.{Granted, Revoked, Held, History, ReservationValue, DepositValue, reservation_at}
+use Rattle.store.specs.History.{token_of, deposit_under}
 use Rattle.store.specs.Rights.{seen_by, listed}
 use Rattle.desk.specs.Outcome.{Outcome, Cause, cause_of}
 use Rattle.desk.specs.Findings.{Finding, Finds}
-use Rattle.desk.specs.Command.{Setting, PendingValue, Command, Stamp, Begin, Finish, Abandon, Deposit, Show, Token, ListAll, Grant, Revoke, Calibrate, Hold, Listed, Done, Refused}
+use Rattle.desk.specs.Command.{Setting, PendingValue, Command, Stamp, Begin, Finish, Abandon, Deposit, Show, Token}
+use Rattle.desk.specs.Command.{ListAll, Grant, Revoke, Calibrate, Hold, Listed, Done, Refused}
 use Rattle.desk.specs.Texts.{octets_for, request_for}
-use Rattle.desk.specs.Effects.{no_sight, Effect, only, fault_of, unless, stamp_found, begin_found, finish_effect, deposit_found, known_effect, name_of, show_effect, token_effect, right_effect, calibrate_effect, no_seal, too_large}
+use Rattle.desk.specs.Effects.{no_sight, Effect, only, fault_of, unless, stamp_found, begin_found, finish_effect}
+use Rattle.desk.specs.Effects.{deposit_found, known_effect, name_of, show_effect, token_effect, right_effect}
+use Rattle.desk.specs.Effects.{calibrate_effect, no_seal, too_large}
 
 -- the effect of what was found
 abbrev pub HasFound : (Finding → Type 0) → (Finding → Effect) → Effect → Type 0

@@ -33,7 +33,8 @@ fn name_of<'a>(account: Option<&'a Account>) -> &'a str
     }
 }
 
-/// Judges a request, and reserves the next serial number where no rule fails. A refusal tells the call that was refused.
+/// Judges a request, and reserves the next serial number where no rule fails. A refusal tells the call that was
+/// refused.
 pub(crate) fn begin_with<'p, S: Alter + Drop>(
     store: &mut Store<S>,
     alloc: Global,

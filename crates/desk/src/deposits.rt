@@ -5,6 +5,7 @@ ghost use Rattle.tables.specs.Base.{IsHonest};
 ghost use Rattle.desk.specs.Answers.{answered};
 ghost use Rattle.desk.specs.Command.{Deposit, Show, Token, ListAll, Grant, Revoke};
 ghost use Rattle.desk.specs.Fault.{IsOfDeposit};
+ghost use Rattle.desk.specs.Isolation.{IsIsolated};
 ghost use Rattle.desk.specs.Shown.{deposited_as, shown_as, listed_as, done_as};
 ghost use Rattle.desk.specs.Stepped.{IsStep, no_signer, with_signer};
 
@@ -21,15 +22,15 @@ use store::Listed;
 
 impl<'p, S: Alter + Drop> Desk<'p, S> {
     /// Stamps octets for the account (RFC 3161 2.4.1, with SHA-256), and keeps them with their token under the owner's
-    /// reference, in one commit: the deposit's number, which is its stamp's serial number. Under a reference that the owner
-    /// has used, the same octets are answered by the old number, and nothing is reserved. A reference has 1 to 64 ASCII
-    /// letters, digits, `.`, `_` or `-`, which the caller sees to. The reading is the clock's, in microseconds.
+    /// reference, in one commit: the deposit's number, which is its stamp's serial number. Under a reference that the
+    /// owner has used, the same octets are answered by the old number, and nothing is reserved. A reference has 1 to 64
+    /// ASCII letters, digits, `.`, `_` or `-`, which the caller sees to. The reading is the clock's, in microseconds.
     ///
     /// Refused in this order: `TooLarge` for more than 1,048,576 octets, which asks neither the store nor the signer;
-    /// `Conflict` where the owner has used the reference for other octets; `Rejected` with the first rule of 3 to 11 that
-    /// fails of the stamp's request, which asks for no policy and for the certificate where the account's default policy
-    /// gives it out. `Memory`, `Store` and `Signer` come where they are met, `Store` also where no serial number is left;
-    /// where that is after the reservation, the reservation stays void, and nothing is deposited.
+    /// `Conflict` where the owner has used the reference for other octets; `Rejected` with the first rule of 3 to 11
+    /// that fails of the stamp's request, which asks for no policy and for the certificate where the account's default
+    /// policy gives it out. `Memory`, `Store` and `Signer` come where they are met, `Store` also where no serial number
+    /// is left; where that is after the reservation, the reservation stays void, and nothing is deposited.
     pub fn deposit<G: Signer>(
         &mut self,
         account: &Account,
@@ -46,6 +47,8 @@ impl<'p, S: Alter + Drop> Desk<'p, S> {
         ensures step { IsStep S.Store (with_signer G.signs G.fault_count signer.old signer.new) self.old.setting
             (Deposit (account_view account.now) reading reference.now bytes.now) self.old.store self.new.store
             (answered deposited_as result) }
+        ensures isolated { IsIsolated self.old.setting
+            (Deposit (account_view account.now) reading reference.now bytes.now) }
     {
         let opening = self.opening;
         deposit_with(
@@ -60,13 +63,14 @@ impl<'p, S: Alter + Drop> Desk<'p, S> {
         )
     }
 
-    /// The octets of a deposit that is visible to the account: it is its owner, or the last right about it was granted. Any
-    /// other is `NotHere`, as is a number that no deposit has. Refused also with `Memory` or `Store`.
+    /// The octets of a deposit that is visible to the account: it is its owner, or the last right about it was granted.
+    /// Any other is `NotHere`, as is a number that no deposit has. Refused also with `Memory` or `Store`.
     pub fn show(&mut self, account: &Account, number: u64) -> Result<Vec<u8>, Fault>
         ensures setting { self.new.setting ≡ self.old.setting }
         ensures honest { IsHonest S.Store self.new.store → IsHonest S.Store self.old.store }
         ensures step { IsStep S.Store no_signer self.old.setting (Show (account_view account.now) number) self.old.store
             self.new.store (answered shown_as result) }
+        ensures isolated { IsIsolated self.old.setting (Show (account_view account.now) number) }
     {
         match show_to(&mut self.store, account, number) {
             Ok(bytes) => Ok(bytes),
@@ -74,12 +78,15 @@ impl<'p, S: Alter + Drop> Desk<'p, S> {
         }
     }
 
-    /// The granted reply (RFC 3161 2.4.2) with the token of a deposit that is visible to the account. Refused as `show` is.
+    /// The granted reply (RFC 3161 2.4.2) with the token of a deposit that is visible to the account. Refused as `show`
+    /// is.
     pub fn token_of(&mut self, account: &Account, number: u64) -> Result<Vec<u8>, Fault>
         ensures setting { self.new.setting ≡ self.old.setting }
         ensures honest { IsHonest S.Store self.new.store → IsHonest S.Store self.old.store }
-        ensures step { IsStep S.Store no_signer self.old.setting (Token (account_view account.now) number) self.old.store
+        ensures step { IsStep S.Store no_signer self.old.setting (Token (account_view account.now) number)
+            self.old.store
             self.new.store (answered shown_as result) }
+        ensures isolated { IsIsolated self.old.setting (Token (account_view account.now) number) }
     {
         match token_to(&mut self.store, self.alloc, account, number) {
             Ok(reply) => Ok(reply),
@@ -94,6 +101,7 @@ impl<'p, S: Alter + Drop> Desk<'p, S> {
         ensures honest { IsHonest S.Store self.new.store → IsHonest S.Store self.old.store }
         ensures step { IsStep S.Store no_signer self.old.setting (ListAll (account_view account.now)) self.old.store
             self.new.store (answered listed_as result) }
+        ensures isolated { IsIsolated self.old.setting (ListAll (account_view account.now)) }
     {
         match list_to(&mut self.store, account) {
             Ok(rows) => Ok(rows),
@@ -101,17 +109,18 @@ impl<'p, S: Alter + Drop> Desk<'p, S> {
         }
     }
 
-    /// Lets the account of a name see a deposit, from now on; again is accepted, and changes no table. It may be one that
-    /// isn't active.
+    /// Lets the account of a name see a deposit, from now on; again is accepted, and changes no table. It may be one
+    /// that isn't active.
     ///
-    /// Refused in this order: `NotHere` where the deposit isn't visible to the account that grants, `NotOwner` where it is
-    /// another's, `UnknownReader` where the policy file has no account of that name, `SelfGrant` for the owner itself.
-    /// `Memory` and `Store` come where they are met.
+    /// Refused in this order: `NotHere` where the deposit isn't visible to the account that grants, `NotOwner` where it
+    /// is another's, `UnknownReader` where the policy file has no account of that name, `SelfGrant` for the owner
+    /// itself. `Memory` and `Store` come where they are met.
     pub fn grant(&mut self, account: &Account, number: u64, name: &str) -> Result<(), Fault>
         ensures setting { self.new.setting ≡ self.old.setting }
         ensures honest { IsHonest S.Store self.new.store → IsHonest S.Store self.old.store }
         ensures step { IsStep S.Store no_signer self.old.setting (Grant (account_view account.now) number name.now)
             self.old.store self.new.store (answered done_as result) }
+        ensures isolated { IsIsolated self.old.setting (Grant (account_view account.now) number name.now) }
     {
         let opening = self.opening;
         match grant_by(&mut self.store, opening, account, number, name) {
@@ -120,13 +129,14 @@ impl<'p, S: Alter + Drop> Desk<'p, S> {
         }
     }
 
-    /// Takes that right away, from now on; one that wasn't granted may be taken too, which changes no table. The right of an
-    /// account that has left the policy file stays: it is `UnknownReader`. Refused as `grant` is.
+    /// Takes that right away, from now on; one that wasn't granted may be taken too, which changes no table. The right
+    /// of an account that has left the policy file stays: it is `UnknownReader`. Refused as `grant` is.
     pub fn revoke(&mut self, account: &Account, number: u64, name: &str) -> Result<(), Fault>
         ensures setting { self.new.setting ≡ self.old.setting }
         ensures honest { IsHonest S.Store self.new.store → IsHonest S.Store self.old.store }
         ensures step { IsStep S.Store no_signer self.old.setting (Revoke (account_view account.now) number name.now)
             self.old.store self.new.store (answered done_as result) }
+        ensures isolated { IsIsolated self.old.setting (Revoke (account_view account.now) number name.now) }
     {
         let opening = self.opening;
         match revoke_by(&mut self.store, opening, account, number, name) {

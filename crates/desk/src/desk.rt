@@ -12,6 +12,7 @@ ghost use Rattle.store.specs.Stands.{Stands};
 ghost use Rattle.desk.specs.Answers.{begun_as, reply_as, answered};
 ghost use Rattle.desk.specs.Calls.{opening_view};
 ghost use Rattle.desk.specs.Command.{Begin, Finish, Abandon, Stamp, Stamped, Rejected, Done};
+ghost use Rattle.desk.specs.Isolation.{IsIsolated};
 ghost use Rattle.desk.specs.Findings.{HoldsUnasked};
 ghost use Rattle.desk.specs.Replies.{IsGranted, IsRejected};
 ghost use Rattle.desk.specs.Stepped.{IsStep, no_signer, with_signer, with_store};
@@ -112,13 +113,13 @@ impl<'p, S: Alter + Drop> Desk<'p, S> {
         store
     }
 
-    /// Judges a request by the rules 1 to 11, and reserves the next serial number where none fails (RFC 3161 2.4.2): the
-    /// rejection by the first rule that fails, or what waits for its signature. The reading is the clock's, in
+    /// Judges a request by the rules 1 to 11, and reserves the next serial number where none fails (RFC 3161 2.4.2):
+    /// the rejection by the first rule that fails, or what waits for its signature. The reading is the clock's, in
     /// microseconds.
     ///
     /// A request that fails one of the rules 1 to 9 is rejected without a call of the store and without memory. Refused
-    /// with `Memory` or `Store` where a call that the judging or the reservation needed was refused, and with `Store` where
-    /// no serial number is left; nothing is reserved then. All memory is taken before the reservation: once it is
+    /// with `Memory` or `Store` where a call that the judging or the reservation needed was refused, and with `Store`
+    /// where no serial number is left; nothing is reserved then. All memory is taken before the reservation: once it is
     /// committed, this call succeeds.
     pub fn begin(
         &mut self,
@@ -130,7 +131,8 @@ impl<'p, S: Alter + Drop> Desk<'p, S> {
         ensures honest { IsHonest S.Store self.new.store → IsHonest S.Store self.old.store }
         ensures step { IsStep S.Store no_signer self.old.setting (Begin (account_asked account.entry) reading query.now)
             self.old.store self.new.store (answered begun_as result) }
-        ensures unasked { (rule : Rule) → IsFirstFailing (HoldsUnasked self.old.setting.file (account_asked account.entry)
+        ensures unasked { (rule : Rule)
+            → IsFirstFailing (HoldsUnasked self.old.setting.file (account_asked account.entry)
             query.now) rule → (answered begun_as result ≡ Rejected rule) × (self.new ≡ self.old) }
         ensures refusals { IfErr result (λ fault. (fault ≡ Fault.Memory) ⊎ (fault ≡ Fault.Store)) }
     {
@@ -148,8 +150,8 @@ impl<'p, S: Alter + Drop> Desk<'p, S> {
         }
     }
 
-    /// Stores the token of a pending stamp over its signature of 1 to 4,096 octets, and answers the granted reply (RFC 3161
-    /// 2.4.2, RFC 5652 5.4). The caller's condition: this desk's store holds the reservation, and no token of it.
+    /// Stores the token of a pending stamp over its signature of 1 to 4,096 octets, and answers the granted reply (RFC
+    /// 3161 2.4.2, RFC 5652 5.4). The caller's condition: this desk's store holds the reservation, and no token of it.
     ///
     /// Refused with `Memory` or `Store`; the reservation stays void then.
     pub fn finish(&mut self, pending: Pending<'p>, signature: &[u8]) -> Result<Reply, Fault>
@@ -169,15 +171,17 @@ impl<'p, S: Alter + Drop> Desk<'p, S> {
     /// Leaves the reservation of a pending stamp void. The caller's condition is that of `finish`. Takes no memory.
     pub fn abandon(&mut self, pending: Pending<'p>)
         ensures same { self.new ≡ self.old }
-        ensures step { IsStep S.Store no_signer self.old.setting (Abandon pending.entry) self.old.store self.new.store Done }
+        ensures step { IsStep S.Store no_signer self.old.setting (Abandon pending.entry) self.old.store self.new.store
+            Done }
     {
         pending.abandon();
     }
 
     /// Answers a request (RFC 3161 2.4.2): the granted reply, whose token is stored, or the rejection by the first rule
-    /// that fails. Want of memory, a store that fails or has no serial number left, and a signer that fails are rule 12,
-    /// which comes from nothing else. The signer is asked once at most, and only after the reservation is committed; where
-    /// it or what comes after it is refused, the reservation stays void. The reading is the clock's, in microseconds.
+    /// that fails. Want of memory, a store that fails or has no serial number left, and a signer that fails are rule
+    /// 12, which comes from nothing else. The signer is asked once at most, and only after the reservation is
+    /// committed; where it or what comes after it is refused, the reservation stays void. The reading is the clock's,
+    /// in microseconds.
     pub fn answer<G: Signer>(
         &mut self,
         account: Option<&Account>,
@@ -187,7 +191,8 @@ impl<'p, S: Alter + Drop> Desk<'p, S> {
     ) -> Reply
         ensures setting { self.new.setting ≡ self.old.setting }
         ensures honest { IsHonest S.Store self.new.store → IsHonest S.Store self.old.store }
-        ensures unasked { (rule : Rule) → IsFirstFailing (HoldsUnasked self.old.setting.file (account_asked account.entry)
+        ensures unasked { (rule : Rule)
+            → IsFirstFailing (HoldsUnasked self.old.setting.file (account_asked account.entry)
             query.now) rule
             → (reply_as result ≡ Rejected rule) × (self.new ≡ self.old) × (signer.new ≡ signer.old) }
         ensures granted { IsHonest S.Store self.new.store → (b : History) → Stands S.Store b self.old.store
@@ -199,6 +204,7 @@ impl<'p, S: Alter + Drop> Desk<'p, S> {
             → IsRejected self.old.setting (account_asked account.entry) reading query.now b rule }
         ensures step { IsStep S.Store (with_signer G.signs G.fault_count signer.old signer.new) self.old.setting
             (Stamp (account_asked account.entry) reading query.now) self.old.store self.new.store (reply_as result) }
+        ensures isolated { IsIsolated self.old.setting (Stamp (account_asked account.entry) reading query.now) }
     {
         let opening = self.opening;
         answer_with(

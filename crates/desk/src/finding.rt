@@ -127,7 +127,8 @@ pub(crate) fn judge<'p, 'a, S: Alter + Drop>(
     ensures last { IsHonest S.Store store.new → (b : History) → Stands S.Store b store.old
         → IfOk result (HasLast (greatest_serial b)) }
     ensures unasked { (octets : List ℕ) → Spells octets (request_view request.entry) → length octets ≤ 65536
-        → (rule : Rule) → IsFirstFailing (HoldsUnasked (policy_view policy.now) (account_asked account.entry) octets) rule
+        → (rule : Rule) → IsFirstFailing (HoldsUnasked (policy_view policy.now) (account_asked account.entry) octets)
+        rule
         → (finding_of result ≡ Fails rule) × (store.new ≡ store.old) }
     ensures refusals { IfErr result IsOfLooks }
 {
@@ -156,7 +157,8 @@ pub(crate) fn find<'p, 'a, S: Alter + Drop>(
     ensures read { IfOk result (IsReadFrom query.now) }
     ensures last { IsHonest S.Store store.new → (b : History) → Stands S.Store b store.old
         → IfOk result (HasLast (greatest_serial b)) }
-    ensures unasked { (rule : Rule) → IsFirstFailing (HoldsUnasked (policy_view policy.now) (account_asked account.entry)
+    ensures unasked { (rule : Rule)
+        → IsFirstFailing (HoldsUnasked (policy_view policy.now) (account_asked account.entry)
         query.now) rule → (finding_of result ≡ Fails rule) × (store.new ≡ store.old) }
     ensures refusals { IfErr result IsOfLooks }
 {

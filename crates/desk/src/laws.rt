@@ -11,7 +11,8 @@ ghost use Rattle.desk.specs.Agreement.{Agree};
 ghost use Rattle.desk.specs.Command.{Setting, PendingValue, Command, Stamp, Answer, Stamped, Rejected, Begun};
 ghost use Rattle.desk.specs.Content.{IsSoundInFull};
 ghost use Rattle.desk.specs.Effects.{Effect};
-ghost use Rattle.desk.specs.Laws.{IsCommandOfOther, Concerns, StaysFor, IsGrant, IsRejection, IsReservedText, IsPendingOf, Continues, AreMet, AreCommandsOf, RunsAlike};
+ghost use Rattle.desk.specs.Laws.{IsCommandOfOther, Concerns, StaysFor, IsGrant, IsRejection, IsReservedText};
+ghost use Rattle.desk.specs.Laws.{IsPendingOf, Continues, AreMet, AreCommandsOf, RunsAlike};
 ghost use Rattle.desk.specs.Findings.{PlanValue, IsAllowed, HoldsAt};
 ghost use Rattle.desk.specs.Outcome.{Outcome, all_fine};
 ghost use Rattle.desk.specs.Runs.{IsProper, Told, Journey, HasProperties, Runs, after, cut};
@@ -56,9 +57,9 @@ pub fn grants_are_of_their_plan()
         → n ≤ greatest_serial b }
 {}
 
-/// What a signer is asked to sign, and what waits for its signature, is the text of the reservation that the same command
-/// adds before all else, under a serial number above all that were reserved before. So the serial numbers of the texts
-/// that were given out rise, where a text is given out only once its reservation is committed.
+/// What a signer is asked to sign, and what waits for its signature, is the text of the reservation that the same
+/// command adds before all else, under a serial number above all that were reserved before. So the serial numbers of
+/// the texts that were given out rise, where a text is given out only once its reservation is committed.
 pub fn texts_are_reserved()
     ensures asked { (s : Setting) (c : Command) (o : Outcome) (b : History) (e : Effect) (text : List ℕ)
         → HasEffect s c o b e → e.asks ≡ Some text → IsReservedText s e b text }

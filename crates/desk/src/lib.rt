@@ -4,9 +4,11 @@
 
 mod answering;
 mod beginning;
+mod commands;
 mod depositing;
 mod deposits;
 mod desk;
+mod entering;
 mod fault;
 mod finding;
 mod finishing;
@@ -19,8 +21,10 @@ mod refusal;
 mod reply;
 mod reserving;
 mod rights;
+mod running;
 mod showing;
 
+pub use commands::{Answer, Command};
 pub use desk::Desk;
 pub use fault::Fault;
 pub use laws::{

@@ -1,5 +1,6 @@
 //! What the store says of the clock.
-ghost use Rattle.std.specs.Prelude.{◌≡◌, ◌⊎◌, ℕ, ◌≤◌, pos, Option, Some, None, option_map, IfOk, IfErr, MatchResult, MatchOption};
+ghost use Rattle.std.specs.Prelude.{◌≡◌, ◌⊎◌, ℕ, ◌≤◌, pos, Option, Some, None, option_map, IfOk, IfErr, MatchResult};
+ghost use Rattle.std.specs.Prelude.{MatchOption};
 ghost use Rattle.gentime.specs.GenTime.{last_moment};
 ghost use Rattle.tables.specs.Base.{IsHonest};
 ghost use Rattle.store.specs.History.{History};

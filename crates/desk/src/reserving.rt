@@ -7,7 +7,8 @@ ghost use Rattle.tsp.specs.View.{request_view};
 ghost use Rattle.store.specs.History.{History, greatest_serial};
 ghost use Rattle.store.specs.Stands.{Stands};
 ghost use Rattle.desk.specs.Outcome.{faults_after};
-ghost use Rattle.desk.specs.Calls.{adding_refusal, outcome_of, plan_of, opening_view, IsPrepared, IsOfReserving, Reserves};
+ghost use Rattle.desk.specs.Calls.{adding_refusal, outcome_of, plan_of, opening_view, IsPrepared, IsOfReserving};
+ghost use Rattle.desk.specs.Calls.{Reserves};
 
 use crate::finding::Planned;
 use crate::opening::Opening;

@@ -26,7 +26,8 @@ fn is_known(policy: &Policy, name: &str) -> bool
     policy.account_named(name).is_some()
 }
 
-/// Whether an account may give a reader the right to see a deposit, and take it: the owner may, and for another account.
+/// Whether an account may give a reader the right to see a deposit, and take it: the owner may, and for another
+/// account.
 fn may_name<S: Alter + Drop>(
     store: &mut Store<S>,
     policy: &Policy,

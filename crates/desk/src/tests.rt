@@ -10,6 +10,7 @@ mod memory;
 mod octets;
 mod rights;
 mod rows;
+mod runs;
 mod setting;
 
 #[test]

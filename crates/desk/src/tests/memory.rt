@@ -10,7 +10,7 @@ use std::test::Fail;
 const MARK: usize = 1_000_003;
 
 /// Makes that allocation.
-fn mark(alloc: Global) -> Result<(), AllocError> {
+pub fn mark(alloc: Global) -> Result<(), AllocError> {
     let room = Vec::<u8>::with_capacity(alloc, MARK)?;
     drop(room);
     Ok(())

@@ -1,7 +1,8 @@
 //! Requests answered over a database in memory, with exact octets.
 //!
 //! No contract promises memory. So a desk that gives rule 12, or wants memory, wherever none of the rules 1 to 9 fails
-//! is proved. It fails `answers_one_request`, `leaves_a_void_number_where_the_signer_fails` and `finishes_in_any_order`.
+//! is proved. It fails `answers_one_request`, `leaves_a_void_number_where_the_signer_fails` and
+//! `finishes_in_any_order`.
 use super::octets::*;
 use super::setting::{
     RIGHT, SEALED, calibrated, changed, desk_over, empty, example, number, octets_of,

@@ -8,7 +8,8 @@ use Rattle.desk.specs.Outcome.{all_fine}
 use Rattle.desk.specs.Stepped.{StepsBy, no_signer, with_signer}
 use Rattle.desk.specs.Wholes.{joined}
 use Rattle.desk.specs.declared.reply.Begun.{Begun}
-use Rattle.desk.proofs.Stamping.{stamp_is_refused, stamp_is_rejected, stamp_is_completed, reply_blamed, begun_unrejected, refused_unrejected}
+use Rattle.desk.proofs.Stamping.{stamp_is_refused, stamp_is_rejected, stamp_is_completed, reply_blamed}
+use Rattle.desk.proofs.Stamping.{begun_unrejected, refused_unrejected}
 use Rattle.desk.proofs.answering.answer_with.Goals as goal
 
 pub returns-in-Ok-Pending-clause-step : goal.returns-in-Ok-Pending-clause-step

@@ -5,7 +5,8 @@ use Rattle.tsp.specs.declared.rule.Rule.TheVariants.{Clock}
 use Rattle.decide.specs.Clock.{IsGood, IsGoodAt}
 use Rattle.decide.specs.View.{account_asked}
 use Rattle.desk.specs.Facts.{clock_of, facts_of}
-use Rattle.desk.proofs.Judgement.{same_cause, facts_are, first_lifted, all_lifted, unasked_lifted, answered_for, looks_then}
+use Rattle.desk.proofs.Judgement.{same_cause, facts_are, first_lifted, all_lifted, unasked_lifted, answered_for}
+use Rattle.desk.proofs.Judgement.{looks_then}
 use Rattle.desk.proofs.Late.{late_with}
 use Rattle.desk.proofs.finding.ask.Goals as goal
 
@@ -45,7 +46,8 @@ returns-in-Err-count-clause-finds g c honest b st octets spelled short judged =
     let r = request_view c.args.request in
     let reading : SFits w64 c.args.reading = search rules in
     let clock : c.in-Ok.looked.clock ≡ clock_of c.args.reading b =
-    ap (λ l. l.clock) (c.in-Ok.ensures.value (c.in-Err-count.ensures.looks.honest honest) b st) ∙ ap (λ x. clock_of x b) (to_z-of_z reading) in
+    ap (λ l. l.clock) (c.in-Ok.ensures.value (c.in-Err-count.ensures.looks.honest honest) b st)
+    ∙ ap (λ x. clock_of x b) (to_z-of_z reading) in
     let good = subst (λ x. IsGood file.counter x) clock c.in-Good.ensures.state.0 in (
       unasked_lifted file account octets r spelled (λ s h. c.requests_have_one_reading.ensures.one octets r s spelled h)
           short judged,
@@ -63,7 +65,8 @@ returns-in-Deny-clause-finds g c honest b st octets spelled short judged =
     let r = request_view c.args.request in
     let reading : SFits w64 c.args.reading = search rules in
     let clock : c.in-Ok.looked.clock ≡ clock_of c.args.reading b =
-    ap (λ l. l.clock) (c.in-Ok.ensures.value (c.in-Ok-count.ensures.looks.honest honest) b st) ∙ ap (λ x. clock_of x b) (to_z-of_z reading) in
+    ap (λ l. l.clock) (c.in-Ok.ensures.value (c.in-Ok-count.ensures.looks.honest honest) b st)
+    ∙ ap (λ x. clock_of x b) (to_z-of_z reading) in
     let same = facts_are file account c.args.reading b c.in-Ok.looked.clock c.in-Ok-count.count c.in-Good.gen_time clock
     c.in-Good.ensures.state (c.in-Ok-count.ensures.value honest b (c.in-Ok.ensures.looks.stands b st)) in (
       first_lifted file account c.args.reading octets b r _ same spelled
@@ -83,7 +86,8 @@ returns-in-Allow-clause-finds g c honest b st octets spelled short judged =
     let r = request_view c.args.request in
     let reading : SFits w64 c.args.reading = search rules in
     let clock : c.in-Ok.looked.clock ≡ clock_of c.args.reading b =
-    ap (λ l. l.clock) (c.in-Ok.ensures.value (c.in-Ok-count.ensures.looks.honest honest) b st) ∙ ap (λ x. clock_of x b) (to_z-of_z reading) in
+    ap (λ l. l.clock) (c.in-Ok.ensures.value (c.in-Ok-count.ensures.looks.honest honest) b st)
+    ∙ ap (λ x. clock_of x b) (to_z-of_z reading) in
     let same = facts_are file account c.args.reading b c.in-Ok.looked.clock c.in-Ok-count.count c.in-Good.gen_time clock
     c.in-Good.ensures.state (c.in-Ok-count.ensures.value honest b (c.in-Ok.ensures.looks.stands b st)) in
     let verdict = c.in-Allow.ensures.verdict in (

@@ -12,7 +12,8 @@ returns-in-Ok-seal-clause-step g c s =
     c.in-Ok-write_granted.ensures.text
     ∙ ap granted_octets (c.deref-2.ensures.value ∙ sym c.deref-3.ensures.value) in
     seals g.S.Store s c.args.pending c.args.signature.now c.pending.inside.serial c.deref-3.result.now
-    c.in-Ok-write_granted.bytes.items c.args.store.now c.seal.new.self (ap (λ (p : PendingValue). p.serial) c.pending.view_is)
+    c.in-Ok-write_granted.bytes.items c.args.store.now c.seal.new.self
+    (ap (λ (p : PendingValue). p.serial) c.pending.view_is)
     is reply c.in-Ok-seal.ensures.faults c.in-Ok-seal.ensures.opened c.in-Ok-seal.ensures.ok
 
 pub returns-clause-step : goal.returns-clause-step

@@ -5,7 +5,8 @@ use Rattle.store.specs.Sound.{greatest_number}
 use Rattle.desk.specs.Calls.{refused, plan_of, opening_view, IsOfReserving, Reserves}
 use Rattle.desk.specs.Outcome.{faults_after, all_fine}
 use Rattle.desk.specs.declared.refusal.Refusal.{Refusal}
-use Rattle.desk.proofs.Reserves.{next_is, fits_next, adding_counted, adding_is, adding_refused, reserves_next, left_number, made, waiting, waits_for}
+use Rattle.desk.proofs.Reserves.{next_is, fits_next, adding_counted, adding_is, adding_refused, reserves_next}
+use Rattle.desk.proofs.Reserves.{left_number, made, waiting, waits_for}
 use Rattle.desk.proofs.reserving.reserve_next.Goals as goal
 
 pub returns-in-Err-clause-counted : goal.returns-in-Err-clause-counted

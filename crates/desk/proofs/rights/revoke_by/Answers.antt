@@ -21,4 +21,5 @@ returns-in-Ok-revoke-clause-step g c =
       uncounted = c.in-Ok.ensures.counted;
       may = λ honest b st. subst (λ x. MayName s.file x name n b) c.as_str.ensures.value
           (c.in-Ok.ensures.may honest b st);
-    }) c.in-Ok-revoke.ensures.honest c.in-Ok-revoke.ensures.faults c.in-Ok-revoke.ensures.opened c.in-Ok-revoke.ensures.ok
+    }) c.in-Ok-revoke.ensures.honest c.in-Ok-revoke.ensures.faults c.in-Ok-revoke.ensures.opened
+    c.in-Ok-revoke.ensures.ok

@@ -5,6 +5,7 @@ use Rattle.desk.specs.Calls.{opening_view}
 use Rattle.desk.specs.Command.{Stamp}
 use Rattle.desk.proofs.Opened.{steps_opened}
 use Rattle.desk.proofs.Replying.{granted_reply, rejected_reply}
+use Rattle.desk.proofs.Alone.{is_isolated}
 use Rattle.desk.proofs.desk.Desk.answer.Goals as goal
 
 pub returns-clause-step : goal.returns-clause-step
@@ -30,3 +31,6 @@ returns-clause-rejected g c =
     rejected_reply g.S.Store g.G.Signer.signs g.G.Signer.fault_count c.args.signer.now c.answer_with.new.signer
     c.args.self.now.setting (account_asked c.args.account) _ c.args.query.now c.args.self.now.store
     c.answer_with.new.store (reply_as c.answer_with.result) (returns-clause-step g c)
+
+pub returns-clause-isolated : goal.returns-clause-isolated
+returns-clause-isolated g c = is_isolated _ _

@@ -5,6 +5,7 @@ use Rattle.desk.specs.Calls.{opening_view}
 use Rattle.desk.specs.Command.{Deposit}
 use Rattle.desk.specs.Shown.{deposited_as}
 use Rattle.desk.proofs.Opened.{steps_opened}
+use Rattle.desk.proofs.Alone.{is_isolated}
 use Rattle.desk.proofs.desk.Desk.deposit.Goals as goal
 
 pub returns-clause-step : goal.returns-clause-step
@@ -20,3 +21,6 @@ returns-clause-step g c =
           (ap (λ r. Deposit a r c.args.reference.now c.args.bytes.now) (to_z-of_z reading)) refl
           c.deposit_with.ensures.step.1,
     )
+
+pub returns-clause-isolated : goal.returns-clause-isolated
+returns-clause-isolated g c = is_isolated _ _

@@ -1,0 +1,167 @@
+-- The readers after a journey are those by the rights that it acknowledged and that its stops left.
+use Rattle.std.proofs.Common.{◌≡◌, ℕ, ◌==◌, ◌&&◌, nat_le, cond, ℤ, Bool, true, false, List, [], ◌∷◌, ◌++◌, drop, length}
+use Rattle.std.proofs.Common.{Option, Some, None, refl, sym, ◌∙◌, ap, subst}
+use Rattle.std.specs.Str.{bytes_eq}
+use Rattle.policy.specs.Record.{AccountValue}
+use Rattle.store.specs.History.{Entry, Reserved, Sealed, Deposited, Calibrated, Held, Granted, Revoked, History}
+use Rattle.store.specs.History.{DepositValue, latest_calibration, token_of, deposit_under}
+use Rattle.store.specs.Rights.{is_reader, seen_by}
+use Rattle.desk.specs.Outcome.{Outcome, Cause, cause_of}
+use Rattle.desk.specs.Findings.{PlanValue, Finding, Fails, Unanswered, Allowed}
+use Rattle.desk.specs.Command.{Setting, Command, Stamp, Begin, Finish, Abandon, Deposit, Show, Token, ListAll, Grant}
+use Rattle.desk.specs.Command.{Revoke, Calibrate, Hold, Answer, Kept, Shown, Refused}
+use Rattle.desk.specs.Texts.{octets_for}
+use Rattle.desk.specs.Effects.{Effect, only, unless, Stamping, Unreserved, Void, Sealing, no_number, no_seal, no_sight}
+use Rattle.desk.specs.Effects.{stamping_of, stamp_effect, stamp_found, begin_effect, begin_found, finish_effect}
+use Rattle.desk.specs.Effects.{deposit_effect, deposit_found, known_effect, show_effect, token_effect, right_effect}
+use Rattle.desk.specs.Effects.{is_backwards, calibrate_effect, name_of}
+use Rattle.desk.specs.declared.fault.Fault.{Fault}
+use Rattle.desk.specs.declared.fault.Fault.TheVariants as fault
+use Rattle.desk.specs.Steps.{KeepsUnder, KeepsUnless, Keeps, HasEffect}
+use Rattle.desk.specs.Runs.{Told, Journey, begins, goes, stops}
+use Rattle.desk.specs.Readers.{where_done, rights_by, rights_along}
+use Rattle.desk.proofs.Granting.{entered}
+use Rattle.desk.proofs.Keeping.{if_has, unless_has, right_has}
+use Rattle.desk.proofs.Stepping.{shows_none, tokens_none, answers_none}
+
+-- entries that are the same to each reader of each deposit
+abbrev SameRights : List Entry → List Entry → Type 0
+SameRights xs ys = (b h : History) (n : ℕ) (account : List ℕ) → is_reader n account b ≡ is_reader n account h
+    → is_reader n account (xs ++ b) ≡ is_reader n account (ys ++ h)
+
+same_rights : (xs : List Entry) → SameRights xs xs
+same_rights [] b h n account e = e
+same_rights (Reserved r ∷ xs) b h n account e = same_rights xs b h n account e
+same_rights (Sealed serial token ∷ xs) b h n account e = same_rights xs b h n account e
+same_rights (Deposited d token ∷ xs) b h n account e = same_rights xs b h n account e
+same_rights (Calibrated c ∷ xs) b h n account e = same_rights xs b h n account e
+same_rights (Held k ∷ xs) b h n account e = same_rights xs b h n account e
+same_rights (Granted m a ∷ xs) b h n account e =
+    ap (λ t. cond ((m == n) && bytes_eq a account) true t) (same_rights xs b h n account e)
+same_rights (Revoked m a ∷ xs) b h n account e =
+    ap (λ t. cond ((m == n) && bytes_eq a account) false t) (same_rights xs b h n account e)
+
+-- an effect that changes no right
+abbrev IsSilent : Effect → Type 0
+IsSilent e = SameRights e.adds []
+
+refused_silent : (f : Fault) → IsSilent (only (Refused f))
+refused_silent f b h n account e = e
+
+stamp_silent : (s : Setting) (st : Stamping) → IsSilent (stamp_effect s st)
+stamp_silent s (Unreserved cause) b h n account e = e
+stamp_silent s (Void r cause) b h n account e = e
+stamp_silent s (Sealing r token) b h n account e = e
+
+stamp_found_silent : (s : Setting) (account octets : List ℕ) (o : Outcome) (b : History) (f : Finding)
+    → IsSilent (stamp_found s account octets o b f)
+stamp_found_silent s account octets o b (Fails rule) = λ c h n reader e. e
+stamp_found_silent s account octets o b (Unanswered cause) = λ c h n reader e. e
+stamp_found_silent s account octets o b (Allowed plan) =
+    stamp_silent s (stamping_of s account plan octets o b (no_number o b))
+
+begin_silent : (s : Setting) (account octets : List ℕ) (plan : PlanValue) (b : History) (refused : Option Cause)
+    → IsSilent (begin_effect s account plan octets b refused)
+begin_silent s account octets plan b None c h n reader e = e
+begin_silent s account octets plan b (Some cause) c h n reader e = e
+
+begin_found_silent : (s : Setting) (account octets : List ℕ) (o : Outcome) (b : History) (f : Finding)
+    → IsSilent (begin_found s account octets o b f)
+begin_found_silent s account octets o b (Fails rule) = λ c h n reader e. e
+begin_found_silent s account octets o b (Unanswered cause) = λ c h n reader e. e
+begin_found_silent s account octets o b (Allowed plan) = begin_silent s account octets plan b (no_number o b)
+
+deposit_silent : (s : Setting) (owner reference bytes : List ℕ) (st : Stamping)
+    → IsSilent (deposit_effect s owner reference bytes st)
+deposit_silent s owner reference bytes (Unreserved cause) b h n account e = e
+deposit_silent s owner reference bytes (Void r cause) b h n account e = e
+deposit_silent s owner reference bytes (Sealing r token) b h n account e = e
+
+deposit_found_silent : (s : Setting) (owner reference bytes octets : List ℕ) (o : Outcome) (b : History) (f : Finding)
+    → IsSilent (deposit_found s owner reference bytes octets o b f)
+deposit_found_silent s owner reference bytes octets o b (Fails rule) = λ c h n reader e. e
+deposit_found_silent s owner reference bytes octets o b (Unanswered cause) = λ c h n reader e. e
+deposit_found_silent s owner reference bytes octets o b (Allowed plan) =
+    deposit_silent s owner reference bytes (stamping_of s owner plan octets o b (no_number o b))
+
+under_silent : (s : Setting) (a : AccountValue) (reading : ℤ) (reference bytes : List ℕ) (o : Outcome) (b : History)
+    (under : Option DepositValue) (e : Effect) → KeepsUnder s a reading reference bytes o b under e → IsSilent e
+under_silent s a reading reference bytes o b (Some d) e is =
+    subst IsSilent (sym is) (λ c h n reader same. same)
+under_silent s a reading reference bytes o b None e is =
+    subst IsSilent (sym is.1.2) (deposit_found_silent s a.name reference bytes (octets_for s.file a bytes) o b is.1.0)
+
+unless_silent : (s : Setting) (a : AccountValue) (reading : ℤ) (reference bytes : List ℕ) (o : Outcome) (b : History)
+    (refused : Option Cause) (e : Effect) → KeepsUnless s a reading reference bytes o b refused e → IsSilent e
+unless_silent s a reading reference bytes o b (Some cause) e is =
+    subst IsSilent (sym is) (λ c h n reader same. same)
+unless_silent s a reading reference bytes o b None e is =
+    under_silent s a reading reference bytes o b (deposit_under a.name reference b) e is
+
+keeps_silent : (s : Setting) (a : AccountValue) (reading : ℤ) (reference bytes : List ℕ) (o : Outcome) (b : History)
+    (short : Bool) (e : Effect) → Keeps s a reading reference bytes o b short e → IsSilent e
+keeps_silent s a reading reference bytes o b true e is =
+    unless_silent s a reading reference bytes o b (cause_of o.searching) e is
+keeps_silent s a reading reference bytes o b false e is =
+    subst IsSilent (sym is) (λ c h n reader same. same)
+
+-- what adds nothing
+none_silent : (e : Effect) → e.adds ≡ [] → IsSilent e
+none_silent e none = subst (λ xs. SameRights xs []) (sym none) (λ b h n account same. same)
+
+-- a right is added exactly where it is answered as done
+abbrev IsRightOf : Entry → Effect → Type 0
+IsRightOf entry e = e.adds ≡ where_done entry e.says
+
+right_of : (entry : Entry) (c : Command) (e d : Effect) → ((a : Answer) → rights_by c a ≡ where_done entry a) → e ≡ d
+    → IsRightOf entry d → SameRights e.adds (rights_by c e.says)
+right_of entry c e d by same h =
+    subst (λ x. SameRights x.adds (rights_by c x.says)) (sym same)
+    (subst (λ xs. SameRights xs (rights_by c d.says)) (sym (h ∙ sym (by d.says))) (same_rights (rights_by c d.says)))
+
+step_rights : (s : Setting) (c : Command) (o : Outcome) (b : History) (e : Effect) → HasEffect s c o b e
+    → SameRights e.adds (rights_by c e.says)
+step_rights s (Stamp account reading octets) o b e h =
+    subst IsSilent (sym h.2) (stamp_found_silent s (name_of account) octets o b h.0)
+step_rights s (Begin account reading octets) o b e h =
+    subst IsSilent (sym h.2) (begin_found_silent s (name_of account) octets o b h.0)
+step_rights s (Finish p signature) o b e h =
+    subst IsSilent (sym h)
+    (unless_has IsSilent refused_silent (no_seal o) (finish_effect p signature) (λ c k n account same. same))
+step_rights s (Abandon p) o b e h = subst IsSilent (sym h) (λ c k n account same. same)
+step_rights s (Deposit a reading reference bytes) o b e h =
+    keeps_silent s a reading reference bytes o b (nat_le (length bytes) 1_048_576) e h
+step_rights s (Show a n) o b e h =
+    none_silent e (ap (λ x. x.adds) h ∙ shows_none (cause_of o.searching) _ (seen_by a.name n b))
+step_rights s (Token a n) o b e h =
+    none_silent e (ap (λ x. x.adds) h ∙ tokens_none (cause_of o.searching) _ (token_of n b) (seen_by a.name n b))
+step_rights s (ListAll a) o b e h = none_silent e (ap (λ x. x.adds) h ∙ answers_none (cause_of o.looking) _)
+step_rights s (Grant a n reader) o b e h =
+    let entry = Granted n reader in
+    let d = right_effect s.file a.name reader o entry (seen_by a.name n b) in
+    right_of entry (Grant a n reader) e (unless (cause_of o.searching) d) (λ k. refl) h
+    (unless_has (IsRightOf entry) (λ f. refl) (cause_of o.searching) d
+    (right_has (IsRightOf entry) (λ f. refl) s a reader o entry (seen_by a.name n b) refl))
+step_rights s (Revoke a n reader) o b e h =
+    let entry = Revoked n reader in
+    let d = right_effect s.file a.name reader o entry (seen_by a.name n b) in
+    right_of entry (Revoke a n reader) e (unless (cause_of o.searching) d) (λ k. refl) h
+    (unless_has (IsRightOf entry) (λ f. refl) (cause_of o.searching) d
+    (right_has (IsRightOf entry) (λ f. refl) s a reader o entry (seen_by a.name n b) refl))
+step_rights s (Calibrate c) o b e h =
+    let backwards : Effect = only (Refused fault.Store) in
+    subst IsSilent (sym h)
+    (unless_has IsSilent refused_silent (cause_of o.adding) (calibrate_effect c b)
+    (if_has IsSilent (is_backwards c (latest_calibration b)) backwards (entered (Calibrated c))
+    (refused_silent fault.Store) (λ k l n account same. same)))
+step_rights s (Hold k) o b e h =
+    subst IsSilent (sym h)
+    (unless_has IsSilent refused_silent (cause_of o.adding) (entered (Held k)) (λ c l n account same. same))
+
+pub readers_along : (b : History) (w : List Told) (j : Journey b w) (n : ℕ) (account : List ℕ)
+    → is_reader n account b ≡ is_reader n account (rights_along j)
+readers_along b w begins n account = refl
+readers_along b w (goes {b = b0} {w = w0} s c o e proper met h j) n account =
+    step_rights s c o b0 e h b0 (rights_along j) n account (readers_along b0 w0 j n account)
+readers_along b w (stops {b = b0} {w = w0} s c o e k proper met h j) n account =
+    same_rights (drop k e.adds) b0 (rights_along j) n account (readers_along b0 w0 j n account)

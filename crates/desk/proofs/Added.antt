@@ -1,0 +1,163 @@
+-- A calibration and a hold are steps of the machine.
+use Rattle.std.proofs.Common.{◌≡◌, ◌⊎◌, cond, T, Bool, true, false, List, [], ◌∷◌, Option, Some, None, Ok, refl, sym}
+use Rattle.std.proofs.Common.{ap, ◌∙◌, subst, inl, inr}
+use Rattle.std.specs.Prelude.{int_lt}
+use Rattle.sqlite_trees.specs.Tree.{Trees}
+use Rattle.sqlite_trees.specs.declared.store.Store.{Ghosts}
+use Rattle.tables.specs.Base.{BaseValue, IsHonest, IsOpen, Recovers}
+use Rattle.store.specs.Fault.{count_after}
+use Rattle.store.specs.History.{Entry, History, CalibrationValue}
+use Rattle.store.specs.Sound.{Fits, IsBackwards}
+use Rattle.store.specs.Stands.{Stands, LeavesOrAdds, LeavesAsBefore}
+use Rattle.store.specs.declared.fault.StoreFault.{StoreFault}
+use Rattle.store.specs.declared.fault.StoreFault.TheVariants as store
+use Rattle.desk.specs.Outcome.{Fine, Outcome, Cause, OfMemory, OfStore, cause_of, faults_after, all_fine}
+use Rattle.desk.specs.Command.{Setting, Command, Done, Refused}
+use Rattle.desk.specs.Effects.{Effect, only, unless, fault_of, is_backwards}
+use Rattle.desk.specs.Calls.{store_cause}
+use Rattle.desk.specs.Obstacles.{hindered}
+use Rattle.desk.specs.Steps.{HasEffect, IsMet}
+use Rattle.desk.specs.Stepped.{StepsBy, MayBeLeft, IsBlamed, IsExcused, no_signer, settled}
+use Rattle.desk.specs.declared.fault.Fault.TheVariants as fault
+use Rattle.desk.specs.declared.obstacle.Obstacle.TheVariants as obstacle
+use Rattle.desk.proofs.Granting.{entered}
+
+-- what a command does that enters one entry, unless the history turns it back
+abbrev pub entering : Entry → Option Cause → Bool → Effect
+entering entry refused turned = unless refused (cond turned (only (Refused fault.Store)) (entered entry))
+
+-- the command is such a one
+pub record Enters (s : Setting) (c : Command) (entry : Entry) (turns : History → Bool) : Type 0 where
+  pub has : (o : Outcome) (b : History) (e : Effect) → e ≡ entering entry (cause_of o.adding) (turns b)
+      → HasEffect s c o b e
+  pub fits : (b : History) → IsMet c b → Fits entry b
+
+-- the history doesn't turn it back
+unturned : (t : Bool) → (t ≡ true → ⊥) → t ≡ false
+unturned true free = absurd (free refl)
+unturned false free = refl
+
+-- the entry stands
+pub enters_as : {S : Type 0} (g : Ghosts S) (s : Setting) (c : Command) (entry : Entry) (turns : History → Bool)
+    (old new : BaseValue S) → Enters s c entry turns → new.faults ≡ old.faults
+    → (IsHonest g new → IsOpen g old × IsOpen g new)
+    → ((b : History) → Stands g b old → Fits entry b → Stands g (entry ∷ b) new)
+    → (IsHonest g new → (b : History) → Stands g b old → turns b ≡ true → ⊥)
+    → StepsBy g no_signer s c (all_fine (Ok [])) old new Done
+enters_as g s c entry turns old new enters same opened ok free = record {
+  counted = same;
+  signer = tt;
+  blames = tt;
+  steps = λ honest b stands met.
+      let now = ok b stands (enters.fits b met) in
+      record {
+        effect = entered entry;
+        has = enters.has (all_fine (Ok [])) b (entered entry)
+            (sym (ap (λ t. entering entry None t) (unturned (turns b) (free honest b stands))));
+        says = refl;
+        moves = refl;
+        stands = now;
+        left = λ db r. inr (inl ((now.kept honest (opened honest).1).leaves db r));
+      };
+}
+
+-- the commit is refused by this cause
+refused_as : {S : Type 0} (g : Ghosts S) (s : Setting) (c : Command) (entry : Entry) (turns : History → Bool)
+    (old new : BaseValue S) (o : Outcome) (cause : Cause) → Enters s c entry turns
+    → cause_of o.adding ≡ Some cause → cause_of (settled o).adding ≡ None
+    → (o.adding ≡ Fine → o.sealing ≡ Fine → ⊥)
+    → IsBlamed g c o old new (Refused (fault_of cause))
+    → new.faults ≡ faults_after o old.faults
+    → ((b : History) → Stands g b old → Stands g b new)
+    → LeavesOrAdds g entry old new
+    → (IsHonest g new → (b : History) → Stands g b old → turns b ≡ true → LeavesAsBefore g old new)
+    → StepsBy g no_signer s c o old new (Refused (fault_of cause))
+refused_as g s c entry turns old new o cause enters why answered was_refused blamed counted err crash before = record {
+  counted = counted;
+  signer = tt;
+  blames = blamed;
+  steps = λ honest b stands met. record {
+    effect = only (Refused (fault_of cause));
+    has = enters.has o b (only (Refused (fault_of cause))) (ap (λ x. entering entry x (turns b)) (sym why));
+    says = refl;
+    moves = refl;
+    stands = err b stands;
+    left = λ db r.
+        let doubt : (t : Bool) → turns b ≡ t → MayBeLeft g s c o b old (only (Refused (fault_of cause))) db = elim [
+          | true ↦ λ e. inl (refl, before honest b stands e db r)
+          | false ↦ λ e. elim (crash honest db r) [
+            | inl left ↦ inl (refl, left)
+            | inr adds ↦ inr (inr (record {
+              refused = was_refused;
+              doubted = entered entry;
+              has = enters.has (settled o) b (entered entry)
+                  (sym (ap (λ x. entering entry x (turns b)) answered ∙ ap (λ t. entering entry None t) e));
+              holds = adds b stands (enters.fits b met);
+            }))
+          ]
+        ] in doubt (turns b) refl;
+  };
+}
+
+-- the store turns it back
+turned_back : {S : Type 0} (g : Ghosts S) (s : Setting) (c : Command) (entry : Entry) (turns : History → Bool)
+    (old new : BaseValue S) → Enters s c entry turns → new.faults ≡ old.faults
+    → ((b : History) → Stands g b old → Stands g b new)
+    → (IsHonest g new → (b : History) → Stands g b old → turns b ≡ true)
+    → ((b : History) → turns b ≡ true → IsExcused c b)
+    → (IsHonest g new → (b : History) → Stands g b old → turns b ≡ true → LeavesAsBefore g old new)
+    → StepsBy g no_signer s c (all_fine (Ok [])) old new (Refused fault.Store)
+turned_back g s c entry turns old new enters same err turned excuses before = record {
+  counted = same;
+  signer = tt;
+  blames = inr (λ honest b stands. excuses b (turned honest b stands));
+  steps = λ honest b stands met. record {
+    effect = only (Refused fault.Store);
+    has = enters.has (all_fine (Ok [])) b (only (Refused fault.Store))
+        (sym (ap (λ t. entering entry None t) (turned honest b stands)));
+    says = refl;
+    moves = refl;
+    stands = err b stands;
+    left = λ db r. inl (refl, before honest b stands (turned honest b stands) db r);
+  };
+}
+
+-- the store's refusal by this fault
+pub refuses_by : {S : Type 0} (g : Ghosts S) (s : Setting) (c : Command) (entry : Entry) (turns : History → Bool)
+    (old new : BaseValue S) (f : StoreFault) → Enters s c entry turns
+    → (f ≡ store.Memory) ⊎ ((f ≡ store.Database) ⊎ (f ≡ store.Backwards))
+    → new.faults ≡ count_after f old.faults
+    → ((b : History) → Stands g b old → Stands g b new)
+    → LeavesOrAdds g entry old new
+    → (IsHonest g new → (b : History) → Stands g b old → f ≡ store.Backwards → turns b ≡ true)
+    → ((b : History) → turns b ≡ true → IsExcused c b)
+    → (IsHonest g new → (b : History) → Stands g b old → turns b ≡ true → LeavesAsBefore g old new)
+    → StepsBy g no_signer s c (hindered (obstacle.Adding f)) old new (Refused (fault_of (store_cause f)))
+refuses_by g s c entry turns old new store.Memory enters which counted err crash turned excuses before =
+    refused_as g s c entry turns old new (hindered (obstacle.Adding store.Memory)) OfMemory enters refl refl
+    (λ a e. cc) tt counted err crash before
+refuses_by g s c entry turns old new store.Database enters which counted err crash turned excuses before =
+    refused_as g s c entry turns old new (hindered (obstacle.Adding store.Database)) OfStore enters refl refl
+    (λ a e. cc) (inl (inr (inr (inr (inr (inl refl)))))) counted err crash before
+refuses_by g s c entry turns old new store.Backwards enters which counted err crash turned excuses before =
+    turned_back g s c entry turns old new enters counted err (λ honest b stands. turned honest b stands refl) excuses
+    before
+refuses_by g s c entry turns old new store.NotOurs enters which counted err crash turned excuses before =
+    absurd (elim which [ inl e ↦ cc | inr e ↦ elim e [ inl k ↦ cc | inr k ↦ cc ] ])
+refuses_by g s c entry turns old new store.Full enters which counted err crash turned excuses before =
+    absurd (elim which [ inl e ↦ cc | inr e ↦ elim e [ inl k ↦ cc | inr k ↦ cc ] ])
+
+-- a calibration before the latest one
+true_where : (t : Bool) → T t → t ≡ true
+true_where true h = refl
+true_where false h = absurd h
+
+pub backwards_where : (c : CalibrationValue) (latest : Option CalibrationValue) → is_backwards c latest ≡ true
+    → IsBackwards c latest
+backwards_where c None e = cc
+backwards_where c (Some last) e = record { lt = subst T (sym e) tt }
+
+pub is_backwards_where : (c : CalibrationValue) (latest : Option CalibrationValue) → IsBackwards c latest
+    → is_backwards c latest ≡ true
+is_backwards_where c None h = absurd h
+is_backwards_where c (Some last) h = true_where (int_lt c.reading last.reading) h.lt

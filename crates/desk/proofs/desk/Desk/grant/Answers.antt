@@ -1,0 +1,5 @@
+use Rattle.desk.proofs.Alone.{is_isolated}
+use Rattle.desk.proofs.desk.Desk.grant.Goals as goal
+
+pub returns-clause-isolated : goal.returns-clause-isolated
+returns-clause-isolated g c = is_isolated _ _

@@ -1,0 +1,23 @@
+use Rattle.std.proofs.Common.{◌+◌, [], ◌∷◌, ◌++◌, ◌∙◌, ap, arith}
+use Rattle.desk.specs.Asked.{command_view, answer_view}
+use Rattle.desk.specs.Calls.{opening_view}
+use Rattle.desk.proofs.RunsOn.{steps_more}
+use Rattle.desk.proofs.running.obey_each.Goals as goal
+
+pub loop-command-preserved : goal.loop-command-preserved
+loop-command-preserved g c =
+    let before = c.loop-command.invariant.steps in
+    let step = c.obey-answer.ensures.step in
+    record {
+      counted = c.in-Ok-push.ensures.len ∙ ap (λ n. n + 1) c.loop-command.invariant.counted;
+      room = omega (arith, c.loop-command.invariant.room, c.in-Ok-push.ensures.capacity);
+      steps = (
+        before.0 ++ (step.0 ∷ []),
+        steps_more g.S.Store g.G.Signer.signs g.G.Signer.fault_count (opening_view c.args.opening) command_view
+            answer_view c.args.commands.now c.loop-command.command-index c.command-item.result before.0
+            c.loop-command.answers.items c.obey-answer.result c.push.new.self.items step.0 c.args.store.now
+            c.args.signer.now c.loop-command.store c.loop-command.signer c.obey-answer.new.store
+            c.obey-answer.new.signer c.loop-command-test.true c.command-item.is c.in-Ok-push.ensures.items before.1
+            c.obey-answer.ensures.honest step.1,
+      );
+    }

@@ -1,0 +1,38 @@
+-- Which command of the machine a command of the program is, and which answer its answer is.
+use Rattle.std.specs.Prelude.{List, map}
+use Rattle.policy.specs.View.{account_view}
+use Rattle.decide.specs.View.{account_asked}
+use Rattle.store.specs.Values.{calibration_view, hold_view}
+use Rattle.desk.specs.Command as machine
+use Rattle.desk.specs.Answers.{reply_as}
+use Rattle.desk.specs.Shown.{deposited_as, shown_as, listed_as}
+use Rattle.desk.specs.declared.commands.Command.{Command}
+use Rattle.desk.specs.declared.commands.Command.TheVariants as command
+use Rattle.desk.specs.declared.commands.Answer.{Answer}
+use Rattle.desk.specs.declared.commands.Answer.TheVariants as answer
+
+abbrev pub command_view : Command → machine.Command
+command_view (command.Stamp account reading query) = machine.Stamp (account_asked account) reading query.now
+command_view (command.Deposit account reading reference bytes) =
+    machine.Deposit (account_view account.now) reading reference.now bytes.now
+command_view (command.Show account number) = machine.Show (account_view account.now) number
+command_view (command.Token account number) = machine.Token (account_view account.now) number
+command_view (command.List account) = machine.ListAll (account_view account.now)
+command_view (command.Grant account number reader) = machine.Grant (account_view account.now) number reader.now
+command_view (command.Revoke account number reader) = machine.Revoke (account_view account.now) number reader.now
+command_view (command.Calibrate calibration) = machine.Calibrate (calibration_view calibration)
+command_view (command.Hold hold) = machine.Hold (hold_view hold)
+
+abbrev pub answer_view : Answer → machine.Answer
+answer_view (answer.Stamped reply) = reply_as reply
+answer_view (answer.Kept deposited) = deposited_as deposited
+answer_view (answer.Shown octets) = shown_as octets
+answer_view (answer.Listed rows) = listed_as rows
+answer_view answer.Done = machine.Done
+answer_view (answer.Refused fault) = machine.Refused fault
+
+abbrev pub commands_view : List Command → List machine.Command
+commands_view commands = map command_view commands
+
+abbrev pub answers_view : List Answer → List machine.Answer
+answers_view answers = map answer_view answers
