@@ -6,6 +6,7 @@ use crate::{
 };
 use tsp::Rule;
 
+mod deposits;
 mod memory;
 mod octets;
 mod rights;

@@ -81,7 +81,7 @@ fn rows() -> [Row; 41] {
 }
 
 /// The example's setting, where memory is there for it.
-fn example(alloc: Global) -> Option<Setting> {
+pub fn example(alloc: Global) -> Option<Setting> {
     Some(Setting {
         policy: Policy::from_text(alloc, EXAMPLE).ok()?,
         identity: Identity::from_certificate(alloc, CERTIFICATE).ok()?,
