@@ -1,0 +1,142 @@
+-- The definitions, computed on rows.
+use Rattle.std.proofs.Common.{◌≡◌, ℕ, List, [], ◌∷◌, ◌++◌, Some, None, Ok, Err, refl}
+use Rattle.std.specs.Fmt.{digits}
+use Rattle.std.specs.Prelude.{codes}
+use Rattle.httparse.specs.Grammar.{trim_ows}
+use Rattle.matchit.proofs.OnLiterals.{matchit_on_literals}
+use Rattle.tsp.specs.declared.rule.Rule.TheVariants as rule
+use Rattle.service.specs.Answers.{answer_text, refusal_answer, crlf, line_feed, head_text}
+use Rattle.service.specs.Checks.{wanted_by, wanted_at, type_in}
+use Rattle.service.specs.Heads.{HeadValue}
+use Rattle.service.specs.Numbers.{is_digits, length_in, number_in}
+use Rattle.service.specs.Routes.{place_of, number_part, name_part, routes}
+use Rattle.service.specs.declared.refusal.Refusal.TheVariants as refusal
+use Rattle.service.specs.declared.routes.Action.TheVariants as action
+use Rattle.service.specs.declared.routes.Place.TheVariants as place
+
+-- the answer to a deposit that isn't there
+not_here : answer_text (refusal_answer refusal.NotHere)
+    ≡ codes "HTTP/1.1 404 Not Found" ++ crlf ++ codes "Content-Type: text/plain" ++ crlf ++ codes "Content-Length: 12"
+    ++ crlf
+    ++ codes "Connection: close" ++ crlf ++ crlf ++ codes "404 NotHere" ++ line_feed
+unfolding head_text digits
+not_here = refl
+
+-- the answer to a method that does nothing at `/tsp`
+no_method : answer_text (refusal_answer (refusal.Method place.Tsp))
+    ≡ codes "HTTP/1.1 405 Method Not Allowed" ++ crlf ++ codes "Content-Type: text/plain" ++ crlf
+    ++ codes "Content-Length: 11" ++ crlf
+    ++ codes "Allow: POST" ++ crlf ++ codes "Connection: close" ++ crlf ++ crlf ++ codes "405 Method" ++ line_feed
+unfolding head_text digits
+no_method = refl
+
+-- a deposit that the clock's state refuses
+no_clock : answer_text (refusal_answer (refusal.Rule rule.Clock))
+    ≡ codes "HTTP/1.1 503 Service Unavailable" ++ crlf ++ codes "Content-Type: text/plain" ++ crlf
+    ++ codes "Content-Length: 12" ++ crlf
+    ++ codes "Connection: close" ++ crlf ++ crlf ++ codes "503 rule 10" ++ line_feed
+unfolding head_text digits
+no_clock = refl
+
+-- targets
+at_tsp : place_of (codes "/tsp") ≡ Some place.Tsp
+unfolding routes matchit_on_literals
+at_tsp = refl
+
+at_query : place_of (codes "/tsp?x=1") ≡ None
+unfolding routes matchit_on_literals
+at_query = refl
+
+at_reader : place_of (codes "/deposits/1/readers/bob") ≡ Some place.Reader
+unfolding routes matchit_on_literals
+at_reader = refl
+
+at_deposits : place_of (codes "/deposits") ≡ Some place.Deposits
+unfolding routes matchit_on_literals
+at_deposits = refl
+
+at_token : place_of (codes "/deposits/1/token") ≡ Some place.Token
+unfolding routes matchit_on_literals
+at_token = refl
+
+no_number_before_token : place_of (codes "/deposits//token") ≡ None
+unfolding routes matchit_on_literals
+no_number_before_token = refl
+
+at_empty_number : place_of (codes "/deposits/") ≡ None
+unfolding routes matchit_on_literals
+at_empty_number = refl
+
+at_odd_number : place_of (codes "/deposits/1?x") ≡ Some place.Deposit
+unfolding routes matchit_on_literals
+at_odd_number = refl
+
+at_nothing : place_of (codes "/deposits/1/") ≡ None
+unfolding routes matchit_on_literals
+at_nothing = refl
+
+part_of_number : number_part (codes "/deposits/12/readers/bob") ≡ codes "12"
+part_of_number = refl
+
+part_of_name : name_part (codes "/deposits/12/readers/bob") ≡ codes "bob"
+part_of_name = refl
+
+-- numbers
+shown_number : number_in (codes "9223372036854775807") ≡ Some 9223372036854775807
+unfolding is_digits
+shown_number = refl
+
+above_all : number_in (codes "9223372036854775808") ≡ None
+unfolding is_digits
+above_all = refl
+
+leading_zero : number_in (codes "01") ≡ None
+unfolding is_digits
+leading_zero = refl
+
+leading_zeros : length_in (codes "000000000000000059") ≡ Some 59
+unfolding is_digits
+leading_zeros = refl
+
+too_many_digits : length_in (codes "0000000000000000059") ≡ None
+unfolding is_digits
+too_many_digits = refl
+
+-- a media type with a parameter
+with_parameter : type_in (codes "Application/Timestamp-Query ; x=1") ≡ codes "Application/Timestamp-Query"
+unfolding trim_ows
+with_parameter = refl
+
+-- heads
+abbrev head_of : List ℕ → List ℕ → List (List ℕ × List ℕ) → HeadValue
+head_of method target fields = record { method = method; target = target; fields = fields }
+
+query : wanted_by (head_of (codes "POST") (codes "/tsp")
+    ((codes "Host", codes "localhost") ∷ (codes "CONTENT-type", codes "application/timestamp-query")
+    ∷ (codes "Content-Length", codes "59") ∷ []))
+    ≡ Ok (record { action = action.Stamp; count = 59 })
+unfolding wanted_at is_digits routes matchit_on_literals trim_ows
+query = refl
+
+-- a coding before a target that names nothing, a method before a length, a length before a type
+coding_first : wanted_by (head_of (codes "POST") (codes "/") ((codes "Transfer-Encoding", codes "chunked") ∷ []))
+    ≡ Err refusal.TransferEncoding
+unfolding wanted_at is_digits routes matchit_on_literals
+coding_first = refl
+
+method_first : wanted_by (head_of (codes "PUT") (codes "/tsp") []) ≡ Err (refusal.Method place.Tsp)
+unfolding wanted_at is_digits routes matchit_on_literals
+method_first = refl
+
+route_first : wanted_by (head_of (codes "PUT") (codes "/x") []) ≡ Err refusal.NoRoute
+unfolding wanted_at is_digits routes matchit_on_literals
+route_first = refl
+
+length_first : wanted_by (head_of (codes "POST") (codes "/tsp") []) ≡ Err refusal.Length
+unfolding wanted_at is_digits routes matchit_on_literals
+length_first = refl
+
+large_first : wanted_by (head_of (codes "POST") (codes "/tsp") ((codes "content-length", codes "1048577") ∷ []))
+    ≡ Err refusal.TooLarge
+unfolding wanted_at is_digits routes matchit_on_literals
+large_first = refl

@@ -1,0 +1,10 @@
+-- What is skipped is white space.
+use Rattle.std.proofs.Common.{◌≡◌, length}
+use Rattle.httparse.specs.Grammar.{skip_ows}
+use Rattle.service.proofs.fields.skip_ows.Given as goal
+
+abbrev pub invariant-loop-first : goal.invariant-loop-first
+invariant-loop-first l = skip_ows l.rest ≡ skip_ows l.octets
+
+abbrev pub decreases-loop-first : goal.decreases-loop-first
+decreases-loop-first l = length l.rest

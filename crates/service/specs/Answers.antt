@@ -1,0 +1,104 @@
+-- Answers, and their texts (RFC 9112 4 and 6).
+use Rattle.std.specs.Prelude.{ℕ, Bool, true, false, List, [], ◌∷◌, ◌++◌, length, map, codes, Option, Some, None}
+use Rattle.std.specs.Fmt.{decimal}
+use Rattle.std.specs.List.{flat_map}
+use Rattle.http.specs.StatusCode.{reason_phrase}
+use Rattle.gentime.specs.GenTime.{text_of}
+use Rattle.der.specs.Node.{encoding}
+use Rattle.tsp.specs.Rejection.{rejection}
+use Rattle.store.specs.Rights.{ListedValue}
+use Rattle.desk.specs.Command.{Command, Stamp, Begin, Finish, Abandon, Deposit, Show, Token, ListAll, Grant, Revoke}
+use Rattle.desk.specs.Command.{Calibrate, Hold, Answer, Stamped, Rejected, Begun, Kept, Shown, Listed, Done, Refused}
+use Rattle.service.specs.Refusals.{status_of, word_of, refusal_of}
+use Rattle.service.specs.Routes.{methods_of}
+use Rattle.service.specs.declared.answer.Media.{Media}
+use Rattle.service.specs.declared.answer.Media.TheVariants as media
+use Rattle.service.specs.declared.refusal.Refusal.{Refusal}
+use Rattle.service.specs.declared.refusal.Refusal.TheVariants as refusal
+
+-- the media types (RFC 3161 3.4, RFC 2046 4)
+abbrev pub media_type : Media → List ℕ
+media_type media.Reply = codes "application/timestamp-reply"
+media_type media.Octets = codes "application/octet-stream"
+media_type media.Text = codes "text/plain"
+
+-- an answer: its status, the type of its body, the methods that `Allow` tells where it does, and the body
+pub record AnswerValue : Type 0 where
+  pub status : ℕ
+  pub media : Media
+  pub allow : Option (List ℕ)
+  pub body : List ℕ
+
+-- the end of a line
+abbrev pub crlf : List ℕ
+crlf = 0x0D ∷ 0x0A ∷ []
+
+abbrev pub phrase_of : Option (List ℕ) → List ℕ
+phrase_of None = []
+phrase_of (Some phrase) = phrase
+
+abbrev pub status_line : ℕ → List ℕ
+status_line status = codes "HTTP/1.1 " ++ decimal status ++ codes " " ++ phrase_of (reason_phrase status) ++ crlf
+
+abbrev pub content_lines : Media → ℕ → List ℕ
+content_lines m count =
+    codes "Content-Type: " ++ media_type m ++ crlf ++ codes "Content-Length: " ++ decimal count ++ crlf
+
+abbrev pub allow_line : Option (List ℕ) → List ℕ
+allow_line None = []
+allow_line (Some methods) = codes "Allow: " ++ methods ++ crlf
+
+-- all that stands before the body: the connection ends with the answer
+unfoldable pub head_text : ℕ → Media → Option (List ℕ) → ℕ → List ℕ
+head_text status m allow count =
+    status_line status ++ content_lines m count ++ allow_line allow ++ codes "Connection: close" ++ crlf ++ crlf
+
+abbrev pub answer_text : AnswerValue → List ℕ
+answer_text a = head_text a.status a.media a.allow (length a.body) ++ a.body
+
+abbrev pub line_feed : List ℕ
+line_feed = 0x0A ∷ []
+
+abbrev pub allowed_by : Refusal → Option (List ℕ)
+allowed_by (refusal.Method place) = Some (methods_of place)
+allowed_by other = None
+
+-- a refusal's status and word, on a line
+abbrev pub refusal_body : Refusal → List ℕ
+refusal_body r = decimal (status_of r) ++ codes " " ++ word_of r ++ line_feed
+
+abbrev pub refusal_answer : Refusal → AnswerValue
+refusal_answer r = record {
+  status = status_of r;
+  media = media.Text;
+  allow = allowed_by r;
+  body = refusal_body r;
+}
+
+-- an answer of status 200, or of another that tells success
+abbrev pub success : ℕ → Media → List ℕ → AnswerValue
+success status m body = record { status = status; media = m; allow = None; body = body }
+
+-- a deposit on a line: number, owner, reference and genTime
+abbrev pub listed_line : ListedValue → List ℕ
+listed_line row =
+    decimal row.number ++ codes " " ++ row.owner ++ codes " " ++ row.reference ++ codes " "
+    ++ text_of 6 row.gen_time ++ line_feed
+
+-- the type of what a command shows: the octets of a deposit, or the reply with its token
+abbrev pub media_shown : Command → Media
+media_shown (Show a n) = media.Octets
+media_shown other = media.Reply
+
+-- the answer to a command for a desk's answer
+abbrev pub answer_to : Command → Answer → AnswerValue
+answer_to c (Stamped serial octets) = success 200 media.Reply octets
+answer_to c (Rejected rule) = success 200 media.Reply (encoding (rejection rule))
+answer_to c (Kept number true) = success 201 media.Text (decimal number ++ line_feed)
+answer_to c (Kept number false) = success 200 media.Text (decimal number ++ line_feed)
+answer_to c (Shown octets) = success 200 (media_shown c) octets
+answer_to c (Listed rows) = success 200 media.Text (flat_map listed_line rows)
+answer_to c Done = success 200 media.Text []
+answer_to c (Refused fault) = refusal_answer (refusal_of fault)
+-- no request asks for what begins a stamp alone
+answer_to c (Begun p) = refusal_answer refusal.Unavailable

@@ -1,0 +1,11 @@
+pub mod Answers
+pub mod Checks
+pub mod Fields
+pub mod Heads
+pub mod Numbers
+pub mod Reading
+pub mod Refusals
+pub mod Requests
+pub mod Routes
+pub mod Served
+pub mod Views

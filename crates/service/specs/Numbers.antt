@@ -1,0 +1,33 @@
+-- Numbers and references as a request spells them.
+use Rattle.std.specs.Prelude.{ℕ, ◌-◌, ◌^◌, ◌==◌, nat_le, Bool, ◌&&◌, ◌||◌, not, List, length, codes, slice_index}
+use Rattle.std.specs.Prelude.{Option, Some, None, if◌then◌else◌}
+use Rattle.std.specs.Char.{is_ascii_alphanumeric, is_ascii_digit}
+use Rattle.std.specs.List.{list_all, list_any}
+use Rattle.std.specs.Str.Parse.{digits_value}
+
+-- at least one decimal digit, at most so many, and nothing else
+unfoldable pub is_digits : ℕ → List ℕ → Bool
+is_digits most octets = (nat_le 1 (length octets) && nat_le (length octets) most) && list_all is_ascii_digit octets
+
+-- the number of a body's octets: 1 to 18 digits
+abbrev pub length_in : List ℕ → Option ℕ
+length_in octets = if is_digits 18 octets then Some (digits_value 10 octets) else None
+
+-- the greatest number of a deposit
+abbrev pub greatest : ℕ
+greatest = 2 ^ 63 - 1
+
+-- the number of a deposit: 1 to 2^63 - 1, without a leading zero, so of at most 19 digits
+abbrev pub number_in : List ℕ → Option ℕ
+number_in octets =
+    if is_digits 19 octets && not (slice_index octets 0 == 0x30) && nat_le (digits_value 10 octets) greatest
+    then Some (digits_value 10 octets)
+    else None
+
+-- a letter or a digit of ASCII, or one of . _ -
+abbrev pub is_reference_octet : ℕ → Bool
+is_reference_octet octet = is_ascii_alphanumeric octet || list_any (λ c. c == octet) (codes "._-")
+
+-- a deposit's reference: 1 to 64 of these
+unfoldable pub is_reference : List ℕ → Bool
+is_reference octets = (nat_le 1 (length octets) && nat_le (length octets) 64) && list_all is_reference_octet octets

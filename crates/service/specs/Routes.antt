@@ -1,0 +1,74 @@
+-- Which targets there are, and what the methods do there. What matches a route, `matchit` says.
+use Rattle.std.specs.Prelude.{ℕ, ◌==◌, List, [], codes, Option, Some, None, option_map, Result, Ok, Err, if◌then◌else◌}
+use Rattle.std.specs.List.{before_first, after_first}
+use Rattle.std.specs.Str.{bytes_eq}
+use Rattle.matchit.specs.Order.{placed}
+use Rattle.matchit.specs.Route.{Scan, parse_route}
+use Rattle.matchit.specs.Router.{RouteOf, route_from}
+use Rattle.matchit.specs.Rows.{RowsOf}
+use Rattle.matchit.specs.Seek.{first}
+use Rattle.matchit.specs.declared.error.InsertError.{InsertError}
+use Rattle.service.specs.declared.routes.Place.{Place}
+use Rattle.service.specs.declared.routes.Place.TheVariants as place
+use Rattle.service.specs.declared.routes.Action.{Action}
+use Rattle.service.specs.declared.routes.Action.TheVariants as action
+
+abbrev pub Routes : Type 0
+Routes = RowsOf (RouteOf Place)
+
+abbrev pub joined : Result Scan InsertError → Place → Routes → Routes
+joined (Ok route) p routes = placed (route.pattern, route_from route p) routes
+joined (Err fault) p routes = routes
+
+-- the routes with one more, whose text is that of `matchit`: a name in braces stands for a segment that isn't empty
+abbrev pub with_route : List ℕ → Place → Routes → Routes
+with_route text p routes = joined (parse_route text) p routes
+
+unfoldable pub routes : Routes
+routes =
+    with_route (codes "/deposits/{number}/readers/{name}") place.Reader
+    (with_route (codes "/deposits/{number}/token") place.Token
+    (with_route (codes "/deposits/{number}") place.Deposit
+    (with_route (codes "/deposits") place.Deposits
+    (with_route (codes "/tsp") place.Tsp []))))
+
+-- the place that a target names, as it was sent
+abbrev pub place_of : List ℕ → Option Place
+place_of target = option_map (λ route. route.value) (first routes target)
+
+-- the methods of a place, as `Allow` tells them (RFC 9110 10.2.1)
+abbrev pub methods_of : Place → List ℕ
+methods_of place.Tsp = codes "POST"
+methods_of place.Deposits = codes "GET, POST"
+methods_of place.Deposit = codes "GET"
+methods_of place.Token = codes "GET"
+methods_of place.Reader = codes "PUT, DELETE"
+
+abbrev pub action_where : List ℕ → List ℕ → Action → Option Action → Option Action
+action_where method name a other = if bytes_eq method name then Some a else other
+
+-- what a method does at a place; names of methods are as they are, letter by letter (RFC 9110 9.1)
+abbrev pub action_of : Place → List ℕ → Option Action
+action_of place.Tsp method = action_where method (codes "POST") action.Stamp None
+action_of place.Deposits method =
+    action_where method (codes "GET") action.List (action_where method (codes "POST") action.Keep None)
+action_of place.Deposit method = action_where method (codes "GET") action.Show None
+action_of place.Token method = action_where method (codes "GET") action.Token None
+action_of place.Reader method =
+    action_where method (codes "PUT") action.Grant (action_where method (codes "DELETE") action.Revoke None)
+
+-- what stands behind the first slash
+abbrev pub behind_slash : List ℕ → List ℕ
+behind_slash text = after_first (λ octet. octet == 0x2F) text
+
+-- what stands before the first slash, or all where there is none
+abbrev pub before_slash : List ℕ → List ℕ
+before_slash text = before_first (λ octet. octet == 0x2F) text
+
+-- the segment that stands for {number}, behind `/deposits/`
+abbrev pub number_part : List ℕ → List ℕ
+number_part target = before_slash (behind_slash (behind_slash target))
+
+-- the segment that stands for {name}, behind `/deposits/{number}/readers/`
+abbrev pub name_part : List ℕ → List ℕ
+name_part target = behind_slash (behind_slash (behind_slash (behind_slash target)))

@@ -1,0 +1,104 @@
+-- What `serve_one` does: it reads one request, has the desk take the one step that it asks for, and writes one answer.
+use Rattle.std.specs.Prelude.{◌≡◌, ◌⊎◌, ℕ, ◌<◌, ℤ, List, [], length, take, Option, Result, Ok, Err}
+use Rattle.std.specs.Io.KnownBytes.{Appends, Consumes, IsAtEnd}
+use Rattle.sqlite_trees.specs.declared.store.Store.{Ghosts}
+use Rattle.cms.specs.declared.signer.SignerFault.{SignerFault}
+use Rattle.desk.specs.Command.{Command, Stamp, Deposit, Answer}
+use Rattle.desk.specs.Stepped.{DeskValue, IsStep, no_signer, with_signer}
+use Rattle.service.specs.Answers.{AnswerValue, answer_text, answer_to, refusal_answer}
+use Rattle.service.specs.Requests.{IsRequest, IsPart, IsEarly}
+use Rattle.service.specs.declared.refusal.Refusal.{Refusal}
+use Rattle.service.specs.declared.refusal.Refusal.TheVariants as refusal
+use Rattle.service.specs.declared.served.Served.{Served}
+use Rattle.service.specs.declared.served.Served.TheVariants as served
+
+-- what a reader has left, the writer, the desk and the signer: before a call, and after it
+pub record Turn (W S X : Type 0) : Type 0 where
+  pub input : Option (List ℕ)
+  pub input_after : Option (List ℕ)
+  pub writer : W
+  pub writer_after : W
+  pub desk : DeskValue S
+  pub desk_after : DeskValue S
+  pub signer : X
+  pub signer_after : X
+
+-- the desk takes no step, and the signer isn't asked
+pub record IsIdle {W S X : Type 0} (t : Turn W S X) : Type 0 where
+  pub desk : t.desk_after ≡ t.desk
+  pub signer : t.signer_after ≡ t.signer
+
+-- nothing is written and nothing is done
+pub record IsSilent {W S X : Type 0} (t : Turn W S X) : Type 0 where
+  pub writer : t.writer_after ≡ t.writer
+  pub idle : IsIdle t
+
+-- what was read is a request by the desk's policy file that asks for this, and no octet behind it
+abbrev pub Reads : {W S X : Type 0} → ℤ → Turn W S X → Result Command Refusal → Type 0
+Reads reading t asked = IsRequest t.desk.setting.file reading t.input t.input_after asked
+
+-- of a text that an answer of that status has, what is written
+abbrev pub SendsText : {W : Type 0} → (W → Option (List ℕ)) → W → W → ℕ → List ℕ → Served → Type 0
+SendsText contents old new status text served.Closed = ⊥
+SendsText contents old new status text (served.Answered told) =
+    (status ≡ told) × Appends (contents old) (contents new) text
+SendsText contents old new status text served.ReadFailed = ⊥
+SendsText contents old new status text (served.WriteFailed told sent) =
+    (status ≡ told) × (sent < length text) × Appends (contents old) (contents new) (take sent text)
+
+abbrev pub Sends : {W : Type 0} → (W → Option (List ℕ)) → W → W → AnswerValue → Served → Type 0
+Sends contents old new a outcome = SendsText contents old new a.status (answer_text a) outcome
+
+abbrev pub unavailable : AnswerValue
+unavailable = refusal_answer refusal.Unavailable
+
+-- that answer is written, or, as memory is wanting for it, that the counter can't answer now
+abbrev pub SendsOrWants : {W : Type 0} → (W → Option (List ℕ)) → W → W → AnswerValue → Served → Type 0
+SendsOrWants contents old new a outcome =
+    Sends contents old new a outcome ⊎ Sends contents old new unavailable outcome
+
+module _ {S X : Type 0} (g : Ghosts S) (signs : X → List ℕ → Result (List ℕ) SignerFault → X → Type 0) (count : X
+    → ℕ) where
+  -- the desk takes the command's step and no other; the signer moves by it, and stays where the step asks none
+  abbrev pub Steps : DeskValue S → DeskValue S → X → X → Command → Answer → Type 0
+  Steps old new signer signer' (Stamp account reading octets) answer =
+      IsStep g (with_signer signs count signer signer') old.setting (Stamp account reading octets) old.store new.store
+      answer
+  Steps old new signer signer' (Deposit account reading reference octets) answer =
+      IsStep g (with_signer signs count signer signer') old.setting (Deposit account reading reference octets)
+      old.store new.store answer
+  Steps old new signer signer' other answer =
+      IsStep g no_signer old.setting other old.store new.store answer × (signer' ≡ signer)
+
+  abbrev pub Takes : {W : Type 0} → Turn W S X → Command → Answer → Type 0
+  Takes t c answer = Steps t.desk t.desk_after t.signer t.signer_after c answer
+
+  -- why an answer is written
+  pub data IsAnswer {W : Type 0} (reading : ℤ) (t : Turn W S X) (a : AnswerValue) : Type 0 where
+    -- the request is refused
+    refuses : (r : Refusal) → Reads reading t (Err r) → IsIdle t → a ≡ refusal_answer r → IsAnswer reading t a
+    -- the desk takes the step that the request asks for, and the answer tells its reply
+    replies : (c : Command) → Reads reading t (Ok c) → (reply : Answer) → Takes t c reply → a ≡ answer_to c reply
+        → IsAnswer reading t a
+    -- memory is wanting before the body is read
+    wants_early : IsEarly t.input t.input_after → IsIdle t → a ≡ unavailable → IsAnswer reading t a
+    -- memory is wanting for the answer that refuses the request
+    wants_idle : (r : Refusal) → Reads reading t (Err r) → IsIdle t → a ≡ unavailable → IsAnswer reading t a
+    -- memory is wanting for the answer, once that step is taken
+    wants_after : (c : Command) → Reads reading t (Ok c) → (reply : Answer) → Takes t c reply → a ≡ unavailable
+        → IsAnswer reading t a
+
+  -- an answer is written, for a reason
+  pub record Writes {W : Type 0} (contents : W → Option (List ℕ)) (reading : ℤ) (t : Turn W S X) (outcome : Served)
+      : Type 0 where
+    pub answer : AnswerValue
+    pub is : IsAnswer reading t answer
+    pub sent : Sends contents t.writer t.writer_after answer outcome
+
+  -- what each outcome says
+  abbrev pub Serves : {W : Type 0} → (W → Option (List ℕ)) → ℤ → Turn W S X → Served → Type 0
+  Serves contents reading t served.Closed = Consumes t.input t.input_after [] × IsAtEnd t.input_after × IsSilent t
+  Serves contents reading t served.ReadFailed = IsPart t.input t.input_after × IsSilent t
+  Serves contents reading t (served.Answered status) = Writes contents reading t (served.Answered status)
+  Serves contents reading t (served.WriteFailed status sent) =
+      Writes contents reading t (served.WriteFailed status sent)

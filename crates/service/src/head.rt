@@ -1,0 +1,49 @@
+//! A head in the octets that were read.
+ghost use Rattle.std.specs.Prelude.{◌≡◌, ◌≤◌, length, take, IsUtf8};
+ghost use Rattle.httparse.specs.Grammar.{RequestHead, print_request};
+ghost use Rattle.httparse.specs.Spans.{IsRequestWithin};
+ghost use Rattle.service.specs.Heads.{head_value};
+ghost use Rattle.service.specs.Reading.{LiesAt};
+ghost use Rattle.service.specs.Views.{head_view, IsInPlace};
+
+use httparse::spans::{HeaderSpan, RequestSpans};
+use std::str;
+
+/// A request's head: method and target as sent, and where its fields are.
+#[derive(Clone, Copy)]
+pub(crate) struct Head<'b> {
+    pub(crate) method: &'b [u8],
+    pub(crate) target: &'b str,
+    pub(crate) octets: &'b [u8],
+    pub(crate) headers: &'b [HeaderSpan],
+}
+
+/// The text of octets that are one, and else none.
+fn text_of(octets: &[u8]) -> &str
+    ensures { IsUtf8 octets.now → result.now ≡ octets.now }
+{
+    match str::from_utf8(octets) {
+        Ok(text) => text,
+        Err(_) => "",
+    }
+}
+
+/// The head that lies at the front of the room.
+pub(crate) fn head_at<'b>(
+    room: &'b [u8],
+    headers: &'b [HeaderSpan],
+    spans: RequestSpans,
+) -> Head<'b>
+    requires octets { spans.len ≤ length room.now }
+    requires parts { IsRequestWithin (take spans.len room.now) headers.now spans }
+    ensures head { (h : RequestHead) → LiesAt room.now headers.now spans h → head_view result ≡ head_value h }
+    ensures within { IsInPlace result }
+{
+    let octets = room.split_at(spans.len).0;
+    Head {
+        method: spans.method.of(octets),
+        target: text_of(spans.path.of(octets)),
+        octets,
+        headers: headers.split_at(spans.headers).0,
+    }
+}

@@ -1,0 +1,24 @@
+//! The counter over HTTP (RFC 9110, RFC 9112; RFC 3161 3.4): one request and its answer, over any reader and writer.
+#![tactic(auto)]
+
+mod answer;
+mod demand;
+mod fields;
+mod head;
+mod listing;
+mod numbers;
+mod performing;
+mod reading;
+mod refusal;
+mod responding;
+mod routes;
+mod served;
+mod serving;
+mod wanted;
+mod writing;
+
+pub use served::Served;
+pub use serving::serve_one;
+
+#[cfg(test)]
+mod tests;

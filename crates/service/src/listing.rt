@@ -1,0 +1,60 @@
+//! Deposits as text.
+ghost use Rattle.std.specs.Prelude.{◌≡◌, ◌++◌, map, IfSome, OnSome, IfOk, string_bytes, codes};
+ghost use Rattle.std.specs.Fmt.{decimal};
+ghost use Rattle.std.specs.List.{flat_map};
+ghost use Rattle.gentime.specs.GenTime.{text_of};
+ghost use Rattle.store.specs.Values.{listed_view};
+ghost use Rattle.service.specs.Answers.{listed_line, line_feed};
+
+use gentime::GenTime;
+use std::alloc::{AllocError, Global};
+use store::Listed;
+
+/// A deposit's number on a line.
+pub(crate) fn number_line(alloc: Global, number: u64) -> Result<String, AllocError>
+    ensures { IfOk result (λ line. string_bytes line ≡ decimal number ++ line_feed) }
+{
+    format!(in alloc; "{number}\n")
+}
+
+/// Number, owner and reference, and the space behind them.
+fn line_front(
+    alloc: Global,
+    number: u64,
+    owner: &str,
+    reference: &str,
+) -> Result<String, AllocError>
+    ensures { IfOk result (λ text. string_bytes text
+        ≡ decimal number ++ codes " " ++ owner.now ++ codes " " ++ reference.now ++ codes " ") }
+{
+    format!(in alloc; "{number} {owner} {reference} ")
+}
+
+/// Appends the line of a deposit. None where memory runs out, or where the genTime is no moment.
+fn append_line(alloc: Global, lines: &mut Vec<u8>, row: &Listed) -> Option<()>
+    ensures { OnSome result (lines.new.items ≡ lines.old.items ++ listed_line (listed_view row.now)) }
+{
+    let front = line_front(
+        alloc,
+        row.number,
+        row.owner.as_str(),
+        row.reference.as_str(),
+    )
+    .ok()?;
+    let moment = GenTime::from_micros(i64::try_from(row.gen_time).ok()?).ok()?;
+    let time = moment.write(alloc, 6).ok()?;
+    lines.extend_from_slice(front.as_bytes()).ok()?;
+    lines.extend_from_slice(&time).ok()?;
+    lines.push(b'\n').ok()
+}
+
+/// A line for each deposit, in their order. None where memory runs out, or where a genTime is no moment.
+pub(crate) fn listed_lines(alloc: Global, rows: &[Listed]) -> Option<Vec<u8>>
+    ensures { IfSome result (λ lines. lines.items ≡ flat_map listed_line (map listed_view rows.now)) }
+{
+    let mut lines = Vec::new(alloc);
+    for row in rows {
+        append_line(alloc, &mut lines, row)?;
+    }
+    Some(lines)
+}

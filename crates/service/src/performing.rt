@@ -1,0 +1,88 @@
+//! What the desk does for a request.
+ghost use Rattle.std.specs.Prelude.{◌≡◌};
+ghost use Rattle.tables.specs.Base.{IsHonest};
+ghost use Rattle.desk.specs.Command.{Answer};
+ghost use Rattle.service.specs.Answers.{answer_to};
+ghost use Rattle.service.specs.Served.{Steps};
+ghost use Rattle.service.specs.Views.{demand_view, performed_answer};
+
+use crate::demand::Demand;
+use cms::Signer;
+use desk::{Deposited, Desk, Fault, Reply};
+use sqlite::Alter;
+use store::Listed;
+
+/// What the desk answers.
+#[derive(Drop)]
+pub(crate) enum Performed {
+    /// The reply to a time-stamp request.
+    Stamped(Reply),
+    /// A deposit's number, and whether it is new.
+    Kept(Deposited),
+    /// The octets of a deposit.
+    Shown(Vec<u8>),
+    /// The reply with a deposit's token.
+    Token(Vec<u8>),
+    /// Deposits.
+    Listed(Vec<Listed>),
+    /// A right is given or taken.
+    Done,
+    /// A refusal.
+    Refused(Fault),
+}
+
+/// Has the desk take the step that is asked for.
+pub(crate) fn perform<S: Alter + Drop, G: Signer>(
+    desk: &mut Desk<'_, S>,
+    demand: Demand<'_>,
+    reading: i64,
+    signer: &mut G,
+) -> Performed
+    ensures setting { desk.new.setting ≡ desk.old.setting }
+    ensures honest { IsHonest S.Store desk.new.store → IsHonest S.Store desk.old.store }
+    ensures steps { (reply : Answer) × Steps S.Store G.signs G.fault_count desk.old desk.new signer.old signer.new
+        (demand_view reading demand.entry) reply
+        × (performed_answer result ≡ answer_to (demand_view reading demand.entry) reply) }
+{
+    match demand {
+        Demand::Stamp { account, query } => {
+            Performed::Stamped(desk.answer(account, reading, query, signer))
+        }
+        Demand::Keep {
+            account,
+            reference,
+            bytes,
+        } => match desk.deposit(account, reading, reference, bytes, signer) {
+            Ok(deposited) => Performed::Kept(deposited),
+            Err(fault) => Performed::Refused(fault),
+        },
+        Demand::List { account } => match desk.list(account) {
+            Ok(rows) => Performed::Listed(rows),
+            Err(fault) => Performed::Refused(fault),
+        },
+        Demand::Show { account, number } => match desk.show(account, number) {
+            Ok(bytes) => Performed::Shown(bytes),
+            Err(fault) => Performed::Refused(fault),
+        },
+        Demand::Token { account, number } => match desk.token_of(account, number) {
+            Ok(bytes) => Performed::Token(bytes),
+            Err(fault) => Performed::Refused(fault),
+        },
+        Demand::Grant {
+            account,
+            number,
+            name,
+        } => match desk.grant(account, number, name) {
+            Ok(()) => Performed::Done,
+            Err(fault) => Performed::Refused(fault),
+        },
+        Demand::Revoke {
+            account,
+            number,
+            name,
+        } => match desk.revoke(account, number, name) {
+            Ok(()) => Performed::Done,
+            Err(fault) => Performed::Refused(fault),
+        },
+    }
+}

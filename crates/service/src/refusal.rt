@@ -1,0 +1,172 @@
+//! Why a request is refused.
+ghost use Rattle.std.specs.Prelude.{◌≡◌, ◌++◌, codes, IfOk, string_bytes, option_map};
+ghost use Rattle.std.specs.Fmt.{decimal};
+ghost use Rattle.tsp.specs.Rejection.{number_of, reason};
+ghost use Rattle.service.specs.Answers.{allowed_by, line_feed, refusal_body};
+ghost use Rattle.service.specs.Refusals.{status_of_rule, status_of, word_of, refusal_of};
+
+use crate::routes::Place;
+use desk::Fault;
+use http::StatusCode;
+use std::alloc::{AllocError, Global};
+use tsp::Rule;
+
+/// Why a request is refused.
+#[derive(Clone, Copy, Debug, PartialEq, Eq)]
+pub(crate) enum Refusal {
+    /// There is no whole request, or it shows two keys.
+    BadRequest,
+    /// A transfer coding.
+    TransferEncoding,
+    /// The target names nothing.
+    NoRoute,
+    /// The method does nothing there.
+    Method(Place),
+    /// No length of the body.
+    Length,
+    /// Two lengths, or one that is no number.
+    BadLength,
+    /// The body is too large.
+    TooLarge,
+    /// The body isn't said to be a time-stamp request.
+    Type,
+    /// The key is no active account's.
+    NoAccount,
+    /// The account sees no such deposit.
+    NotHere,
+    /// No reference, two, or one of a wrong form.
+    BadReference,
+    /// The deposit is another account's.
+    NotOwner,
+    /// The reference is used for other octets.
+    Conflict,
+    /// No account has the reader's name.
+    UnknownReader,
+    /// An owner needs no right.
+    SelfGrant,
+    /// A rule refuses a deposit's stamp.
+    Rule(Rule),
+    /// The store, the signer or memory didn't answer.
+    Unavailable,
+}
+
+/// A rule's word.
+fn word_of_rule(rule: Rule) -> &'static str
+    ensures { result.now ≡ reason (number_of rule) }
+{
+    match rule {
+        Rule::Spelling => "rule 01",
+        Rule::Version => "rule 02",
+        Rule::Account => "rule 03",
+        Rule::Algorithm => "rule 04",
+        Rule::HashLength => "rule 05",
+        Rule::Policy => "rule 06",
+        Rule::PolicyAlgorithm => "rule 07",
+        Rule::Extensions => "rule 08",
+        Rule::Certificate => "rule 09",
+        Rule::Clock => "rule 10",
+        Rule::Quota => "rule 11",
+        Rule::System => "rule 12",
+    }
+}
+
+/// The status that tells that a rule fails.
+fn status_of_rule(rule: Rule) -> StatusCode
+    ensures { result ≡ status_of_rule rule }
+{
+    match rule {
+        Rule::Clock => StatusCode::SERVICE_UNAVAILABLE,
+        _ => StatusCode::FORBIDDEN,
+    }
+}
+
+impl Refusal {
+    /// The status that tells it.
+    pub(crate) fn status(self) -> StatusCode
+        ensures { result ≡ status_of self }
+    {
+        match self {
+            Refusal::BadRequest
+            | Refusal::BadLength
+            | Refusal::BadReference
+            | Refusal::UnknownReader
+            | Refusal::SelfGrant => StatusCode::BAD_REQUEST,
+            Refusal::NoAccount | Refusal::NotOwner => StatusCode::FORBIDDEN,
+            Refusal::NoRoute | Refusal::NotHere => StatusCode::NOT_FOUND,
+            Refusal::Method(_) => StatusCode::METHOD_NOT_ALLOWED,
+            Refusal::Conflict => StatusCode::CONFLICT,
+            Refusal::Length => StatusCode::LENGTH_REQUIRED,
+            Refusal::TooLarge => StatusCode::PAYLOAD_TOO_LARGE,
+            Refusal::Type => StatusCode::UNSUPPORTED_MEDIA_TYPE,
+            Refusal::TransferEncoding => StatusCode::NOT_IMPLEMENTED,
+            Refusal::Rule(rule) => status_of_rule(rule),
+            Refusal::Unavailable => StatusCode::SERVICE_UNAVAILABLE,
+        }
+    }
+
+    /// Its word.
+    fn word(self) -> &'static str
+        ensures { result.now ≡ word_of self }
+    {
+        match self {
+            Refusal::BadRequest => "BadRequest",
+            Refusal::TransferEncoding => "TransferEncoding",
+            Refusal::NoRoute => "NoRoute",
+            Refusal::Method(_) => "Method",
+            Refusal::Length => "Length",
+            Refusal::BadLength => "BadLength",
+            Refusal::TooLarge => "TooLarge",
+            Refusal::Type => "Type",
+            Refusal::NoAccount => "NoAccount",
+            Refusal::NotHere => "NotHere",
+            Refusal::BadReference => "BadReference",
+            Refusal::NotOwner => "NotOwner",
+            Refusal::Conflict => "Conflict",
+            Refusal::UnknownReader => "UnknownReader",
+            Refusal::SelfGrant => "SelfGrant",
+            Refusal::Rule(rule) => word_of_rule(rule),
+            Refusal::Unavailable => "Unavailable",
+        }
+    }
+
+    /// The methods that its answer tells.
+    pub(crate) fn allowed(self) -> Option<&'static str>
+        ensures { option_map (λ m. m.now) result ≡ allowed_by self }
+    {
+        match self {
+            Refusal::Method(place) => Some(place.methods()),
+            _ => None,
+        }
+    }
+
+    /// The body of its answer: status and word, on a line.
+    pub(crate) fn body(self, alloc: Global) -> Result<String, AllocError>
+        ensures { IfOk result (λ text. string_bytes text ≡ refusal_body self) }
+    {
+        line(alloc, self.status().as_u16(), self.word())
+    }
+}
+
+/// A status and a word on a line.
+fn line(alloc: Global, status: u16, word: &str) -> Result<String, AllocError>
+    ensures { IfOk result (λ text. string_bytes text ≡ decimal status ++ codes " " ++ word.now ++ line_feed) }
+{
+    format!(in alloc; "{status} {word}\n")
+}
+
+impl From<Fault> for Refusal {
+    ghost from_gives = { λ fault refusal. refusal ≡ refusal_of fault };
+
+    fn from(fault: Fault) -> Refusal {
+        match fault {
+            Fault::NotHere => Refusal::NotHere,
+            Fault::NotOwner => Refusal::NotOwner,
+            Fault::Conflict => Refusal::Conflict,
+            Fault::UnknownReader => Refusal::UnknownReader,
+            Fault::SelfGrant => Refusal::SelfGrant,
+            Fault::TooLarge => Refusal::TooLarge,
+            Fault::Rejected(rule) => Refusal::Rule(rule),
+            Fault::Memory | Fault::Store | Fault::Signer => Refusal::Unavailable,
+        }
+    }
+}

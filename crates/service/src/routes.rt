@@ -1,0 +1,116 @@
+//! Targets, and what methods do there.
+ghost use Rattle.std.specs.Prelude.{◌≡◌, Option, option_map, IfOk, OnOk};
+ghost use Rattle.std.specs.Str.{bytes_eq};
+ghost use Rattle.service.specs.Routes.{with_route, routes, place_of, methods_of, action_of, number_part, name_part};
+
+use matchit::{InsertError, Router};
+use std::alloc::Global;
+
+/// What a target names.
+#[derive(Clone, Copy, Debug, PartialEq, Eq)]
+pub(crate) enum Place {
+    /// `/tsp`: where requests are answered.
+    Tsp,
+    /// `/deposits`: all deposits.
+    Deposits,
+    /// `/deposits/{number}`: one of them.
+    Deposit,
+    /// `/deposits/{number}/token`: its token.
+    Token,
+    /// `/deposits/{number}/readers/{name}`: one who may see it.
+    Reader,
+}
+
+/// What a method does at a place.
+#[derive(Clone, Copy, Debug, PartialEq, Eq)]
+pub(crate) enum Action {
+    /// Answers a time-stamp request.
+    Stamp,
+    /// Takes a deposit.
+    Keep,
+    /// Lists deposits.
+    List,
+    /// Shows a deposit.
+    Show,
+    /// Shows a deposit's token.
+    Token,
+    /// Lets a reader see a deposit.
+    Grant,
+    /// Takes that right away.
+    Revoke,
+}
+
+/// Whether a method has that name, letter by letter.
+fn is_named(method: &[u8], name: &str) -> bool
+    ensures { result ≡ bytes_eq method.now name.now }
+{
+    method == name.as_bytes()
+}
+
+impl Place {
+    /// Its methods.
+    pub(crate) fn methods(self) -> &'static str
+        ensures { result.now ≡ methods_of self }
+    {
+        match self {
+            Place::Tsp => "POST",
+            Place::Deposits => "GET, POST",
+            Place::Deposit | Place::Token => "GET",
+            Place::Reader => "PUT, DELETE",
+        }
+    }
+
+    /// What a method does there, if anything.
+    pub(crate) fn action(self, method: &[u8]) -> Option<Action>
+        ensures { result ≡ action_of self method.now }
+    {
+        match self {
+            Place::Tsp if is_named(method, "POST") => Some(Action::Stamp),
+            Place::Deposits if is_named(method, "GET") => Some(Action::List),
+            Place::Deposits if is_named(method, "POST") => Some(Action::Keep),
+            Place::Deposit if is_named(method, "GET") => Some(Action::Show),
+            Place::Token if is_named(method, "GET") => Some(Action::Token),
+            Place::Reader if is_named(method, "PUT") => Some(Action::Grant),
+            Place::Reader if is_named(method, "DELETE") => Some(Action::Revoke),
+            _ => None,
+        }
+    }
+}
+
+/// Adds a route.
+fn add(router: &mut Router<Place>, text: &str, place: Place) -> Result<(), InsertError>
+    ensures { OnOk result (router.new ≡ with_route text.now place router.old) }
+{
+    match router.insert(text, place) {
+        Ok(()) => Ok(()),
+        Err(error) => Err(error),
+    }
+}
+
+/// All routes.
+fn routes(alloc: Global) -> Result<Router<Place>, InsertError>
+    ensures { IfOk result (λ router. router ≡ routes) }
+{
+    let mut router = Router::new(alloc);
+    add(&mut router, "/tsp", Place::Tsp)?;
+    add(&mut router, "/deposits", Place::Deposits)?;
+    add(&mut router, "/deposits/{number}", Place::Deposit)?;
+    add(&mut router, "/deposits/{number}/token", Place::Token)?;
+    add(
+        &mut router,
+        "/deposits/{number}/readers/{name}",
+        Place::Reader,
+    )?;
+    Ok(router)
+}
+
+/// The place that a target names, as it was sent. An error where memory runs out.
+pub(crate) fn place_of(alloc: Global, target: &str) -> Result<Option<Place>, InsertError>
+    ensures { IfOk result (λ place. place ≡ place_of target.now) }
+{
+    let router = routes(alloc)?;
+    match router.at(target) {
+        Ok(found) => Ok(Some(*found.value)),
+        Err(_) => Ok(None),
+    }
+}

@@ -1,0 +1,165 @@
+//! One request and its answer.
+ghost use Rattle.std.specs.Prelude.{◌≡◌, ◌≤◌, ◌⊎◌, ◌++◌, ℕ, ℤ, List, [], length, Option, option_map, IfOk};
+ghost use Rattle.std.specs.Prelude.{string_bytes};
+ghost use Rattle.std.specs.Fmt.{decimal};
+ghost use Rattle.std.specs.Io.KnownBytes.{Consumes};
+ghost use Rattle.httparse.specs.Grammar.{RequestHead, print_request};
+ghost use Rattle.policy.specs.View.{policy_view};
+ghost use Rattle.tables.specs.Base.{IsHonest};
+ghost use Rattle.service.specs.Answers.{AnswerValue, head_text, refusal_answer, success};
+ghost use Rattle.service.specs.Checks.{most_body};
+ghost use Rattle.service.specs.Heads.{IsHead, head_value};
+ghost use Rattle.service.specs.Requests.{IsRequest, command_of};
+ghost use Rattle.service.specs.Served.{SendsText, Sends, SendsOrWants, unavailable, Serves};
+ghost use Rattle.service.specs.Views.{head_view, IsInPlace, performed_answer};
+
+use crate::answer::{Media, head_text, unavailable};
+use crate::demand::asked_by;
+use crate::head::{Head, head_at};
+use crate::performing::{Performed, perform};
+use crate::reading::{BodyRead, HeadRead, MOST_FIELDS, MOST_OCTETS, read_body, read_head};
+use crate::refusal::Refusal;
+use crate::responding::{refuse, respond, wanting};
+use crate::routes::{Action, place_of};
+use crate::served::Served;
+use crate::wanted::check_head;
+use cms::Signer;
+use desk::Desk;
+use httparse::spans::EMPTY_HEADER_SPAN;
+use sqlite::Alter;
+use std::alloc::Global;
+use std::io::{Read, Write};
+
+/// Answers a whole request.
+fn serve_whole<W: Write, S: Alter + Drop, G: Signer>(
+    alloc: Global,
+    writer: &mut W,
+    desk: &mut Desk<'_, S>,
+    reading: i64,
+    signer: &mut G,
+    head: Head<'_>,
+    action: Action,
+    body: &[u8],
+) -> Served
+    requires { IsInPlace head }
+    ensures setting { desk.new.setting ≡ desk.old.setting }
+    ensures honest { IsHonest S.Store desk.new.store → IsHonest S.Store desk.old.store }
+    ensures served { (before after : Option (List ℕ))
+        → IsRequest desk.old.setting.file reading before after
+        (command_of desk.old.setting.file reading (head_view head.entry) body.now action)
+        → Serves S.Store G.signs G.fault_count W.contents reading (record {
+          input = before;
+          input_after = after;
+          writer = writer.old;
+          writer_after = writer.new;
+          desk = desk.old;
+          desk_after = desk.new;
+          signer = signer.old;
+          signer_after = signer.new;
+        }) result }
+{
+    match asked_by(desk.policy(), head, action, body) {
+        Err(refusal) => refuse(alloc, writer, refusal),
+        Ok(demand) => {
+            let performed = perform(desk, demand, reading, signer);
+            respond(alloc, writer, &performed)
+        }
+    }
+}
+
+/// Reads the body of a request whose head was read, and answers it.
+fn serve_head<R: Read, W: Write, S: Alter + Drop, G: Signer>(
+    alloc: Global,
+    reader: &mut R,
+    writer: &mut W,
+    desk: &mut Desk<'_, S>,
+    reading: i64,
+    signer: &mut G,
+    head: Head<'_>,
+) -> Served
+    requires { IsInPlace head }
+    ensures setting { desk.new.setting ≡ desk.old.setting }
+    ensures honest { IsHonest S.Store desk.new.store → IsHonest S.Store desk.old.store }
+    ensures served { (before : Option (List ℕ)) (h : RequestHead) → IsHead (print_request h) h
+        → head_view head.entry ≡ head_value h → Consumes before (R.remaining reader.old) (print_request h)
+        → Serves S.Store G.signs G.fault_count W.contents reading (record {
+          input = before;
+          input_after = R.remaining reader.new;
+          writer = writer.old;
+          writer_after = writer.new;
+          desk = desk.old;
+          desk_after = desk.new;
+          signer = signer.old;
+          signer_after = signer.new;
+        }) result }
+{
+    let Ok(place) = place_of(alloc, head.target) else {
+        return wanting(writer);
+    };
+    let wanted = match check_head(head, place) {
+        Ok(wanted) => wanted,
+        Err(refusal) => return refuse(alloc, writer, refusal),
+    };
+    let Ok(mut body) = vec![in alloc; 0u8; wanted.count as usize] else {
+        return wanting(writer);
+    };
+    match read_body(reader, body.as_mut_slice()) {
+        BodyRead::Whole => {}
+        BodyRead::Cut => return refuse(alloc, writer, Refusal::BadRequest),
+        BodyRead::Failed => return Served::ReadFailed,
+    }
+    serve_whole(
+        alloc,
+        writer,
+        desk,
+        reading,
+        signer,
+        head,
+        wanted.action,
+        &body,
+    )
+}
+
+/// Reads one request, has the desk take the one step that it asks for, and writes one answer (RFC 9112, RFC 3161 3.4).
+/// The reading is the clock's, in microseconds.
+///
+/// It asks the reader for no octet behind the request, and for none once it is refused. `Closed` where the input ends
+/// before any octet, and `ReadFailed` where a read fails; nothing is written then, and nothing done. `WriteFailed`
+/// where a write fails or takes nothing; what the desk did stands. Want of memory here is answered by status 503. A
+/// desk that wants memory, or whose store or signer fails, is told by the reply's rule 12 on `/tsp`, and by 503
+/// elsewhere.
+pub fn serve_one<R: Read, W: Write, S: Alter + Drop, G: Signer>(
+    alloc: Global,
+    reader: &mut R,
+    writer: &mut W,
+    desk: &mut Desk<'_, S>,
+    reading: i64,
+    signer: &mut G,
+) -> Served
+    ensures setting { desk.new.setting ≡ desk.old.setting }
+    ensures honest { IsHonest S.Store desk.new.store → IsHonest S.Store desk.old.store }
+    ensures served { Serves S.Store G.signs G.fault_count W.contents reading (record {
+      input = R.remaining reader.old;
+      input_after = R.remaining reader.new;
+      writer = writer.old;
+      writer_after = writer.new;
+      desk = desk.old;
+      desk_after = desk.new;
+      signer = signer.old;
+      signer_after = signer.new;
+    }) result }
+{
+    let Ok(mut room) = vec![in alloc; 0u8; MOST_OCTETS] else {
+        return wanting(writer);
+    };
+    let mut headers = [EMPTY_HEADER_SPAN; MOST_FIELDS];
+    let spans = match read_head(reader, room.as_mut_slice(), &mut headers) {
+        HeadRead::Closed => return Served::Closed,
+        HeadRead::Failed => return Served::ReadFailed,
+        HeadRead::Cut => return refuse(alloc, writer, Refusal::BadRequest),
+        HeadRead::Refused => return refuse(alloc, writer, Refusal::BadRequest),
+        HeadRead::Whole(spans) => spans,
+    };
+    let head = head_at(&room, &headers, spans);
+    serve_head(alloc, reader, writer, desk, reading, signer, head)
+}

@@ -1,0 +1,152 @@
+//! The checks of a head, in their order.
+ghost use Rattle.std.specs.Prelude.{◌≡◌, ◌≤◌, Option, IfOk};
+ghost use Rattle.service.specs.Checks.{without_coding, stated_length, body_length, stated_query, typed, wanted_at};
+ghost use Rattle.service.specs.Checks.{most_body};
+ghost use Rattle.service.specs.Checks.{once, has_body, is_stamp};
+ghost use Rattle.service.specs.Views.{found_view, head_view, IsInPlace, octets_given, result_by, wanted_view};
+
+use crate::fields::{Found, same_letters, stated, type_in};
+use crate::head::Head;
+use crate::numbers::length_in;
+use crate::refusal::Refusal;
+use crate::routes::{Action, Place};
+
+/// The most octets of a body.
+const MOST_BODY: u64 = 1_048_576;
+
+/// What a head asks for, and how many octets its body has.
+#[derive(Clone, Copy)]
+pub(crate) struct Wanted {
+    pub(crate) action: Action,
+    pub(crate) count: u64,
+}
+
+/// The value of a field that has to stand once.
+pub(crate) fn once<'b>(
+    absent: Refusal,
+    repeated: Refusal,
+    found: Found<'b>,
+) -> Result<&'b [u8], Refusal>
+    ensures { octets_given result ≡ once absent repeated (found_view found.entry) }
+{
+    match found {
+        Found::Never => Err(absent),
+        Found::Once(value) => Ok(value),
+        Found::Twice => Err(repeated),
+    }
+}
+
+/// There is no transfer coding.
+fn check_coding(head: Head<'_>) -> Result<(), Refusal>
+    requires { IsInPlace head }
+    ensures { result ≡ without_coding (head_view head.entry) }
+{
+    match stated(head.octets, head.headers, b"transfer-encoding") {
+        Found::Never => Ok(()),
+        Found::Once(_) => Err(Refusal::TransferEncoding),
+        Found::Twice => Err(Refusal::TransferEncoding),
+    }
+}
+
+/// How many octets the body has, as one field tells; not too many.
+fn stated_length(head: Head<'_>) -> Result<u64, Refusal>
+    requires { IsInPlace head }
+    ensures value { result ≡ stated_length (head_view head.entry) }
+    ensures few { IfOk result (λ count. count ≤ most_body) }
+{
+    let found = stated(head.octets, head.headers, b"content-length");
+    let digits = match once(Refusal::Length, Refusal::BadLength, found) {
+        Ok(digits) => digits,
+        Err(refusal) => return Err(refusal),
+    };
+    match length_in(digits) {
+        None => Err(Refusal::BadLength),
+        Some(count) if count <= MOST_BODY => Ok(count),
+        Some(_) => Err(Refusal::TooLarge),
+    }
+}
+
+impl Action {
+    /// Whether a body comes with it.
+    fn has_body(self) -> bool
+        ensures { result ≡ has_body self }
+    {
+        matches!(self, Action::Stamp | Action::Keep)
+    }
+
+    /// Whether it answers a time-stamp request.
+    fn is_stamp(self) -> bool
+        ensures { result ≡ is_stamp self }
+    {
+        matches!(self, Action::Stamp)
+    }
+}
+
+/// How many octets are read behind the head.
+fn body_length(head: Head<'_>, action: Action) -> Result<u64, Refusal>
+    requires { IsInPlace head }
+    ensures value { result ≡ body_length (head_view head.entry) action }
+    ensures few { IfOk result (λ count. count ≤ most_body) }
+{
+    if action.has_body() {
+        stated_length(head)
+    } else {
+        Ok(0)
+    }
+}
+
+/// One field tells that the body is a time-stamp request.
+fn stated_query(head: Head<'_>) -> Result<(), Refusal>
+    requires { IsInPlace head }
+    ensures { result ≡ stated_query (head_view head.entry) }
+{
+    let found = stated(head.octets, head.headers, b"content-type");
+    let value = match once(Refusal::Type, Refusal::Type, found) {
+        Ok(value) => value,
+        Err(refusal) => return Err(refusal),
+    };
+    if same_letters(type_in(value), b"application/timestamp-query") {
+        Ok(())
+    } else {
+        Err(Refusal::Type)
+    }
+}
+
+/// A type is asked of a time-stamp request alone.
+fn check_type(head: Head<'_>, action: Action) -> Result<(), Refusal>
+    requires { IsInPlace head }
+    ensures { result ≡ typed (head_view head.entry) action }
+{
+    if action.is_stamp() {
+        stated_query(head)
+    } else {
+        Ok(())
+    }
+}
+
+/// What a head asks for whose target names that place, or the first check of it that fails.
+#[tactic(auto, unfolding(crate::specs::Checks::wanted_at))]
+pub(crate) fn check_head(head: Head<'_>, place: Option<Place>) -> Result<Wanted, Refusal>
+    requires { IsInPlace head }
+    ensures value { result_by wanted_view result ≡ wanted_at (head_view head.entry) place }
+    ensures few { IfOk result (λ wanted. wanted.count ≤ most_body) }
+{
+    match check_coding(head) {
+        Ok(()) => {}
+        Err(refusal) => return Err(refusal),
+    }
+    let Some(place) = place else {
+        return Err(Refusal::NoRoute);
+    };
+    let Some(action) = place.action(head.method) else {
+        return Err(Refusal::Method(place));
+    };
+    let count = match body_length(head, action) {
+        Ok(count) => count,
+        Err(refusal) => return Err(refusal),
+    };
+    match check_type(head, action) {
+        Ok(()) => Ok(Wanted { action, count }),
+        Err(refusal) => Err(refusal),
+    }
+}
