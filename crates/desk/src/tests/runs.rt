@@ -282,7 +282,7 @@ fn one_refused_growth_costs_one_command(rt: HostRuntime) -> Result<(), Fail> {
     let commands = commands_of(alloc, &rows)?;
     mark(alloc)?;
     let outcome = desk.run(&commands, &mut signer);
-    let mut wanting = 0;
+    let mut wanting = 0_usize;
     let granted = match &outcome {
         Err(fault) => {
             assert_eq!(rt; *fault, Fault::Memory);
@@ -292,7 +292,7 @@ fn one_refused_growth_costs_one_command(rt: HostRuntime) -> Result<(), Fail> {
             assert_eq!(rt; answers.len(), rows.len());
             for (answer, (_, wanted)) in answers.iter().zip(rows) {
                 if is_told(answer, Told::Refused(Fault::Memory)) {
-                    wanting += 1;
+                    wanting = wanting.wrapping_add(1);
                 } else {
                     assert!(rt; is_told(answer, wanted), "{answer:?}");
                 }
