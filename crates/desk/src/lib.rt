@@ -34,6 +34,3 @@ pub use laws::{
 };
 pub use pending::Pending;
 pub use reply::{Begun, Deposited, Reply};
-
-#[cfg(test)]
-mod tests;

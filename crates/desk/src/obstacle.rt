@@ -1,10 +1,9 @@
 //! What stands in the way of a call on deposits and rights.
 ghost use Rattle.std.specs.Prelude.{◌≡◌};
-ghost use Rattle.desk.specs.Effects.{fault_of as fault_for};
-ghost use Rattle.desk.specs.Calls.{store_cause};
 ghost use Rattle.desk.specs.Obstacles.{fault_with};
 
 use crate::fault::Fault;
+use crate::refusal::fault_of;
 use store::StoreFault;
 
 /// What stands in the way: what the account may not, or the call that was refused.
@@ -26,16 +25,6 @@ pub(crate) enum Obstacle {
     Growing,
     /// The right.
     Adding(StoreFault),
-}
-
-/// Want of memory as it is, and any other refusal of the store as the store's.
-fn fault_of(fault: StoreFault) -> Fault
-    ensures { result ≡ fault_for (store_cause fault) }
-{
-    match fault {
-        StoreFault::Memory => Fault::Memory,
-        _ => Fault::Store,
-    }
 }
 
 impl From<Obstacle> for Fault {

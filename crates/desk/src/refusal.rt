@@ -29,7 +29,7 @@ pub(crate) enum Refusal {
 }
 
 /// Want of memory as it is, and any other refusal of the store as the store's.
-fn fault_of(fault: StoreFault) -> Fault
+pub(crate) fn fault_of(fault: StoreFault) -> Fault
     ensures { result ≡ fault_for (store_cause fault) }
 {
     match fault {

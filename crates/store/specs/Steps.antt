@@ -1,6 +1,6 @@
 -- What the calls make of a look-up's answer: stepping stones, no definitions.
-use Rattle.std.specs.Prelude.{◌≡◌, ◌⊎◌, ℕ, ◌+◌, ◌<◌, ◌≤◌, ◌&&◌, min, nat_lt, nat_le, if◌then◌else◌, true, false, List, [], ◌∷◌, Option, Some}
-use Rattle.std.specs.Prelude.{None, option_map, option_and_then, string_bytes}
+use Rattle.std.specs.Prelude.{◌≡◌, ◌⊎◌, ℕ, ◌+◌, ◌<◌, ◌≤◌, ◌&&◌, min, nat_lt, nat_le, if◌then◌else◌, true, false}
+use Rattle.std.specs.Prelude.{List, [], ◌∷◌, Option, Some, None, option_map, option_and_then, string_bytes}
 use Rattle.tables.specs.declared.rows.LastStamp.{LastStamp}
 use Rattle.tables.specs.declared.rows.LatestCalibration.{LatestCalibration}
 use Rattle.tables.specs.declared.rows.Origin.{Origin}
@@ -74,7 +74,8 @@ pub record IsWithin (from to number : ℕ) : Type 0 where
 -- the stamp of a range with the least serial number, and what is left of the range then; or none is in it
 abbrev pub IsNextStamp : ℕ → ℕ → History → Option Stamp → Type 0
 IsNextStamp from to b None = stamps_between from to b ≡ []
-IsNextStamp from to b (Some stamp) = stamps_between from to b ≡ stamp_view stamp ∷ stamps_between (stamp.serial + 1) to b
+IsNextStamp from to b (Some stamp) =
+    stamps_between from to b ≡ stamp_view stamp ∷ stamps_between (stamp.serial + 1) to b
 
 -- a stamp, where its serial number is in the range
 abbrev pub only_within : ℕ → ℕ → Option Stamp → Option Stamp

@@ -1,20 +1,12 @@
 //! The history of what the counter accepted, kept in tables.
 #![tactic(auto)]
 
-#[cfg(test)]
-mod deposit_tests;
 mod deposits;
 mod fault;
 mod laws;
 mod opening;
-#[cfg(test)]
-mod range_tests;
 mod ranges;
-#[cfg(test)]
-mod refusals;
 mod store;
-#[cfg(test)]
-mod tests;
 mod values;
 
 pub use fault::StoreFault;

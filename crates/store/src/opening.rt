@@ -35,7 +35,8 @@ impl<S: Alter + Drop> Store<S> {
         ensures made { IfOk result (λ store. Creates (state S.Store conn) (state S.Store store.conn) (Ok tt)) }
         ensures taken { IfErr result (λ e. e.0 ≡ StoreFault.NotOurs → HasCleanDisk (state S.Store e.1)
             → IsInTheWay (state S.Store conn).now.schema) }
-        ensures undone { IfErr result (λ e. (error : _) × Creates (state S.Store conn) (state S.Store e.1) (Err error)) }
+        ensures undone { IfErr result (λ e. (error : _)
+            × Creates (state S.Store conn) (state S.Store e.1) (Err error)) }
         ensures closed { IfErr result (λ e. e.1.in_transaction ≡ false) }
         ensures uncounted { IfOk result (λ store. store.faults ≡ 0) }
         ensures refusals { IfErr result (λ e. (e.0 ≡ StoreFault.Memory)
@@ -77,8 +78,9 @@ impl<S: Alter + Drop> Store<S> {
 }
 
 impl<D: Disk + Drop> Store<FileStore<D>> {
-    /// Copies what was committed into the database file, and gives back the log and that file, which close where they are dropped: from
-    /// then on the database file alone is the database. Refused with `Memory` or `Database`, which closes the files as they are.
+    /// Copies what was committed into the database file, and gives back the log and that file, which close where they
+    /// are dropped: from then on the database file alone is the database. Refused with `Memory` or `Database`, which
+    /// closes the files as they are.
     pub fn close(self) -> Result<Files<D>, StoreFault>
         ensures copied { IfOk result (λ files. AreClean D.Disk files.log files.db
             → (b : History) → Stands over_files b self → LeavesFiles D.Disk b files) }

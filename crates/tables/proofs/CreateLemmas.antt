@@ -85,7 +85,8 @@ makes_table sql old new schema table count has is plain defined plain_schema h =
     let now_schema : first.0.schema ≡ created schema table =
     made.is ∙ ap (λ s. created s made.table) has ∙ ap (created schema) same in
     let lacks : lacks_sequence first.0.schema ≡ false = ap lacks_sequence now_schema ∙ plain_schema in
-    let now : new.now ≡ first.0 = ap (λ (p : Tally × Database). p.1) (same_ok all.2) ∙ same_ok (rw lacks at first.2) in (
+    let now : new.now ≡ first.0 =
+    ap (λ (p : Tally × Database). p.1) (same_ok all.2) ∙ same_ok (rw lacks at first.2) in (
       ap (λ (d : Database). d.schema) now ∙ now_schema,
       ap (λ (d : Database). d.trees (next_tree schema)) now
           ∙ subst (λ s. first.0.trees (next_tree s) ≡ []) has made.empty,

@@ -70,7 +70,8 @@ impl<S: Alter + Drop> Base<S> {
             → takes_name (state S.Store conn).now.schema ≡ false) }
         ensures keeps { IfOk result (λ base. (state S.Store conn).now.schema ≡ no_schema → Keeps S.Store no_rows base) }
         ensures uncounted { IfOk result (λ base. base.faults ≡ 0) }
-        ensures undone { IfErr result (λ e. (error : _) × Creates (state S.Store conn) (state S.Store e.1) (Err error)) }
+        ensures undone { IfErr result (λ e. (error : _)
+            × Creates (state S.Store conn) (state S.Store e.1) (Err error)) }
         ensures taken { IfErr result (λ e. e.0 ≡ OpenFault.NotOurs → HasCleanDisk (state S.Store e.1)
             → IsInTheWay (state S.Store conn).now.schema) }
         ensures closed { IfErr result (λ e. e.1.in_transaction ≡ false) }
@@ -124,7 +125,8 @@ impl<S: Alter + Drop> Base<S> {
             → OnOk result (Keeps S.Store (applied change.now t) self.new) }
         ensures err { (t : Tables) → Keeps S.Store t self.old → OnErr result (Keeps S.Store t self.new) }
         ensures crash { IsHonest S.Store self.new → (db : Trees) → Recovers S.Store self.new db
-            → Recovers S.Store self.old db ⊎ ((t : Tables) → Keeps S.Store t self.old → Holds (applied change.now t) db) }
+            → Recovers S.Store self.old db
+            ⊎ ((t : Tables) → Keeps S.Store t self.old → Holds (applied change.now t) db) }
         ensures counted { IfErr result (λ e. IsCounted e self.old.faults self.new.faults) }
         ensures uncounted { OnOk result (self.new.faults ≡ self.old.faults) }
     {

@@ -11,8 +11,6 @@ mod lookups;
 mod opening;
 mod reading;
 mod rows;
-#[cfg(test)]
-mod tests;
 mod writing;
 
 pub use base::Base;

@@ -1,18 +1,10 @@
-//! The numbers by which refusals are told.
-use crate::{
+//! The numbers by which refusals are told, and the laws.
+use desk::{
     Fault, accounts_are_isolated, accounts_disturb_little, grants_are_of_their_plan,
     journeys_keep_their_promises, rejections_tell_their_rule, steps_leave_sound_histories,
     texts_are_reserved,
 };
 use tsp::Rule;
-
-mod deposits;
-mod memory;
-mod octets;
-mod rights;
-mod rows;
-mod runs;
-mod setting;
 
 #[test]
 fn numbers_refusals(rt: HostRuntime) {

@@ -1,10 +1,10 @@
 //! Rows of deposits and rights over a database in memory. A call that wants memory is made once more, and everything
 //! has to be as if it had never been refused: so the same rows show each allocation refused in turn.
-use super::*;
 use sqlite::{Connection, MemStore};
 use std::alloc::Global;
 use std::test::*;
 use std::time::{Duration, Instant};
+use store::{Deposit, Listed, Reservation, StampedDeposit, Store, StoreFault};
 
 /// The octets of a reservation's parts, of no meaning to the store.
 const OCTETS: &[u8] = b"\x88\x37";

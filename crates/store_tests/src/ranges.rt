@@ -1,8 +1,8 @@
 //! Walks over the stamps of a range, in memory.
-use super::*;
 use sqlite::{Connection, MemStore};
 use std::alloc::Global;
 use std::test::*;
+use store::{Reservation, Store, StoreFault};
 
 /// The octets of a reservation's parts, of no meaning to the store.
 const OCTETS: &[u8] = b"\x88\x37";

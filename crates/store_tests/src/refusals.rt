@@ -1,9 +1,9 @@
 //! A run that goes on where one growth is refused: each call is made again then, and what was refused has changed
 //! nothing.
-use super::*;
 use sqlite::{Connection, MemStore};
 use std::alloc::Global;
 use std::test::*;
+use store::{Calibration, Hold, Last, Reservation, Store, StoreFault};
 
 /// The octets of a reservation's parts, of no meaning to the store.
 const OCTETS: &[u8] = b"\x88\x37";

@@ -1,14 +1,13 @@
 //! Deposits shown, and rights given and taken, over a database in memory. To be run with each allocation refused in
 //! turn too: what is refused so has changed nothing, and is asked again.
-use super::octets::{ALGORITHM, CERTIFICATE, GRANTED_WITH, WITH_CERTIFICATE};
-use super::setting::{Setting, desk_over};
-use crate::{Desk, Fault};
-use cms::{Algorithm, Identity};
-use policy::{Account, EXAMPLE, Policy};
-use sqlite::{Connection, MemStore};
-use std::alloc::Global;
+use super::octets::{GRANTED_WITH, WITH_CERTIFICATE};
+use super::setting::{desk_over, found_calibrated, found_example, same};
+use desk::{Desk, Fault};
+use policy::{Account, Policy};
+use sqlite::MemStore;
+use std::alloc::{AllocError, Global};
 use std::test::Fail;
-use store::{Calibration, Reservation, Store};
+use store::{Listed, Reservation, Store};
 
 /// The contents of SHA-256's object identifier.
 const SHA_256: &[u8] = b"\x60\x86\x48\x01\x65\x03\x04\x02\x01";
@@ -80,15 +79,6 @@ fn rows() -> [Row; 41] {
     ]
 }
 
-/// The example's setting, where memory is there for it.
-pub fn example(alloc: Global) -> Option<Setting> {
-    Some(Setting {
-        policy: Policy::from_text(alloc, EXAMPLE).ok()?,
-        identity: Identity::from_certificate(alloc, CERTIFICATE).ok()?,
-        algorithm: Algorithm::from_bytes(alloc, ALGORITHM).ok()?,
-    })
-}
-
 /// What is reserved for a request, the first moment's.
 fn reserved(serial: u64, account: &str) -> Reservation<'_> {
     Reservation {
@@ -105,17 +95,7 @@ fn reserved(serial: u64, account: &str) -> Reservation<'_> {
 
 /// A store with a deposit of alice and a void reservation of carol, where memory is there for it.
 fn filled(alloc: Global) -> Option<Store<MemStore>> {
-    let conn = Connection::open_in_memory(alloc).ok()?;
-    if !conn.is_autocommit() {
-        return None;
-    }
-    let mut store = Store::create(alloc, conn).ok()?;
-    let calibration = Calibration {
-        reading: 0,
-        offset: 0,
-        uncertainty: 0,
-    };
-    store.calibrate(&calibration).ok()?;
+    let mut store = found_calibrated(alloc)?;
     store.reserve(&reserved(1, "alice")).ok()?;
     let token = GRANTED_WITH.get(9..)?;
     store
@@ -123,6 +103,19 @@ fn filled(alloc: Global) -> Option<Store<MemStore>> {
         .ok()?;
     store.reserve(&reserved(2, "carol")).ok()?;
     Some(store)
+}
+
+/// A line for each row of a list.
+fn lines(alloc: Global, rows: &[Listed]) -> Result<Vec<u8>, AllocError> {
+    let mut text = String::new(alloc);
+    for row in rows {
+        let line = format!(in alloc;
+            "{} {} {} {}\n",
+            row.number, row.owner, row.reference, row.gen_time
+        )?;
+        text.push_str(&line)?;
+    }
+    Ok(text.into_bytes())
 }
 
 /// What the account is answered.
@@ -136,16 +129,8 @@ fn answer(
         Ask::Show(number) => desk.show(account, number),
         Ask::Token(number) => desk.token_of(account, number),
         Ask::List => {
-            let mut text = String::new(alloc);
-            for row in &desk.list(account)? {
-                let line = format!(in alloc;
-                    "{} {} {} {}\n",
-                    row.number, row.owner, row.reference, row.gen_time
-                );
-                text.push_str(&line.map_err(|_| Fault::Memory)?)
-                    .map_err(|_| Fault::Memory)?;
-            }
-            Ok(text.into_bytes())
+            let rows = desk.list(account)?;
+            lines(alloc, &rows).map_err(|_| Fault::Memory)
         }
         Ask::Grant(number, name) => {
             desk.grant(account, number, name)?;
@@ -158,53 +143,93 @@ fn answer(
     }
 }
 
+/// Whether the account sees a deposit, where memory is there to tell.
+fn sees(desk: &mut Desk<'_, MemStore>, policy: &Policy, name: &str) -> Option<bool> {
+    let rows = desk.list(policy.account_named(name)?).ok()?;
+    Some(!rows.is_empty())
+}
+
 /// Which of the three accounts see a deposit, where memory is there to tell.
-fn lists(setting: &Setting, desk: &mut Desk<'_, MemStore>) -> Option<[bool; 3]> {
-    let mut seen = [false; 3];
-    for (name, sees) in ["alice", "bob", "carol"].into_iter().zip(seen.iter_mut()) {
-        *sees = !desk
-            .list(setting.policy.account_named(name)?)
-            .ok()?
-            .is_empty();
+fn viewers(desk: &mut Desk<'_, MemStore>, policy: &Policy) -> Option<[bool; 3]> {
+    Some([
+        sees(desk, policy, "alice")?,
+        sees(desk, policy, "bob")?,
+        sees(desk, policy, "carol")?,
+    ])
+}
+
+/// What the account is answered, which is asked once more where it wants memory: nothing is changed by that.
+fn told(
+    alloc: Global,
+    desk: &mut Desk<'_, MemStore>,
+    policy: &Policy,
+    name: &str,
+    ask: Ask,
+) -> Result<Result<Vec<u8>, Fault>, Fail> {
+    let account = policy.account_named(name).ok_or("no such account")?;
+    let before = match viewers(desk, policy) {
+        Some(seen) => seen,
+        None => viewers(desk, policy).ok_or("no lists")?,
+    };
+    match answer(alloc, desk, account, ask) {
+        Err(Fault::Memory) => {
+            if viewers(desk, policy) != Some(before) {
+                return Err(Fail::new("a refusal changed who sees"));
+            }
+            Ok(answer(alloc, desk, account, ask))
+        }
+        told => Ok(told),
     }
-    Some(seen)
+}
+
+fn is_told(told: &Result<Vec<u8>, Fault>, wanted: Result<&[u8], Fault>) -> bool {
+    match (told, wanted) {
+        (Ok(octets), Ok(wanted)) => octets.as_slice() == wanted,
+        (Err(fault), Err(wanted)) => *fault == wanted,
+        _ => false,
+    }
+}
+
+/// The first row that is told something else.
+fn first_wrong(
+    alloc: Global,
+    desk: &mut Desk<'_, MemStore>,
+    policy: &Policy,
+) -> Result<Option<usize>, Fail> {
+    for (index, (name, ask, wanted)) in rows().iter().enumerate() {
+        let told = told(alloc, desk, policy, name, *ask)?;
+        if !is_told(&told, *wanted) {
+            return Ok(Some(index));
+        }
+    }
+    Ok(None)
+}
+
+/// The greatest serial number, asked once more where memory is wanting.
+fn last(store: &mut Store<MemStore>) -> Result<u64, Fail> {
+    match store.last() {
+        Ok(last) => Ok(last.serial),
+        Err(_) => Ok(store.last()?.serial),
+    }
+}
+
+fn are_shown(alloc: Global, desk: &mut Desk<'_, MemStore>, policy: &Policy) -> Result<(), Fail> {
+    same(first_wrong(alloc, desk, policy)?, None)?;
+    same(desk.store().faults(), 0)?;
+    same(last(desk.store())?, 2)
 }
 
 #[test]
 fn deposits_are_shown_to_their_readers(rt: HostRuntime) -> Result<(), Fail> {
     let alloc = rt.alloc();
-    let setting = match example(alloc) {
+    let setting = match found_example(alloc) {
         Some(setting) => setting,
-        None => example(alloc).ok_or("no setting")?,
+        None => found_example(alloc).ok_or("no setting")?,
     };
     let store = match filled(alloc) {
         Some(store) => store,
         None => filled(alloc).ok_or("no store")?,
     };
     let mut desk = desk_over(alloc, &setting, store);
-    for (index, (name, ask, wanted)) in rows().iter().enumerate() {
-        let account = setting.policy.account_named(name).ok_or("no such account")?;
-        let before = match lists(&setting, &mut desk) {
-            Some(seen) => seen,
-            None => lists(&setting, &mut desk).ok_or("no lists")?,
-        };
-        let mut told = answer(alloc, &mut desk, account, *ask);
-        if let Err(Fault::Memory) = told {
-            assert_eq!(rt; lists(&setting, &mut desk), Some(before), "row {index}");
-            told = answer(alloc, &mut desk, account, *ask);
-        }
-        let told = match &told {
-            Ok(octets) => Ok(octets.as_slice()),
-            Err(fault) => Err(*fault),
-        };
-        assert!(rt; told == *wanted, "row {index}: {told:?}");
-    }
-    let mut store = desk.into_store();
-    assert_eq!(rt; store.faults(), 0);
-    let last = match store.last() {
-        Ok(last) => last,
-        Err(_) => store.last()?,
-    };
-    assert_eq!(rt; last.serial, 2);
-    Ok(())
+    are_shown(alloc, &mut desk, &setting.policy)
 }
