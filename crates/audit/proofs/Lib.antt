@@ -1,0 +1,4 @@
+pub mod Accounts
+pub mod Checks
+pub mod Lines
+pub mod Rows

@@ -1,0 +1,12 @@
+-- The octets of the lines before those of the stamps that are left are counted.
+use Rattle.std.proofs.Common.{◌≡◌, ◌+◌, ◌-◌}
+use Rattle.audit.proofs.Lines.{HasCounted}
+use Rattle.audit.proofs.extracting.count_octets.Given as goal
+
+abbrev pub invariant-loop-line : goal.invariant-loop-line
+invariant-loop-line g l =
+    HasCounted g.S.Store l.fn.store l.walk.store.now l.from l.to l.octets l.walk.from l.walk.to
+    × (l.walk.store.ghost_name ≡ l.initial.walk.store.ghost_name)
+
+abbrev pub decreases-loop-line : goal.decreases-loop-line
+decreases-loop-line g l = l.walk.to + 1 - l.walk.from

@@ -1,0 +1,11 @@
+-- What was taken was appended.
+use Rattle.std.proofs.Common.{◌≤◌, ◌-◌, length, take}
+use Rattle.std.specs.Io.KnownBytes.{Appends}
+use Rattle.audit.proofs.writing.write_octets.Given as goal
+
+abbrev pub invariant-loop-taken : goal.invariant-loop-taken
+invariant-loop-taken g l = (l.taken ≤ length l.octets)
+    × Appends (g.W.Write.contents l.initial.out) (g.W.Write.contents l.out) (take l.taken l.octets)
+
+abbrev pub decreases-loop-taken : goal.decreases-loop-taken
+decreases-loop-taken g l = length l.octets - l.taken

@@ -1,0 +1,7 @@
+pub mod Auditor
+pub mod Consistent
+pub mod Extract
+pub mod Fault
+pub mod Steps
+pub mod Texts
+pub mod Writing

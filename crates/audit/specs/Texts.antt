@@ -1,0 +1,15 @@
+-- The texts of a line, while it is made: a stepping stone, no definition.
+use Rattle.std.specs.Prelude.{◌≡◌, string_bytes}
+use Rattle.std.specs.Fmt.{decimal}
+use Rattle.hex.specs.Hex.{encode_lower}
+use Rattle.tables.specs.Tables.{StampRow}
+use Rattle.audit.specs.Extract.{identifier_text, moment_text, token_text}
+use Rattle.audit.specs.declared.line.Texts.{Texts}
+
+pub record AreTexts (texts : Texts) (stamp : StampRow) : Type 0 where
+  pub serial : string_bytes texts.serial ≡ decimal stamp.serial
+  pub gen_time : texts.gen_time.items ≡ moment_text stamp.gen_time
+  pub policy : string_bytes texts.policy ≡ identifier_text stamp.policy
+  pub algorithm : string_bytes texts.algorithm ≡ identifier_text stamp.algorithm
+  pub digest : string_bytes texts.digest ≡ encode_lower stamp.digest
+  pub token : string_bytes texts.token ≡ token_text stamp.token

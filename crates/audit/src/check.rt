@@ -1,0 +1,83 @@
+//! Whether a stamp's octets say what its row says.
+ghost use Rattle.std.specs.Prelude.{◌≡◌, ◌↔◌, IsTrue, MatchResult, option_map};
+ghost use Rattle.der.specs.ObjectIdentifier.{oid_content};
+ghost use Rattle.tables.specs.Queries.{stamp_view};
+ghost use Rattle.tsp.specs.View.{imprint_view, request_view, tst_view};
+ghost use Rattle.audit.specs.Consistent.{Agree, IsConsistent};
+
+use crate::fault::ExtractFault;
+use der::{encodings_are_read, oids_have_one_content_and_text};
+use store::Stamp;
+use tsp::{MessageImprint, Request, TstInfo, read_request, read_tst};
+
+/// Whether a stamp's octets say what its row says: the TSTInfo is one, and carries the row's serial number, genTime and
+/// policy (RFC 3161 2.4.2); its imprint is that of the stored request, which is one of at most 65,536 octets and has
+/// the row's algorithm and digest (RFC 3161 2.4.1). The token isn't looked at.
+///
+/// Takes no memory and is never refused; the type leaves room for `Memory`.
+pub fn check_row(stamp: &Stamp) -> Result<bool, ExtractFault>
+    ensures { MatchResult result (λ yes. IsTrue yes ↔ IsConsistent (stamp_view stamp.now)) (λ _. ⊥) }
+{
+    let Ok(tst) = read_tst(&stamp.tst) else {
+        return Ok(false);
+    };
+    let Ok(request) = read_request(&stamp.request) else {
+        return Ok(false);
+    };
+    Ok(agree(stamp, &tst, &request))
+}
+
+/// Whether a TSTInfo and a request agree with the row and with each other.
+fn agree(stamp: &Stamp, tst: &TstInfo<'_>, request: &Request<'_>) -> bool
+    ensures { IsTrue result ↔ Agree (stamp_view stamp.now) (tst_view tst.now) (request_view request.now) }
+{
+    let says = says_row(stamp, tst);
+    let asks = asks_row(stamp, request);
+    let same = has_imprint(&tst.imprint, request);
+    says && asks && same
+}
+
+/// Whether a TSTInfo says what the row says.
+fn says_row(stamp: &Stamp, tst: &TstInfo<'_>) -> bool
+    ensures { IsTrue result ↔ (((tst_view tst.now).serial ≡ stamp.now.serial)
+        × ((tst_view tst.now).gen_time ≡ stamp.now.gen_time)
+        × (oid_content (tst_view tst.now).policy ≡ stamp.now.policy.items)) }
+{
+    tst.serial == stamp.serial
+        && tst.gen_time.micros() as u64 == stamp.gen_time
+        && tst.policy.content() == stamp.policy.as_slice()
+}
+
+/// Whether a request asks for what the row says.
+fn asks_row(stamp: &Stamp, request: &Request<'_>) -> bool
+    ensures { IsTrue result ↔ ((oid_content (request_view request.now).imprint.algorithm ≡ stamp.now.algorithm.items)
+        × ((request_view request.now).imprint.hash ≡ stamp.now.digest.items)) }
+{
+    request.algorithm() == stamp.algorithm.as_slice() && request.hash() == stamp.digest.as_slice()
+}
+
+/// Whether an imprint is the request's: the same algorithm, parameters and hash.
+fn has_imprint(imprint: &MessageImprint<'_>, request: &Request<'_>) -> bool
+    ensures { IsTrue result ↔ (imprint_view imprint.now ≡ (request_view request.now).imprint) }
+{
+    oids_have_one_content_and_text();
+    encodings_are_read();
+    let parameters = match &imprint.parameters {
+        None => None,
+        Some(parameters) => Some(parameters.octets()),
+    };
+    imprint.algorithm.content() == request.algorithm()
+        && are_same_octets(parameters, request.parameters())
+        && imprint.hash == request.hash()
+}
+
+/// Whether octets are the same, or both absent.
+fn are_same_octets(one: Option<&[u8]>, other: Option<&[u8]>) -> bool
+    ensures { IsTrue result ↔ (option_map (λ o. o.now) one.entry ≡ option_map (λ o. o.now) other.entry) }
+{
+    match (one, other) {
+        (None, None) => true,
+        (Some(one), Some(other)) => one == other,
+        (None, Some(_)) | (Some(_), None) => false,
+    }
+}

@@ -1,0 +1,16 @@
+//! An auditor's extract of the stamps that a counter gave, and a check of each stamp from its octets.
+#![tactic(auto)]
+
+mod auditor;
+mod check;
+mod extracting;
+mod fault;
+mod line;
+#[cfg(test)]
+mod tests;
+mod writing;
+
+pub use check::check_row;
+pub use extracting::{Extracted, extract, extract_length, write_extract};
+pub use fault::ExtractFault;
+pub use writing::write_octets;

@@ -1,0 +1,5 @@
+//! Worked rows.
+mod checking;
+mod extracting;
+mod refusals;
+mod setting;
