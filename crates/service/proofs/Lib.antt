@@ -1,3 +1,4 @@
+pub mod ExtractLemmas
 pub mod HeadLemmas
 pub mod Rows
 pub mod ServingLemmas

@@ -1,13 +1,20 @@
 -- What is written, and why.
-use Rattle.std.proofs.Common.{◌≡◌, ◌⊎◌, ℕ, ℤ, List, Option, Result, Ok, Err, refl, inl, inr}
+use Rattle.std.proofs.Common.{◌≡◌, ◌∙◌, ◌⊎◌, ℕ, ◌+◌, ℤ, List, ◌++◌, Option, Result, Ok, Err, length, take, drop}
+use Rattle.std.proofs.Common.{refl, ap, inl, inr}
+use Rattle.std.proofs.lemmas.List.{take_at, drop_at}
+use lib.Seq.{take-add}
 use Rattle.sqlite_trees.specs.declared.store.Store.{Ghosts}
 use Rattle.cms.specs.declared.signer.SignerFault.{SignerFault}
 use Rattle.desk.specs.Command.{Command, Answer}
 use Rattle.desk.specs.Stepped.{DeskValue}
+use Rattle.policy.specs.Record.{AccountValue}
 use Rattle.service.specs.Answers.{AnswerValue, answer_to, refusal_answer}
-use Rattle.service.specs.Requests.{IsEarly}
-use Rattle.service.specs.Served.{Turn, IsIdle, Reads, Sends, SendsOrWants, unavailable, Takes, IsAnswer, refuses}
-use Rattle.service.specs.Served.{replies, wants_early, wants_idle, wants_after, Writes, Serves}
+use Rattle.service.specs.Refusals.{refusal_of_extract}
+use Rattle.service.specs.Extracting.{ServesExtract, extracted, kept_back, unanswered}
+use Rattle.service.specs.Requests.{Step, Extract, IsEarly}
+use Rattle.service.specs.Served.{Turn, IsIdle, IsLook, Reads, Sends, SendsOrWants, SendsOctets, unavailable, Takes}
+use Rattle.service.specs.Served.{IsAnswer, refuses, replies, keeps_back, wants_early, wants_idle, wants_after}
+use Rattle.service.specs.Served.{wants_looking, Writes, Extracts, Serves}
 use Rattle.service.specs.declared.refusal.Refusal.{Refusal}
 use Rattle.service.specs.declared.served.Served.{Served}
 use Rattle.service.specs.declared.served.Served.TheVariants as served
@@ -32,9 +39,9 @@ module _ {W S X : Type 0} (g : Ghosts S) (signs : X → List ℕ → Result (Lis
   pub sends : (a : AnswerValue) (outcome : Served) → IsAnswer g signs count reading t a
       → Sends contents t.writer t.writer_after a outcome → Serves g signs count contents reading t outcome
   sends a served.Closed why sent = absurd sent
-  sends a (served.Answered status) why sent = record { answer = a; is = why; sent = sent }
+  sends a (served.Answered status) why sent = inl (record { answer = a; is = why; sent = sent })
   sends a served.ReadFailed why sent = absurd sent
-  sends a (served.WriteFailed status taken) why sent = record { answer = a; is = why; sent = sent }
+  sends a (served.WriteFailed status taken) why sent = inl (record { answer = a; is = why; sent = sent })
 
   either : (a : AnswerValue) (outcome : Served) → IsAnswer g signs count reading t a
       → IsAnswer g signs count reading t unavailable → SendsOrWants contents t.writer t.writer_after a outcome
@@ -48,7 +55,7 @@ module _ {W S X : Type 0} (g : Ghosts S) (signs : X → List ℕ → Result (Lis
   refusing r outcome reads idle sent =
       either (refusal_answer r) outcome (refuses r reads idle refl) (wants_idle r reads idle refl) sent
 
-  pub replying : (c : Command) (outcome : Served) → Reads reading t (Ok c) → (reply : Answer)
+  pub replying : (c : Command) (outcome : Served) → Reads reading t (Ok (Step c)) → (reply : Answer)
       → Takes g signs count t c reply
       → (a : AnswerValue) → a ≡ answer_to c reply → SendsOrWants contents t.writer t.writer_after a outcome
       → Serves g signs count contents reading t outcome
@@ -58,3 +65,46 @@ module _ {W S X : Type 0} (g : Ghosts S) (signs : X → List ℕ → Result (Lis
   pub wanting_early : (outcome : Served) → IsEarly t.input t.input_after → IsIdle t
       → Sends contents t.writer t.writer_after unavailable outcome → Serves g signs count contents reading t outcome
   wanting_early outcome early idle sent = sends unavailable outcome (wants_early early idle refl) sent
+
+  -- an extract of which some octets are sent
+  extracting : (outcome : Served) → SendsOctets contents t.writer t.writer_after outcome
+      → Extracts g signs count contents reading t outcome → Serves g signs count contents reading t outcome
+  extracting served.Closed octets is = absurd octets
+  extracting (served.Answered status) octets is = inr is
+  extracting served.ReadFailed octets is = absurd octets
+  extracting (served.WriteFailed status taken) octets is = inr is
+
+  pub answering_auditor : (account : AccountValue) (from to : ℕ) (outcome : Served)
+      → Reads reading t (Ok (Extract account from to)) → IsLook g signs count t
+      → ServesExtract g contents t.writer t.writer_after t.desk.store t.desk_after.store t.desk.setting.file account
+      from to outcome
+      → Serves g signs count contents reading t outcome
+  answering_auditor account from to outcome reads look (extracted allowed sent told) =
+      extracting outcome told (record {
+        account = account;
+        from = from;
+        to = to;
+        read = reads;
+        allowed = allowed;
+        look = look;
+        sent = sent;
+        told = told;
+      })
+  answering_auditor account from to outcome reads look (kept_back f comes unasked counted long sent) =
+      sends (refusal_answer (refusal_of_extract f)) outcome
+      (keeps_back account from to reads f (record {
+        look = look;
+        comes = comes;
+        unasked = unasked;
+        counted = counted;
+        long = long;
+      }) refl)
+      sent
+  answering_auditor account from to outcome reads look (unanswered sent) =
+      sends unavailable outcome (wants_looking account from to reads look refl) sent
+
+-- a front of a text that is joined of two, longer than the first
+pub front_of_joined : (a b : List ℕ) (n : ℕ) → take (length a + n) (a ++ b) ≡ a ++ take n b
+front_of_joined a b n =
+    take-add (length a) n (a ++ b) ∙ ap (λ l. l ++ take n (drop (length a) (a ++ b))) (take_at a b (length a) refl)
+    ∙ ap (λ l. a ++ take n l) (drop_at a b (length a) refl)

@@ -6,7 +6,9 @@ use Rattle.http.specs.StatusCode.{reason_phrase}
 use Rattle.gentime.specs.GenTime.{text_of}
 use Rattle.der.specs.Node.{encoding}
 use Rattle.tsp.specs.Rejection.{rejection}
+use Rattle.store.specs.History.{History}
 use Rattle.store.specs.Rights.{ListedValue}
+use Rattle.audit.specs.Extract.{extract_text}
 use Rattle.desk.specs.Command.{Command, Stamp, Begin, Finish, Abandon, Deposit, Show, Token, ListAll, Grant, Revoke}
 use Rattle.desk.specs.Command.{Calibrate, Hold, Answer, Stamped, Rejected, Begun, Kept, Shown, Listed, Done, Refused}
 use Rattle.service.specs.Refusals.{status_of, word_of, refusal_of}
@@ -16,11 +18,12 @@ use Rattle.service.specs.declared.answer.Media.TheVariants as media
 use Rattle.service.specs.declared.refusal.Refusal.{Refusal}
 use Rattle.service.specs.declared.refusal.Refusal.TheVariants as refusal
 
--- the media types (RFC 3161 3.4, RFC 2046 4)
+-- the media types (RFC 3161 3.4, RFC 2046 4, RFC 4180 3)
 abbrev pub media_type : Media → List ℕ
 media_type media.Reply = codes "application/timestamp-reply"
 media_type media.Octets = codes "application/octet-stream"
 media_type media.Text = codes "text/plain"
+media_type media.Csv = codes "text/csv"
 
 -- an answer: its status, the type of its body, the methods that `Allow` tells where it does, and the body
 pub record AnswerValue : Type 0 where
@@ -102,3 +105,7 @@ answer_to c Done = success 200 media.Text []
 answer_to c (Refused fault) = refusal_answer (refusal_of fault)
 -- no request asks for what begins a stamp alone
 answer_to c (Begun p) = refusal_answer refusal.Unavailable
+
+-- the answer with the extract of a history: its stamps with serial numbers from the first on and up to the second
+abbrev pub extract_answer : ℕ → ℕ → History → AnswerValue
+extract_answer from to b = success 200 media.Csv (extract_text from to b)

@@ -9,7 +9,7 @@ use Rattle.policy.specs.Record.{AccountValue, PolicyValue}
 use Rattle.service.specs.Fields.{Stated, Never, Once, Twice, stated, same_letters}
 use Rattle.service.specs.Heads.{HeadValue}
 use Rattle.service.specs.Numbers.{length_in, number_in, is_reference}
-use Rattle.service.specs.Routes.{place_of, action_of, number_part}
+use Rattle.service.specs.Routes.{place_of, action_of, number_part, from_part, to_part}
 use Rattle.service.specs.declared.refusal.Refusal.{Refusal}
 use Rattle.service.specs.declared.refusal.Refusal.TheVariants as refusal
 use Rattle.service.specs.declared.routes.Action.{Action}
@@ -58,6 +58,7 @@ has_body action.Show = false
 has_body action.Token = false
 has_body action.Grant = false
 has_body action.Revoke = false
+has_body action.Extract = false
 
 -- the most octets of a body
 abbrev pub most_body : ℕ
@@ -93,6 +94,7 @@ is_stamp action.Show = false
 is_stamp action.Token = false
 is_stamp action.Grant = false
 is_stamp action.Revoke = false
+is_stamp action.Extract = false
 
 -- a type is asked of a time-stamp request alone
 abbrev pub typed : HeadValue → Action → Result (Unit {0}) Refusal
@@ -136,6 +138,13 @@ active_account file h = account_shown file h >>= active
 -- The target's number is one.
 abbrev pub number_stated : HeadValue → Result ℕ Refusal
 number_stated h = given_or refusal.NotHere (number_in (number_part h.target))
+
+-- The target's two numbers are ones: the first serial number of a range, and the last.
+abbrev pub range_stated : HeadValue → Result (ℕ × ℕ) Refusal
+range_stated h = do
+  from ← given_or refusal.BadRange (number_in (from_part h.target))
+  to ← given_or refusal.BadRange (number_in (to_part h.target))
+  Ok (from, to)
 
 -- One field tells the reference.
 abbrev pub reference_stated : HeadValue → Result (List ℕ) Refusal

@@ -1,5 +1,6 @@
 pub mod Answers
 pub mod Checks
+pub mod Extracting
 pub mod Fields
 pub mod Heads
 pub mod Numbers

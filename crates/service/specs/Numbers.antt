@@ -13,11 +13,11 @@ is_digits most octets = (nat_le 1 (length octets) && nat_le (length octets) most
 abbrev pub length_in : List ℕ → Option ℕ
 length_in octets = if is_digits 18 octets then Some (digits_value 10 octets) else None
 
--- the greatest number of a deposit
+-- the greatest serial number, and so the greatest number of a deposit
 abbrev pub greatest : ℕ
 greatest = 2 ^ 63 - 1
 
--- the number of a deposit: 1 to 2^63 - 1, without a leading zero, so of at most 19 digits
+-- a serial number, as a deposit's number is one: 1 to 2^63 - 1, without a leading zero, so of at most 19 digits
 abbrev pub number_in : List ℕ → Option ℕ
 number_in octets =
     if is_digits 19 octets && not (slice_index octets 0 == 0x30) && nat_le (digits_value 10 octets) greatest

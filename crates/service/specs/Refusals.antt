@@ -5,6 +5,8 @@ use Rattle.tsp.specs.declared.rule.Rule.{Rule}
 use Rattle.tsp.specs.declared.rule.Rule.TheVariants.{Clock}
 use Rattle.desk.specs.declared.fault.Fault.{Fault}
 use Rattle.desk.specs.declared.fault.Fault.TheVariants as fault
+use Rattle.audit.specs.declared.fault.ExtractFault.{ExtractFault}
+use Rattle.audit.specs.declared.fault.ExtractFault.TheVariants as extract
 use Rattle.service.specs.declared.refusal.Refusal.{Refusal}
 use Rattle.service.specs.declared.refusal.Refusal.TheVariants as refusal
 
@@ -29,6 +31,8 @@ status_of refusal.NotOwner = 403
 status_of refusal.Conflict = 409
 status_of refusal.UnknownReader = 400
 status_of refusal.SelfGrant = 400
+status_of refusal.NotAuditor = 403
+status_of refusal.BadRange = 400
 status_of (refusal.Rule rule) = status_of_rule rule
 status_of refusal.Unavailable = 503
 
@@ -48,6 +52,8 @@ word_of refusal.NotOwner = codes "NotOwner"
 word_of refusal.Conflict = codes "Conflict"
 word_of refusal.UnknownReader = codes "UnknownReader"
 word_of refusal.SelfGrant = codes "SelfGrant"
+word_of refusal.NotAuditor = codes "NotAuditor"
+word_of refusal.BadRange = codes "BadRange"
 word_of (refusal.Rule rule) = reason (number_of rule)
 word_of refusal.Unavailable = codes "Unavailable"
 
@@ -63,3 +69,11 @@ refusal_of (fault.Rejected rule) = refusal.Rule rule
 refusal_of fault.Memory = refusal.Unavailable
 refusal_of fault.Store = refusal.Unavailable
 refusal_of fault.Signer = refusal.Unavailable
+
+-- the refusal that an extract's is
+abbrev pub refusal_of_extract : ExtractFault → Refusal
+refusal_of_extract extract.NotAuditor = refusal.NotAuditor
+refusal_of_extract extract.Range = refusal.BadRange
+refusal_of_extract extract.Memory = refusal.Unavailable
+refusal_of_extract extract.Store = refusal.Unavailable
+refusal_of_extract extract.Write = refusal.Unavailable

@@ -1,17 +1,23 @@
--- What a request asks for: a command for the desk, or it is refused.
+-- What a request asks for: a command for the desk or an extract for an auditor, or it is refused.
 use Rattle.std.specs.Prelude.{◌≡◌, ℕ, ◌<◌, ℤ, List, [], ◌++◌, length, Option, Result, Ok, Err}
 use Rattle.std.specs.Io.KnownBytes.{Consumes, IsAtEnd}
 use Rattle.httparse.specs.Grammar.{RequestHead, print_request}
 use Rattle.policy.specs.Record.{AccountValue, PolicyValue}
 use Rattle.desk.specs.Command.{Command, Stamp, Deposit, Show, Token, ListAll, Grant, Revoke}
 use Rattle.service.specs.Checks.{◌>>=◌, WantedValue, wanted_by, account_shown, active_account, number_stated}
-use Rattle.service.specs.Checks.{reference_stated}
+use Rattle.service.specs.Checks.{reference_stated, range_stated}
 use Rattle.service.specs.Heads.{HeadValue, head_value, IsHead, IsBegun, IsHeadless}
 use Rattle.service.specs.Routes.{name_part}
 use Rattle.service.specs.declared.refusal.Refusal.{Refusal}
 use Rattle.service.specs.declared.refusal.Refusal.TheVariants as refusal
 use Rattle.service.specs.declared.routes.Action.{Action}
 use Rattle.service.specs.declared.routes.Action.TheVariants as action
+
+-- What is asked for: that the desk takes a command's step; or, by an account, an extract of the stamps with serial
+-- numbers from the first number on and up to the second.
+pub data Asked : Type 0 where
+  Step : Command → Asked
+  Extract : AccountValue → ℕ → ℕ → Asked
 
 -- an active account and the target's number
 abbrev pub account_and_number : PolicyValue → HeadValue → Result (AccountValue × ℕ) Refusal
@@ -20,33 +26,43 @@ account_and_number file h = do
   number ← number_stated h
   Ok (account, number)
 
--- The checks of a whole request, and the command that it asks for; the reading is the clock's, in microseconds.
-abbrev pub command_of : PolicyValue → ℤ → HeadValue → List ℕ → Action → Result Command Refusal
-command_of file reading h body action.Stamp = do
+-- an active account and the target's two numbers
+abbrev pub account_and_range : PolicyValue → HeadValue → Result (AccountValue × ℕ × ℕ) Refusal
+account_and_range file h = do
+  account ← active_account file h
+  (from, to) ← range_stated h
+  Ok (account, from, to)
+
+-- The checks of a whole request, and what it asks for; the reading is the clock's, in microseconds.
+abbrev pub asked_by : PolicyValue → ℤ → HeadValue → List ℕ → Action → Result Asked Refusal
+asked_by file reading h body action.Stamp = do
   account ← account_shown file h
-  Ok (Stamp account reading body)
-command_of file reading h body action.Keep = do
+  Ok (Step (Stamp account reading body))
+asked_by file reading h body action.Keep = do
   account ← active_account file h
   reference ← reference_stated h
-  Ok (Deposit account reading reference body)
-command_of file reading h body action.List = do
+  Ok (Step (Deposit account reading reference body))
+asked_by file reading h body action.List = do
   account ← active_account file h
-  Ok (ListAll account)
-command_of file reading h body action.Show = do
+  Ok (Step (ListAll account))
+asked_by file reading h body action.Show = do
   (account, number) ← account_and_number file h
-  Ok (Show account number)
-command_of file reading h body action.Token = do
+  Ok (Step (Show account number))
+asked_by file reading h body action.Token = do
   (account, number) ← account_and_number file h
-  Ok (Token account number)
-command_of file reading h body action.Grant = do
+  Ok (Step (Token account number))
+asked_by file reading h body action.Grant = do
   (account, number) ← account_and_number file h
-  Ok (Grant account number (name_part h.target))
-command_of file reading h body action.Revoke = do
+  Ok (Step (Grant account number (name_part h.target)))
+asked_by file reading h body action.Revoke = do
   (account, number) ← account_and_number file h
-  Ok (Revoke account number (name_part h.target))
+  Ok (Step (Revoke account number (name_part h.target)))
+asked_by file reading h body action.Extract = do
+  (account, from, to) ← account_and_range file h
+  Ok (Extract account from to)
 
 -- What was read, from what a reader had left to what it has left then, and no octet behind it:
-pub data IsRequest (file : PolicyValue) (reading : ℤ) (old new : Option (List ℕ)) (asked : Result Command Refusal)
+pub data IsRequest (file : PolicyValue) (reading : ℤ) (old new : Option (List ℕ)) (asked : Result Asked Refusal)
     : Type 0 where
   -- octets that no head begins, whatever follows
   headless : (octets : List ℕ) → IsHeadless octets → Consumes old new octets → asked ≡ Err refusal.BadRequest
@@ -64,7 +80,7 @@ pub data IsRequest (file : PolicyValue) (reading : ℤ) (old new : Option (List 
   -- a head and its body
   whole : (h : RequestHead) → IsHead (print_request h) h → (w : WantedValue) → wanted_by (head_value h) ≡ Ok w
       → (body : List ℕ) → length body ≡ w.count → Consumes old new (print_request h ++ body)
-      → asked ≡ command_of file reading (head_value h) body w.action → IsRequest file reading old new asked
+      → asked ≡ asked_by file reading (head_value h) body w.action → IsRequest file reading old new asked
 
 -- A part of a request was read, to which at least one octet is wanting, and no octet behind it.
 pub data IsPart (old new : Option (List ℕ)) : Type 0 where

@@ -26,11 +26,12 @@ with_route text p routes = joined (parse_route text) p routes
 
 unfoldable pub routes : Routes
 routes =
-    with_route (codes "/deposits/{number}/readers/{name}") place.Reader
+    with_route (codes "/audit/{from}/{to}") place.Audit
+    (with_route (codes "/deposits/{number}/readers/{name}") place.Reader
     (with_route (codes "/deposits/{number}/token") place.Token
     (with_route (codes "/deposits/{number}") place.Deposit
     (with_route (codes "/deposits") place.Deposits
-    (with_route (codes "/tsp") place.Tsp []))))
+    (with_route (codes "/tsp") place.Tsp [])))))
 
 -- the place that a target names, as it was sent
 abbrev pub place_of : List ℕ → Option Place
@@ -43,6 +44,7 @@ methods_of place.Deposits = codes "GET, POST"
 methods_of place.Deposit = codes "GET"
 methods_of place.Token = codes "GET"
 methods_of place.Reader = codes "PUT, DELETE"
+methods_of place.Audit = codes "GET"
 
 abbrev pub action_where : List ℕ → List ℕ → Action → Option Action → Option Action
 action_where method name a other = if bytes_eq method name then Some a else other
@@ -56,6 +58,7 @@ action_of place.Deposit method = action_where method (codes "GET") action.Show N
 action_of place.Token method = action_where method (codes "GET") action.Token None
 action_of place.Reader method =
     action_where method (codes "PUT") action.Grant (action_where method (codes "DELETE") action.Revoke None)
+action_of place.Audit method = action_where method (codes "GET") action.Extract None
 
 -- what stands behind the first slash
 abbrev pub behind_slash : List ℕ → List ℕ
@@ -72,3 +75,11 @@ number_part target = before_slash (behind_slash (behind_slash target))
 -- the segment that stands for {name}, behind `/deposits/{number}/readers/`
 abbrev pub name_part : List ℕ → List ℕ
 name_part target = behind_slash (behind_slash (behind_slash (behind_slash target)))
+
+-- the segment that stands for {from}, behind `/audit/`
+abbrev pub from_part : List ℕ → List ℕ
+from_part target = before_slash (behind_slash (behind_slash target))
+
+-- the segment that stands for {to}, behind `/audit/{from}/`
+abbrev pub to_part : List ℕ → List ℕ
+to_part target = behind_slash (behind_slash (behind_slash target))

@@ -1,12 +1,26 @@
 -- What `serve_one` does: it reads one request, has the desk take the one step that it asks for, and writes one answer.
-use Rattle.std.specs.Prelude.{◌≡◌, ◌⊎◌, ℕ, ◌<◌, ℤ, List, [], length, take, Option, Result, Ok, Err}
+use Rattle.std.specs.Prelude.{◌≡◌, ◌⊎◌, ℕ, ◌<◌, ◌≤◌, ◌^◌, ℤ, List, [], length, take, Option, Result, Ok, Err}
 use Rattle.std.specs.Io.KnownBytes.{Appends, Consumes, IsAtEnd}
 use Rattle.sqlite_trees.specs.declared.store.Store.{Ghosts}
 use Rattle.cms.specs.declared.signer.SignerFault.{SignerFault}
-use Rattle.desk.specs.Command.{Command, Stamp, Deposit, Answer}
+use Rattle.tsp.specs.Rules.{IsFirstFailing}
+use Rattle.tsp.specs.declared.rule.Rule.{Rule}
+use Rattle.policy.specs.Record.{AccountValue}
+use Rattle.tables.specs.Base.{IsHonest}
+use Rattle.store.specs.History.{History}
+use Rattle.store.specs.Stands.{Stands, OnlyLooks}
+use Rattle.desk.specs.Command.{Command, Stamp, Deposit, Answer, Rejected}
+use Rattle.desk.specs.Findings.{HoldsUnasked}
 use Rattle.desk.specs.Stepped.{DeskValue, IsStep, no_signer, with_signer}
-use Rattle.service.specs.Answers.{AnswerValue, answer_text, answer_to, refusal_answer}
-use Rattle.service.specs.Requests.{IsRequest, IsPart, IsEarly}
+use Rattle.audit.specs.Auditor.{IsAllowed, ComesWhere, IfUnasked}
+use Rattle.audit.specs.Extract.{extract_text}
+use Rattle.audit.specs.Fault.{count_after}
+use Rattle.audit.specs.declared.fault.ExtractFault.{ExtractFault}
+use Rattle.audit.specs.declared.fault.ExtractFault.TheVariants.{Write}
+use Rattle.service.specs.Answers.{AnswerValue, answer_text, answer_to, extract_answer, refusal_answer, success}
+use Rattle.service.specs.Refusals.{refusal_of_extract}
+use Rattle.service.specs.Requests.{Asked, Step, Extract, IsRequest, IsPart, IsEarly}
+use Rattle.service.specs.declared.answer.Media.TheVariants as media
 use Rattle.service.specs.declared.refusal.Refusal.{Refusal}
 use Rattle.service.specs.declared.refusal.Refusal.TheVariants as refusal
 use Rattle.service.specs.declared.served.Served.{Served}
@@ -34,7 +48,7 @@ pub record IsSilent {W S X : Type 0} (t : Turn W S X) : Type 0 where
   pub idle : IsIdle t
 
 -- what was read is a request by the desk's policy file that asks for this, and no octet behind it
-abbrev pub Reads : {W S X : Type 0} → ℤ → Turn W S X → Result Command Refusal → Type 0
+abbrev pub Reads : {W S X : Type 0} → ℤ → Turn W S X → Result Asked Refusal → Type 0
 Reads reading t asked = IsRequest t.desk.setting.file reading t.input t.input_after asked
 
 -- of a text that an answer of that status has, what is written
@@ -57,6 +71,16 @@ abbrev pub SendsOrWants : {W : Type 0} → (W → Option (List ℕ)) → W → W
 SendsOrWants contents old new a outcome =
     Sends contents old new a outcome ⊎ Sends contents old new unavailable outcome
 
+-- Of the octets of an extract's answer, whatever the disk does: a whole one has the length that it states; and of
+-- another, as many were written as is told.
+abbrev pub SendsOctets : {W : Type 0} → (W → Option (List ℕ)) → W → W → Served → Type 0
+SendsOctets contents old new served.Closed = ⊥
+SendsOctets contents old new (served.Answered told) =
+    (body : List ℕ) × Sends contents old new (success 200 media.Csv body) (served.Answered told)
+SendsOctets contents old new served.ReadFailed = ⊥
+SendsOctets contents old new (served.WriteFailed told sent) =
+    (told ≡ 200) × (octets : List ℕ) × (length octets ≡ sent) × Appends (contents old) (contents new) octets
+
 module _ {S X : Type 0} (g : Ghosts S) (signs : X → List ℕ → Result (List ℕ) SignerFault → X → Type 0) (count : X
     → ℕ) where
   -- the desk takes the command's step and no other; the signer moves by it, and stays where the step asks none
@@ -64,6 +88,9 @@ module _ {S X : Type 0} (g : Ghosts S) (signs : X → List ℕ → Result (List 
   Steps old new signer signer' (Stamp account reading octets) answer =
       IsStep g (with_signer signs count signer signer') old.setting (Stamp account reading octets) old.store new.store
       answer
+      -- one of the rules 1 to 9 rejects it whatever store and signer do
+      × ((rule : Rule) → IsFirstFailing (HoldsUnasked old.setting.file account octets) rule
+      → (answer ≡ Rejected rule) × (new ≡ old) × (signer' ≡ signer))
   Steps old new signer signer' (Deposit account reading reference octets) answer =
       IsStep g (with_signer signs count signer signer') old.setting (Deposit account reading reference octets)
       old.store new.store answer
@@ -73,20 +100,43 @@ module _ {S X : Type 0} (g : Ghosts S) (signs : X → List ℕ → Result (List 
   abbrev pub Takes : {W : Type 0} → Turn W S X → Command → Answer → Type 0
   Takes t c answer = Steps t.desk t.desk_after t.signer t.signer_after c answer
 
+  -- the desk's store is looked into and changes nowhere, and the signer isn't asked
+  pub record IsLook {W : Type 0} (t : Turn W S X) : Type 0 where
+    pub store : OnlyLooks g t.desk.store t.desk_after.store
+    pub signer : t.signer_after ≡ t.signer
+
+  -- An extract is refused, where that refusal comes; the store's are counted. What can't be written has 2^64 octets or
+  -- more.
+  pub record IsKeptBack {W : Type 0} (t : Turn W S X) (account : AccountValue) (from to : ℕ) (f : ExtractFault)
+      : Type 0 where
+    pub look : IsLook t
+    pub comes : ComesWhere t.desk.setting.file account from to f
+    pub unasked : IfUnasked (t.desk_after.store ≡ t.desk.store) f
+    pub counted : t.desk_after.store.faults ≡ count_after f t.desk.store.faults
+    pub long : IsHonest g t.desk_after.store → (b : History) → Stands g b t.desk.store → f ≡ Write
+        → 2 ^ 64 ≤ length (extract_text from to b)
+
   -- why an answer is written
   pub data IsAnswer {W : Type 0} (reading : ℤ) (t : Turn W S X) (a : AnswerValue) : Type 0 where
     -- the request is refused
     refuses : (r : Refusal) → Reads reading t (Err r) → IsIdle t → a ≡ refusal_answer r → IsAnswer reading t a
     -- the desk takes the step that the request asks for, and the answer tells its reply
-    replies : (c : Command) → Reads reading t (Ok c) → (reply : Answer) → Takes t c reply → a ≡ answer_to c reply
+    replies : (c : Command) → Reads reading t (Ok (Step c)) → (reply : Answer) → Takes t c reply → a ≡ answer_to c reply
+        → IsAnswer reading t a
+    -- the extract that the request asks for is refused
+    keeps_back : (account : AccountValue) (from to : ℕ) → Reads reading t (Ok (Extract account from to))
+        → (f : ExtractFault) → IsKeptBack t account from to f → a ≡ refusal_answer (refusal_of_extract f)
         → IsAnswer reading t a
     -- memory is wanting before the body is read
     wants_early : IsEarly t.input t.input_after → IsIdle t → a ≡ unavailable → IsAnswer reading t a
     -- memory is wanting for the answer that refuses the request
     wants_idle : (r : Refusal) → Reads reading t (Err r) → IsIdle t → a ≡ unavailable → IsAnswer reading t a
     -- memory is wanting for the answer, once that step is taken
-    wants_after : (c : Command) → Reads reading t (Ok c) → (reply : Answer) → Takes t c reply → a ≡ unavailable
+    wants_after : (c : Command) → Reads reading t (Ok (Step c)) → (reply : Answer) → Takes t c reply → a ≡ unavailable
         → IsAnswer reading t a
+    -- memory is wanting for the extract, or for the answer that refuses it
+    wants_looking : (account : AccountValue) (from to : ℕ) → Reads reading t (Ok (Extract account from to)) → IsLook t
+        → a ≡ unavailable → IsAnswer reading t a
 
   -- an answer is written, for a reason
   pub record Writes {W : Type 0} (contents : W → Option (List ℕ)) (reading : ℤ) (t : Turn W S X) (outcome : Served)
@@ -95,10 +145,26 @@ module _ {S X : Type 0} (g : Ghosts S) (signs : X → List ℕ → Result (List 
     pub is : IsAnswer reading t answer
     pub sent : Sends contents t.writer t.writer_after answer outcome
 
+  -- The extract that the request asks for is written, row by row: it is that of each history that the store stands for.
+  -- A store that fails between two rows leaves a beginning of the answer.
+  pub record Extracts {W : Type 0} (contents : W → Option (List ℕ)) (reading : ℤ) (t : Turn W S X) (outcome : Served)
+      : Type 0 where
+    pub account : AccountValue
+    pub from : ℕ
+    pub to : ℕ
+    pub read : Reads reading t (Ok (Extract account from to))
+    pub allowed : IsAllowed t.desk.setting.file account from to
+    pub look : IsLook t
+    pub sent : IsHonest g t.desk_after.store → (b : History) → Stands g b t.desk.store
+        → Sends contents t.writer t.writer_after (extract_answer from to b) outcome
+    pub told : SendsOctets contents t.writer t.writer_after outcome
+
   -- what each outcome says
   abbrev pub Serves : {W : Type 0} → (W → Option (List ℕ)) → ℤ → Turn W S X → Served → Type 0
   Serves contents reading t served.Closed = Consumes t.input t.input_after [] × IsAtEnd t.input_after × IsSilent t
   Serves contents reading t served.ReadFailed = IsPart t.input t.input_after × IsSilent t
-  Serves contents reading t (served.Answered status) = Writes contents reading t (served.Answered status)
+  Serves contents reading t (served.Answered status) =
+      Writes contents reading t (served.Answered status) ⊎ Extracts contents reading t (served.Answered status)
   Serves contents reading t (served.WriteFailed status sent) =
       Writes contents reading t (served.WriteFailed status sent)
+      ⊎ Extracts contents reading t (served.WriteFailed status sent)

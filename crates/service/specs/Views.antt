@@ -24,6 +24,9 @@ use Rattle.service.specs.declared.performing.Performed.TheVariants as performed
 use Rattle.service.specs.Checks.{WantedValue}
 use Rattle.service.specs.Fields.{Stated, Never, Once, Twice}
 use Rattle.service.specs.Heads.{HeadValue}
+use Rattle.service.specs.Requests as requests
+use Rattle.service.specs.declared.demand.Asked.{Asked}
+use Rattle.service.specs.declared.demand.Asked.TheVariants as asked
 use Rattle.service.specs.declared.demand.Demand.{Demand}
 use Rattle.service.specs.declared.demand.Demand.TheVariants as demand
 use Rattle.service.specs.declared.fields.Found.{Found}
@@ -93,3 +96,7 @@ demand_view reading (demand.Show account number) = command.Show (account_view ac
 demand_view reading (demand.Token account number) = command.Token (account_view account.now) number
 demand_view reading (demand.Grant account number name) = command.Grant (account_view account.now) number name.now
 demand_view reading (demand.Revoke account number name) = command.Revoke (account_view account.now) number name.now
+
+abbrev pub asked_view : ℤ → Asked → requests.Asked
+asked_view reading (asked.Step demand) = requests.Step (demand_view reading demand)
+asked_view reading (asked.Extract account from to) = requests.Extract (account_view account.now) from to

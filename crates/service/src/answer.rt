@@ -21,6 +21,8 @@ pub(crate) enum Media {
     Octets,
     /// Text.
     Text,
+    /// Comma-separated values.
+    Csv,
 }
 
 impl Media {
@@ -32,6 +34,7 @@ impl Media {
             Media::Reply => "application/timestamp-reply",
             Media::Octets => "application/octet-stream",
             Media::Text => "text/plain",
+            Media::Csv => "text/csv",
         }
     }
 }

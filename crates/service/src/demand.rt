@@ -2,12 +2,13 @@
 ghost use Rattle.std.specs.Prelude.{◌≡◌, ℤ};
 ghost use Rattle.policy.specs.View.{account_view, policy_view};
 ghost use Rattle.decide.specs.View.{account_asked};
-ghost use Rattle.service.specs.Checks.{account_shown, active, active_account, number_stated, reference_stated};
-ghost use Rattle.service.specs.Requests.{account_and_number, command_of};
+ghost use Rattle.service.specs.Checks.{account_shown, active, active_account, number_stated, range_stated};
+ghost use Rattle.service.specs.Checks.{reference_stated};
+ghost use Rattle.service.specs.Requests.{account_and_number, account_and_range, asked_by};
 ghost use Rattle.service.specs.declared.routes.Action.TheVariants.{Keep};
-ghost use Rattle.service.specs.Routes.{behind_slash, before_slash, name_part};
+ghost use Rattle.service.specs.Routes.{behind_slash, before_slash, name_part, from_part, to_part};
 ghost use Rattle.service.specs.Views.{head_view, IsInPlace, octets_given, result_by, account_given, account_found};
-ghost use Rattle.service.specs.Views.{demand_view};
+ghost use Rattle.service.specs.Views.{asked_view};
 
 use crate::fields::{Found, stated};
 use crate::head::Head;
@@ -60,6 +61,19 @@ pub(crate) enum Demand<'a> {
     },
 }
 
+/// What a request asks for.
+#[derive(Clone, Copy)]
+pub(crate) enum Asked<'a> {
+    /// A step of the desk.
+    Step(Demand<'a>),
+    /// The stamps with serial numbers from one on and up to another.
+    Extract {
+        account: &'a Account,
+        from: u64,
+        to: u64,
+    },
+}
+
 /// What stands behind the first slash.
 fn behind_slash(text: &str) -> &str
     ensures { result.now ≡ behind_slash text.now }
@@ -95,6 +109,33 @@ fn number_stated(head: Head<'_>) -> Result<u64, Refusal>
     match number_in(part.as_bytes()) {
         Some(number) => Ok(number),
         None => Err(Refusal::NotHere),
+    }
+}
+
+/// The first serial number in a target.
+fn from_part(target: &str) -> &str
+    ensures { result.now ≡ from_part target.now }
+{
+    before_slash(behind_slash(behind_slash(target)))
+}
+
+/// The last serial number in a target.
+fn to_part(target: &str) -> &str
+    ensures { result.now ≡ to_part target.now }
+{
+    behind_slash(behind_slash(behind_slash(target)))
+}
+
+/// The two serial numbers in a target.
+fn range_stated(head: Head<'_>) -> Result<(u64, u64), Refusal>
+    ensures { result ≡ range_stated (head_view head.entry) }
+{
+    let Some(from) = number_in(from_part(head.target).as_bytes()) else {
+        return Err(Refusal::BadRange);
+    };
+    match number_in(to_part(head.target).as_bytes()) {
+        Some(to) => Ok((from, to)),
+        None => Err(Refusal::BadRange),
     }
 }
 
@@ -166,22 +207,38 @@ fn of_number<'a>(policy: &'a Policy, head: Head<'a>) -> Result<(&'a Account, u64
     }
 }
 
-/// To take a deposit.
-fn keep<'a>(policy: &'a Policy, head: Head<'a>, bytes: &'a [u8]) -> Result<Demand<'a>, Refusal>
+/// What an extract's demand is.
+fn of_range<'a>(policy: &'a Policy, head: Head<'a>) -> Result<(&'a Account, u64, u64), Refusal>
     requires { IsInPlace head }
-    ensures { (reading : ℤ) → result_by (demand_view reading) result
-        ≡ command_of (policy_view policy.now) reading (head_view head.entry) bytes.now Keep }
+    ensures { result_by (λ p. (account_view p.0.now, p.1, p.2)) result
+        ≡ account_and_range (policy_view policy.now) (head_view head.entry) }
+{
+    let account = match active_account(policy, head) {
+        Ok(account) => account,
+        Err(refusal) => return Err(refusal),
+    };
+    match range_stated(head) {
+        Ok((from, to)) => Ok((account, from, to)),
+        Err(refusal) => Err(refusal),
+    }
+}
+
+/// To take a deposit.
+fn keep<'a>(policy: &'a Policy, head: Head<'a>, bytes: &'a [u8]) -> Result<Asked<'a>, Refusal>
+    requires { IsInPlace head }
+    ensures { (reading : ℤ) → result_by (asked_view reading) result
+        ≡ asked_by (policy_view policy.now) reading (head_view head.entry) bytes.now Keep }
 {
     let account = match active_account(policy, head) {
         Ok(account) => account,
         Err(refusal) => return Err(refusal),
     };
     match reference_stated(head) {
-        Ok(reference) => Ok(Demand::Keep {
+        Ok(reference) => Ok(Asked::Step(Demand::Keep {
             account,
             reference,
             bytes,
-        }),
+        })),
         Err(refusal) => Err(refusal),
     }
 }
@@ -192,46 +249,50 @@ pub(crate) fn asked_by<'a>(
     head: Head<'a>,
     action: Action,
     body: &'a [u8],
-) -> Result<Demand<'a>, Refusal>
+) -> Result<Asked<'a>, Refusal>
     requires { IsInPlace head }
-    ensures { (reading : ℤ) → result_by (demand_view reading) result
-        ≡ command_of (policy_view policy.now) reading (head_view head.entry) body.now action }
+    ensures { (reading : ℤ) → result_by (asked_view reading) result
+        ≡ asked_by (policy_view policy.now) reading (head_view head.entry) body.now action }
 {
     match action {
         Action::Stamp => match account_shown(policy, head) {
-            Ok(account) => Ok(Demand::Stamp {
+            Ok(account) => Ok(Asked::Step(Demand::Stamp {
                 account,
                 query: body,
-            }),
+            })),
             Err(refusal) => Err(refusal),
         },
         Action::Keep => keep(policy, head, body),
         Action::List => match active_account(policy, head) {
-            Ok(account) => Ok(Demand::List { account }),
+            Ok(account) => Ok(Asked::Step(Demand::List { account })),
             Err(refusal) => Err(refusal),
         },
         Action::Show => match of_number(policy, head) {
-            Ok((account, number)) => Ok(Demand::Show { account, number }),
+            Ok((account, number)) => Ok(Asked::Step(Demand::Show { account, number })),
             Err(refusal) => Err(refusal),
         },
         Action::Token => match of_number(policy, head) {
-            Ok((account, number)) => Ok(Demand::Token { account, number }),
+            Ok((account, number)) => Ok(Asked::Step(Demand::Token { account, number })),
             Err(refusal) => Err(refusal),
         },
         Action::Grant => match of_number(policy, head) {
-            Ok((account, number)) => Ok(Demand::Grant {
+            Ok((account, number)) => Ok(Asked::Step(Demand::Grant {
                 account,
                 number,
                 name: name_part(head.target),
-            }),
+            })),
             Err(refusal) => Err(refusal),
         },
         Action::Revoke => match of_number(policy, head) {
-            Ok((account, number)) => Ok(Demand::Revoke {
+            Ok((account, number)) => Ok(Asked::Step(Demand::Revoke {
                 account,
                 number,
                 name: name_part(head.target),
-            }),
+            })),
+            Err(refusal) => Err(refusal),
+        },
+        Action::Extract => match of_range(policy, head) {
+            Ok((account, from, to)) => Ok(Asked::Extract { account, from, to }),
             Err(refusal) => Err(refusal),
         },
     }

@@ -3,6 +3,7 @@
 
 mod answer;
 mod demand;
+mod extracting;
 mod fields;
 mod head;
 mod listing;

@@ -3,9 +3,10 @@ ghost use Rattle.std.specs.Prelude.{◌≡◌, ◌++◌, codes, IfOk, string_byt
 ghost use Rattle.std.specs.Fmt.{decimal};
 ghost use Rattle.tsp.specs.Rejection.{number_of, reason};
 ghost use Rattle.service.specs.Answers.{allowed_by, line_feed, refusal_body};
-ghost use Rattle.service.specs.Refusals.{status_of_rule, status_of, word_of, refusal_of};
+ghost use Rattle.service.specs.Refusals.{status_of_rule, status_of, word_of, refusal_of, refusal_of_extract};
 
 use crate::routes::Place;
+use audit::ExtractFault;
 use desk::Fault;
 use http::StatusCode;
 use std::alloc::{AllocError, Global};
@@ -44,6 +45,10 @@ pub(crate) enum Refusal {
     UnknownReader,
     /// An owner needs no right.
     SelfGrant,
+    /// Only an auditor may have an extract.
+    NotAuditor,
+    /// No range of serial numbers.
+    BadRange,
     /// A rule refuses a deposit's stamp.
     Rule(Rule),
     /// The store, the signer or memory didn't answer.
@@ -90,8 +95,9 @@ impl Refusal {
             | Refusal::BadLength
             | Refusal::BadReference
             | Refusal::UnknownReader
-            | Refusal::SelfGrant => StatusCode::BAD_REQUEST,
-            Refusal::NoAccount | Refusal::NotOwner => StatusCode::FORBIDDEN,
+            | Refusal::SelfGrant
+            | Refusal::BadRange => StatusCode::BAD_REQUEST,
+            Refusal::NoAccount | Refusal::NotOwner | Refusal::NotAuditor => StatusCode::FORBIDDEN,
             Refusal::NoRoute | Refusal::NotHere => StatusCode::NOT_FOUND,
             Refusal::Method(_) => StatusCode::METHOD_NOT_ALLOWED,
             Refusal::Conflict => StatusCode::CONFLICT,
@@ -124,6 +130,8 @@ impl Refusal {
             Refusal::Conflict => "Conflict",
             Refusal::UnknownReader => "UnknownReader",
             Refusal::SelfGrant => "SelfGrant",
+            Refusal::NotAuditor => "NotAuditor",
+            Refusal::BadRange => "BadRange",
             Refusal::Rule(rule) => word_of_rule(rule),
             Refusal::Unavailable => "Unavailable",
         }
@@ -167,6 +175,20 @@ impl From<Fault> for Refusal {
             Fault::TooLarge => Refusal::TooLarge,
             Fault::Rejected(rule) => Refusal::Rule(rule),
             Fault::Memory | Fault::Store | Fault::Signer => Refusal::Unavailable,
+        }
+    }
+}
+
+impl From<ExtractFault> for Refusal {
+    ghost from_gives = { λ fault refusal. refusal ≡ refusal_of_extract fault };
+
+    fn from(fault: ExtractFault) -> Refusal {
+        match fault {
+            ExtractFault::NotAuditor => Refusal::NotAuditor,
+            ExtractFault::Range => Refusal::BadRange,
+            ExtractFault::Memory | ExtractFault::Store | ExtractFault::Write => {
+                Refusal::Unavailable
+            }
         }
     }
 }

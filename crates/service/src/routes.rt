@@ -19,6 +19,8 @@ pub(crate) enum Place {
     Token,
     /// `/deposits/{number}/readers/{name}`: one who may see it.
     Reader,
+    /// `/audit/{from}/{to}`: the stamps with serial numbers from one on and up to another.
+    Audit,
 }
 
 /// What a method does at a place.
@@ -38,6 +40,8 @@ pub(crate) enum Action {
     Grant,
     /// Takes that right away.
     Revoke,
+    /// Writes stamps out for an auditor.
+    Extract,
 }
 
 /// Whether a method has that name, letter by letter.
@@ -55,7 +59,7 @@ impl Place {
         match self {
             Place::Tsp => "POST",
             Place::Deposits => "GET, POST",
-            Place::Deposit | Place::Token => "GET",
+            Place::Deposit | Place::Token | Place::Audit => "GET",
             Place::Reader => "PUT, DELETE",
         }
     }
@@ -72,6 +76,7 @@ impl Place {
             Place::Token if is_named(method, "GET") => Some(Action::Token),
             Place::Reader if is_named(method, "PUT") => Some(Action::Grant),
             Place::Reader if is_named(method, "DELETE") => Some(Action::Revoke),
+            Place::Audit if is_named(method, "GET") => Some(Action::Extract),
             _ => None,
         }
     }
@@ -101,6 +106,7 @@ fn routes(alloc: Global) -> Result<Router<Place>, InsertError>
         "/deposits/{number}/readers/{name}",
         Place::Reader,
     )?;
+    add(&mut router, "/audit/{from}/{to}", Place::Audit)?;
     Ok(router)
 }
 

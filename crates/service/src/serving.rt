@@ -9,12 +9,13 @@ ghost use Rattle.tables.specs.Base.{IsHonest};
 ghost use Rattle.service.specs.Answers.{AnswerValue, head_text, refusal_answer, success};
 ghost use Rattle.service.specs.Checks.{most_body};
 ghost use Rattle.service.specs.Heads.{IsHead, head_value};
-ghost use Rattle.service.specs.Requests.{IsRequest, command_of};
+ghost use Rattle.service.specs.Requests.{IsRequest, asked_by};
 ghost use Rattle.service.specs.Served.{SendsText, Sends, SendsOrWants, unavailable, Serves};
 ghost use Rattle.service.specs.Views.{head_view, IsInPlace, performed_answer};
 
 use crate::answer::{Media, head_text, unavailable};
-use crate::demand::asked_by;
+use crate::demand::{Asked, asked_by};
+use crate::extracting::serve_extract;
 use crate::head::{Head, head_at};
 use crate::performing::{Performed, perform};
 use crate::reading::{BodyRead, HeadRead, MOST_FIELDS, MOST_OCTETS, read_body, read_head};
@@ -46,7 +47,7 @@ fn serve_whole<W: Write, S: Alter + Drop, G: Signer>(
     ensures honest { IsHonest S.Store desk.new.store → IsHonest S.Store desk.old.store }
     ensures served { (before after : Option (List ℕ))
         → IsRequest desk.old.setting.file reading before after
-        (command_of desk.old.setting.file reading (head_view head.entry) body.now action)
+        (asked_by desk.old.setting.file reading (head_view head.entry) body.now action)
         → Serves S.Store G.signs G.fault_count W.contents reading (record {
           input = before;
           input_after = after;
@@ -60,9 +61,12 @@ fn serve_whole<W: Write, S: Alter + Drop, G: Signer>(
 {
     match asked_by(desk.policy(), head, action, body) {
         Err(refusal) => refuse(alloc, writer, refusal),
-        Ok(demand) => {
+        Ok(Asked::Step(demand)) => {
             let performed = perform(desk, demand, reading, signer);
             respond(alloc, writer, &performed)
+        }
+        Ok(Asked::Extract { account, from, to }) => {
+            serve_extract(alloc, writer, desk, account, from, to)
         }
     }
 }
@@ -127,7 +131,8 @@ fn serve_head<R: Read, W: Write, S: Alter + Drop, G: Signer>(
 /// before any octet, and `ReadFailed` where a read fails; nothing is written then, and nothing done. `WriteFailed`
 /// where a write fails or takes nothing; what the desk did stands. Want of memory here is answered by status 503. A
 /// desk that wants memory, or whose store or signer fails, is told by the reply's rule 12 on `/tsp`, and by 503
-/// elsewhere.
+/// elsewhere. An auditor's extract is written row by row, and no row is kept: it is `WriteFailed` too where the store or
+/// memory fails once the answer is begun.
 pub fn serve_one<R: Read, W: Write, S: Alter + Drop, G: Signer>(
     alloc: Global,
     reader: &mut R,

@@ -31,7 +31,11 @@ returns-in-Stamp-clause-steps g c =
     c.args.desk.now.setting (Stamp account r c.in-Stamp.query.now) c.args.desk.now.store c.answer.new.self.store
     (reply_as c.answer.result) in
     let step : P c.args.reading = subst P (to_z-of_z fits) c.answer.ensures.step in
-    rw c.in-Stamp.is (reply_as c.answer.result, step, told c.answer.result account c.args.reading c.in-Stamp.query.now)
+    rw c.in-Stamp.is (
+      reply_as c.answer.result,
+      (step, c.answer.ensures.unasked),
+      told c.answer.result account c.args.reading c.in-Stamp.query.now,
+    )
 
 pub returns-in-Ok-list-clause-steps : goal.returns-in-Ok-list-clause-steps
 returns-in-Ok-list-clause-steps g c =

@@ -1,15 +1,9 @@
-use Rattle.std.proofs.Common.{◌≡◌, ◌∙◌, ℕ, ◌+◌, ◌≤◌, List, ◌++◌, length, take, drop, arith, sym, ap, subst, refl}
+use Rattle.std.proofs.Common.{◌≤◌, ℕ, List, ◌++◌, length, take, arith, sym, subst}
 use Rattle.std.proofs.KnownBytes.{Appends-trans}
-use Rattle.std.proofs.lemmas.List.{length-append, take_all, take_at, drop_at}
+use Rattle.std.proofs.lemmas.List.{length-append, take_all}
 use Rattle.std.specs.Io.KnownBytes.{Appends}
-use lib.Seq.{take-add}
+use Rattle.service.proofs.ServingLemmas.{front_of_joined}
 use Rattle.service.proofs.responding.write_answer.Goals as goal
-
--- a front of a text that is joined of two, longer than the first
-front_of_joined : (a b : List ℕ) (n : ℕ) → take (length a + n) (a ++ b) ≡ a ++ take n b
-front_of_joined a b n =
-    take-add (length a) n (a ++ b) ∙ ap (λ l. l ++ take n (drop (length a) (a ++ b))) (take_at a b (length a) refl)
-    ∙ ap (λ l. a ++ take n l) (drop_at a b (length a) refl)
 
 pub returns-then-of_body-body : goal.returns-then-of_body-body
 returns-then-of_body-body g c =

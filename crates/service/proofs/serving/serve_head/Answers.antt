@@ -5,7 +5,7 @@ use Rattle.std.proofs.lemmas.List.{with_items_is}
 use Rattle.std.specs.Io.KnownBytes.{Consumes}
 use Rattle.service.specs.Checks.{WantedValue, wanted_at, wanted_by}
 use Rattle.service.specs.Heads.{HeadValue, head_value}
-use Rattle.service.specs.Requests.{IsRequest, refused_head, cut_body, whole, of_body, head, command_of}
+use Rattle.service.specs.Requests.{IsRequest, refused_head, cut_body, whole, of_body, head, asked_by}
 use Rattle.service.specs.Routes.{place_of}
 use Rattle.service.specs.Served.{Serves}
 use Rattle.service.specs.Views.{head_view, wanted_view}
@@ -99,11 +99,11 @@ returns-clause-served g c = λ before h is same consumed.
     let behind : Q body = subst Q (sym filled) c.in-Whole.ensures.reads in
     let fits : SFits w64 c.args.reading = search rules in
     let P : ℤ → Type 0 = λ r. (b a : Option (List ℕ))
-    → IsRequest file r b a (command_of file r (head_view c.args.head) body c.in-Ok-check_head.wanted.action)
+    → IsRequest file r b a (asked_by file r (head_view c.args.head) body c.in-Ok-check_head.wanted.action)
     → Serves g.S.Store g.G.Signer.signs g.G.Signer.fault_count g.W.Write.contents r
     (turn b a c.args.writer.now c.serve_whole.new.writer c.args.desk.now c.serve_whole.new.desk c.args.signer.now
     c.serve_whole.new.signer) c.serve_whole.result in
     let served : P c.args.reading = subst P (to_z-of_z fits) c.serve_whole.ensures.served in
     served before (g.R.Read.remaining c.read_body.new.reader)
     (whole h is w wanted body long (Consumes-trans _ _ _ _ _ consumed behind)
-    (ap (λ v. command_of file c.args.reading v body w.action) same))
+    (ap (λ v. asked_by file c.args.reading v body w.action) same))

@@ -1,18 +1,19 @@
 use Rattle.std.proofs.Common.{◌≡◌, ℤ, Result, refl, sym, subst, rules, SFits, w64}
 use Rattle.std.proofs.Common.{to_z-of_z}
-use Rattle.desk.specs.Command.{Command, Answer}
+use Rattle.policy.specs.View.{account_view}
+use Rattle.desk.specs.Command.{Answer}
 use Rattle.service.specs.Answers.{answer_to}
-use Rattle.service.specs.Requests.{IsRequest}
+use Rattle.service.specs.Requests.{Asked, IsRequest}
 use Rattle.service.specs.Served.{Steps}
 use Rattle.service.specs.Views.{demand_view, performed_answer}
 use Rattle.service.specs.declared.refusal.Refusal.{Refusal}
-use Rattle.service.proofs.ServingLemmas.{turn, refusing, replying}
+use Rattle.service.proofs.ServingLemmas.{turn, refusing, replying, answering_auditor}
 use Rattle.service.proofs.serving.serve_whole.Goals as goal
 
 pub returns-in-Err-clause-served : goal.returns-in-Err-clause-served
 returns-in-Err-clause-served g c = λ before after request.
     let same = rw c.policy.ensures at (c.in-Err.ensures c.args.reading) in
-    let P : Result Command Refusal → Type 0 =
+    let P : Result Asked Refusal → Type 0 =
     λ asked. IsRequest c.args.desk.now.setting.file c.args.reading before after asked in
     refusing g.S.Store g.G.Signer.signs g.G.Signer.fault_count g.W.Write.contents c.args.reading
     (turn before after c.args.writer.now c.refuse.new.writer c.args.desk.now c.args.desk.now c.args.signer.now
@@ -20,19 +21,33 @@ returns-in-Err-clause-served g c = λ before after request.
     c.in-Err.refusal c.refuse.result (subst P (sym same) request) (record { desk = refl; signer = refl })
     c.refuse.ensures
 
-pub returns-in-Ok-clause-served : goal.returns-in-Ok-clause-served
-returns-in-Ok-clause-served g c = λ before after request.
-    let same = rw c.policy.ensures at (c.in-Ok.ensures c.args.reading) in
-    let P : Result Command Refusal → Type 0 =
+pub returns-in-Ok-Step-clause-served : goal.returns-in-Ok-Step-clause-served
+returns-in-Ok-Step-clause-served g c = λ before after request.
+    let demand = c.in-Ok-Step.demand in
+    let same = rw c.in-Ok-Step.field-0-is at (rw c.policy.ensures at (c.in-Ok-Step.ensures c.args.reading)) in
+    let P : Result Asked Refusal → Type 0 =
     λ asked. IsRequest c.args.desk.now.setting.file c.args.reading before after asked in
     let fits : SFits w64 c.args.reading = search rules in
     let Q : ℤ → Type 0 = λ r. (reply : Answer) × Steps g.S.Store g.G.Signer.signs g.G.Signer.fault_count c.args.desk.now
-    c.perform-performed.new.desk c.args.signer.now c.perform-performed.new.signer (demand_view r c.in-Ok.demand) reply
-    × (performed_answer c.perform-performed.result ≡ answer_to (demand_view r c.in-Ok.demand) reply) in
+    c.perform-performed.new.desk c.args.signer.now c.perform-performed.new.signer (demand_view r demand) reply
+    × (performed_answer c.perform-performed.result ≡ answer_to (demand_view r demand) reply) in
     let steps : Q c.args.reading = subst Q (to_z-of_z fits) c.perform-performed.ensures.steps in
     replying g.S.Store g.G.Signer.signs g.G.Signer.fault_count g.W.Write.contents c.args.reading
     (turn before after c.args.writer.now c.respond.new.writer c.args.desk.now c.perform-performed.new.desk
     c.args.signer.now
     c.perform-performed.new.signer)
-    (demand_view c.args.reading c.in-Ok.demand) c.respond.result (subst P (sym same) request) steps.0 steps.1
+    (demand_view c.args.reading demand) c.respond.result (subst P (sym same) request) steps.0 steps.1
     (performed_answer c.perform-performed.result) steps.2 c.respond.ensures
+
+pub returns-in-Ok-Extract-clause-served : goal.returns-in-Ok-Extract-clause-served
+returns-in-Ok-Extract-clause-served g c = λ before after request.
+    let same = rw c.in-Ok-Extract.field-0-is at (rw c.policy.ensures at (c.in-Ok-Extract.ensures c.args.reading)) in
+    let P : Result Asked Refusal → Type 0 =
+    λ asked. IsRequest c.args.desk.now.setting.file c.args.reading before after asked in
+    answering_auditor g.S.Store g.G.Signer.signs g.G.Signer.fault_count g.W.Write.contents c.args.reading
+    (turn before after c.args.writer.now c.serve_extract.new.writer c.args.desk.now c.serve_extract.new.desk
+    c.args.signer.now
+    c.args.signer.now)
+    (account_view c.in-Ok-Extract.account.now) c.in-Ok-Extract.from c.in-Ok-Extract.to c.serve_extract.result
+    (subst P (sym same) request) (record { store = c.serve_extract.ensures.looks; signer = refl })
+    c.serve_extract.ensures.served

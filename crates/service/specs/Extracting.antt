@@ -1,0 +1,40 @@
+-- What the answers to auditors give: stepping stones of the proofs.
+use Rattle.std.specs.Prelude.{◌≡◌, ◌⊎◌, ◌≤◌, ◌^◌, ℕ, List, length, Option}
+use Rattle.sqlite_trees.specs.declared.store.Store.{Ghosts}
+use Rattle.policy.specs.Record.{AccountValue, PolicyValue}
+use Rattle.tables.specs.Base.{BaseValue, IsHonest}
+use Rattle.store.specs.History.{History}
+use Rattle.store.specs.Stands.{Stands}
+use Rattle.audit.specs.Auditor.{IsAllowed, ComesWhere, IfUnasked}
+use Rattle.audit.specs.Extract.{extract_text}
+use Rattle.audit.specs.Fault.{count_after}
+use Rattle.audit.specs.declared.fault.ExtractFault.{ExtractFault}
+use Rattle.audit.specs.declared.fault.ExtractFault.TheVariants.{Write}
+use Rattle.service.specs.Answers.{extract_answer, refusal_answer}
+use Rattle.service.specs.Refusals.{refusal_of_extract}
+use Rattle.service.specs.Served.{Sends, SendsOctets, unavailable}
+use Rattle.service.specs.declared.served.Served.{Served}
+
+module _ {S W : Type 0} (g : Ghosts S) (contents : W → Option (List ℕ)) (w w' : W) (old new : BaseValue S) where
+  -- the extract's answer is written whose body is found to have so many octets
+  pub record SendsExtract (from to count : ℕ) (outcome : Served) : Type 0 where
+    pub sent : IsHonest g new → (b : History) → Stands g b old → count ≡ length (extract_text from to b)
+        → Sends contents w w' (extract_answer from to b) outcome
+    pub told : SendsOctets contents w w' outcome
+
+  -- or, as memory is wanting for its head, that the counter can't answer now
+  abbrev pub SendsExtractOrWants : ℕ → ℕ → ℕ → Served → Type 0
+  SendsExtractOrWants from to count outcome =
+      SendsExtract from to count outcome ⊎ Sends contents w w' unavailable outcome
+
+  -- an extract is answered
+  pub data ServesExtract (file : PolicyValue) (account : AccountValue) (from to : ℕ) (outcome : Served) : Type 0 where
+    extracted : IsAllowed file account from to
+        → (IsHonest g new → (b : History) → Stands g b old → Sends contents w w' (extract_answer from to b) outcome)
+        → SendsOctets contents w w' outcome → ServesExtract file account from to outcome
+    kept_back : (f : ExtractFault) → ComesWhere file account from to f → IfUnasked (new ≡ old) f
+        → new.faults ≡ count_after f old.faults
+        → (IsHonest g new → (b : History) → Stands g b old → f ≡ Write → 2 ^ 64 ≤ length (extract_text from to b))
+        → Sends contents w w' (refusal_answer (refusal_of_extract f)) outcome
+        → ServesExtract file account from to outcome
+    unanswered : Sends contents w w' unavailable outcome → ServesExtract file account from to outcome

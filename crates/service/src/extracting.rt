@@ -1,0 +1,90 @@
+//! Extracts for auditors, written row by row. Their length is found first, by a walk of its own over the same stamps.
+ghost use Rattle.std.specs.Prelude.{◌≡◌};
+ghost use Rattle.policy.specs.View.{account_view};
+ghost use Rattle.tables.specs.Base.{IsHonest};
+ghost use Rattle.store.specs.Stands.{OnlyLooks};
+ghost use Rattle.service.specs.Extracting.{SendsExtractOrWants, ServesExtract};
+
+use crate::answer::{Media, head_text};
+use crate::refusal::Refusal;
+use crate::responding::{refuse, wanting};
+use crate::served::Served;
+use crate::writing::write_octets;
+use audit::{extract_length, write_extract};
+use desk::Desk;
+use http::StatusCode;
+use policy::{Account, Policy};
+use sqlite::Alter;
+use std::alloc::Global;
+use std::io::Write;
+use store::Store;
+
+/// Writes the answer with an extract that is found to have so many octets.
+fn send_extract<W: Write, S: Alter + Drop>(
+    alloc: Global,
+    writer: &mut W,
+    store: &mut Store<S>,
+    policy: &Policy,
+    account: &Account,
+    from: u64,
+    to: u64,
+    length: u64,
+) -> Served
+    ensures looks { OnlyLooks S.Store store.old store.new }
+    ensures sent { SendsExtractOrWants S.Store W.contents writer.old writer.new store.old store.new from to length
+        result }
+{
+    let count = length as usize;
+    let Ok(head) = head_text(alloc, StatusCode::OK, Media::Csv, None, count) else {
+        return wanting(writer);
+    };
+    if head.len().checked_add(count).is_none() {
+        return wanting(writer);
+    }
+    let status = StatusCode::OK.as_u16();
+    let of_head = write_octets(writer, head.as_bytes());
+    if of_head < head.len() {
+        return Served::WriteFailed {
+            status,
+            sent: of_head,
+        };
+    }
+    let written = write_extract(alloc, store, policy, account, from, to, length, writer);
+    if written.octets < length {
+        return Served::WriteFailed {
+            status,
+            sent: head.len() + written.octets as usize,
+        };
+    }
+    Served::Answered(status)
+}
+
+/// Answers an auditor who asks for the stamps with serial numbers from one on and up to another.
+pub(crate) fn serve_extract<W: Write, S: Alter + Drop>(
+    alloc: Global,
+    writer: &mut W,
+    desk: &mut Desk<'_, S>,
+    account: &Account,
+    from: u64,
+    to: u64,
+) -> Served
+    ensures setting { desk.new.setting ≡ desk.old.setting }
+    ensures looks { OnlyLooks S.Store desk.old.store desk.new.store }
+    ensures served { ServesExtract S.Store W.contents writer.old writer.new desk.old.store desk.new.store
+        desk.old.setting.file (account_view account.now) from to result }
+{
+    let policy = desk.policy();
+    match extract_length(alloc, desk.store(), policy, account, from, to) {
+        Ok(length) => send_extract(
+            alloc,
+            writer,
+            desk.store(),
+            policy,
+            account,
+            from,
+            to,
+            length,
+        ),
+        Err(fault) => refuse(alloc, writer, Refusal::from(fault)),
+    }
+}
