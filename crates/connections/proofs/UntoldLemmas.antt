@@ -1,0 +1,113 @@
+-- What is served over a stream that tells no octets, without a name for the stream.
+use Rattle.std.proofs.Common.{ℕ, ℤ, List, Option, None, Result, refl, inl, inr}
+use Rattle.sqlite_trees.specs.declared.store.Store.{Ghosts}
+use Rattle.policy.specs.Record.{AccountValue}
+use Rattle.cms.specs.declared.signer.SignerFault.{SignerFault}
+use Rattle.audit.specs.declared.fault.ExtractFault.{ExtractFault}
+use Rattle.desk.specs.Stepped.{DeskValue}
+use Rattle.service.specs.Answers.{AnswerValue}
+use Rattle.service.specs.Served.{Turn, IsIdle, IsSilent, IsLook, IsKeptBack, IsAnswer, refuses, replies, keeps_back}
+use Rattle.service.specs.Served.{wants_early, wants_idle, wants_after, wants_looking, Sends, SendsOctets, Writes}
+use Rattle.service.specs.Served.{Extracts, Serves}
+use Rattle.service.specs.declared.served.Served.{Served}
+use Rattle.service.specs.declared.served.Served.TheVariants as served
+use Rattle.connections.specs.Turns.{untold}
+
+abbrev pub nothing_told : {W : Type 0} → W → Option (List ℕ)
+nothing_told stream = None
+
+-- a turn over such a stream
+abbrev pub turn : {W S X : Type 0} → W → W → DeskValue S → DeskValue S → X → X → Turn W S X
+turn w w' d d' x x' = record {
+  input = None;
+  input_after = None;
+  writer = w;
+  writer_after = w';
+  desk = d;
+  desk_after = d';
+  signer = x;
+  signer_after = x';
+}
+
+abbrev pub without : {W S X : Type 0} → Turn W S X → Turn (Unit {0}) S X
+without t = record {
+  input = t.input;
+  input_after = t.input_after;
+  writer = tt;
+  writer_after = tt;
+  desk = t.desk;
+  desk_after = t.desk_after;
+  signer = t.signer;
+  signer_after = t.signer_after;
+}
+
+module _ {W S X : Type 0} (g : Ghosts S) (signs : X → List ℕ → Result (List ℕ) SignerFault → X → Type 0)
+    (count : X → ℕ) (reading : ℤ) (t : Turn W S X) where
+  idle : IsIdle t → IsIdle (without t)
+  idle i = record { desk = i.desk; signer = i.signer }
+
+  look : IsLook g signs count t → IsLook g signs count (without t)
+  look l = record { store = l.store; signer = l.signer }
+
+  kept : (account : AccountValue) (from to : ℕ) (f : ExtractFault) → IsKeptBack g signs count t account from to f
+      → IsKeptBack g signs count (without t) account from to f
+  kept account from to f k = record {
+    look = look k.look;
+    comes = k.comes;
+    unasked = k.unasked;
+    counted = k.counted;
+    long = k.long;
+  }
+
+  answer : (a : AnswerValue) → IsAnswer g signs count reading t a → IsAnswer g signs count reading (without t) a
+  answer a (refuses r reads i is) = refuses r reads (idle i) is
+  answer a (replies c reads reply takes is) = replies c reads reply takes is
+  answer a (keeps_back account from to reads f k is) =
+      keeps_back account from to reads f (kept account from to f k) is
+  answer a (wants_early early i is) = wants_early early (idle i) is
+  answer a (wants_idle r reads i is) = wants_idle r reads (idle i) is
+  answer a (wants_after c reads reply takes is) = wants_after c reads reply takes is
+  answer a (wants_looking account from to reads l is) = wants_looking account from to reads (look l) is
+
+  sent : (a : AnswerValue) (outcome : Served) → Sends nothing_told t.writer t.writer_after a outcome
+      → Sends untold tt tt a outcome
+  sent a served.Closed s = s
+  sent a (served.Answered status) s = s
+  sent a served.ReadFailed s = s
+  sent a (served.WriteFailed status taken) s = s
+
+  octets : (outcome : Served) → SendsOctets nothing_told t.writer t.writer_after outcome
+      → SendsOctets untold tt tt outcome
+  octets served.Closed s = s
+  octets (served.Answered status) s = s
+  octets served.ReadFailed s = s
+  octets (served.WriteFailed status taken) s = s
+
+  writes : (outcome : Served) → Writes g signs count nothing_told reading t outcome
+      → Writes g signs count untold reading (without t) outcome
+  writes outcome w = record { answer = w.answer; is = answer w.answer w.is; sent = sent w.answer outcome w.sent }
+
+  extracts : (outcome : Served) → Extracts g signs count nothing_told reading t outcome
+      → Extracts g signs count untold reading (without t) outcome
+  extracts outcome e = record {
+    account = e.account;
+    from = e.from;
+    to = e.to;
+    read = e.read;
+    allowed = e.allowed;
+    look = look e.look;
+    sent = λ honest b stands. sent _ outcome (e.sent honest b stands);
+    told = octets outcome e.told;
+  }
+
+  silent : IsSilent t → IsSilent (without t)
+  silent s = record { writer = refl; idle = idle s.idle }
+
+  pub serves : (outcome : Served) → Serves g signs count nothing_told reading t outcome
+      → Serves g signs count untold reading (without t) outcome
+  serves served.Closed s = (s.0, s.1, silent s.2)
+  serves served.ReadFailed s = (s.0, silent s.1)
+  serves (served.Answered status) (inl w) = inl (writes (served.Answered status) w)
+  serves (served.Answered status) (inr e) = inr (extracts (served.Answered status) e)
+  serves (served.WriteFailed status taken) (inl w) = inl (writes (served.WriteFailed status taken) w)
+  serves (served.WriteFailed status taken) (inr e) = inr (extracts (served.WriteFailed status taken) e)
