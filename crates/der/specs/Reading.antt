@@ -13,7 +13,7 @@ abbrev pub ◌>>=◌ : {A B : Type 0} → Result A DerFault → (A → Result B 
 (Ok x) >>= f = f x
 (Err e) >>= f = Err e
 
--- What a function returned, seen by a view, is what reading gives, unless memory ran out.
+-- A fault that a function answered is the one that reading gives, unless memory ran out.
 abbrev pub IsFaultOf : {Y : Type 0} → DerFault → Result Y DerFault → Type 0
 IsFaultOf Memory read = Unit {0}
 IsFaultOf Truncated read = read ≡ Err Truncated
@@ -25,6 +25,7 @@ IsFaultOf TooLong read = read ≡ Err TooLong
 IsFaultOf Trailing read = read ≡ Err Trailing
 IsFaultOf BadValue read = read ≡ Err BadValue
 
+-- What a function returned, seen by a view, is what reading gives, unless memory ran out.
 abbrev pub Gives : {X Y : Type 0} → (X → Y) → Result X DerFault → Result Y DerFault → Type 0
 Gives view (Ok x) read = read ≡ Ok (view x)
 Gives view (Err e) read = IsFaultOf e read
