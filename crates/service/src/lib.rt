@@ -20,6 +20,3 @@ mod writing;
 
 pub use served::Served;
 pub use serving::serve_one;
-
-#[cfg(test)]
-mod tests;
