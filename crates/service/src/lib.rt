@@ -23,6 +23,3 @@ pub use refusal::Refusal;
 pub use routes::Place;
 pub use served::Served;
 pub use serving::serve_one;
-
-#[cfg(test)]
-mod tests;
