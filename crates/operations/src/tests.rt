@@ -1,4 +1,6 @@
 //! Additions over a database in memory, and the files that are taken or refused.
+mod auditing;
+
 use crate::{Addition, add, init};
 use sqlite::{Connection, MemStore};
 use std::alloc::Global;

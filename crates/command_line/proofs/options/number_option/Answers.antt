@@ -1,8 +1,8 @@
 use Rattle.std.proofs.Common.{◌∙◌, ap, w64}
 use Rattle.std.proofs.lemmas.Int.{to_z_pos}
-use Rattle.command_line.specs.Words.{required_option}
+use Rattle.command_line.specs.Options.{required_option}
 use Rattle.command_line.proofs.Commands.{narrowed}
-use Rattle.command_line.proofs.command.number_option.Goals as goal
+use Rattle.command_line.proofs.options.number_option.Goals as goal
 
 pub returns-clause-rule : goal.returns-clause-rule
 returns-clause-rule c =
