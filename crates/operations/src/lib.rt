@@ -11,8 +11,6 @@ mod opening;
 mod serving;
 mod signing;
 mod terms;
-#[cfg(test)]
-mod tests;
 
 pub use adding::{Addition, add};
 pub use answering::{Question, answer};

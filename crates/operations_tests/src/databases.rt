@@ -1,7 +1,5 @@
 //! Additions over a database in memory, and the files that are taken or refused.
-mod auditing;
-
-use crate::{Addition, add, init};
+use operations::{Addition, add, init};
 use sqlite::{Connection, MemStore};
 use std::alloc::Global;
 use std::fs;
@@ -19,7 +17,8 @@ fn at(reading: i64) -> Addition {
 
 const HOLD: Addition = Addition::Hold(Hold { from: 7, to: 9 });
 
-fn empty(alloc: Global) -> Result<Store<MemStore>, Fail> {
+/// An empty store in memory.
+pub fn empty(alloc: Global) -> Result<Store<MemStore>, Fail> {
     let conn = Connection::open_in_memory(alloc)?;
     if !conn.is_autocommit() {
         return Err(Fail::new("a transaction is open"));
@@ -49,7 +48,7 @@ fn additions_stand_in_the_history(rt: HostRuntime) -> Result<(), Fail> {
 }
 
 /// Removes a database and the log beside it.
-fn remove(rt: &HostRuntime, path: &str, log: &str) -> io::Result<()> {
+pub fn remove(rt: &HostRuntime, path: &str, log: &str) -> io::Result<()> {
     for name in [path, log] {
         match fs::remove_file(rt, name) {
             Ok(()) => {}

@@ -1,7 +1,7 @@
 //! Extracts of a database, and stamps that are checked in one in memory.
-use super::{empty, remove};
-use crate::{AuditFault, Inquiry, audit, check_stamps, init};
+use crate::databases::{empty, remove};
 use audit::ExtractFault;
+use operations::{AuditFault, Inquiry, audit, check_stamps, init};
 use policy::{EXAMPLE, Policy};
 use sqlite::MemStore;
 use std::test::Fail;
@@ -45,7 +45,7 @@ fn failing_stamps_are_told(rt: HostRuntime) -> Result<(), Fail> {
     assert!(rt; check_stamps(alloc, &mut store, 1, 1, &mut errors) == Ok(true));
     assert!(rt; errors.is_empty());
     assert!(rt; check_stamps(alloc, &mut store, 1, 9, &mut errors) == Ok(false));
-    assert_eq!(rt; errors.as_slice(), b"row 2 fails\nrow 3 fails\n");
+    assert_eq!(rt; errors.as_slice(), b"row 2 fails\nrow 3 fails\n".as_slice());
     Ok(())
 }
 
@@ -72,7 +72,7 @@ fn an_empty_database_is_audited(rt: HostRuntime) -> Result<(), Fail> {
     assert!(rt; done == Err(AuditFault::Extract(ExtractFault::Range)));
     assert_eq!(rt;
         output.as_slice(),
-        b"serial,genTime,account,policy,algorithm,digest,state,token\n"
+        b"serial,genTime,account,policy,algorithm,digest,state,token\n".as_slice()
     );
     assert!(rt; errors.is_empty());
     Ok(remove(&rt, path, log)?)
