@@ -21,6 +21,8 @@ KINDS = {
     "RSA": (["rsa:2048"], "300d06092a864886f70d01010b0500"),
     "ECDSA": (["ec", "-pkeyopt", "ec_paramgen_curve:P-256"], "300a06082a8648ce3d040302"),
 }
+# Debian's Python, for which Debian's packages are installed
+PYTHON = "/usr/bin/python3"
 USAGE = ["-addext", "keyUsage=critical,digitalSignature", "-addext", "extendedKeyUsage=critical,timeStamping"]
 
 
@@ -38,6 +40,11 @@ class Wrong:
 def build():
     """Proves and builds the program, where that wasn't done yet."""
     subprocess.run([COUNTER, "--help"], check=True, stdout=subprocess.DEVNULL)
+
+
+def has_client():
+    """Whether the RFC 3161 client rfc3161ng is installed."""
+    return subprocess.run([PYTHON, "-c", "import rfc3161ng"], stderr=subprocess.DEVNULL).returncode == 0
 
 
 def openssl(*words, **how):
