@@ -1,4 +1,5 @@
 pub mod Commands
 pub mod Refusals
 pub mod Rows
+pub mod Signers
 pub mod Stated

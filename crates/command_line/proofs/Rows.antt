@@ -6,7 +6,8 @@ use Rattle.clap.specs.declared.error.kind.ErrorKind.TheVariants.{ArgumentConflic
 use Rattle.clap.specs.declared.error.kind.ErrorKind.TheVariants.{MissingSubcommand, TooManyValues, UnknownArgument}
 use Rattle.clap.specs.declared.error.kind.ErrorKind.TheVariants.{ValueValidation}
 use Rattle.clap.proofs.OnLiterals.{clap_on_literals}
-use Rattle.command_line.specs.Words.{AreTaken, AsksHelp, counter_command}
+use Rattle.command_line.specs.Options.{counter_command}
+use Rattle.command_line.specs.Words.{AreTaken, AsksHelp, MixSigners}
 
 abbrev tst_words : Text → List Text
 tst_words digits =
@@ -15,7 +16,7 @@ tst_words digits =
 
 pub tst_is_taken : AreTaken (tst_words (codes "6"))
 unfolding clap_on_literals
-tst_is_taken = refl
+tst_is_taken = (refl, refl)
 
 pub policy_of_tst : option_map (λ p. first_of (codes "policy") p.1)
     (subcommand_of counter_command (tst_words (codes "6"))) ≡ Some (Some (codes "2.999.1"))
@@ -88,7 +89,7 @@ calibrate_words uncertainty =
 
 pub calibrate_is_taken : AreTaken (calibrate_words (codes "1000000000000"))
 unfolding clap_on_literals
-calibrate_is_taken = refl
+calibrate_is_taken = (refl, refl)
 
 pub offset_of_calibrate : option_map (λ p. one_of (codes "offset") p.1) (subcommand_of counter_command
     (calibrate_words (codes "0"))) ≡ Some (Some (codes "250"))
@@ -102,9 +103,62 @@ uncertainty_is_bounded = refl
 pub hold_is_taken : AreTaken (codes "counter" ∷ codes "hold" ∷ codes "--db=a.db" ∷ codes "--from=7" ∷ codes "--to=7"
     ∷ [])
 unfolding clap_on_literals
-hold_is_taken = refl
+hold_is_taken = (refl, refl)
 
 pub init_needs_a_database : fault_of counter_command (codes "counter" ∷ codes "init" ∷ []) ≡ MissingRequiredArgument
     ∷ []
 unfolding clap_on_literals
 init_needs_a_database = refl
+
+-- the words of `exchange` with these options for the signer
+abbrev exchange_words : List Text → List Text
+exchange_words signer =
+    codes "counter" ∷ codes "exchange" ∷ codes "--db=a" ∷ codes "--rules=b" ∷ codes "--certificate=c" ∷ codes
+    "--reading=5"
+    ∷ signer
+
+pub exchange_by_a_key_is_taken : AreTaken (exchange_words (codes "--signing-key=d" ∷ []))
+unfolding clap_on_literals
+exchange_by_a_key_is_taken = (refl, refl)
+
+pub exchange_by_a_session_is_taken : AreTaken (exchange_words (codes "--signer=d" ∷ codes "--signer-algorithm=e" ∷ []))
+unfolding clap_on_literals
+exchange_by_a_session_is_taken = (refl, refl)
+
+pub no_signer_is_refused : MixSigners (exchange_words [])
+unfolding clap_on_literals
+no_signer_is_refused = (refl, refl)
+
+pub key_and_session_are_refused : MixSigners (exchange_words (codes "--signing-key=d" ∷ codes "--signer=e" ∷ codes
+    "--signer-algorithm=f" ∷ []))
+unfolding clap_on_literals
+key_and_session_are_refused = (refl, refl)
+
+pub address_alone_is_refused : MixSigners (exchange_words (codes "--signer=d" ∷ []))
+unfolding clap_on_literals
+address_alone_is_refused = (refl, refl)
+
+pub key_is_not_for_exchange : fault_of counter_command (exchange_words (codes "--signing-key=d" ∷ codes "--key=e" ∷ []))
+    ≡ UnknownArgument ∷ []
+unfolding clap_on_literals
+key_is_not_for_exchange = refl
+
+abbrev serve_words : Text → List Text
+serve_words connections =
+    codes "counter" ∷ codes "serve" ∷ codes "--db=a" ∷ codes "--rules=b" ∷ codes "--certificate=c"
+    ∷ codes "--signing-key=d" ∷ codes "--listen=e" ∷ connections ∷ []
+
+pub serve_is_taken : AreTaken (serve_words (codes "--connections=4294967295"))
+unfolding clap_on_literals
+serve_is_taken = (refl, refl)
+
+pub connections_are_bounded : fault_of counter_command (serve_words (codes "--connections=4294967296"))
+    ≡ ValueValidation ∷ []
+unfolding clap_on_literals
+connections_are_bounded = refl
+
+pub audit_is_taken : AreTaken (codes "counter" ∷ codes "audit" ∷ codes "--db=a" ∷ codes "--rules=b" ∷ codes
+    "--account=c"
+    ∷ codes "--from=0" ∷ codes "--to=9223372036854775807" ∷ codes "--check" ∷ [])
+unfolding clap_on_literals
+audit_is_taken = (refl, refl)

@@ -8,10 +8,12 @@ use Rattle.clap.specs.Words.{subcommand_rows_of}
 use Rattle.clap.specs.declared.parser.matches.ArgMatches.{ArgMatches}
 use Rattle.clap.specs.declared.parser.matches.Found.{Found}
 use Rattle.clap.proofs.WalkLemmas.{first_value-rows, one_text-rows}
-use Rattle.command_line.specs.Words.{IsAsked, StatesHold, StatesNumber}
+use Rattle.command_line.specs.Words.{IsAsked, StatesExchange, StatesHold, StatesNumber}
+use Rattle.command_line.specs.declared.words.ExchangeWords.{ExchangeWords}
 use Rattle.command_line.specs.declared.words.HoldWords.{HoldWords}
 use Rattle.command_line.specs.declared.words.Word.{Word}
-use Rattle.command_line.specs.declared.words.Word.TheVariants.{Tst, Check, Init, Calibrate, Hold, Answer}
+use Rattle.command_line.specs.declared.words.Word.TheVariants.{Tst, Check, Init, Calibrate, Hold, Answer, Exchange}
+use Rattle.command_line.specs.declared.words.Word.TheVariants.{Serve, Audit}
 
 pub reads_text : (f : Found) (name : Text) (result : Option (Bor Text)) (text : Bor Text)
     → option_map (λ s. s.now) result ≡ first_value f name → result ≡ Some text
@@ -111,3 +113,20 @@ not_hold name rows (Init words) is none asked = other (codes "hold") (codes "ini
     (λ h. omega arith))
 not_hold name rows (Calibrate words) is none asked = other (codes "hold") (codes "calibrate") is asked.0 (λ e. cc)
 not_hold name rows (Answer words) is none asked = other (codes "hold") (codes "answer") is asked.0 (λ e. cc)
+not_hold name rows (Exchange words) is none asked = other (codes "hold") (codes "exchange") is asked.0 (λ e. cc)
+not_hold name rows (Serve words) is none asked = other (codes "hold") (codes "serve") is asked.0 (λ e. cc)
+not_hold name rows (Audit words) is none asked = other (codes "hold") (codes "audit") is asked.0 (λ e. cc)
+
+pub not_exchange : (name : Text) (rows : List Row) (word : Word) → name ≡ codes "exchange"
+    → ((words : ExchangeWords) → StatesExchange rows words → ⊥)
+    → IsAsked name rows word → ⊥
+not_exchange name rows (Exchange words) is none asked = none words asked.1
+not_exchange name rows (Tst words) is none asked = other (codes "exchange") (codes "tst") is asked.0 (λ e. cc)
+not_exchange name rows (Check words) is none asked = other (codes "exchange") (codes "check") is asked.0 (λ e. cc)
+not_exchange name rows (Init words) is none asked = other (codes "exchange") (codes "init") is asked.0 (λ e. cc)
+not_exchange name rows (Calibrate words) is none asked =
+    other (codes "exchange") (codes "calibrate") is asked.0 (λ e. cc)
+not_exchange name rows (Hold words) is none asked = other (codes "exchange") (codes "hold") is asked.0 (λ e. cc)
+not_exchange name rows (Answer words) is none asked = other (codes "exchange") (codes "answer") is asked.0 (λ e. cc)
+not_exchange name rows (Serve words) is none asked = other (codes "exchange") (codes "serve") is asked.0 (λ e. cc)
+not_exchange name rows (Audit words) is none asked = other (codes "exchange") (codes "audit") is asked.0 (λ e. cc)

@@ -1,152 +1,38 @@
--- What the words ask for: the command line of the program, and what each subcommand's options state. `clap` says which
--- words a command takes, and what it finds in them.
-use Rattle.std.specs.Prelude.{◌≡◌, ◌≢◌, ◌⊎◌, ⊤, ℕ, Bool, true, false, pos, List, [], ◌∷◌, Some, None, codes, option_map}
-use Rattle.std.specs.Prelude.{map, String, string_bytes}
+-- What the words ask for: what each subcommand's options state. `clap` says which words a command takes, and what it
+-- finds in them.
+use Rattle.std.specs.Prelude.{◌≡◌, ◌≢◌, ◌⊎◌, ◌&&◌, ◌||◌, ⊤, ℕ, Bool, true, false, not, List, [], Option, Some, None}
+use Rattle.std.specs.Prelude.{codes, is_some, option_map, map, String, string_bytes}
+use Rattle.std.specs.Borrow.{Bor}
 use Rattle.std.specs.declared.alloc.Global.{Global}
+use Rattle.std.specs.Option.{option_map_or}
+use Rattle.std.specs.Str.{bytes_eq}
 use Rattle.std.specs.Str.Parse.{IsNumeral, digits_value, without_leading_plus}
-use Rattle.clap.specs.Words.{App, IsAmong, Row, Rule, Text, fault_of, first_of, new_app, new_rule, one_of}
-use Rattle.clap.specs.Words.{subcommand_of, with_subcommand}
-use Rattle.clap.specs.Simple.{on_top}
-use Rattle.clap.specs.declared.builder.action.ArgAction.TheVariants.{Set, SetTrue}
-use Rattle.clap.specs.declared.builder.value_parser.ValueParser.{ValueParser}
-use Rattle.clap.specs.declared.builder.value_parser.ValueParser.TheVariants as parser
+use Rattle.clap.specs.Words.{IsAmong, Row, Text, fault_of, first_of, one_of, subcommand_of}
 use Rattle.clap.specs.declared.error.kind.ErrorKind.{ErrorKind}
-use Rattle.clap.specs.declared.error.kind.ErrorKind.TheVariants.{DisplayHelp, DisplayVersion, OutOfMemory}
+use Rattle.clap.specs.declared.error.kind.ErrorKind.TheVariants.{ArgumentConflict, DisplayHelp, DisplayVersion}
+use Rattle.clap.specs.declared.error.kind.ErrorKind.TheVariants.{MissingRequiredArgument, OutOfMemory}
+use Rattle.command_line.specs.Options.{counter_command}
 use Rattle.command_line.specs.declared.refusal.Refusal.{Refusal}
 use Rattle.command_line.specs.declared.refusal.Refusal.TheVariants.{Help, Mistake, Memory}
 use Rattle.command_line.specs.declared.words.AnswerWords.{AnswerWords}
+use Rattle.command_line.specs.declared.words.AuditWords.{AuditWords}
 use Rattle.command_line.specs.declared.words.CalibrateWords.{CalibrateWords}
 use Rattle.command_line.specs.declared.words.CheckWords.{CheckWords}
+use Rattle.command_line.specs.declared.words.DeskWords.{DeskWords}
+use Rattle.command_line.specs.declared.words.ExchangeWords.{ExchangeWords}
 use Rattle.command_line.specs.declared.words.HoldWords.{HoldWords}
 use Rattle.command_line.specs.declared.words.InitWords.{InitWords}
+use Rattle.command_line.specs.declared.words.ServeWords.{ServeWords}
+use Rattle.command_line.specs.declared.words.SignerWords.{SignerWords}
+use Rattle.command_line.specs.declared.words.SignerWords.TheVariants.{Key, Session}
 use Rattle.command_line.specs.declared.words.TstWords.{TstWords}
 use Rattle.command_line.specs.declared.words.Word.{Word}
-use Rattle.command_line.specs.declared.words.Word.TheVariants.{Tst, Check, Init, Calibrate, Hold, Answer}
+use Rattle.command_line.specs.declared.words.Word.TheVariants.{Tst, Check, Init, Calibrate, Hold, Answer, Exchange}
+use Rattle.command_line.specs.declared.words.Word.TheVariants.{Serve, Audit}
 
 -- the octets of each word
 abbrev pub texts_of : List (String Global) → List Text
 texts_of words = map string_bytes words
-
--- `--name VALUE`, which has to be there
-abbrev pub required_option : Text → ValueParser → Rule
-required_option name values = record (new_rule name) {
-  long = Some name;
-  action = Some Set;
-  parser = Some values;
-  required = true;
-}
-
--- `--name VALUE`, which may be left out
-abbrev pub optional_option : Text → ValueParser → Rule
-optional_option name values = record (new_rule name) {
-  long = Some name;
-  action = Some Set;
-  parser = Some values;
-}
-
--- `--name`, which may be there
-abbrev pub optional_flag : Text → Rule
-optional_flag name = record (new_rule name) { long = Some name; action = Some SetTrue }
-
--- decimal numbers from `least` to `most`
-abbrev pub number_between : ℕ → ℕ → ValueParser
-number_between least most = parser.Signed (pos least) (pos most)
-
-abbrev pub tst_options : List Rule
-tst_options =
-    required_option (codes "policy") parser.String
-    ∷ required_option (codes "moment") (number_between 0 253402300799999999)
-    ∷ required_option (codes "digits") (number_between 0 6)
-    ∷ required_option (codes "serial") (number_between 1 9223372036854775807)
-    ∷ required_option (codes "accuracy") (number_between 1 1000000)
-    ∷ optional_flag (codes "ordering")
-    ∷ []
-
-abbrev pub rules_option : Rule
-rules_option = required_option (codes "rules") parser.String
-
-abbrev pub check_options : List Rule
-check_options = rules_option ∷ []
-
-abbrev pub database_option : Rule
-database_option = required_option (codes "db") parser.String
-
-abbrev pub init_options : List Rule
-init_options = database_option ∷ []
-
--- readings, offsets and moments are in microseconds
-abbrev pub microseconds : ValueParser
-microseconds = number_between 0 9223372036854775807
-
-abbrev pub calibrate_options : List Rule
-calibrate_options =
-    database_option
-    ∷ required_option (codes "reading") microseconds
-    ∷ required_option (codes "offset") microseconds
-    ∷ optional_flag (codes "behind")
-    ∷ required_option (codes "uncertainty") (number_between 0 1000000000000)
-    ∷ []
-
-abbrev pub hold_options : List Rule
-hold_options =
-    database_option
-    ∷ required_option (codes "from") microseconds
-    ∷ required_option (codes "to") microseconds
-    ∷ []
-
-abbrev pub key_option : Rule
-key_option = optional_option (codes "key") parser.String
-
-abbrev pub answer_options : List Rule
-answer_options =
-    database_option
-    ∷ rules_option
-    ∷ required_option (codes "certificate") parser.String
-    ∷ required_option (codes "signing-key") parser.String
-    ∷ required_option (codes "reading") microseconds
-    ∷ key_option
-    ∷ []
-
-abbrev pub with_rules : List Rule → App → App
-with_rules rules = on_top (λ top. record top { rules = rules })
-
-abbrev pub tst_command : App
-tst_command = with_rules tst_options (new_app (codes "tst"))
-
-abbrev pub check_command : App
-check_command = with_rules check_options (new_app (codes "check"))
-
-abbrev pub init_command : App
-init_command = with_rules init_options (new_app (codes "init"))
-
-abbrev pub calibrate_command : App
-calibrate_command = with_rules calibrate_options (new_app (codes "calibrate"))
-
-abbrev pub hold_command : App
-hold_command = with_rules hold_options (new_app (codes "hold"))
-
-abbrev pub answer_command : App
-answer_command = with_rules answer_options (new_app (codes "answer"))
-
-abbrev pub with_subcommands : List App → App → App
-with_subcommands [] app = app
-with_subcommands (sub ∷ subs) app = with_subcommands subs (with_subcommand app sub.top)
-
-abbrev pub subcommands : List App
-subcommands =
-    tst_command
-    ∷ check_command
-    ∷ init_command
-    ∷ calibrate_command
-    ∷ hold_command
-    ∷ answer_command
-    ∷ []
-
--- the program: one of the subcommands has to be there
-abbrev pub counter_command : App
-counter_command =
-    with_subcommands subcommands
-    (on_top (λ top. record top { subcommand_required = true }) (new_app (codes "counter")))
 
 -- the option's value is the number in decimal digits, before which a plus may stand
 pub record StatesNumber (rows : List Row) (name : Text) (number : ℕ) : Type 0 where
@@ -187,13 +73,52 @@ pub record StatesHold (rows : List Row) (words : HoldWords) : Type 0 where
   pub from : StatesNumber rows (codes "from") words.from
   pub to : StatesNumber rows (codes "to") words.to
 
-pub record StatesAnswer (rows : List Row) (words : AnswerWords) : Type 0 where
+-- the values of `--signing-key`, `--signer` and `--signer-algorithm`
+abbrev pub key_stated : List Row → Option Text
+key_stated = first_of (codes "signing-key")
+
+abbrev pub address_stated : List Row → Option Text
+address_stated = first_of (codes "signer")
+
+abbrev pub algorithm_stated : List Row → Option Text
+algorithm_stated = first_of (codes "signer-algorithm")
+
+-- who signs: a key is there and nothing of a session, or all of a session and no key
+abbrev pub StatesSigner : List Row → SignerWords → Type 0
+StatesSigner rows (Key path) =
+    (key_stated rows ≡ Some path.now) × (address_stated rows ≡ None) × (algorithm_stated rows ≡ None)
+StatesSigner rows (Session address algorithm) =
+    (key_stated rows ≡ None)
+    × (address_stated rows ≡ Some address.now)
+    × (algorithm_stated rows ≡ Some algorithm.now)
+
+pub record StatesDesk (rows : List Row) (words : DeskWords) : Type 0 where
   pub db : first_of (codes "db") rows ≡ Some words.db.now
   pub rules : first_of (codes "rules") rows ≡ Some words.rules.now
   pub certificate : first_of (codes "certificate") rows ≡ Some words.certificate.now
-  pub signing_key : first_of (codes "signing-key") rows ≡ Some words.signing_key.now
+  pub signer : StatesSigner rows words.signer
+
+pub record StatesAnswer (rows : List Row) (words : AnswerWords) : Type 0 where
+  pub desk : StatesDesk rows words.desk
   pub reading : StatesNumber rows (codes "reading") words.reading
   pub key : first_of (codes "key") rows ≡ option_map (λ s. s.now) words.key
+
+pub record StatesExchange (rows : List Row) (words : ExchangeWords) : Type 0 where
+  pub desk : StatesDesk rows words.desk
+  pub reading : StatesNumber rows (codes "reading") words.reading
+
+pub record StatesServe (rows : List Row) (words : ServeWords) : Type 0 where
+  pub desk : StatesDesk rows words.desk
+  pub listen : first_of (codes "listen") rows ≡ Some words.listen.now
+  pub connections : StatesNumber rows (codes "connections") words.connections
+
+pub record StatesAudit (rows : List Row) (words : AuditWords) : Type 0 where
+  pub db : first_of (codes "db") rows ≡ Some words.db.now
+  pub rules : first_of (codes "rules") rows ≡ Some words.rules.now
+  pub account : first_of (codes "account") rows ≡ Some words.account.now
+  pub from : StatesNumber rows (codes "from") words.from
+  pub to : StatesNumber rows (codes "to") words.to
+  pub check : StatesFlag rows (codes "check") words.check
 
 -- the subcommand of this name, and what was found for its options, is what is asked
 abbrev pub IsAsked : Text → List Row → Word → Type 0
@@ -203,10 +128,44 @@ IsAsked name rows (Init words) = (name ≡ codes "init") × StatesInit rows word
 IsAsked name rows (Calibrate words) = (name ≡ codes "calibrate") × StatesCalibrate rows words
 IsAsked name rows (Hold words) = (name ≡ codes "hold") × StatesHold rows words
 IsAsked name rows (Answer words) = (name ≡ codes "answer") × StatesAnswer rows words
+IsAsked name rows (Exchange words) = (name ≡ codes "exchange") × StatesExchange rows words
+IsAsked name rows (Serve words) = (name ≡ codes "serve") × StatesServe rows words
+IsAsked name rows (Audit words) = (name ≡ codes "audit") × StatesAudit rows words
+
+-- whether a key, an address and an algorithm tell one signer: the first alone does, or the other two
+abbrev pub tells_one_signer : Bool → Bool → Bool → Bool
+tells_one_signer key address algorithm =
+    (key && (not address && not algorithm)) || (not key && (address && algorithm))
+
+-- the signer that these values tell
+abbrev pub IsTold : (key address algorithm : Option (Bor Text)) → SignerWords → Type 0
+IsTold key address algorithm (Key path) = (key ≡ Some path) × (address ≡ None) × (algorithm ≡ None)
+IsTold key address algorithm (Session at by) = (key ≡ None) × (address ≡ Some at) × (algorithm ≡ Some by)
+
+abbrev pub has_one_signer : List Row → Bool
+has_one_signer rows =
+    tells_one_signer (is_some (key_stated rows)) (is_some (address_stated rows)) (is_some (algorithm_stated rows))
+
+-- the subcommands that need a signer
+abbrev pub needs_signer : Text → Bool
+needs_signer name =
+    bytes_eq name (codes "answer") || (bytes_eq name (codes "exchange") || bytes_eq name (codes "serve"))
+
+-- the subcommand needs a signer, and its options tell none or mix two up
+abbrev pub mixes_signers : Option (Text × List Row) → Bool
+mixes_signers found = option_map_or (λ p. needs_signer p.0 && not (has_one_signer p.1)) found false
 
 -- `clap` finds no fault with the words, of which the first is the program's name.
+abbrev pub AreWellFormed : List Text → Type 0
+AreWellFormed texts = fault_of counter_command texts ≡ []
+
+-- There is no fault in the words: `clap` finds none, and where a signer is needed they tell one.
 abbrev pub AreTaken : List Text → Type 0
-AreTaken texts = fault_of counter_command texts ≡ []
+AreTaken texts = AreWellFormed texts × (mixes_signers (subcommand_of counter_command texts) ≡ false)
+
+-- The only fault in the words is that they tell no signer where one is needed, or mix two up.
+abbrev pub MixSigners : List Text → Type 0
+MixSigners texts = AreWellFormed texts × (mixes_signers (subcommand_of counter_command texts) ≡ true)
 
 -- the words are taken, and ask for this
 pub record Asks (texts : List Text) (word : Word) : Type 0 where
@@ -226,14 +185,19 @@ AsksHelp texts =
 abbrev pub AskNothing : List Text → Type 0
 AskNothing texts = AreTaken texts × ((word : Word) → Asks texts word → ⊥)
 
--- a fault other than that they ask for help is what `clap` may say of the words, or they ask for nothing
+-- The words have a fault other than that they ask for help, by what `clap` may say of them or in their signer; or they
+-- ask for nothing.
 abbrev pub AreRefused : List Text → Type 0
 AreRefused texts =
     ((kind : ErrorKind)
     × IsAmong kind (fault_of counter_command texts)
     × (kind ≢ DisplayHelp)
     × (kind ≢ DisplayVersion))
-    ⊎ AskNothing texts
+    ⊎ (MixSigners texts ⊎ AskNothing texts)
+
+-- the kinds that errors of this crate's own have
+abbrev pub IsOwnKind : ErrorKind → Type 0
+IsOwnKind kind = (kind ≡ MissingRequiredArgument) ⊎ (kind ≡ ArgumentConflict)
 
 -- the words ask for help, or aren't understood; of want of memory nothing is said
 abbrev pub IsRefusal : List Text → Refusal → Type 0

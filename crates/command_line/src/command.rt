@@ -1,124 +1,22 @@
 //! The command line, for `clap`.
-ghost use Rattle.std.specs.Prelude.{◌≡◌, ◌^◌, ◌<◌, IfOk, false};
-ghost use Rattle.clap.specs.Words.{app_of, rule_of};
-ghost use Rattle.command_line.specs.Words.{answer_command, calibrate_command, check_command, counter_command};
-ghost use Rattle.command_line.specs.Words.{database_option};
-ghost use Rattle.command_line.specs.Words.{hold_command, init_command, key_option, number_between, optional_flag};
-ghost use Rattle.command_line.specs.Words.{optional_option, required_option};
-ghost use Rattle.command_line.specs.Words.{rules_option, tst_command};
+ghost use Rattle.std.specs.Prelude.{◌≡◌, IfOk};
+ghost use Rattle.clap.specs.Words.{app_of, new_app};
+ghost use Rattle.command_line.specs.Options.{answer_command, audit_command, bare_command, calibrate_command};
+ghost use Rattle.command_line.specs.Options.{check_command, counter_command, desk_options, exchange_command, hold_command};
+ghost use Rattle.command_line.specs.Options.{init_command, serve_command, tst_command, with_rules};
 
-use clap::builder::ValueParser;
-use clap::{Arg, ArgAction, Command, value_parser};
+use crate::options::{
+    ACCURACIES, CONNECTIONS, DIGITS, MOMENTS, SERIALS, UNCERTAINTIES, WHOLE_NUMBERS,
+    database_option, flag, number_option, optional_text_option, reading_option, rules_option,
+    text_option,
+};
+use clap::Command;
 use std::alloc::{AllocError, Global};
-
-/// The numbers that an option takes, both ends included.
-#[derive(Clone, Copy)]
-pub struct Numbers {
-    /// The least of them.
-    pub least: u64,
-    /// The greatest of them.
-    pub most: u64,
-    ghost small_least: { least < 2 ^ 63 },
-    ghost small_most: { most < 2 ^ 63 },
-}
-
-/// Microseconds since 1970-01-01T00:00:00Z.
-pub const MOMENTS: Numbers = Numbers {
-    least: 0,
-    most: 253_402_300_799_999_999,
-};
-
-/// Fraction digits of a second.
-pub const DIGITS: Numbers = Numbers { least: 0, most: 6 };
-
-/// Serial numbers.
-pub const SERIALS: Numbers = Numbers {
-    least: 1,
-    most: i64::MAX as u64,
-};
-
-/// Microseconds of accuracy.
-pub const ACCURACIES: Numbers = Numbers {
-    least: 1,
-    most: 1_000_000,
-};
-
-/// Microseconds: a clock's readings, offsets, and the bounds of holds.
-pub const MICROSECONDS: Numbers = Numbers {
-    least: 0,
-    most: i64::MAX as u64,
-};
-
-/// Microseconds of uncertainty.
-pub const UNCERTAINTIES: Numbers = Numbers {
-    least: 0,
-    most: 1_000_000_000_000,
-};
-
-fn number_option<'a>(alloc: Global, name: &'a str, numbers: Numbers, help: &'a str) -> Arg<'a>
-    ensures rule { rule_of result ≡ required_option name.now (number_between numbers.least numbers.most) }
-    ensures local { result.global ≡ false }
-{
-    let range = numbers.least as i64..=numbers.most as i64;
-    option(alloc, name, value_parser!(i64).range(range), help)
-}
-
-fn option<'a>(alloc: Global, name: &'a str, parser: ValueParser<'a>, help: &'a str) -> Arg<'a>
-    ensures rule { rule_of result ≡ required_option name.now parser.entry }
-    ensures local { result.global ≡ false }
-{
-    Arg::new(alloc, name)
-        .long(name)
-        .required(true)
-        .action(ArgAction::Set)
-        .value_parser(parser)
-        .help(help)
-}
-
-fn flag<'a>(alloc: Global, name: &'a str, help: &'a str) -> Arg<'a>
-    ensures rule { rule_of result ≡ optional_flag name.now }
-    ensures local { result.global ≡ false }
-{
-    Arg::new(alloc, name)
-        .long(name)
-        .action(ArgAction::SetTrue)
-        .help(help)
-}
-
-fn database_option<'a>(alloc: Global) -> Arg<'a>
-    ensures rule { rule_of result ≡ database_option }
-    ensures local { result.global ≡ false }
-{
-    option(alloc, "db", ValueParser::string(), "The database")
-}
-
-fn rules_option<'a>(alloc: Global) -> Arg<'a>
-    ensures rule { rule_of result ≡ rules_option }
-    ensures local { result.global ≡ false }
-{
-    option(alloc, "rules", ValueParser::string(), "The policy file")
-}
-
-fn key_option<'a>(alloc: Global) -> Arg<'a>
-    ensures rule { rule_of result ≡ key_option }
-    ensures local { result.global ≡ false }
-{
-    Arg::new(alloc, "key")
-        .long("key")
-        .action(ArgAction::Set)
-        .value_parser(ValueParser::string())
-        .help("The account's key; without it the anonymous account asks")
-}
 
 fn tst_command<'a>(alloc: Global) -> Result<Command<'a>, AllocError>
     ensures { IfOk result (λ command. app_of command ≡ tst_command) }
 {
-    let policy = option(
-        alloc,
-        "policy",
-        ValueParser::string(),
-        "The policy where the request states none",
-    );
+    let policy = text_option(alloc, "policy", "The policy where the request states none");
     let moment = number_option(alloc, "moment", MOMENTS, "Microseconds since 1970");
     let digits = number_option(alloc, "digits", DIGITS, "Fraction digits of a second");
     let serial = number_option(alloc, "serial", SERIALS, "The serial number");
@@ -158,16 +56,11 @@ fn calibrate_command<'a>(alloc: Global) -> Result<Command<'a>, AllocError>
     ensures { IfOk result (λ command. app_of command ≡ calibrate_command) }
 {
     let db = database_option(alloc);
-    let reading = number_option(
-        alloc,
-        "reading",
-        MICROSECONDS,
-        "The clock's reading in microseconds",
-    );
+    let reading = reading_option(alloc);
     let offset = number_option(
         alloc,
         "offset",
-        MICROSECONDS,
+        WHOLE_NUMBERS,
         "Microseconds from the reading to the moment since 1970",
     );
     let behind = flag(
@@ -197,10 +90,15 @@ fn hold_command<'a>(alloc: Global) -> Result<Command<'a>, AllocError>
     let from = number_option(
         alloc,
         "from",
-        MICROSECONDS,
+        WHOLE_NUMBERS,
         "The first moment, in microseconds since 1970",
     );
-    let to = number_option(alloc, "to", MICROSECONDS, "The first moment after the hold");
+    let to = number_option(
+        alloc,
+        "to",
+        WHOLE_NUMBERS,
+        "The first moment after the hold",
+    );
     Command::new(alloc, "hold")
         .about("Adds a hold to the database: moments at which no token is given")
         .arg(db)?
@@ -208,51 +106,133 @@ fn hold_command<'a>(alloc: Global) -> Result<Command<'a>, AllocError>
         .arg(to)
 }
 
-fn answer_command<'a>(alloc: Global) -> Result<Command<'a>, AllocError>
-    ensures { IfOk result (λ command. app_of command ≡ answer_command) }
+/// A command that answers requests, with what the desk stands on.
+fn desk_command<'a>(alloc: Global, name: &'a str, about: &'a str) -> Result<Command<'a>, AllocError>
+    ensures { IfOk result (λ command. app_of command ≡ with_rules desk_options (new_app name.now)) }
 {
     let db = database_option(alloc);
     let rules = rules_option(alloc);
-    let certificate = option(
-        alloc,
-        "certificate",
-        ValueParser::string(),
-        "The certificate, a DER file",
-    );
-    let signing_key = option(
+    let certificate = text_option(alloc, "certificate", "The certificate, a DER file");
+    let signing_key = optional_text_option(
         alloc,
         "signing-key",
-        ValueParser::string(),
-        "The key of the stand-in signer, a file",
+        "The key of the stand-in signer, a file; or --signer and --signer-algorithm",
     );
-    let reading = number_option(
+    let signer = optional_text_option(
         alloc,
-        "reading",
-        MICROSECONDS,
-        "The clock's reading in microseconds",
+        "signer",
+        "The address of a signer in another process, as 127.0.0.1:4000",
     );
-    let key = key_option(alloc);
-    Command::new(alloc, "answer")
-        .about("Reads a request in hexadecimal, and writes its token or its rejection")
+    let signer_algorithm = optional_text_option(
+        alloc,
+        "signer-algorithm",
+        "The algorithm of that signer, a DER file",
+    );
+    Command::new(alloc, name)
+        .about(about)
         .arg(db)?
         .arg(rules)?
         .arg(certificate)?
         .arg(signing_key)?
-        .arg(reading)?
-        .arg(key)
+        .arg(signer)?
+        .arg(signer_algorithm)
+}
+
+/// The words of `answer`.
+pub fn answer_command<'a>(alloc: Global) -> Result<Command<'a>, AllocError>
+    ensures { IfOk result (λ command. app_of command ≡ answer_command) }
+{
+    let reading = reading_option(alloc);
+    let key = optional_text_option(
+        alloc,
+        "key",
+        "The account's key; without it the anonymous account asks",
+    );
+    desk_command(
+        alloc,
+        "answer",
+        "Reads a request in hexadecimal, and writes its token or its rejection",
+    )?
+    .arg(reading)?
+    .arg(key)
+}
+
+/// The words of `exchange`.
+pub fn exchange_command<'a>(alloc: Global) -> Result<Command<'a>, AllocError>
+    ensures { IfOk result (λ command. app_of command ≡ exchange_command) }
+{
+    let reading = reading_option(alloc);
+    desk_command(
+        alloc,
+        "exchange",
+        "Reads one HTTP request from standard input, and writes its answer",
+    )?
+    .arg(reading)
+}
+
+/// The words of `serve`.
+pub fn serve_command<'a>(alloc: Global) -> Result<Command<'a>, AllocError>
+    ensures { IfOk result (λ command. app_of command ≡ serve_command) }
+{
+    let listen = text_option(
+        alloc,
+        "listen",
+        "The address to listen on, as 127.0.0.1:8080",
+    );
+    let connections = number_option(
+        alloc,
+        "connections",
+        CONNECTIONS,
+        "How many connections are served, one after the other",
+    );
+    desk_command(alloc, "serve", "Answers HTTP requests at an address")?
+        .arg(listen)?
+        .arg(connections)
+}
+
+fn audit_command<'a>(alloc: Global) -> Result<Command<'a>, AllocError>
+    ensures { IfOk result (λ command. app_of command ≡ audit_command) }
+{
+    let db = database_option(alloc);
+    let rules = rules_option(alloc);
+    let account = text_option(
+        alloc,
+        "account",
+        "The name of the account that asks, an auditor",
+    );
+    let from = number_option(alloc, "from", WHOLE_NUMBERS, "The first serial number");
+    let to = number_option(alloc, "to", WHOLE_NUMBERS, "The last serial number");
+    let check = flag(alloc, "check", "Checks each row, and names those that fail");
+    Command::new(alloc, "audit")
+        .about("Writes the stamps of a range of serial numbers as comma-separated values")
+        .arg(db)?
+        .arg(rules)?
+        .arg(account)?
+        .arg(from)?
+        .arg(to)?
+        .arg(check)
+}
+
+fn bare_command<'a>(alloc: Global) -> Command<'a>
+    ensures { app_of result ≡ bare_command }
+{
+    Command::new(alloc, "counter")
+        .about("The counter of a time-stamping authority (RFC 3161)")
+        .subcommand_required(true)
 }
 
 /// The command line of the whole program. An error where memory runs out.
 pub fn command<'a>(alloc: Global) -> Result<Command<'a>, AllocError>
     ensures { IfOk result (λ command. app_of command ≡ counter_command) }
 {
-    Command::new(alloc, "counter")
-        .about("The counter of a time-stamping authority (RFC 3161)")
-        .subcommand_required(true)
+    bare_command(alloc)
         .subcommand(tst_command(alloc)?)?
         .subcommand(check_command(alloc)?)?
         .subcommand(init_command(alloc)?)?
         .subcommand(calibrate_command(alloc)?)?
         .subcommand(hold_command(alloc)?)?
-        .subcommand(answer_command(alloc)?)
+        .subcommand(answer_command(alloc)?)?
+        .subcommand(exchange_command(alloc)?)?
+        .subcommand(serve_command(alloc)?)?
+        .subcommand(audit_command(alloc)?)
 }

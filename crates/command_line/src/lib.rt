@@ -2,11 +2,16 @@
 #![tactic(auto)]
 
 mod command;
+mod options;
 mod parse;
 mod refusal;
+mod signer;
 #[cfg(test)]
 mod tests;
 mod words;
 
 pub use refusal::Refusal;
-pub use words::{AnswerWords, CalibrateWords, CheckWords, HoldWords, InitWords, TstWords, Word};
+pub use words::{
+    AnswerWords, AuditWords, CalibrateWords, CheckWords, DeskWords, ExchangeWords, HoldWords,
+    InitWords, ServeWords, SignerWords, TstWords, Word,
+};

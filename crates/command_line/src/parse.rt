@@ -1,15 +1,22 @@
 //! What the words ask for, by what `clap` finds in them.
 ghost use Rattle.std.specs.Prelude.{◌≡◌, ◌≤◌, ◌⊎◌, ℕ, List, Some, IfOk, IfErr, IfSome, IsNone};
 ghost use Rattle.clap.specs.Words.{Row, Text, HasKind, fault_of, found_of, kind_of, rows_of, subcommand_rows_of};
-ghost use Rattle.command_line.specs.Words.{AskNothing, Asks, IsAsked, IsRefusal, IsShown, StatesAnswer};
-ghost use Rattle.command_line.specs.Words.{StatesCalibrate, StatesCheck, StatesHold, StatesInit, StatesNumber};
-ghost use Rattle.command_line.specs.Words.{StatesTst, counter_command, texts_of};
+ghost use Rattle.command_line.specs.Options.{counter_command};
+ghost use Rattle.command_line.specs.Words.{AskNothing, Asks, IsAsked, IsOwnKind, IsRefusal, IsShown, MixSigners};
+ghost use Rattle.command_line.specs.Words.{StatesAnswer, StatesAudit, StatesCalibrate, StatesCheck, StatesDesk};
+ghost use Rattle.command_line.specs.Words.{StatesExchange, StatesHold, StatesInit, StatesNumber, StatesServe};
+ghost use Rattle.command_line.specs.Words.{StatesTst, texts_of};
 
-use crate::command::{
-    ACCURACIES, DIGITS, MICROSECONDS, MOMENTS, Numbers, SERIALS, UNCERTAINTIES, command,
+use crate::command::command;
+use crate::options::{
+    ACCURACIES, CONNECTIONS, DIGITS, MOMENTS, Numbers, SERIALS, UNCERTAINTIES, WHOLE_NUMBERS,
 };
 use crate::refusal::Refusal;
-use crate::words::{AnswerWords, CalibrateWords, CheckWords, HoldWords, InitWords, TstWords, Word};
+use crate::signer::{error_of, signer_words};
+use crate::words::{
+    AnswerWords, AuditWords, CalibrateWords, CheckWords, DeskWords, ExchangeWords, HoldWords,
+    InitWords, ServeWords, TstWords, Word,
+};
 use clap::error::ErrorKind;
 use clap::{ArgMatches, Error};
 use std::alloc::{AllocError, Global};
@@ -35,17 +42,17 @@ impl<'a> Word<'a> {
 fn matched<'a>(alloc: Global, words: &'a [String]) -> Result<Word<'a>, Error>
     ensures asked { IfOk result (Asks (texts_of words.now)) }
 
-    // Words are refused as `clap` says, for want of memory, or where they ask for nothing.
+    // Words are refused as `clap` says, for want of memory, for their signer, or where they ask for nothing.
     ensures refused { IfErr result (λ error.
         HasKind (fault_of counter_command (texts_of words.now)) error
-        ⊎ ((kind_of error ≡ ErrorKind.MissingRequiredArgument)
-        × AskNothing (texts_of words.now))) }
+        ⊎ (IsOwnKind (kind_of error)
+        × (MixSigners (texts_of words.now) ⊎ AskNothing (texts_of words.now)))) }
 {
     let mut command = command(alloc)?;
     let matches = command.try_get_matches_from_mut(words)?;
     match word_of(&matches) {
         Some(word) => Ok(word),
-        None => Err(command.error(ErrorKind::MissingRequiredArgument, "a value is missing")?),
+        None => Err(error_of(alloc, &matches)?),
     }
 }
 
@@ -77,6 +84,9 @@ fn word_of<'a>(matches: &ArgMatches<'a>) -> Option<Word<'a>>
         ("calibrate", words) => Some(Word::Calibrate(calibrate_words(words)?)),
         ("hold", words) => Some(Word::Hold(hold_words(words)?)),
         ("answer", words) => Some(Word::Answer(answer_words(words)?)),
+        ("exchange", words) => Some(Word::Exchange(exchange_words(words)?)),
+        ("serve", words) => Some(Word::Serve(serve_words(words)?)),
+        ("audit", words) => Some(Word::Audit(audit_words(words)?)),
         _ => None,
     }
 }
@@ -106,8 +116,8 @@ fn calibrate_words<'a>(matches: &ArgMatches<'a>) -> Option<CalibrateWords<'a>>
 {
     Some(CalibrateWords {
         db: matches.get_str("db")?,
-        reading: number(matches, "reading", MICROSECONDS)?,
-        offset: number(matches, "offset", MICROSECONDS)?,
+        reading: number(matches, "reading", WHOLE_NUMBERS)?,
+        offset: number(matches, "offset", WHOLE_NUMBERS)?,
         behind: matches.get_flag("behind"),
         uncertainty: number(matches, "uncertainty", UNCERTAINTIES)?,
     })
@@ -119,8 +129,8 @@ fn hold_words<'a>(matches: &ArgMatches<'a>) -> Option<HoldWords<'a>>
 {
     Some(HoldWords {
         db: matches.get_str("db")?,
-        from: number(matches, "from", MICROSECONDS)?,
-        to: number(matches, "to", MICROSECONDS)?,
+        from: number(matches, "from", WHOLE_NUMBERS)?,
+        to: number(matches, "to", WHOLE_NUMBERS)?,
     })
 }
 
@@ -138,17 +148,62 @@ fn tst_words<'a>(matches: &ArgMatches<'a>) -> Option<TstWords<'a>>
     })
 }
 
+fn desk_words<'a>(matches: &ArgMatches<'a>) -> Option<DeskWords<'a>>
+    ensures found { IfSome result (StatesDesk (rows_of (found_of matches.now))) }
+    ensures none { IsNone result → (words : DeskWords) → StatesDesk (rows_of (found_of matches.now)) words → ⊥ }
+{
+    Some(DeskWords {
+        db: matches.get_str("db")?,
+        rules: matches.get_str("rules")?,
+        certificate: matches.get_str("certificate")?,
+        signer: signer_words(matches)?,
+    })
+}
+
 fn answer_words<'a>(matches: &ArgMatches<'a>) -> Option<AnswerWords<'a>>
     ensures found { IfSome result (StatesAnswer (rows_of (found_of matches.now))) }
     ensures none { IsNone result → (words : AnswerWords) → StatesAnswer (rows_of (found_of matches.now)) words → ⊥ }
 {
     Some(AnswerWords {
+        desk: desk_words(matches)?,
+        reading: number(matches, "reading", WHOLE_NUMBERS)?,
+        key: matches.get_str("key"),
+    })
+}
+
+fn exchange_words<'a>(matches: &ArgMatches<'a>) -> Option<ExchangeWords<'a>>
+    ensures found { IfSome result (StatesExchange (rows_of (found_of matches.now))) }
+    ensures none { IsNone result → (words : ExchangeWords)
+        → StatesExchange (rows_of (found_of matches.now)) words → ⊥ }
+{
+    Some(ExchangeWords {
+        desk: desk_words(matches)?,
+        reading: number(matches, "reading", WHOLE_NUMBERS)?,
+    })
+}
+
+fn serve_words<'a>(matches: &ArgMatches<'a>) -> Option<ServeWords<'a>>
+    ensures found { IfSome result (StatesServe (rows_of (found_of matches.now))) }
+    ensures none { IsNone result → (words : ServeWords) → StatesServe (rows_of (found_of matches.now)) words → ⊥ }
+{
+    Some(ServeWords {
+        desk: desk_words(matches)?,
+        listen: matches.get_str("listen")?,
+        connections: number(matches, "connections", CONNECTIONS)? as u32,
+    })
+}
+
+fn audit_words<'a>(matches: &ArgMatches<'a>) -> Option<AuditWords<'a>>
+    ensures found { IfSome result (StatesAudit (rows_of (found_of matches.now))) }
+    ensures none { IsNone result → (words : AuditWords) → StatesAudit (rows_of (found_of matches.now)) words → ⊥ }
+{
+    Some(AuditWords {
         db: matches.get_str("db")?,
         rules: matches.get_str("rules")?,
-        certificate: matches.get_str("certificate")?,
-        signing_key: matches.get_str("signing-key")?,
-        reading: number(matches, "reading", MICROSECONDS)?,
-        key: matches.get_str("key"),
+        account: matches.get_str("account")?,
+        from: number(matches, "from", WHOLE_NUMBERS)?,
+        to: number(matches, "to", WHOLE_NUMBERS)?,
+        check: matches.get_flag("check"),
     })
 }
 

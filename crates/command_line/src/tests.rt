@@ -1,4 +1,7 @@
-use crate::{CalibrateWords, CheckWords, HoldWords, InitWords, Refusal, TstWords, Word};
+use crate::{
+    AnswerWords, AuditWords, CalibrateWords, CheckWords, DeskWords, ExchangeWords, HoldWords,
+    InitWords, Refusal, ServeWords, SignerWords, TstWords, Word,
+};
 use std::alloc::{AllocError, Global};
 use std::test::Fail;
 
@@ -93,19 +96,144 @@ const TAKEN: [(&str, Word<'static>); 10] = [
     ),
 ];
 
+const BY_KEY: DeskWords<'static> = DeskWords {
+    db: "a.db",
+    rules: "b.toml",
+    certificate: "c.der",
+    signer: SignerWords::Key("d.key"),
+};
+
+const BY_SESSION: DeskWords<'static> = DeskWords {
+    signer: SignerWords::Session {
+        address: "127.0.0.1:4000",
+        algorithm: "e.der",
+    },
+    ..BY_KEY
+};
+
+const REQUESTS_TAKEN: [(&str, Word<'static>); 7] = [
+    (
+        "counter answer --db a.db --rules b.toml --certificate c.der --signing-key d.key --reading 0",
+        Word::Answer(AnswerWords {
+            desk: BY_KEY,
+            reading: 0,
+            key: None,
+        }),
+    ),
+    (
+        "counter answer --key test --signer-algorithm e.der --reading 9223372036854775807 --signer 127.0.0.1:4000 \
+        --certificate c.der --rules b.toml --db a.db",
+        Word::Answer(AnswerWords {
+            desk: BY_SESSION,
+            reading: 9_223_372_036_854_775_807,
+            key: Some("test"),
+        }),
+    ),
+    (
+        "counter exchange --db a.db --rules b.toml --certificate c.der --signing-key d.key --reading 5",
+        Word::Exchange(ExchangeWords {
+            desk: BY_KEY,
+            reading: 5,
+        }),
+    ),
+    (
+        "counter exchange --db a.db --rules b.toml --certificate c.der --signer=127.0.0.1:4000 --signer-algorithm=e.der \
+        --reading +5",
+        Word::Exchange(ExchangeWords {
+            desk: BY_SESSION,
+            reading: 5,
+        }),
+    ),
+    (
+        "counter serve --db a.db --rules b.toml --certificate c.der --signing-key d.key --listen 127.0.0.1:0 \
+        --connections 0",
+        Word::Serve(ServeWords {
+            desk: BY_KEY,
+            listen: "127.0.0.1:0",
+            connections: 0,
+        }),
+    ),
+    (
+        "counter serve --connections 4294967295 --listen '' --signer 127.0.0.1:4000 --signer-algorithm e.der --db a.db \
+        --certificate c.der --rules b.toml",
+        Word::Serve(ServeWords {
+            desk: BY_SESSION,
+            listen: "",
+            connections: 4_294_967_295,
+        }),
+    ),
+    (
+        "counter answer --db a.db --rules b.toml --certificate c.der --signing-key '' --reading 007 --key ''",
+        Word::Answer(AnswerWords {
+            desk: DeskWords {
+                signer: SignerWords::Key(""),
+                ..BY_KEY
+            },
+            reading: 7,
+            key: Some(""),
+        }),
+    ),
+];
+
+const EXTRACTS_TAKEN: [(&str, Word<'static>); 2] = [
+    (
+        "counter audit --db a.db --rules b.toml --account audra --from 1 --to 9",
+        Word::Audit(AuditWords {
+            db: "a.db",
+            rules: "b.toml",
+            account: "audra",
+            from: 1,
+            to: 9,
+            check: false,
+        }),
+    ),
+    (
+        "counter audit --check --to 9223372036854775807 --from 0 --account '' --rules b.toml --db a.db",
+        Word::Audit(AuditWords {
+            db: "a.db",
+            rules: "b.toml",
+            account: "",
+            from: 0,
+            to: 9_223_372_036_854_775_807,
+            check: true,
+        }),
+    ),
+];
+
+/// Whether the line's words are taken, and ask for that.
+fn is_taken(alloc: Global, line: &str, asked: Word<'_>) -> Result<bool, Fail> {
+    let words = words_of(alloc, line)?;
+    match Word::parse(alloc, words.as_slice()) {
+        Ok(word) => Ok(word == asked),
+        Err(_) => Ok(false),
+    }
+}
+
 #[test]
-fn words_are_taken(rt: HostRuntime) -> Result<(), Fail> {
-    for (line, asked) in &TAKEN {
-        let words = words_of(rt.alloc(), line)?;
-        match Word::parse(rt.alloc(), words.as_slice()) {
-            Ok(word) => assert_eq!(rt; word, *asked, "{line}"),
-            Err(_) => return Err(Fail::from(*line)),
-        }
+fn words_of_requests_are_taken(rt: HostRuntime) -> Result<(), Fail> {
+    for (line, asked) in REQUESTS_TAKEN {
+        assert!(rt; is_taken(rt.alloc(), line, asked)?, "{line}");
     }
     Ok(())
 }
 
-const REFUSED: [&str; 43] = [
+#[test]
+fn words_of_extracts_are_taken(rt: HostRuntime) -> Result<(), Fail> {
+    for (line, asked) in EXTRACTS_TAKEN {
+        assert!(rt; is_taken(rt.alloc(), line, asked)?, "{line}");
+    }
+    Ok(())
+}
+
+#[test]
+fn words_are_taken(rt: HostRuntime) -> Result<(), Fail> {
+    for (line, asked) in TAKEN {
+        assert!(rt; is_taken(rt.alloc(), line, asked)?, "{line}");
+    }
+    Ok(())
+}
+
+const REFUSED: [&str; 56] = [
     "counter",
     "counter check",
     "counter TST --policy 2.999.1 --moment 0 --digits 0 --serial 1 --accuracy 1",
@@ -146,6 +274,19 @@ const REFUSED: [&str; 43] = [
     "counter calibrate --db a --reading 5 --offset 0 --uncertainty 0 --behind --behind",
     "counter hold --db a --from 1 --to x",
     "counter hold --db a --from 1",
+    "counter answer --db a --rules b --certificate c --signing-key d",
+    "counter answer --db a --rules b --signing-key d --reading 0",
+    "counter answer --db a --rules b --certificate c --signing-key d --reading 9223372036854775808",
+    "counter answer --db a --rules b --certificate c --signing-key d --signing-key e --reading 0",
+    "counter exchange --db a --rules b --certificate c --signing-key d --reading 0 --key k",
+    "counter exchange --db a --rules b --certificate c --signing-key d",
+    "counter serve --db a --rules b --certificate c --signing-key d --listen e --connections 0 --reading 0",
+    "counter serve --db a --rules b --certificate c --signing-key d --listen e --connections 4294967296",
+    "counter serve --db a --rules b --certificate c --signing-key d --listen e --connections -1",
+    "counter serve --db a --rules b --certificate c --signing-key d --connections 1",
+    "counter audit --db a --rules b --account c --from 1",
+    "counter audit --db a --rules b --account c --from 1 --to 9223372036854775808",
+    "counter audit --db a --rules b --from 1 --to 2",
     "counter help nosuch",
     "counter ''",
     "counter --version",
@@ -163,8 +304,92 @@ fn words_are_refused(rt: HostRuntime) -> Result<(), Fail> {
     Ok(())
 }
 
+const AFTER_ANSWER: &str = "
+
+Usage: counter answer [OPTIONS] --db <db> --rules <rules> --certificate <certificate> --reading <reading>
+
+For more information, try '--help'.
+";
+
+const AFTER_EXCHANGE: &str = "
+
+Usage: counter exchange [OPTIONS] --db <db> --rules <rules> --certificate <certificate> --reading <reading>
+
+For more information, try '--help'.
+";
+
+const AFTER_SERVE: &str = "
+
+Usage: counter serve [OPTIONS] --db <db> --rules <rules> --certificate <certificate> --listen <listen> \
+--connections <connections>
+
+For more information, try '--help'.
+";
+
+/// The options of a signer that tell none, or mix two up, and how the text of that begins.
+const MIXED: [(&str, &str); 6] = [
+    (
+        "",
+        "error: the following required arguments were not provided:\n  \
+        <--signing-key <signing-key>|--signer <signer> --signer-algorithm <signer-algorithm>>",
+    ),
+    (
+        " --signer e",
+        "error: the following required arguments were not provided:\n  --signer-algorithm <signer-algorithm>",
+    ),
+    (
+        " --signer-algorithm f",
+        "error: the following required arguments were not provided:\n  --signer <signer>",
+    ),
+    (
+        " --signing-key d --signer e",
+        "error: the argument '--signing-key <signing-key>' cannot be used with '--signer <signer>'",
+    ),
+    (
+        " --signing-key d --signer-algorithm f",
+        "error: the argument '--signing-key <signing-key>' cannot be used with '--signer-algorithm <signer-algorithm>'",
+    ),
+    (
+        " --signing-key d --signer e --signer-algorithm f",
+        "error: the argument '--signing-key <signing-key>' cannot be used with:\n  --signer <signer>\n  \
+        --signer-algorithm <signer-algorithm>",
+    ),
+];
+
+/// Words that lack a signer, and how the text of a mistake in them ends.
+const UNSIGNED: [(&str, &str); 3] = [
+    (
+        "counter answer --db a --rules b --certificate c --reading 0",
+        AFTER_ANSWER,
+    ),
+    (
+        "counter exchange --db a --rules b --certificate c --reading 0",
+        AFTER_EXCHANGE,
+    ),
+    (
+        "counter serve --db a --rules b --certificate c --listen e --connections 1",
+        AFTER_SERVE,
+    ),
+];
+
+#[test]
+fn mixed_signers_are_refused(rt: HostRuntime) -> Result<(), Fail> {
+    for (line, end) in UNSIGNED {
+        for (options, beginning) in MIXED {
+            let line = format!(in rt.alloc(); "{line}{options}")?;
+            let told = format!(in rt.alloc(); "{beginning}{end}")?;
+            let words = words_of(rt.alloc(), line.as_str())?;
+            match Word::parse(rt.alloc(), words.as_slice()) {
+                Err(Refusal::Mistake(text)) => assert_eq!(rt; text.as_str(), told.as_str()),
+                _ => return Err(Fail::from(line.as_str())),
+            }
+        }
+    }
+    Ok(())
+}
+
 /// What is to be found in each text of help.
-const HELP: [(&str, &[&str]); 8] = [
+const HELP: [(&str, &[&str]); 12] = [
     ("counter --help", &WORDS),
     ("counter help", &WORDS),
     ("counter tst --help", &OPTIONS),
@@ -173,9 +398,42 @@ const HELP: [(&str, &[&str]); 8] = [
     ("counter init --help", &["--db", "--help"]),
     ("counter calibrate --help", &CALIBRATE_OPTIONS),
     ("counter hold --help", &["--db", "--from", "--to", "--help"]),
+    ("counter answer --help", &ANSWER_OPTIONS),
+    ("counter exchange --help", &["--signer", "--reading"]),
+    (
+        "counter serve --help",
+        &["--signing-key", "--listen", "--connections"],
+    ),
+    (
+        "counter audit --help",
+        &["--account", "--from", "--to", "--check"],
+    ),
 ];
 
-const WORDS: [&str; 6] = ["tst", "check", "init", "calibrate", "hold", "--help"];
+const WORDS: [&str; 10] = [
+    "tst",
+    "check",
+    "init",
+    "calibrate",
+    "hold",
+    "answer",
+    "exchange",
+    "serve",
+    "audit",
+    "--help",
+];
+
+const ANSWER_OPTIONS: [&str; 9] = [
+    "--db",
+    "--rules",
+    "--certificate",
+    "--signing-key",
+    "--signer",
+    "--signer-algorithm",
+    "--reading",
+    "--key",
+    "--help",
+];
 
 const CALIBRATE_OPTIONS: [&str; 6] = [
     "--db",

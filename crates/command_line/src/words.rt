@@ -15,24 +15,92 @@ pub enum Word<'a> {
     Hold(HoldWords<'a>),
     /// Answers a request by a token, or by a rejection.
     Answer(AnswerWords<'a>),
+    /// Answers one HTTP request.
+    Exchange(ExchangeWords<'a>),
+    /// Answers HTTP requests at an address.
+    Serve(ServeWords<'a>),
+    /// Writes an extract of the stamps.
+    Audit(AuditWords<'a>),
 }
 
-/// The words of `answer`.
+/// Who signs.
 #[derive(Clone, Copy, Debug, PartialEq, Eq)]
-pub struct AnswerWords<'a> {
+pub enum SignerWords<'a> {
+    /// The stand-in signer, with the key in the file at this path.
+    Key(&'a str),
+    /// A signer in another process.
+    Session {
+        /// The address at which it is reached.
+        address: &'a str,
+        /// The path of its algorithm's file.
+        algorithm: &'a str,
+    },
+}
+
+/// What the words of `answer`, `exchange` and `serve` have in common: what the desk that answers stands on.
+#[derive(Clone, Copy, Debug, PartialEq, Eq)]
+pub struct DeskWords<'a> {
     /// The database's path.
     pub db: &'a str,
     /// The policy file's path.
     pub rules: &'a str,
     /// The certificate's path.
     pub certificate: &'a str,
-    /// The path of the stand-in signer's key.
-    pub signing_key: &'a str,
+    /// Who signs.
+    pub signer: SignerWords<'a>,
+}
+
+/// The words of `answer`.
+#[derive(Clone, Copy, Debug, PartialEq, Eq)]
+pub struct AnswerWords<'a> {
+    /// What the desk stands on.
+    pub desk: DeskWords<'a>,
     /// The clock's reading, in microseconds.
     pub reading: u64,
     /// The key of the account that asks, where one is stated.
     pub key: Option<&'a str>,
     ghost some_reading: { reading < 2 ^ 63 },
+}
+
+/// The words of `exchange`.
+#[derive(Clone, Copy, Debug, PartialEq, Eq)]
+pub struct ExchangeWords<'a> {
+    /// What the desk stands on.
+    pub desk: DeskWords<'a>,
+    /// The clock's reading, in microseconds.
+    pub reading: u64,
+    ghost some_reading: { reading < 2 ^ 63 },
+}
+
+/// The words of `serve`.
+#[derive(Clone, Copy, Debug, PartialEq, Eq)]
+pub struct ServeWords<'a> {
+    /// What the desk stands on.
+    pub desk: DeskWords<'a>,
+    /// The address that is listened on.
+    pub listen: &'a str,
+    /// How many connections are served.
+    pub connections: u32,
+    ghost few: { connections < 2 ^ 32 },
+}
+
+/// The words of `audit`.
+#[derive(Clone, Copy, Debug, PartialEq, Eq)]
+pub struct AuditWords<'a> {
+    /// The database's path.
+    pub db: &'a str,
+    /// The policy file's path.
+    pub rules: &'a str,
+    /// The name of the account that asks.
+    pub account: &'a str,
+    /// The first serial number of the extract.
+    pub from: u64,
+    /// The last serial number of the extract.
+    pub to: u64,
+    /// Whether each row is checked as well.
+    pub check: bool,
+    ghost first: { from < 2 ^ 63 },
+    ghost last: { to < 2 ^ 63 },
 }
 
 /// The words of `init`.

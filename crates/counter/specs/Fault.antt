@@ -1,6 +1,7 @@
 -- The numbers of the program's own refusals, and the line that it prints of a refusal.
 use Rattle.std.specs.Prelude.{◌≡◌, ◌⊎◌, ℕ, List, [], ◌∷◌, ◌++◌, codes}
 use Rattle.std.specs.Fmt.{decimal}
+use Rattle.audit.specs.Fault as audit
 use Rattle.cms.specs.Fault as cms
 use Rattle.cms.specs.declared.fault.CmsFault.{CmsFault}
 use Rattle.der.specs.Fault as der
@@ -12,10 +13,14 @@ use Rattle.store.specs.Fault as store
 use Rattle.store.specs.declared.fault.StoreFault.{StoreFault}
 use Rattle.tsp.specs.Fault as tsp
 use Rattle.counter.specs.declared.fault.Fault.{Fault}
-use Rattle.counter.specs.declared.fault.Fault.TheVariants.{Der, Tsp, Cms, Policy, Store, Input}
+use Rattle.counter.specs.declared.fault.Fault.TheVariants.{Der, Tsp, Cms, Policy, Store, Audit, Input}
 use Rattle.counter.specs.declared.fault.InputFault.{InputFault}
 use Rattle.counter.specs.declared.fault.InputFault.TheVariants.{NotHexadecimal, File, Hold, Account, Failed, Address}
-use Rattle.counter.specs.declared.fault.InputFault.TheVariants.{Memory}
+use Rattle.counter.specs.declared.fault.InputFault.TheVariants.{Memory, Signer}
+use Rattle.operations.specs.declared.auditing.AuditFault.{AuditFault}
+use Rattle.operations.specs.declared.auditing.AuditFault.TheVariants as auditing
+use Rattle.operations.specs.declared.fault.OperationFault.{OperationFault}
+use Rattle.operations.specs.declared.fault.OperationFault.TheVariants as operation
 
 abbrev pub number_of : InputFault → ℕ
 number_of NotHexadecimal = 1
@@ -25,6 +30,7 @@ number_of Account = 4
 number_of Failed = 5
 number_of Address = 6
 number_of Memory = 7
+number_of Signer = 8
 
 -- what a refusal to read digits is to the program
 abbrev pub fault_of : FromHexError → InputFault
@@ -33,12 +39,25 @@ fault_of OddLength = NotHexadecimal
 fault_of InvalidStringLength = NotHexadecimal
 fault_of OutOfMemory = Memory
 
+-- what a refused audit is to the program
+abbrev pub fault_of_audit : AuditFault → Fault
+fault_of_audit (auditing.Store fault) = Store fault
+fault_of_audit (auditing.Extract fault) = Audit fault
+
+-- what a refusal of an operation over the database is to the program
+abbrev pub fault_of_operation : OperationFault → Fault
+fault_of_operation (operation.Store fault) = Store fault
+fault_of_operation operation.Unreached = Input Signer
+fault_of_operation operation.Unheard = Input Address
+fault_of_operation operation.Clock = Input Failed
+
 abbrev pub number_of_fault : Fault → ℕ
 number_of_fault (Der fault) = der.number_of fault
 number_of_fault (Tsp fault) = tsp.number_of fault
 number_of_fault (Cms fault) = cms.number_of fault
 number_of_fault (Policy fault) = policy.number_of fault
 number_of_fault (Store fault) = store.number_of fault
+number_of_fault (Audit fault) = audit.number_of fault
 number_of_fault (Input fault) = number_of fault
 
 -- the part that refused
@@ -48,6 +67,7 @@ line_beginning (Tsp fault) = codes "counter: tsp "
 line_beginning (Cms fault) = codes "counter: cms "
 line_beginning (Policy fault) = codes "counter: policy "
 line_beginning (Store fault) = codes "counter: store "
+line_beginning (Audit fault) = codes "counter: audit "
 line_beginning (Input fault) = codes "counter: input "
 
 -- the line of a refusal: who refused, and the refusal's number in decimal

@@ -1,5 +1,6 @@
 pub mod Accounts
 pub mod Additions
+pub mod Audits
 pub mod Counts
 pub mod Answers
 pub mod Fault
@@ -9,3 +10,5 @@ pub mod Settings
 pub mod Tst
 pub mod Writing
 pub mod Replies
+pub mod Signers
+pub mod Exchange

@@ -1,5 +1,6 @@
 //! Who asks.
-ghost use Rattle.std.specs.Prelude.{◌≡◌, ◌≢◌, None, option_map, IfOk, IfErr, OnOk};
+ghost use Rattle.std.specs.Prelude.{◌≡◌, ◌≢◌, None, Some, option_map, IfOk, IfErr, OnOk};
+ghost use Rattle.policy.specs.LookUp.{account_named};
 ghost use Rattle.policy.specs.View.{account_view, policy_view};
 ghost use Rattle.counter.specs.Accounts.{IsKnown, account_shown};
 
@@ -25,4 +26,14 @@ pub fn account_of<'a>(
         Some(account) => Ok(Some(account)),
         None => Err(InputFault::Account),
     }
+}
+
+/// The account of that name. `Account` where there is none.
+pub fn account_named<'a>(policy: &'a Policy, name: &str) -> Result<&'a Account, InputFault>
+    ensures found { IfOk result (λ account. account_named (policy_view policy.now) name.now
+        ≡ Some (account_view account.now)) }
+    ensures none { IfErr result (λ fault. (fault ≡ InputFault.Account)
+        × (account_named (policy_view policy.now) name.now ≡ None)) }
+{
+    policy.account_named(name).ok_or(InputFault::Account)
 }

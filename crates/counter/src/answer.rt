@@ -4,14 +4,12 @@ ghost use Rattle.counter.specs.Answers.{RepliesTo};
 ghost use Rattle.counter.specs.Replies.{octets_of};
 
 use crate::accounts::account_of;
-use crate::check::read_policy;
 use crate::fault::Fault;
-use crate::files::{read_identity, read_signer};
+use crate::files::{Files, read_files};
 use crate::hexadecimal::read_octets;
-use cms::{Algorithm, Signer};
 use command_line::AnswerWords;
 use desk::Reply;
-use operations::Question;
+use operations::{Question, Terms};
 use std::io::Read;
 use std::rt::HostRuntime;
 
@@ -25,21 +23,25 @@ pub fn answer<I: Read>(
     ensures { IfOk result (λ reply. IfSome (I.remaining input.old) (λ text.
         RepliesTo words.now text (octets_of reply))) }
 {
-    let policy = read_policy(rt, words.rules)?;
-    let identity = read_identity(rt, words.certificate)?;
-    let mut signer = read_signer(rt, words.signing_key)?;
-    let algorithm = Algorithm::from_bytes(rt.alloc(), signer.algorithm().as_slice())?;
+    let Files {
+        policy,
+        identity,
+        signing,
+        algorithm,
+    } = read_files(rt, &words.desk)?;
     let account = account_of(&policy, words.key)?;
     let query = read_octets(rt.alloc(), input)?;
-    let question = Question {
+    let terms = Terms {
         policy: &policy,
         identity: &identity,
         algorithm: &algorithm,
+    };
+    let question = Question {
         account,
         reading: words.reading as i64,
         query: query.as_slice(),
     };
-    Ok(operations::answer(rt, words.db, &question, &mut signer)?)
+    Ok(operations::answer(rt, words.desk.db, terms, signing, &question)?)
 }
 
 /// The reply's octets.

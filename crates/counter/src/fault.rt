@@ -1,13 +1,15 @@
 ghost use Rattle.std.specs.Prelude.{◌≡◌, ◌≤◌, ◌++◌, ◌∷◌, []};
 ghost use Rattle.std.specs.Fmt.{decimal};
-ghost use Rattle.counter.specs.declared.fault.Fault.TheVariants.{Der, Tsp, Cms, Policy, Store, Input};
+ghost use Rattle.counter.specs.declared.fault.Fault.TheVariants.{Der, Tsp, Cms, Policy, Store, Audit, Input};
 ghost use Rattle.counter.specs.declared.fault.InputFault.TheVariants.{Memory};
-ghost use Rattle.counter.specs.Fault.{fault_of};
+ghost use Rattle.counter.specs.Fault.{fault_of, fault_of_audit, fault_of_operation};
 
 use crate::output::write_text;
+use audit::ExtractFault;
 use cms::CmsFault;
 use der::DerFault;
 use hex::FromHexError;
+use operations::{AuditFault, OperationFault};
 use policy::PolicyFault;
 use std::alloc::{AllocError, AllocFailed};
 use std::io::Write;
@@ -27,6 +29,8 @@ pub enum Fault {
     Policy(PolicyFault),
     /// The database refused, or isn't the counter's.
     Store(StoreFault),
+    /// An extract is refused.
+    Audit(ExtractFault),
     /// The inputs of the program itself.
     Input(InputFault),
 }
@@ -58,6 +62,7 @@ impl Fault {
             Fault::Cms(_) => "counter: cms ",
             Fault::Policy(_) => "counter: policy ",
             Fault::Store(_) => "counter: store ",
+            Fault::Audit(_) => "counter: audit ",
             Fault::Input(_) => "counter: input ",
         }
     }
@@ -73,6 +78,7 @@ impl Fault {
             Fault::Cms(fault) => fault.number(),
             Fault::Policy(fault) => fault.number(),
             Fault::Store(fault) => fault.number(),
+            Fault::Audit(fault) => fault.number(),
             Fault::Input(fault) => fault.number(),
         }
     }
@@ -118,6 +124,30 @@ impl From<StoreFault> for Fault {
     }
 }
 
+impl From<AuditFault> for Fault {
+    ghost from_gives = { λ fault e. e ≡ fault_of_audit fault };
+
+    fn from(fault: AuditFault) -> Fault {
+        match fault {
+            AuditFault::Store(fault) => Fault::Store(fault),
+            AuditFault::Extract(fault) => Fault::Audit(fault),
+        }
+    }
+}
+
+impl From<OperationFault> for Fault {
+    ghost from_gives = { λ fault e. e ≡ fault_of_operation fault };
+
+    fn from(fault: OperationFault) -> Fault {
+        match fault {
+            OperationFault::Store(fault) => Fault::Store(fault),
+            OperationFault::Unreached => Fault::Input(InputFault::Signer),
+            OperationFault::Unheard => Fault::Input(InputFault::Address),
+            OperationFault::Clock => Fault::Input(InputFault::Failed),
+        }
+    }
+}
+
 impl From<InputFault> for Fault {
     ghost from_gives = { λ fault e. e ≡ Input fault };
 
@@ -155,14 +185,16 @@ pub enum InputFault {
     File = 2,
     /// A hold doesn't begin before it ends.
     Hold = 3,
-    /// No account has that key.
+    /// No account has that key or name.
     Account = 4,
-    /// Standard input or output failed.
+    /// Standard input or output failed, or the clock.
     Failed = 5,
-    /// The address can't be listened on. No word answers it yet.
+    /// The address can't be listened on.
     Address = 6,
     /// Memory ran out.
     Memory = 7,
+    /// The key holder can't be reached.
+    Signer = 8,
 }
 
 impl From<AllocError> for InputFault {
@@ -195,7 +227,7 @@ impl From<FromHexError> for InputFault {
 impl InputFault {
     ghost use Rattle.counter.specs.Fault.{number_of};
 
-    /// The refusal's number, 1 to 7.
+    /// The refusal's number, 1 to 8.
     fn number(self) -> u8
         ensures { result ≡ number_of self }
     {

@@ -1,11 +1,19 @@
-//! The files that say who signs.
-ghost use Rattle.std.specs.Prelude.{◌≡◌, ◌⊎◌, ◌≤◌, List, ℕ, length, IfOk, IfErr};
-ghost use Rattle.cms.specs.Certificate.{CertificateParts, IsCertificate, identity_of};
+//! The files that say by what requests are answered, and who signs.
+ghost use Rattle.std.specs.Prelude.{◌≡◌, ◌⊎◌, ◌≤◌, List, ℕ, length, Ok, IfOk, IfErr};
+ghost use Rattle.cms.specs.Certificate.{CertificateParts, IsAlgorithm, IsCertificate, identity_of};
 ghost use Rattle.cms.specs.declared.fault.CmsFault.{CmsFault};
+ghost use Rattle.policy.specs.Meaning.{meaning_of};
+ghost use Rattle.policy.specs.View.{policy_view};
 ghost use Rattle.counter.specs.Fault.{IsFileFault};
+ghost use Rattle.operations.specs.Signing.{algorithm_of};
+ghost use Rattle.counter.specs.Signers.{SignsAs};
 
+use crate::check::read_policy;
 use crate::fault::{Fault, InputFault};
-use cms::{Identity, KeyedHash};
+use cms::{Algorithm, Identity, KeyedHash};
+use command_line::{DeskWords, SignerWords};
+use operations::Signing;
+use policy::Policy;
 use std::fs::File;
 use std::io::{self, Read};
 use std::rt::HostRuntime;
@@ -13,8 +21,44 @@ use std::rt::HostRuntime;
 /// One octet more than a certificate may have.
 const BEYOND_A_CERTIFICATE: u64 = 16_385;
 
+/// One octet more than an AlgorithmIdentifier may have.
+const BEYOND_AN_ALGORITHM: u64 = 257;
+
 /// The most octets of a signing key.
 const MOST_OF_A_KEY: usize = 256;
+
+/// What the files say.
+#[derive(Drop)]
+pub struct Files<'a> {
+    /// The policy.
+    pub policy: Policy,
+    /// Whose certificate the tokens name.
+    pub identity: Identity,
+    /// Who signs.
+    pub signing: Signing<'a>,
+    /// The algorithm that the tokens name, the signer's.
+    pub algorithm: Algorithm,
+}
+
+/// Reads the policy file, the certificate and the signer's file, in this order. Refused as `read_policy`,
+/// `read_identity` and `read_signing`.
+pub fn read_files<'a>(rt: &HostRuntime, words: &DeskWords<'a>) -> Result<Files<'a>, Fault>
+    // No contract says what a file holds. So the policy is the meaning of some text.
+    ensures meant { IfOk result (λ files. (text : List ℕ) × (meaning_of text ≡ Ok (policy_view files.policy))) }
+    ensures signs { IfOk result (λ files. SignsAs words.now.signer files.signing) }
+    ensures algorithm { IfOk result (λ files. files.algorithm ≡ algorithm_of files.signing) }
+{
+    let policy = read_policy(rt, words.rules)?;
+    let identity = read_identity(rt, words.certificate)?;
+    let signing = read_signing(rt, words.signer)?;
+    let algorithm = Algorithm::from_bytes(rt.alloc(), signing.algorithm().as_slice())?;
+    Ok(Files {
+        policy,
+        identity,
+        signing,
+        algorithm,
+    })
+}
 
 /// Reads a certificate. A file that can't be read is `input` 2, and one that is no certificate, or one of more than
 /// 16,384 octets, `cms` with the number of its refusal. Where memory runs out it is `input` 7 over the file, and `cms`
@@ -41,6 +85,36 @@ pub fn read_signer(rt: &HostRuntime, path: &str) -> Result<KeyedHash, Fault>
         return Err(Fault::Input(InputFault::File));
     }
     Ok(KeyedHash::new(rt.alloc(), key.as_slice())?)
+}
+
+/// Reads who signs: the key of the stand-in signer, or the algorithm of a key holder at an address. Refused as
+/// `read_signer` and `read_algorithm`.
+fn read_signing<'a>(rt: &HostRuntime, words: SignerWords<'a>) -> Result<Signing<'a>, Fault>
+    ensures found { IfOk result (SignsAs words.entry) }
+    ensures faults { IfErr result IsFileFault }
+{
+    match words {
+        SignerWords::Key(path) => Ok(Signing::Keyed(read_signer(rt, path)?)),
+        SignerWords::Session {
+            address,
+            algorithm: path,
+        } => {
+            let algorithm = read_algorithm(rt, path)?;
+            Ok(Signing::Session { address, algorithm })
+        }
+    }
+}
+
+/// Reads an algorithm. A file that can't be read is `input` 2, and one that is no AlgorithmIdentifier, or one of more
+/// than 256 octets, `cms` with the number of its refusal. Where memory runs out it is `input` 7 over the file, and
+/// `cms` 3 over the algorithm.
+fn read_algorithm(rt: &HostRuntime, path: &str) -> Result<Algorithm, Fault>
+    // No contract says what a file holds. So it is some algorithm.
+    ensures found { IfOk result (λ algorithm. (length algorithm ≤ 256) × IsAlgorithm algorithm) }
+    ensures faults { IfErr result IsFileFault }
+{
+    let octets = read_beginning(rt, path, BEYOND_AN_ALGORITHM)?;
+    Ok(Algorithm::from_bytes(rt.alloc(), octets.as_slice())?)
 }
 
 /// The beginning of a file, so many octets where it has them.

@@ -4,6 +4,8 @@
 mod accounts;
 mod answer;
 mod check;
+mod exchange;
+mod extracting;
 mod fault;
 mod files;
 mod hexadecimal;

@@ -1,9 +1,10 @@
-ghost use Rattle.std.specs.Prelude.{◌≡◌, ◌≤◌, ◌⊎◌, List, ℕ, OnOk, IfSome, IfErr, String};
+ghost use Rattle.std.specs.Prelude.{◌≡◌, ◌≢◌, ◌≤◌, ◌⊎◌, List, ℕ, OnOk, IfSome, IfErr, IfOk, String};
 ghost use Rattle.std.specs.Io.KnownBytes.{Appends};
 ghost use Rattle.std.specs.declared.alloc.Global.{Global};
 ghost use Rattle.command_line.specs.Words.{AreRefused, AreTaken, Asks, AsksHelp, texts_of};
 ghost use Rattle.command_line.specs.declared.refusal.Refusal.TheVariants.{Help, Mistake};
 ghost use Rattle.counter.specs.Answers.{Answers, Does, RepliesTo};
+ghost use Rattle.counter.specs.Audits.{FailsStamps, IsNoAudit, LeavesCut, LeavesExtract, Tells};
 ghost use Rattle.counter.specs.Counts.{Counts};
 ghost use Rattle.counter.specs.Fault.{fault_line};
 ghost use Rattle.counter.specs.Hexadecimal.{line};
@@ -14,13 +15,15 @@ mod tests;
 
 use crate::answer::{answer, octets_of};
 use crate::check::{read_policy, write_counts};
+use crate::exchange::{exchange, serve};
+use crate::extracting::audit;
 use crate::fault::{Fault, InputFault};
 use crate::hexadecimal::{read_octets, write_octets};
 use crate::history::{calibrate, hold, init};
 use crate::output::write_text;
 use crate::settings::Settings;
 use crate::tst::tst_reply;
-use command_line::{AnswerWords, CheckWords, Refusal, TstWords, Word};
+use command_line::{AnswerWords, AuditWords, CheckWords, Refusal, TstWords, Word};
 use std::alloc::Global;
 use std::io::{Read, Write};
 use std::rt::HostRuntime;
@@ -41,15 +44,27 @@ pub enum Outcome {
     Counted,
     /// The tables of a database were made, or a calibration or a hold was added.
     Changed,
+    /// An HTTP request was answered, or there was none.
+    Exchanged,
+    /// HTTP connections were served.
+    Served,
+    /// An extract was written, and no stamp that was checked fails.
+    Extracted,
+    /// An extract was written, and stamps fail their check.
+    Failing,
 }
 
 impl Outcome {
     /// The exit status that tells of it.
     fn status(self) -> u8
-        ensures { result ≡ 0 }
+        ensures done { self ≢ Outcome.Failing → result ≡ 0 }
+        ensures failing { self ≡ Outcome.Failing → result ≡ 1 }
+        ensures most { result ≤ 1 }
     {
         match self {
             Outcome::Replied | Outcome::Counted | Outcome::Changed => DONE,
+            Outcome::Exchanged | Outcome::Served | Outcome::Extracted => DONE,
+            Outcome::Failing => FAULT,
         }
     }
 }
@@ -86,11 +101,15 @@ fn process_words(rt: &HostRuntime) -> io::Result<Vec<String>> {
 /// status.
 ///
 /// 0 where it is done; a rejection and help are done too. 1 where a fault stopped it, whose line it writes to `errors`:
-/// `der`, `tsp`, `cms`, `policy` and `store` with the number of those crates' refusals, and `input` 1 where the input
-/// isn't hexadecimal, 2 where a file can't be read, has a wrong size or isn't UTF-8 where it has to be text, 3 where a
-/// hold doesn't begin before it ends, 4 where no account has the key, 5 where the input or the output fails, and 7
-/// where memory runs out. 2 where the words are refused; why is written to `errors`. Where the status isn't 0 nothing
-/// is written to `output`, but where writing an answer or help fails: then a beginning of it stands there.
+/// `der`, `tsp`, `cms`, `policy`, `store` and `audit` with the number of those crates' refusals, and `input` 1 where the
+/// input isn't hexadecimal, 2 where a file can't be read, has a wrong size or isn't UTF-8 where it has to be text, 3 where
+/// a hold doesn't begin before it ends, 4 where no account has the key or the name, 5 where the input, the output or the
+/// clock fails, 6 where the address can't be listened on, 7 where memory runs out, and 8 where the signer can't be
+/// reached. 1 also where stamps fail the check that `audit` makes: a line `row N fails` for each stands on `errors` then,
+/// before the line of a fault that stopped the check. 2 where the words are refused; why is written to `errors`.
+///
+/// Where the status isn't 0 nothing is written to `output`, but where writing an answer or help fails, or an extract is
+/// refused on the way: then a beginning of it stands there; and where a check fails or is stopped: then the whole extract.
 pub fn run_words<I: Read, O: Write, E: Write>(
     rt: &HostRuntime,
     words: &[String],
@@ -102,7 +121,8 @@ pub fn run_words<I: Read, O: Write, E: Write>(
 
     // Where all is done, what the words ask for is written, or they ask for help.
     ensures done { result ≡ 0 → ((word : Word) × Asks (texts_of words.now) word
-        × Does word (I.remaining input.old) (Appends (O.contents output.old) (O.contents output.new)))
+        × Does word (I.remaining input.old) (I.remaining input.new)
+        (Appends (O.contents output.old) (O.contents output.new)))
         ⊎ AsksHelp (texts_of words.now) }
 
     // Where all is done, no fault is written.
@@ -116,20 +136,24 @@ pub fn run_words<I: Read, O: Write, E: Write>(
     ensures unread { (result ≡ 2) ⊎ (AreTaken (texts_of words.now) → ⊥)
         → I.remaining input.new ≡ I.remaining input.old }
 
-    // Where a fault stopped it, its line is written, as much of it as `errors` takes.
-    ensures told { result ≡ 1 → (fault : Fault)
-        × Begins (E.contents errors.old) (E.contents errors.new) (fault_line fault) }
+    // Where a fault stopped it, its line is written, as much of it as `errors` takes; where stamps fail their check, a
+    // line for each of those that fail is written before it or in its place.
+    ensures told { result ≡ 1 → Tells (texts_of words.now) (E.contents errors.old) (E.contents errors.new) }
 
-    // Nothing but help or a beginning of an answer is written to the output then, and an answer's only where the fault
-    // is `input` 5.
+    // Nothing but help, a beginning of an answer, an extract or a beginning of one is written to the output then; an
+    // answer's only where the fault is `input` 5, an extract's where it is refused, and all of it where its check is.
     ensures kept { result ≡ 1 → (O.contents output.new ≡ O.contents output.old)
         ⊎ (AsksHelp (texts_of words.now)
-        ⊎ ((word : Word) × Asks (texts_of words.now) word
-        × Does word (I.remaining input.old) (Begins (O.contents output.old) (O.contents output.new))
-        × Begins (E.contents errors.old) (E.contents errors.new) (fault_line (Fault.Input InputFault.Failed)))) }
+        ⊎ (((word : Word) × Asks (texts_of words.now) word
+        × Does word (I.remaining input.old) (I.remaining input.new)
+        (Begins (O.contents output.old) (O.contents output.new))
+        × Begins (E.contents errors.old) (E.contents errors.new) (fault_line (Fault.Input InputFault.Failed)))
+        ⊎ ((audited : AuditWords) × Asks (texts_of words.now) (Word.Audit audited)
+        × LeavesExtract audited (O.contents output.old) (O.contents output.new) (E.contents errors.old)
+        (E.contents errors.new)))) }
 {
     match Word::parse(rt.alloc(), words) {
-        Ok(word) => match run_word(rt, &word, input, output) {
+        Ok(word) => match run_word(rt, &word, input, output, errors) {
             Ok(outcome) => outcome.status(),
             Err(fault) => report(fault, errors),
         },
@@ -137,23 +161,45 @@ pub fn run_words<I: Read, O: Write, E: Write>(
     }
 }
 
-fn run_word<I: Read, O: Write>(
+/// Does what a word asks for.
+fn run_word<I: Read, O: Write, E: Write>(
     rt: &HostRuntime,
     word: &Word<'_>,
     input: &mut I,
     output: &mut O,
+    errors: &mut E,
 ) -> Result<Outcome, Fault>
-    ensures done { OnOk result
-        (Does word.now (I.remaining input.old) (Appends (O.contents output.old) (O.contents output.new))) }
+    ensures done { IfOk result (λ outcome. outcome ≢ Outcome.Failing
+        → Does word.now (I.remaining input.old) (I.remaining input.new)
+        (Appends (O.contents output.old) (O.contents output.new))) }
+    ensures silent { IfOk result (λ outcome. outcome ≢ Outcome.Failing
+        → E.contents errors.new ≡ E.contents errors.old) }
+
+    // Only where stamps are checked some may fail.
+    ensures failing { IfOk result (λ outcome. outcome ≡ Outcome.Failing
+        → FailsStamps word.now (O.contents output.old) (O.contents output.new) (E.contents errors.old)
+        (E.contents errors.new)) }
 
     // Before a fault nothing is written, but where there is an answer and writing it fails.
-    ensures kept { IfErr result (λ fault. (O.contents output.new ≡ O.contents output.old)
+    ensures kept { IsNoAudit word.now → IfErr result (λ fault. (O.contents output.new ≡ O.contents output.old)
         ⊎ ((fault ≡ Fault.Input InputFault.Failed)
-        × Does word.now (I.remaining input.old) (Begins (O.contents output.old) (O.contents output.new)))) }
+        × Does word.now (I.remaining input.old) (I.remaining input.new)
+        (Begins (O.contents output.old) (O.contents output.new)))) }
+    ensures untold { IsNoAudit word.now → IfErr result (λ _. E.contents errors.new ≡ E.contents errors.old) }
+
+    // A refused extract may have been begun, and one whose check is refused is whole.
+    ensures cut { (words : AuditWords) → word.now ≡ Word.Audit words → IfErr result (LeavesCut words
+        (O.contents output.old) (O.contents output.new) (E.contents errors.old) (E.contents errors.new)) }
 {
     match word {
-        Word::Tst(words) => tst(rt.alloc(), words, input, output),
-        Word::Check(words) => check(rt, words, output),
+        Word::Tst(words) => {
+            tst(rt.alloc(), words, input, output)?;
+            Ok(Outcome::Replied)
+        }
+        Word::Check(words) => {
+            check(rt, words, output)?;
+            Ok(Outcome::Counted)
+        }
         Word::Init(words) => {
             init(rt, words)?;
             Ok(Outcome::Changed)
@@ -166,16 +212,30 @@ fn run_word<I: Read, O: Write>(
             hold(rt, words)?;
             Ok(Outcome::Changed)
         }
-        Word::Answer(words) => answer_request(rt, words, input, output),
+        Word::Answer(words) => {
+            answer_request(rt, words, input, output)?;
+            Ok(Outcome::Replied)
+        }
+        Word::Exchange(words) => {
+            exchange(rt, words, input, output)?;
+            Ok(Outcome::Exchanged)
+        }
+        Word::Serve(words) => {
+            serve(rt, words)?;
+            Ok(Outcome::Served)
+        }
+        Word::Audit(words) => {
+            if audit(rt, words, output, errors)? {
+                Ok(Outcome::Extracted)
+            } else {
+                Ok(Outcome::Failing)
+            }
+        }
     }
 }
 
 /// Reads a policy file, and writes how many entries it has.
-fn check<O: Write>(
-    rt: &HostRuntime,
-    words: &CheckWords<'_>,
-    output: &mut O,
-) -> Result<Outcome, Fault>
+fn check<O: Write>(rt: &HostRuntime, words: &CheckWords<'_>, output: &mut O) -> Result<(), Fault>
     ensures counted { OnOk result ((written : List ℕ) × Counts written
         × Appends (O.contents output.old) (O.contents output.new) written) }
 
@@ -186,7 +246,7 @@ fn check<O: Write>(
 {
     let policy = read_policy(rt, words.rules)?;
     write_counts(rt.alloc(), &policy, output)?;
-    Ok(Outcome::Counted)
+    Ok(())
 }
 
 /// Reads a request, and writes the reply to it.
@@ -195,7 +255,7 @@ fn tst<I: Read, O: Write>(
     words: &TstWords<'_>,
     input: &mut I,
     output: &mut O,
-) -> Result<Outcome, Fault>
+) -> Result<(), Fault>
     // The reply to the request that the input spells is written, by the settings that the words state.
     ensures answered { OnOk result (IfSome (I.remaining input.old) (λ text.
         (written : List ℕ) × Answers words.now text written
@@ -211,7 +271,7 @@ fn tst<I: Read, O: Write>(
     let query = read_octets(alloc, input)?;
     let reply = tst_reply(alloc, query.as_slice(), &settings)?;
     write_octets(alloc, reply.as_slice(), output)?;
-    Ok(Outcome::Replied)
+    Ok(())
 }
 
 /// Reads a request, answers it over the database, and writes the reply.
@@ -220,7 +280,7 @@ fn answer_request<I: Read, O: Write>(
     words: &AnswerWords<'_>,
     input: &mut I,
     output: &mut O,
-) -> Result<Outcome, Fault>
+) -> Result<(), Fault>
     ensures answered { OnOk result (IfSome (I.remaining input.old) (λ text.
         (reply : List ℕ) × RepliesTo words.now text reply
         × Appends (O.contents output.old) (O.contents output.new) (line reply))) }
@@ -233,7 +293,7 @@ fn answer_request<I: Read, O: Write>(
 {
     let reply = answer(rt, words, input)?;
     write_octets(rt.alloc(), octets_of(&reply), output)?;
-    Ok(Outcome::Replied)
+    Ok(())
 }
 
 /// Writes the fault's line.

@@ -1,7 +1,23 @@
--- How the opening of a database can be refused.
+-- How the opening of a database, and what comes after it, can be refused.
 use Rattle.std.specs.Prelude.{◌≡◌, ◌⊎◌}
 use Rattle.store.specs.declared.fault.StoreFault.{StoreFault}
 use Rattle.store.specs.declared.fault.StoreFault.TheVariants.{Memory, Database, NotOurs}
+use Rattle.operations.specs.declared.fault.OperationFault.{OperationFault}
+use Rattle.operations.specs.declared.fault.OperationFault.TheVariants as operation
 
 abbrev pub IsOpeningFault : StoreFault → Type 0
 IsOpeningFault fault = (fault ≡ Memory) ⊎ ((fault ≡ Database) ⊎ (fault ≡ NotOurs))
+
+-- the database can't be opened, or the key holder not reached
+abbrev pub IsStartingFault : OperationFault → Type 0
+IsStartingFault (operation.Store fault) = IsOpeningFault fault
+IsStartingFault operation.Unreached = Unit {0}
+IsStartingFault operation.Unheard = ⊥
+IsStartingFault operation.Clock = ⊥
+
+-- nor the address listened on, nor the clock read
+abbrev pub IsServingFault : OperationFault → Type 0
+IsServingFault (operation.Store fault) = IsOpeningFault fault
+IsServingFault operation.Unreached = Unit {0}
+IsServingFault operation.Unheard = Unit {0}
+IsServingFault operation.Clock = Unit {0}

@@ -1,30 +1,24 @@
 //! How a request is answered over the database at a path.
-ghost use Rattle.std.specs.Prelude.{◌≡◌, IfOk, IfErr};
+ghost use Rattle.std.specs.Prelude.{IfOk, IfErr};
 ghost use Rattle.policy.specs.View.{policy_view};
-ghost use Rattle.tsp.specs.Rules.{IsFirstFailing};
-ghost use Rattle.tsp.specs.declared.rule.Rule.{Rule};
 ghost use Rattle.decide.specs.View.{account_asked};
 ghost use Rattle.desk.specs.Answers.{reply_as};
-ghost use Rattle.desk.specs.Command.{Rejected};
-ghost use Rattle.desk.specs.Findings.{HoldsUnasked};
-ghost use Rattle.operations.specs.Opening.{IsOpeningFault};
+ghost use Rattle.operations.specs.Judged.{IsJudgedReply};
+ghost use Rattle.operations.specs.Opening.{IsStartingFault};
 
+use crate::fault::OperationFault;
 use crate::opening::open;
-use cms::{Algorithm, Identity, Signer};
+use crate::signing::{Signing, reach};
+use crate::terms::Terms;
+use cms::Signer;
 use desk::{Desk, Reply};
-use policy::{Account, Policy};
+use policy::Account;
+use sqlite::Alter;
 use sqlite_disk::Unknown;
-use store::StoreFault;
 
-/// A request, and by what it is judged and answered.
+/// A request, and who asks when.
 #[derive(Clone, Copy, Debug)]
 pub struct Question<'a> {
-    /// The policy file.
-    pub policy: &'a Policy,
-    /// Whose certificate the tokens name.
-    pub identity: &'a Identity,
-    /// The algorithm that the tokens name, the signer's.
-    pub algorithm: &'a Algorithm,
     /// The account that asks, if it is known.
     pub account: Option<&'a Account>,
     /// The clock's reading, in microseconds.
@@ -35,30 +29,64 @@ pub struct Question<'a> {
 
 /// Answers the request as `Desk::answer` does, over the history that the database at the path keeps. Refused with
 /// `Memory`, with `Database` where no file stands there, and with `NotOurs` where it isn't a database of the counter's;
-/// once the database is open there is a reply.
-pub fn answer<G: Signer>(
+/// then with `Unreached` where the key holder can't be reached. After that there is a reply.
+pub fn answer(
     rt: &HostRuntime,
     path: &str,
+    terms: Terms<'_>,
+    signing: Signing<'_>,
     question: &Question<'_>,
-    signer: &mut G,
-) -> Result<Reply, StoreFault>
+) -> Result<Reply, OperationFault>
     // A request that fails a rule of 1 to 9 is rejected by the first of them, whatever the database holds.
-    ensures judged { IfOk result (λ reply. (rule : Rule)
-        → IsFirstFailing (HoldsUnasked (policy_view question.now.policy.now) (account_asked question.now.account)
-        question.now.query.now) rule
-        → reply_as reply ≡ Rejected rule) }
-    ensures refusals { IfErr result IsOpeningFault }
+    ensures judged { IfOk result (λ reply. IsJudgedReply (policy_view terms.entry.policy.now)
+        (account_asked question.now.account) question.now.query.now (reply_as reply)) }
+    ensures refusals { IfErr result IsStartingFault }
 {
     let store = open(rt, path, Unknown)?;
     let mut desk = Desk::new(
         rt.alloc(),
-        question.policy,
-        question.identity,
-        question.algorithm,
+        terms.policy,
+        terms.identity,
+        terms.algorithm,
         store,
     );
-    let reply = desk.answer(question.account, question.reading, question.query, signer);
+    let done = answer_by(rt, &mut desk, signing, question);
     // What was committed stays in the log where it can't be copied into the file.
     let _ = desk.into_store().close();
-    Ok(reply)
+    done
+}
+
+/// Answers the request by a desk, whoever signs.
+fn answer_by<S: Alter + Drop>(
+    rt: &HostRuntime,
+    desk: &mut Desk<'_, S>,
+    signing: Signing<'_>,
+    question: &Question<'_>,
+) -> Result<Reply, OperationFault>
+    ensures judged { IfOk result (λ reply. IsJudgedReply desk.old.setting.file (account_asked question.now.account)
+        question.now.query.now (reply_as reply)) }
+    ensures refusals { IfErr result IsStartingFault }
+{
+    match signing {
+        Signing::Keyed(signer) => {
+            let mut signer = signer;
+            Ok(answer_with(desk, &mut signer, question))
+        }
+        Signing::Session { address, algorithm } => {
+            let mut signer = reach(rt, address, algorithm)?;
+            Ok(answer_with(desk, &mut signer, question))
+        }
+    }
+}
+
+/// Answers the request by a desk and a signer.
+fn answer_with<S: Alter + Drop, G: Signer>(
+    desk: &mut Desk<'_, S>,
+    signer: &mut G,
+    question: &Question<'_>,
+) -> Reply
+    ensures { IsJudgedReply desk.old.setting.file (account_asked question.now.account) question.now.query.now
+        (reply_as result) }
+{
+    desk.answer(question.account, question.reading, question.query, signer)
 }

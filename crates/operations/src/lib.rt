@@ -3,11 +3,21 @@
 
 mod adding;
 mod answering;
+mod auditing;
+mod exchanging;
+mod fault;
 mod finding;
 mod opening;
-#[cfg(test)]
-mod tests;
+mod serving;
+mod signing;
+mod terms;
 
 pub use adding::{Addition, add};
 pub use answering::{Question, answer};
+pub use auditing::{AuditFault, Inquiry, audit, check_stamps};
+pub use exchanging::exchange;
+pub use fault::OperationFault;
 pub use opening::init;
+pub use serving::serve;
+pub use signing::Signing;
+pub use terms::Terms;

@@ -14,7 +14,7 @@ use std::alloc::{AllocError, Global};
 
 /// The type of a body.
 #[derive(Clone, Copy, Debug, PartialEq, Eq)]
-pub(crate) enum Media {
+pub enum Media {
     /// The reply to a time-stamp request.
     Reply,
     /// The octets of a deposit.

@@ -18,5 +18,8 @@ mod serving;
 mod wanted;
 mod writing;
 
+pub use answer::Media;
+pub use refusal::Refusal;
+pub use routes::Place;
 pub use served::Served;
 pub use serving::serve_one;

@@ -14,7 +14,7 @@ use tsp::Rule;
 
 /// Why a request is refused.
 #[derive(Clone, Copy, Debug, PartialEq, Eq)]
-pub(crate) enum Refusal {
+pub enum Refusal {
     /// There is no whole request, or it shows two keys.
     BadRequest,
     /// A transfer coding.

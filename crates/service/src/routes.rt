@@ -8,7 +8,7 @@ use std::alloc::Global;
 
 /// What a target names.
 #[derive(Clone, Copy, Debug, PartialEq, Eq)]
-pub(crate) enum Place {
+pub enum Place {
     /// `/tsp`: where requests are answered.
     Tsp,
     /// `/deposits`: all deposits.

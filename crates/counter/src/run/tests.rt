@@ -1,4 +1,6 @@
 mod answers;
+mod audits;
+mod exchanges;
 mod history;
 mod rows;
 

@@ -1,15 +1,13 @@
 use Rattle.std.proofs.Common.{rules, ◌≡◌, codes}
 use Rattle.std.proofs.lemmas.Result.{IfOk-weaker}
 use Rattle.clap.specs.Words.{Rule, app_of, new_app}
-use Rattle.command_line.specs.Words.{database_option, microseconds, number_between, optional_flag, required_option}
+use Rattle.command_line.specs.Options.{database_option, number_between, optional_flag, reading_option, required_option}
+use Rattle.command_line.specs.Options.{whole_number}
 use Rattle.command_line.proofs.Commands.{adds_option}
 use Rattle.command_line.proofs.command.calibrate_command.Goals as goal
 
-abbrev reading : Rule
-reading = required_option (codes "reading") microseconds
-
 abbrev offset : Rule
-offset = required_option (codes "offset") microseconds
+offset = required_option (codes "offset") whole_number
 
 abbrev behind : Rule
 behind = optional_flag (codes "behind")
@@ -22,8 +20,8 @@ returns c =
     let named : app_of c.about.result ≡ new_app (codes "calibrate") = search rules in
     let one = adds_option _ database_option _ _ _ named c.in_ok-arg.ensures c.database_option-db.ensures.local
     c.database_option-db.ensures.rule in
-    let two = adds_option _ reading _ _ _ one c.in_ok-arg-2.ensures c.number_option-reading.ensures.local
-    c.number_option-reading.ensures.rule in
+    let two = adds_option _ reading_option _ _ _ one c.in_ok-arg-2.ensures c.reading_option-reading.ensures.local
+    c.reading_option-reading.ensures.rule in
     let three = adds_option _ offset _ _ _ two c.in_ok-arg-3.ensures c.number_option-offset.ensures.local
     c.number_option-offset.ensures.rule in
     let four = adds_option _ behind _ _ _ three c.in_ok-arg-4.ensures c.flag-behind.ensures.local

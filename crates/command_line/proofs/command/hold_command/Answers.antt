@@ -1,15 +1,9 @@
 use Rattle.std.proofs.Common.{rules, ◌≡◌, codes}
 use Rattle.std.proofs.lemmas.Result.{IfOk-weaker}
-use Rattle.clap.specs.Words.{Rule, app_of, new_app}
-use Rattle.command_line.specs.Words.{database_option, microseconds, required_option}
+use Rattle.clap.specs.Words.{app_of, new_app}
+use Rattle.command_line.specs.Options.{database_option, from_option, to_option}
 use Rattle.command_line.proofs.Commands.{adds_option}
 use Rattle.command_line.proofs.command.hold_command.Goals as goal
-
-abbrev from_option : Rule
-from_option = required_option (codes "from") microseconds
-
-abbrev to_option : Rule
-to_option = required_option (codes "to") microseconds
 
 pub returns : goal.returns
 returns c =

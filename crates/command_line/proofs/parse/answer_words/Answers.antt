@@ -1,43 +1,11 @@
 use Rattle.std.proofs.Common.{codes}
 use Rattle.clap.specs.Words.{found_of}
-use Rattle.command_line.proofs.Stated.{reads_some_text, reads_text, unread_text}
+use Rattle.command_line.proofs.Stated.{reads_some_text}
 use Rattle.command_line.proofs.parse.answer_words.Goals as goal
 
 pub returns-clause-found : goal.returns-clause-found
-returns-clause-found c =
-    let found = found_of c.args.matches.now in
-    record {
-      db = reads_text found (codes "db") c.get_str.result c.in_ok-get_str.field-0 c.get_str.ensures c.in_ok-get_str.was;
-      rules = reads_text found (codes "rules") c.get_str-2.result c.in_ok-get_str-2.field-0 c.get_str-2.ensures
-          c.in_ok-get_str-2.was;
-      certificate = reads_text found (codes "certificate") c.get_str-3.result c.in_ok-get_str-3.field-0
-          c.get_str-3.ensures c.in_ok-get_str-3.was;
-      signing_key = reads_text found (codes "signing-key") c.get_str-4.result c.in_ok-get_str-4.field-0
-          c.get_str-4.ensures c.in_ok-get_str-4.was;
-      reading = c.in_ok-number.ensures.stated;
-      key = reads_some_text found (codes "key") c.get_str-5.result c.get_str-5.ensures;
-    }
-
-pub returns-in_err-get_str-clause-none : goal.returns-in_err-get_str-clause-none
-returns-in_err-get_str-clause-none c =
-    λ _ words states.
-    unread_text (found_of c.args.matches.now) (codes "db") c.get_str.result words.db.now c.get_str.ensures
-    c.in_err-get_str.was states.db
-
-pub returns-in_err-get_str-2-clause-none : goal.returns-in_err-get_str-2-clause-none
-returns-in_err-get_str-2-clause-none c =
-    λ _ words states.
-    unread_text (found_of c.args.matches.now) (codes "rules") c.get_str-2.result words.rules.now c.get_str-2.ensures
-    c.in_err-get_str-2.was states.rules
-
-pub returns-in_err-get_str-3-clause-none : goal.returns-in_err-get_str-3-clause-none
-returns-in_err-get_str-3-clause-none c =
-    λ _ words states.
-    unread_text (found_of c.args.matches.now) (codes "certificate") c.get_str-3.result words.certificate.now
-    c.get_str-3.ensures c.in_err-get_str-3.was states.certificate
-
-pub returns-in_err-get_str-4-clause-none : goal.returns-in_err-get_str-4-clause-none
-returns-in_err-get_str-4-clause-none c =
-    λ _ words states.
-    unread_text (found_of c.args.matches.now) (codes "signing-key") c.get_str-4.result words.signing_key.now
-    c.get_str-4.ensures c.in_err-get_str-4.was states.signing_key
+returns-clause-found c = record {
+  desk = c.in_ok-desk_words.ensures.found;
+  reading = c.in_ok-number.ensures.stated;
+  key = reads_some_text (found_of c.args.matches.now) (codes "key") c.get_str.result c.get_str.ensures;
+}

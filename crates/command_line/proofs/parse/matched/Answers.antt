@@ -3,7 +3,9 @@ use Rattle.std.specs.Prelude.{string_bytes}
 use Rattle.std.proofs.lemmas.Result.{err_from_is_err_and}
 use Rattle.clap.specs.Words.{App, HasKind, fault_of, is_simple, is_simple_and_free, subcommand_of, subcommand_rows_of}
 use Rattle.clap.proofs.OnLiterals.{clap_on_literals}
-use Rattle.command_line.specs.Words.{counter_command}
+use Rattle.command_line.specs.Options.{counter_command}
+use Rattle.command_line.specs.Words.{mixes_signers}
+use Rattle.command_line.proofs.Signers.{asked_is_unmixed, asks_nothing}
 use Rattle.command_line.proofs.parse.matched.Goals as goal
 
 counter_is_simple_and_free : is_simple_and_free counter_command ≡ true
@@ -31,12 +33,16 @@ returns-in-Some-clause-asked c =
     let matches = c.in_ok-matches.matches in
     let rows = c.in_ok-matches.ensures.ok.2 (ap is_simple is ∙ counter_is_simple) in
     let found = c.in-Some.ensures.found in
+    let met = sym (subst (λ (app : App). subcommand_rows_of matches ≡ subcommand_of app texts) is rows.1) ∙ found.1.1 in
     record {
-      taken = subst (λ (app : App). fault_of app texts ≡ []) is
-          (c.in_ok-matches.ensures.kinds (ap is_simple_and_free is ∙ counter_is_simple_and_free));
+      taken = (
+        subst (λ (app : App). fault_of app texts ≡ []) is
+            (c.in_ok-matches.ensures.kinds (ap is_simple_and_free is ∙ counter_is_simple_and_free)),
+        ap mixes_signers met ∙ asked_is_unmixed found.0 found.1.0 _ found.1.2,
+      );
       name = found.0;
       rows = found.1.0;
-      found = sym (subst (λ (app : App). subcommand_rows_of matches ≡ subcommand_of app texts) is rows.1) ∙ found.1.1;
+      found = met;
       asked = found.1.2;
     }
 
@@ -50,9 +56,7 @@ returns-clause-refused c =
     let taken = subst (λ (app : App). fault_of app texts ≡ []) is
     (c.in_ok-matches.ensures.kinds (ap is_simple_and_free is ∙ counter_is_simple_and_free)) in
     inr (
-      c.in_ok-error-in-None.ensures.kind,
-      (
-        taken,
-        λ word asks. c.in-None.ensures.none refl asks.name asks.rows word (found ∙ asks.found) asks.asked,
-      ),
+      c.in_ok-error_of-in-None.ensures,
+      asks_nothing texts taken
+          (λ word asks. c.in-None.ensures.none refl asks.name asks.rows word (found ∙ asks.found) asks.asked),
     )

@@ -21,11 +21,11 @@ rejected_octets (Rejected rejected) rule is =
 pub returns : goal.returns
 returns g c =
     let meant = c.in_ok-policy.ensures.meant in
-    let judged = rw (c.in_ok-account.ensures.found, c.as_slice-2.ensures.value) at c.in_ok-answer.ensures.judged in
+    let judged = rw (c.in_ok-account.ensures.found, c.as_slice.ensures.value) at c.in_ok-answer.ensures.judged in
     IfSome_then (g.I.Read.remaining c.args.input.now) c.in_ok-query.ensures.found
     (λ text spelled. record {
       rules = meant.0;
-      policy = policy_view c.in_ok-policy.policy;
+      policy = policy_view c.in_ok-policy.field-0.policy;
       meant = meant.1;
       known = c.in_ok-account.ensures.known;
       query = c.in_ok-query.query.items;

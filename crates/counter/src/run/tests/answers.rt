@@ -6,22 +6,23 @@ use std::io::{self, ErrorKind};
 use std::test::Fail;
 use std::{fs, str};
 
-const PATHS: [&str; 6] = [
+const PATHS: [&str; 7] = [
     "answers_of_a_test.db",
     "answers_of_a_test.db-wal",
     "answers_of_a_test.toml",
     "answers_of_a_test.der",
     "answers_of_a_test.key",
     "answers_of_a_test.long",
+    "answers_of_a_test.algorithm",
 ];
 
-const DB: &str = "--db answers_of_a_test.db";
+pub const DB: &str = "--db answers_of_a_test.db";
 
-const RULES: &str = "--rules answers_of_a_test.toml";
+pub const RULES: &str = "--rules answers_of_a_test.toml";
 
-const CERTIFICATE: &str = "--certificate answers_of_a_test.der";
+pub const CERTIFICATE: &str = "--certificate answers_of_a_test.der";
 
-const KEY: &str = "--signing-key answers_of_a_test.key";
+pub const KEY: &str = "--signing-key answers_of_a_test.key";
 
 /// A certificate of the outline that is read, and no real one: an empty key and signature, and the name CN=TSA.
 const TEST_CERTIFICATE: &[u8] = b"\x30\x64\x30\x57\x02\x01\x07\x30\x05\x06\x03\x88\x37\x09\
@@ -29,7 +30,10 @@ const TEST_CERTIFICATE: &[u8] = b"\x30\x64\x30\x57\x02\x01\x07\x30\x05\x06\x03\x
 \x30\x0e\x31\x0c\x30\x0a\x06\x03\x55\x04\x03\x0c\x03TSA\x30\x0b\x30\x05\x06\x03\x88\x37\x09\x03\x02\x00\x01\
 \x30\x05\x06\x03\x88\x37\x09\x03\x02\x00\x01";
 
-fn remove(rt: &HostRuntime) -> io::Result<()> {
+/// An algorithm under a number for examples.
+const ALGORITHM: &[u8] = b"\x30\x05\x06\x03\x88\x37\x09";
+
+pub fn remove(rt: &HostRuntime) -> io::Result<()> {
     for path in PATHS {
         match fs::remove_file(rt, path) {
             Ok(()) => {}
@@ -41,12 +45,13 @@ fn remove(rt: &HostRuntime) -> io::Result<()> {
 }
 
 /// Makes the files and the database, with a calibration at the reading 0.
-fn set_up(rt: &HostRuntime) -> Result<(), Fail> {
+pub fn set_up(rt: &HostRuntime) -> Result<(), Fail> {
     remove(rt)?;
     fs::write(rt, "answers_of_a_test.toml", EXAMPLE)?;
     fs::write(rt, "answers_of_a_test.der", TEST_CERTIFICATE)?;
     fs::write(rt, "answers_of_a_test.key", "k")?;
     fs::write(rt, "answers_of_a_test.long", [b'k'; 257].as_slice())?;
+    fs::write(rt, "answers_of_a_test.algorithm", ALGORITHM)?;
     for words in ["init", "calibrate --reading 0 --offset 0 --uncertainty 0"] {
         let line = format!(in rt.alloc(); "counter {words} {DB}")?;
         let words = words_of(rt.alloc(), line.as_str())?;

@@ -1,0 +1,110 @@
+//! Who signs, by what `clap` finds in the words.
+ghost use Rattle.std.specs.Prelude.{◌≡◌, false, is_some, IfOk, IfSome, IsNone};
+ghost use Rattle.clap.specs.Words.{found_of, kind_of, rows_of};
+ghost use Rattle.command_line.specs.Words.{IsOwnKind, IsTold, StatesSigner, has_one_signer, tells_one_signer};
+
+use crate::command::{answer_command, command, exchange_command, serve_command};
+use crate::words::SignerWords;
+use clap::error::ErrorKind;
+use clap::{ArgMatches, Command, Error};
+use std::alloc::{AllocError, Global};
+
+/// Who signs; `None` where the options tell no signer, or mix two up.
+pub fn signer_words<'a>(matches: &ArgMatches<'a>) -> Option<SignerWords<'a>>
+    ensures found { IfSome result (StatesSigner (rows_of (found_of matches.now))) }
+    ensures none { IsNone result → has_one_signer (rows_of (found_of matches.now)) ≡ false }
+{
+    let key = matches.get_str("signing-key");
+    let address = matches.get_str("signer");
+    let algorithm = matches.get_str("signer-algorithm");
+    one_signer(key, address, algorithm)
+}
+
+/// The signer that a key tells alone, or an address and an algorithm together.
+fn one_signer<'a>(
+    key: Option<&'a str>,
+    address: Option<&'a str>,
+    algorithm: Option<&'a str>,
+) -> Option<SignerWords<'a>>
+    ensures found { IfSome result (IsTold key.entry address.entry algorithm.entry) }
+    ensures none { IsNone result
+        → tells_one_signer (is_some key.entry) (is_some address.entry) (is_some algorithm.entry) ≡ false }
+{
+    match key {
+        Some(path) => match address {
+            Some(_) => None,
+            None => match algorithm {
+                Some(_) => None,
+                None => Some(SignerWords::Key(path)),
+            },
+        },
+        None => Some(SignerWords::Session {
+            address: address?,
+            algorithm: algorithm?,
+        }),
+    }
+}
+
+/// The error of words with which `clap` finds no fault, and which ask for nothing.
+pub fn error_of(alloc: Global, matches: &ArgMatches<'_>) -> Result<Error, AllocError>
+    ensures { IfOk result (λ error. IsOwnKind (kind_of error)) }
+{
+    match matches.subcommand() {
+        Some(("answer", words)) => {
+            signer_error(answer_command(alloc)?.bin_name("counter answer")?, words)
+        }
+        Some(("exchange", words)) => {
+            signer_error(
+                exchange_command(alloc)?.bin_name("counter exchange")?,
+                words,
+            )
+        }
+        Some(("serve", words)) => {
+            signer_error(serve_command(alloc)?.bin_name("counter serve")?, words)
+        }
+        _ => command(alloc)?.error(ErrorKind::MissingRequiredArgument, "a value is missing"),
+    }
+}
+
+fn signer_error(command: Command<'_>, words: &ArgMatches<'_>) -> Result<Error, AllocError>
+    ensures { IfOk result (λ error. IsOwnKind (kind_of error)) }
+{
+    let mut command = command;
+    let (kind, message) = signer_mistake(words);
+    command.error(kind, message)
+}
+
+/// Why the options tell no signer, as `clap` says it of options that are missing, or that another excludes.
+fn signer_mistake(matches: &ArgMatches<'_>) -> (ErrorKind, &'static str)
+    ensures { IsOwnKind result.0 }
+{
+    let key = matches.get_str("signing-key").is_some();
+    let address = matches.get_str("signer").is_some();
+    let algorithm = matches.get_str("signer-algorithm").is_some();
+    match (key, address, algorithm) {
+        (true, true, true) => (ErrorKind::ArgumentConflict, KEY_AND_SESSION),
+        (true, true, false) => (ErrorKind::ArgumentConflict, KEY_AND_ADDRESS),
+        (true, false, true) => (ErrorKind::ArgumentConflict, KEY_AND_ALGORITHM),
+        (false, true, false) => (ErrorKind::MissingRequiredArgument, NO_ALGORITHM),
+        (false, false, true) => (ErrorKind::MissingRequiredArgument, NO_ADDRESS),
+        (false, false, false) => (ErrorKind::MissingRequiredArgument, NO_SIGNER),
+        _ => (ErrorKind::MissingRequiredArgument, "a value is missing"),
+    }
+}
+
+const KEY_AND_SESSION: &str = "the argument '--signing-key <signing-key>' cannot be used with:\n  \
+    --signer <signer>\n  --signer-algorithm <signer-algorithm>";
+
+const KEY_AND_ADDRESS: &str =
+    "the argument '--signing-key <signing-key>' cannot be used with '--signer <signer>'";
+
+const KEY_AND_ALGORITHM: &str = "the argument '--signing-key <signing-key>' cannot be used with \
+    '--signer-algorithm <signer-algorithm>'";
+
+const NO_ALGORITHM: &str =
+    "the following required arguments were not provided:\n  --signer-algorithm <signer-algorithm>";
+
+const NO_ADDRESS: &str = "the following required arguments were not provided:\n  --signer <signer>";
+
+const NO_SIGNER: &str = "the following required arguments were not provided:\n  \
+    <--signing-key <signing-key>|--signer <signer> --signer-algorithm <signer-algorithm>>";

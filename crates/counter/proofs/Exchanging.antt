@@ -1,0 +1,54 @@
+-- What `exchange` writes, out of what the operation says of it.
+use Rattle.std.proofs.Common.{◌≡◌, ℕ, ℤ, List, [], Option, length, take, refl, sym, subst, inl, inr}
+use Rattle.std.proofs.Math.Seq.{take-length}
+use Rattle.std.specs.Io.KnownBytes.{Appends, Keeps}
+use Rattle.policy.specs.Record.{PolicyValue}
+use Rattle.service.specs.Answers.{answer_text, success}
+use Rattle.service.specs.declared.answer.Media.TheVariants.{Csv}
+use Rattle.service.specs.declared.served.Served.TheVariants.{Closed, Answered, WriteFailed}
+use Rattle.operations.specs.Exchanges as operation
+use Rattle.counter.specs.Exchange.{WritesAnswer}
+use Rattle.counter.specs.Writing.{Begins}
+use Rattle.counter.proofs.Writing.{appends_nothing, keeps_beginning}
+
+module _ (policy : PolicyValue) (reading : ℤ) (old new before : Option (List ℕ)) where
+  -- the input is at its end
+  pub writes_nothing : (after : Option (List ℕ)) → operation.Exchanges policy reading old new before after Closed
+      → WritesAnswer policy reading old new (Appends before after)
+  writes_nothing after e =
+      let P : Option (List ℕ) → Type 0 = λ x. Appends before x [] in
+      inl (e.0, e.1, subst P (sym e.2) (appends_nothing before))
+
+  -- the answer is written, and the output flushed
+  pub writes_all : (mid after : Option (List ℕ)) (status : ℕ)
+      → operation.Exchanges policy reading old new before mid (Answered status) → Keeps mid after
+      → WritesAnswer policy reading old new (Appends before after)
+  writes_all mid after status (inl e) kept =
+      inr (inl (e.answer, e.is, keeps_beginning before mid after (answer_text e.answer) e.written kept))
+  writes_all mid after status (inr e) kept =
+      let text = answer_text (success 200 Csv e.1.0) in
+      inr (inr (e.0, (text, keeps_beginning before mid after text e.1.1.1 kept)))
+
+  begun : (mid after : Option (List ℕ)) (text : List ℕ) → Appends before mid text → Keeps mid after
+      → Begins before after text
+  begun mid after text written kept =
+      (length text, rw (take-length text) (keeps_beginning before mid after text written kept))
+
+  -- the answer is written, and the output not flushed
+  pub writes_unflushed : (mid after : Option (List ℕ)) (status : ℕ)
+      → operation.Exchanges policy reading old new before mid (Answered status) → Keeps mid after
+      → WritesAnswer policy reading old new (Begins before after)
+  writes_unflushed mid after status (inl e) kept =
+      inr (inl (e.answer, e.is, begun mid after (answer_text e.answer) e.written kept))
+  writes_unflushed mid after status (inr e) kept =
+      let text = answer_text (success 200 Csv e.1.0) in
+      inr (inr (e.0, (text, begun mid after text e.1.1.1 kept)))
+
+  -- a beginning of the answer is written
+  pub writes_part : (after : Option (List ℕ)) (status sent : ℕ)
+      → operation.Exchanges policy reading old new before after (WriteFailed status sent)
+      → WritesAnswer policy reading old new (Begins before after)
+  writes_part after status sent (inl e) = inr (inl (e.answer, e.is, (sent, e.written)))
+  writes_part after status sent (inr e) =
+      let octets = e.1.1 in
+      inr (inr (e.0, (octets, (length octets, rw (take-length octets) e.1.3))))

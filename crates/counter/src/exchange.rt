@@ -1,0 +1,86 @@
+//! The words `exchange` and `serve`.
+ghost use Rattle.std.specs.Prelude.{◌≡◌, ◌⊎◌, OnOk, IfErr};
+ghost use Rattle.std.specs.Io.KnownBytes.{Appends, Keeps};
+ghost use Rattle.counter.specs.Exchange.{Exchanges};
+ghost use Rattle.counter.specs.Writing.{Begins};
+
+use crate::fault::{Fault, InputFault};
+use crate::files::{Files, read_files};
+use command_line::{ExchangeWords, ServeWords};
+use operations::Terms;
+use service::Served;
+use std::io::{Read, Write};
+use std::rt::HostRuntime;
+
+/// Reads one HTTP request and writes its answer; nothing where the input ends before any octet. The files are read
+/// first, then the database is opened, the key holder reached, and the request read last. `input` 5 where a read or a
+/// write fails.
+pub fn exchange<I: Read, O: Write>(
+    rt: &HostRuntime,
+    words: &ExchangeWords<'_>,
+    input: &mut I,
+    output: &mut O,
+) -> Result<(), Fault>
+    ensures answered { OnOk result (Exchanges words.now (I.remaining input.old) (I.remaining input.new)
+        (Appends (O.contents output.old) (O.contents output.new))) }
+
+    // Before a fault nothing is written, but where there is an answer and writing it fails.
+    ensures kept { IfErr result (λ fault. (O.contents output.new ≡ O.contents output.old)
+        ⊎ ((fault ≡ Fault.Input InputFault.Failed)
+        × Exchanges words.now (I.remaining input.old) (I.remaining input.new)
+        (Begins (O.contents output.old) (O.contents output.new)))) }
+{
+    let Files {
+        policy,
+        identity,
+        signing,
+        algorithm,
+    } = read_files(rt, &words.desk)?;
+    let terms = Terms {
+        policy: &policy,
+        identity: &identity,
+        algorithm: &algorithm,
+    };
+    let reading = words.reading as i64;
+    let served = operations::exchange(rt, words.desk.db, terms, signing, reading, input, output)?;
+    match served {
+        Served::Closed => Ok(()),
+        Served::Answered(_) => Ok(flush(output)?),
+        Served::ReadFailed | Served::WriteFailed { .. } => Err(Fault::Input(InputFault::Failed)),
+    }
+}
+
+/// Has the output send what it keeps. `Failed` where it doesn't.
+fn flush<O: Write>(output: &mut O) -> Result<(), InputFault>
+    ensures kept { Keeps (O.contents output.old) (O.contents output.new) }
+    ensures faults { IfErr result (λ fault. fault ≡ InputFault.Failed) }
+{
+    match output.flush() {
+        Ok(()) => Ok(()),
+        Err(_) => Err(InputFault::Failed),
+    }
+}
+
+/// Serves HTTP connections at an address. The files are read first, then the database is opened, the key holder
+/// reached, and the address listened on. It reads and writes no stream of the process.
+pub fn serve(rt: &HostRuntime, words: &ServeWords<'_>) -> Result<(), Fault> {
+    let Files {
+        policy,
+        identity,
+        signing,
+        algorithm,
+    } = read_files(rt, &words.desk)?;
+    let terms = Terms {
+        policy: &policy,
+        identity: &identity,
+        algorithm: &algorithm,
+    };
+    Ok(operations::serve(
+        rt,
+        words.desk.db,
+        terms,
+        signing,
+        words.listen,
+        words.connections,
+    )?)
+}

@@ -1,0 +1,42 @@
+//! The word `audit`.
+ghost use Rattle.std.specs.Prelude.{◌≡◌, ◌⊎◌, List, ℕ, true, false, IfOk, IfErr, OnOk};
+ghost use Rattle.std.specs.Io.KnownBytes.{Appends};
+ghost use Rattle.operations.specs.Auditing.{TellsSome};
+ghost use Rattle.counter.specs.Audits.{Audits, LeavesCut};
+
+use crate::accounts::account_named;
+use crate::check::read_policy;
+use crate::fault::Fault;
+use command_line::AuditWords;
+use operations::Inquiry;
+use std::io::Write;
+use std::rt::HostRuntime;
+
+/// Writes the extract that the words ask for, and checks its stamps where they ask for that, with a line for each that
+/// fails: whether there is none. The policy file is read first, then the account looked for, and the database opened
+/// last.
+pub fn audit<O: Write, E: Write>(
+    rt: &HostRuntime,
+    words: &AuditWords<'_>,
+    output: &mut O,
+    errors: &mut E,
+) -> Result<bool, Fault>
+    ensures extracted { OnOk result ((text : List ℕ) × Audits words.now text
+        × Appends (O.contents output.old) (O.contents output.new) text) }
+    ensures agreed { IfOk result (λ agree. agree ≡ true → E.contents errors.new ≡ E.contents errors.old) }
+    ensures failed { IfOk result (λ agree. agree ≡ false
+        → (words.now.check ≡ true) × TellsSome (E.contents errors.old) (E.contents errors.new)) }
+    ensures refused { IfErr result (LeavesCut words.now (O.contents output.old) (O.contents output.new)
+        (E.contents errors.old) (E.contents errors.new)) }
+{
+    let policy = read_policy(rt, words.rules)?;
+    let account = account_named(&policy, words.account)?;
+    let inquiry = Inquiry {
+        policy: &policy,
+        account,
+        from: words.from,
+        to: words.to,
+        check: words.check,
+    };
+    Ok(operations::audit(rt, words.db, &inquiry, output, errors)?)
+}

@@ -1,0 +1,47 @@
+-- What answering one HTTP request does to a reader and a writer, out of what the service says of it.
+use Rattle.std.proofs.Common.{◌≡◌, ℕ, ℤ, List, Option, Result, Ok, Err, ap, inl, inr}
+use Rattle.sqlite_trees.specs.declared.store.Store.{Ghosts}
+use Rattle.cms.specs.declared.signer.SignerFault.{SignerFault}
+use Rattle.desk.specs.Command.{Command, Stamp, Answer}
+use Rattle.service.specs.Answers.{AnswerValue}
+use Rattle.service.specs.Requests.{Step, Extract}
+use Rattle.service.specs.Served.{Turn, Takes, IsAnswer, refuses, replies, keeps_back, wants_early, wants_idle}
+use Rattle.service.specs.Served.{wants_after, wants_looking, Writes, Extracts, Serves}
+use Rattle.service.specs.declared.served.Served.{Served}
+use Rattle.service.specs.declared.served.Served.TheVariants as served
+use Rattle.operations.specs.Exchanges as known
+use Rattle.operations.specs.Exchanges.{AsksExtract, Exchanges, IsAnswerFor, IsJudged}
+
+module _ {W S X : Type 0} (g : Ghosts S) (signs : X → List ℕ → Result (List ℕ) SignerFault → X → Type 0)
+    (count : X → ℕ) (contents : W → Option (List ℕ)) (reading : ℤ) (t : Turn W S X) where
+  judged : (c : Command) (reply : Answer) → Takes g signs count t c reply → IsJudged t.desk.setting.file c reply
+  judged (Stamp account reading octets) reply takes = λ rule first. (takes.1 rule first).0
+  judged other reply takes = tt
+
+  explained : (a : AnswerValue) → IsAnswer g signs count reading t a
+      → IsAnswerFor t.desk.setting.file reading t.input t.input_after a
+  explained a (refuses r reads idle is) = known.refuses r reads is
+  explained a (replies c reads reply takes is) = known.replies c reads reply (judged c reply takes) is
+  explained a (keeps_back account from to reads f kept is) = known.keeps_back account from to reads f kept.comes is
+  explained a (wants_early early idle is) = known.wants_early early is
+  explained a (wants_idle r reads idle is) = known.wants (Err r) reads is
+  explained a (wants_after c reads reply takes is) = known.wants (Ok (Step c)) reads is
+  explained a (wants_looking account from to reads look is) = known.wants (Ok (Extract account from to)) reads is
+
+  asked : (outcome : Served) → Extracts g signs count contents reading t outcome
+      → AsksExtract t.desk.setting.file reading t.input t.input_after
+  asked outcome e =
+      record { account = e.account; from = e.from; to = e.to; read = e.read; allowed = e.allowed }
+
+  pub exchanged : (outcome : Served) → Serves g signs count contents reading t outcome
+      → Exchanges t.desk.setting.file reading t.input t.input_after (contents t.writer) (contents t.writer_after) outcome
+  exchanged served.Closed s = (s.0, s.1, ap contents s.2.writer)
+  exchanged (served.Answered status) (inl s) =
+      inl (record { answer = s.answer; is = explained s.answer s.is; status_told = s.sent.0; written = s.sent.1 })
+  exchanged (served.Answered status) (inr e) =
+      inr (asked (served.Answered status) e, e.told)
+  exchanged served.ReadFailed s = (s.0, ap contents s.1.writer)
+  exchanged (served.WriteFailed status taken) (inl s) =
+      inl (record { answer = s.answer; is = explained s.answer s.is; status_told = s.sent.0; written = s.sent.2 })
+  exchanged (served.WriteFailed status taken) (inr e) =
+      inr (asked (served.WriteFailed status taken) e, e.told)

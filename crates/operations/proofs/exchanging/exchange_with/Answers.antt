@@ -1,0 +1,25 @@
+use Rattle.std.proofs.Common.{ℤ, subst, rules, SFits, w64, to_z-of_z}
+use Rattle.service.specs.Served.{Serves, Turn}
+use Rattle.operations.proofs.OfService.{exchanged}
+use Rattle.operations.proofs.exchanging.exchange_with.Goals as goal
+
+pub returns-clause-exchanged : goal.returns-clause-exchanged
+returns-clause-exchanged g c =
+    let turn : Turn g.row.W.Denot g.row.S.Denot g.row.G.Denot =
+    record {
+      input = g.R.Read.remaining c.args.reader.now;
+      input_after = g.R.Read.remaining c.serve_one.new.reader;
+      writer = c.args.writer.now;
+      writer_after = c.serve_one.new.writer;
+      desk = c.args.desk.now;
+      desk_after = c.serve_one.new.desk;
+      signer = c.args.signer.now;
+      signer_after = c.serve_one.new.signer;
+    }
+    in
+    let fits : SFits w64 c.args.reading = search rules in
+    let at : ℤ → Type 0 =
+    λ n. Serves g.S.Store g.G.Signer.signs g.G.Signer.fault_count g.W.Write.contents n turn c.serve_one.result
+    in
+    exchanged g.S.Store g.G.Signer.signs g.G.Signer.fault_count g.W.Write.contents c.args.reading turn c.serve_one.result
+    (subst at (to_z-of_z fits) c.serve_one.ensures.served)

@@ -1,0 +1,70 @@
+-- What answering one HTTP request does to a reader and a writer, where nothing is known of what the database holds.
+use Rattle.std.specs.Prelude.{◌≡◌, ◌⊎◌, ℕ, ◌<◌, ℤ, List, [], length, take, Option, Result, Ok, Err}
+use Rattle.std.specs.Io.KnownBytes.{Appends, Consumes, IsAtEnd}
+use Rattle.policy.specs.Record.{AccountValue, PolicyValue}
+use Rattle.audit.specs.Auditor.{IsAllowed, ComesWhere}
+use Rattle.audit.specs.declared.fault.ExtractFault.{ExtractFault}
+use Rattle.desk.specs.Command.{Command, Stamp, Answer}
+use Rattle.service.specs.Answers.{AnswerValue, answer_text, answer_to, refusal_answer, success}
+use Rattle.service.specs.Refusals.{refusal_of_extract}
+use Rattle.service.specs.Requests.{Asked, Step, Extract, IsRequest, IsPart, IsEarly}
+use Rattle.service.specs.Served.{unavailable}
+use Rattle.service.specs.declared.answer.Media.TheVariants.{Csv}
+use Rattle.service.specs.declared.refusal.Refusal.{Refusal}
+use Rattle.service.specs.declared.served.Served.{Served}
+use Rattle.service.specs.declared.served.Served.TheVariants as served
+use Rattle.operations.specs.Judged.{IsJudgedReply}
+
+-- what of the reply to a time-stamp request is certain
+abbrev pub IsJudged : PolicyValue → Command → Answer → Type 0
+IsJudged file (Stamp account reading octets) answer =
+    IsJudgedReply file account octets answer
+IsJudged file other answer = Unit {0}
+
+-- Why an answer is written: the input is left as `old`, and then as `new`.
+pub data IsAnswerFor (file : PolicyValue) (reading : ℤ) (old new : Option (List ℕ)) (a : AnswerValue) : Type 0 where
+  -- the request is refused
+  refuses : (r : Refusal) → IsRequest file reading old new (Err r) → a ≡ refusal_answer r
+      → IsAnswerFor file reading old new a
+  -- the answer tells a reply to what the request asks for
+  replies : (c : Command) → IsRequest file reading old new (Ok (Step c)) → (reply : Answer) → IsJudged file c reply
+      → a ≡ answer_to c reply → IsAnswerFor file reading old new a
+  -- the extract that the request asks for is refused
+  keeps_back : (account : AccountValue) (from to : ℕ) → IsRequest file reading old new (Ok (Extract account from to))
+      → (f : ExtractFault) → ComesWhere file account from to f → a ≡ refusal_answer (refusal_of_extract f)
+      → IsAnswerFor file reading old new a
+  -- memory is wanting before the body is read
+  wants_early : IsEarly old new → a ≡ unavailable → IsAnswerFor file reading old new a
+  -- memory is wanting for the answer
+  wants : (asked : Result Asked Refusal) → IsRequest file reading old new asked → a ≡ unavailable
+      → IsAnswerFor file reading old new a
+
+-- an answer of that status is there, and this much of its text is written
+pub record Writes (file : PolicyValue) (reading : ℤ) (old new before after : Option (List ℕ)) (status : ℕ)
+    (part : List ℕ → List ℕ) : Type 0 where
+  pub answer : AnswerValue
+  pub is : IsAnswerFor file reading old new answer
+  pub status_told : answer.status ≡ status
+  pub written : Appends before after (part (answer_text answer))
+
+-- an extract is asked for, and may be given
+pub record AsksExtract (file : PolicyValue) (reading : ℤ) (old new : Option (List ℕ)) : Type 0 where
+  pub account : AccountValue
+  pub from : ℕ
+  pub to : ℕ
+  pub read : IsRequest file reading old new (Ok (Extract account from to))
+  pub allowed : IsAllowed file account from to
+
+-- What each outcome says: the output's octets were `before`, and are `after`.
+abbrev pub Exchanges : PolicyValue → ℤ → (old new before after : Option (List ℕ)) → Served → Type 0
+Exchanges file reading old new before after served.Closed =
+    Consumes old new [] × IsAtEnd new × (after ≡ before)
+Exchanges file reading old new before after (served.Answered status) =
+    Writes file reading old new before after status (λ text. text)
+    ⊎ (AsksExtract file reading old new
+    × ((body : List ℕ) × ((200 ≡ status) × Appends before after (answer_text (success 200 Csv body)))))
+Exchanges file reading old new before after served.ReadFailed = IsPart old new × (after ≡ before)
+Exchanges file reading old new before after (served.WriteFailed status sent) =
+    Writes file reading old new before after status (take sent)
+    ⊎ (AsksExtract file reading old new
+    × ((status ≡ 200) × (octets : List ℕ) × (length octets ≡ sent) × Appends before after octets))

@@ -1,0 +1,196 @@
+//! How the stamps that the database at a path keeps are extracted and checked.
+ghost use Rattle.std.specs.Prelude.{◌≡◌, ◌≤◌, ◌⊎◌, true, false, IfOk, IfErr, OnOk, OnErr, string_bytes};
+ghost use Rattle.std.specs.Io.KnownBytes.{Appends};
+ghost use Rattle.tables.specs.Base.{IsHonest};
+ghost use Rattle.store.specs.History.{History, stamps_between};
+ghost use Rattle.store.specs.Stands.{OnlyLooks, Stands};
+ghost use Rattle.operations.specs.Auditing.{Allows, BeginsExtract, Checks, ComesWhere, IsCutOff, IsExtractFault, Leaves};
+ghost use Rattle.operations.specs.declared.auditing.AuditFault.TheVariants.{Extract, Store};
+ghost use Rattle.operations.specs.Auditing.{TellsFailing, TellsSome, WritesExtract, failing_line};
+
+use crate::opening::open;
+use audit::{ExtractFault, check_row, extract, write_octets};
+use policy::{Account, Policy};
+use sqlite::Alter;
+use sqlite_disk::Unknown;
+use std::alloc::{AllocError, Global};
+use std::io::Write;
+use store::{Store, StoreFault};
+
+/// Of which stamps an account asks for an extract.
+#[derive(Clone, Copy, Debug)]
+pub struct Inquiry<'a> {
+    /// The policy file.
+    pub policy: &'a Policy,
+    /// The account that asks.
+    pub account: &'a Account,
+    /// The first serial number.
+    pub from: u64,
+    /// The last serial number.
+    pub to: u64,
+    /// Whether each stamp is checked as well.
+    pub check: bool,
+}
+
+/// Why there is no extract, or no check of it.
+#[derive(Clone, Copy, Debug, PartialEq, Eq)]
+pub enum AuditFault {
+    /// The database refused, or isn't the counter's.
+    Store(StoreFault),
+    /// The extract is refused, or memory ran out over the check.
+    Extract(ExtractFault),
+}
+
+impl From<StoreFault> for AuditFault {
+    ghost from_gives = { λ fault e. e ≡ Store fault };
+
+    fn from(fault: StoreFault) -> AuditFault {
+        AuditFault::Store(fault)
+    }
+}
+
+impl From<ExtractFault> for AuditFault {
+    ghost from_gives = { λ fault e. e ≡ Extract fault };
+
+    fn from(fault: ExtractFault) -> AuditFault {
+        AuditFault::Extract(fault)
+    }
+}
+
+/// Writes the extract of the stamps that the database at the path keeps, as `audit::extract` does, and then, where that
+/// is asked, checks each stamp as `check_stamps` does: whether all agree. Refused with `Store` where the database can't
+/// be opened, and with `Extract` as `audit::extract`; nothing is checked then. Where the check is refused it is `Extract` for
+/// want of memory, and else `Store`; the whole extract is written then.
+pub fn audit<O: Write, E: Write>(
+    rt: &HostRuntime,
+    path: &str,
+    inquiry: &Inquiry<'_>,
+    output: &mut O,
+    errors: &mut E,
+) -> Result<bool, AuditFault>
+    ensures allowed { IfOk result (λ _. Allows inquiry.now) }
+    ensures extracted { OnOk result (WritesExtract (O.contents output.old) (O.contents output.new)) }
+    ensures agreed { IfOk result (λ agree. agree ≡ true → E.contents errors.new ≡ E.contents errors.old) }
+    ensures failed { IfOk result (λ agree. agree ≡ false
+        → (inquiry.now.check ≡ true) × TellsSome (E.contents errors.old) (E.contents errors.new)) }
+    ensures comes { IfErr result (ComesWhere inquiry.now) }
+    ensures refused { IfErr result (Leaves inquiry.now (O.contents output.old) (O.contents output.new)
+        (E.contents errors.old) (E.contents errors.new)) }
+{
+    let mut store = open(rt, path, Unknown)?;
+    let done = audit_store(rt.alloc(), &mut store, inquiry, output, errors);
+    // What was committed stays in the log where it can't be copied into the file.
+    let _ = store.close();
+    done
+}
+
+/// Writes the extract of a store, and then checks its stamps where that is asked.
+fn audit_store<S: Alter + Drop, O: Write, E: Write>(
+    alloc: Global,
+    store: &mut Store<S>,
+    inquiry: &Inquiry<'_>,
+    output: &mut O,
+    errors: &mut E,
+) -> Result<bool, AuditFault>
+    ensures allowed { IfOk result (λ _. Allows inquiry.now) }
+    ensures extracted { OnOk result (WritesExtract (O.contents output.old) (O.contents output.new)) }
+    ensures agreed { IfOk result (λ agree. agree ≡ true → E.contents errors.new ≡ E.contents errors.old) }
+    ensures failed { IfOk result (λ agree. agree ≡ false
+        → (inquiry.now.check ≡ true) × TellsSome (E.contents errors.old) (E.contents errors.new)) }
+    ensures comes { IfErr result (ComesWhere inquiry.now) }
+    ensures refused { IfErr result (Leaves inquiry.now (O.contents output.old) (O.contents output.new)
+        (E.contents errors.old) (E.contents errors.new)) }
+{
+    write_extract(alloc, store, inquiry, output)?;
+    if !inquiry.check {
+        return Ok(true);
+    }
+    match check_stamps(alloc, store, inquiry.from, inquiry.to, errors) {
+        Ok(agree) => Ok(agree),
+        Err(ExtractFault::Memory) => Err(AuditFault::Extract(ExtractFault::Memory)),
+        // No other refusal of a walk over stamps is told than the database's.
+        Err(_) => Err(AuditFault::Store(StoreFault::Database)),
+    }
+}
+
+/// Writes the extract of a store, and has the output send what it keeps.
+fn write_extract<S: Alter + Drop, O: Write>(
+    alloc: Global,
+    store: &mut Store<S>,
+    inquiry: &Inquiry<'_>,
+    output: &mut O,
+) -> Result<(), AuditFault>
+    ensures allowed { IfOk result (λ _. Allows inquiry.now) }
+    ensures extracted { OnOk result (WritesExtract (O.contents output.old) (O.contents output.new)) }
+    ensures comes { IfErr result (ComesWhere inquiry.now) }
+    ensures refused { IfErr result (λ fault. (O.contents output.new ≡ O.contents output.old)
+        ⊎ (IsExtractFault fault × Allows inquiry.now × BeginsExtract (O.contents output.old) (O.contents output.new))) }
+{
+    extract(
+        alloc,
+        store,
+        inquiry.policy,
+        inquiry.account,
+        inquiry.from,
+        inquiry.to,
+        output,
+    )?;
+    match output.flush() {
+        Ok(()) => Ok(()),
+        Err(_) => Err(AuditFault::Extract(ExtractFault::Write)),
+    }
+}
+
+/// Checks each stamp of the range from its octets, and writes a line `row N fails` for each whose octets don't say what
+/// its row says, N being its serial number: whether there is none. Where a line can't be written the stamps after it
+/// aren't looked at. Refused with `Memory` and `Store`, where they are met; the lines that were written stand. The store
+/// changes nowhere, and no stamp is kept.
+pub fn check_stamps<S: Alter + Drop, E: Write>(
+    alloc: Global,
+    store: &mut Store<S>,
+    from: u64,
+    to: u64,
+    errors: &mut E,
+) -> Result<bool, ExtractFault>
+    ensures looks { OnlyLooks S.Store store.old store.new }
+    ensures checked { IsHonest S.Store store.new → (b : History) → Stands S.Store b store.old
+        → IfOk result (Checks (stamps_between from to b) (E.contents errors.old) (E.contents errors.new)) }
+
+    // Whatever the database tells:
+    ensures agreed { IfOk result (λ agree. agree ≡ true → E.contents errors.new ≡ E.contents errors.old) }
+    ensures failed { IfOk result (λ agree. agree ≡ false
+        → TellsSome (E.contents errors.old) (E.contents errors.new)) }
+    ensures told { OnErr result (TellsFailing (E.contents errors.old) (E.contents errors.new)) }
+    ensures refusals { IfErr result (λ e. (e ≡ ExtractFault.Memory) ⊎ (e ≡ ExtractFault.Store)) }
+{
+    let mut agree = true;
+    let mut walk = store.stamps_between(from, to);
+    while let Some(stamp) = walk.next()? {
+        if !check_row(&stamp)? {
+            agree = false;
+            if !tell(alloc, stamp.serial, errors)? {
+                return Ok(false);
+            }
+        }
+    }
+    Ok(agree)
+}
+
+/// Writes the line of a stamp that fails: whether all of it is written.
+fn tell<E: Write>(alloc: Global, serial: u64, errors: &mut E) -> Result<bool, AllocError>
+    ensures whole { IfOk result (λ whole. whole ≡ true
+        → Appends (E.contents errors.old) (E.contents errors.new) (failing_line serial)) }
+    ensures cut { IfOk result (λ whole. whole ≡ false
+        → IsCutOff (E.contents errors.old) (E.contents errors.new) (failing_line serial)) }
+    ensures untold { OnErr result (E.contents errors.new ≡ E.contents errors.old) }
+{
+    let line = line_of(alloc, serial)?;
+    let taken = write_octets(errors, line.as_bytes());
+    Ok(taken == line.len())
+}
+
+fn line_of(alloc: Global, serial: u64) -> Result<String, AllocError>
+    ensures { IfOk result (λ line. string_bytes line ≡ failing_line serial) }
+{
+    format!(in alloc; "row {serial} fails\n")
+}
