@@ -127,7 +127,13 @@ fn signers_and_addresses_are_looked_for_after_the_database(rt: HostRuntime) -> R
     set_up(&rt)?;
     for (words, fault) in FAULTS {
         let line = format!(in rt.alloc(); "{words} {RULES} {CERTIFICATE}")?;
-        let run = run_over(&rt, line.as_str(), REQUEST)?;
+        // `answer` reads hexadecimal: no octets here.
+        let input = if words.starts_with("answer") {
+            b"".as_slice()
+        } else {
+            REQUEST
+        };
+        let run = run_over(&rt, line.as_str(), input)?;
         assert_eq!(rt; run.status, 1, "{words}");
         assert!(rt; run.output.is_empty(), "{words}");
         assert_eq!(rt; str::from_utf8(run.errors.as_slice())?, fault, "{words}");

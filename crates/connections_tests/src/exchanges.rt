@@ -1,0 +1,109 @@
+//! Clients that write before they are served, and read afterwards.
+use super::setting::{calibrated, example};
+use cms::{KeyedHash, Signer};
+use connections::{Clock, ClockFailed, serve_connections};
+use std::alloc::Global;
+use std::io::{Read, Write};
+use std::net::{TcpListener, TcpStream};
+use std::test::Fail;
+use std::time::Duration;
+
+/// Longer than any of these connections needs.
+pub fn long() -> Duration {
+    Duration::from_secs(10)
+}
+
+/// How long those are waited for of which nothing comes.
+pub fn short() -> Duration {
+    Duration::from_millis(100)
+}
+
+/// A clock that stands at 0, and fails once it was asked so often.
+#[derive(Drop)]
+pub struct FixedClock {
+    pub left: u32,
+}
+
+impl Clock for FixedClock {
+    ghost reads = { λ before reading after. Unit {0} };
+
+    fn reading(&mut self) -> Result<i64, ClockFailed> {
+        match self.left.checked_sub(1) {
+            Some(left) => {
+                self.left = left;
+                Ok(0)
+            }
+            None => Err(ClockFailed),
+        }
+    }
+}
+
+/// A listener on a port that the system picks.
+pub fn listening(rt: &HostRuntime) -> Result<TcpListener, Fail> {
+    Ok(TcpListener::bind(rt, "127.0.0.1:0")?)
+}
+
+/// A connection to it, into which octets are written; what is written goes out at once.
+pub fn client(rt: &HostRuntime, listener: &TcpListener, octets: &[u8]) -> Result<TcpStream, Fail> {
+    let mut stream = TcpStream::connect(rt, listener.local_addr()?)?;
+    stream.set_nodelay(true)?;
+    stream.set_read_timeout(Some(long()))?;
+    stream.write_all(octets)?;
+    Ok(stream)
+}
+
+/// What comes, up to the end.
+pub fn received(alloc: Global, stream: &mut TcpStream) -> Result<Vec<u8>, Fail> {
+    let mut octets = Vec::new(alloc);
+    stream.read_to_end(&mut octets)?;
+    Ok(octets)
+}
+
+/// Serves so many connections by a desk of its own: how that ends.
+pub fn serving<R: AllocGlobal + std::time::Clock, G: Signer>(
+    rt: &R,
+    listener: &TcpListener,
+    count: u32,
+    limit: Duration,
+    readings: u32,
+    signer: &mut G,
+) -> Result<Result<(), ClockFailed>, Fail> {
+    let alloc = rt.alloc();
+    let setting = example(alloc)?;
+    let mut desk = calibrated(alloc, &setting)?;
+    let mut clock = FixedClock { left: readings };
+    Ok(serve_connections(rt, listener, count, limit, &mut clock, &mut desk, signer))
+}
+
+/// Clients write octets, each over a connection of its own, and get others; how serving them in that order ends.
+pub fn exchange<G: Signer>(
+    rt: &HostRuntime,
+    rows: &[(&[u8], &[u8])],
+    limit: Duration,
+    readings: u32,
+    signer: &mut G,
+) -> Result<Result<(), ClockFailed>, Fail> {
+    let alloc = rt.alloc();
+    let listener = listening(rt)?;
+    let mut clients = Vec::new(alloc);
+    for (octets, _) in rows {
+        clients.push(client(rt, &listener, octets)?)?;
+    }
+    let count = u32::try_from(rows.len())?;
+    let ended = serving(rt, &listener, count, limit, readings, signer)?;
+    for (stream, (_, wanted)) in clients.iter_mut().zip(rows) {
+        if received(alloc, stream)?.as_slice() != *wanted {
+            return Err(Fail::new("another answer came"));
+        }
+    }
+    Ok(ended)
+}
+
+/// The same with a stand-in signer and a clock that doesn't fail.
+pub fn answers(rt: &HostRuntime, rows: &[(&[u8], &[u8])], limit: Duration) -> Result<(), Fail> {
+    let mut signer = KeyedHash::new(rt.alloc(), b"k")?;
+    match exchange(rt, rows, limit, u32::MAX, &mut signer)? {
+        Ok(()) => Ok(()),
+        Err(fault) => Err(Fail::from(fault)),
+    }
+}

@@ -1,0 +1,80 @@
+//! Limits on time, by a machine whose clock moves on each time that it is looked at.
+use super::exchanges::{client, listening, long, serving};
+use super::octets::RULE_1;
+use super::setting::{EMPTY, REPLY, answer};
+use cms::KeyedHash;
+use std::cell::Cell;
+use std::io;
+use std::io::{Read, Write};
+use std::net::TcpStream;
+use std::test::Fail;
+use std::time::{Clock, Duration};
+
+/// A machine whose clock moves on by so much each time that it is looked at. A client writes its next octet then.
+#[derive(Drop)]
+struct Machine<'a> {
+    client: &'a TcpStream,
+    octets: &'a [u8],
+    step: Duration,
+    looks: Cell<u32>,
+}
+
+impl Clock for Machine<'_> {
+    fn monotonic(&self) -> io::Result<Duration> {
+        let looks = self.looks.get();
+        self.looks.set(looks.saturating_add(1));
+        if let Some(octet) = self.octets.get(looks as usize) {
+            let mut client = self.client;
+            client.write_all(&[*octet])?;
+        }
+        Ok(self.step.saturating_mul(looks))
+    }
+
+    fn since_1970(&self) -> io::Result<Duration> {
+        self.monotonic()
+    }
+}
+
+/// What a client receives that writes octets before its connection is served, and then one at each look at the clock.
+/// It may be told that the connection was reset, where not all that it wrote was read.
+fn told(rt: &HostRuntime, before: &[u8], octets: &[u8], step: Duration) -> Result<Vec<u8>, Fail> {
+    let alloc = rt.alloc();
+    let mut signer = KeyedHash::new(alloc, b"k")?;
+    let listener = listening(rt)?;
+    let stream = client(rt, &listener, before)?;
+    let machine = Machine {
+        client: &stream,
+        octets,
+        step,
+        looks: Cell::new(0),
+    };
+    let ended = serving(&(machine, alloc), &listener, 1, long(), 1, &mut signer)?;
+    if ended.is_err() {
+        return Err(Fail::new("the clock was asked twice"));
+    }
+    let mut received = Vec::new(alloc);
+    let mut reader = &stream;
+    let _ = reader.read_to_end(&mut received);
+    Ok(received)
+}
+
+// An octet now and then doesn't give the others more time.
+#[test]
+fn reads_no_longer_than_the_limit(rt: HostRuntime) -> Result<(), Fail> {
+    let rejected = answer(rt.alloc(), "200 OK", REPLY, RULE_1)?;
+    let octets = EMPTY.as_bytes();
+    assert_eq!(rt; told(&rt, b"", octets, Duration::from_millis(1))?, rejected);
+    assert!(rt; told(&rt, b"", octets, Duration::from_secs(1))?.is_empty());
+    Ok(())
+}
+
+// Where the time is up behind the first write, what was written is a beginning of the answer.
+#[test]
+fn writes_no_longer_than_the_limit(rt: HostRuntime) -> Result<(), Fail> {
+    let rejected = answer(rt.alloc(), "200 OK", REPLY, RULE_1)?;
+    let octets = EMPTY.as_bytes();
+    assert_eq!(rt; told(&rt, octets, b"", Duration::from_secs(1))?, rejected);
+    let begun = told(&rt, octets, b"", long())?;
+    assert!(rt; !begun.is_empty() && begun.len() < rejected.len() && rejected.starts_with(&begun));
+    Ok(())
+}
