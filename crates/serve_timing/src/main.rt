@@ -1,0 +1,75 @@
+//! Serves the counter over loopback, with its database in memory, so that exchanges can be timed.
+#![tactic(auto)]
+
+mod setting;
+
+use cms::KeyedHash;
+use connections::{CONNECTION_SECONDS, Clock, SystemClock, serve_connections};
+use desk::Desk;
+use setting::setting_of;
+use sqlite::{Connection, MemStore};
+use std::alloc::Global;
+use std::env;
+use std::net::TcpListener;
+use std::time::Duration;
+use store::{Calibration, Store};
+
+/// A store in memory with one calibration, at that reading, of a clock that is right.
+fn calibrated(alloc: Global, reading: i64) -> anyhow::Result<Store<MemStore>> {
+    let conn = Connection::open_in_memory(alloc)?;
+    if !conn.is_autocommit() {
+        anyhow::bail!("a transaction is open");
+    }
+    let mut store = match Store::create(alloc, conn) {
+        Ok(store) => store,
+        Err((fault, _)) => return Err(fault.into()),
+    };
+    store.calibrate(&Calibration {
+        reading,
+        offset: 0,
+        uncertainty: 0,
+    })?;
+    Ok(store)
+}
+
+/// Serves so many connections.
+fn serve(rt: &HostRuntime, listener: &TcpListener, count: u32) -> anyhow::Result<()> {
+    let alloc = rt.alloc();
+    let setting = setting_of(alloc)?;
+    let mut signer = KeyedHash::new(alloc, b"k")?;
+    let mut clock = SystemClock::new(rt);
+    let store = calibrated(alloc, clock.reading()?)?;
+    let mut desk = Desk::new(
+        alloc,
+        &setting.policy,
+        &setting.identity,
+        &setting.algorithm,
+        store,
+    );
+    let limit = Duration::from_secs(CONNECTION_SECONDS);
+    serve_connections(
+        rt,
+        listener,
+        count,
+        limit,
+        &mut clock,
+        &mut desk,
+        &mut signer,
+    )?;
+    Ok(())
+}
+
+/// Prints the port on which it listens, and serves as many connections as its word says. None without one: then it
+/// neither listens nor prints.
+fn main(rt: HostRuntime) -> anyhow::Result<()> {
+    let mut count = 0;
+    for word in env::args(&rt)?.skip(1) {
+        count = word.parse::<u32>()?;
+    }
+    if count > 0 {
+        let listener = TcpListener::bind(&rt, "127.0.0.1:0")?;
+        println!(rt; "{}", listener.local_addr()?.port())?;
+        serve(&rt, &listener, count)?;
+    }
+    Ok(())
+}
