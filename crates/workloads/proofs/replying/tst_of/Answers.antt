@@ -3,7 +3,7 @@ use Rattle.der.specs.Node.{IsLawful}
 use Rattle.der.specs.ObjectIdentifier.{IsOid}
 use Rattle.tsp.specs.Tst.{tst_info}
 use Rattle.tsp.specs.View.{request_view}
-use Rattle.grant_timing.proofs.replying.tst_of.Goals as goal
+use Rattle.workloads.proofs.replying.tst_of.Goals as goal
 
 pub write_tst-requires-clause-lawful : goal.write_tst-requires-clause-lawful
 write_tst-requires-clause-lawful c =

@@ -1,10 +1,7 @@
-//! Writes a database with stamps, deposits and readers at each path that its words name, for `sqlite3` to read.
-#![tactic(auto)]
-
+//! A database with stamps, deposits and readers.
 use sqlite::{Alter, Connection};
 use sqlite_disk::Unknown;
 use std::alloc::Global;
-use std::{env, io};
 use store::{Calibration, Hold, Reservation, Store, StoreFault};
 
 /// The octets of a reservation's parts, of no meaning to the store.
@@ -74,7 +71,8 @@ fn fill<S: Alter + Drop>(alloc: Global, store: &mut Store<S>) -> Result<(), Stor
     give_rights(store)
 }
 
-fn write(rt: &HostRuntime, path: &str) -> Result<(), StoreFault> {
+/// Writes it at a path where no file stands.
+pub fn write(rt: &HostRuntime, path: &str) -> Result<(), StoreFault> {
     let Ok(conn) = Connection::open_from(rt, path, false, Unknown) else {
         return Err(StoreFault::Database);
     };
@@ -87,15 +85,5 @@ fn write(rt: &HostRuntime, path: &str) -> Result<(), StoreFault> {
     };
     fill(rt.alloc(), &mut store)?;
     store.close()?;
-    Ok(())
-}
-
-/// Writes them, and prints the number of a refusal.
-fn main(rt: HostRuntime) -> io::Result<()> {
-    for path in env::args(&rt)?.skip(1) {
-        if let Err(fault) = write(&rt, path.as_str()) {
-            println!(rt; "store {}", fault.number())?;
-        }
-    }
     Ok(())
 }

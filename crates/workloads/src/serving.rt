@@ -1,15 +1,10 @@
-//! Serves the counter over loopback, with its database in memory, so that exchanges can be timed.
-#![tactic(auto)]
-
-mod setting;
-
+//! Exchanges over loopback, with the database in memory.
+use crate::setting::{CERTIFICATE, setting_of};
 use cms::KeyedHash;
 use connections::{CONNECTION_SECONDS, Clock, SystemClock, serve_connections};
 use desk::Desk;
-use setting::setting_of;
 use sqlite::{Connection, MemStore};
 use std::alloc::Global;
-use std::env;
 use std::net::TcpListener;
 use std::time::Duration;
 use store::{Calibration, Store};
@@ -33,9 +28,9 @@ fn calibrated(alloc: Global, reading: i64) -> anyhow::Result<Store<MemStore>> {
 }
 
 /// Serves so many connections.
-fn serve(rt: &HostRuntime, listener: &TcpListener, count: u32) -> anyhow::Result<()> {
+fn serve_at(rt: &HostRuntime, listener: &TcpListener, count: u32) -> anyhow::Result<()> {
     let alloc = rt.alloc();
-    let setting = setting_of(alloc)?;
+    let setting = setting_of(alloc, CERTIFICATE)?;
     let mut signer = KeyedHash::new(alloc, b"k")?;
     let mut clock = SystemClock::new(rt);
     let store = calibrated(alloc, clock.reading()?)?;
@@ -59,17 +54,12 @@ fn serve(rt: &HostRuntime, listener: &TcpListener, count: u32) -> anyhow::Result
     Ok(())
 }
 
-/// Prints the port on which it listens, and serves as many connections as its word says. None without one: then it
-/// neither listens nor prints.
-fn main(rt: HostRuntime) -> anyhow::Result<()> {
-    let mut count = 0;
-    for word in env::args(&rt)?.skip(1) {
-        count = word.parse::<u32>()?;
-    }
+/// Prints the port on which it listens, and serves so many connections. For none it neither listens nor prints.
+pub fn serve(rt: &HostRuntime, count: u32) -> anyhow::Result<()> {
     if count > 0 {
-        let listener = TcpListener::bind(&rt, "127.0.0.1:0")?;
+        let listener = TcpListener::bind(rt, "127.0.0.1:0")?;
         println!(rt; "{}", listener.local_addr()?.port())?;
-        serve(&rt, &listener, count)?;
+        serve_at(rt, &listener, count)?;
     }
     Ok(())
 }

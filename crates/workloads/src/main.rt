@@ -1,0 +1,56 @@
+//! Work for the repository's scripts to time or to read: readings, replies and tokens of one request, exchanges over
+//! loopback, and a database.
+#![tactic(auto)]
+
+mod granting;
+mod reading;
+mod replying;
+mod sample;
+mod serving;
+mod setting;
+
+use setting::CERTIFICATE;
+use std::env;
+use std::fs::File;
+use std::io::Read;
+
+/// Does the work as many times as the words say, and tells how many times it was done.
+fn times_done(rt: &HostRuntime, words: &[String]) -> anyhow::Result<u64> {
+    match words {
+        [what, count] if what.as_str() == "read" => Ok(reading::readings(number_of(count))),
+        [what, count] if what.as_str() == "reply" => {
+            replying::replies(rt.alloc(), CERTIFICATE, number_of(count))
+        }
+        [what, count, path] if what.as_str() == "reply" => {
+            let mut certificate = Vec::new(rt.alloc());
+            File::open(rt, path.as_str())?.read_to_end(&mut certificate)?;
+            replying::replies(rt.alloc(), &certificate, number_of(count))
+        }
+        [what, count, path] if what.as_str() == "grant" => {
+            granting::grants(rt, path.as_str(), number_of(count))
+        }
+        _ => Ok(0),
+    }
+}
+
+/// The number of a word; 0 where it is none.
+fn number_of(word: &String) -> u64 {
+    word.parse().unwrap_or(0)
+}
+
+/// Writes a database for `sqlite3` to read (`sample PATH`), serves connections over loopback (`serve COUNT`), or prints how
+/// many times a request was read (`read COUNT`), and how many times there was a reply with a token: of so many without
+/// store and signer (`reply COUNT`), by a certificate in a file (`reply COUNT FILE`), or over the database at a path
+/// (`grant COUNT PATH`).
+fn main(rt: HostRuntime) -> anyhow::Result<()> {
+    let mut words = Vec::new(rt.alloc());
+    for word in env::args(&rt)?.skip(1) {
+        words.push(word)?;
+    }
+    match words.as_slice() {
+        [what, path] if what.as_str() == "sample" => sample::write(&rt, path.as_str())?,
+        [what, count] if what.as_str() == "serve" => serving::serve(&rt, count.parse()?)?,
+        words => println!(rt; "{}", times_done(&rt, words)?)?,
+    }
+    Ok(())
+}
