@@ -130,6 +130,3 @@ pub fn elements_have_one_beginning()
         → length others < 2 ^ 24 → element i contents ++ x ≡ element j others ++ y
         → (i ≡ j) × (contents ≡ others) × (x ≡ y) }
 {}
-
-#[cfg(test)]
-mod tests;

@@ -161,6 +161,3 @@ pub fn read_tree(alloc: Global, bytes: &[u8]) -> Result<Tree, DerFault>
     }
     Ok(tree)
 }
-
-#[cfg(test)]
-mod tests;

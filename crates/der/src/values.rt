@@ -176,6 +176,3 @@ pub fn encodings_are_read()
         → AreFormed (values_in octets) × (levels_of (values_in octets) ≤ 32)
         × (octets ≡ encodings (values_in octets)) }
 {}
-
-#[cfg(test)]
-mod tests;

@@ -137,6 +137,3 @@ fn push_length(octets: &mut Vec<u8>, count: u32) -> Result<(), AllocError>
     }
     Ok(())
 }
-
-#[cfg(test)]
-mod tests;

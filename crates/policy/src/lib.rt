@@ -19,6 +19,3 @@ pub use field::Field;
 pub use hash_algorithm::HashAlgorithm;
 pub use laws::records_are_sound;
 pub use policy::Policy;
-
-#[cfg(test)]
-mod tests;

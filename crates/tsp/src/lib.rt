@@ -13,8 +13,6 @@ mod rejection;
 mod request;
 mod rule;
 mod tags;
-#[cfg(test)]
-mod tests;
 mod tst;
 mod tst_reading;
 mod writing;

@@ -1,13 +1,16 @@
 //! Requests and TSTInfo by a seeded generator, written and read back.
 ghost use Rattle.std.specs.Prelude.{◌<◌, ◌≤◌, ◌^◌};
 
-use super::super::*;
 use der::{DerFault, Oid, Tag, Writer};
 use gentime::GenTime;
 use rand_core::Rng;
 use rand_pcg::Pcg32;
 use std::alloc::{AllocError, Global};
 use std::test::Fail;
+use tsp::{
+    ObjectIdentifier, TspFault, read_request, read_tst, requests_have_one_reading, write_request,
+    write_tst,
+};
 
 const CASES: u32 = 1_000;
 

@@ -1,5 +1,5 @@
 use Rattle.tsp.specs.View.{request_view}
-use Rattle.tsp.proofs.tests.writes_requests_without_stated_falses.Goals as goal
+use Rattle.tsp_tests.proofs.messages.writes_requests_without_stated_falses.Goals as goal
 
 -- what was read is lawful without its stated FALSE
 pub write_request-requires : goal.write_request-requires

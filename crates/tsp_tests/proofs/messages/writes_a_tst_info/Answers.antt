@@ -4,7 +4,7 @@ use Rattle.der.specs.Node.{IsLawful}
 use Rattle.der.specs.ObjectIdentifier.{IsOid}
 use Rattle.tsp.specs.Tst.{tst_info}
 use Rattle.tsp.specs.View.{request_view}
-use Rattle.tsp.proofs.tests.writes_a_tst_info.Goals as goal
+use Rattle.tsp_tests.proofs.messages.writes_a_tst_info.Goals as goal
 
 -- what answers a request is lawful
 pub write_tst-requires-clause-lawful : goal.write_tst-requires-clause-lawful

@@ -1,9 +1,12 @@
 //! Requests that are read where they lie: parameters of any depth, long ones, and what is lent of them.
-use super::super::*;
-use super::{REQUESTS, TST};
+use crate::messages::{REQUESTS, TST};
 use der::{DerFault, Tag, Writer};
 use std::alloc::Global;
 use std::test::Fail;
+use tsp::{
+    JudgesRequests, ObjectIdentifier, Request, TspFault, octets_fail_as_their_request,
+    read_request, requests_have_one_reading, write_granted, write_request,
+};
 
 /// SHA-256's object identifier, and the hash of `abc` under it (FIPS 180-4).
 const IDENTIFIER: &[u8] = b"\x06\x09\x60\x86\x48\x01\x65\x03\x04\x02\x01";

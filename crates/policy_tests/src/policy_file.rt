@@ -1,6 +1,6 @@
 //! A whole policy file and changes of it, each with the fault that it has to give.
 
-use super::*;
+use policy::{EXAMPLE, Field, HashAlgorithm, Policy, PolicyFault, records_are_sound};
 use std::alloc::{AllocError, Global};
 use std::test::*;
 

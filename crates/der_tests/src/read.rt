@@ -1,5 +1,5 @@
-use super::read_tree;
-use crate::{DerFault, Tree, read_value};
+//! Octets with their refusal, levels, and lengths.
+use der::{DerFault, Tree, read_tree, read_value};
 use std::alloc::Global;
 use std::test::Fail;
 

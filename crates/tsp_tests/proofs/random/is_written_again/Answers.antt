@@ -1,5 +1,5 @@
 use Rattle.tsp.specs.View.{request_view}
-use Rattle.tsp.proofs.tests.random.is_written_again.Goals as goal
+use Rattle.tsp_tests.proofs.random.is_written_again.Goals as goal
 
 -- what was read is lawful without a stated FALSE
 pub write_request-requires : goal.write_request-requires

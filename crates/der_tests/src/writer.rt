@@ -1,5 +1,5 @@
-use super::Writer;
-use crate::{DerFault, Tag};
+//! What is written: headers, elements, and what is refused.
+use der::{DerFault, Tag, Writer};
 use std::alloc::Global;
 use std::test::Fail;
 

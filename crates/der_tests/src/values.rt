@@ -1,7 +1,7 @@
-use super::{check_values, encodings_are_read, read_value};
-use crate::{
-    Cursor, DataValue, DataValues, DerFault, Tag, Tree, Writer, encodings_are_bounded, read_tree,
-    trees_have_one_encoding,
+//! Values where they lie, beside the trees that are read from the same octets.
+use der::{
+    Cursor, DataValue, DataValues, DerFault, Tag, Tree, Writer, check_values,
+    encodings_are_bounded, encodings_are_read, read_tree, read_value, trees_have_one_encoding,
 };
 use std::alloc::Global;
 use std::test::Fail;

@@ -1,5 +1,5 @@
-use super::{Cursor, elements_have_one_beginning};
-use crate::{DerFault, Tag};
+//! Elements, one after the other.
+use der::{Cursor, DerFault, Tag, elements_have_one_beginning};
 use std::test::Fail;
 
 #[test]
