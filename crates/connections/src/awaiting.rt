@@ -136,8 +136,8 @@ fn fill<R: Read>(reader: &mut R, room: &mut [u8], there: usize) -> usize
     filled
 }
 
-/// Waits until all is there of a request that the service reads, or no more comes; none where nothing does. It also
-/// waits no longer where memory is wanting for it.
+/// Waits until all is there of a request, as its method and Content-Length tell, or no more comes; none where nothing
+/// does. It also waits no longer where memory is wanting for it.
 pub(crate) fn await_request<R: Read>(alloc: Global, reader: &mut R) -> Option<Awaited> {
     let Ok(mut octets) = vec![in alloc; 0u8; MOST_OCTETS] else {
         return Some(Awaited {

@@ -23,7 +23,7 @@ pub enum Fault {
     Der(DerFault),
     /// Memory ran out over a TSTInfo.
     Tsp(TspFault),
-    /// A certificate isn't one, or memory ran out over it or a signer.
+    /// A certificate or an algorithm isn't one, or memory ran out over it or a signer.
     Cms(CmsFault),
     /// The policy file isn't one.
     Policy(PolicyFault),
@@ -39,7 +39,7 @@ impl Fault {
     ghost use Rattle.counter.specs.Fault.{fault_line, line_beginning, number_of_fault};
     ghost use Rattle.counter.specs.Writing.{Begins};
 
-    /// Writes the fault's line, as much of it as standard error takes. It takes no memory.
+    /// Writes the fault's line, or a beginning of it where standard error fails. It takes no memory.
     pub fn write_line<W: Write>(self, errors: &mut W)
         ensures { Begins (W.contents errors.old) (W.contents errors.new) (fault_line self) }
     {

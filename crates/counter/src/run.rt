@@ -136,8 +136,8 @@ pub fn run_words<I: Read, O: Write, E: Write>(
     ensures unread { (result ≡ 2) ⊎ (AreTaken (texts_of words.now) → ⊥)
         → I.remaining input.new ≡ I.remaining input.old }
 
-    // Where a fault stopped it, its line is written, as much of it as `errors` takes; where stamps fail their check, a
-    // line for each of those that fail is written before it or in its place.
+    // Where a fault stopped it, its line or a beginning of it is written; where stamps fail their check, a line for each
+    // of those that fail is written before it or in its place.
     ensures told { result ≡ 1 → Tells (texts_of words.now) (E.contents errors.old) (E.contents errors.new) }
 
     // Nothing but help, a beginning of an answer, an extract or a beginning of one is written to the output then; an
