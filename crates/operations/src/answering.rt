@@ -3,6 +3,8 @@ ghost use Rattle.std.specs.Prelude.{IfOk, IfErr};
 ghost use Rattle.policy.specs.View.{policy_view};
 ghost use Rattle.decide.specs.View.{account_asked};
 ghost use Rattle.desk.specs.Answers.{reply_as};
+ghost use Rattle.desk.specs.Command.{Stamp};
+ghost use Rattle.desk.specs.Stepped.{IsStep, with_signer};
 ghost use Rattle.operations.specs.Judged.{IsJudgedReply};
 ghost use Rattle.operations.specs.Opening.{IsStartingFault};
 
@@ -85,8 +87,11 @@ fn answer_with<S: Alter + Drop, G: Signer>(
     signer: &mut G,
     question: &Question<'_>,
 ) -> Reply
-    ensures { IsJudgedReply desk.old.setting.file (account_asked question.now.account) question.now.query.now
+    ensures judged { IsJudgedReply desk.old.setting.file (account_asked question.now.account) question.now.query.now
         (reply_as result) }
+    ensures step { IsStep S.Store (with_signer G.signs G.fault_count signer.old signer.new) desk.old.setting
+        (Stamp (account_asked question.now.account) question.now.reading question.now.query.now) desk.old.store
+        desk.new.store (reply_as result) }
 {
     desk.answer(question.account, question.reading, question.query, signer)
 }
