@@ -6,8 +6,6 @@ mod options;
 mod parse;
 mod refusal;
 mod signer;
-#[cfg(test)]
-mod tests;
 mod words;
 
 pub use refusal::Refusal;

@@ -1,4 +1,5 @@
-use crate::{
+//! Words that are taken, refused, or ask for help.
+use command_line::{
     AnswerWords, AuditWords, CalibrateWords, CheckWords, DeskWords, ExchangeWords, HoldWords,
     InitWords, Refusal, ServeWords, SignerWords, TstWords, Word,
 };
