@@ -1,7 +1,7 @@
 //! Who may have an extract.
 ghost use Rattle.std.specs.Prelude.{◌≡◌, ◌↔◌, ◌⊎◌, Contains, IsTrue, IfErr, MatchResult, map, string_bytes};
 ghost use Rattle.policy.specs.View.{account_view, policy_view};
-ghost use Rattle.audit.specs.Auditor.{IsAuditor, IsRange, IsAllowed, ComesWhere};
+ghost use Rattle.audit.specs.Auditor.{IsAuditor, IsAllowed, ComesWhere};
 
 use crate::fault::ExtractFault;
 use policy::{Account, Policy};

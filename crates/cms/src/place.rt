@@ -1,5 +1,5 @@
 //! Where parts stand in a certificate's octets.
-ghost use Rattle.std.specs.Prelude.{◌≡◌, ◌+◌, ◌≤◌, length, slice_range, MatchOption, IfSome};
+ghost use Rattle.std.specs.Prelude.{◌≡◌, ◌+◌, ◌≤◌, length, MatchOption, IfSome};
 ghost use Rattle.cms.specs.Certificate.{CertificateParts, IsCertificate};
 ghost use Rattle.cms.specs.Place.{ArePlaces};
 

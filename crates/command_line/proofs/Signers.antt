@@ -5,7 +5,8 @@ use Rattle.std.specs.Prelude.{is_some, option_map}
 use Rattle.clap.specs.Words.{Row, Text, subcommand_of}
 use Rattle.command_line.specs.Options.{counter_command}
 use Rattle.command_line.specs.Words.{AreWellFormed, AskNothing, Asks, IsAsked, MixSigners, StatesDesk, StatesSigner}
-use Rattle.command_line.specs.Words.{IsTold, address_stated, algorithm_stated, has_one_signer, key_stated, mixes_signers}
+use Rattle.command_line.specs.Words.{IsTold, address_stated, algorithm_stated, has_one_signer, key_stated}
+use Rattle.command_line.specs.Words.{mixes_signers}
 use Rattle.command_line.specs.Words.{needs_signer, tells_one_signer}
 use Rattle.command_line.specs.declared.words.DeskWords.{DeskWords}
 use Rattle.command_line.specs.declared.words.SignerWords.{SignerWords}

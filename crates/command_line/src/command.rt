@@ -2,8 +2,8 @@
 ghost use Rattle.std.specs.Prelude.{◌≡◌, IfOk};
 ghost use Rattle.clap.specs.Words.{app_of, new_app};
 ghost use Rattle.command_line.specs.Options.{answer_command, audit_command, bare_command, calibrate_command};
-ghost use Rattle.command_line.specs.Options.{check_command, counter_command, desk_options, exchange_command, hold_command};
-ghost use Rattle.command_line.specs.Options.{init_command, serve_command, tst_command, with_rules};
+ghost use Rattle.command_line.specs.Options.{check_command, counter_command, desk_options, exchange_command};
+ghost use Rattle.command_line.specs.Options.{hold_command, init_command, serve_command, tst_command, with_rules};
 
 use crate::options::{
     ACCURACIES, CONNECTIONS, DIGITS, MOMENTS, SERIALS, UNCERTAINTIES, WHOLE_NUMBERS,

@@ -40,7 +40,8 @@ pub const ACCURACIES: Numbers = Numbers {
     most: 1_000_000,
 };
 
-/// Numbers of 63 bits: a clock's readings, offsets and the bounds of holds, in microseconds, and the bounds of extracts.
+/// Numbers of 63 bits: a clock's readings, offsets and the bounds of holds, in microseconds, and the bounds of
+/// extracts.
 pub const WHOLE_NUMBERS: Numbers = Numbers {
     least: 0,
     most: i64::MAX as u64,

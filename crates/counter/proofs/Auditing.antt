@@ -1,10 +1,9 @@
 -- What an audit leaves, out of what the operation says of it.
-use Rattle.std.proofs.Common.{◌≡◌, ◌∙◌, ◌≢◌, ◌⊎◌, ℕ, true, List, [], ◌∷◌, ◌++◌, Option, Ok, Some, take, refl, sym, ap, subst}
+use Rattle.std.proofs.Common.{◌≡◌, ◌≢◌, ◌⊎◌, ℕ, true, List, [], ◌∷◌, Option, Ok, Some, take, refl, sym, ap, subst}
 use Rattle.std.proofs.Common.{inl, inr, append-nil}
 use Rattle.std.specs.Io.KnownBytes.{Appends}
 use Rattle.clap.specs.Words.{Text}
 use Rattle.audit.specs.Auditor.{IsAllowed}
-use Rattle.audit.specs.declared.fault.ExtractFault.{ExtractFault}
 use Rattle.command_line.specs.Words.{Asks}
 use Rattle.command_line.specs.declared.words.AuditWords.{AuditWords}
 use Rattle.command_line.specs.declared.words.Word.{Word}
@@ -18,7 +17,7 @@ use Rattle.policy.specs.LookUp.{account_named}
 use Rattle.policy.specs.Meaning.{meaning_of}
 use Rattle.policy.specs.Record.{AccountValue, PolicyValue}
 use Rattle.tables.specs.Tables.{StampRow}
-use Rattle.counter.specs.Audits.{AskForCheck, Audits, FailsStamps, IsNoAudit, LeavesCut, LeavesExtract, StopsCheck, Tells}
+use Rattle.counter.specs.Audits.{Audits, FailsStamps, IsNoAudit, LeavesCut, LeavesExtract, StopsCheck, Tells}
 use Rattle.counter.specs.Audits.{TellsFailing}
 use Rattle.counter.specs.Fault.{fault_line, fault_of_audit}
 use Rattle.counter.specs.Writing.{Begins}

@@ -1,5 +1,5 @@
 -- Who signs, as the words tell.
-use Rattle.std.specs.Prelude.{◌≡◌, ◌≤◌, ℕ, List, length}
+use Rattle.std.specs.Prelude.{◌≡◌, ◌≤◌, length}
 use Rattle.cms.specs.Certificate.{IsAlgorithm}
 use Rattle.command_line.specs.declared.words.SignerWords.{SignerWords}
 use Rattle.command_line.specs.declared.words.SignerWords.TheVariants as words

@@ -1,7 +1,6 @@
 //! The files that say by what requests are answered, and who signs.
 ghost use Rattle.std.specs.Prelude.{◌≡◌, ◌⊎◌, ◌≤◌, List, ℕ, length, Ok, IfOk, IfErr};
 ghost use Rattle.cms.specs.Certificate.{CertificateParts, IsAlgorithm, IsCertificate, identity_of};
-ghost use Rattle.cms.specs.declared.fault.CmsFault.{CmsFault};
 ghost use Rattle.policy.specs.Meaning.{meaning_of};
 ghost use Rattle.policy.specs.View.{policy_view};
 ghost use Rattle.counter.specs.Fault.{IsFileFault};

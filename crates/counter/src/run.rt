@@ -101,15 +101,17 @@ fn process_words(rt: &HostRuntime) -> io::Result<Vec<String>> {
 /// status.
 ///
 /// 0 where it is done; a rejection and help are done too. 1 where a fault stopped it, whose line it writes to `errors`:
-/// `der`, `tsp`, `cms`, `policy`, `store` and `audit` with the number of those crates' refusals, and `input` 1 where the
-/// input isn't hexadecimal, 2 where a file can't be read, has a wrong size or isn't UTF-8 where it has to be text, 3 where
-/// a hold doesn't begin before it ends, 4 where no account has the key or the name, 5 where the input, the output or the
-/// clock fails, 6 where the address can't be listened on, 7 where memory runs out, and 8 where the signer can't be
-/// reached. 1 also where stamps fail the check that `audit` makes: a line `row N fails` for each stands on `errors` then,
-/// before the line of a fault that stopped the check. 2 where the words are refused; why is written to `errors`.
+/// `der`, `tsp`, `cms`, `policy`, `store` and `audit` with the number of those crates' refusals, and `input` 1 where
+/// the input isn't hexadecimal, 2 where a file can't be read, has a wrong size or isn't UTF-8 where it has to be text,
+/// 3 where a hold doesn't begin before it ends, 4 where no account has the key or the name, 5 where the input, the
+/// output or the clock fails, 6 where the address can't be listened on, 7 where memory runs out, and 8 where the signer
+/// can't be reached. 1 also where stamps fail the check that `audit` makes: a line `row N fails` for each stands on
+/// `errors` then, before the line of a fault that stopped the check. 2 where the words are refused; why is written to
+/// `errors`.
 ///
 /// Where the status isn't 0 nothing is written to `output`, but where writing an answer or help fails, or an extract is
-/// refused on the way: then a beginning of it stands there; and where a check fails or is stopped: then the whole extract.
+/// refused on the way: then a beginning of it stands there; and where a check fails or is stopped: then the whole
+/// extract.
 pub fn run_words<I: Read, O: Write, E: Write>(
     rt: &HostRuntime,
     words: &[String],
@@ -136,8 +138,8 @@ pub fn run_words<I: Read, O: Write, E: Write>(
     ensures unread { (result ≡ 2) ⊎ (AreTaken (texts_of words.now) → ⊥)
         → I.remaining input.new ≡ I.remaining input.old }
 
-    // Where a fault stopped it, its line or a beginning of it is written; where stamps fail their check, a line for each
-    // of those that fail is written before it or in its place.
+    // Where a fault stopped it, its line or a beginning of it is written; where stamps fail their check, a line for
+    // each of those that fail is written before it or in its place.
     ensures told { result ≡ 1 → Tells (texts_of words.now) (E.contents errors.old) (E.contents errors.new) }
 
     // Nothing but help, a beginning of an answer, an extract or a beginning of one is written to the output then; an

@@ -2,7 +2,7 @@
 ghost use Rattle.std.specs.Prelude.{◌≡◌, ◌↔◌, ℕ, ℤ, pos, ◌<ℤ◌, ◌≤ℤ◌, ◌≤◌, ◌<◌, ◌+◌, ◌-◌, ◌*◌, ◌^◌, IsTrue, MatchOption};
 ghost use Rattle.gentime.specs.GenTime.{last_moment};
 ghost use Rattle.policy.specs.View.{counter_view};
-ghost use Rattle.decide.specs.Clock.{now_at, elapsed, deviation, divided_up, step, gen_time, Follows, IsGood, IsGoodAt};
+ghost use Rattle.decide.specs.Clock.{now_at, elapsed, deviation, divided_up, step, Follows, IsGood, IsGoodAt};
 ghost use Rattle.decide.specs.Clock.{IsState, KeepsAccuracy};
 
 use crate::facts::{Calibration, ClockFacts};

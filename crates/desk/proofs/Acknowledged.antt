@@ -9,11 +9,11 @@ use Rattle.store.specs.Rights.{is_reader, seen_by}
 use Rattle.desk.specs.Outcome.{Outcome, Cause, cause_of}
 use Rattle.desk.specs.Findings.{PlanValue, Finding, Fails, Unanswered, Allowed}
 use Rattle.desk.specs.Command.{Setting, Command, Stamp, Begin, Finish, Abandon, Deposit, Show, Token, ListAll, Grant}
-use Rattle.desk.specs.Command.{Revoke, Calibrate, Hold, Answer, Kept, Shown, Refused}
+use Rattle.desk.specs.Command.{Revoke, Calibrate, Hold, Answer, Refused}
 use Rattle.desk.specs.Texts.{octets_for}
-use Rattle.desk.specs.Effects.{Effect, only, unless, Stamping, Unreserved, Void, Sealing, no_number, no_seal, no_sight}
+use Rattle.desk.specs.Effects.{Effect, only, unless, Stamping, Unreserved, Void, Sealing, no_number, no_seal}
 use Rattle.desk.specs.Effects.{stamping_of, stamp_effect, stamp_found, begin_effect, begin_found, finish_effect}
-use Rattle.desk.specs.Effects.{deposit_effect, deposit_found, known_effect, show_effect, token_effect, right_effect}
+use Rattle.desk.specs.Effects.{deposit_effect, deposit_found, right_effect}
 use Rattle.desk.specs.Effects.{is_backwards, calibrate_effect, name_of}
 use Rattle.desk.specs.declared.fault.Fault.{Fault}
 use Rattle.desk.specs.declared.fault.Fault.TheVariants as fault

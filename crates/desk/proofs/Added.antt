@@ -1,10 +1,9 @@
 -- A calibration and a hold are steps of the machine.
-use Rattle.std.proofs.Common.{◌≡◌, ◌⊎◌, cond, T, Bool, true, false, List, [], ◌∷◌, Option, Some, None, Ok, refl, sym}
+use Rattle.std.proofs.Common.{◌≡◌, ◌⊎◌, cond, T, Bool, true, false, [], ◌∷◌, Option, Some, None, Ok, refl, sym}
 use Rattle.std.proofs.Common.{ap, ◌∙◌, subst, inl, inr}
 use Rattle.std.specs.Prelude.{int_lt}
-use Rattle.sqlite_trees.specs.Tree.{Trees}
 use Rattle.sqlite_trees.specs.declared.store.Store.{Ghosts}
-use Rattle.tables.specs.Base.{BaseValue, IsHonest, IsOpen, Recovers}
+use Rattle.tables.specs.Base.{BaseValue, IsHonest, IsOpen}
 use Rattle.store.specs.Fault.{count_after}
 use Rattle.store.specs.History.{Entry, History, CalibrationValue}
 use Rattle.store.specs.Sound.{Fits, IsBackwards}

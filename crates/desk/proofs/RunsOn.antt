@@ -1,5 +1,5 @@
 -- Calls one after the other are a run of the machine.
-use Rattle.std.proofs.Common.{◌≡◌, ℕ, ◌+◌, ◌<◌, ◌⊎◌, length, get_or, take, map, List, [], ◌∷◌, ◌++◌, Ok, Err, Result}
+use Rattle.std.proofs.Common.{◌≡◌, ℕ, ◌+◌, ◌<◌, length, get_or, take, map, List, [], ◌∷◌, ◌++◌, Ok, Err, Result}
 use Rattle.std.proofs.Common.{refl, sym, ◌∙◌, ap, subst, inl, inr}
 use Rattle.std.proofs.lemmas.List.{take_more, map-append}
 use Rattle.sqlite_trees.specs.Tree.{Trees}
@@ -18,7 +18,7 @@ use Rattle.desk.specs.Runs.{IsProper, Runs, after}
 use Rattle.desk.specs.Laws.{AreMet, Concerns, StaysFor}
 use Rattle.desk.specs.Obstacles.{hindered, outcome_with, told_with}
 use Rattle.desk.specs.Stepped.{StepsBy, IsStep, MayBeLeft, IsBlamed, no_signer, with_signer}
-use Rattle.desk.specs.Ran.{AreSteps, IsDoubtedIn, MayBeLeftBy, AreCommandsOfOthers, OneConcerns, HasRun, RunsBy}
+use Rattle.desk.specs.Ran.{AreSteps, MayBeLeftBy, AreCommandsOfOthers, OneConcerns, RunsBy}
 use Rattle.desk.specs.declared.obstacle.Obstacle.{Obstacle}
 use Rattle.desk.specs.declared.obstacle.Obstacle.TheVariants as obstacle
 use Rattle.desk.proofs.Sound.{TextLaws}

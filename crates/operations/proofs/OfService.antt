@@ -1,12 +1,12 @@
 -- What answering one HTTP request does to a reader and a writer, out of what the service says of it.
-use Rattle.std.proofs.Common.{◌≡◌, ℕ, ℤ, List, Option, Result, Ok, Err, ap, inl, inr}
+use Rattle.std.proofs.Common.{ℕ, ℤ, List, Option, Result, Ok, Err, ap, inl, inr}
 use Rattle.sqlite_trees.specs.declared.store.Store.{Ghosts}
 use Rattle.cms.specs.declared.signer.SignerFault.{SignerFault}
 use Rattle.desk.specs.Command.{Command, Stamp, Answer}
 use Rattle.service.specs.Answers.{AnswerValue}
 use Rattle.service.specs.Requests.{Step, Extract}
 use Rattle.service.specs.Served.{Turn, Takes, IsAnswer, refuses, replies, keeps_back, wants_early, wants_idle}
-use Rattle.service.specs.Served.{wants_after, wants_looking, Writes, Extracts, Serves}
+use Rattle.service.specs.Served.{wants_after, wants_looking, Extracts, Serves}
 use Rattle.service.specs.declared.served.Served.{Served}
 use Rattle.service.specs.declared.served.Served.TheVariants as served
 use Rattle.operations.specs.Exchanges as known

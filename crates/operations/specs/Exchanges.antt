@@ -1,5 +1,5 @@
 -- What answering one HTTP request does to a reader and a writer, where nothing is known of what the database holds.
-use Rattle.std.specs.Prelude.{◌≡◌, ◌⊎◌, ℕ, ◌<◌, ℤ, List, [], length, take, Option, Result, Ok, Err}
+use Rattle.std.specs.Prelude.{◌≡◌, ◌⊎◌, ℕ, ℤ, List, [], length, take, Option, Result, Ok, Err}
 use Rattle.std.specs.Io.KnownBytes.{Appends, Consumes, IsAtEnd}
 use Rattle.policy.specs.Record.{AccountValue, PolicyValue}
 use Rattle.audit.specs.Auditor.{IsAllowed, ComesWhere}

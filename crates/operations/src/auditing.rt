@@ -4,9 +4,9 @@ ghost use Rattle.std.specs.Io.KnownBytes.{Appends};
 ghost use Rattle.tables.specs.Base.{IsHonest};
 ghost use Rattle.store.specs.History.{History, stamps_between};
 ghost use Rattle.store.specs.Stands.{OnlyLooks, Stands};
-ghost use Rattle.operations.specs.Auditing.{Allows, BeginsExtract, Checks, ComesWhere, IsCutOff, IsExtractFault, Leaves};
+ghost use Rattle.operations.specs.Auditing.{Allows, BeginsExtract, Checks, ComesWhere, IsCutOff, IsExtractFault};
 ghost use Rattle.operations.specs.declared.auditing.AuditFault.TheVariants.{Extract, Store};
-ghost use Rattle.operations.specs.Auditing.{TellsFailing, TellsSome, WritesExtract, failing_line};
+ghost use Rattle.operations.specs.Auditing.{Leaves, TellsFailing, TellsSome, WritesExtract, failing_line};
 
 use crate::opening::open;
 use audit::{ExtractFault, check_row, extract, write_octets};
@@ -59,8 +59,8 @@ impl From<ExtractFault> for AuditFault {
 
 /// Writes the extract of the stamps that the database at the path keeps, as `audit::extract` does, and then, where that
 /// is asked, checks each stamp as `check_stamps` does: whether all agree. Refused with `Store` where the database can't
-/// be opened, and with `Extract` as `audit::extract`; nothing is checked then. Where the check is refused it is `Extract` for
-/// want of memory, and else `Store`; the whole extract is written then.
+/// be opened, and with `Extract` as `audit::extract`; nothing is checked then. Where the check is refused it is
+/// `Extract` for want of memory, and else `Store`; the whole extract is written then.
 pub fn audit<O: Write, E: Write>(
     rt: &HostRuntime,
     path: &str,
@@ -143,8 +143,8 @@ fn write_extract<S: Alter + Drop, O: Write>(
 
 /// Checks each stamp of the range from its octets, and writes a line `row N fails` for each whose octets don't say what
 /// its row says, N being its serial number: whether there is none. Where a line can't be written the stamps after it
-/// aren't looked at. Refused with `Memory` and `Store`, where they are met; the lines that were written stand. The store
-/// changes nowhere, and no stamp is kept.
+/// aren't looked at. Refused with `Memory` and `Store`, where they are met; the lines that were written stand. The
+/// store changes nowhere, and no stamp is kept.
 pub fn check_stamps<S: Alter + Drop, E: Write>(
     alloc: Global,
     store: &mut Store<S>,

@@ -1,22 +1,22 @@
 -- Heads that are read octet by octet.
 use Rattle.std.proofs.Common.{◌≡◌, ℕ, ◌+◌, ◌<◌, ◌≤◌, List, [], ◌∷◌, ◌++◌, Option, length, take, drop, map, refl, sym}
-use Rattle.std.proofs.Common.{ap, ◌∙◌, subst, append_assoc, append-nil, length-append, length-take-le, arith, get_or}
+use Rattle.std.proofs.Common.{ap, ◌∙◌, subst, append-nil, length-append, length-take-le, arith, get_or}
 use Rattle.std.proofs.Common.{set, inl, inr}
 use Rattle.std.proofs.lemmas.List.{take-append-drop, take_at, take-append-le, length-take, length-map, nil_from_length}
 use Rattle.std.proofs.lemmas.List.{take_more, take_more_set, take-set}
 use Rattle.std.proofs.KnownBytes.{Consumes-trans}
 use Rattle.std.proofs.lemmas.Bool.{cases_lt}
 use Rattle.std.specs.Io.KnownBytes.{Consumes}
-use Rattle.httparse.specs.Grammar.{RequestHead, print_request, print_blank, print_version, print_end, print_section}
-use Rattle.httparse.specs.Grammar.{ReadsRequest, HasNoRequest}
+use Rattle.httparse.specs.Grammar.{print_request, print_blank, print_version, print_end, print_section}
+use Rattle.httparse.specs.Grammar.{HasNoRequest}
 use Rattle.httparse.specs.Spans.{IsRequestWithin, IsRequestAt, IsRequestOf, RequestOverflows, header_bytes}
 use Rattle.httparse.specs.Spans.{name_and_value}
 use Rattle.httparse.specs.declared.spans.HeaderSpan.{HeaderSpan}
 use Rattle.httparse.specs.declared.spans.RequestSpans.{RequestSpans}
 use Rattle.httparse.proofs.GrammarLemmas.{print_request-append}
-use Rattle.service.specs.Heads.{most_octets, most_fields, BeginsWith, HasNoHead, NeverHasHead, MayBegin, IsBegun}
+use Rattle.service.specs.Heads.{most_octets, most_fields, HasNoHead, NeverHasHead, MayBegin, IsBegun}
 use Rattle.service.specs.Heads.{IsHeadless}
-use Rattle.service.specs.Reading.{Takes, LiesAt, IsWhole}
+use Rattle.service.specs.Reading.{Takes, IsWhole}
 
 -- no octets are no head
 pub no_octets : HasNoRequest []

@@ -1,5 +1,5 @@
 -- What is written, and why.
-use Rattle.std.proofs.Common.{◌≡◌, ◌∙◌, ◌⊎◌, ℕ, ◌+◌, ℤ, List, ◌++◌, Option, Result, Ok, Err, length, take, drop}
+use Rattle.std.proofs.Common.{◌≡◌, ◌∙◌, ℕ, ◌+◌, ℤ, List, ◌++◌, Option, Result, Ok, Err, length, take, drop}
 use Rattle.std.proofs.Common.{refl, ap, inl, inr}
 use Rattle.std.proofs.lemmas.List.{take_at, drop_at}
 use lib.Seq.{take-add}
@@ -14,7 +14,7 @@ use Rattle.service.specs.Extracting.{ServesExtract, extracted, kept_back, unansw
 use Rattle.service.specs.Requests.{Step, Extract, IsEarly}
 use Rattle.service.specs.Served.{Turn, IsIdle, IsLook, Reads, Sends, SendsOrWants, SendsOctets, unavailable, Takes}
 use Rattle.service.specs.Served.{IsAnswer, refuses, replies, keeps_back, wants_early, wants_idle, wants_after}
-use Rattle.service.specs.Served.{wants_looking, Writes, Extracts, Serves}
+use Rattle.service.specs.Served.{wants_looking, Extracts, Serves}
 use Rattle.service.specs.declared.refusal.Refusal.{Refusal}
 use Rattle.service.specs.declared.served.Served.{Served}
 use Rattle.service.specs.declared.served.Served.TheVariants as served

@@ -1,5 +1,5 @@
 -- Answers, and their texts (RFC 9112 4 and 6).
-use Rattle.std.specs.Prelude.{ℕ, Bool, true, false, List, [], ◌∷◌, ◌++◌, length, map, codes, Option, Some, None}
+use Rattle.std.specs.Prelude.{ℕ, true, false, List, [], ◌∷◌, ◌++◌, length, codes, Option, Some, None}
 use Rattle.std.specs.Fmt.{decimal}
 use Rattle.std.specs.List.{flat_map}
 use Rattle.http.specs.StatusCode.{reason_phrase}
@@ -9,8 +9,8 @@ use Rattle.tsp.specs.Rejection.{rejection}
 use Rattle.store.specs.History.{History}
 use Rattle.store.specs.Rights.{ListedValue}
 use Rattle.audit.specs.Extract.{extract_text}
-use Rattle.desk.specs.Command.{Command, Stamp, Begin, Finish, Abandon, Deposit, Show, Token, ListAll, Grant, Revoke}
-use Rattle.desk.specs.Command.{Calibrate, Hold, Answer, Stamped, Rejected, Begun, Kept, Shown, Listed, Done, Refused}
+use Rattle.desk.specs.Command.{Command, Show}
+use Rattle.desk.specs.Command.{Answer, Stamped, Rejected, Begun, Kept, Shown, Listed, Done, Refused}
 use Rattle.service.specs.Refusals.{status_of, word_of, refusal_of}
 use Rattle.service.specs.Routes.{methods_of}
 use Rattle.service.specs.declared.answer.Media.{Media}

@@ -1,5 +1,5 @@
 -- Refusals, and the answers that tell them.
-use Rattle.std.specs.Prelude.{ℕ, List, ◌∷◌, [], codes}
+use Rattle.std.specs.Prelude.{ℕ, List, codes}
 use Rattle.tsp.specs.Rejection.{number_of, reason}
 use Rattle.tsp.specs.declared.rule.Rule.{Rule}
 use Rattle.tsp.specs.declared.rule.Rule.TheVariants.{Clock}

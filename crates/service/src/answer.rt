@@ -1,14 +1,11 @@
 //! The texts of answers (RFC 9112 4 and 6).
-ghost use Rattle.std.specs.Prelude.{◌≡◌, ◌++◌, ℕ, List, [], Option, option_map, map, codes, OnOk, IfOk, string_bytes};
-ghost use Rattle.std.specs.Prelude.{length};
+ghost use Rattle.std.specs.Prelude.{◌≡◌, ◌++◌, ℕ, [], Option, option_map, codes, IfOk, string_bytes};
 ghost use Rattle.std.specs.Fmt.{decimal};
 ghost use Rattle.http.specs.StatusCode.{reason_phrase};
 ghost use Rattle.service.specs.Answers.{phrase_of, media_type, status_line, content_lines, allow_line, head_text, crlf};
-ghost use Rattle.service.specs.Answers.{line_feed};
-ghost use Rattle.service.specs.Answers.{refusal_body, answer_text, refusal_answer};
+ghost use Rattle.service.specs.Answers.{answer_text, refusal_answer};
 ghost use Rattle.service.specs.declared.refusal.Refusal.TheVariants.{Unavailable};
 
-use crate::refusal::Refusal;
 use http::StatusCode;
 use std::alloc::{AllocError, Global};
 

@@ -1,7 +1,6 @@
 //! Extracts for auditors, written row by row. Their length is found first, by a walk of its own over the same stamps.
 ghost use Rattle.std.specs.Prelude.{◌≡◌};
 ghost use Rattle.policy.specs.View.{account_view};
-ghost use Rattle.tables.specs.Base.{IsHonest};
 ghost use Rattle.store.specs.Stands.{OnlyLooks};
 ghost use Rattle.service.specs.Extracting.{SendsExtractOrWants, ServesExtract};
 

@@ -1,6 +1,6 @@
 //! A head in the octets that were read.
 ghost use Rattle.std.specs.Prelude.{◌≡◌, ◌≤◌, length, take, IsUtf8};
-ghost use Rattle.httparse.specs.Grammar.{RequestHead, print_request};
+ghost use Rattle.httparse.specs.Grammar.{RequestHead};
 ghost use Rattle.httparse.specs.Spans.{IsRequestWithin};
 ghost use Rattle.service.specs.Heads.{head_value};
 ghost use Rattle.service.specs.Reading.{LiesAt};

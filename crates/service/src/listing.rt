@@ -2,7 +2,6 @@
 ghost use Rattle.std.specs.Prelude.{◌≡◌, ◌++◌, map, IfSome, OnSome, IfOk, string_bytes, codes};
 ghost use Rattle.std.specs.Fmt.{decimal};
 ghost use Rattle.std.specs.List.{flat_map};
-ghost use Rattle.gentime.specs.GenTime.{text_of};
 ghost use Rattle.store.specs.Values.{listed_view};
 ghost use Rattle.service.specs.Answers.{listed_line, line_feed};
 

@@ -1,6 +1,5 @@
 //! The octets of a request, from any reader, and none behind it.
-ghost use Rattle.std.specs.Prelude.{◌≡◌, ℕ, ◌<◌, List, length, slice_index};
-ghost use Rattle.std.specs.Io.KnownBytes.{Consumes, IsAtEnd};
+ghost use Rattle.std.specs.Prelude.{◌≡◌, ℕ, ◌<◌, length, slice_index};
 ghost use Rattle.service.specs.Heads.{most_octets, most_fields};
 ghost use Rattle.service.specs.Reading.{GivesOctet, ReadsHead, ReadsBody};
 

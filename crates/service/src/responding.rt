@@ -1,9 +1,7 @@
 //! Answers that are written.
-ghost use Rattle.std.specs.Prelude.{◌≡◌, ◌++◌, ℕ, List, [], length, Option, option_map, map, IfOk, string_bytes};
+ghost use Rattle.std.specs.Prelude.{◌≡◌, ◌++◌, ℕ, [], Option, option_map};
 ghost use Rattle.std.specs.Fmt.{decimal};
-ghost use Rattle.std.specs.List.{flat_map};
-ghost use Rattle.store.specs.Values.{listed_view};
-ghost use Rattle.service.specs.Answers.{AnswerValue, listed_line, line_feed, head_text, refusal_answer, success};
+ghost use Rattle.service.specs.Answers.{line_feed, head_text, refusal_answer, success};
 ghost use Rattle.service.specs.Served.{SendsText, Sends, SendsOrWants, unavailable};
 ghost use Rattle.service.specs.Views.{performed_answer, stamp_answer, status_kept};
 ghost use Rattle.service.specs.declared.answer.Media.TheVariants.{Text};

@@ -1,7 +1,7 @@
 //! Targets, and what methods do there.
-ghost use Rattle.std.specs.Prelude.{◌≡◌, Option, option_map, IfOk, OnOk};
+ghost use Rattle.std.specs.Prelude.{◌≡◌, Option, IfOk, OnOk};
 ghost use Rattle.std.specs.Str.{bytes_eq};
-ghost use Rattle.service.specs.Routes.{with_route, routes, place_of, methods_of, action_of, number_part, name_part};
+ghost use Rattle.service.specs.Routes.{with_route, routes, place_of, methods_of, action_of};
 
 use matchit::{InsertError, Router};
 use std::alloc::Global;

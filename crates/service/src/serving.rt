@@ -1,23 +1,17 @@
 //! One request and its answer.
-ghost use Rattle.std.specs.Prelude.{◌≡◌, ◌≤◌, ◌⊎◌, ◌++◌, ℕ, ℤ, List, [], length, Option, option_map, IfOk};
-ghost use Rattle.std.specs.Prelude.{string_bytes};
-ghost use Rattle.std.specs.Fmt.{decimal};
+ghost use Rattle.std.specs.Prelude.{◌≡◌, ◌≤◌, ◌⊎◌, ◌++◌, ℕ, ℤ, List, [], Option};
 ghost use Rattle.std.specs.Io.KnownBytes.{Consumes};
 ghost use Rattle.httparse.specs.Grammar.{RequestHead, print_request};
-ghost use Rattle.policy.specs.View.{policy_view};
 ghost use Rattle.tables.specs.Base.{IsHonest};
-ghost use Rattle.service.specs.Answers.{AnswerValue, head_text, refusal_answer, success};
-ghost use Rattle.service.specs.Checks.{most_body};
 ghost use Rattle.service.specs.Heads.{IsHead, head_value};
 ghost use Rattle.service.specs.Requests.{IsRequest, asked_by};
-ghost use Rattle.service.specs.Served.{SendsText, Sends, SendsOrWants, unavailable, Serves};
-ghost use Rattle.service.specs.Views.{head_view, IsInPlace, performed_answer};
+ghost use Rattle.service.specs.Served.{Serves};
+ghost use Rattle.service.specs.Views.{head_view, IsInPlace};
 
-use crate::answer::{Media, head_text, unavailable};
 use crate::demand::{Asked, asked_by};
 use crate::extracting::serve_extract;
 use crate::head::{Head, head_at};
-use crate::performing::{Performed, perform};
+use crate::performing::perform;
 use crate::reading::{BodyRead, HeadRead, MOST_FIELDS, MOST_OCTETS, read_body, read_head};
 use crate::refusal::Refusal;
 use crate::responding::{refuse, respond, wanting};

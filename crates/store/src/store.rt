@@ -2,8 +2,7 @@
 ghost use Rattle.std.specs.Prelude.{◌≡◌, ◌⊎◌, ℕ, ◌∷◌, Err, IfOk, IfErr, IsErr, OnOk, OnErr, MatchResult, ◌↔◌, ◌<◌, ◌^◌};
 ghost use Rattle.std.specs.Prelude.{false, IsTrue, option_map};
 ghost use Rattle.std.specs.Option.{ForSome};
-ghost use Rattle.sqlite_trees.specs.Tree.{Trees};
-ghost use Rattle.tables.specs.Base.{IsHonest, IsOpen, Recovers};
+ghost use Rattle.tables.specs.Base.{IsHonest, IsOpen};
 ghost use Rattle.store.specs.History.{History, Reserved, Sealed, Calibrated, Held, count_of_day, latest_calibration};
 ghost use Rattle.store.specs.History.{is_held};
 ghost use Rattle.store.specs.Sound.{Fits, IsSpent, IsBackwards};

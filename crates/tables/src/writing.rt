@@ -6,7 +6,7 @@ ghost use Rattle.sqlite.specs.State.{HasCleanDisk};
 ghost use Rattle.tables.specs.Carrying.{Carries, Commits};
 ghost use Rattle.tables.specs.Changes.{applied, FitsColumns};
 ghost use Rattle.tables.specs.Holding.{IsDatabaseOf};
-ghost use Rattle.tables.specs.Tables.{Tables, StampRow, is_tally_of, with_calibration, with_hold, with_deposit};
+ghost use Rattle.tables.specs.Tables.{Tables, is_tally_of, with_calibration, with_hold, with_deposit};
 ghost use Rattle.tables.specs.Tables.{with_token, without_reader};
 ghost use Rattle.tables.specs.Steps.{with_stamp_alone, with_raised, with_first_tally, with_count, with_reader_alone};
 

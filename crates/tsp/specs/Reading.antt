@@ -96,11 +96,12 @@ extensions_of may (node first others) = do
   es ← extensions_of may others
   Some (e ∷ es)
 
--- Extensions, of which there is at least one
+-- the list where it has an element, since Extensions have at least one (RFC 5280 4.1)
 unfoldable pub some_extensions : List ExtensionValue → Option (List ExtensionValue)
 some_extensions [] = None
 some_extensions (e ∷ es) = Some (e ∷ es)
 
+-- Extensions under a tag
 unfoldable pub extension_list_of : Bool → ℕ → Node → Option (List ExtensionValue)
 extension_list_of may tag n = do
   members ← components_of tag n

@@ -40,11 +40,12 @@ pub record Stated : Type 0 where
   pub cert_req : Bool
   pub critical : List Bool
 
--- MessageImprint and AlgorithmIdentifier
+-- AlgorithmIdentifier: the algorithm, and its parameters where there are some
 abbrev pub algorithm_identifier : ImprintValue → Node
 algorithm_identifier imprint =
     sequence (object_identifier imprint.algorithm ∷ optional (λ parameters. parameters) imprint.parameters)
 
+-- MessageImprint: the AlgorithmIdentifier, and the hash
 abbrev pub message_imprint : ImprintValue → Node
 message_imprint imprint = sequence (algorithm_identifier imprint ∷ octet_string imprint.hash ∷ [])
 

@@ -1,7 +1,7 @@
 //! From values to messages: each reader answers what its definition reads, and lends it from where it lies.
-ghost use Rattle.std.specs.Prelude.{◌≡◌, ℕ, List, Option, Some, None, option_map, map};
+ghost use Rattle.std.specs.Prelude.{◌≡◌, ℕ, Option, Some, None, option_map};
 ghost use Rattle.der.specs.DataValueView.{value_view, values_view};
-ghost use Rattle.tsp.specs.Reading.{integer_value_of, integer_of, truth_of, boolean_of, stated_of, oid_in, optional_of};
+ghost use Rattle.tsp.specs.Reading.{integer_of, truth_of, boolean_of, stated_of, oid_in};
 ghost use Rattle.tsp.specs.Reading.{optional_at, flag_at, parameters_of, algorithm_of, imprint_of, only, end_of};
 ghost use Rattle.tsp.specs.Reading.{extension_of, extensions_of, some_extensions, extension_list_of, extensions_at};
 ghost use Rattle.tsp.specs.View.{imprint_view, extension_view};

@@ -1,5 +1,5 @@
 ghost use Rattle.std.specs.Prelude.{◌≡◌, ◌≢◌, ◌↔◌, ◌<◌, ◌≤◌, ◌^◌, ℕ, Bool, List, [], Option, Some, None, Err};
-ghost use Rattle.std.specs.Prelude.{option_map, length, map, unwrap_or, IfOk, IfErr, IsTrue, ◌⊎◌, MatchResult};
+ghost use Rattle.std.specs.Prelude.{option_map, length, IfOk, IfErr, IsTrue, ◌⊎◌, MatchResult};
 ghost use Rattle.der.specs.Node.{primitive, encoding, AreOctets, IsLawful};
 ghost use Rattle.der.specs.Number.{number_content};
 ghost use Rattle.der.specs.ObjectIdentifier.{IsOid, oid_content};
@@ -136,9 +136,9 @@ impl<'a> Request<'a> {
         self.extensions.again()
     }
 
-    /// The TSTInfo that answers the request under a policy: imprint, nonce and extensions as they stand in it.
-    ///
-    /// The serial number is 1 to 2^63 - 1, and the accuracy 1 to 1,000,000 microseconds.
+    /// The TSTInfo that answers the request (RFC 3161 2.4.2): imprint, nonce and extensions as they stand in it, and the
+    /// policy, serial number, genTime, accuracy (in microseconds) and ordering that are given. Each is taken as it is:
+    /// that the accuracy can be stated, and the serial number is a new one, is the caller's.
     pub fn into_tst_info(
         self,
         policy: ObjectIdentifier<'a>,

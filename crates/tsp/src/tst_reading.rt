@@ -1,11 +1,11 @@
 //! From octets to a TSTInfo.
-ghost use Rattle.std.specs.Prelude.{◌≡◌, ◌≤◌, ◌<◌, ◌^◌, ℕ, List, length, Option, Some, None, option_map, unwrap_or};
+ghost use Rattle.std.specs.Prelude.{◌≡◌, ◌≤◌, ◌<◌, ◌^◌, ℕ, List, length, Option, Some, None, option_map};
 ghost use Rattle.std.specs.Prelude.{IfOk, IfErr, IfSome, MatchOption, MatchResult};
 ghost use Rattle.std.specs.Int.Digits.{number_from_digits};
 ghost use Rattle.der.specs.Node.{IsFormed};
 ghost use Rattle.der.specs.DataValueView.{value_view, values_view};
 ghost use Rattle.gentime.specs.GenTime.{last_moment, text_of};
-ghost use Rattle.tsp.specs.Reading.{only, optional_at, integer_value_of};
+ghost use Rattle.tsp.specs.Reading.{only, optional_at};
 ghost use Rattle.tsp.specs.Tst.{TstValue, IsTst, SpellsTst, tst_info};
 ghost use Rattle.tsp.specs.TstReading.{parts_in, natural, natural_of, up_to, number_in, part_at, accuracy_of, head_of};
 ghost use Rattle.tsp.specs.TstReading.{parts_of};

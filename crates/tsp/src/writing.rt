@@ -1,5 +1,5 @@
 //! From messages to octets, from the inside outwards.
-ghost use Rattle.std.specs.Prelude.{◌≡◌, ◌<◌, ◌≤◌, ◌^◌, ◌++◌, Bool, false, [], pos, length, List, OnOk, IfOk, IfErr};
+ghost use Rattle.std.specs.Prelude.{◌≡◌, ◌<◌, ◌≤◌, ◌^◌, ◌++◌, false, [], pos, length, OnOk, IfOk, IfErr};
 ghost use Rattle.der.specs.Node.{element, encoding, encodings, IsFormed, AreFormed, IsLawful};
 ghost use Rattle.der.specs.Tree.{nodes};
 ghost use Rattle.der.specs.Number.{number_content};

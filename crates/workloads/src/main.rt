@@ -38,10 +38,10 @@ fn number_of(word: &String) -> u64 {
     word.parse().unwrap_or(0)
 }
 
-/// Writes a database for `sqlite3` to read (`sample PATH`), serves connections over loopback (`serve COUNT`), or prints how
-/// many times a request was read (`read COUNT`), and how many times there was a reply with a token: of so many without
-/// store and signer (`reply COUNT`), by a certificate in a file (`reply COUNT FILE`), or over the database at a path
-/// (`grant COUNT PATH`).
+/// Writes a database for `sqlite3` to read (`sample PATH`), serves connections over loopback (`serve COUNT`), or prints
+/// how many times a request was read (`read COUNT`), and how many times there was a reply with a token: of so many
+/// without store and signer (`reply COUNT`), by a certificate in a file (`reply COUNT FILE`), or over the database at a
+/// path (`grant COUNT PATH`).
 fn main(rt: HostRuntime) -> anyhow::Result<()> {
     let mut words = Vec::new(rt.alloc());
     for word in env::args(&rt)?.skip(1) {

@@ -33,7 +33,8 @@ const FACTS: Facts = Facts {
 /// Where an octet of the digest stands.
 const DIGEST_OCTET: usize = 40;
 
-/// Writes as many replies, and tells how many are granted. The digest is another one each time, so that each is written.
+/// Writes as many replies, and tells how many are granted. The digest is another one each time, so that each is
+/// written.
 pub fn replies(alloc: Global, certificate: &[u8], count: u64) -> anyhow::Result<u64> {
     let setting = setting_of(alloc, certificate)?;
     let mut query = REQUEST;

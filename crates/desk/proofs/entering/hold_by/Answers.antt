@@ -1,4 +1,4 @@
-use Rattle.std.proofs.Common.{◌⊎◌, false, inl, inr}
+use Rattle.std.proofs.Common.{false, inl, inr}
 use Rattle.store.specs.History.{Held}
 use Rattle.store.specs.Values.{hold_view}
 use Rattle.desk.specs.Command.{Hold}

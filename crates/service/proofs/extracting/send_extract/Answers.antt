@@ -1,4 +1,4 @@
-use Rattle.std.proofs.Common.{◌≡◌, ◌∙◌, ℕ, ◌+◌, ◌<◌, ◌≤◌, List, length, ap, arith, inl, subst, sym}
+use Rattle.std.proofs.Common.{◌≡◌, ◌∙◌, ℕ, ◌+◌, ◌<◌, ◌≤◌, length, ap, arith, inl, subst, sym}
 use Rattle.service.specs.Extracting.{SendsExtract}
 use Rattle.service.specs.declared.served.Served.TheVariants as served
 use Rattle.service.proofs.ExtractLemmas.{extract_head, head_cut, rows_cut, all_written}

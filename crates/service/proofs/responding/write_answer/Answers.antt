@@ -1,4 +1,4 @@
-use Rattle.std.proofs.Common.{◌≤◌, ℕ, List, ◌++◌, length, take, arith, sym, subst}
+use Rattle.std.proofs.Common.{◌≤◌, ℕ, List, length, take, arith, sym, subst}
 use Rattle.std.proofs.KnownBytes.{Appends-trans}
 use Rattle.std.proofs.lemmas.List.{length-append, take_all}
 use Rattle.std.specs.Io.KnownBytes.{Appends}
