@@ -1,5 +1,5 @@
 -- The batch that makes the tables, statement by statement.
-use Rattle.std.proofs.Common.{◌≡◌, ◌⊎◌, ℕ, suc, ◌-◌, pos, Bool, true, false, List, [], ◌∷◌, codes}
+use Rattle.std.proofs.Common.{◌≡◌, ◌⊎◌, ℕ, suc, pos, Bool, true, false, List, [], ◌∷◌, codes}
 use Rattle.std.proofs.Common.{take, drop, Option, None, Some, Result, Ok, Err, OnOk, IsTrue, refl, sym, ap}
 use Rattle.std.proofs.Common.{◌∙◌, subst, subst₂, inl, inr, arith}
 use Rattle.std.proofs.lemmas.Bool.{cases_Bool}

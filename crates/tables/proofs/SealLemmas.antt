@@ -14,7 +14,7 @@ use Rattle.sqlite_sql.specs.declared.ops.BinaryOp.TheVariants.{Compare, Arith}
 use Rattle.sqlite_sql.specs.declared.ops.ArithOp.TheVariants.{Add}
 use Rattle.std.specs.Float.Ieee
 use Rattle.std.proofs.lemmas.Bool.{cases_lt, and_parts}
-use Rattle.std.proofs.Common.{inl, inr, ◌-◌, lt-ltb, length, drop, IfOk, Err}
+use Rattle.std.proofs.Common.{inl, inr, lt-ltb, length, drop, IfOk, Err}
 use Rattle.sqlite_value.specs.Order.{value_cmp}
 use Rattle.sqlite_schema.specs.declared.schema.Kind.TheVariants.{Integer}
 use Rattle.sqlite_schema.specs.Rules.{is_of, are_typed}

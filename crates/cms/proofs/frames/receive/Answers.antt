@@ -1,4 +1,4 @@
-use Rattle.std.proofs.Common.{◌<◌, arith, lit<}
+use Rattle.std.proofs.Common.{arith, lit<}
 use Rattle.std.specs.Int.{to_be_bytes, w32}
 use Rattle.cms.proofs.FramePieces.{receives_too_few, receives_part, receives_frame}
 use Rattle.cms.proofs.frames.receive.Goals as goal

@@ -2,7 +2,7 @@ use Rattle.std.proofs.Common.{ap, ◌∙◌}
 use Rattle.der.specs.Node.{encoding, encodings}
 use Rattle.cms.specs.Certificate.{serial_number, issuer_name, after_serial}
 use Rattle.cms.specs.Certificate.{after_issuer, certificate}
-use Rattle.cms.specs.Outline.{Outline, outline}
+use Rattle.cms.specs.Outline.{Outline}
 use Rattle.cms.proofs.Places.{place_is, issuer_stands, serial_stands}
 use Rattle.cms.proofs.place.places_in.Goals as goal
 

@@ -1,4 +1,4 @@
-use Rattle.std.proofs.Common.{◌∙◌, rules, SFits, w64, to_z, of_z, to_z-of_z, sym, subst, false, true}
+use Rattle.std.proofs.Common.{◌∙◌, rules, SFits, w64, to_z, of_z, to_z-of_z, sym, subst}
 use Rattle.tables.specs.Tables.{with_calibration}
 use Rattle.store.specs.History.{Calibrated}
 use Rattle.store.specs.Sound.{IsBackwards}
