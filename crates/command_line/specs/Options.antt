@@ -37,13 +37,28 @@ optional_text_option name = optional_option name parser.String
 abbrev pub number_between : ℕ → ℕ → ValueParser
 number_between least most = parser.Signed (pos least) (pos most)
 
+-- microseconds since 1970-01-01T00:00:00Z
+abbrev pub moment_option : Rule
+moment_option = required_option (codes "moment") (number_between 0 253402300799999999)
+
+-- fraction digits of a second
+abbrev pub digits_option : Rule
+digits_option = required_option (codes "digits") (number_between 0 6)
+
+abbrev pub serial_option : Rule
+serial_option = required_option (codes "serial") (number_between 1 9223372036854775807)
+
+-- microseconds
+abbrev pub accuracy_option : Rule
+accuracy_option = required_option (codes "accuracy") (number_between 1 1000000)
+
 abbrev pub tst_options : List Rule
 tst_options =
     text_option (codes "policy")
-    ∷ required_option (codes "moment") (number_between 0 253402300799999999)
-    ∷ required_option (codes "digits") (number_between 0 6)
-    ∷ required_option (codes "serial") (number_between 1 9223372036854775807)
-    ∷ required_option (codes "accuracy") (number_between 1 1000000)
+    ∷ moment_option
+    ∷ digits_option
+    ∷ serial_option
+    ∷ accuracy_option
     ∷ optional_flag (codes "ordering")
     ∷ []
 
@@ -66,13 +81,20 @@ whole_number = number_between 0 9223372036854775807
 abbrev pub reading_option : Rule
 reading_option = required_option (codes "reading") whole_number
 
+abbrev pub offset_option : Rule
+offset_option = required_option (codes "offset") whole_number
+
+-- microseconds
+abbrev pub uncertainty_option : Rule
+uncertainty_option = required_option (codes "uncertainty") (number_between 0 1000000000000)
+
 abbrev pub calibrate_options : List Rule
 calibrate_options =
     database_option
     ∷ reading_option
-    ∷ required_option (codes "offset") whole_number
+    ∷ offset_option
     ∷ optional_flag (codes "behind")
-    ∷ required_option (codes "uncertainty") (number_between 0 1000000000000)
+    ∷ uncertainty_option
     ∷ []
 
 abbrev pub from_option : Rule

@@ -1,7 +1,7 @@
 //! Waiting for a whole request, so that the clock is read once it is there.
 //!
 //! What a request is says the service, which reads these octets again: here their number is foreseen, and no more.
-ghost use Rattle.std.specs.Prelude.{◌≤◌, length, IfSome, All};
+ghost use Rattle.std.specs.Prelude.{◌≤◌, ◌+◌, length, IfSome, All};
 ghost use Rattle.httparse.specs.Spans.{IsHeaderWithin, IsRequestWithin};
 
 use httparse::Status;
@@ -87,7 +87,9 @@ fn body_of(octets: &[u8], headers: &[HeaderSpan], spans: RequestSpans) -> Option
 }
 
 /// What is foreseen of a request that begins with these octets; nothing where its head isn't whole.
-fn foreseen(octets: &[u8]) -> Option<Extent> {
+fn foreseen(octets: &[u8]) -> Option<Extent>
+    ensures { IfSome result (λ whole. whole.count ≤ length octets.now + 1_048_576) }
+{
     let mut headers = [EMPTY_HEADER_SPAN; MOST_FIELDS];
     match parse_request(octets, &mut headers) {
         Ok(Status::Complete(spans)) => match body_of(octets, &headers, spans) {
@@ -104,7 +106,8 @@ fn foreseen(octets: &[u8]) -> Option<Extent> {
 
 /// Reads until a head is whole: how many octets came, and what is foreseen.
 fn fill_head<R: Read>(reader: &mut R, room: &mut [u8]) -> (usize, Extent)
-    ensures { result.0 ≤ length room.new }
+    ensures filled { result.0 ≤ length room.new }
+    ensures foreseen { result.1.count ≤ length room.new + 1_048_576 }
 {
     let mut filled = 0;
     while filled < room.len() {
@@ -137,8 +140,11 @@ fn fill<R: Read>(reader: &mut R, room: &mut [u8], there: usize) -> usize
 }
 
 /// Waits until all is there of a request, as its method and Content-Length tell, or no more comes; none where nothing
-/// does. It also waits no longer where memory is wanting for it.
-pub(crate) fn await_request<R: Read>(alloc: Global, reader: &mut R) -> Option<Awaited> {
+/// does. It also waits no longer where memory is wanting for it. At most a head's 8,192 octets and a body's 1,048,576
+/// are kept.
+pub(crate) fn await_request<R: Read>(alloc: Global, reader: &mut R) -> Option<Awaited>
+    ensures { IfSome result (λ awaited. length awaited.octets.items ≤ 1_056_768) }
+{
     let Ok(mut octets) = vec![in alloc; 0u8; MOST_OCTETS] else {
         return Some(Awaited {
             octets: Vec::new(alloc),

@@ -24,14 +24,8 @@ pub trait Clock {
 /// The machine's clock.
 #[derive(Drop)]
 pub struct SystemClock<'a, R> {
-    clock: &'a R,
-}
-
-impl<'a, R: std::time::Clock> SystemClock<'a, R> {
-    /// The clock of the machine that this runs on.
-    pub fn new(clock: &'a R) -> SystemClock<'a, R> {
-        SystemClock { clock }
-    }
+    /// The machine that this runs on.
+    pub machine: &'a R,
 }
 
 /// A duration in whole microseconds, where they are fewer than 2^63.
@@ -52,7 +46,7 @@ impl<R: std::time::Clock> Clock for SystemClock<'_, R> {
     ghost reads = { λ before reading after. IsSince1970 reading };
 
     fn reading(&mut self) -> Result<i64, ClockFailed> {
-        let Ok(now) = SystemTime::now(self.clock) else {
+        let Ok(now) = SystemTime::now(self.machine) else {
             return Err(ClockFailed);
         };
         match now.duration_since(SystemTime::UNIX_EPOCH) {

@@ -7,14 +7,10 @@ use std::time::Clock;
 /// Gives the octets first, and then reads on.
 #[derive(Drop)]
 pub(crate) struct Incoming<'a, 'o, R> {
-    octets: &'o [u8],
-    rest: Limited<'a, R>,
-}
-
-impl<'a, 'o, R: Clock> Incoming<'a, 'o, R> {
-    pub(crate) fn new(octets: &'o [u8], rest: Limited<'a, R>) -> Incoming<'a, 'o, R> {
-        Incoming { octets, rest }
-    }
+    /// What has come.
+    pub(crate) octets: &'o [u8],
+    /// What still comes.
+    pub(crate) rest: Limited<'a, R>,
 }
 
 impl<R: Clock> Read for Incoming<'_, '_, R> {

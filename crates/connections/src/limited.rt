@@ -1,4 +1,5 @@
 //! A stream whose reads and writes end by a moment.
+ghost use Rattle.std.specs.Prelude.{◌≡◌, ◌<◌, None};
 ghost use Rattle.std.specs.Io.{ReadsAtMost};
 
 use std::io;
@@ -23,7 +24,10 @@ pub(crate) struct Limited<'a, R> {
 
 impl<'a, R: Clock> Limited<'a, R> {
     /// No time has passed of the limit.
-    pub(crate) fn new(clock: &'a R, stream: &'a TcpStream, limit: Duration) -> Limited<'a, R> {
+    pub(crate) fn new(clock: &'a R, stream: &'a TcpStream, limit: Duration) -> Limited<'a, R>
+        ensures limit { result.limit ≡ limit }
+        ensures end { result.end ≡ None }
+    {
         Limited {
             clock,
             stream,
@@ -53,20 +57,23 @@ impl<'a, R: Clock> Limited<'a, R> {
     }
 
     /// Ends our side, and reads and drops what the peer still sends, until it ends its own, sends nothing for some
-    /// time, or the time is up. A stream that is closed with octets in it that weren't read would be reset, and the
-    /// peer might lose what was written.
-    pub(crate) fn close(mut self) {
+    /// time, the time is up, or 16 MiB are dropped: how many octets were, at most a buffer more. A stream that is
+    /// closed with octets in it that weren't read would be reset, and the peer might lose what was written.
+    pub(crate) fn close(mut self) -> usize
+        ensures { result < 16_781_312 }
+    {
         if self.stream.shutdown(Shutdown::Write).is_err() {
-            return;
+            return 0;
         }
         let mut room = [0u8; 4096];
         let mut dropped = 0;
         while dropped < MOST_DROPPED {
             match self.read_some(&mut room) {
-                Ok(0) | Err(_) => return,
+                Ok(0) | Err(_) => return dropped,
                 Ok(taken) => dropped += taken,
             }
         }
+        dropped
     }
 
     /// Reads what comes, unless nothing does for some time.

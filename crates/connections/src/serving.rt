@@ -44,11 +44,14 @@ fn serve_stream<R: AllocGlobal + std::time::Clock, C: Clock, S: Alter + Drop, G:
         Ok(reading) => reading,
         Err(failed) => return Err(failed),
     };
-    let mut input = Incoming::new(&awaited.octets, reader);
+    let mut input = Incoming {
+        octets: awaited.octets.as_slice(),
+        rest: reader,
+    };
     let mut output = Limited::new(rt, stream, limit);
     let served = serve_one(alloc, &mut input, &mut output, desk, reading, signer);
     if matches!(served, Served::Answered(_)) && !awaited.is_exact {
-        output.close();
+        let _dropped = output.close();
     }
     Ok(())
 }

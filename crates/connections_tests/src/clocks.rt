@@ -25,7 +25,7 @@ impl std::time::Clock for Machine {
 
 #[test]
 fn reads_the_clock(rt: HostRuntime) -> Result<(), Fail> {
-    assert!(rt; SystemClock::new(&rt).reading()? > 1_600_000_000_000_000);
+    assert!(rt; SystemClock { machine: &rt }.reading()? > 1_600_000_000_000_000);
     let rows = [
         (None, Err(ClockFailed)),
         (Some(Duration::from_nanos(1_999)), Ok(1)),
@@ -40,7 +40,8 @@ fn reads_the_clock(rt: HostRuntime) -> Result<(), Fail> {
     ];
     for (since_1970, wanted) in rows {
         let machine = Machine { since_1970 };
-        assert_eq!(rt; SystemClock::new(&machine).reading(), wanted);
+        let mut clock = SystemClock { machine: &machine };
+        assert_eq!(rt; clock.reading(), wanted);
     }
     Ok(())
 }

@@ -9,6 +9,7 @@ use Rattle.hex.specs.declared.error.FromHexError.{FromHexError}
 use Rattle.hex.specs.declared.error.FromHexError.TheVariants.{InvalidHexCharacter, OddLength, InvalidStringLength}
 use Rattle.hex.specs.declared.error.FromHexError.TheVariants.{OutOfMemory}
 use Rattle.policy.specs.Fault as policy
+use Rattle.policy.specs.declared.fault.PolicyFault.{PolicyFault}
 use Rattle.store.specs.Fault as store
 use Rattle.store.specs.declared.fault.StoreFault.{StoreFault}
 use Rattle.tsp.specs.Fault as tsp
@@ -17,6 +18,7 @@ use Rattle.counter.specs.declared.fault.Fault.TheVariants.{Der, Tsp, Cms, Policy
 use Rattle.counter.specs.declared.fault.InputFault.{InputFault}
 use Rattle.counter.specs.declared.fault.InputFault.TheVariants.{NotHexadecimal, File, Hold, Account, Failed, Address}
 use Rattle.counter.specs.declared.fault.InputFault.TheVariants.{Memory, Signer}
+use Rattle.operations.specs.Opening.{IsServingFault}
 use Rattle.operations.specs.declared.auditing.AuditFault.{AuditFault}
 use Rattle.operations.specs.declared.auditing.AuditFault.TheVariants as auditing
 use Rattle.operations.specs.declared.fault.OperationFault.{OperationFault}
@@ -81,3 +83,12 @@ IsStoreFault fault = (refusal : StoreFault) × (fault ≡ Store refusal)
 -- a file that says who signs was refused
 abbrev pub IsFileFault : Fault → Type 0
 IsFileFault fault = (fault ≡ Input File) ⊎ ((fault ≡ Input Memory) ⊎ ((refusal : CmsFault) × (fault ≡ Cms refusal)))
+
+-- a file that says by what requests are answered, or who signs, was refused
+abbrev pub IsSettingFault : Fault → Type 0
+IsSettingFault fault = IsFileFault fault ⊎ ((refusal : PolicyFault) × (fault ≡ Policy refusal))
+
+-- such a file was refused, or the database, the key holder, the address or the clock failed
+abbrev pub IsServeFault : Fault → Type 0
+IsServeFault fault = IsSettingFault fault
+    ⊎ ((refusal : OperationFault) × IsServingFault refusal × (fault ≡ fault_of_operation refusal))

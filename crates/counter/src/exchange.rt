@@ -2,6 +2,7 @@
 ghost use Rattle.std.specs.Prelude.{◌≡◌, ◌⊎◌, OnOk, IfErr};
 ghost use Rattle.std.specs.Io.KnownBytes.{Appends, Keeps};
 ghost use Rattle.counter.specs.Exchange.{Exchanges};
+ghost use Rattle.counter.specs.Fault.{IsServeFault};
 ghost use Rattle.counter.specs.Writing.{Begins};
 
 use crate::fault::{Fault, InputFault};
@@ -62,8 +63,11 @@ fn flush<O: Write>(output: &mut O) -> Result<(), InputFault>
 }
 
 /// Serves HTTP connections at an address. The files are read first, then the database is opened, the key holder
-/// reached, and the address listened on. It reads and writes no stream of the process.
-pub fn serve(rt: &HostRuntime, words: &ServeWords<'_>) -> Result<(), Fault> {
+/// reached, and the address listened on. It reads and writes no stream of the process. Refused as `read_files` and
+/// `operations::serve`.
+pub fn serve(rt: &HostRuntime, words: &ServeWords<'_>) -> Result<(), Fault>
+    ensures faults { IfErr result IsServeFault }
+{
     let Files {
         policy,
         identity,

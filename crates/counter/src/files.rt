@@ -3,7 +3,7 @@ ghost use Rattle.std.specs.Prelude.{◌≡◌, ◌⊎◌, ◌≤◌, List, ℕ, 
 ghost use Rattle.cms.specs.Certificate.{CertificateParts, IsAlgorithm, IsCertificate, identity_of};
 ghost use Rattle.policy.specs.Meaning.{meaning_of};
 ghost use Rattle.policy.specs.View.{policy_view};
-ghost use Rattle.counter.specs.Fault.{IsFileFault};
+ghost use Rattle.counter.specs.Fault.{IsFileFault, IsSettingFault};
 ghost use Rattle.operations.specs.Signing.{algorithm_of};
 ghost use Rattle.counter.specs.Signers.{SignsAs};
 
@@ -46,6 +46,7 @@ pub fn read_files<'a>(rt: &HostRuntime, words: &DeskWords<'a>) -> Result<Files<'
     ensures meant { IfOk result (λ files. (text : List ℕ) × (meaning_of text ≡ Ok (policy_view files.policy))) }
     ensures signs { IfOk result (λ files. SignsAs words.now.signer files.signing) }
     ensures algorithm { IfOk result (λ files. files.algorithm ≡ algorithm_of files.signing) }
+    ensures faults { IfErr result IsSettingFault }
 {
     let policy = read_policy(rt, words.rules)?;
     let identity = read_identity(rt, words.certificate)?;

@@ -6,7 +6,7 @@ ghost use Rattle.store.specs.Sound.{Fits};
 ghost use Rattle.store.specs.Stands.{LeavesOrAdds, Stands};
 ghost use Rattle.operations.specs.Addition.{entry_of};
 
-use crate::opening::open;
+use crate::opening::{close, open};
 use sqlite::Alter;
 use sqlite_disk::Unknown;
 use store::{Calibration, Hold, Store, StoreFault};
@@ -51,6 +51,6 @@ pub fn add(rt: &HostRuntime, path: &str, addition: &Addition) -> Result<(), Stor
     let mut store = open(rt, path, Unknown)?;
     let done = addition.add_to(&mut store);
     // What was committed stays in the log where it can't be copied into the file.
-    let _ = store.close();
+    let _ = close(store);
     done
 }

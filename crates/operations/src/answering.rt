@@ -9,7 +9,7 @@ ghost use Rattle.operations.specs.Judged.{IsJudgedReply};
 ghost use Rattle.operations.specs.Opening.{IsStartingFault};
 
 use crate::fault::OperationFault;
-use crate::opening::open;
+use crate::opening::{close, open};
 use crate::signing::{Signing, reach};
 use crate::terms::Terms;
 use cms::Signer;
@@ -54,7 +54,7 @@ pub fn answer(
     );
     let done = answer_by(rt, &mut desk, signing, question);
     // What was committed stays in the log where it can't be copied into the file.
-    let _ = desk.into_store().close();
+    let _ = close(desk.into_store());
     done
 }
 

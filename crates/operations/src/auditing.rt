@@ -8,7 +8,7 @@ ghost use Rattle.operations.specs.Auditing.{Allows, BeginsExtract, Checks, Comes
 ghost use Rattle.operations.specs.declared.auditing.AuditFault.TheVariants.{Extract, Store};
 ghost use Rattle.operations.specs.Auditing.{Leaves, TellsFailing, TellsSome, WritesExtract, failing_line};
 
-use crate::opening::open;
+use crate::opening::{close, open};
 use audit::{ExtractFault, check_row, extract, write_octets};
 use policy::{Account, Policy};
 use sqlite::Alter;
@@ -80,7 +80,7 @@ pub fn audit<O: Write, E: Write>(
     let mut store = open(rt, path, Unknown)?;
     let done = audit_store(rt.alloc(), &mut store, inquiry, output, errors);
     // What was committed stays in the log where it can't be copied into the file.
-    let _ = store.close();
+    let _ = close(store);
     done
 }
 

@@ -6,7 +6,7 @@ ghost use Rattle.operations.specs.Exchanges.{Exchanges};
 ghost use Rattle.operations.specs.Opening.{IsStartingFault};
 
 use crate::fault::OperationFault;
-use crate::opening::open;
+use crate::opening::{close, open};
 use crate::signing::{Signing, reach};
 use crate::terms::Terms;
 use cms::Signer;
@@ -44,7 +44,7 @@ pub fn exchange<R: Read, W: Write>(
     );
     let done = exchange_by(rt, &mut desk, signing, reading, reader, writer);
     // What was committed stays in the log where it can't be copied into the file.
-    let _ = desk.into_store().close();
+    let _ = close(desk.into_store());
     done
 }
 

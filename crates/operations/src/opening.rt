@@ -4,7 +4,7 @@ ghost use Rattle.operations.specs.Opening.{IsOpeningFault};
 
 use crate::finding::{Found, find};
 use sqlite::{Alter, Connection, Error, ErrorCode, FileFrom, FileStore, Start};
-use sqlite_disk::Unknown;
+use sqlite_disk::{Disk, Unknown};
 use std::alloc::Global;
 use store::{Store, StoreFault};
 
@@ -20,7 +20,7 @@ pub fn init(rt: &HostRuntime, path: &str) -> Result<(), StoreFault>
             let conn = connect(rt, path, Unknown)?;
             let store = make(rt.alloc(), conn)?;
             // What was committed stays in the log where it can't be copied into the file.
-            let _ = store.close();
+            let _ = close(store);
             Ok(())
         }
     }
@@ -45,6 +45,16 @@ pub(crate) fn open<T: Start + Drop>(
                 Err((fault, _)) => Err(fault),
             }
         }
+    }
+}
+
+/// Closes the database, whose file holds all that was committed then. Refused with `Memory` or `Database`.
+pub(crate) fn close<D: Disk + Drop>(store: Store<FileStore<D>>) -> Result<(), StoreFault>
+    ensures { IfErr result (λ e. (e ≡ StoreFault.Memory) ⊎ (e ≡ StoreFault.Database)) }
+{
+    match store.close() {
+        Ok(_files) => Ok(()),
+        Err(fault) => Err(fault),
     }
 }
 

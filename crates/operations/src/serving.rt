@@ -3,7 +3,7 @@ ghost use Rattle.std.specs.Prelude.{IfErr};
 ghost use Rattle.operations.specs.Opening.{IsServingFault};
 
 use crate::fault::OperationFault;
-use crate::opening::open;
+use crate::opening::{close, open};
 use crate::signing::{Signing, reach};
 use crate::terms::Terms;
 use cms::Signer;
@@ -37,7 +37,7 @@ pub fn serve(
     );
     let done = serve_by(rt, &mut desk, signing, address, connections);
     // What was committed stays in the log where it can't be copied into the file.
-    let _ = desk.into_store().close();
+    let _ = close(desk.into_store());
     done
 }
 
@@ -79,7 +79,7 @@ fn listen<S: Alter + Drop, G: Signer>(
     let Ok(listener) = TcpListener::bind(rt, address) else {
         return Err(OperationFault::Unheard);
     };
-    let mut clock = SystemClock::new(rt);
+    let mut clock = SystemClock { machine: rt };
     match serve_connections(
         rt,
         &listener,

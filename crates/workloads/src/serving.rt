@@ -32,7 +32,7 @@ fn serve_at(rt: &HostRuntime, listener: &TcpListener, count: u32) -> anyhow::Res
     let alloc = rt.alloc();
     let setting = setting_of(alloc, CERTIFICATE)?;
     let mut signer = KeyedHash::new(alloc, b"k")?;
-    let mut clock = SystemClock::new(rt);
+    let mut clock = SystemClock { machine: rt };
     let store = calibrated(alloc, clock.reading()?)?;
     let mut desk = Desk::new(
         alloc,

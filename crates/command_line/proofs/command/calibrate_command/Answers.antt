@@ -1,19 +1,10 @@
 use Rattle.std.proofs.Common.{rules, ◌≡◌, codes}
 use Rattle.std.proofs.lemmas.Result.{IfOk-weaker}
-use Rattle.clap.specs.Words.{Rule, app_of, new_app}
-use Rattle.command_line.specs.Options.{database_option, number_between, optional_flag, reading_option, required_option}
-use Rattle.command_line.specs.Options.{whole_number}
+use Rattle.clap.specs.Words.{app_of, new_app}
+use Rattle.command_line.specs.Options.{database_option, offset_option, optional_flag, reading_option}
+use Rattle.command_line.specs.Options.{uncertainty_option}
 use Rattle.command_line.proofs.Commands.{adds_option}
 use Rattle.command_line.proofs.command.calibrate_command.Goals as goal
-
-abbrev offset : Rule
-offset = required_option (codes "offset") whole_number
-
-abbrev behind : Rule
-behind = optional_flag (codes "behind")
-
-abbrev uncertainty : Rule
-uncertainty = required_option (codes "uncertainty") (number_between 0 1000000000000)
 
 pub returns : goal.returns
 returns c =
@@ -22,9 +13,9 @@ returns c =
     c.database_option-db.ensures.rule in
     let two = adds_option _ reading_option _ _ _ one c.in_ok-arg-2.ensures c.reading_option-reading.ensures.local
     c.reading_option-reading.ensures.rule in
-    let three = adds_option _ offset _ _ _ two c.in_ok-arg-3.ensures c.number_option-offset.ensures.local
+    let three = adds_option _ offset_option _ _ _ two c.in_ok-arg-3.ensures c.number_option-offset.ensures.local
     c.number_option-offset.ensures.rule in
-    let four = adds_option _ behind _ _ _ three c.in_ok-arg-4.ensures c.flag-behind.ensures.local
+    let four = adds_option _ (optional_flag (codes "behind")) _ _ _ three c.in_ok-arg-4.ensures c.flag-behind.ensures.local
     c.flag-behind.ensures.rule in
-    IfOk-weaker c.arg-5.result _ _ (λ command adds. adds_option _ uncertainty _ command _ four adds
+    IfOk-weaker c.arg-5.result _ _ (λ command adds. adds_option _ uncertainty_option _ command _ four adds
     c.number_option-uncertainty.ensures.local c.number_option-uncertainty.ensures.rule) c.arg-5.ensures
