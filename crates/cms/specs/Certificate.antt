@@ -34,20 +34,31 @@ issuer_name p = constructed 0x30 p.issuer
 -- the members from signature on
 abbrev pub after_serial : CertificateParts → Nodes
 after_serial p =
-    node (constructed 0x30 p.signature) (node (issuer_name p) (node (constructed 0x30 p.validity)
-    (node (constructed 0x30 p.subject) p.further)))
+    node (constructed 0x30 p.signature)
+    (node (issuer_name p)
+    (node (constructed 0x30 p.validity)
+    (node (constructed 0x30 p.subject)
+    p.further)))
 
 -- the members from validity on
 abbrev pub after_issuer : CertificateParts → Nodes
-after_issuer p = node (constructed 0x30 p.validity) (node (constructed 0x30 p.subject) p.further)
+after_issuer p =
+    node (constructed 0x30 p.validity)
+    (node (constructed 0x30 p.subject)
+    p.further)
 
 -- TBSCertificate
 abbrev pub tbs_certificate : CertificateParts → Node
-tbs_certificate p = constructed 0x30 (with_version p.version (node (serial_number p) (after_serial p)))
+tbs_certificate p =
+    constructed 0x30 (with_version p.version
+    (node (serial_number p)
+    (after_serial p)))
 
 -- Certificate
 abbrev pub certificate : CertificateParts → Node
-certificate p = constructed 0x30 (node (tbs_certificate p) p.after)
+certificate p =
+    constructed 0x30 (node (tbs_certificate p)
+    p.after)
 
 -- The octets are the certificate of these parts, a lawful value, whose serial number is in the shortest form.
 pub record IsCertificate (octets : List ℕ) (p : CertificateParts) : Type 0 where

@@ -71,16 +71,23 @@ unfoldable pub issuer_and_serial_number : IdentityValue → List ℕ
 issuer_and_serial_number identity = sequence (identity.issuer ∷ identity.serial ∷ [])
 
 -- SignerInfo of version 1: who signs, the digest algorithm, the signed attributes under [0], the signature algorithm
--- and
--- the signature; no unsigned attribute (RFC 5652 5.3)
+-- and the signature; no unsigned attribute (RFC 5652 5.3)
 unfoldable pub signer_info : IdentityValue → List ℕ → List ℕ → List ℕ → List ℕ
 signer_info identity algorithm tst signature =
-    sequence (integer 1 ∷ issuer_and_serial_number identity ∷ sha256_identifier
-    ∷ under_zero (signed_attributes identity tst) ∷ algorithm ∷ octet_string signature ∷ [])
+    sequence (integer 1
+    ∷ issuer_and_serial_number identity
+    ∷ sha256_identifier
+    ∷ under_zero (signed_attributes identity tst)
+    ∷ algorithm
+    ∷ octet_string signature
+    ∷ [])
 
 -- EncapsulatedContentInfo: the TSTInfo's octets in an OCTET STRING (RFC 5652 5.2)
 unfoldable pub encapsulated_content_info : List ℕ → List ℕ
-encapsulated_content_info tst = sequence (object_identifier id_ct_tst_info ∷ under_zero (octet_string tst ∷ []) ∷ [])
+encapsulated_content_info tst =
+    sequence (object_identifier id_ct_tst_info
+    ∷ under_zero (octet_string tst ∷ [])
+    ∷ [])
 
 -- the certificates of SignedData, left away where none is asked for (RFC 5652 5.1, RFC 3161 2.4.1 on certReq)
 unfoldable pub certificates : Bool → IdentityValue → List (List ℕ)
@@ -89,17 +96,22 @@ certificates with_certificate identity = if with_certificate then under_zero (id
 -- SignedData of version 3, since its content isn't plain data (RFC 5652 5.1)
 unfoldable pub signed_data : IdentityValue → List ℕ → List ℕ → List ℕ → Bool → List ℕ
 signed_data identity algorithm tst signature with_certificate =
-    sequence (integer 3 ∷ set (sha256_identifier ∷ []) ∷ encapsulated_content_info tst
+    sequence (integer 3
+    ∷ set (sha256_identifier ∷ [])
+    ∷ encapsulated_content_info tst
     ∷ (certificates with_certificate identity
-    ++ (set (signer_info identity algorithm tst signature ∷ []) ∷ [])))
+    ++ (set (signer_info identity algorithm tst signature ∷ [])
+    ∷ [])))
 
 -- ContentInfo over signed data (RFC 5652 3)
 unfoldable pub content_info : List ℕ → List ℕ
-content_info content = sequence (object_identifier id_signed_data ∷ under_zero (content ∷ []) ∷ [])
+content_info content =
+    sequence (object_identifier id_signed_data
+    ∷ under_zero (content ∷ [])
+    ∷ [])
 
 -- a time-stamp token: of which identity, under which algorithm, over which TSTInfo, with which signature, and whether
--- with
--- the certificate
+-- with the certificate
 unfoldable pub token : IdentityValue → List ℕ → List ℕ → List ℕ → Bool → List ℕ
 token identity algorithm tst signature with_certificate =
     content_info (signed_data identity algorithm tst signature with_certificate)

@@ -12,6 +12,7 @@ mod outline;
 mod place;
 mod signed_data;
 mod signer;
+mod tags;
 #[cfg(test)]
 mod tests;
 

@@ -6,13 +6,11 @@ ghost use Rattle.cms.specs.Outline.{sequence_at, serial_at, after_version, outli
 ghost use Rattle.cms.specs.Outline.{algorithm_of};
 ghost use Rattle.cms.specs.OutlineView.{outline_view};
 
+use crate::tags::UNDER_ZERO;
 use der::{
     DataValue, DataValues, Tag, is_number_content, is_oid_content, oids_have_one_content_and_text,
     read_value,
 };
-
-/// The version, under [0].
-const VERSION: Tag = Tag { octet: 0xa0 };
 
 /// The serial number and the issuer of a certificate, what follows each of them in its TBSCertificate, and what follows
 /// that.
@@ -55,7 +53,7 @@ fn serial<'a>(members: &mut DataValues<'a>) -> Option<DataValue<'a>>
 fn skip_version(members: &mut DataValues<'_>)
     ensures { values_view members.new ≡ after_version (values_view members.old) }
 {
-    let _version = members.next_under(VERSION);
+    let _version = members.next_under(UNDER_ZERO);
 }
 
 /// The outline of a certificate (RFC 5280 4.1); none where the value isn't of its grammar.

@@ -13,6 +13,7 @@ use crate::algorithm::Algorithm;
 use crate::encode::{append_element, element_of};
 use crate::fault::CmsFault;
 use crate::identity::Identity;
+use crate::tags::UNDER_ZERO;
 use der::Tag;
 use sha2::{Digest, Sha256};
 use std::alloc::{AllocError, Global};
@@ -30,9 +31,6 @@ const ID_SIGNING_CERTIFICATE_V2: [u8; 11] = *b"\x2a\x86\x48\x86\xf7\x0d\x01\x09\
 
 const ID_SHA256: [u8; 9] = *b"\x60\x86\x48\x01\x65\x03\x04\x02\x01";
 
-/// The tag [0] over further values, context-specific.
-const UNDER_ZERO: Tag = Tag { octet: 0xa0 };
-
 /// Attribute (RFC 5652 5.3): of the type with these contents octets, with one value.
 fn append_attribute(
     alloc: Global,
@@ -41,7 +39,7 @@ fn append_attribute(
     value: &[u8],
 ) -> Result<(), AllocError>
     ensures { OnOk result (octets.new.items
-        ≡ octets.old.items ++ element 48 (([] ++ element 6 kind.now) ++ element 49 value.now)) }
+        ≡ octets.old.items ++ element 0x30 (([] ++ element 0x06 kind.now) ++ element 0x31 value.now)) }
 {
     let mut members = Vec::new(alloc);
     append_element(&mut members, Tag::OBJECT_IDENTIFIER, kind)?;

@@ -34,8 +34,8 @@ use Rattle.command_line.specs.declared.words.Word.TheVariants.{Serve, Audit}
 abbrev pub texts_of : List (String Global) → List Text
 texts_of words = map string_bytes words
 
--- the option's value is the number in decimal digits, before which a plus may stand; a minus, which `clap` takes before a
--- zero alone, doesn't come into its row
+-- the option's value is the number in decimal digits, before which a plus may stand; a minus, which `clap` takes before
+-- a zero alone, doesn't come into its row
 pub record StatesNumber (rows : List Row) (name : Text) (number : ℕ) : Type 0 where
   pub text : Text
   pub given : one_of name rows ≡ Some text

@@ -138,8 +138,8 @@ const REQUESTS_TAKEN: [(&str, Word<'static>); 7] = [
         }),
     ),
     (
-        "counter exchange --db a.db --rules b.toml --certificate c.der --signer=127.0.0.1:4000 --signer-algorithm=e.der \
-        --reading +5",
+        "counter exchange --db a.db --rules b.toml --certificate c.der --signer=127.0.0.1:4000 \
+        --signer-algorithm=e.der --reading +5",
         Word::Exchange(ExchangeWords {
             desk: BY_SESSION,
             reading: 5,

@@ -12,7 +12,6 @@ use Rattle.command_line.specs.declared.words.Word.TheVariants.{Serve, Audit}
 use Rattle.operations.specs.Auditing as operation
 use Rattle.operations.specs.Auditing.{TellsSome, extract_of, failing_lines}
 use Rattle.operations.specs.declared.auditing.AuditFault.{AuditFault}
-use Rattle.operations.specs.declared.auditing.AuditFault.TheVariants as auditing
 use Rattle.policy.specs.LookUp.{account_named}
 use Rattle.policy.specs.Meaning.{meaning_of}
 use Rattle.policy.specs.Record.{AccountValue, PolicyValue}
@@ -42,7 +41,8 @@ audits words policy account stamps meant named allowed = record {
 }
 
 -- what the operation says of a refused audit, where the inquiry is what the words and the files state
-abbrev pub LeavesBy : AuditWords → PolicyValue → AccountValue → (out out' err err' : Option (List ℕ)) → AuditFault → Type 0
+abbrev pub LeavesBy : AuditWords → PolicyValue → AccountValue → (out out' err err' : Option (List ℕ)) → AuditFault
+    → Type 0
 LeavesBy words policy account out out' err err' fault =
     ((out' ≡ out) × (err' ≡ err))
     ⊎ ((operation.IsExtractFault fault
@@ -146,7 +146,8 @@ module _ (texts : List Text) (word : Word) (asks : Asks texts word) (out out' ol
         (extract.0, extract.1, inr (fails.2, extract.2, inl (tells_end old new fails.4))),
       )
 
-  module _ (words : AuditWords) (is : word ≡ Audit words) (fault : Fault) (line : Begins mid new (fault_line fault)) where
+  module _ (words : AuditWords) (is : word ≡ Audit words) (fault : Fault)
+      (line : Begins mid new (fault_line fault)) where
     untold : mid ≡ old → Begins old new (fault_line fault)
     untold same = subst (λ o. Begins o new (fault_line fault)) same line
 

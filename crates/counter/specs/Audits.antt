@@ -43,7 +43,9 @@ IsEnd end = (end ≡ []) ⊎ ((stop : Fault) × StopsCheck stop × (end ≡ faul
 -- the lines of one stamp that fails and maybe others, and then that of a fault that stopped the check; or a beginning
 abbrev pub TellsFailing : Option (List ℕ) → Option (List ℕ) → Type 0
 TellsFailing old new =
-    (first : ℕ) × (others : List ℕ) × (end : List ℕ) × IsEnd end × Begins old new (failing_lines (first ∷ others) ++ end)
+    (first : ℕ) × (others : List ℕ) × (end : List ℕ)
+    × IsEnd end
+    × Begins old new (failing_lines (first ∷ others) ++ end)
 
 -- What a refused audit leaves of its output and of what it tells: nothing; a beginning of the extract; or the whole of
 -- it, and lines of stamps that failed before its check was stopped.

@@ -159,7 +159,7 @@ impl From<InputFault> for Fault {
 /// The number in decimal, and LF.
 fn line_end(number: u8) -> &'static str
     requires { number ≤ 10 }
-    ensures { result.now ≡ decimal number ++ 10 ∷ [] }
+    ensures { result.now ≡ decimal number ++ 0x0a ∷ [] }
 {
     match number {
         0 => "0\n",

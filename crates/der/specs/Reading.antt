@@ -1,4 +1,5 @@
--- Reading values from the front of octets: the answer, or the first fault from the left.
+-- Reading values from the front of octets: the answer, or the first fault: a value's own before those of the values
+-- inside it, and of these the leftmost.
 use Rattle.std.specs.Prelude.{◌≡◌, ℕ, zero, suc, ◌+◌, ◌-◌, ◌%◌, ◌^◌, ◌==◌, ◌||◌, Bool, if◌then◌else◌, nat_lt, List, []}
 use Rattle.std.specs.Prelude.{◌∷◌, length, take, drop, Result, Ok, Err}
 use Rattle.std.specs.Int.Digits.{number_from_digits}

@@ -4,7 +4,7 @@ use Rattle.std.specs.Prelude.{ℕ, ◌+◌, ◌-◌, ◌*◌, ◌/◌, List, [],
 -- the sum of the digits, of which the first is worth so many units and each next one a tenth of the one before
 abbrev pub worth : ℕ → List ℕ → ℕ
 worth unit [] = 0
-worth unit (octet ∷ octets) = (octet - 48) * unit + worth (unit / 10) octets
+worth unit (octet ∷ octets) = (octet - 0x30) * unit + worth (unit / 10) octets
 
 -- the microseconds of a fraction of a second
 abbrev pub micros_of : List ℕ → ℕ

@@ -12,7 +12,7 @@ unfoldable pub pair_at : List ℕ → Option (ℕ × List ℕ)
 pair_at [] = None
 pair_at (tens ∷ []) = None
 pair_at (tens ∷ ones ∷ rest) =
-    if is_ascii_digit tens && is_ascii_digit ones then Some ((tens - 48) * 10 + (ones - 48), rest) else None
+    if is_ascii_digit tens && is_ascii_digit ones then Some ((tens - 0x30) * 10 + (ones - 0x30), rest) else None
 
 -- so many such numbers, and the octets behind them
 unfoldable pub pairs_at : ℕ → List ℕ → Option (List ℕ × List ℕ)

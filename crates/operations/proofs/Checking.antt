@@ -130,7 +130,8 @@ passed g old now next err err' from to left left' agree stamp before looks is pa
       );
 }
 
-tells_more : (err err' err'' : Option (List ℕ)) (serials : List ℕ) (serial : ℕ) → Appends err err' (failing_lines serials)
+tells_more : (err err' err'' : Option (List ℕ)) (serials : List ℕ) (serial : ℕ)
+    → Appends err err' (failing_lines serials)
     → Appends err' err'' (failing_line serial) → Appends err err'' (failing_lines (serials ++ serial ∷ []))
 tells_more err err' err'' serials serial first second =
     subst (Appends err err'') (sym (lines_next serials serial))
@@ -198,7 +199,8 @@ some_told : (err err' : Option (List ℕ)) (serials : List ℕ) → serials ≢ 
 some_told err err' [] some n told = absurd (some refl)
 some_told err err' (first ∷ others) some n told = (first, others, n, told)
 
-pub cut_told : (err err' err'' : Option (List ℕ)) (serials : List ℕ) (serial : ℕ) → Appends err err' (failing_lines serials)
+pub cut_told : (err err' err'' : Option (List ℕ)) (serials : List ℕ) (serial : ℕ)
+    → Appends err err' (failing_lines serials)
     → IsCutOff err' err'' (failing_line serial) → TellsSome err err''
 cut_told err err' err'' serials serial first second =
     let cut = cut_next err err' err'' serials serial first second in

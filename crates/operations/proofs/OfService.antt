@@ -34,7 +34,8 @@ module _ {W S X : Type 0} (g : Ghosts S) (signs : X → List ℕ → Result (Lis
       record { account = e.account; from = e.from; to = e.to; read = e.read; allowed = e.allowed }
 
   pub exchanged : (outcome : Served) → Serves g signs count contents reading t outcome
-      → Exchanges t.desk.setting.file reading t.input t.input_after (contents t.writer) (contents t.writer_after) outcome
+      → Exchanges t.desk.setting.file reading t.input t.input_after (contents t.writer) (contents t.writer_after)
+      outcome
   exchanged served.Closed s = (s.0, s.1, ap contents s.2.writer)
   exchanged (served.Answered status) (inl s) =
       inl (record { answer = s.answer; is = explained s.answer s.is; status_told = s.sent.0; written = s.sent.1 })

@@ -1,5 +1,6 @@
 -- What an audit writes.
-use Rattle.std.specs.Prelude.{◌≡◌, ◌≢◌, ◌⊎◌, ℕ, ◌<◌, Bool, true, false, List, [], ◌∷◌, ◌++◌, Option, codes, length, take}
+use Rattle.std.specs.Prelude.{◌≡◌, ◌≢◌, ◌⊎◌, ℕ, ◌<◌, Bool, true, false, List, [], ◌∷◌, ◌++◌, Option, codes, length}
+use Rattle.std.specs.Prelude.{take}
 use Rattle.std.specs.Fmt.{decimal}
 use Rattle.std.specs.Io.KnownBytes.{Appends}
 use Rattle.std.specs.List.{flat_map}
@@ -55,7 +56,8 @@ TellsFailing old new = (serials : List ℕ) × Appends old new (failing_lines se
 
 -- the lines of one stamp that fails and maybe others were written, or a beginning of them
 abbrev pub TellsSome : Option (List ℕ) → Option (List ℕ) → Type 0
-TellsSome old new = (first : ℕ) × (others : List ℕ) × (n : ℕ) × Appends old new (take n (failing_lines (first ∷ others)))
+TellsSome old new =
+    (first : ℕ) × (others : List ℕ) × (n : ℕ) × Appends old new (take n (failing_lines (first ∷ others)))
 
 -- an extract was written, of whatever stamps the database told
 abbrev pub WritesExtract : Option (List ℕ) → Option (List ℕ) → Type 0

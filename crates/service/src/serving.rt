@@ -125,8 +125,8 @@ fn serve_head<R: Read, W: Write, S: Alter + Drop, G: Signer>(
 /// before any octet, and `ReadFailed` where a read fails; nothing is written then, and nothing done. `WriteFailed`
 /// where a write fails or takes nothing; what the desk did stands. Want of memory here is answered by status 503. A
 /// desk that wants memory, or whose store or signer fails, is told by the reply's rule 12 on `/tsp`, and by 503
-/// elsewhere. An auditor's extract is written row by row, and no row is kept: it is `WriteFailed` too where the store or
-/// memory fails once the answer is begun.
+/// elsewhere. An auditor's extract is written row by row, and no row is kept: it is `WriteFailed` too where the store
+/// or memory fails once the answer is begun.
 pub fn serve_one<R: Read, W: Write, S: Alter + Drop, G: Signer>(
     alloc: Global,
     reader: &mut R,

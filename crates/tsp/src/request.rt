@@ -136,9 +136,9 @@ impl<'a> Request<'a> {
         self.extensions.again()
     }
 
-    /// The TSTInfo that answers the request (RFC 3161 2.4.2): imprint, nonce and extensions as they stand in it, and the
-    /// policy, serial number, genTime, accuracy (in microseconds) and ordering that are given. Each is taken as it is:
-    /// that the accuracy can be stated, and the serial number is a new one, is the caller's.
+    /// The TSTInfo that answers the request (RFC 3161 2.4.2): imprint, nonce and extensions as they stand in it, and
+    /// the policy, serial number, genTime, accuracy (in microseconds) and ordering that are given. Each is taken as it
+    /// is: that the accuracy can be stated, and the serial number is a new one, is the caller's.
     pub fn into_tst_info(
         self,
         policy: ObjectIdentifier<'a>,

@@ -15,7 +15,7 @@ returns c =
     c.reading_option-reading.ensures.rule in
     let three = adds_option _ offset_option _ _ _ two c.in_ok-arg-3.ensures c.number_option-offset.ensures.local
     c.number_option-offset.ensures.rule in
-    let four = adds_option _ (optional_flag (codes "behind")) _ _ _ three c.in_ok-arg-4.ensures c.flag-behind.ensures.local
-    c.flag-behind.ensures.rule in
+    let four = adds_option _ (optional_flag (codes "behind")) _ _ _ three c.in_ok-arg-4.ensures
+    c.flag-behind.ensures.local c.flag-behind.ensures.rule in
     IfOk-weaker c.arg-5.result _ _ (λ command adds. adds_option _ uncertainty_option _ command _ four adds
     c.number_option-uncertainty.ensures.local c.number_option-uncertainty.ensures.rule) c.arg-5.ensures

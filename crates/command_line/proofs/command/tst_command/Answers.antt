@@ -19,5 +19,6 @@ returns c =
     c.number_option-serial.ensures.rule in
     let five = adds_option _ accuracy_option _ _ _ four c.in_ok-arg-5.ensures c.number_option-accuracy.ensures.local
     c.number_option-accuracy.ensures.rule in
-    IfOk-weaker c.arg-6.result _ _ (λ command adds. adds_option _ (optional_flag (codes "ordering")) _ command _ five adds
+    IfOk-weaker c.arg-6.result _ _
+    (λ command adds. adds_option _ (optional_flag (codes "ordering")) _ command _ five adds
     c.flag-ordering.ensures.local c.flag-ordering.ensures.rule) c.arg-6.ensures

@@ -48,7 +48,8 @@ returns-in_err-flush-in-Answered-clause-kept g c =
         rules = meant.0;
         policy = policy;
         meant = meant.1;
-        writes = writes_unflushed policy reading old new before mid after c.in-Answered.field-0 served c.flush.ensures.kept;
+        writes =
+            writes_unflushed policy reading old new before mid after c.in-Answered.field-0 served c.flush.ensures.kept;
       },
     ))
 

@@ -21,5 +21,5 @@ returns-clause-exchanged g c =
     let at : ℤ → Type 0 =
     λ n. Serves g.S.Store g.G.Signer.signs g.G.Signer.fault_count g.W.Write.contents n turn c.serve_one.result
     in
-    exchanged g.S.Store g.G.Signer.signs g.G.Signer.fault_count g.W.Write.contents c.args.reading turn c.serve_one.result
-    (subst at (to_z-of_z fits) c.serve_one.ensures.served)
+    exchanged g.S.Store g.G.Signer.signs g.G.Signer.fault_count g.W.Write.contents c.args.reading turn
+    c.serve_one.result (subst at (to_z-of_z fits) c.serve_one.ensures.served)

@@ -26,7 +26,13 @@ returns-then-written-length-clause-sent g c =
     let n = c.write_octets-of_head.result in
     let octets = c.write_extract-written.result.octets in
     let whole : length head ≤ n =
-    omega (arith, c.if-of_head-len.false, c.len-2.ensures, c.as_bytes.ensures.len, ap length c.as_bytes.ensures.value) in
+    omega (
+      arith,
+      c.if-of_head-len.false,
+      c.len-2.ensures,
+      c.as_bytes.ensures.len,
+      ap length c.as_bytes.ensures.value,
+    ) in
     let sent : length head + octets ≡ c.len-then-written-length.result + octets =
     omega (arith, c.len-then-written-length.ensures, c.as_bytes.ensures.len, ap length c.as_bytes.ensures.value) in
     let P : ℕ → ℕ → Type 0 = λ status sent. SendsExtract g.S.Store g.W.Write.contents c.args.writer.now
@@ -46,7 +52,13 @@ returns-clause-sent g c =
     let n = c.write_octets-of_head.result in
     let octets = c.write_extract-written.result.octets in
     let whole : length head ≤ n =
-    omega (arith, c.if-of_head-len.false, c.len-2.ensures, c.as_bytes.ensures.len, ap length c.as_bytes.ensures.value) in
+    omega (
+      arith,
+      c.if-of_head-len.false,
+      c.len-2.ensures,
+      c.as_bytes.ensures.len,
+      ap length c.as_bytes.ensures.value,
+    ) in
     let least : c.args.length ≤ octets = omega (arith, c.if-written-length.false) in
     let P : ℕ → Type 0 = λ status. SendsExtract g.S.Store g.W.Write.contents c.args.writer.now
     c.write_extract-written.new.out c.args.store.now c.write_extract-written.new.store c.args.from c.args.to
