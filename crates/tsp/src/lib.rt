@@ -7,6 +7,7 @@ mod granted;
 mod imprint;
 mod integer;
 mod judging;
+mod message;
 mod object_identifier;
 mod reading;
 mod rejection;

@@ -8,4 +8,4 @@ wrap-requires c =
     let one = part_adds 2 (c.args.micros / 1000000) _ _ (omega arith) c.in_ok-append_part.ensures.ok in
     let two = part_adds 128 (c.args.micros / 1000 % 1000) _ _ (omega arith) c.in_ok-append_part-2.ensures.ok in
     let three = part_adds 129 (c.args.micros % 1000) _ _ (omega arith) c.in_ok-append_part-3.ensures.ok in
-    omega (arith, one, two, three, ap length c.new-parts.ensures)
+    omega (arith, one, two, three, ap length c.inner-parts.ensures)

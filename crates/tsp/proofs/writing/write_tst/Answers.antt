@@ -11,7 +11,7 @@ pub wrap-requires : goal.wrap-requires
 wrap-requires c =
     let text = tst_text (tst_view c.args.tst.now) _ _ _ _ _ _ _ _ _ _ c.new-members.ensures
     c.in_ok-append_value.ensures.ok (c.in_ok-append_value-2.ensures.ok
-    ∙ ap (λ x. c.append_value.new.writer ++ element 6 x) c.content.ensures.encoded)
+    ∙ ap (λ x. c.append_value.new.self ++ element 6 x) c.content.ensures.encoded)
     c.in_ok-append_imprint.ensures.ok
     c.in_ok-append_number.ensures.ok c.in_ok-append_time.ensures.ok c.in_ok-append_accuracy.ensures.ok
     c.in_ok-append_flag.ensures.ok c.in_ok-append_nonce.ensures.ok
@@ -24,7 +24,7 @@ pub returns-clause-text : goal.returns-clause-text
 returns-clause-text c =
     let text = tst_text (tst_view c.args.tst.now) _ _ _ _ _ _ _ _ _ _ c.new-members.ensures
     c.in_ok-append_value.ensures.ok (c.in_ok-append_value-2.ensures.ok
-    ∙ ap (λ x. c.append_value.new.writer ++ element 6 x) c.content.ensures.encoded)
+    ∙ ap (λ x. c.append_value.new.self ++ element 6 x) c.content.ensures.encoded)
     c.in_ok-append_imprint.ensures.ok
     c.in_ok-append_number.ensures.ok c.in_ok-append_time.ensures.ok c.in_ok-append_accuracy.ensures.ok
     c.in_ok-append_flag.ensures.ok c.in_ok-append_nonce.ensures.ok

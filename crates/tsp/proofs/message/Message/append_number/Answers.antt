@@ -3,7 +3,7 @@ use Rattle.std.proofs.Common.{◌≡◌, pos, length, arith, ap, ◌∙◌, rule
 use mir.Syntax.{w128}
 use Rattle.der.specs.Number.{number_content}
 use Rattle.tsp.proofs.TstLawful.{number_is_short}
-use Rattle.tsp.proofs.writing.append_number.Goals as goal
+use Rattle.tsp.proofs.message.Message.append_number.Goals as goal
 
 pub append_value-requires : goal.append_value-requires
 append_value-requires c =
