@@ -10,9 +10,6 @@ ghost use Rattle.counter.specs.Fault.{fault_line};
 ghost use Rattle.counter.specs.Hexadecimal.{line};
 ghost use Rattle.counter.specs.Writing.{Begins};
 
-#[cfg(test)]
-mod tests;
-
 use crate::answer::{answer, octets_of};
 use crate::check::{read_policy, write_counts};
 use crate::exchange::{exchange, serve};
