@@ -6,8 +6,6 @@ mod check;
 mod extracting;
 mod fault;
 mod line;
-#[cfg(test)]
-mod tests;
 mod writing;
 
 pub use check::check_row;

@@ -6,8 +6,7 @@ use Rattle.der.specs.ObjectIdentifier.{IsOid, oid_content}
 use Rattle.cms.specs.Identity.{IdentityValue}
 
 -- The parts of a certificate: what is in its version, if one stands, its serial number's contents octets, what is in
--- its
--- four SEQUENCEs, the further members of its TBSCertificate, and its own further members.
+-- its four SEQUENCEs, the further members of its TBSCertificate, and its own further members.
 pub record CertificateParts : Type 0 where
   pub version : Option Nodes
   pub serial : List ℕ

@@ -26,12 +26,10 @@ impl Model for Algorithm {
 
 impl Algorithm {
     /// The AlgorithmIdentifier that octets are: a lawful value, a SEQUENCE of an object identifier and at most one
-    /// value
-    /// more, its parameters, of any kind (RFC 5280 4.1.1.2).
+    /// value more, its parameters, of any kind (RFC 5280 4.1.1.2).
     ///
     /// Refused as `TooLarge` for more than 256 octets, which is judged first, as `NotCertificate` where the octets are
-    /// no
-    /// AlgorithmIdentifier, and as `Memory` where memory runs out.
+    /// no AlgorithmIdentifier, and as `Memory` where memory runs out.
     pub fn from_bytes(alloc: Global, octets: &[u8]) -> Result<Algorithm, CmsFault>
         ensures same { IfOk result (λ algorithm. algorithm ≡ octets.now) }
         ensures found { OnOk result (IsAlgorithm octets.now) }

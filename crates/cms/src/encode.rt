@@ -67,29 +67,3 @@ pub(crate) fn element_of(alloc: Global, tag: Tag, contents: &[u8]) -> Result<Vec
     append_element(&mut octets, tag, contents)?;
     Ok(octets)
 }
-
-#[cfg(test)]
-mod tests {
-    use super::*;
-    use std::test::Fail;
-
-    // As X.690 8.1.3 and 10.1 want them.
-    #[test]
-    fn writes_length_octets(rt: HostRuntime) -> Result<(), Fail> {
-        let cases: [(usize, &[u8]); 7] = [
-            (0, &[0x00]),
-            (127, &[0x7f]),
-            (128, &[0x81, 0x80]),
-            (201, &[0x81, 0xc9]),
-            (256, &[0x82, 0x01, 0x00]),
-            (16_777_216, &[0x84, 0x01, 0x00, 0x00, 0x00]),
-            (usize::MAX, &[0x88, 255, 255, 255, 255, 255, 255, 255, 255]),
-        ];
-        for (count, wanted) in cases {
-            let mut octets = Vec::new(rt.alloc());
-            append_length(&mut octets, count)?;
-            assert_eq!(rt; octets.as_slice(), wanted, "{count}");
-        }
-        Ok(())
-    }
-}

@@ -11,13 +11,11 @@ use std::io::{Read, Write};
 use std::marker::Model;
 
 /// Asks a key holder over any reader and writer: writes the text's frame, and reads the answer's. A frame is octets
-/// with
-/// their number in front, in four octets, most significant first.
+/// with their number in front, in four octets, most significant first.
 ///
 /// Text of 2^32 octets or more, an answer of none or of more than 4,096 octets, an end of the input, a read or a write
 /// that fails or takes nothing: each is `Failed`, and closes the session. From then on each call is `Failed` and
-/// touches
-/// neither end. Want of memory is met first, and leaves the session open.
+/// touches neither end. Want of memory is met first, and leaves the session open.
 #[derive(Drop)]
 pub struct FramedSigner<R, W> {
     alloc: Global,

@@ -42,16 +42,12 @@ impl Model for Identity {
 
 impl Identity {
     /// The identity that a certificate stands for: its octets are a lawful value, a SEQUENCE of a TBSCertificate and
-    /// any
-    /// further members (RFC 5280 4.1). The TBSCertificate has a version under [0], where it stands, a serial number in
-    /// the
-    /// shortest form, four SEQUENCEs (signature, issuer, validity, subject), and any further members. Nothing else of
-    /// it
-    /// is looked at.
+    /// any further members (RFC 5280 4.1). The TBSCertificate has a version under [0], where it stands, a serial number
+    /// in the shortest form, four SEQUENCEs (signature, issuer, validity, subject), and any further members. Nothing
+    /// else of it is looked at.
     ///
     /// Refused as `TooLarge` for more than 16,384 octets, which is judged first, as `NotCertificate` where the octets
-    /// are
-    /// no such certificate, and as `Memory` where memory runs out.
+    /// are no such certificate, and as `Memory` where memory runs out.
     pub fn from_certificate(alloc: Global, octets: &[u8]) -> Result<Identity, CmsFault>
         ensures found { IfOk result (λ identity. (p : CertificateParts)
             × (IsCertificate octets.now p × (identity ≡ identity_of octets.now p))) }

@@ -73,25 +73,3 @@ impl Signer for KeyedHash {
         0
     }
 }
-
-#[cfg(test)]
-mod tests {
-    use super::*;
-    use std::test::Fail;
-
-    // The digest is python3's hashlib.sha256(b"k" + b"abc").
-    #[test]
-    fn hashes_key_and_text(rt: HostRuntime) -> Result<(), Fail> {
-        let mut signer = KeyedHash::new(rt.alloc(), b"k")?;
-        let algorithm = b"\x30\x05\x06\x03\x88\x37\x09";
-        assert_eq!(rt; signer.algorithm().as_slice(), algorithm.as_slice());
-        let digest =
-            b"\xf7\x8a\x7b\x4e\x8a\x17\x04\xb4\x57\x87\x0d\xe7\xf2\xb5\xe5\x49\xa2\x86\xde\xc0\x91\xf0\x30\x57\xd9\xd8\
-            \x72\x9a\x9b\xc1\x01\xcc";
-        for _ in 0..2 {
-            assert_eq!(rt; signer.sign(b"abc")?.as_slice(), digest.as_slice());
-        }
-        assert_eq!(rt; signer.faults(), 0);
-        Ok(())
-    }
-}

@@ -13,8 +13,6 @@ mod place;
 mod signed_data;
 mod signer;
 mod tags;
-#[cfg(test)]
-mod tests;
 
 pub use algorithm::Algorithm;
 pub use fault::CmsFault;

@@ -189,8 +189,7 @@ pub fn attribute_text(alloc: Global, identity: &Identity, tst: &[u8]) -> Result<
 }
 
 /// A time-stamp token (RFC 3161 2.4.2, RFC 5652 5): the TSTInfo, signed under an algorithm, with the certificate where
-/// it
-/// is asked for. `tst` is the TSTInfo's encoding, and the signature has 1 to 4,096 octets. Refused only for want of
+/// it is asked for. `tst` is the TSTInfo's encoding, and the signature has 1 to 4,096 octets. Refused only for want of
 /// memory, as `Memory`.
 pub fn token(
     alloc: Global,

@@ -19,8 +19,7 @@ counter accuracy = record {
   accuracy_us = accuracy;
   fraction_digits = 3;
   ordering = false;
-  drift_ppb =
-      1000;
+  drift_ppb = 1000;
   max_age_us = 86400000000;
   anonymous = None;
 }
@@ -76,8 +75,7 @@ guest = record {
   key_sha256 = None;
   active = true;
   auditor = false;
-  policies =
-      codes "open" ∷ [];
+  policies = codes "open" ∷ [];
   daily_quota = 1000;
 }
 

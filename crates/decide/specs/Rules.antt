@@ -80,8 +80,7 @@ IsWithinQuota None count = Unit {0}
 IsWithinQuota (Some a) count = count < a.daily_quota
 
 -- Which rules hold of a request under a policy file. Whether the octets are a request, and what the clock, the day's
--- count and
--- the store say, isn't judged: these rules hold here.
+-- count and the store say, isn't judged: these rules hold here.
 abbrev pub HoldsOf : PolicyValue → Option AccountValue → RequestValue → Rule → Type 0
 HoldsOf file account r Spelling = Unit {0}
 HoldsOf file account r Version = HasVersionOne r

@@ -9,8 +9,7 @@ use Rattle.decide.specs.Rules.{HoldsOf, Holds, policy_asked}
 use Rattle.decide.specs.declared.facts.Facts.{Facts}
 
 -- what a stamp will say besides what its request says: the policy's object identifier, the genTime, and whether its
--- token
--- comes with the certificate
+-- token comes with the certificate
 pub record PlanValue : Type 0 where
   pub policy : List ℕ
   pub gen_time : ℕ

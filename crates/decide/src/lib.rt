@@ -8,8 +8,6 @@ mod facts;
 mod judge;
 mod laws;
 mod rules;
-#[cfg(test)]
-mod tests;
 mod verdict;
 
 pub use clock::{ClockState, clock_state, now_of};

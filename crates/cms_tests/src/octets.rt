@@ -1,6 +1,9 @@
 //! Octets from outside: a certificate that is written out by hand, certificates that `openssl req` and `openssl x509`
 //! made, and the tokens of RFC 5652 put together by hand from RFC 3161, RFC 5652 and RFC 5035.
 
+/// The algorithm 2.999.9, without parameters.
+pub static PRIVATE: &[u8] = b"\x30\x05\x06\x03\x88\x37\x09";
+
 /// A certificate of 102 octets, by hand; its keys are none.
 pub static PLAIN: &[u8] =
     b"\x30\x64\x30\x57\x02\x01\x07\x30\x05\x06\x03\x88\x37\x09\x30\x0e\x31\x0c\x30\x0a\x06\x03\x55\x04\x03\x0c\x03\x54\

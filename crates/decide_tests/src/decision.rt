@@ -1,10 +1,15 @@
 //! The verdict on requests under an example file, with the facts written out.
-use super::*;
+//!
+//! Calls without clauses: a test's proof needn't read the contracts of what it calls.
+use decide::{
+    Calibration, ClockFacts, ClockState, Facts, Hold, Verdict, clock_state, decide,
+    gen_times_are_one, judge_request, now_of, verdicts_are_of_octets, verdicts_are_one,
+};
 use gentime::GenTime;
-use policy::{EXAMPLE, Policy};
+use policy::{Account, EXAMPLE, Policy, PolicyFault};
 use std::alloc::Global;
 use std::test::Fail;
-use tsp::{Request, Rule, read_request};
+use tsp::{Request, Rule, TspFault};
 
 /// A SHA-256 hash.
 const PLAIN: &[u8] =
@@ -111,6 +116,21 @@ const BASE: Case = Case {
     expected: Ok("19700101000000Z"),
 };
 
+fn from_text(alloc: Global, text: &str) -> Result<Policy, PolicyFault> {
+    Policy::from_text(alloc, text)
+}
+
+fn read_request(octets: &[u8]) -> Result<Request<'_>, TspFault> {
+    tsp::read_request(octets)
+}
+
+fn account_named<'p>(policy: &'p Policy, name: Option<&str>) -> Option<&'p Account> {
+    match name {
+        Some(name) => policy.account_named(name),
+        None => None,
+    }
+}
+
 /// What the decision says on a request of the account with that name: the genTime and whether the certificate is
 /// wanted, or the rule that fails.
 fn decided(
@@ -119,10 +139,7 @@ fn decided(
     request: &Request<'_>,
     facts: &Facts,
 ) -> Result<(GenTime, bool), Rule> {
-    let account = match name {
-        Some(name) => policy.account_named(name),
-        None => None,
-    };
+    let account = account_named(policy, name);
     match decide(policy, account, request, facts) {
         Verdict::Allow(plan) => Ok((plan.gen_time, plan.certificate)),
         Verdict::Deny(rule) => Err(rule),
@@ -132,7 +149,7 @@ fn decided(
 /// Whether the verdict is what the case expects.
 fn is_met(alloc: Global, case: &Case) -> Result<bool, Fail> {
     let text = changed(alloc, case.change.0, case.change.1)?;
-    let policy = Policy::from_text(alloc, text.as_str())?;
+    let policy = from_text(alloc, text.as_str())?;
     let request = read_request(case.request)?;
     let last_gen_time = match case.last {
         Some(micros) => Some(GenTime::from_micros(micros)?),
@@ -520,10 +537,22 @@ fn judges_the_clock(rt: HostRuntime) -> Result<(), Fail> {
     Ok(())
 }
 
+/// Whether the moment of the reading is held.
+fn is_held(hold: &Hold, reading: i64, calibration: &Calibration) -> bool {
+    hold.contains(now_of(reading, calibration))
+}
+
+/// Whether the clock is bad, and the anonymous account's request is refused for it.
+fn is_bad(policy: &Policy, request: &Request<'_>, facts: &Facts) -> (bool, bool) {
+    let said = decided(policy, Some("guest"), request, facts);
+    let state = clock_state(&policy.counter, &facts.clock);
+    (state == ClockState::Bad, said == Err(Rule::Clock))
+}
+
 /// A hold from 0 to 1,000,000 holds its first moment, and not its end.
 #[test]
 fn holds(rt: HostRuntime) -> Result<(), Fail> {
-    let policy = Policy::from_text(rt.alloc(), EXAMPLE)?;
+    let policy = from_text(rt.alloc(), EXAMPLE)?;
     let request = read_request(PLAIN)?;
     let hold = Hold {
         from: 0,
@@ -533,9 +562,9 @@ fn holds(rt: HostRuntime) -> Result<(), Fail> {
         offset: -1,
         ..EXACT
     };
-    assert!(rt; !hold.contains(now_of(0, &before)));
+    assert!(rt; !is_held(&hold, 0, &before));
     for (reading, held) in [(0, true), (999_999, true), (1_000_000, false)] {
-        assert_eq!(rt; hold.contains(now_of(reading, &EXACT)), held, "{reading}");
+        assert!(rt; is_held(&hold, reading, &EXACT) == held, "{reading}");
         let clock = ClockFacts {
             reading,
             calibration: Some(EXACT),
@@ -543,40 +572,50 @@ fn holds(rt: HostRuntime) -> Result<(), Fail> {
             last_gen_time: None,
         };
         let facts = Facts { clock, count: 0 };
-        let said = decided(&policy, Some("guest"), &request, &facts);
-        assert_eq!(rt; said == Err(Rule::Clock), held, "{reading}");
-        assert_eq!(rt;
-            clock_state(&policy.counter, &clock) == ClockState::Bad,
-            held,
+        assert!(rt;
+            is_bad(&policy, &request, &facts) == (held, held),
             "{reading}"
         );
     }
     Ok(())
 }
 
+/// What the request alone is judged to be by the policy file, of the account of that name in another file; `None` is
+/// the anonymous account.
+fn judged(
+    policy: &Policy,
+    other: &Policy,
+    name: Option<&str>,
+    request: &Request<'_>,
+) -> Option<Rule> {
+    let account = match name {
+        Some(_) => account_named(other, name),
+        None => other.anonymous(),
+    };
+    judge_request(policy, account, request)
+}
+
 /// An account of another file, which differs in one field, isn't known; the request alone is judged as in the whole
 /// decision.
 #[test]
 fn knows_its_own_accounts(rt: HostRuntime) -> Result<(), Fail> {
-    let policy = Policy::from_text(rt.alloc(), EXAMPLE)?;
+    let policy = from_text(rt.alloc(), EXAMPLE)?;
     let text = changed(
         rt.alloc(),
         "daily_quota = 1000\n[[account]]\nname = \"alice\"",
         "daily_quota = 1001\n[[account]]\nname = \"alice\"",
     )?;
-    let other = Policy::from_text(rt.alloc(), text.as_str())?;
+    let other = from_text(rt.alloc(), text.as_str())?;
     let request = read_request(PLAIN)?;
-    assert_eq!(rt; judge_request(&policy, policy.anonymous(), &request), None);
-    assert_eq!(rt;
-        judge_request(&policy, other.anonymous(), &request),
-        Some(Rule::Account)
-    );
-    assert_eq!(rt;
-        judge_request(&policy, other.account_named("alice"), &request),
-        None
-    );
+    assert!(rt; judged(&policy, &policy, None, &request) == None);
+    assert!(rt; judged(&policy, &other, None, &request) == Some(Rule::Account));
+    assert!(rt; judged(&policy, &other, Some("alice"), &request) == None);
+    Ok(())
+}
+
+#[test]
+fn laws_hold(_rt: HostRuntime) {
     verdicts_are_one();
     verdicts_are_of_octets();
     gen_times_are_one();
-    Ok(())
 }

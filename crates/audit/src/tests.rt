@@ -1,5 +1,0 @@
-//! Worked rows.
-mod checking;
-mod extracting;
-mod refusals;
-mod setting;
