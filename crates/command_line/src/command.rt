@@ -1,216 +1,363 @@
 //! The command line, for `clap`.
-ghost use Rattle.std.specs.Prelude.{◌≡◌, IfOk};
-ghost use Rattle.clap.specs.Words.{app_of, new_app};
-ghost use Rattle.command_line.specs.Options.{answer_command, audit_command, bare_command, calibrate_command};
-ghost use Rattle.command_line.specs.Options.{check_command, counter_command, desk_options, exchange_command};
-ghost use Rattle.command_line.specs.Options.{hold_command, init_command, serve_command, tst_command, with_rules};
+ghost use Rattle.std.specs.Prelude.{◌≡◌, IfOk, codes, false};
+ghost use Rattle.clap.specs.Words.{app_of, new_app, rule_of};
+ghost use Rattle.command_line.specs.Options.{accuracy_option, answer_command, audit_command, bare_command};
+ghost use Rattle.command_line.specs.Options.{calibrate_command, certificate_option, check_command, connections_option};
+ghost use Rattle.command_line.specs.Options.{counter_command, desk_options, digits_option, exchange_command};
+ghost use Rattle.command_line.specs.Options.{from_option, hold_command, init_command, key_option, listen_option};
+ghost use Rattle.command_line.specs.Options.{moment_option, offset_option, optional_flag, serial_option, serve_command};
+ghost use Rattle.command_line.specs.Options.{signer_algorithm_option, signer_option, signing_key_option, text_option};
+ghost use Rattle.command_line.specs.Options.{to_option, tst_command, uncertainty_option, with_rules};
 
 use crate::options::{
     ACCURACIES, CONNECTIONS, DIGITS, MOMENTS, SERIALS, UNCERTAINTIES, WHOLE_NUMBERS,
     database_option, flag, number_option, optional_text_option, reading_option, rules_option,
     text_option,
 };
-use clap::Command;
+use clap::{Arg, Command};
 use std::alloc::{AllocError, Global};
+
+/// The policy of a request that states none.
+fn policy_option<'a>(alloc: Global) -> Arg<'a>
+    ensures rule { rule_of result ≡ text_option (codes "policy") }
+    ensures local { result.global ≡ false }
+{
+    text_option(alloc, "policy", "The policy where the request states none")
+}
+
+/// The moment.
+fn moment_option<'a>(alloc: Global) -> Arg<'a>
+    ensures rule { rule_of result ≡ moment_option }
+    ensures local { result.global ≡ false }
+{
+    number_option(alloc, "moment", MOMENTS, "Microseconds since 1970")
+}
+
+/// How many fraction digits the moment has.
+fn digits_option<'a>(alloc: Global) -> Arg<'a>
+    ensures rule { rule_of result ≡ digits_option }
+    ensures local { result.global ≡ false }
+{
+    number_option(alloc, "digits", DIGITS, "Fraction digits of a second")
+}
+
+/// The serial number.
+fn serial_option<'a>(alloc: Global) -> Arg<'a>
+    ensures rule { rule_of result ≡ serial_option }
+    ensures local { result.global ≡ false }
+{
+    number_option(alloc, "serial", SERIALS, "The serial number")
+}
+
+/// The accuracy.
+fn accuracy_option<'a>(alloc: Global) -> Arg<'a>
+    ensures rule { rule_of result ≡ accuracy_option }
+    ensures local { result.global ≡ false }
+{
+    number_option(alloc, "accuracy", ACCURACIES, "Microseconds of accuracy")
+}
+
+/// Whether tokens are ordered.
+fn ordering_flag<'a>(alloc: Global) -> Arg<'a>
+    ensures rule { rule_of result ≡ optional_flag (codes "ordering") }
+    ensures local { result.global ≡ false }
+{
+    flag(alloc, "ordering", "States that tokens are ordered")
+}
 
 fn tst_command<'a>(alloc: Global) -> Result<Command<'a>, AllocError>
     ensures { IfOk result (λ command. app_of command ≡ tst_command) }
 {
-    let policy = text_option(alloc, "policy", "The policy where the request states none");
-    let moment = number_option(alloc, "moment", MOMENTS, "Microseconds since 1970");
-    let digits = number_option(alloc, "digits", DIGITS, "Fraction digits of a second");
-    let serial = number_option(alloc, "serial", SERIALS, "The serial number");
-    let accuracy = number_option(alloc, "accuracy", ACCURACIES, "Microseconds of accuracy");
-    let ordering = flag(alloc, "ordering", "States that tokens are ordered");
     Command::new(alloc, "tst")
         .about("Reads a request in hexadecimal, and writes its TSTInfo or its rejection")
-        .arg(policy)?
-        .arg(moment)?
-        .arg(digits)?
-        .arg(serial)?
-        .arg(accuracy)?
-        .arg(ordering)
+        .arg(policy_option(alloc))?
+        .arg(moment_option(alloc))?
+        .arg(digits_option(alloc))?
+        .arg(serial_option(alloc))?
+        .arg(accuracy_option(alloc))?
+        .arg(ordering_flag(alloc))
 }
 
 fn check_command<'a>(alloc: Global) -> Result<Command<'a>, AllocError>
     ensures { IfOk result (λ command. app_of command ≡ check_command) }
 {
-    let rules = rules_option(alloc);
     Command::new(alloc, "check")
         .about(
             "Reads a policy file, and writes how many algorithms, extensions, policies and accounts it has",
         )
-        .arg(rules)
+        .arg(rules_option(alloc))
 }
 
 fn init_command<'a>(alloc: Global) -> Result<Command<'a>, AllocError>
     ensures { IfOk result (λ command. app_of command ≡ init_command) }
 {
-    let db = database_option(alloc);
     Command::new(alloc, "init")
         .about("Makes the tables of a new database")
-        .arg(db)
+        .arg(database_option(alloc))
+}
+
+/// How far the moment is from the reading.
+fn offset_option<'a>(alloc: Global) -> Arg<'a>
+    ensures rule { rule_of result ≡ offset_option }
+    ensures local { result.global ≡ false }
+{
+    number_option(
+        alloc,
+        "offset",
+        WHOLE_NUMBERS,
+        "Microseconds from the reading to the moment since 1970",
+    )
+}
+
+/// Whether the moment is before the reading.
+fn behind_flag<'a>(alloc: Global) -> Arg<'a>
+    ensures rule { rule_of result ≡ optional_flag (codes "behind") }
+    ensures local { result.global ≡ false }
+{
+    flag(
+        alloc,
+        "behind",
+        "The moment is before the reading: the offset is negative",
+    )
+}
+
+/// How far the true moment may be from that one.
+fn uncertainty_option<'a>(alloc: Global) -> Arg<'a>
+    ensures rule { rule_of result ≡ uncertainty_option }
+    ensures local { result.global ≡ false }
+{
+    number_option(
+        alloc,
+        "uncertainty",
+        UNCERTAINTIES,
+        "Microseconds by which that moment may be wrong",
+    )
 }
 
 fn calibrate_command<'a>(alloc: Global) -> Result<Command<'a>, AllocError>
     ensures { IfOk result (λ command. app_of command ≡ calibrate_command) }
 {
-    let db = database_option(alloc);
-    let reading = reading_option(alloc);
-    let offset = number_option(
-        alloc,
-        "offset",
-        WHOLE_NUMBERS,
-        "Microseconds from the reading to the moment since 1970",
-    );
-    let behind = flag(
-        alloc,
-        "behind",
-        "The moment is before the reading: the offset is negative",
-    );
-    let uncertainty = number_option(
-        alloc,
-        "uncertainty",
-        UNCERTAINTIES,
-        "Microseconds by which that moment may be wrong",
-    );
     Command::new(alloc, "calibrate")
         .about("Adds a calibration of the clock to the database")
-        .arg(db)?
-        .arg(reading)?
-        .arg(offset)?
-        .arg(behind)?
-        .arg(uncertainty)
+        .arg(database_option(alloc))?
+        .arg(reading_option(alloc))?
+        .arg(offset_option(alloc))?
+        .arg(behind_flag(alloc))?
+        .arg(uncertainty_option(alloc))
+}
+
+/// The first moment of a hold.
+fn first_moment_option<'a>(alloc: Global) -> Arg<'a>
+    ensures rule { rule_of result ≡ from_option }
+    ensures local { result.global ≡ false }
+{
+    number_option(
+        alloc,
+        "from",
+        WHOLE_NUMBERS,
+        "The first moment, in microseconds since 1970",
+    )
+}
+
+/// The first moment after a hold.
+fn end_option<'a>(alloc: Global) -> Arg<'a>
+    ensures rule { rule_of result ≡ to_option }
+    ensures local { result.global ≡ false }
+{
+    number_option(
+        alloc,
+        "to",
+        WHOLE_NUMBERS,
+        "The first moment after the hold",
+    )
 }
 
 fn hold_command<'a>(alloc: Global) -> Result<Command<'a>, AllocError>
     ensures { IfOk result (λ command. app_of command ≡ hold_command) }
 {
-    let db = database_option(alloc);
-    let from = number_option(
-        alloc,
-        "from",
-        WHOLE_NUMBERS,
-        "The first moment, in microseconds since 1970",
-    );
-    let to = number_option(
-        alloc,
-        "to",
-        WHOLE_NUMBERS,
-        "The first moment after the hold",
-    );
     Command::new(alloc, "hold")
         .about("Adds a hold to the database: moments at which no token is given")
-        .arg(db)?
-        .arg(from)?
-        .arg(to)
+        .arg(database_option(alloc))?
+        .arg(first_moment_option(alloc))?
+        .arg(end_option(alloc))
+}
+
+/// The certificate's path.
+fn certificate_option<'a>(alloc: Global) -> Arg<'a>
+    ensures rule { rule_of result ≡ certificate_option }
+    ensures local { result.global ≡ false }
+{
+    text_option(alloc, "certificate", "The certificate, a DER file")
+}
+
+/// The path of the stand-in signer's key.
+fn signing_key_option<'a>(alloc: Global) -> Arg<'a>
+    ensures rule { rule_of result ≡ signing_key_option }
+    ensures local { result.global ≡ false }
+{
+    optional_text_option(
+        alloc,
+        "signing-key",
+        "The key of the stand-in signer, a file; or --signer and --signer-algorithm",
+    )
+}
+
+/// The address of a signer.
+fn signer_option<'a>(alloc: Global) -> Arg<'a>
+    ensures rule { rule_of result ≡ signer_option }
+    ensures local { result.global ≡ false }
+{
+    optional_text_option(
+        alloc,
+        "signer",
+        "The address of a signer in another process, as 127.0.0.1:4000",
+    )
+}
+
+/// The path of the algorithm of a signer.
+fn signer_algorithm_option<'a>(alloc: Global) -> Arg<'a>
+    ensures rule { rule_of result ≡ signer_algorithm_option }
+    ensures local { result.global ≡ false }
+{
+    optional_text_option(
+        alloc,
+        "signer-algorithm",
+        "The algorithm of that signer, a DER file",
+    )
 }
 
 /// A command that answers requests, with what the desk stands on.
 fn desk_command<'a>(alloc: Global, name: &'a str, about: &'a str) -> Result<Command<'a>, AllocError>
     ensures { IfOk result (λ command. app_of command ≡ with_rules desk_options (new_app name.now)) }
 {
-    let db = database_option(alloc);
-    let rules = rules_option(alloc);
-    let certificate = text_option(alloc, "certificate", "The certificate, a DER file");
-    let signing_key = optional_text_option(
-        alloc,
-        "signing-key",
-        "The key of the stand-in signer, a file; or --signer and --signer-algorithm",
-    );
-    let signer = optional_text_option(
-        alloc,
-        "signer",
-        "The address of a signer in another process, as 127.0.0.1:4000",
-    );
-    let signer_algorithm = optional_text_option(
-        alloc,
-        "signer-algorithm",
-        "The algorithm of that signer, a DER file",
-    );
     Command::new(alloc, name)
         .about(about)
-        .arg(db)?
-        .arg(rules)?
-        .arg(certificate)?
-        .arg(signing_key)?
-        .arg(signer)?
-        .arg(signer_algorithm)
+        .arg(database_option(alloc))?
+        .arg(rules_option(alloc))?
+        .arg(certificate_option(alloc))?
+        .arg(signing_key_option(alloc))?
+        .arg(signer_option(alloc))?
+        .arg(signer_algorithm_option(alloc))
+}
+
+/// The key of the account that asks.
+fn key_option<'a>(alloc: Global) -> Arg<'a>
+    ensures rule { rule_of result ≡ key_option }
+    ensures local { result.global ≡ false }
+{
+    optional_text_option(
+        alloc,
+        "key",
+        "The account's key; without it the anonymous account asks",
+    )
 }
 
 /// The words of `answer`.
 pub fn answer_command<'a>(alloc: Global) -> Result<Command<'a>, AllocError>
     ensures { IfOk result (λ command. app_of command ≡ answer_command) }
 {
-    let reading = reading_option(alloc);
-    let key = optional_text_option(
-        alloc,
-        "key",
-        "The account's key; without it the anonymous account asks",
-    );
     desk_command(
         alloc,
         "answer",
         "Reads a request in hexadecimal, and writes its token or its rejection",
     )?
-    .arg(reading)?
-    .arg(key)
+    .arg(reading_option(alloc))?
+    .arg(key_option(alloc))
 }
 
 /// The words of `exchange`.
 pub fn exchange_command<'a>(alloc: Global) -> Result<Command<'a>, AllocError>
     ensures { IfOk result (λ command. app_of command ≡ exchange_command) }
 {
-    let reading = reading_option(alloc);
     desk_command(
         alloc,
         "exchange",
         "Reads one HTTP request from standard input, and writes its answer",
     )?
-    .arg(reading)
+    .arg(reading_option(alloc))
+}
+
+/// The address to listen on.
+fn listen_option<'a>(alloc: Global) -> Arg<'a>
+    ensures rule { rule_of result ≡ listen_option }
+    ensures local { result.global ≡ false }
+{
+    text_option(
+        alloc,
+        "listen",
+        "The address to listen on, as 127.0.0.1:8080",
+    )
+}
+
+/// How many connections are served.
+fn connections_option<'a>(alloc: Global) -> Arg<'a>
+    ensures rule { rule_of result ≡ connections_option }
+    ensures local { result.global ≡ false }
+{
+    number_option(
+        alloc,
+        "connections",
+        CONNECTIONS,
+        "How many connections are served, one after the other",
+    )
 }
 
 /// The words of `serve`.
 pub fn serve_command<'a>(alloc: Global) -> Result<Command<'a>, AllocError>
     ensures { IfOk result (λ command. app_of command ≡ serve_command) }
 {
-    let listen = text_option(
-        alloc,
-        "listen",
-        "The address to listen on, as 127.0.0.1:8080",
-    );
-    let connections = number_option(
-        alloc,
-        "connections",
-        CONNECTIONS,
-        "How many connections are served, one after the other",
-    );
     desk_command(alloc, "serve", "Answers HTTP requests at an address")?
-        .arg(listen)?
-        .arg(connections)
+        .arg(listen_option(alloc))?
+        .arg(connections_option(alloc))
+}
+
+/// The name of the account that asks.
+fn account_option<'a>(alloc: Global) -> Arg<'a>
+    ensures rule { rule_of result ≡ text_option (codes "account") }
+    ensures local { result.global ≡ false }
+{
+    text_option(
+        alloc,
+        "account",
+        "The name of the account that asks, an auditor",
+    )
+}
+
+/// The first serial number of an extract.
+fn first_serial_option<'a>(alloc: Global) -> Arg<'a>
+    ensures rule { rule_of result ≡ from_option }
+    ensures local { result.global ≡ false }
+{
+    number_option(alloc, "from", WHOLE_NUMBERS, "The first serial number")
+}
+
+/// The last serial number of an extract.
+fn last_serial_option<'a>(alloc: Global) -> Arg<'a>
+    ensures rule { rule_of result ≡ to_option }
+    ensures local { result.global ≡ false }
+{
+    number_option(alloc, "to", WHOLE_NUMBERS, "The last serial number")
+}
+
+/// Whether each row is checked.
+fn check_flag<'a>(alloc: Global) -> Arg<'a>
+    ensures rule { rule_of result ≡ optional_flag (codes "check") }
+    ensures local { result.global ≡ false }
+{
+    flag(alloc, "check", "Checks each row, and names those that fail")
 }
 
 fn audit_command<'a>(alloc: Global) -> Result<Command<'a>, AllocError>
     ensures { IfOk result (λ command. app_of command ≡ audit_command) }
 {
-    let db = database_option(alloc);
-    let rules = rules_option(alloc);
-    let account = text_option(
-        alloc,
-        "account",
-        "The name of the account that asks, an auditor",
-    );
-    let from = number_option(alloc, "from", WHOLE_NUMBERS, "The first serial number");
-    let to = number_option(alloc, "to", WHOLE_NUMBERS, "The last serial number");
-    let check = flag(alloc, "check", "Checks each row, and names those that fail");
     Command::new(alloc, "audit")
         .about("Writes the stamps of a range of serial numbers as comma-separated values")
-        .arg(db)?
-        .arg(rules)?
-        .arg(account)?
-        .arg(from)?
-        .arg(to)?
-        .arg(check)
+        .arg(database_option(alloc))?
+        .arg(rules_option(alloc))?
+        .arg(account_option(alloc))?
+        .arg(first_serial_option(alloc))?
+        .arg(last_serial_option(alloc))?
+        .arg(check_flag(alloc))
 }
 
 fn bare_command<'a>(alloc: Global) -> Command<'a>

@@ -1,4 +1,6 @@
 //! Words that are taken, refused, or ask for help.
+//!
+//! Calls without clauses: a test's proof needn't read the contracts of what it calls.
 use command_line::{
     AnswerWords, AuditWords, CalibrateWords, CheckWords, DeskWords, ExchangeWords, HoldWords,
     InitWords, Refusal, ServeWords, SignerWords, TstWords, Word,
@@ -14,6 +16,37 @@ fn words_of(alloc: Global, line: &str) -> Result<Vec<String>, AllocError> {
         words.push(String::from_str(alloc, word)?)?;
     }
     Ok(words)
+}
+
+fn parse<'a>(alloc: Global, words: &'a [String]) -> Result<Word<'a>, Refusal> {
+    Word::parse(alloc, words)
+}
+
+/// Whether the line's words are taken, and ask for that.
+fn is_taken(alloc: Global, line: &str, asked: Word<'_>) -> Result<bool, Fail> {
+    let words = words_of(alloc, line)?;
+    match parse(alloc, words.as_slice()) {
+        Ok(word) => Ok(word == asked),
+        Err(_) => Ok(false),
+    }
+}
+
+/// The text of the line's mistake; `None` where it has another answer.
+fn mistake_of(alloc: Global, line: &str) -> Result<Option<String>, Fail> {
+    let words = words_of(alloc, line)?;
+    match parse(alloc, words.as_slice()) {
+        Err(Refusal::Mistake(text)) => Ok(Some(text)),
+        _ => Ok(None),
+    }
+}
+
+/// The text of help that the line asks for; `None` where it has another answer.
+fn help_of(alloc: Global, line: &str) -> Result<Option<String>, Fail> {
+    let words = words_of(alloc, line)?;
+    match parse(alloc, words.as_slice()) {
+        Err(Refusal::Help(text)) => Ok(Some(text)),
+        _ => Ok(None),
+    }
 }
 
 const TST: TstWords<'static> = TstWords {
@@ -201,15 +234,6 @@ const EXTRACTS_TAKEN: [(&str, Word<'static>); 2] = [
     ),
 ];
 
-/// Whether the line's words are taken, and ask for that.
-fn is_taken(alloc: Global, line: &str, asked: Word<'_>) -> Result<bool, Fail> {
-    let words = words_of(alloc, line)?;
-    match Word::parse(alloc, words.as_slice()) {
-        Ok(word) => Ok(word == asked),
-        Err(_) => Ok(false),
-    }
-}
-
 #[test]
 fn words_of_requests_are_taken(rt: HostRuntime) -> Result<(), Fail> {
     for (line, asked) in REQUESTS_TAKEN {
@@ -296,11 +320,8 @@ const REFUSED: [&str; 56] = [
 #[test]
 fn words_are_refused(rt: HostRuntime) -> Result<(), Fail> {
     for line in REFUSED {
-        let words = words_of(rt.alloc(), line)?;
-        match Word::parse(rt.alloc(), words.as_slice()) {
-            Err(Refusal::Mistake(text)) => assert!(rt; !text.is_empty(), "{line}"),
-            _ => return Err(Fail::from(line)),
-        }
+        let text = mistake_of(rt.alloc(), line)?.ok_or(line)?;
+        assert!(rt; !text.is_empty(), "{line}");
     }
     Ok(())
 }
@@ -373,17 +394,24 @@ const UNSIGNED: [(&str, &str); 3] = [
     ),
 ];
 
+/// Whether the line is a mistake of that text.
+fn is_mistake(alloc: Global, line: &str, text: &str) -> Result<bool, Fail> {
+    match mistake_of(alloc, line)? {
+        Some(found) => Ok(found.as_str() == text),
+        None => Ok(false),
+    }
+}
+
 #[test]
 fn mixed_signers_are_refused(rt: HostRuntime) -> Result<(), Fail> {
     for (line, end) in UNSIGNED {
         for (options, beginning) in MIXED {
             let line = format!(in rt.alloc(); "{line}{options}")?;
             let told = format!(in rt.alloc(); "{beginning}{end}")?;
-            let words = words_of(rt.alloc(), line.as_str())?;
-            match Word::parse(rt.alloc(), words.as_slice()) {
-                Err(Refusal::Mistake(text)) => assert_eq!(rt; text.as_str(), told.as_str()),
-                _ => return Err(Fail::from(line.as_str())),
-            }
+            assert!(rt;
+                is_mistake(rt.alloc(), line.as_str(), told.as_str())?,
+                "{line}"
+            );
         }
     }
     Ok(())
@@ -458,14 +486,9 @@ const OPTIONS: [&str; 7] = [
 #[test]
 fn help_is_asked(rt: HostRuntime) -> Result<(), Fail> {
     for (line, named) in HELP {
-        let words = words_of(rt.alloc(), line)?;
-        match Word::parse(rt.alloc(), words.as_slice()) {
-            Err(Refusal::Help(text)) => {
-                for name in named {
-                    assert!(rt; text.contains(*name), "{line}: {name}");
-                }
-            }
-            _ => return Err(Fail::from(line)),
+        let text = help_of(rt.alloc(), line)?.ok_or(line)?;
+        for name in named {
+            assert!(rt; text.contains(*name), "{line}: {name}");
         }
     }
     Ok(())

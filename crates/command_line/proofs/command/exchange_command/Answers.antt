@@ -6,5 +6,5 @@ use Rattle.command_line.proofs.command.exchange_command.Goals as goal
 pub returns : goal.returns
 returns c =
     IfOk-weaker c.arg.result _ _ (λ command adds. adds_option _ reading_option _ command _
-    c.in_ok-desk_command.ensures adds c.reading_option-reading.ensures.local c.reading_option-reading.ensures.rule)
+    c.in_ok-desk_command.ensures adds c.reading_option.ensures.local c.reading_option.ensures.rule)
     c.arg.ensures

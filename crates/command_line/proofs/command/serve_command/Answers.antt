@@ -6,6 +6,6 @@ use Rattle.command_line.proofs.command.serve_command.Goals as goal
 pub returns : goal.returns
 returns c =
     let one = adds_option _ listen_option _ _ _ c.in_ok-desk_command.ensures c.in_ok-arg.ensures
-    c.text_option-listen.ensures.local c.text_option-listen.ensures.rule in
+    c.listen_option.ensures.local c.listen_option.ensures.rule in
     IfOk-weaker c.arg-2.result _ _ (λ command adds. adds_option _ connections_option _ command _ one adds
-    c.number_option-connections.ensures.local c.number_option-connections.ensures.rule) c.arg-2.ensures
+    c.connections_option.ensures.local c.connections_option.ensures.rule) c.arg-2.ensures
