@@ -1,7 +1,11 @@
 //! Clients that write before they are served, and read afterwards.
+//!
+//! Calls without clauses: a test's proof needn't read the contracts of what it calls.
 use super::setting::{calibrated, example};
 use cms::{KeyedHash, Signer};
 use connections::{Clock, ClockFailed, serve_connections};
+use desk::Desk;
+use sqlite::Alter;
 use std::alloc::Global;
 use std::io::{Read, Write};
 use std::net::{TcpListener, TcpStream};
@@ -43,11 +47,16 @@ pub fn listening(rt: &HostRuntime) -> Result<TcpListener, Fail> {
     Ok(TcpListener::bind(rt, "127.0.0.1:0")?)
 }
 
-/// A connection to it, into which octets are written; what is written goes out at once.
-pub fn client(rt: &HostRuntime, listener: &TcpListener, octets: &[u8]) -> Result<TcpStream, Fail> {
-    let mut stream = TcpStream::connect(rt, listener.local_addr()?)?;
+fn connected(rt: &HostRuntime, listener: &TcpListener) -> Result<TcpStream, Fail> {
+    let stream = TcpStream::connect(rt, listener.local_addr()?)?;
     stream.set_nodelay(true)?;
     stream.set_read_timeout(Some(long()))?;
+    Ok(stream)
+}
+
+/// A connection to it, into which octets are written; what is written goes out at once.
+pub fn client(rt: &HostRuntime, listener: &TcpListener, octets: &[u8]) -> Result<TcpStream, Fail> {
+    let mut stream = connected(rt, listener)?;
     stream.write_all(octets)?;
     Ok(stream)
 }
@@ -57,6 +66,23 @@ pub fn received(alloc: Global, stream: &mut TcpStream) -> Result<Vec<u8>, Fail> 
     let mut octets = Vec::new(alloc);
     stream.read_to_end(&mut octets)?;
     Ok(octets)
+}
+
+/// The stand-in signer.
+pub fn keyed(alloc: Global) -> Result<KeyedHash, Fail> {
+    Ok(KeyedHash::new(alloc, b"k")?)
+}
+
+fn serve<R: AllocGlobal + std::time::Clock, C: Clock, S: Alter + Drop, G: Signer>(
+    rt: &R,
+    listener: &TcpListener,
+    count: u32,
+    limit: Duration,
+    clock: &mut C,
+    desk: &mut Desk<'_, S>,
+    signer: &mut G,
+) -> Result<(), ClockFailed> {
+    serve_connections(rt, listener, count, limit, clock, desk, signer)
 }
 
 /// Serves so many connections by a desk of its own: how that ends.
@@ -72,38 +98,74 @@ pub fn serving<R: AllocGlobal + std::time::Clock, G: Signer>(
     let setting = example(alloc)?;
     let mut desk = calibrated(alloc, &setting)?;
     let mut clock = FixedClock { left: readings };
-    Ok(serve_connections(rt, listener, count, limit, &mut clock, &mut desk, signer))
+    Ok(serve(rt, listener, count, limit, &mut clock, &mut desk, signer))
+}
+
+/// Sees that the clock didn't fail.
+pub fn ends_well(ended: Result<(), ClockFailed>) -> Result<(), Fail> {
+    match ended {
+        Ok(()) => Ok(()),
+        Err(fault) => Err(Fail::from(fault)),
+    }
+}
+
+/// What a client writes, and what it gets.
+pub type Exchanged<'a> = (&'a [u8], &'a [u8]);
+
+fn clients(
+    rt: &HostRuntime,
+    listener: &TcpListener,
+    rows: &[Exchanged<'_>],
+) -> Result<Vec<TcpStream>, Fail> {
+    let mut clients = Vec::new(rt.alloc());
+    for (octets, _) in rows {
+        clients.push(client(rt, listener, octets)?)?;
+    }
+    Ok(clients)
+}
+
+fn is_received(alloc: Global, stream: &mut TcpStream, wanted: &[u8]) -> Result<bool, Fail> {
+    Ok(received(alloc, stream)?.as_slice() == wanted)
+}
+
+fn receive(alloc: Global, clients: Vec<TcpStream>, rows: &[Exchanged<'_>]) -> Result<(), Fail> {
+    let mut clients = clients;
+    for (stream, (_, wanted)) in clients.iter_mut().zip(rows) {
+        if !is_received(alloc, stream, wanted)? {
+            return Err(Fail::new("another answer came"));
+        }
+    }
+    Ok(())
 }
 
 /// Clients write octets, each over a connection of its own, and get others; how serving them in that order ends.
 pub fn exchange<G: Signer>(
     rt: &HostRuntime,
-    rows: &[(&[u8], &[u8])],
+    rows: &[Exchanged<'_>],
     limit: Duration,
     readings: u32,
     signer: &mut G,
 ) -> Result<Result<(), ClockFailed>, Fail> {
-    let alloc = rt.alloc();
     let listener = listening(rt)?;
-    let mut clients = Vec::new(alloc);
-    for (octets, _) in rows {
-        clients.push(client(rt, &listener, octets)?)?;
-    }
+    let clients = clients(rt, &listener, rows)?;
     let count = u32::try_from(rows.len())?;
     let ended = serving(rt, &listener, count, limit, readings, signer)?;
-    for (stream, (_, wanted)) in clients.iter_mut().zip(rows) {
-        if received(alloc, stream)?.as_slice() != *wanted {
-            return Err(Fail::new("another answer came"));
-        }
-    }
+    receive(rt.alloc(), clients, rows)?;
     Ok(ended)
 }
 
-/// The same with a stand-in signer and a clock that doesn't fail.
-pub fn answers(rt: &HostRuntime, rows: &[(&[u8], &[u8])], limit: Duration) -> Result<(), Fail> {
-    let mut signer = KeyedHash::new(rt.alloc(), b"k")?;
-    match exchange(rt, rows, limit, u32::MAX, &mut signer)? {
-        Ok(()) => Ok(()),
-        Err(fault) => Err(Fail::from(fault)),
-    }
+/// The same with a clock that doesn't fail.
+pub fn exchanged<G: Signer>(
+    rt: &HostRuntime,
+    rows: &[Exchanged<'_>],
+    limit: Duration,
+    readings: u32,
+    signer: &mut G,
+) -> Result<(), Fail> {
+    ends_well(exchange(rt, rows, limit, readings, signer)?)
+}
+
+/// The same with a stand-in signer.
+pub fn answers(rt: &HostRuntime, rows: &[Exchanged<'_>], limit: Duration) -> Result<(), Fail> {
+    exchanged(rt, rows, limit, u32::MAX, &mut keyed(rt.alloc())?)
 }

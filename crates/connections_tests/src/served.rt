@@ -1,10 +1,13 @@
 //! Connections that are served, each for what the one before it left.
-use super::exchanges::{answers, client, exchange, listening, long, serving, short};
+use super::exchanges::{
+    answers, client, ends_well, exchange, exchanged, keyed, listening, long, serving, short,
+};
 use super::octets::{GRANTED_WITH, RULE_1, WITH_CERTIFICATE};
 use super::setting::{EMPTY, QUERY, REPLY, answer, request};
-use cms::KeyedHash;
 use connections::ClockFailed;
+use std::alloc::Global;
 use std::io::{Read, Write};
+use std::net::TcpStream;
 use std::test::Fail;
 
 #[test]
@@ -22,9 +25,7 @@ fn serves_three_clients(rt: HostRuntime) -> Result<(), Fail> {
 
 #[test]
 fn serves_none(rt: HostRuntime) -> Result<(), Fail> {
-    let mut signer = KeyedHash::new(rt.alloc(), b"k")?;
-    assert_eq!(rt; exchange(&rt, &[], long(), 0, &mut signer)?, Ok(()));
-    Ok(())
+    exchanged(&rt, &[], long(), 0, &mut keyed(rt.alloc())?)
 }
 
 // One that is silent, and one that writes half a head: nothing is written to them, and the next is answered.
@@ -40,12 +41,11 @@ fn goes_on_behind_those_that_are_silent(rt: HostRuntime) -> Result<(), Fail> {
 #[test]
 fn ends_where_the_clock_fails(rt: HostRuntime) -> Result<(), Fail> {
     let alloc = rt.alloc();
-    let mut signer = KeyedHash::new(alloc, b"k")?;
     let rejected = answer(alloc, "200 OK", REPLY, RULE_1)?;
     let empty = EMPTY.as_bytes();
     let rows: [(&[u8], &[u8]); 2] = [(empty, &rejected), (empty, b"")];
-    let ended = exchange(&rt, &rows, long(), 1, &mut signer)?;
-    assert_eq!(rt; ended, Err(ClockFailed));
+    let ended = exchange(&rt, &rows, long(), 1, &mut keyed(alloc)?)?;
+    assert!(rt; ended == Err(ClockFailed));
     Ok(())
 }
 
@@ -64,17 +64,8 @@ fn tells_whole_that_a_body_is_too_long(rt: HostRuntime) -> Result<(), Fail> {
     answers(&rt, &[(&long, &refused)], short())
 }
 
-// The body comes once the head has been refused, and the answer is there before it.
-#[test]
-fn tells_it_before_the_body(rt: HostRuntime) -> Result<(), Fail> {
-    let alloc = rt.alloc();
-    let mut signer = KeyedHash::new(alloc, b"k")?;
-    let listener = listening(&rt)?;
-    let head: &[u8] = b"POST /tsp HTTP/1.1\r\nContent-Length: 1048577\r\n\r\n";
-    let mut stream = client(&rt, &listener, head)?;
-    let ended = serving(&rt, &listener, 1, short(), 1, &mut signer)?;
-    assert_eq!(rt; ended, Ok(()));
-    let _ = stream.write_all(&[7; 40_000]);
+/// Sees that this comes first.
+fn comes(alloc: Global, stream: &mut TcpStream) -> Result<(), Fail> {
     let mut written = [0u8; 112];
     stream.read_exact(&mut written)?;
     let refused = answer(
@@ -83,6 +74,20 @@ fn tells_it_before_the_body(rt: HostRuntime) -> Result<(), Fail> {
         "text/plain",
         b"413 TooLarge\n",
     )?;
-    assert_eq!(rt; written.as_slice(), refused.as_slice());
-    Ok(())
+    if written.as_slice() == refused.as_slice() {
+        Ok(())
+    } else {
+        Err(Fail::new("another answer came"))
+    }
+}
+
+// The body comes once the head has been refused, and the answer is there before it.
+#[test]
+fn tells_it_before_the_body(rt: HostRuntime) -> Result<(), Fail> {
+    let listener = listening(&rt)?;
+    let head: &[u8] = b"POST /tsp HTTP/1.1\r\nContent-Length: 1048577\r\n\r\n";
+    let mut stream = client(&rt, &listener, head)?;
+    ends_well(serving(&rt, &listener, 1, short(), 1, &mut keyed(rt.alloc())?)?)?;
+    let _ = stream.write_all(&[7; 40_000]);
+    comes(rt.alloc(), &mut stream)
 }

@@ -1,4 +1,6 @@
 //! A desk over a database in memory, requests and answers.
+//!
+//! Calls without clauses: a test's proof needn't read the contracts of what it calls.
 use super::octets::{ALGORITHM, CERTIFICATE};
 use cms::{Algorithm, Identity};
 use desk::Desk;
@@ -6,7 +8,7 @@ use policy::{EXAMPLE, Policy};
 use sqlite::{Connection, MemStore};
 use std::alloc::Global;
 use std::test::Fail;
-use store::{Calibration, Store};
+use store::{Calibration, Store, StoreFault};
 
 /// With what a desk is opened.
 #[derive(Drop)]
@@ -16,35 +18,61 @@ pub struct Setting {
     pub algorithm: Algorithm,
 }
 
+fn policy(alloc: Global) -> Result<Policy, Fail> {
+    Ok(Policy::from_text(alloc, EXAMPLE)?)
+}
+
+fn identity(alloc: Global) -> Result<Identity, Fail> {
+    Ok(Identity::from_certificate(alloc, CERTIFICATE)?)
+}
+
+/// The algorithm of the keyed hash.
+pub fn algorithm(alloc: Global) -> Result<Algorithm, Fail> {
+    Ok(Algorithm::from_bytes(alloc, ALGORITHM)?)
+}
+
 pub fn example(alloc: Global) -> Result<Setting, Fail> {
     Ok(Setting {
-        policy: Policy::from_text(alloc, EXAMPLE)?,
-        identity: Identity::from_certificate(alloc, CERTIFICATE)?,
-        algorithm: Algorithm::from_bytes(alloc, ALGORITHM)?,
+        policy: policy(alloc)?,
+        identity: identity(alloc)?,
+        algorithm: algorithm(alloc)?,
     })
 }
 
-/// A desk over a store with one calibration, of a clock that is right.
-pub fn calibrated(alloc: Global, setting: &Setting) -> Result<Desk<'_, MemStore>, Fail> {
+fn empty(alloc: Global) -> Result<Store<MemStore>, Fail> {
     let conn = Connection::open_in_memory(alloc)?;
     if !conn.is_autocommit() {
         return Err(Fail::new("a transaction is open"));
     }
-    let mut store = Store::create(alloc, conn).map_err(|(fault, _)| Fail::new(format_args!(
-        "create: {fault:?}"
-    )))?;
+    match Store::create(alloc, conn) {
+        Ok(store) => Ok(store),
+        Err((fault, _)) => Err(Fail::new(format_args!("create: {fault:?}"))),
+    }
+}
+
+fn calibrate(store: &mut Store<MemStore>) -> Result<(), StoreFault> {
     store.calibrate(&Calibration {
         reading: 0,
         offset: 0,
         uncertainty: 0,
-    })?;
-    Ok(Desk::new(
+    })
+}
+
+fn desk_of(alloc: Global, setting: &Setting, store: Store<MemStore>) -> Desk<'_, MemStore> {
+    Desk::new(
         alloc,
         &setting.policy,
         &setting.identity,
         &setting.algorithm,
         store,
-    ))
+    )
+}
+
+/// A desk over a store with one calibration, of a clock that is right.
+pub fn calibrated(alloc: Global, setting: &Setting) -> Result<Desk<'_, MemStore>, Fail> {
+    let mut store = empty(alloc)?;
+    calibrate(&mut store)?;
+    Ok(desk_of(alloc, setting, store))
 }
 
 /// An empty time-stamp request.

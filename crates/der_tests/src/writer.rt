@@ -1,4 +1,6 @@
 //! What is written: headers, elements, and what is refused.
+//!
+//! Calls without clauses: a test's proof needn't read the contracts of what it calls.
 use der::{DerFault, Tag, Writer};
 use std::alloc::Global;
 use std::test::Fail;
@@ -6,68 +8,92 @@ use std::test::Fail;
 /// How many octets are wrapped, with the identifier and length octets that X.690 10.1 wants in front of them.
 const HEADERS: &[(usize, &[u8])] = &[
     (0, &[0x30, 0x00]),
-    (127, &[0x30, 0x7f]),
-    (128, &[0x30, 0x81, 0x80]),
-    (201, &[0x30, 0x81, 0xc9]),
-    (255, &[0x30, 0x81, 0xff]),
-    (256, &[0x30, 0x82, 0x01, 0x00]),
-    (65_535, &[0x30, 0x82, 0xff, 0xff]),
-    (65_536, &[0x30, 0x83, 0x01, 0x00, 0x00]),
-    (0x012345, &[0x30, 0x83, 0x01, 0x23, 0x45]),
-    (16_777_215, &[0x30, 0x83, 0xff, 0xff, 0xff]),
+    (127, b"\x30\x7f"),
+    (128, b"\x30\x81\x80"),
+    (201, b"\x30\x81\xc9"),
+    (255, b"\x30\x81\xff"),
+    (256, b"\x30\x82\x01\x00"),
+    (65_535, b"\x30\x82\xff\xff"),
+    (65_536, b"\x30\x83\x01\x00\x00"),
+    (0x012345, b"\x30\x83\x01\x23\x45"),
+    (16_777_215, b"\x30\x83\xff\xff\xff"),
 ];
+
+fn append(writer: &mut Writer, octets: &[u8]) -> Result<(), DerFault> {
+    writer.append(octets)
+}
+
+fn append_element(writer: &mut Writer, tag: Tag, contents: &[u8]) -> Result<(), DerFault> {
+    writer.append_element(tag, contents)
+}
+
+fn wrap(writer: &mut Writer, tag: Tag) -> Result<(), DerFault> {
+    writer.wrap(tag)
+}
+
+/// Whether the octets under SEQUENCE have that header in front of them, and nothing else.
+fn has_header(alloc: Global, octets: &[u8], header: &[u8]) -> Result<bool, DerFault> {
+    let mut writer = Writer::new(alloc);
+    append(&mut writer, octets)?;
+    wrap(&mut writer, Tag::SEQUENCE)?;
+    Ok(
+        writer.as_slice().starts_with(header)
+            && writer.as_slice().ends_with(octets)
+            && writer.len() == header.len().saturating_add(octets.len()),
+    )
+}
 
 #[test]
 fn wraps_in_the_fewest_length_octets(rt: HostRuntime) -> Result<(), Fail> {
     for (count, header) in HEADERS {
         let octets = vec![in rt.alloc(); 0x09u8; *count]?;
-        let mut writer = Writer::new(rt.alloc());
-        writer.append(&octets)?;
-        writer.wrap(Tag::SEQUENCE)?;
-        assert!(rt; writer.as_slice().starts_with(header), "{count}");
-        assert!(rt; writer.as_slice().ends_with(&octets), "{count}");
-        assert_eq!(rt; writer.len(), header.len().saturating_add(*count));
+        assert!(rt; has_header(rt.alloc(), &octets, header)?, "{count}");
     }
     Ok(())
+}
+
+/// Whether the octets are too long to be wrapped, and stay.
+fn refuses_to_wrap(alloc: Global, octets: &[u8]) -> Result<bool, DerFault> {
+    let mut writer = Writer::new(alloc);
+    append(&mut writer, octets)?;
+    let refused = wrap(&mut writer, Tag::SEQUENCE).err() == Some(DerFault::TooLong);
+    Ok(refused && writer.len() == octets.len())
+}
+
+/// Whether the octets are too long to be the contents of an element, of which nothing is written.
+fn refuses_to_append(alloc: Global, octets: &[u8]) -> bool {
+    let mut writer = Writer::new(alloc);
+    let appended = append_element(&mut writer, Tag::NULL, octets);
+    appended.err() == Some(DerFault::TooLong) && writer.is_empty()
 }
 
 #[test]
 fn refuses_to_wrap_2_24_octets(rt: HostRuntime) -> Result<(), Fail> {
     let octets = vec![in rt.alloc(); 0x09u8; 1 << 24]?;
-    let mut writer = Writer::new(rt.alloc());
-    writer.append(&octets)?;
-    assert_eq!(rt; writer.wrap(Tag::SEQUENCE), Err(DerFault::TooLong));
-    assert_eq!(rt; writer.len(), 1 << 24);
-    let mut element = Writer::new(rt.alloc());
-    assert_eq!(rt;
-        element.append_element(Tag::NULL, &octets),
-        Err(DerFault::TooLong)
-    );
-    assert!(rt; element.is_empty());
+    assert!(rt; refuses_to_wrap(rt.alloc(), &octets)?);
+    assert!(rt; refuses_to_append(rt.alloc(), &octets));
     Ok(())
 }
 
 /// A NULL, an OCTET STRING, and a SEQUENCE of the INTEGER 1 and the BOOLEAN TRUE.
 fn written(alloc: Global) -> Result<Vec<u8>, DerFault> {
     let mut writer = Writer::new(alloc);
-    writer.wrap(Tag::NULL)?;
-    writer.append_element(Tag::OCTET_STRING, &[0x1f, 0x80])?;
+    wrap(&mut writer, Tag::NULL)?;
+    append_element(&mut writer, Tag::OCTET_STRING, b"\x1f\x80")?;
     let mut sequence = Writer::new(alloc);
-    sequence.append_element(Tag::INTEGER, &[1])?;
-    sequence.append_element(Tag::BOOLEAN, &[0xff])?;
-    sequence.wrap(Tag::SEQUENCE)?;
-    writer.append(sequence.as_slice())?;
+    append_element(&mut sequence, Tag::INTEGER, b"\x01")?;
+    append_element(&mut sequence, Tag::BOOLEAN, b"\xff")?;
+    wrap(&mut sequence, Tag::SEQUENCE)?;
+    append(&mut writer, sequence.as_slice())?;
     Ok(writer.into_octets())
 }
 
 /// Also for a run in which each allocation is refused in turn: the octets, or want of memory and nothing else.
 #[test]
 fn writes_values(rt: HostRuntime) {
-    let wanted = [
-        0x05, 0x00, 0x04, 0x02, 0x1f, 0x80, 0x30, 0x06, 0x02, 0x01, 0x01, 0x01, 0x01, 0xff,
-    ];
+    let wanted = b"\x05\x00\x04\x02\x1f\x80\x30\x06\x02\x01\x01\x01\x01\xff";
     match written(rt.alloc()) {
-        Ok(octets) => assert_eq!(rt; octets.as_slice(), wanted.as_slice()),
+        Ok(octets) => assert!(rt; octets.as_slice() == wanted.as_slice()),
         Err(fault) => assert_eq!(rt; fault, DerFault::Memory),
     }
 }

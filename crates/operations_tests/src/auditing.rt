@@ -1,9 +1,12 @@
 //! Extracts of a database, and stamps that are checked in one in memory.
-use crate::databases::{empty, remove};
+//!
+//! Calls without clauses: a test's proof needn't read the contracts of what it calls.
+use crate::databases::{empty, make, remove};
 use audit::ExtractFault;
-use operations::{AuditFault, Inquiry, audit, check_stamps, init};
+use operations::{AuditFault, Inquiry, audit, check_stamps};
 use policy::{EXAMPLE, Policy};
 use sqlite::MemStore;
+use std::alloc::Global;
 use std::test::Fail;
 use store::{Reservation, Store, StoreFault};
 
@@ -34,45 +37,91 @@ fn reserve(store: &mut Store<MemStore>, serial: u64) -> Result<(), StoreFault> {
     })
 }
 
-#[test]
-fn failing_stamps_are_told(rt: HostRuntime) -> Result<(), Fail> {
-    let alloc = rt.alloc();
+fn checked(
+    alloc: Global,
+    store: &mut Store<MemStore>,
+    to: u64,
+    errors: &mut Vec<u8>,
+) -> Result<bool, ExtractFault> {
+    check_stamps(alloc, store, 1, to, errors)
+}
+
+/// A store with three stamps, of which two fail.
+fn reserved(alloc: Global) -> Result<Store<MemStore>, Fail> {
     let mut store = empty(alloc)?;
     for serial in 1..4 {
         reserve(&mut store, serial)?;
     }
+    Ok(store)
+}
+
+#[test]
+fn failing_stamps_are_told(rt: HostRuntime) -> Result<(), Fail> {
+    let alloc = rt.alloc();
+    let mut store = reserved(alloc)?;
     let mut errors = Vec::new(alloc);
-    assert!(rt; check_stamps(alloc, &mut store, 1, 1, &mut errors) == Ok(true));
+    assert!(rt; checked(alloc, &mut store, 1, &mut errors) == Ok(true));
     assert!(rt; errors.is_empty());
-    assert!(rt; check_stamps(alloc, &mut store, 1, 9, &mut errors) == Ok(false));
-    assert_eq!(rt; errors.as_slice(), b"row 2 fails\nrow 3 fails\n".as_slice());
+    assert!(rt; checked(alloc, &mut store, 9, &mut errors) == Ok(false));
+    assert!(rt; errors.as_slice() == b"row 2 fails\nrow 3 fails\n".as_slice());
     Ok(())
+}
+
+fn audited(
+    rt: &HostRuntime,
+    path: &str,
+    inquiry: &Inquiry<'_>,
+    output: &mut Vec<u8>,
+    errors: &mut Vec<u8>,
+) -> Result<bool, AuditFault> {
+    audit(rt, path, inquiry, output, errors)
+}
+
+fn example(alloc: Global) -> Result<Policy, Fail> {
+    Ok(Policy::from_text(alloc, EXAMPLE)?)
+}
+
+/// What audra asks for.
+fn inquiry(policy: &Policy, from: u64) -> Result<Inquiry<'_>, Fail> {
+    Ok(Inquiry {
+        policy,
+        account: policy.account_named("audra").ok_or("no such account")?,
+        from,
+        to: 9,
+        check: true,
+    })
+}
+
+/// Sees that audits of a database that isn't there, of an empty one, and of a range that is none end so.
+fn audit_all(
+    rt: &HostRuntime,
+    path: &str,
+    policy: &Policy,
+    output: &mut Vec<u8>,
+    errors: &mut Vec<u8>,
+) -> Result<bool, Fail> {
+    let whole = inquiry(policy, 1)?;
+    let absent = audited(rt, path, &whole, output, errors);
+    make(rt, path)?;
+    let empty = audited(rt, path, &whole, output, errors);
+    let none = audited(rt, path, &inquiry(policy, 0)?, output, errors);
+    Ok(
+        absent == Err(AuditFault::Store(StoreFault::Database))
+            && empty == Ok(true)
+            && none == Err(AuditFault::Extract(ExtractFault::Range)),
+    )
 }
 
 #[test]
 fn an_empty_database_is_audited(rt: HostRuntime) -> Result<(), Fail> {
     let (path, log) = ("audited.db", "audited.db-wal");
     remove(&rt, path, log)?;
-    let policy = Policy::from_text(rt.alloc(), EXAMPLE)?;
-    let account = policy.account_named("audra").ok_or("no such account")?;
-    let mut inquiry = Inquiry {
-        policy: &policy,
-        account,
-        from: 1,
-        to: 9,
-        check: true,
-    };
+    let policy = example(rt.alloc())?;
     let (mut output, mut errors) = (Vec::new(rt.alloc()), Vec::new(rt.alloc()));
-    let done = audit(&rt, path, &inquiry, &mut output, &mut errors);
-    assert!(rt; done == Err(AuditFault::Store(StoreFault::Database)));
-    init(&rt, path)?;
-    assert!(rt; audit(&rt, path, &inquiry, &mut output, &mut errors) == Ok(true));
-    inquiry.from = 0;
-    let done = audit(&rt, path, &inquiry, &mut output, &mut errors);
-    assert!(rt; done == Err(AuditFault::Extract(ExtractFault::Range)));
-    assert_eq!(rt;
-        output.as_slice(),
-        b"serial,genTime,account,policy,algorithm,digest,state,token\n".as_slice()
+    assert!(rt; audit_all(&rt, path, &policy, &mut output, &mut errors)?);
+    assert!(rt;
+        output.as_slice()
+            == b"serial,genTime,account,policy,algorithm,digest,state,token\n".as_slice()
     );
     assert!(rt; errors.is_empty());
     Ok(remove(&rt, path, log)?)

@@ -1,6 +1,8 @@
 //! A whole policy file and changes of it, each with the fault that it has to give.
+//!
+//! Calls without clauses: a test's proof needn't read the contracts of what it calls.
 
-use policy::{EXAMPLE, Field, HashAlgorithm, Policy, PolicyFault, records_are_sound};
+use policy::{Account, EXAMPLE, Field, HashAlgorithm, Policy, PolicyFault, records_are_sound};
 use std::alloc::{AllocError, Global};
 use std::test::*;
 
@@ -38,6 +40,18 @@ fn own_file(alloc: Global) -> Result<String, Fail> {
 fn changed(alloc: Global, text: &str, old: &str, new: &str) -> Result<String, Fail> {
     let (front, back) = text.split_once(old).ok_or("the file has no such text")?;
     Ok(format!(in alloc; "{front}{new}{back}")?)
+}
+
+fn from_text(alloc: Global, text: &str) -> Result<Policy, PolicyFault> {
+    Policy::from_text(alloc, text)
+}
+
+/// Whether the text is refused with that fault.
+fn is_refused(alloc: Global, text: &str, fault: PolicyFault) -> bool {
+    match from_text(alloc, text) {
+        Ok(_) => false,
+        Err(found) => found == fault,
+    }
 }
 
 /// What is replaced, by what, and the fault.
@@ -271,10 +285,7 @@ fn changes_have_their_fault(rt: HostRuntime) -> Result<(), Fail> {
     let file = own_file(rt.alloc())?;
     for (index, (old, new, fault)) in CHANGES.iter().enumerate() {
         let text = changed(rt.alloc(), file.as_str(), *old, *new)?;
-        match Policy::from_text(rt.alloc(), text.as_str()) {
-            Ok(_) => assert!(rt; false, "{index}: taken"),
-            Err(found) => assert_eq!(rt; found, *fault, "{index}"),
-        }
+        assert!(rt; is_refused(rt.alloc(), text.as_str(), *fault), "{index}");
     }
     Ok(())
 }
@@ -387,10 +398,7 @@ fn first_fault_decides(rt: HostRuntime) -> Result<(), Fail> {
     for (index, (old, new, other, another, fault)) in PAIRS.iter().enumerate() {
         let once = changed(rt.alloc(), file.as_str(), *old, *new)?;
         let text = changed(rt.alloc(), once.as_str(), *other, *another)?;
-        match Policy::from_text(rt.alloc(), text.as_str()) {
-            Ok(_) => assert!(rt; false, "{index}: taken"),
-            Err(found) => assert_eq!(rt; found, *fault, "{index}"),
-        }
+        assert!(rt; is_refused(rt.alloc(), text.as_str(), *fault), "{index}");
     }
     Ok(())
 }
@@ -410,24 +418,25 @@ fn with_accounts(alloc: Global, count: u32) -> Result<String, AllocError> {
 #[test]
 fn accounts_are_counted(rt: HostRuntime) -> Result<(), Fail> {
     let most = with_accounts(rt.alloc(), 64)?;
-    let policy = Policy::from_text(rt.alloc(), most.as_str())?;
+    let policy = from_text(rt.alloc(), most.as_str())?;
     assert_eq!(rt; policy.accounts.len(), 64);
     let more = with_accounts(rt.alloc(), 65)?;
     let text = changed(rt.alloc(), more.as_str(), "\"guest\"", "\"nobody\"")?;
-    match Policy::from_text(rt.alloc(), text.as_str()) {
-        Ok(_) => assert!(rt; false, "65 accounts"),
-        Err(found) => assert_eq!(rt; found, PolicyFault::TooMany(Field::Account)),
-    }
+    let fault = PolicyFault::TooMany(Field::Account);
+    assert!(rt; is_refused(rt.alloc(), text.as_str(), fault), "65 accounts");
     Ok(())
 }
 
 #[test]
-fn empty_text_has_no_counter(rt: HostRuntime) -> Result<(), Fail> {
-    match Policy::from_text(rt.alloc(), "") {
-        Ok(_) => assert!(rt; false, "taken"),
-        Err(found) => assert_eq!(rt; found, PolicyFault::Missing(Field::Counter)),
-    }
-    Ok(())
+fn empty_text_has_no_counter(rt: HostRuntime) {
+    let fault = PolicyFault::Missing(Field::Counter);
+    assert!(rt; is_refused(rt.alloc(), "", fault));
+}
+
+/// Whether the fault has that number and that text.
+fn is_told(alloc: Global, fault: PolicyFault, number: u8, text: &str) -> Result<bool, Fail> {
+    let shown = format!(in alloc; "{fault}")?;
+    Ok(fault.number() == number && shown.as_str() == text)
 }
 
 #[test]
@@ -458,9 +467,7 @@ fn faults_have_numbers_and_texts(rt: HostRuntime) -> Result<(), Fail> {
         (PolicyFault::Memory, 7, "out of memory"),
     ];
     for (fault, number, text) in cases.iter() {
-        assert_eq!(rt; fault.number(), *number);
-        let shown = format!(in rt.alloc(); "{fault}")?;
-        assert_eq!(rt; shown.as_str(), *text);
+        assert!(rt; is_told(rt.alloc(), *fault, *number, *text)?, "{text}");
     }
     Ok(())
 }
@@ -498,11 +505,16 @@ static PATHS: [(Field, &str); 29] = [
     (Field::AccountDailyQuota, "account.daily_quota"),
 ];
 
+/// Whether the field is shown as that path.
+fn has_path(alloc: Global, field: Field, path: &str) -> Result<bool, Fail> {
+    let shown = format!(in alloc; "{field}")?;
+    Ok(shown.as_str() == path)
+}
+
 #[test]
 fn fields_have_paths(rt: HostRuntime) -> Result<(), Fail> {
     for (field, path) in PATHS.iter() {
-        let shown = format!(in rt.alloc(); "{field}")?;
-        assert_eq!(rt; shown.as_str(), *path);
+        assert!(rt; has_path(rt.alloc(), *field, *path)?, "{path}");
     }
     Ok(())
 }
@@ -510,7 +522,7 @@ fn fields_have_paths(rt: HostRuntime) -> Result<(), Fail> {
 #[test]
 fn file_is_read(rt: HostRuntime) -> Result<(), Fail> {
     let file = own_file(rt.alloc())?;
-    let policy = Policy::from_text(rt.alloc(), file.as_str())?;
+    let policy = from_text(rt.alloc(), file.as_str())?;
     assert_eq!(rt; policy.algorithms.len(), 2);
     assert_eq!(rt; policy.extensions.len(), 1);
     assert_eq!(rt; policy.policies.len(), 2);
@@ -531,94 +543,153 @@ static KEYS: [(&str, Option<u32>); 6] = [
     ("hellp", None),
 ];
 
+fn quota_of_key(policy: &Policy, key: &[u8]) -> Option<u32> {
+    match policy.account_of_key(key) {
+        Some(account) => Some(account.daily_quota),
+        None => None,
+    }
+}
+
+fn anonymous_quota(policy: &Policy) -> Option<u32> {
+    match policy.anonymous() {
+        Some(account) => Some(account.daily_quota),
+        None => None,
+    }
+}
+
+fn account_named<'p>(policy: &'p Policy, name: &str) -> Option<&'p Account> {
+    policy.account_named(name)
+}
+
+fn quota_of_name(policy: &Policy, name: &str) -> Option<u32> {
+    match account_named(policy, name) {
+        Some(account) => Some(account.daily_quota),
+        None => None,
+    }
+}
+
+/// Whether the account of that name has the default policy with that object identifier.
+fn has_default_policy(policy: &Policy, name: &str, object_identifier: &[u8]) -> bool {
+    match account_named(policy, name) {
+        Some(account) => match policy.default_policy(account) {
+            Some(found) => found.oid.content() == object_identifier,
+            None => false,
+        },
+        None => false,
+    }
+}
+
 #[test]
 fn accounts_are_found(rt: HostRuntime) -> Result<(), Fail> {
     let file = own_file(rt.alloc())?;
-    let policy = Policy::from_text(rt.alloc(), file.as_str())?;
+    let policy = from_text(rt.alloc(), file.as_str())?;
     for (key, quota) in KEYS.iter() {
-        let found = match policy.account_of_key(key.as_bytes()) {
-            Some(account) => Some(account.daily_quota),
-            None => None,
-        };
-        assert_eq!(rt; found, *quota, "{key}");
+        assert!(rt; quota_of_key(&policy, key.as_bytes()) == *quota, "{key}");
     }
-    match policy.anonymous() {
-        Some(account) => assert_eq!(rt; account.daily_quota, 1000),
-        None => assert!(rt; false, "no anonymous account"),
-    }
-    match policy.account_named("carol") {
-        Some(account) => assert_eq!(rt; account.daily_quota, 2),
-        None => assert!(rt; false, "no carol"),
-    }
-    assert!(rt; policy.account_named("carole").is_none());
-    for (name, object_identifier) in [("alice", [0x88, 0x37, 0x01]), ("dora", [0x88, 0x37, 0x02])] {
-        let account = policy.account_named(name).ok_or("no such account")?;
-        match policy.default_policy(account) {
-            Some(found) => assert_eq!(rt; found.oid.content(), object_identifier.as_slice()),
-            None => assert!(rt; false, "no default policy of {name}"),
-        }
-    }
+    assert!(rt;
+        anonymous_quota(&policy) == Some(1000),
+        "the anonymous account"
+    );
+    assert!(rt; quota_of_name(&policy, "carol") == Some(2), "carol");
+    assert!(rt; quota_of_name(&policy, "carole") == None, "carole");
+    assert!(rt;
+        has_default_policy(&policy, "alice", b"\x88\x37\x01"),
+        "alice"
+    );
+    assert!(rt;
+        has_default_policy(&policy, "dora", b"\x88\x37\x02"),
+        "dora"
+    );
     Ok(())
+}
+
+/// Whether the algorithm has that identifier alone, and hashes of that length.
+fn is_known(content: &[u8], algorithm: HashAlgorithm, length: u8) -> bool {
+    HashAlgorithm::of_identifier(content) == Some(algorithm)
+        && algorithm.identifier() == content
+        && algorithm.hash_length() == length
 }
 
 /// The octets of RFC 3370 2.1 and RFC 5754 2, and the lengths of FIPS 180-4.
 #[test]
 fn hash_algorithms_are_known(rt: HostRuntime) {
     let cases: [(&[u8], HashAlgorithm, u8); 5] = [
-        (&[0x2b, 0x0e, 0x03, 0x02, 0x1a], HashAlgorithm::Sha1, 20),
+        (b"\x2b\x0e\x03\x02\x1a", HashAlgorithm::Sha1, 20),
         (
-            &[0x60, 0x86, 0x48, 0x01, 0x65, 0x03, 0x04, 0x02, 0x04],
+            b"\x60\x86\x48\x01\x65\x03\x04\x02\x04",
             HashAlgorithm::Sha224,
             28,
         ),
         (
-            &[0x60, 0x86, 0x48, 0x01, 0x65, 0x03, 0x04, 0x02, 0x01],
+            b"\x60\x86\x48\x01\x65\x03\x04\x02\x01",
             HashAlgorithm::Sha256,
             32,
         ),
         (
-            &[0x60, 0x86, 0x48, 0x01, 0x65, 0x03, 0x04, 0x02, 0x02],
+            b"\x60\x86\x48\x01\x65\x03\x04\x02\x02",
             HashAlgorithm::Sha384,
             48,
         ),
         (
-            &[0x60, 0x86, 0x48, 0x01, 0x65, 0x03, 0x04, 0x02, 0x03],
+            b"\x60\x86\x48\x01\x65\x03\x04\x02\x03",
             HashAlgorithm::Sha512,
             64,
         ),
     ];
     for (content, algorithm, length) in cases {
-        assert_eq!(rt; HashAlgorithm::of_identifier(content), Some(algorithm));
-        assert_eq!(rt; algorithm.identifier(), content);
-        assert_eq!(rt; algorithm.hash_length(), length);
+        assert!(rt; is_known(content, algorithm, length), "{algorithm:?}");
     }
-    assert!(rt; HashAlgorithm::of_identifier(&[0x2b, 0x0e, 0x03, 0x02]).is_none());
+    assert!(rt; HashAlgorithm::of_identifier(b"\x2b\x0e\x03\x02").is_none());
     records_are_sound();
+}
+
+/// Whether the policy of that object identifier wants a certificate.
+fn certificate_of(policy: &Policy, object_identifier: &[u8]) -> Option<bool> {
+    match policy.policy_of_oid(object_identifier) {
+        Some(found) => Some(found.certificate),
+        None => None,
+    }
+}
+
+/// How many algorithms the policy of that name has.
+fn algorithms_of(policy: &Policy, name: &str) -> Option<usize> {
+    match policy.policy_named(name) {
+        Some(found) => Some(found.algorithms.len()),
+        None => None,
+    }
+}
+
+/// The length of the algorithm of that object identifier.
+fn length_of(policy: &Policy, object_identifier: &[u8]) -> Option<u8> {
+    match policy.algorithm_of_oid(object_identifier) {
+        Some(found) => Some(found.length),
+        None => None,
+    }
+}
+
+/// The greatest length of the extension of that object identifier.
+fn max_length_of(policy: &Policy, object_identifier: &[u8]) -> Option<u16> {
+    match policy.extension_of_oid(object_identifier) {
+        Some(found) => Some(found.max_length),
+        None => None,
+    }
 }
 
 #[test]
 fn entries_are_found(rt: HostRuntime) -> Result<(), Fail> {
     let file = own_file(rt.alloc())?;
-    let policy = Policy::from_text(rt.alloc(), file.as_str())?;
-    match policy.policy_of_oid(&[0x88, 0x37, 0x02]) {
-        Some(found) => assert!(rt; !found.certificate),
-        None => assert!(rt; false, "no strict"),
-    }
-    match policy.policy_named("open") {
-        Some(found) => assert_eq!(rt; found.algorithms.len(), 2),
-        None => assert!(rt; false, "no open"),
-    }
-    match policy.algorithm_of_oid(&[0x60, 0x86, 0x48, 0x01, 0x65, 0x03, 0x04, 0x02, 0x03]) {
-        Some(found) => assert_eq!(rt; found.length, 64),
-        None => assert!(rt; false, "no sha512"),
-    }
-    match policy.extension_of_oid(&[0x88, 0x37, 0x07]) {
-        Some(found) => assert_eq!(rt; found.max_length, 4),
-        None => assert!(rt; false, "no batch"),
-    }
-    assert!(rt; policy.policy_of_oid(&[0x88, 0x37, 0x03]).is_none());
-    assert!(rt; policy.policy_named("closed").is_none());
-    assert!(rt; policy.algorithm_of_oid(&[0x88, 0x37]).is_none());
-    assert!(rt; policy.extension_of_oid(&[]).is_none());
+    let policy = from_text(rt.alloc(), file.as_str())?;
+    assert!(rt;
+        certificate_of(&policy, b"\x88\x37\x02") == Some(false),
+        "strict"
+    );
+    assert!(rt; algorithms_of(&policy, "open") == Some(2), "open");
+    let sha512 = b"\x60\x86\x48\x01\x65\x03\x04\x02\x03";
+    assert!(rt; length_of(&policy, sha512) == Some(64), "sha512");
+    assert!(rt; max_length_of(&policy, b"\x88\x37\x07") == Some(4), "batch");
+    assert!(rt; certificate_of(&policy, b"\x88\x37\x03") == None);
+    assert!(rt; algorithms_of(&policy, "closed") == None);
+    assert!(rt; length_of(&policy, b"\x88\x37") == None);
+    assert!(rt; max_length_of(&policy, b"") == None);
     Ok(())
 }

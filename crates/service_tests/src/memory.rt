@@ -1,7 +1,7 @@
 //! Requests that are answered while growths are refused: `scripts/refused-memory` runs these tests with each growth
 //! after the mark refused in turn, and some of them also with all from it on. Run by themselves they meet no refusal.
 use super::octets::{GRANTED_WITH, RULE_12, WITH_CERTIFICATE};
-use super::setting::{QUERY, calibrated, example, serve};
+use super::setting::{QUERY, ask, calibrated, example, joined, key};
 use cms::KeyedHash;
 use desk::Desk;
 use service::Served;
@@ -23,7 +23,7 @@ fn mark(alloc: Global) -> Result<(), AllocError> {
 const ROOM: usize = 1_024;
 
 /// Has the request answered into the room that the output has.
-fn ask(
+fn ask_again(
     alloc: Global,
     desk: &mut Desk<'_, MemStore>,
     signer: &mut KeyedHash,
@@ -32,7 +32,7 @@ fn ask(
 ) -> Served {
     let mut input = request;
     output.clear();
-    serve(alloc, desk, &mut input, output, signer)
+    ask(alloc, desk, &mut input, output, signer)
 }
 
 /// The answer where memory is wanting.
@@ -129,94 +129,112 @@ fn is_answered(
     row: Row,
 ) -> bool {
     let (request, head, body) = row;
-    let served = ask(alloc, desk, signer, request, output);
+    let served = ask_again(alloc, desk, signer, request, output);
     matches!(served, Served::Answered(_))
         && (is_answer(output, head, body) || output.as_slice() == UNAVAILABLE)
 }
 
-/// Those requests and one for the deposit's token are.
-fn are_answered(
-    alloc: Global,
-    desk: &mut Desk<'_, MemStore>,
-    signer: &mut KeyedHash,
-    output: &mut Vec<u8>,
-) -> bool {
-    for row in &ANSWERS {
-        if !is_answered(alloc, desk, signer, output, *row) {
-            return false;
+/// Those requests and one for the deposit's token are, after the mark. The first that isn't is told.
+fn are_answered(alloc: Global, desk: &mut Desk<'_, MemStore>) -> Result<(), Fail> {
+    let mut signer = key(alloc)?;
+    let mut output = Vec::with_capacity(alloc, ROOM)?;
+    ask_again(alloc, desk, &mut signer, KEEP, &mut output);
+    mark(alloc)?;
+    for (index, row) in ANSWERS.iter().enumerate() {
+        if !is_answered(alloc, desk, &mut signer, &mut output, *row) {
+            return Err(Fail::new(format_args!("answer {index}")));
         }
     }
     let token = b"GET /deposits/1/token HTTP/1.1\r\nCounter-Key: hello\r\n\r\n";
-    is_answered(alloc, desk, signer, output, (token, GRANTED, GRANTED_WITH))
+    let row = (token.as_slice(), GRANTED, GRANTED_WITH);
+    if !is_answered(alloc, desk, &mut signer, &mut output, row) {
+        return Err(Fail::new("the token"));
+    }
+    Ok(())
 }
 
 // Whatever is refused, an answer is written: what it is with memory, or that the counter can't answer.
 #[test]
 fn answers_without_memory(rt: HostRuntime) -> Result<(), Fail> {
-    let alloc = rt.alloc();
-    let setting = example(alloc)?;
-    let mut signer = KeyedHash::new(alloc, b"k")?;
-    let mut desk = calibrated(alloc, &setting)?;
-    let mut output = Vec::with_capacity(alloc, ROOM)?;
-    ask(alloc, &mut desk, &mut signer, KEEP, &mut output);
-    mark(alloc)?;
-    assert!(rt; are_answered(alloc, &mut desk, &mut signer, &mut output));
-    Ok(())
+    let setting = example(rt.alloc())?;
+    let mut desk = calibrated(rt.alloc(), &setting)?;
+    are_answered(rt.alloc(), &mut desk)
 }
 
-/// What becomes of a right that is given and of the deposit that is then shown, and how many readers there are.
-fn granted_and_shown(alloc: Global) -> Result<(Served, Served, i64), Fail> {
-    let setting = example(alloc)?;
-    let mut signer = KeyedHash::new(alloc, b"k")?;
-    let mut desk = calibrated(alloc, &setting)?;
+/// What becomes of a right that is given and of the deposit that is then shown.
+fn granted_and_shown(
+    alloc: Global,
+    desk: &mut Desk<'_, MemStore>,
+) -> Result<(Served, Served), Fail> {
+    let mut signer = key(alloc)?;
     let mut output = Vec::with_capacity(alloc, ROOM)?;
-    ask(alloc, &mut desk, &mut signer, KEEP, &mut output);
+    ask_again(alloc, desk, &mut signer, KEEP, &mut output);
     let grant = b"PUT /deposits/1/readers/bob HTTP/1.1\r\nCounter-Key: hello\r\n\r\n";
     let show = b"GET /deposits/1 HTTP/1.1\r\nCounter-Key: test\r\n\r\n";
     mark(alloc)?;
-    let granted = ask(alloc, &mut desk, &mut signer, grant, &mut output);
-    let shown = ask(alloc, &mut desk, &mut signer, show, &mut output);
-    Ok((granted, shown, counts(desk)?.3))
+    let granted = ask_again(alloc, desk, &mut signer, grant, &mut output);
+    let shown = ask_again(alloc, desk, &mut signer, show, &mut output);
+    Ok((granted, shown))
+}
+
+/// With memory; then with a growth refused before the right is given, one after it, and one in showing.
+static COSTS: [(u16, u16, i64); 4] = [(200, 200, 1), (503, 404, 0), (503, 200, 1), (200, 503, 1)];
+
+/// What becomes of the two and how many readers there are then is one of those.
+fn costs_one_answer(granted: Served, shown: Served, readers: i64) -> Result<(), Fail> {
+    for (first, second, count) in COSTS {
+        let statuses = (Served::Answered(first), Served::Answered(second));
+        if (granted, shown) == statuses && readers == count {
+            return Ok(());
+        }
+    }
+    Err(Fail::new(format_args!("{granted:?}, {shown:?}, {readers} readers")))
 }
 
 // One refused growth costs one answer at most; what the desk did for it stands, or it did nothing.
 #[test]
 fn one_refused_growth_costs_one_answer(rt: HostRuntime) -> Result<(), Fail> {
-    let told = granted_and_shown(rt.alloc())?;
-    // With memory; then with a growth refused before the right is given, one after it, and one in showing.
-    let rows = [
-        (Served::Answered(200), Served::Answered(200), 1),
-        (Served::Answered(503), Served::Answered(404), 0),
-        (Served::Answered(503), Served::Answered(200), 1),
-        (Served::Answered(200), Served::Answered(503), 1),
-    ];
-    assert!(rt; rows.contains(&told));
-    Ok(())
+    let setting = example(rt.alloc())?;
+    let mut desk = calibrated(rt.alloc(), &setting)?;
+    let (granted, shown) = granted_and_shown(rt.alloc(), &mut desk)?;
+    let (_, _, _, readers) = counts(desk)?;
+    costs_one_answer(granted, shown, readers)
 }
 
 /// Has the first request of a counter answered into the output: what becomes of it, and what the tables hold then.
 fn first(alloc: Global, request: &[u8], output: &mut Vec<u8>) -> Result<(Served, Counts), Fail> {
     let setting = example(alloc)?;
-    let mut signer = KeyedHash::new(alloc, b"k")?;
+    let mut signer = key(alloc)?;
     let mut desk = calibrated(alloc, &setting)?;
     mark(alloc)?;
-    let served = ask(alloc, &mut desk, &mut signer, request, output);
+    let served = ask_again(alloc, &mut desk, &mut signer, request, output);
     Ok((served, counts(desk)?))
+}
+
+/// With memory; then with no stamp, with a void one, and with the deposit.
+static KEPT: [(u16, Counts); 4] = [
+    (201, (1, 0, 1, 0)),
+    (503, (0, 0, 0, 0)),
+    (503, (0, 1, 0, 0)),
+    (503, (1, 0, 1, 0)),
+];
+
+/// What becomes of the deposit and what the tables hold then is one of those.
+fn is_kept_or_left(served: Served, counts: Counts) -> Result<(), Fail> {
+    for (status, wanted) in KEPT {
+        if served == Served::Answered(status) && counts == wanted {
+            return Ok(());
+        }
+    }
+    Err(Fail::new(format_args!("{served:?}, {counts:?}")))
 }
 
 // A refused growth of a deposit: its answer or 503, with the deposit taken, not taken, or with a void stamp.
 #[test]
 fn a_refused_growth_keeps_or_leaves_a_deposit(rt: HostRuntime) -> Result<(), Fail> {
     let mut output = Vec::with_capacity(rt.alloc(), ROOM)?;
-    let told = first(rt.alloc(), KEEP, &mut output)?;
-    let rows = [
-        (Served::Answered(201), (1, 0, 1, 0)),
-        (Served::Answered(503), (0, 0, 0, 0)),
-        (Served::Answered(503), (0, 1, 0, 0)),
-        (Served::Answered(503), (1, 0, 1, 0)),
-    ];
-    assert!(rt; rows.contains(&told));
-    Ok(())
+    let (served, counts) = first(rt.alloc(), KEEP, &mut output)?;
+    is_kept_or_left(served, counts)
 }
 
 /// The head and the body of an answer, and what the tables hold behind it.
@@ -233,26 +251,26 @@ fn stamped() -> [Told; 5] {
     ]
 }
 
-fn is_one_of_those(written: &[u8], counts: Counts) -> bool {
-    for (head, body, wanted) in &stamped() {
-        if counts == *wanted && is_answer(written, head, body) {
-            return true;
+/// What was written and what the tables hold then is one of those.
+fn is_granted_or_rejected(served: Served, written: &[u8], counts: Counts) -> Result<(), Fail> {
+    for (head, body, wanted) in stamped() {
+        if matches!(served, Served::Answered(_))
+            && counts == wanted
+            && is_answer(written, head, body)
+        {
+            return Ok(());
         }
     }
-    false
+    Err(Fail::new(format_args!("{served:?}, {counts:?}, {written:?}")))
 }
 
 // A refused growth of a time-stamp request: the grant, rule 12 or 503, with the stamp sealed, none, or a void one.
 #[test]
 fn a_refused_growth_grants_or_rejects(rt: HostRuntime) -> Result<(), Fail> {
-    let alloc = rt.alloc();
-    let mut query = Vec::from_slice(alloc, QUERY.as_bytes())?;
-    query.extend_from_slice(WITH_CERTIFICATE)?;
-    let mut output = Vec::with_capacity(alloc, ROOM)?;
-    let (served, counts) = first(alloc, &query, &mut output)?;
-    assert!(rt; matches!(served, Served::Answered(_)));
-    assert!(rt; is_one_of_those(&output, counts));
-    Ok(())
+    let query = joined(rt.alloc(), &[QUERY.as_bytes(), WITH_CERTIFICATE])?;
+    let mut output = Vec::with_capacity(rt.alloc(), ROOM)?;
+    let (served, counts) = first(rt.alloc(), &query, &mut output)?;
+    is_granted_or_rejected(served, &output, counts)
 }
 
 /// What was written is the extract, or its beginning that is told so, or that the counter can't answer.
@@ -267,20 +285,25 @@ fn is_beginning(served: Served, written: &[u8], whole: &[u8]) -> bool {
     }
 }
 
+fn is_extracted_in_part(alloc: Global, desk: &mut Desk<'_, MemStore>) -> Result<(), Fail> {
+    let mut signer = key(alloc)?;
+    let mut output = Vec::with_capacity(alloc, ROOM)?;
+    let mut whole = Vec::with_capacity(alloc, ROOM)?;
+    ask_again(alloc, desk, &mut signer, KEEP, &mut output);
+    let request = b"GET /audit/1/9 HTTP/1.1\r\nCounter-Key: a\r\n\r\n";
+    ask_again(alloc, desk, &mut signer, request, &mut whole);
+    mark(alloc)?;
+    let served = ask_again(alloc, desk, &mut signer, request, &mut output);
+    if !is_beginning(served, &output, &whole) {
+        return Err(Fail::new(format_args!("{served:?}")));
+    }
+    Ok(())
+}
+
 // An extract with a refused growth: its answer, or 503, or the beginning that was written before the refusal.
 #[test]
 fn a_refused_growth_leaves_a_beginning_of_an_extract(rt: HostRuntime) -> Result<(), Fail> {
-    let alloc = rt.alloc();
-    let setting = example(alloc)?;
-    let mut signer = KeyedHash::new(alloc, b"k")?;
-    let mut desk = calibrated(alloc, &setting)?;
-    let mut output = Vec::with_capacity(alloc, ROOM)?;
-    let mut whole = Vec::with_capacity(alloc, ROOM)?;
-    ask(alloc, &mut desk, &mut signer, KEEP, &mut output);
-    let request = b"GET /audit/1/9 HTTP/1.1\r\nCounter-Key: a\r\n\r\n";
-    ask(alloc, &mut desk, &mut signer, request, &mut whole);
-    mark(alloc)?;
-    let served = ask(alloc, &mut desk, &mut signer, request, &mut output);
-    assert!(rt; is_beginning(served, &output, &whole));
-    Ok(())
+    let setting = example(rt.alloc())?;
+    let mut desk = calibrated(rt.alloc(), &setting)?;
+    is_extracted_in_part(rt.alloc(), &mut desk)
 }

@@ -2,9 +2,13 @@
 #![tactic(auto)]
 
 #[cfg(test)]
+mod calls;
+#[cfg(test)]
 mod closing;
 #[cfg(test)]
 mod deposits;
+#[cfg(test)]
+mod looks;
 #[cfg(test)]
 mod ranges;
 #[cfg(test)]

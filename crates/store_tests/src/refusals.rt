@@ -1,15 +1,16 @@
 //! A run that goes on where one growth is refused: each call is made again then, and what was refused has changed
 //! nothing.
-use sqlite::{Connection, MemStore};
+use super::calls::{
+    Kept, OCTETS, adopt, calibrate, connected, connection, create, faults, grant, hold, kept,
+    reserve, revoke, seal, seal_deposit,
+};
+use super::looks::{by_reference, calibration, count, first, is_held, is_visible, last, list};
 use std::alloc::Global;
 use std::test::*;
-use store::{Calibration, Hold, Last, Reservation, Store, StoreFault};
-
-/// The octets of a reservation's parts, of no meaning to the store.
-const OCTETS: &[u8] = b"\x88\x37";
+use store::{Calibration, Last, StoreFault};
 
 /// What the look-ups tell.
-#[derive(Debug, Clone, Copy, PartialEq, Eq)]
+#[derive(Clone, Copy, PartialEq, Eq)]
 struct Shown {
     last: Last,
     count: u64,
@@ -21,7 +22,7 @@ struct Shown {
     first: Option<u64>,
 }
 
-#[derive(Debug, Clone, Copy)]
+#[derive(Clone, Copy)]
 enum Step {
     Calibrate(i64),
     Hold,
@@ -32,125 +33,144 @@ enum Step {
     Revoke,
 }
 
-fn look(store: &mut Store<MemStore>) -> Result<Shown, StoreFault> {
+fn look(store: &mut Kept) -> Result<Shown, StoreFault> {
     Ok(Shown {
-        last: store.last()?,
-        count: store.count_of_day("alice", 0)?,
-        calibration: store.calibration()?,
-        is_held: store.held_at(5)?,
-        has_deposit: store.by_reference("alice", "plan-7")?.is_some(),
-        is_visible: store.visible(2, "bob")?,
-        listed: store.list("bob")?.len(),
-        first: store.stamps_between(1, 9).next()?.map(|stamp| stamp.serial),
+        last: last(store)?,
+        count: count(store, "alice", 0)?,
+        calibration: calibration(store)?,
+        is_held: is_held(store, 5)?,
+        has_deposit: by_reference(store, "alice", "plan-7")?.is_some(),
+        is_visible: is_visible(store, 2, "bob")?,
+        listed: list(store, "bob")?.len(),
+        first: first(store, 1, 9)?,
     })
 }
 
-fn take(store: &mut Store<MemStore>, step: Step) -> Result<(), StoreFault> {
+fn take(store: &mut Kept, step: Step) -> Result<(), StoreFault> {
     match step {
-        Step::Calibrate(reading) => store.calibrate(&Calibration {
-            reading,
-            offset: 0,
-            uncertainty: 0,
-        }),
-        Step::Hold => store.hold(&Hold { from: 5, to: 6 }),
-        Step::Reserve(serial) => store.reserve(&Reservation {
-            serial,
-            account: "alice",
-            gen_time: 9,
-            policy: OCTETS,
-            algorithm: OCTETS,
-            digest: OCTETS,
-            request: OCTETS,
-            tst: OCTETS,
-        }),
-        Step::Seal => store.seal(1, OCTETS),
-        Step::Deposit => store.seal_deposit(2, OCTETS, "alice", "plan-7", b"abc"),
-        Step::Grant => store.grant(2, "bob"),
-        Step::Revoke => store.revoke(2, "bob"),
+        Step::Calibrate(reading) => calibrate(store, reading, 0, 0),
+        Step::Hold => hold(store, 5, 6),
+        Step::Reserve(serial) => reserve(store, serial, "alice", 9),
+        Step::Seal => seal(store, 1, OCTETS),
+        Step::Deposit => seal_deposit(store, 2, OCTETS, "alice", "plan-7", b"abc"),
+        Step::Grant => grant(store, 2, "bob"),
+        Step::Revoke => revoke(store, 2, "bob"),
     }
 }
 
-fn made(alloc: Global) -> Result<Store<MemStore>, Fail> {
-    let conn = match Connection::open_in_memory(alloc) {
+fn made(alloc: Global) -> Result<Kept, Fail> {
+    let conn = match connected(alloc) {
         Ok(conn) => conn,
-        Err(_) => Connection::open_in_memory(alloc)?,
+        Err(_) => connected(alloc)?,
     };
-    if !conn.is_autocommit() {
-        return Err(Fail::new("a transaction is open"));
+    match create(alloc, conn) {
+        Err((StoreFault::Memory, conn)) => kept(create(alloc, conn)),
+        other => kept(other),
     }
-    let again = match Store::create(alloc, conn) {
-        Ok(store) => return Ok(store),
-        Err((StoreFault::Memory, conn)) => Store::create(alloc, conn),
-        Err((fault, _)) => return Err(Fail::new(format_args!("create: {fault:?}"))),
-    };
-    again.map_err(|(fault, _)| Fail::new(format_args!("create again: {fault:?}")))
 }
 
-fn adopted(alloc: Global, store: Store<MemStore>) -> Result<Store<MemStore>, Fail> {
-    let again = match Store::adopt(alloc, store.into_connection()) {
-        Ok(store) => return Ok(store),
-        Err((StoreFault::Memory, conn)) => Store::adopt(alloc, conn),
-        Err((fault, _)) => return Err(Fail::new(format_args!("adopt: {fault:?}"))),
-    };
-    again.map_err(|(fault, _)| Fail::new(format_args!("adopt again: {fault:?}")))
+fn adopted(alloc: Global, store: Kept) -> Result<Kept, Fail> {
+    match adopt(alloc, connection(store)) {
+        Err((StoreFault::Memory, conn)) => kept(adopt(alloc, conn)),
+        other => kept(other),
+    }
 }
 
-fn seen(store: &mut Store<MemStore>) -> Result<Shown, Fail> {
+fn seen(store: &mut Kept) -> Result<Shown, Fail> {
     let shown = match look(store) {
         Err(StoreFault::Memory) => look(store),
         other => other,
     };
-    shown.map_err(|fault| Fail::new(format_args!("a look-up: {fault:?}")))
+    match shown {
+        Ok(shown) => Ok(shown),
+        Err(fault) => Err(Fail::new(format_args!("a look-up: {fault:?}"))),
+    }
+}
+
+/// Takes a step. Where it wants memory the look-ups tell what they told before, and it is taken once more.
+fn taken(store: &mut Kept, at: usize, step: Step) -> Result<(), Fail> {
+    let before = seen(store)?;
+    let mut outcome = take(store, step);
+    if outcome == Err(StoreFault::Memory) {
+        if seen(store)? != before {
+            return Err(Fail::new(format_args!("step {at} was refused and changed something")));
+        }
+        outcome = take(store, step);
+    }
+    match outcome {
+        Ok(()) => Ok(()),
+        Err(fault) => Err(Fail::new(format_args!("step {at}: {fault:?}"))),
+    }
+}
+
+fn take_all(store: &mut Kept, steps: &[Step]) -> Result<(), Fail> {
+    for (at, step) in steps.iter().enumerate() {
+        taken(store, at, *step)?;
+    }
+    Ok(())
+}
+
+static STEPS: [Step; 8] = [
+    Step::Calibrate(3),
+    Step::Hold,
+    Step::Reserve(1),
+    Step::Seal,
+    Step::Reserve(2),
+    Step::Deposit,
+    Step::Grant,
+    Step::Calibrate(4),
+];
+
+/// What the look-ups tell behind all steps.
+static WANTED: Shown = Shown {
+    last: Last {
+        serial: 2,
+        gen_time: Some(9),
+    },
+    count: 2,
+    calibration: Some(Calibration {
+        reading: 4,
+        offset: 0,
+        uncertainty: 0,
+    }),
+    is_held: true,
+    has_deposit: true,
+    is_visible: true,
+    listed: 1,
+    first: Some(1),
+};
+
+/// A store behind all steps.
+fn filled(alloc: Global) -> Result<Kept, Fail> {
+    let mut store = made(alloc)?;
+    take_all(&mut store, &STEPS)?;
+    if faults(&store) == 0 {
+        Ok(store)
+    } else {
+        Err(Fail::new("a fault was counted"))
+    }
+}
+
+fn shows_all(store: &mut Kept) -> Result<(), Fail> {
+    if seen(store)? == WANTED {
+        Ok(())
+    } else {
+        Err(Fail::new("the look-ups tell something else"))
+    }
+}
+
+fn hides(store: &mut Kept) -> Result<(), Fail> {
+    if seen(store)?.is_visible {
+        Err(Fail::new("a revoked deposit is visible"))
+    } else {
+        Ok(())
+    }
 }
 
 #[test]
 fn a_refused_growth_changes_nothing(rt: HostRuntime) -> Result<(), Fail> {
-    let mut store = made(rt.alloc())?;
-    let steps = [
-        Step::Calibrate(3),
-        Step::Hold,
-        Step::Reserve(1),
-        Step::Seal,
-        Step::Reserve(2),
-        Step::Deposit,
-        Step::Grant,
-        Step::Calibrate(4),
-    ];
-    for step in steps {
-        let before = seen(&mut store)?;
-        let mut outcome = take(&mut store, step);
-        if outcome == Err(StoreFault::Memory) {
-            assert_eq!(rt; seen(&mut store)?, before);
-            outcome = take(&mut store, step);
-        }
-        assert_eq!(rt; outcome, Ok(()), "{step:?}");
-    }
-    assert!(rt; store.faults() == 0);
-    let mut store = adopted(rt.alloc(), store)?;
-    let wanted = Shown {
-        last: Last {
-            serial: 2,
-            gen_time: Some(9),
-        },
-        count: 2,
-        calibration: Some(Calibration {
-            reading: 4,
-            offset: 0,
-            uncertainty: 0,
-        }),
-        is_held: true,
-        has_deposit: true,
-        is_visible: true,
-        listed: 1,
-        first: Some(1),
-    };
-    assert_eq!(rt; seen(&mut store)?, wanted);
-    let mut outcome = take(&mut store, Step::Revoke);
-    if outcome == Err(StoreFault::Memory) {
-        assert_eq!(rt; seen(&mut store)?, wanted);
-        outcome = take(&mut store, Step::Revoke);
-    }
-    assert_eq!(rt; outcome, Ok(()));
-    assert!(rt; !seen(&mut store)?.is_visible);
-    Ok(())
+    let mut store = adopted(rt.alloc(), filled(rt.alloc())?)?;
+    shows_all(&mut store)?;
+    take_all(&mut store, &[Step::Revoke])?;
+    hides(&mut store)
 }

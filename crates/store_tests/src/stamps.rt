@@ -1,37 +1,35 @@
 //! Rows over a database in memory.
-ghost use Rattle.std.specs.Prelude.{◌≡◌, IfOk, false};
-
-use sqlite::{Connection, MemStore};
+use super::calls::{
+    Kept, OCTETS, adopt, calibrate, connected, connection, create, empty, faults, hold, kept,
+    refused, reserve, seal,
+};
+use super::looks::{calibration, count, is_held, last};
 use std::alloc::Global;
 use std::test::*;
-use store::{
-    Calibration, Hold, Reservation, Store, StoreFault, equal_tables_tell_the_same, serials_rise,
-};
-
-/// The octets of a reservation's parts, of no meaning to the store.
-const OCTETS: &[u8] = b"\x88\x37";
+use store::{Calibration, Last, StoreFault, equal_tables_tell_the_same, serials_rise};
 
 const DAY: u64 = 86_400_000_000;
 
-fn empty(alloc: Global) -> Result<Store<MemStore>, Fail> {
-    let conn = Connection::open_in_memory(alloc)?;
-    if !conn.is_autocommit() {
-        return Err(Fail::new("a transaction is open"));
-    }
-    Store::create(alloc, conn).map_err(|(fault, _)| Fail::new(format_args!("create: {fault:?}")))
-}
+const GREATEST: u64 = 9_223_372_036_854_775_807;
 
-fn of(serial: u64, account: &str, gen_time: u64) -> Reservation<'_> {
-    Reservation {
-        serial,
-        account,
-        gen_time,
-        policy: OCTETS,
-        algorithm: OCTETS,
-        digest: OCTETS,
-        request: OCTETS,
-        tst: OCTETS,
-    }
+/// How a change ends.
+type Ending = Result<(), StoreFault>;
+
+/// A change with how it has to end, or a look-up with what it has to tell.
+#[derive(Clone, Copy)]
+enum Row<'a> {
+    /// A calibration at a reading.
+    Calibrates(i64, Ending),
+    /// The reading of the latest.
+    Latest(Option<i64>),
+    Holds(i64, i64, Ending),
+    IsHeld(i64, bool),
+    /// A serial number, an account and a genTime.
+    Reserves(u64, &'a str, u64, Ending),
+    Seals(u64, Ending),
+    Last(u64, Option<u64>),
+    Counts(&'a str, u64, u64),
+    Faults(u64),
 }
 
 fn at(reading: i64) -> Calibration {
@@ -42,165 +40,146 @@ fn at(reading: i64) -> Calibration {
     }
 }
 
-// These have no clause, so that the proof of a test doesn't carry the state of each call.
-
-fn calibrate(store: &mut Store<MemStore>, reading: i64) -> Result<(), StoreFault> {
-    store.calibrate(&at(reading))
+fn is_latest(store: &mut Kept, wanted: Option<i64>) -> bool {
+    match (calibration(store), wanted) {
+        (Ok(Some(found)), Some(reading)) => found == at(reading),
+        (Ok(None), None) => true,
+        _ => false,
+    }
 }
 
-fn calibration(store: &mut Store<MemStore>) -> Result<Option<Calibration>, StoreFault> {
-    store.calibration()
+fn is_last(store: &mut Kept, serial: u64, gen_time: Option<u64>) -> bool {
+    last(store) == Ok(Last { serial, gen_time })
 }
 
-fn hold(store: &mut Store<MemStore>, from: i64, to: i64) -> Result<(), StoreFault> {
-    store.hold(&Hold { from, to })
+fn is_count(store: &mut Kept, account: &str, day: u64, wanted: u64) -> bool {
+    count(store, account, day) == Ok(wanted)
 }
 
-fn is_held(store: &mut Store<MemStore>, now: i64) -> Result<bool, StoreFault> {
-    store.held_at(now)
+/// Whether the row is as it has to be.
+fn is_so(store: &mut Kept, row: Row<'_>) -> bool {
+    match row {
+        Row::Calibrates(reading, wanted) => calibrate(store, reading, -250, 400) == wanted,
+        Row::Latest(wanted) => is_latest(store, wanted),
+        Row::Holds(from, to, wanted) => hold(store, from, to) == wanted,
+        Row::IsHeld(now, wanted) => is_held(store, now) == Ok(wanted),
+        Row::Reserves(serial, account, gen_time, wanted) => {
+            reserve(store, serial, account, gen_time) == wanted
+        }
+        Row::Seals(serial, wanted) => seal(store, serial, OCTETS) == wanted,
+        Row::Last(serial, gen_time) => is_last(store, serial, gen_time),
+        Row::Counts(account, day, wanted) => is_count(store, account, day, wanted),
+        Row::Faults(wanted) => faults(store) == wanted,
+    }
 }
 
-fn reserve(
-    store: &mut Store<MemStore>,
-    serial: u64,
-    account: &str,
-    gen_time: u64,
-) -> Result<(), StoreFault> {
-    store.reserve(&of(serial, account, gen_time))
+fn are_so(store: &mut Kept, rows: &[Row<'_>]) -> Result<(), Fail> {
+    for (at, row) in rows.iter().enumerate() {
+        if !is_so(store, *row) {
+            return Err(Fail::new(format_args!("row {at}")));
+        }
+    }
+    Ok(())
 }
 
-fn seal(store: &mut Store<MemStore>, serial: u64) -> Result<(), StoreFault> {
-    store.seal(serial, OCTETS)
+/// Takes the rows over a store with no entries.
+fn run(alloc: Global, rows: &[Row<'_>]) -> Result<(), Fail> {
+    let mut store = empty(alloc)?;
+    are_so(&mut store, rows)
 }
 
-fn last(store: &mut Store<MemStore>) -> Result<(u64, Option<u64>), StoreFault> {
-    let last = store.last()?;
-    Ok((last.serial, last.gen_time))
-}
-
-fn count(store: &mut Store<MemStore>, account: &str, day: u64) -> Result<u64, StoreFault> {
-    store.count_of_day(account, day)
-}
+static CALIBRATIONS: [Row<'static>; 10] = [
+    Row::Latest(None),
+    Row::Calibrates(5, Ok(())),
+    Row::Latest(Some(5)),
+    Row::Calibrates(5, Ok(())),
+    Row::Latest(Some(5)),
+    Row::Calibrates(4, Err(StoreFault::Backwards)),
+    Row::Latest(Some(5)),
+    Row::Calibrates(6, Ok(())),
+    Row::Latest(Some(6)),
+    Row::Faults(0),
+];
 
 #[test]
 fn a_calibration_before_the_last_is_refused(rt: HostRuntime) -> Result<(), Fail> {
-    let mut store = empty(rt.alloc())?;
-    assert!(rt; calibration(&mut store) == Ok(None));
-    let rows = [
-        (5, Ok(()), 5),
-        (5, Ok(()), 5),
-        (4, Err(StoreFault::Backwards), 5),
-        (6, Ok(()), 6),
-    ];
-    for (reading, wanted, latest) in rows {
-        assert!(rt; calibrate(&mut store, reading) == wanted);
-        assert!(rt; calibration(&mut store) == Ok(Some(at(latest))));
-    }
-    assert!(rt; store.faults() == 0);
-    Ok(())
+    run(rt.alloc(), &CALIBRATIONS)
 }
+
+static HOLDS: [Row<'static>; 9] = [
+    Row::IsHeld(0, false),
+    Row::Holds(0, 1_000_000, Ok(())),
+    Row::Holds(-9, -7, Ok(())),
+    Row::IsHeld(-10, false),
+    Row::IsHeld(-9, true),
+    Row::IsHeld(-7, false),
+    Row::IsHeld(0, true),
+    Row::IsHeld(999_999, true),
+    Row::IsHeld(1_000_000, false),
+];
 
 #[test]
 fn a_hold_has_its_first_moment_and_not_its_end(rt: HostRuntime) -> Result<(), Fail> {
-    let mut store = empty(rt.alloc())?;
-    assert!(rt; is_held(&mut store, 0) == Ok(false));
-    assert!(rt; hold(&mut store, 0, 1_000_000) == Ok(()));
-    assert!(rt; hold(&mut store, -9, -7) == Ok(()));
-    let held: [(i64, bool); 6] = [
-        (-10, false),
-        (-9, true),
-        (-7, false),
-        (0, true),
-        (999_999, true),
-        (1_000_000, false),
-    ];
-    for (now, wanted) in held {
-        assert!(rt; is_held(&mut store, now) == Ok(wanted));
-    }
-    Ok(())
+    run(rt.alloc(), &HOLDS)
 }
+
+static VOID_RESERVATIONS: [Row<'static>; 10] = [
+    Row::Last(0, None),
+    Row::Reserves(1, "carol", DAY - 1_000_000, Ok(())),
+    Row::Reserves(2, "carol", DAY - 1_000_000, Ok(())),
+    Row::Seals(2, Ok(())),
+    Row::Reserves(3, "carol", DAY, Ok(())),
+    Row::Last(3, Some(DAY)),
+    Row::Counts("carol", 0, 2),
+    Row::Counts("carol", 1, 1),
+    Row::Counts("carol", 2, 0),
+    Row::Counts("alice", 0, 0),
+];
 
 #[test]
 fn void_reservations_count(rt: HostRuntime) -> Result<(), Fail> {
-    let mut store = empty(rt.alloc())?;
-    assert!(rt; last(&mut store) == Ok((0, None)));
-    assert!(rt; reserve(&mut store, 1, "carol", DAY - 1_000_000) == Ok(()));
-    assert!(rt; reserve(&mut store, 2, "carol", DAY - 1_000_000) == Ok(()));
-    assert!(rt; seal(&mut store, 2) == Ok(()));
-    assert!(rt; reserve(&mut store, 3, "carol", DAY) == Ok(()));
-    assert!(rt; last(&mut store) == Ok((3, Some(DAY))));
-    let counts: [(&str, u64, u64); 4] = [
-        ("carol", 0, 2),
-        ("carol", 1, 1),
-        ("carol", 2, 0),
-        ("alice", 0, 0),
-    ];
-    for (account, day, wanted) in counts {
-        assert!(rt; count(&mut store, account, day) == Ok(wanted));
-    }
-    Ok(())
+    run(rt.alloc(), &VOID_RESERVATIONS)
 }
+
+static LAST_SERIAL: [Row<'static>; 5] = [
+    Row::Reserves(GREATEST, "guest", 7, Ok(())),
+    Row::Reserves(1, "guest", 8, Err(StoreFault::Full)),
+    Row::Last(GREATEST, Some(7)),
+    Row::Counts("guest", 0, 1),
+    Row::Faults(0),
+];
 
 #[test]
 fn the_last_serial_is_the_last(rt: HostRuntime) -> Result<(), Fail> {
-    let mut store = empty(rt.alloc())?;
-    let greatest = 9_223_372_036_854_775_807;
-    assert!(rt; reserve(&mut store, greatest, "guest", 7) == Ok(()));
-    assert!(rt; reserve(&mut store, 1, "guest", 8) == Err(StoreFault::Full));
-    assert!(rt; last(&mut store) == Ok((greatest, Some(7))));
-    assert!(rt; count(&mut store, "guest", 0) == Ok(1));
-    assert!(rt; store.faults() == 0);
-    Ok(())
+    run(rt.alloc(), &LAST_SERIAL)
 }
+
+static TAKEN_SERIAL: [Row<'static>; 5] = [
+    Row::Reserves(1, "guest", 7, Ok(())),
+    Row::Reserves(1, "guest", 9, Err(StoreFault::Database)),
+    Row::Faults(1),
+    Row::Last(1, Some(7)),
+    Row::Counts("guest", 0, 1),
+];
 
 #[test]
 fn a_taken_serial_is_a_counted_fault_and_changes_nothing(rt: HostRuntime) -> Result<(), Fail> {
-    let mut store = empty(rt.alloc())?;
-    assert!(rt; reserve(&mut store, 1, "guest", 7) == Ok(()));
-    assert!(rt; reserve(&mut store, 1, "guest", 9) == Err(StoreFault::Database));
-    assert!(rt; store.faults() == 1);
-    assert!(rt; last(&mut store) == Ok((1, Some(7))));
-    assert!(rt; count(&mut store, "guest", 0) == Ok(1));
-    Ok(())
-}
-
-/// The connection of a store, outside any transaction.
-fn connection(store: Store<MemStore>) -> Result<Connection<MemStore>, Fail>
-    ensures { IfOk result (λ conn. conn.in_transaction ≡ false) }
-{
-    let conn = store.into_connection();
-    if conn.is_autocommit() {
-        Ok(conn)
-    } else {
-        Err(Fail::new("a transaction is open"))
-    }
+    run(rt.alloc(), &TAKEN_SERIAL)
 }
 
 #[test]
 fn tables_are_made_once_and_adopted(rt: HostRuntime) -> Result<(), Fail> {
-    let mut store = empty(rt.alloc())?;
-    assert!(rt; reserve(&mut store, 1, "guest", 7) == Ok(()));
-    let Err((fault, conn)) = Store::create(rt.alloc(), connection(store)?) else {
-        return Err(Fail::new("the tables were made twice"));
-    };
-    assert!(rt; fault == StoreFault::NotOurs);
-    let Ok(mut store) = Store::adopt(rt.alloc(), conn) else {
-        return Err(Fail::new("the tables weren't taken"));
-    };
-    assert!(rt; last(&mut store) == Ok((1, Some(7))));
-    Ok(())
+    let alloc = rt.alloc();
+    let mut store = empty(alloc)?;
+    are_so(&mut store, &[Row::Reserves(1, "guest", 7, Ok(()))])?;
+    let conn = refused(create(alloc, connection(store)))?;
+    let mut store = kept(adopt(alloc, conn))?;
+    are_so(&mut store, &[Row::Last(1, Some(7))])
 }
 
 #[test]
 fn a_database_without_tables_is_another(rt: HostRuntime) -> Result<(), Fail> {
-    let conn = Connection::open_in_memory(rt.alloc())?;
-    if !conn.is_autocommit() {
-        return Err(Fail::new("a transaction is open"));
-    }
-    let Err((fault, _)) = Store::adopt(rt.alloc(), conn) else {
-        return Err(Fail::new("a database without tables was taken"));
-    };
-    assert!(rt; fault == StoreFault::NotOurs);
+    let _conn = refused(adopt(rt.alloc(), connected(rt.alloc())?))?;
     Ok(())
 }
 

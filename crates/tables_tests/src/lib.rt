@@ -3,3 +3,9 @@
 
 #[cfg(test)]
 mod changes;
+#[cfg(test)]
+mod connections;
+#[cfg(test)]
+mod looks;
+#[cfg(test)]
+mod rows;

@@ -1,11 +1,13 @@
 //! Octets from outside: requests by their grammar, the replies' table, and a TSTInfo written out by hand.
+use crate::calls::{
+    answer, next, nonce_of, parameters_of, read_request, read_tst, refuses_request, refuses_tst,
+    rewritten_request, rewritten_tst,
+};
 use der::Oid;
 use gentime::GenTime;
+use std::alloc::Global;
 use std::test::Fail;
-use tsp::{
-    Integer, ObjectIdentifier, Rejection, Rule, TspFault, read_request, read_tst,
-    requests_have_one_reading, write_request, write_tst,
-};
+use tsp::{Integer, Rejection, Request, Rule, TspFault};
 
 /// Requests.
 pub static REQUESTS: [&[u8]; 8] = [
@@ -101,40 +103,43 @@ pub const TST: &[u8] =
       \x9c\xb4\x10\xff\x61\xf2\x00\x15\xad\x02\x01\x01\x18\x0f\x31\x39\x37\x30\x30\x31\x30\x31\x30\x30\x30\x30\
       \x30\x30\x5a\x30\x03\x02\x01\x01";
 
+/// Whether the octets are a request with a hash of 32 octets, and that certReq.
+fn is_request(octets: &[u8], cert_req: bool) -> Result<bool, TspFault> {
+    let request = read_request(octets)?;
+    Ok(request.hash().len() == 32 && request.cert_req() == cert_req)
+}
+
 #[test]
 fn reads_requests_and_nothing_else(rt: HostRuntime) -> Result<(), Fail> {
     for (i, octets) in REQUESTS.iter().enumerate() {
-        let request = read_request(octets)?;
-        assert_eq!(rt; request.hash().len(), 32, "at {i}");
-        assert_eq!(rt; request.cert_req(), i == 1, "at {i}");
+        assert!(rt; is_request(octets, i == 1)?, "at {i}");
     }
     for (i, octets) in OTHERS.iter().enumerate() {
-        match read_request(octets) {
-            Ok(_) => assert!(rt; false, "at {i}"),
-            Err(fault) => assert_eq!(rt; fault, TspFault::Form, "at {i}"),
-        }
+        assert!(rt; refuses_request(octets, TspFault::Form), "at {i}");
     }
     Ok(())
+}
+
+/// Whether the request has that version, algorithm and policy.
+fn states(request: &Request<'_>, version: &[u8], algorithm: &[u8], policy: &[u8]) -> bool {
+    request.version() == version
+        && request.algorithm() == algorithm
+        && request.policy() == Some(policy)
 }
 
 #[test]
 fn lends_what_it_read(rt: HostRuntime) -> Result<(), Fail> {
     let request = read_request(REQUESTS[3])?;
-    assert_eq!(rt; request.version(), [1].as_slice());
-    assert_eq!(rt; request.algorithm(), [0x88, 0x37, 0x64].as_slice());
-    assert!(rt; request.parameters().is_none());
-    assert_eq!(rt;
-        request.policy().unwrap_or(&[]),
-        [0x88, 0x37, 0x37].as_slice()
-    );
-    assert!(rt; request.nonce().is_none());
+    assert!(rt; states(&request, b"\x01", b"\x88\x37\x64", b"\x88\x37\x37"));
+    assert!(rt; parameters_of(&request).is_none());
+    assert!(rt; nonce_of(&request).is_none());
     let request = read_request(REQUESTS[5])?;
-    assert!(rt; request.parameters().is_some());
-    assert_eq!(rt; request.nonce().unwrap_or(&[]), [0xff].as_slice());
+    assert!(rt; parameters_of(&request).is_some());
+    assert!(rt; nonce_of(&request) == Some(b"\xff".as_slice()));
     let request = read_request(REQUESTS[6])?;
     let mut extensions = request.extensions();
-    assert!(rt; extensions.next().is_some());
-    assert!(rt; extensions.next().is_none());
+    assert!(rt; next(&mut extensions).is_some());
+    assert!(rt; next(&mut extensions).is_none());
     Ok(())
 }
 
@@ -142,27 +147,25 @@ fn lends_what_it_read(rt: HostRuntime) -> Result<(), Fail> {
 fn refuses_more_octets_than_may_be(rt: HostRuntime) -> Result<(), Fail> {
     for (count, fault) in [(65_536, TspFault::Form), (65_537, TspFault::TooLong)] {
         let octets = vec![in rt.alloc(); 0u8; count]?;
-        match read_request(&octets) {
-            Ok(_) => assert!(rt; false),
-            Err(found) => assert_eq!(rt; found, fault),
-        }
+        assert!(rt; refuses_request(&octets, fault), "{count}");
     }
     Ok(())
 }
 
 #[test]
 fn writes_a_tst_info(rt: HostRuntime) -> Result<(), Fail> {
-    let request = read_request(REQUESTS[0])?;
     let policy = Oid::parse_text(rt.alloc(), "2.999.1")?;
-    requests_have_one_reading();
-    let tst = request.into_tst_info(
-        ObjectIdentifier::of(&policy),
+    let moment = GenTime::from_micros(0)?;
+    let tst = answer(
+        rt.alloc(),
+        REQUESTS[0],
+        &policy,
         1,
-        GenTime::from_micros(0)?,
+        moment,
         1_000_000,
         false,
-    );
-    assert_eq!(rt; write_tst(rt.alloc(), &tst)?.as_slice(), TST);
+    )?;
+    assert!(rt; tst.as_slice() == TST);
     Ok(())
 }
 
@@ -230,13 +233,30 @@ static REJECTIONS: [(Rule, u8, &[u8]); 12] = [
     ),
 ];
 
+/// Whether the rule has that number, and its rejection those octets.
+fn rejects(rule: Rule, number: u8, octets: &[u8]) -> bool {
+    rule.number() == number && Rejection::of(rule).as_slice() == octets
+}
+
 #[test]
-fn rejects_by_each_rule(rt: HostRuntime) -> Result<(), Fail> {
+fn rejects_by_each_rule(rt: HostRuntime) {
     for (rule, number, octets) in REJECTIONS {
-        assert_eq!(rt; rule.number(), number);
-        assert_eq!(rt; Rejection::of(rule).as_slice(), octets);
+        assert!(rt; rejects(rule, number, octets), "{number}");
     }
-    Ok(())
+}
+
+/// Whether the fault has that number and that text.
+fn is_told(alloc: Global, fault: TspFault, number: u8, text: &str) -> Result<bool, Fail> {
+    let shown = format!(in alloc; "{fault}")?;
+    Ok(fault.number() == number && shown.as_str() == text)
+}
+
+/// Whether the octets are the contents of an INTEGER, which lends them.
+fn is_integer(octets: &[u8]) -> bool {
+    match Integer::from_content(octets) {
+        Some(number) => number.content() == octets,
+        None => false,
+    }
 }
 
 #[test]
@@ -247,13 +267,10 @@ fn numbers_faults_and_integers(rt: HostRuntime) -> Result<(), Fail> {
         (TspFault::Memory, 3, "out of memory"),
     ];
     for (fault, number, text) in faults {
-        assert_eq!(rt; fault.number(), number);
-        let shown = format!(in rt.alloc(); "{fault}")?;
-        assert_eq!(rt; shown.as_str(), text);
+        assert!(rt; is_told(rt.alloc(), fault, number, text)?, "{text}");
     }
-    let minus_one = Integer::from_content(&[0xff]).ok_or("refused")?;
-    assert_eq!(rt; minus_one.content(), [0xff].as_slice());
-    assert!(rt; Integer::from_content(&[0x00, 0x01]).is_none());
+    assert!(rt; is_integer(b"\xff"));
+    assert!(rt; !is_integer(b"\x00\x01"));
     Ok(())
 }
 
@@ -420,30 +437,30 @@ static NO_TST_INFOS: [&[u8]; 21] = [
       \xf2\x00\x15\xad",
 ];
 
+/// Whether the octets are a TSTInfo with a hash of 32 octets and that ordering, which is written as it was read.
+fn is_tst_info(alloc: Global, octets: &[u8], ordering: bool) -> Result<bool, TspFault> {
+    let tst = read_tst(octets)?;
+    let same = tst.imprint.hash.len() == 32 && tst.ordering == ordering;
+    Ok(same && rewritten_tst(alloc, octets)?.as_slice() == octets)
+}
+
 #[test]
 fn reads_tst_infos_and_nothing_else(rt: HostRuntime) -> Result<(), Fail> {
     for (i, octets) in TST_INFOS.iter().enumerate() {
-        let tst = read_tst(octets)?;
-        assert_eq!(rt; tst.imprint.hash.len(), 32, "at {i}");
-        assert_eq!(rt; tst.ordering, i == 1 || i == 9, "at {i}");
-        assert_eq!(rt; write_tst(rt.alloc(), &tst)?.as_slice(), *octets, "at {i}");
+        assert!(rt;
+            is_tst_info(rt.alloc(), octets, i == 1 || i == 9)?,
+            "at {i}"
+        );
     }
     for (i, octets) in NO_TST_INFOS.iter().enumerate() {
-        match read_tst(octets) {
-            Ok(_) => assert!(rt; false, "at {i}"),
-            Err(fault) => assert_eq!(rt; fault, TspFault::Form, "at {i}"),
-        }
+        assert!(rt; refuses_tst(octets, TspFault::Form), "at {i}");
     }
     Ok(())
 }
 
 #[test]
 fn writes_requests_without_stated_falses(rt: HostRuntime) -> Result<(), Fail> {
-    let request = read_request(REQUESTS[2])?;
-    requests_have_one_reading();
-    assert_eq!(rt;
-        write_request(rt.alloc(), &request)?.as_slice(),
-        REQUESTS[0]
-    );
+    let written = rewritten_request(rt.alloc(), REQUESTS[2])?;
+    assert!(rt; written.as_slice() == REQUESTS[0]);
     Ok(())
 }

@@ -1,16 +1,14 @@
 //! Requests and TSTInfo by a seeded generator, written and read back.
 ghost use Rattle.std.specs.Prelude.{◌<◌, ◌≤◌, ◌^◌};
 
+use crate::calls::{answer, append, read_tst, rewritten_request, rewritten_tst, wrap};
 use der::{DerFault, Oid, Tag, Writer};
 use gentime::GenTime;
 use rand_core::Rng;
 use rand_pcg::Pcg32;
 use std::alloc::{AllocError, Global};
 use std::test::Fail;
-use tsp::{
-    ObjectIdentifier, TspFault, read_request, read_tst, requests_have_one_reading, write_request,
-    write_tst,
-};
+use tsp::TspFault;
 
 const CASES: u32 = 1_000;
 
@@ -34,28 +32,31 @@ fn some_octets(alloc: Global, rng: &mut Pcg32, most: u8) -> Result<Vec<u8>, Allo
 /// An INTEGER of up to 41 octets, of either sign: its first octet has bits of both kinds, so that it is the shortest.
 fn integer(alloc: Global, rng: &mut Pcg32) -> Result<Writer, DerFault> {
     let mut number = Writer::new(alloc);
-    number.append(&[1 + below(rng, 254) as u8])?;
-    number.append(&some_octets(alloc, rng, 40)?)?;
-    number.wrap(Tag::INTEGER)?;
+    append(&mut number, &[1 + below(rng, 254) as u8])?;
+    append(&mut number, &some_octets(alloc, rng, 40)?)?;
+    wrap(&mut number, Tag::INTEGER)?;
     Ok(number)
 }
 
 /// An OBJECT IDENTIFIER of one subidentifier of two octets, and up to seven of one.
 fn identifier(alloc: Global, rng: &mut Pcg32) -> Result<Writer, DerFault> {
     let mut oid = Writer::new(alloc);
-    oid.append(&[129 + below(rng, 127) as u8, below(rng, 128) as u8])?;
+    append(
+        &mut oid,
+        &[129 + below(rng, 127) as u8, below(rng, 128) as u8],
+    )?;
     for _ in 0..below(rng, 8) {
-        oid.append(&[below(rng, 128) as u8])?;
+        append(&mut oid, &[below(rng, 128) as u8])?;
     }
-    oid.wrap(Tag::OBJECT_IDENTIFIER)?;
+    wrap(&mut oid, Tag::OBJECT_IDENTIFIER)?;
     Ok(oid)
 }
 
 /// An OCTET STRING.
 fn octet_string(alloc: Global, rng: &mut Pcg32) -> Result<Writer, DerFault> {
     let mut string = Writer::new(alloc);
-    string.append(&some_octets(alloc, rng, 200)?)?;
-    string.wrap(Tag::OCTET_STRING)?;
+    append(&mut string, &some_octets(alloc, rng, 200)?)?;
+    wrap(&mut string, Tag::OCTET_STRING)?;
     Ok(string)
 }
 
@@ -64,11 +65,11 @@ fn parameters(alloc: Global, rng: &mut Pcg32) -> Result<Writer, DerFault> {
     let mut parameters = Writer::new(alloc);
     match below(rng, 3) {
         0 => {}
-        1 => parameters.wrap(Tag::NULL)?,
+        1 => wrap(&mut parameters, Tag::NULL)?,
         _ => {
-            parameters.append(octet_string(alloc, rng)?.as_slice())?;
+            append(&mut parameters, octet_string(alloc, rng)?.as_slice())?;
             for _ in 0..below(rng, 20) {
-                parameters.wrap(Tag::SEQUENCE)?;
+                wrap(&mut parameters, Tag::SEQUENCE)?;
             }
         }
     }
@@ -78,18 +79,18 @@ fn parameters(alloc: Global, rng: &mut Pcg32) -> Result<Writer, DerFault> {
 /// A MessageImprint.
 fn imprint(alloc: Global, rng: &mut Pcg32) -> Result<Writer, DerFault> {
     let mut imprint = Writer::new(alloc);
-    imprint.append(identifier(alloc, rng)?.as_slice())?;
-    imprint.append(parameters(alloc, rng)?.as_slice())?;
-    imprint.wrap(Tag::SEQUENCE)?;
-    imprint.append(octet_string(alloc, rng)?.as_slice())?;
-    imprint.wrap(Tag::SEQUENCE)?;
+    append(&mut imprint, identifier(alloc, rng)?.as_slice())?;
+    append(&mut imprint, parameters(alloc, rng)?.as_slice())?;
+    wrap(&mut imprint, Tag::SEQUENCE)?;
+    append(&mut imprint, octet_string(alloc, rng)?.as_slice())?;
+    wrap(&mut imprint, Tag::SEQUENCE)?;
     Ok(imprint)
 }
 
 /// TRUE, or nothing for FALSE.
 fn append_flag(rng: &mut Pcg32, writer: &mut Writer) -> Result<(), DerFault> {
     if below(rng, 2) == 1 {
-        writer.append(&[0x01, 0x01, 0xff])?;
+        append(writer, &[0x01, 0x01, 0xff])?;
     }
     Ok(())
 }
@@ -99,14 +100,14 @@ fn extensions(alloc: Global, rng: &mut Pcg32) -> Result<Writer, DerFault> {
     let mut list = Writer::new(alloc);
     for _ in 0..below(rng, 4) {
         let mut extension = Writer::new(alloc);
-        extension.append(identifier(alloc, rng)?.as_slice())?;
+        append(&mut extension, identifier(alloc, rng)?.as_slice())?;
         append_flag(rng, &mut extension)?;
-        extension.append(octet_string(alloc, rng)?.as_slice())?;
-        extension.wrap(Tag::SEQUENCE)?;
-        list.append(extension.as_slice())?;
+        append(&mut extension, octet_string(alloc, rng)?.as_slice())?;
+        wrap(&mut extension, Tag::SEQUENCE)?;
+        append(&mut list, extension.as_slice())?;
     }
     if !list.is_empty() {
-        list.wrap(Tag { octet: 0xa0 })?;
+        wrap(&mut list, Tag { octet: 0xa0 })?;
     }
     Ok(list)
 }
@@ -114,25 +115,22 @@ fn extensions(alloc: Global, rng: &mut Pcg32) -> Result<Writer, DerFault> {
 /// A request without stated FALSEs.
 fn request(alloc: Global, rng: &mut Pcg32) -> Result<Writer, DerFault> {
     let mut request = integer(alloc, rng)?;
-    request.append(imprint(alloc, rng)?.as_slice())?;
+    append(&mut request, imprint(alloc, rng)?.as_slice())?;
     if below(rng, 2) == 1 {
-        request.append(identifier(alloc, rng)?.as_slice())?;
+        append(&mut request, identifier(alloc, rng)?.as_slice())?;
     }
     if below(rng, 2) == 1 {
-        request.append(integer(alloc, rng)?.as_slice())?;
+        append(&mut request, integer(alloc, rng)?.as_slice())?;
     }
     append_flag(rng, &mut request)?;
-    request.append(extensions(alloc, rng)?.as_slice())?;
-    request.wrap(Tag::SEQUENCE)?;
+    append(&mut request, extensions(alloc, rng)?.as_slice())?;
+    wrap(&mut request, Tag::SEQUENCE)?;
     Ok(request)
 }
 
 /// Whether a request is written as it was read.
 fn is_written_again(alloc: Global, octets: &[u8]) -> Result<bool, TspFault> {
-    requests_have_one_reading();
-    let request = read_request(octets)?;
-    let written = write_request(alloc, &request)?;
-    Ok(written.as_slice() == octets)
+    Ok(rewritten_request(alloc, octets)?.as_slice() == octets)
 }
 
 /// Whether the TSTInfo that answers a request is read as it was written.
@@ -150,22 +148,13 @@ fn is_read_again(
     requires some_accuracy { 1 ≤ accuracy }
     requires most_accuracy { accuracy ≤ 1000000 }
 {
-    requests_have_one_reading();
-    let request = read_request(octets)?;
-    let tst = request.into_tst_info(
-        ObjectIdentifier::of(policy),
-        serial,
-        gen_time,
-        accuracy,
-        ordering,
-    );
-    let written = write_tst(alloc, &tst)?;
+    let written = answer(alloc, octets, policy, serial, gen_time, accuracy, ordering)?;
     let read = read_tst(&written)?;
     let same = read.serial == serial
         && read.gen_time == gen_time
         && read.accuracy == accuracy
         && read.ordering == ordering;
-    Ok(same && write_tst(alloc, &read)?.as_slice() == written.as_slice())
+    Ok(same && rewritten_tst(alloc, &written)?.as_slice() == written.as_slice())
 }
 
 #[test]

@@ -3,7 +3,7 @@ use Rattle.der.specs.Node.{IsLawful}
 use Rattle.der.specs.ObjectIdentifier.{IsOid}
 use Rattle.tsp.specs.Tst.{tst_info}
 use Rattle.tsp.specs.View.{request_view}
-use Rattle.tsp_tests.proofs.random.is_read_again.Goals as goal
+use Rattle.tsp_tests.proofs.calls.answer.Goals as goal
 
 -- what answers a request is lawful
 pub write_tst-requires-clause-lawful : goal.write_tst-requires-clause-lawful
