@@ -68,8 +68,7 @@ abbrev pub IsFraction : List ℕ → Type 0
 IsFraction octets = AllByRecursion IsAsciiDigit octets × (without_trailing_zeros octets ≡ octets)
 
 -- parts that the form of a GeneralizedTime has room for, whether or not there is such a time: numbers of four and two
--- digits,
--- and a fraction
+-- digits, and a fraction
 pub record HasParts (time : GeneralizedTime) : Type 0 where
   pub year : time.year < 10_000
   pub month : time.month < 100

@@ -1,4 +1,4 @@
--- The schema, version 1: each table as its text makes it. The text is what the database keeps and sqlite3 shows.
+-- The schema, version 1: each table as the text that makes it (Statements.antt) defines it.
 use Rattle.std.specs.Prelude.{true, false, ℕ, List, [], ◌∷◌, codes, Option, Some, None}
 use Rattle.sqlite_value.specs.declared.value.Value.TheVariants.{Null}
 use Rattle.sqlite_value.specs.declared.keys.Collation.TheVariants.{Binary}
@@ -12,33 +12,6 @@ use Rattle.sqlite_schema.specs.declared.schema.Reference.{Reference}
 use Rattle.sqlite_schema.specs.declared.schema.Table.{Table}
 use Rattle.sqlite_schema.specs.declared.schema.Schema.{Schema}
 use Rattle.sqlite_catalog.specs.Change.{created}
-
--- ---- the texts
-
-abbrev pub meta_text : List ℕ
-meta_text = codes "CREATE TABLE meta (version INTEGER NOT NULL) STRICT"
-
-abbrev pub stamp_text : List ℕ
-stamp_text = codes "CREATE TABLE stamp (serial INTEGER PRIMARY KEY, account TEXT NOT NULL, day INTEGER NOT NULL, gen INTEGER NOT NULL, policy BLOB NOT NULL, algorithm BLOB NOT NULL, digest BLOB NOT NULL, request BLOB NOT NULL, tst BLOB NOT NULL, token BLOB) STRICT"
-
-abbrev pub calibration_text : List ℕ
-calibration_text = codes
-    "CREATE TABLE calibration (n INTEGER PRIMARY KEY, reading INTEGER NOT NULL, offset_us INTEGER NOT NULL, uncertainty INTEGER NOT NULL) STRICT"
-
-abbrev pub hold_text : List ℕ
-hold_text = codes "CREATE TABLE hold (n INTEGER PRIMARY KEY, from_us INTEGER NOT NULL, to_us INTEGER NOT NULL) STRICT"
-
-abbrev pub deposit_text : List ℕ
-deposit_text = codes
-    "CREATE TABLE deposit (serial INTEGER PRIMARY KEY REFERENCES stamp (serial), owner TEXT NOT NULL, reference TEXT NOT NULL, bytes BLOB NOT NULL, UNIQUE (owner, reference)) STRICT"
-
-abbrev pub reader_text : List ℕ
-reader_text = codes "CREATE TABLE reader (serial INTEGER NOT NULL REFERENCES deposit (serial), account TEXT NOT NULL, PRIMARY KEY (serial, account)) STRICT"
-
-abbrev pub tally_text : List ℕ
-tally_text = codes "CREATE TABLE tally (account TEXT NOT NULL, day INTEGER NOT NULL, count INTEGER NOT NULL, PRIMARY KEY (account, day)) STRICT"
-
--- ---- what they make
 
 abbrev pub key : List ℕ → Column
 key name = record {
@@ -125,7 +98,7 @@ tally = table_of (codes "tally") (required (codes "account") Text ∷ required (
     ∷ required (codes "count") Integer ∷ [])
     None (1 ∷ 2 ∷ []) ((1 ∷ 2 ∷ []) ∷ []) (plain ∷ []) []
 
--- ---- the schema, as it is after each of the texts
+-- the schema, as it is after each of these tables is made
 
 abbrev pub no_schema : Schema
 no_schema = record { tables = []; indexes = []; views = [] }

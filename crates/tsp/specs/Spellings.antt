@@ -42,6 +42,9 @@ pub record AreRequest (octets : List ℕ) (r : RequestValue) : Type 0 where
   pub is_flag : AreFlag r.cert_req flag
   pub extensions : List ℕ
   pub are_extensions : AreExtensions extensions r.extensions
-  pub same : octets ≡ element 0x30 (encoding (integer r.version) ++ (encoding (message_imprint r.imprint)
-      ++ (encodings (nodes (optional object_identifier r.policy)) ++ (encodings (nodes (optional integer r.nonce))
-      ++ (flag ++ extensions)))))
+  pub same : octets ≡ element 0x30 (encoding (integer r.version)
+      ++ (encoding (message_imprint r.imprint)
+      ++ (encodings (nodes (optional object_identifier r.policy))
+      ++ (encodings (nodes (optional integer r.nonce))
+      ++ (flag
+      ++ extensions)))))

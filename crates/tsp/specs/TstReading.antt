@@ -85,10 +85,15 @@ parts_of n = do
 -- the TSTInfo of its parts
 abbrev pub info_of : TstParts → Node
 info_of p =
-    sequence (integer (pos 1) ∷ object_identifier p.head.policy ∷ message_imprint p.head.imprint
+    sequence (integer (pos 1)
+    ∷ object_identifier p.head.policy
+    ∷ message_imprint p.head.imprint
     ∷ integer (pos p.head.serial)
-    ∷ primitive 0x18 p.head.time ∷ accuracy p.head.accuracy ∷ (false_by_default false p.ordering
-    ++ (optional integer p.nonce ++ extensions_under 0xa1 [] p.extensions)))
+    ∷ primitive 0x18 p.head.time
+    ∷ accuracy p.head.accuracy
+    ∷ (false_by_default false p.ordering
+    ++ (optional integer p.nonce
+    ++ extensions_under 0xa1 [] p.extensions)))
 
 -- the parts of a TSTInfo, with the time as its octets
 abbrev pub parts_in : TstValue → TstParts
