@@ -1,5 +1,5 @@
 //! Frames: octets with their number in front, over any reader and writer.
-ghost use Rattle.std.specs.Prelude.{◌≡◌, ◌^◌, ◌<◌, ◌≤◌, ℕ, List, length, slice_index, IfOk, OnOk, OnErr, vec_len};
+ghost use Rattle.std.specs.Prelude.{◌≡◌, ◌^◌, ◌<◌, ℕ, List, length, slice_index, IfOk, OnOk, OnErr, vec_len};
 ghost use Rattle.std.specs.Int.{to_be_bytes, w32};
 ghost use Rattle.std.specs.Io.KnownBytes.{Appends, Consumes};
 ghost use Rattle.cms.specs.Framed.{frame, IsAnswer, SendsBeginning, ReceivesNoAnswer};

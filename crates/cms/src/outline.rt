@@ -1,5 +1,5 @@
 //! Where issuer and serial number stand in a certificate.
-ghost use Rattle.std.specs.Prelude.{◌≡◌, ℕ, MatchOption, IfSome, option_map, ◌↔◌, IsTrue};
+ghost use Rattle.std.specs.Prelude.{◌≡◌, MatchOption, IfSome, option_map, ◌↔◌, IsTrue};
 ghost use Rattle.der.specs.DataValueView.{value_view, values_view};
 ghost use Rattle.cms.specs.Certificate.{CertificateParts, IsCertificate, IsAlgorithm};
 ghost use Rattle.cms.specs.Outline.{sequence_at, serial_at, after_version, outline_of, outline, is_optional};

@@ -1,5 +1,5 @@
 //! Where readings come from.
-ghost use Rattle.std.specs.Prelude.{◌≡◌, ◌/◌, ◌^◌, ◌<◌, ℤ, pos, ◌≤ℤ◌, Result, IfOk, IsOk, ◌↔◌};
+ghost use Rattle.std.specs.Prelude.{◌≡◌, ◌/◌, ◌^◌, ◌<◌, ℤ, pos, Result, IfOk, IsOk, ◌↔◌};
 ghost use Rattle.std.specs.Duration.{as_nanos};
 ghost use Rattle.connections.specs.declared.clock.ClockFailed.{ClockFailed as SpecFailed};
 

@@ -1,5 +1,5 @@
 -- What `exchange` writes, out of what the operation says of it.
-use Rattle.std.proofs.Common.{ℕ, ℤ, List, [], Option, length, take, sym, subst, inl, inr}
+use Rattle.std.proofs.Common.{ℕ, ℤ, List, [], Option, length, sym, subst, inl, inr}
 use Rattle.std.proofs.Math.Seq.{take-length}
 use Rattle.std.specs.Io.KnownBytes.{Appends, Keeps}
 use Rattle.policy.specs.Record.{PolicyValue}

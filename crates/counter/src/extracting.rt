@@ -1,5 +1,5 @@
 //! The word `audit`.
-ghost use Rattle.std.specs.Prelude.{◌≡◌, ◌⊎◌, List, ℕ, true, false, IfOk, IfErr, OnOk};
+ghost use Rattle.std.specs.Prelude.{◌≡◌, List, ℕ, true, false, IfOk, IfErr, OnOk};
 ghost use Rattle.std.specs.Io.KnownBytes.{Appends};
 ghost use Rattle.operations.specs.Auditing.{TellsSome};
 ghost use Rattle.counter.specs.Audits.{Audits, LeavesCut};

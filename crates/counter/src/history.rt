@@ -1,5 +1,5 @@
 //! What the words of an operator do to the database.
-ghost use Rattle.std.specs.Prelude.{◌≡◌, ◌⊎◌, ◌<◌, ◌≤◌, Err, IfOk, IfErr};
+ghost use Rattle.std.specs.Prelude.{◌≡◌, ◌<◌, ◌≤◌, Err, IfOk, IfErr};
 ghost use Rattle.store.specs.Values.{calibration_view, hold_view};
 ghost use Rattle.counter.specs.Additions.{calibration_of, hold_of};
 ghost use Rattle.counter.specs.Fault.{IsStoreFault};

@@ -1,4 +1,4 @@
-ghost use Rattle.std.specs.Prelude.{◌≡◌, IsErr, Contains, [], ◌∷◌};
+ghost use Rattle.std.specs.Prelude.{◌≡◌, IsErr, Contains};
 ghost use Rattle.std.specs.Io.{ReadsAtMost};
 ghost use Rattle.std.specs.Io.KnownBytes.{ReadConsumes};
 ghost use Rattle.std.specs.Io.Take.{take_limit, take_inner, take_remaining};

@@ -1,5 +1,5 @@
 //! Calibrations and holds, which commands add.
-ghost use Rattle.std.specs.Prelude.{◌≡◌};
+
 ghost use Rattle.tables.specs.Base.{IsHonest};
 ghost use Rattle.store.specs.Values.{calibration_view, hold_view};
 ghost use Rattle.desk.specs.Command.{Setting, Calibrate, Hold as AddHold};

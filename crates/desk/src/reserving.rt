@@ -1,5 +1,5 @@
 //! How a stamp is reserved.
-ghost use Rattle.std.specs.Prelude.{◌≡◌, ◌⊎◌, ℕ, ◌≤◌, ◌+◌, length, Ok, IfOk, IfErr};
+ghost use Rattle.std.specs.Prelude.{◌≡◌, ◌≤◌, ◌+◌, length, Ok, IfOk, IfErr};
 ghost use Rattle.tables.specs.Base.{IsHonest};
 ghost use Rattle.gentime.specs.GenTime.{last_moment};
 ghost use Rattle.tsp.specs.Request.{Spells};

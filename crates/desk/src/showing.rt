@@ -1,5 +1,5 @@
 //! What an account sees.
-ghost use Rattle.std.specs.Prelude.{◌≡◌, ℕ, IfErr, MatchResult};
+ghost use Rattle.std.specs.Prelude.{◌≡◌, IfErr, MatchResult};
 ghost use Rattle.policy.specs.View.{account_view};
 ghost use Rattle.tables.specs.Base.{IsHonest};
 ghost use Rattle.store.specs.History.{History};

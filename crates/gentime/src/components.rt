@@ -1,6 +1,6 @@
 //! The parts of a GeneralizedTime (X.690 11.7), and their octets.
 
-ghost use Rattle.std.specs.Prelude.{◌≡◌, ◌+◌, ◌*◌, ◌%◌, ◌<◌, ◌≤◌, ◌++◌, IfOk, OnOk, pos};
+ghost use Rattle.std.specs.Prelude.{◌≡◌, ◌+◌, ◌%◌, ◌<◌, ◌≤◌, ◌++◌, IfOk, OnOk, pos};
 ghost use Rattle.gentime.specs.Calendar.{civil_date};
 ghost use Rattle.gentime.specs.GenTime as spec;
 

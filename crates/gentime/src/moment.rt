@@ -3,7 +3,6 @@
 ghost use Rattle.std.specs.Prelude.{◌≡◌, ◌↔◌, ◌≤◌, ◌-◌, ◌^◌, ℕ, length, pos, ◌≤ℤ◌, IsOk, IfOk, IfErr, IsErrOf, Ok};
 ghost use Rattle.gentime.specs.GenTime.{last_moment, round_down, day_of, text_of, GeneralizedTime, HasForm, IsTime};
 ghost use Rattle.gentime.specs.GenTime.{IsCounted};
-ghost use Rattle.gentime.specs.declared.fault.GenTimeFault.TheVariants.{Date, Form, Memory, Range};
 
 use crate::components::{Components, six_digits, without_trailing_zeros};
 use crate::fault::GenTimeFault;

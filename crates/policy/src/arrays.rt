@@ -1,5 +1,5 @@
 //! The tables of a policy file: `counter`, and the entries of the four arrays.
-ghost use Rattle.std.specs.Prelude.{◌≡◌, ◌≤◌, ℕ, [], None, map, codes, string_bytes, length};
+ghost use Rattle.std.specs.Prelude.{◌≡◌, ◌≤◌, [], None, map, codes, string_bytes, length};
 ghost use Rattle.der.specs.ObjectIdentifier.{oid_content};
 ghost use Rattle.toml.specs.Data.{get_member, as_table};
 ghost use Rattle.toml.specs.View.{view, items_view, table_view};

@@ -1,6 +1,6 @@
 //! From TOML values to the values of keys: each reader answers what its definition says. The readers that take no
 //! allocator take no memory.
-ghost use Rattle.std.specs.Prelude.{◌≡◌, ◌≤◌, None, ℕ, [], Option, option_map, map, string_bytes, IfOk};
+ghost use Rattle.std.specs.Prelude.{◌≡◌, ◌≤◌, None, [], Option, option_map, map, string_bytes, IfOk};
 ghost use Rattle.std.specs.List.{list_all};
 ghost use Rattle.toml.specs.Data.{get_member};
 ghost use Rattle.toml.specs.View.{view, items_view, table_view};

@@ -1,5 +1,5 @@
 -- Heads that are read octet by octet.
-use Rattle.std.proofs.Common.{◌≡◌, ℕ, ◌+◌, ◌<◌, ◌≤◌, List, [], ◌∷◌, ◌++◌, Option, length, take, drop, map, refl, sym}
+use Rattle.std.proofs.Common.{◌≡◌, ℕ, ◌+◌, ◌<◌, ◌≤◌, List, [], ◌∷◌, ◌++◌, Option, length, take, drop, refl, sym}
 use Rattle.std.proofs.Common.{ap, ◌∙◌, subst, append-nil, length-append, length-take-le, arith, get_or}
 use Rattle.std.proofs.Common.{set, inl, inr}
 use Rattle.std.proofs.lemmas.List.{take-append-drop, take_at, take-append-le, length-take, length-map, nil_from_length}

@@ -1,5 +1,5 @@
 //! The texts of answers (RFC 9112 4 and 6).
-ghost use Rattle.std.specs.Prelude.{◌≡◌, ◌++◌, ℕ, [], Option, option_map, codes, IfOk, string_bytes};
+ghost use Rattle.std.specs.Prelude.{◌≡◌, ◌++◌, Option, option_map, codes, IfOk, string_bytes};
 ghost use Rattle.std.specs.Fmt.{decimal};
 ghost use Rattle.http.specs.StatusCode.{reason_phrase};
 ghost use Rattle.service.specs.Answers.{phrase_of, media_type, status_line, content_lines, allow_line, head_text, crlf};

@@ -1,5 +1,5 @@
 //! Field lines of a head (RFC 9110 5), and what their values say.
-ghost use Rattle.std.specs.Prelude.{◌≡◌, ℕ, [], ◌∷◌, map, reverse, ◌==◌, length, All, MatchOption};
+ghost use Rattle.std.specs.Prelude.{◌≡◌, [], ◌∷◌, map, reverse, ◌==◌, length, All, MatchOption};
 ghost use Rattle.std.specs.List.{before_first};
 ghost use Rattle.httparse.specs.Grammar.{trim_ows, is_ows, skip_ows};
 ghost use Rattle.httparse.specs.Spans.{IsHeaderWithin, header_bytes};

@@ -1,5 +1,5 @@
 //! Answers that are written.
-ghost use Rattle.std.specs.Prelude.{◌≡◌, ◌++◌, ℕ, [], Option, option_map};
+ghost use Rattle.std.specs.Prelude.{◌≡◌, ◌++◌, Option, option_map};
 ghost use Rattle.std.specs.Fmt.{decimal};
 ghost use Rattle.service.specs.Answers.{line_feed, head_text, refusal_answer, success};
 ghost use Rattle.service.specs.Served.{SendsText, Sends, SendsOrWants, unavailable};

@@ -1,5 +1,5 @@
 //! The store: each change of the history is one commit, each look-up answers a view of it.
-ghost use Rattle.std.specs.Prelude.{◌≡◌, ◌⊎◌, ℕ, ◌∷◌, Err, IfOk, IfErr, IsErr, OnOk, OnErr, MatchResult, ◌↔◌, ◌<◌, ◌^◌};
+ghost use Rattle.std.specs.Prelude.{◌≡◌, ◌⊎◌, ◌∷◌, Err, IfOk, IfErr, IsErr, OnOk, OnErr, MatchResult, ◌↔◌, ◌<◌, ◌^◌};
 ghost use Rattle.std.specs.Prelude.{false, IsTrue, option_map};
 ghost use Rattle.std.specs.Option.{ForSome};
 ghost use Rattle.tables.specs.Base.{IsHonest, IsOpen};

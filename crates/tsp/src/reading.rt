@@ -1,5 +1,5 @@
 //! From values to messages: each reader answers what its definition reads, and lends it from where it lies.
-ghost use Rattle.std.specs.Prelude.{◌≡◌, ℕ, Option, Some, None, option_map};
+ghost use Rattle.std.specs.Prelude.{◌≡◌, Option, Some, None, option_map};
 ghost use Rattle.der.specs.DataValueView.{value_view, values_view};
 ghost use Rattle.tsp.specs.Reading.{integer_of, truth_of, boolean_of, stated_of, oid_in};
 ghost use Rattle.tsp.specs.Reading.{optional_at, flag_at, parameters_of, algorithm_of, imprint_of, only, end_of};

@@ -1,4 +1,4 @@
-ghost use Rattle.std.specs.Prelude.{◌≡◌, ◌≢◌, ◌↔◌, ◌<◌, ◌≤◌, ◌^◌, ℕ, Bool, List, [], Option, Some, None, Err};
+ghost use Rattle.std.specs.Prelude.{◌≡◌, ◌↔◌, ◌<◌, ◌≤◌, ◌^◌, ℕ, Bool, List, [], Option, Some, None, Err};
 ghost use Rattle.std.specs.Prelude.{option_map, length, IfOk, IfErr, IsTrue, ◌⊎◌, MatchResult};
 ghost use Rattle.der.specs.Node.{primitive, encoding, AreOctets, IsLawful};
 ghost use Rattle.der.specs.Number.{number_content};
