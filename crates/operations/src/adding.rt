@@ -48,9 +48,22 @@ pub fn add(rt: &HostRuntime, path: &str, addition: &Addition) -> Result<(), Stor
     ensures { IfErr result (λ e. (e ≡ StoreFault.Memory)
         ⊎ ((e ≡ StoreFault.Database) ⊎ ((e ≡ StoreFault.NotOurs) ⊎ (e ≡ StoreFault.Backwards)))) }
 {
-    let mut store = open(rt, path, Unknown)?;
-    let done = addition.add_to(&mut store);
+    let store = open(rt, path, Unknown)?;
+    let (store, done) = add_over(store, addition);
     // What was committed stays in the log where it can't be copied into the file.
     let _ = close(store);
     done
+}
+
+/// Adds it to the history of a store, which it gives back.
+fn add_over<S: Alter + Drop>(
+    store: Store<S>,
+    addition: &Addition,
+) -> (Store<S>, Result<(), StoreFault>)
+    ensures { IfErr result.1 (λ e.
+        (e ≡ StoreFault.Memory) ⊎ ((e ≡ StoreFault.Database) ⊎ (e ≡ StoreFault.Backwards))) }
+{
+    let mut store = store;
+    let done = addition.add_to(&mut store);
+    (store, done)
 }

@@ -17,6 +17,7 @@ use desk::{Desk, Reply};
 use policy::Account;
 use sqlite::Alter;
 use sqlite_disk::Unknown;
+use store::Store;
 
 /// A request, and who asks when.
 #[derive(Clone, Copy, Debug)]
@@ -45,6 +46,24 @@ pub fn answer(
     ensures refusals { IfErr result IsStartingFault }
 {
     let store = open(rt, path, Unknown)?;
+    let (store, done) = answer_over(rt, store, terms, signing, question);
+    // What was committed stays in the log where it can't be copied into the file.
+    let _ = close(store);
+    done
+}
+
+/// Answers the request over a store, which it gives back.
+fn answer_over<S: Alter + Drop>(
+    rt: &HostRuntime,
+    store: Store<S>,
+    terms: Terms<'_>,
+    signing: Signing<'_>,
+    question: &Question<'_>,
+) -> (Store<S>, Result<Reply, OperationFault>)
+    ensures judged { IfOk result.1 (λ reply. IsJudgedReply (policy_view terms.entry.policy.now)
+        (account_asked question.now.account) question.now.query.now (reply_as reply)) }
+    ensures refusals { IfErr result.1 IsStartingFault }
+{
     let mut desk = Desk::new(
         rt.alloc(),
         terms.policy,
@@ -53,9 +72,7 @@ pub fn answer(
         store,
     );
     let done = answer_by(rt, &mut desk, signing, question);
-    // What was committed stays in the log where it can't be copied into the file.
-    let _ = close(desk.into_store());
-    done
+    (desk.into_store(), done)
 }
 
 /// Answers the request by a desk, whoever signs.

@@ -16,6 +16,7 @@ use sqlite::Alter;
 use sqlite_disk::Unknown;
 use std::alloc::Global;
 use std::io::{Read, Write};
+use store::Store;
 
 /// Reads one HTTP request and answers it as `serve_one` does, over the history that the database at the path keeps; the
 /// reading is the clock's, in microseconds. Refused as `answer`; nothing is read or written then.
@@ -35,6 +36,28 @@ pub fn exchange<R: Read, W: Write>(
     ensures refusals { IfErr result IsStartingFault }
 {
     let store = open(rt, path, Unknown)?;
+    let (store, done) = exchange_over(rt, store, terms, signing, reading, reader, writer);
+    // What was committed stays in the log where it can't be copied into the file.
+    let _ = close(store);
+    done
+}
+
+/// Answers one HTTP request over a store, which it gives back.
+fn exchange_over<S: Alter + Drop, R: Read, W: Write>(
+    rt: &HostRuntime,
+    store: Store<S>,
+    terms: Terms<'_>,
+    signing: Signing<'_>,
+    reading: i64,
+    reader: &mut R,
+    writer: &mut W,
+) -> (Store<S>, Result<Served, OperationFault>)
+    ensures exchanged { IfOk result.1 (Exchanges (policy_view terms.entry.policy.now) reading
+        (R.remaining reader.old) (R.remaining reader.new) (W.contents writer.old) (W.contents writer.new)) }
+    ensures unread { OnErr result.1 (R.remaining reader.new ≡ R.remaining reader.old) }
+    ensures unwritten { OnErr result.1 (W.contents writer.new ≡ W.contents writer.old) }
+    ensures refusals { IfErr result.1 IsStartingFault }
+{
     let mut desk = Desk::new(
         rt.alloc(),
         terms.policy,
@@ -43,9 +66,7 @@ pub fn exchange<R: Read, W: Write>(
         store,
     );
     let done = exchange_by(rt, &mut desk, signing, reading, reader, writer);
-    // What was committed stays in the log where it can't be copied into the file.
-    let _ = close(desk.into_store());
-    done
+    (desk.into_store(), done)
 }
 
 /// Answers one HTTP request by a desk, with the signer's answer.

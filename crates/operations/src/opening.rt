@@ -40,10 +40,7 @@ pub(crate) fn open<T: Start + Drop>(
         Found::Empty | Found::Other => Err(StoreFault::NotOurs),
         Found::Database => {
             let conn = connect(rt, path, start)?;
-            match Store::adopt(rt.alloc(), conn) {
-                Ok(store) => Ok(store),
-                Err((fault, _)) => Err(fault),
-            }
+            adopt(rt.alloc(), conn)
         }
     }
 }
@@ -85,6 +82,17 @@ fn make<S: Alter + Drop>(alloc: Global, conn: Connection<S>) -> Result<Store<S>,
         return Err(StoreFault::NotOurs);
     }
     match Store::create(alloc, conn) {
+        Ok(store) => Ok(store),
+        Err((fault, _)) => Err(fault),
+    }
+}
+
+/// Opens the counter's tables in a database.
+fn adopt<S: Alter + Drop>(alloc: Global, conn: Connection<S>) -> Result<Store<S>, StoreFault>
+    requires { conn.in_transaction ≡ false }
+    ensures { IfErr result IsOpeningFault }
+{
+    match Store::adopt(alloc, conn) {
         Ok(store) => Ok(store),
         Err((fault, _)) => Err(fault),
     }

@@ -13,6 +13,7 @@ use sqlite::Alter;
 use sqlite_disk::Unknown;
 use std::net::TcpListener;
 use std::time::Duration;
+use store::Store;
 
 /// Serves that many connections at the address, one after the other, over the history that the database at the path
 /// keeps; readings are the machine's clock's. One that fails counts too. Refused as `answer`, then with `Unheard` where
@@ -28,6 +29,23 @@ pub fn serve(
     ensures { IfErr result IsServingFault }
 {
     let store = open(rt, path, Unknown)?;
+    let (store, done) = serve_over(rt, store, terms, signing, address, connections);
+    // What was committed stays in the log where it can't be copied into the file.
+    let _ = close(store);
+    done
+}
+
+/// Serves connections over a store, which it gives back.
+fn serve_over<S: Alter + Drop>(
+    rt: &HostRuntime,
+    store: Store<S>,
+    terms: Terms<'_>,
+    signing: Signing<'_>,
+    address: &str,
+    connections: u32,
+) -> (Store<S>, Result<(), OperationFault>)
+    ensures { IfErr result.1 IsServingFault }
+{
     let mut desk = Desk::new(
         rt.alloc(),
         terms.policy,
@@ -36,9 +54,7 @@ pub fn serve(
         store,
     );
     let done = serve_by(rt, &mut desk, signing, address, connections);
-    // What was committed stays in the log where it can't be copied into the file.
-    let _ = close(desk.into_store());
-    done
+    (desk.into_store(), done)
 }
 
 /// Serves connections by a desk, with the signer's answers.

@@ -1,10 +1,11 @@
 //! Tokens over a database.
-use crate::setting::{CERTIFICATE, REQUEST, setting_of};
+use crate::setting::{CERTIFICATE, REQUEST, Setting, setting_of};
 use cms::{KeyedHash, Signer};
 use desk::{Desk, Reply};
 use policy::Account;
 use sqlite::Alter;
 use sqlite_disk::Unknown;
+use std::alloc::Global;
 use store::Store;
 
 /// Answers the request as many times, over the database at a path, and tells how many times by a token.
@@ -13,6 +14,19 @@ pub fn grants(rt: &HostRuntime, path: &str, count: u64) -> anyhow::Result<u64> {
     let setting = setting_of(alloc, CERTIFICATE)?;
     let mut signer = KeyedHash::new(alloc, b"k")?;
     let store = Store::open(rt, path, Unknown)?;
+    let (store, granted) = granted_over(alloc, store, &setting, &mut signer, count);
+    let _files = store.close()?;
+    Ok(granted)
+}
+
+/// Answers the request as many times over a store, which it gives back, and tells how many times by a token.
+fn granted_over<S: Alter + Drop, G: Signer>(
+    alloc: Global,
+    store: Store<S>,
+    setting: &Setting,
+    signer: &mut G,
+    count: u64,
+) -> (Store<S>, u64) {
     let mut desk = Desk::new(
         alloc,
         &setting.policy,
@@ -20,9 +34,8 @@ pub fn grants(rt: &HostRuntime, path: &str, count: u64) -> anyhow::Result<u64> {
         &setting.algorithm,
         store,
     );
-    let granted = answered(&mut desk, setting.policy.anonymous(), &mut signer, count);
-    let _files = desk.into_store().close()?;
-    Ok(granted)
+    let granted = answered(&mut desk, setting.policy.anonymous(), signer, count);
+    (desk.into_store(), granted)
 }
 
 fn answered<S: Alter + Drop, G: Signer>(

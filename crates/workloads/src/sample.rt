@@ -71,19 +71,24 @@ fn fill<S: Alter + Drop>(alloc: Global, store: &mut Store<S>) -> Result<(), Stor
     give_rights(store)
 }
 
+/// A store over a new database, with what it is to hold.
+fn filled<S: Alter + Drop>(alloc: Global, conn: Connection<S>) -> Result<Store<S>, StoreFault> {
+    if !conn.is_autocommit() {
+        return Err(StoreFault::Database);
+    }
+    let mut store = match Store::create(alloc, conn) {
+        Ok(store) => store,
+        Err((fault, _)) => return Err(fault),
+    };
+    fill(alloc, &mut store)?;
+    Ok(store)
+}
+
 /// Writes it at a path where no file stands.
 pub fn write(rt: &HostRuntime, path: &str) -> Result<(), StoreFault> {
     let Ok(conn) = Connection::open_from(rt, path, false, Unknown) else {
         return Err(StoreFault::Database);
     };
-    if !conn.is_autocommit() {
-        return Err(StoreFault::Database);
-    }
-    let mut store = match Store::create(rt.alloc(), conn) {
-        Ok(store) => store,
-        Err((fault, _)) => return Err(fault),
-    };
-    fill(rt.alloc(), &mut store)?;
-    store.close()?;
+    filled(rt.alloc(), conn)?.close()?;
     Ok(())
 }

@@ -1,4 +1,4 @@
-use Rattle.std.proofs.Common.{◌≡◌, refl}
+use Rattle.std.proofs.Common.{◌≡◌, ap}
 use Rattle.std.proofs.lemmas.Option.{IfSome_then}
 use Rattle.der.specs.Node.{encoding}
 use Rattle.desk.specs.Answers.{reply_as}
@@ -16,7 +16,7 @@ rejected_octets : (reply : Reply) (rule : Rule) → reply_as reply ≡ answer.Re
 rejected_octets (Granted serial bytes) rule is = cc
 rejected_octets (Rejected rejected) rule is =
     let same : rejected.rule ≡ rule = cc in
-    rw same refl
+    ap (λ r. encoding (rejection r)) same
 
 pub returns : goal.returns
 returns g c =

@@ -4,4 +4,4 @@ use Rattle.operations.proofs.exchanging.exchange.Goals as goal
 pub returns-clause-exchanged : goal.returns-clause-exchanged
 returns-clause-exchanged g c =
     let fits : SFits w64 c.args.reading = search rules in
-    rw (c.new-desk.ensures, to_z-of_z fits) at c.exchange_by-done.ensures.exchanged
+    rw (to_z-of_z fits) at c.exchange_over-store.ensures.exchanged
