@@ -21,7 +21,8 @@ pub enum ExtractFault {
     /// The database refused for another cause; the store's count of such refusals rose.
     #[error("the store failed")]
     Store = 4,
-    /// A write failed, or took no octet.
+    /// A write failed, or took no octet. Or a line would take the extract beyond the limit that `write_extract` is
+    /// given, or to 2^64 octets or more.
     #[error("the extract can't be written")]
     Write = 5,
 }

@@ -57,7 +57,7 @@ pub trait Signer {
     /// The encoding of the AlgorithmIdentifier of its signatures.
     ghost algorithm_octets: { Self → List ℕ };
 
-    /// Signs a text: 1 to 4,096 octets. `Failed` is counted; `Memory` isn't.
+    /// Signs a text. The signature has 1 to 4,096 octets. `Failed` is counted; `Memory` isn't.
     fn sign(&mut self, text: &[u8]) -> Result<Vec<u8>, SignerFault>
         ensures signs { signs self.old text.now (signed_by result) self.new }
         ensures some { IfOk result (λ signature. 1 ≤ vec_len signature) }

@@ -16,7 +16,7 @@ pub const SIGNER_SECONDS: u64 = 10;
 #[error("the signer can't be reached")]
 pub struct SignerUnreached;
 
-/// Connects to the first of an address's that answers in time.
+/// A host's name may have more than one address: connects to the first of them that answers in time.
 fn reach<R: Net<Stream = TcpStream>>(
     rt: &R,
     address: &str,

@@ -15,7 +15,7 @@ use std::rt::HostRuntime;
 
 /// Reads one HTTP request and writes its answer; nothing where the input ends before any octet. The files are read
 /// first, then the database is opened, the key holder reached, and the request read last. `input` 5 where a read or a
-/// write fails.
+/// write fails, or the database or memory in the middle of an extract.
 pub fn exchange<I: Read, O: Write>(
     rt: &HostRuntime,
     words: &ExchangeWords<'_>,

@@ -187,7 +187,8 @@ pub enum InputFault {
     Hold = 3,
     /// No account has that key or name.
     Account = 4,
-    /// Standard input or output failed, or the clock.
+    /// Standard input or output failed, or the clock, or the database or memory in the middle of an extract by
+    /// `exchange`.
     Failed = 5,
     /// The address can't be listened on.
     Address = 6,

@@ -12,7 +12,7 @@ pub record AreEncodings (most : ℕ) (octets : List ℕ) : Type 0 where
   pub depth : levels_of values ≤ most
   pub encoded : octets ≡ encodings values
 
--- what was read, where it was
+-- what was read, or the other value where reading was refused
 abbrev pub read_or : {A : Type 0} → A → Result A DerFault → A
 read_or other (Ok x) = x
 read_or other (Err fault) = other

@@ -73,6 +73,6 @@ pub struct Account {
     pub auditor: bool,
     /// The names of its policies, at least one. The first is its default.
     pub policies: Vec<String>,
-    /// How many tokens a day it may have, 0 to 1,000,000,000.
+    /// How many reservations it may have on one UTC day of genTime, void ones too, 0 to 1,000,000,000.
     pub daily_quota: u32,
 }

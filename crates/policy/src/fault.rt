@@ -20,7 +20,8 @@ pub enum PolicyFault {
     /// A name, object identifier or key hash that an earlier entry of its array has, or a name twice in one list.
     #[error("{0} stands twice")]
     Duplicate(Field),
-    /// A key that isn't one of its table's, or a listed name that doesn't exist.
+    /// A key that isn't one of its table's, a listed name that doesn't exist, or a `counter.anonymous` that names no
+    /// account.
     #[error("{0} is unknown")]
     UnknownName(Field),
     /// More entries in an array than it may have.

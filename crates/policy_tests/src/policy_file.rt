@@ -643,7 +643,7 @@ fn hash_algorithms_are_known(rt: HostRuntime) {
     records_are_sound();
 }
 
-/// Whether the policy of that object identifier wants a certificate.
+/// Whether the policy of that object identifier gives the certificate out.
 fn certificate_of(policy: &Policy, object_identifier: &[u8]) -> Option<bool> {
     match policy.policy_of_oid(object_identifier) {
         Some(found) => Some(found.certificate),

@@ -44,8 +44,7 @@ is_never Twice = false
 abbrev pub without_coding : HeadValue → Result (Unit {0}) Refusal
 without_coding h = check (is_never (stated (codes "transfer-encoding") h.fields)) refusal.TransferEncoding
 
--- The target names a place, and the method does something there. That the target is UTF-8 is no check of its own: with
--- another there is no head (`target_text` in `httparse`'s `IsRequestHead`).
+-- The method does something at the place.
 abbrev pub acting : HeadValue → Place → Result Action Refusal
 acting h p = given_or (refusal.Method p) (action_of p h.method)
 
@@ -105,7 +104,8 @@ pub record WantedValue : Type 0 where
   pub action : Action
   pub count : ℕ
 
--- the checks of a head, where this is the place that its target names
+-- The checks of a head, where this is the place that its target names, if any. That the target is UTF-8 is no check of
+-- its own: with another there is no head (`target_text` in `httparse`'s `IsRequestHead`).
 unfoldable pub wanted_at : HeadValue → Option Place → Result WantedValue Refusal
 wanted_at h place = do
   plain ← without_coding h

@@ -94,8 +94,8 @@ impl<D: Disk + Drop> Store<FileStore<D>> {
 }
 
 impl<T: Start + Drop> Store<FileStore<FileFrom<T>>> {
-    /// Opens the files at a path, and makes them where none stand, which is `NotOurs` then. Refused with `Memory`, with
-    /// `Database` where they can't be opened, and with `NotOurs` as `adopt`.
+    /// Opens the files at a path. Where none stand they are made; the new database has no tables, so it is `NotOurs`.
+    /// Refused with `Memory`, with `Database` where they can't be opened, and with `NotOurs` as `adopt`.
     pub fn open(
         rt: &HostRuntime,
         path: &str,

@@ -1,8 +1,7 @@
 -- The changes, each committed at once.
-use Rattle.std.specs.Prelude.{◌≡◌, ℕ, ◌<◌, ◌^◌}
+use Rattle.std.specs.Prelude.{◌≡◌, ℕ, ◌<◌, ◌^◌, None}
 use Rattle.tables.specs.Tables.{Tables, with_stamp, with_token, with_deposit, with_calibration, with_hold, with_reader}
 use Rattle.tables.specs.Tables.{without_reader}
-use Rattle.std.specs.Prelude.{None}
 use Rattle.tables.specs.declared.change.Change.{Change}
 use Rattle.tables.specs.declared.change.Change.TheVariants.{Reserve, Seal, Deposit, Calibrate, Hold, Grant, Revoke}
 use Rattle.tables.specs.declared.fault.TableFault.{TableFault}

@@ -26,7 +26,7 @@ pub record CalibrationRow : Type 0 where
   pub offset : ℤ
   pub uncertainty : ℕ
 
--- the clock isn't to be relied on from one moment on and before the other
+-- no token is given from the one moment on and before the other
 pub record HoldRow : Type 0 where
   pub n : ℕ
   pub from : ℤ
