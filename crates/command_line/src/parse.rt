@@ -77,16 +77,25 @@ fn word_of<'a>(matches: &ArgMatches<'a>) -> Option<Word<'a>>
     ensures none { IsNone result → (name : Text) → (rows : List Row) → (word : Word)
         → subcommand_rows_of matches.now ≡ Some (name, rows) → IsAsked name rows word → ⊥ }
 {
-    match matches.subcommand()? {
-        ("tst", words) => Some(Word::Tst(tst_words(words)?)),
-        ("check", words) => Some(Word::Check(check_words(words)?)),
-        ("init", words) => Some(Word::Init(init_words(words)?)),
-        ("calibrate", words) => Some(Word::Calibrate(calibrate_words(words)?)),
-        ("hold", words) => Some(Word::Hold(hold_words(words)?)),
-        ("answer", words) => Some(Word::Answer(answer_words(words)?)),
-        ("exchange", words) => Some(Word::Exchange(exchange_words(words)?)),
-        ("serve", words) => Some(Word::Serve(serve_words(words)?)),
-        ("audit", words) => Some(Word::Audit(audit_words(words)?)),
+    let (name, words) = matches.subcommand()?;
+    word_named(name, words)
+}
+
+/// The word of this name, by what was found for its options.
+fn word_named<'a>(name: &str, words: &ArgMatches<'a>) -> Option<Word<'a>>
+    ensures found { IfSome result (IsAsked name.now (rows_of (found_of words.now))) }
+    ensures none { IsNone result → (word : Word) → IsAsked name.now (rows_of (found_of words.now)) word → ⊥ }
+{
+    match name {
+        "tst" => Some(Word::Tst(tst_words(words)?)),
+        "check" => Some(Word::Check(check_words(words)?)),
+        "init" => Some(Word::Init(init_words(words)?)),
+        "calibrate" => Some(Word::Calibrate(calibrate_words(words)?)),
+        "hold" => Some(Word::Hold(hold_words(words)?)),
+        "answer" => Some(Word::Answer(answer_words(words)?)),
+        "exchange" => Some(Word::Exchange(exchange_words(words)?)),
+        "serve" => Some(Word::Serve(serve_words(words)?)),
+        "audit" => Some(Word::Audit(audit_words(words)?)),
         _ => None,
     }
 }
