@@ -56,11 +56,7 @@ fn is_same(one: &Account, other: &Account) -> bool
 fn are_same_keys(one: &Option<[u8; 32]>, other: &Option<[u8; 32]>) -> bool
     ensures { IsTrue result ↔ (one.now ≡ other.now) }
 {
-    match (one, other) {
-        (None, None) => true,
-        (Some(one), Some(other)) => one.as_slice() == other.as_slice(),
-        (None, Some(_)) | (Some(_), None) => false,
-    }
+    one == other
 }
 
 /// Whether two lists have the same names in the same order.

@@ -1,7 +1,7 @@
 -- A command with one more option or subcommand.
 use Rattle.std.proofs.Common.{◌≡◌, ◌∙◌, ◌&&◌, ◌^◌, ◌<◌, ◌≤◌, ℕ, Bool, true, false, not, refl, ap, ap₂, arith, cond}
 use Rattle.std.proofs.Common.{nat_lt, pos}
-use Rattle.std.specs.Prelude.{Some, negsuc}
+use Rattle.std.specs.Prelude.{Err, IfOk, IsOkAnd, Ok, Result, Some, negsuc}
 use Rattle.std.proofs.lemmas.Bool.{le-ltb, ltb-false}
 use Rattle.clap.specs.declared.builder.value_parser.ValueParser.{ValueParser}
 use Rattle.clap.specs.declared.builder.value_parser.ValueParser.TheVariants as values
@@ -27,6 +27,13 @@ pub adds_command : (app below : App) (old new sub : Command) → app_of old ≡ 
 adds_command app below old new sub is is_sub plain adds =
     adds.shape (third_is_false _ _ _ _ (ap (λ (a : App). a.top.is_plain) is_sub ∙ plain))
     ∙ ap₂ with_subcommand is (ap (λ (a : App). a.top) is_sub)
+
+-- so it is where the subcommand's making may fail
+pub adds_word : {E : Type 0} (app below : App) (old new : Command) (word : Result Command E) → app_of old ≡ app
+    → IfOk word (λ sub. app_of sub ≡ below) → below.top.is_plain ≡ true
+    → IsOkAnd word (λ sub. AddsSubcommand old sub new) → app_of new ≡ with_subcommand app below.top
+adds_word app below old new (Ok sub) is is_sub plain adds = adds_command app below old new sub is is_sub plain adds
+adds_word app below old new (Err _) is is_sub plain adds = elim adds [ ]
 
 abbrev largest : ℕ
 largest = 9223372036854775807

@@ -2,9 +2,12 @@
 use Rattle.std.proofs.Common.{◌≡◌, ◌∙◌, ◌⊎◌, ◌&&◌, List, Bool, true, false, not, refl, ap, inl, inr, codes}
 use Rattle.std.proofs.Common.{Bor, Option, None, Some}
 use Rattle.std.specs.Prelude.{is_some, option_map}
-use Rattle.clap.specs.Words.{Row, Text, subcommand_of}
+use Rattle.clap.specs.Words.{HasKind, Row, Text, fault_of, kind_of, subcommand_of}
+use Rattle.clap.specs.declared.error.Error.{Error}
+use Rattle.clap.specs.declared.error.kind.ErrorKind.TheVariants.{OutOfMemory}
 use Rattle.command_line.specs.Options.{counter_command}
-use Rattle.command_line.specs.Words.{AreWellFormed, AskNothing, Asks, IsAsked, MixSigners, StatesDesk, StatesSigner}
+use Rattle.command_line.specs.Words.{AreWellFormed, AskNothing, Asks, IsAsked, IsOwnKind, MixSigners}
+use Rattle.command_line.specs.Words.{StatesDesk, StatesSigner}
 use Rattle.command_line.specs.Words.{IsTold, address_stated, algorithm_stated, has_one_signer, key_stated}
 use Rattle.command_line.specs.Words.{mixes_signers}
 use Rattle.command_line.specs.Words.{needs_signer, tells_one_signer}
@@ -88,3 +91,17 @@ asks_nothing texts well none = go (mixes_signers (subcommand_of counter_command 
         → MixSigners texts ⊎ AskNothing texts
     go true is = inl (well, is)
     go false is = inr ((well, is), none)
+
+-- what the error of words with which `clap` finds no fault says
+pub refused_by : (texts : List Text) (found : Option (Text × List Row)) (error : Error)
+    → found ≡ subcommand_of counter_command texts → AreWellFormed texts
+    → (kind_of error ≡ OutOfMemory)
+    ⊎ (IsOwnKind (kind_of error) × ((name : Text) → (rows : List Row) → (word : Word)
+    → found ≡ Some (name, rows) → IsAsked name rows word → ⊥))
+    → HasKind (fault_of counter_command texts) error
+    ⊎ (IsOwnKind (kind_of error) × (MixSigners texts ⊎ AskNothing texts))
+refused_by texts found error same well (inl memory) = inl (inl memory)
+refused_by texts found error same well (inr own) = inr (
+  own.0,
+  asks_nothing texts well (λ word asks. own.1 asks.name asks.rows word (same ∙ asks.found) asks.asked),
+)

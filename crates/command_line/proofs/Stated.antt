@@ -3,9 +3,7 @@ use Rattle.std.proofs.Common.{◌≡◌, ◌∙◌, ◌<◌, ◌^◌, ℕ, List,
 use Rattle.std.proofs.Common.{arith, codes, sym, refl}
 use Rattle.std.specs.Prelude.{option_map, unwrap_or}
 use Rattle.std.specs.Str.Parse.{ParsesUnsigned, digits_value, without_leading_plus}
-use Rattle.clap.specs.Words.{ReadsOne, Row, Text, first_of, first_value, one_text, rows_of, subcommand_name_of}
-use Rattle.clap.specs.Words.{subcommand_rows_of}
-use Rattle.clap.specs.declared.parser.matches.ArgMatches.{ArgMatches}
+use Rattle.clap.specs.Words.{ReadsOne, Row, Text, first_of, first_value, one_text, rows_of}
 use Rattle.clap.specs.declared.parser.matches.Found.{Found}
 use Rattle.clap.proofs.WalkLemmas.{first_value-rows, one_text-rows}
 use Rattle.command_line.specs.Words.{IsAsked, StatesExchange, StatesHold, StatesNumber}
@@ -68,34 +66,6 @@ unread_text f name result text same is given =
     let missing : first_of name (rows_of f) ≡ None = sym (first_value-rows f name) ∙ sym same
     ∙ ap (option_map (λ (s : Bor Text). s.now)) is in
     cc
-
-mapped_twice : {X Y Z : Type 0} (f : Y → Z) (g : X → Y) (o : Option X)
-    → option_map f (option_map g o) ≡ option_map (λ x. f (g x)) o
-mapped_twice f g None = refl
-mapped_twice f g (Some x) = refl
-
-joined : (o : Option (Text × List Row)) (name : Text) (rows : List Row) → Some name ≡ option_map (λ p. p.0) o
-    → Some rows ≡ option_map (λ p. p.1) o → o ≡ Some (name, rows)
-joined None name rows first second = cc
-joined (Some p) name rows first second =
-    let is_name : name ≡ p.0 = ap (λ (o : Option Text). unwrap_or o name) first in
-    let are_rows : rows ≡ p.1 = ap (λ (o : Option (List Row)). unwrap_or o rows) second in
-    rw (is_name, are_rows) refl
-
-pub found_rows : (m : ArgMatches) (name : Text) (rows : List Row) → Some name ≡ subcommand_name_of m
-    → Some rows ≡ option_map (λ p. p.1) (subcommand_rows_of m) → subcommand_rows_of m ≡ Some (name, rows)
-found_rows m name rows first second =
-    joined (subcommand_rows_of m) name rows (first ∙ sym (mapped_twice (λ (p : Text × List Row). p.0) _ _)) second
-
--- the subcommand that a parse met is the one
-pub one_subcommand : (m : ArgMatches) (name other : Text) (rows others : List Row) → Some name ≡ subcommand_name_of m
-    → Some rows ≡ option_map (λ p. p.1) (subcommand_rows_of m) → subcommand_rows_of m ≡ Some (other, others)
-    → (other ≡ name) × (others ≡ rows)
-one_subcommand m name other rows others first second is =
-    let pairs : Some (other, others) ≡ Some (name, rows) = sym is ∙ found_rows m name rows first second in
-    let pair : (other, others) ≡ (name, rows) =
-    ap (λ (o : Option (Text × List Row)). unwrap_or o (other, others)) pairs in
-    (ap (λ (p : Text × List Row). p.0) pair, ap (λ (p : Text × List Row). p.1) pair)
 
 other : {name : Text} (one two : Text) → name ≡ one → name ≡ two → (one ≡ two → ⊥) → ⊥
 other one two first second differ = differ (sym first ∙ second)

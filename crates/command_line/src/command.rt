@@ -1,6 +1,6 @@
 //! The command line, for `clap`.
-ghost use Rattle.std.specs.Prelude.{◌≡◌, IfOk, codes, false};
-ghost use Rattle.clap.specs.Words.{app_of, new_app, rule_of};
+ghost use Rattle.std.specs.Prelude.{◌≡◌, IfOk, IsOkAnd, codes, false};
+ghost use Rattle.clap.specs.Words.{AddsSubcommand, app_of, new_app, rule_of};
 ghost use Rattle.command_line.specs.Options.{accuracy_option, answer_command, audit_command, bare_command};
 ghost use Rattle.command_line.specs.Options.{calibrate_command, certificate_option, check_command, connections_option};
 ghost use Rattle.command_line.specs.Options.{counter_command, desk_options, digits_option, exchange_command};
@@ -368,18 +368,27 @@ fn bare_command<'a>(alloc: Global) -> Command<'a>
         .subcommand_required(true)
 }
 
+/// The command line with one word more. An error where memory runs out.
+fn with_word<'a>(
+    command: Command<'a>,
+    word: Result<Command<'a>, AllocError>,
+) -> Result<Command<'a>, AllocError>
+    ensures { IfOk result (λ longer. IsOkAnd word.entry (λ word. AddsSubcommand command.entry word longer)) }
+{
+    command.subcommand(word?)
+}
+
 /// The command line of the whole program. An error where memory runs out.
 pub fn command<'a>(alloc: Global) -> Result<Command<'a>, AllocError>
     ensures { IfOk result (λ command. app_of command ≡ counter_command) }
 {
-    bare_command(alloc)
-        .subcommand(tst_command(alloc)?)?
-        .subcommand(check_command(alloc)?)?
-        .subcommand(init_command(alloc)?)?
-        .subcommand(calibrate_command(alloc)?)?
-        .subcommand(hold_command(alloc)?)?
-        .subcommand(answer_command(alloc)?)?
-        .subcommand(exchange_command(alloc)?)?
-        .subcommand(serve_command(alloc)?)?
-        .subcommand(audit_command(alloc)?)
+    let words = with_word(bare_command(alloc), tst_command(alloc))?;
+    let words = with_word(words, check_command(alloc))?;
+    let words = with_word(words, init_command(alloc))?;
+    let words = with_word(words, calibrate_command(alloc))?;
+    let words = with_word(words, hold_command(alloc))?;
+    let words = with_word(words, answer_command(alloc))?;
+    let words = with_word(words, exchange_command(alloc))?;
+    let words = with_word(words, serve_command(alloc))?;
+    with_word(words, audit_command(alloc))
 }

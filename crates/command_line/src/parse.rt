@@ -1,6 +1,7 @@
 //! What the words ask for, by what `clap` finds in them.
 ghost use Rattle.std.specs.Prelude.{◌≡◌, ◌≤◌, ◌⊎◌, ℕ, List, Some, IfOk, IfErr, IfSome, IsNone};
 ghost use Rattle.clap.specs.Words.{Row, Text, HasKind, fault_of, found_of, kind_of, rows_of, subcommand_rows_of};
+ghost use Rattle.clap.specs.declared.error.kind.ErrorKind.TheVariants.{OutOfMemory};
 ghost use Rattle.command_line.specs.Options.{counter_command};
 ghost use Rattle.command_line.specs.Words.{AskNothing, Asks, IsAsked, IsOwnKind, IsRefusal, IsShown, MixSigners};
 ghost use Rattle.command_line.specs.Words.{StatesAnswer, StatesAudit, StatesCalibrate, StatesCheck, StatesDesk};
@@ -50,9 +51,20 @@ fn matched<'a>(alloc: Global, words: &'a [String]) -> Result<Word<'a>, Error>
 {
     let mut command = command(alloc)?;
     let matches = command.try_get_matches_from_mut(words)?;
-    match word_of(&matches) {
+    asked_in(alloc, &matches)
+}
+
+/// The word that is asked for in what was found, or the error where none is.
+fn asked_in<'a>(alloc: Global, matches: &ArgMatches<'a>) -> Result<Word<'a>, Error>
+    ensures found { IfOk result (λ word. (name : Text) × ((rows : List Row)
+        × (subcommand_rows_of matches.now ≡ Some (name, rows)) × IsAsked name rows word)) }
+    ensures none { IfErr result (λ error. (kind_of error ≡ OutOfMemory)
+        ⊎ (IsOwnKind (kind_of error) × ((name : Text) → (rows : List Row) → (word : Word)
+        → subcommand_rows_of matches.now ≡ Some (name, rows) → IsAsked name rows word → ⊥))) }
+{
+    match word_of(matches) {
         Some(word) => Ok(word),
-        None => Err(error_of(alloc, &matches)?),
+        None => Err(error_of(alloc, matches)?),
     }
 }
 
@@ -77,16 +89,25 @@ fn word_of<'a>(matches: &ArgMatches<'a>) -> Option<Word<'a>>
     ensures none { IsNone result → (name : Text) → (rows : List Row) → (word : Word)
         → subcommand_rows_of matches.now ≡ Some (name, rows) → IsAsked name rows word → ⊥ }
 {
-    match matches.subcommand()? {
-        ("tst", words) => Some(Word::Tst(tst_words(words)?)),
-        ("check", words) => Some(Word::Check(check_words(words)?)),
-        ("init", words) => Some(Word::Init(init_words(words)?)),
-        ("calibrate", words) => Some(Word::Calibrate(calibrate_words(words)?)),
-        ("hold", words) => Some(Word::Hold(hold_words(words)?)),
-        ("answer", words) => Some(Word::Answer(answer_words(words)?)),
-        ("exchange", words) => Some(Word::Exchange(exchange_words(words)?)),
-        ("serve", words) => Some(Word::Serve(serve_words(words)?)),
-        ("audit", words) => Some(Word::Audit(audit_words(words)?)),
+    let (name, words) = matches.subcommand()?;
+    word_named(name, words)
+}
+
+/// The word of this name, by what was found for its options.
+fn word_named<'a>(name: &str, words: &ArgMatches<'a>) -> Option<Word<'a>>
+    ensures found { IfSome result (IsAsked name.now (rows_of (found_of words.now))) }
+    ensures none { IsNone result → (word : Word) → IsAsked name.now (rows_of (found_of words.now)) word → ⊥ }
+{
+    match name {
+        "tst" => Some(Word::Tst(tst_words(words)?)),
+        "check" => Some(Word::Check(check_words(words)?)),
+        "init" => Some(Word::Init(init_words(words)?)),
+        "calibrate" => Some(Word::Calibrate(calibrate_words(words)?)),
+        "hold" => Some(Word::Hold(hold_words(words)?)),
+        "answer" => Some(Word::Answer(answer_words(words)?)),
+        "exchange" => Some(Word::Exchange(exchange_words(words)?)),
+        "serve" => Some(Word::Serve(serve_words(words)?)),
+        "audit" => Some(Word::Audit(audit_words(words)?)),
         _ => None,
     }
 }

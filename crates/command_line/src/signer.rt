@@ -50,28 +50,34 @@ pub fn error_of(alloc: Global, matches: &ArgMatches<'_>) -> Result<Error, AllocE
     ensures { IfOk result (λ error. IsOwnKind (kind_of error)) }
 {
     match matches.subcommand() {
-        Some(("answer", words)) => {
-            signer_error(answer_command(alloc)?.bin_name("counter answer")?, words)
-        }
+        Some(("answer", words)) => signer_error(answer_command(alloc), "counter answer", words),
         Some(("exchange", words)) => {
-            signer_error(
-                exchange_command(alloc)?.bin_name("counter exchange")?,
-                words,
-            )
+            signer_error(exchange_command(alloc), "counter exchange", words)
         }
-        Some(("serve", words)) => {
-            signer_error(serve_command(alloc)?.bin_name("counter serve")?, words)
-        }
-        _ => command(alloc)?.error(ErrorKind::MissingRequiredArgument, "a value is missing"),
+        Some(("serve", words)) => signer_error(serve_command(alloc), "counter serve", words),
+        _ => value_error(alloc),
     }
 }
 
-fn signer_error(command: Command<'_>, words: &ArgMatches<'_>) -> Result<Error, AllocError>
+/// The error of a subcommand, under the name that is told, whose options tell no signer.
+fn signer_error<'a>(
+    command: Result<Command<'a>, AllocError>,
+    name: &'a str,
+    words: &ArgMatches<'_>,
+) -> Result<Error, AllocError>
     ensures { IfOk result (λ error. IsOwnKind (kind_of error)) }
 {
-    let mut command = command;
+    let mut command = command?.bin_name(name)?;
     let (kind, message) = signer_mistake(words);
     command.error(kind, message)
+}
+
+/// The error of other words, which lack a value.
+fn value_error(alloc: Global) -> Result<Error, AllocError>
+    ensures { IfOk result (λ error. IsOwnKind (kind_of error)) }
+{
+    let mut command = command(alloc)?;
+    command.error(ErrorKind::MissingRequiredArgument, "a value is missing")
 }
 
 /// Why the options tell no signer, as `clap` says it of options that are missing, or that another excludes.

@@ -19,9 +19,9 @@ abbrev pub AreOctets : List ℕ → Type 0
 AreOctets octets = AllByRecursion (λ octet. octet < 256) octets
 
 -- The length octets of n contents octets, in the definite form and as few as may be (X.690 8.1.3, 10.1):
--- n itself below 128, else how many octets follow, with bit 8 set, and n in base 256.
+-- n itself below 0x80, else how many octets follow, with bit 8 set, and n in base 256.
 unfoldable pub length_octets : ℕ → List ℕ
-length_octets n = if nat_lt n 128 then n ∷ [] else (128 + length (digits_of 256 n)) ∷ digits_of 256 n
+length_octets n = if nat_lt n 0x80 then n ∷ [] else (0x80 + length (digits_of 256 n)) ∷ digits_of 256 n
 
 -- identifier octet, length octets, contents octets (X.690 8.1.1)
 abbrev pub element : ℕ → List ℕ → List ℕ

@@ -6,14 +6,14 @@ use Rattle.der.specs.Node.{AreOctets}
 
 -- each bit the other way round
 abbrev pub complement : List ℕ → List ℕ
-complement octets = map (λ octet. 255 - octet) octets
+complement octets = map (λ octet. 0xff - octet) octets
 
--- The two's complement value of octets, most significant first (X.690 8.3.3): with a first octet below 128 their number
+-- The two's complement value of octets, most significant first (X.690 8.3.3): with a first octet below 0x80 their number
 -- in base 256; else -1 less the number of their complement.
 abbrev pub twos_value : List ℕ → ℤ
 twos_value [] = pos 0
 twos_value (first ∷ others) =
-    if nat_lt first 128 then pos (number_from_digits 256 (first ∷ others))
+    if nat_lt first 0x80 then pos (number_from_digits 256 (first ∷ others))
     else negsuc (number_from_digits 256 (complement (first ∷ others)))
 
 -- The contents of a number: the shortest list of at least one octet whose two's complement value it is.
@@ -27,7 +27,7 @@ pub record IsNumberContent (z : ℤ) (octets : List ℕ) : Type 0 where
 -- digits in base 256, with a 0 in front where there are none, or where the first one's bit 8 would be the sign
 abbrev pub with_sign : List ℕ → List ℕ
 with_sign [] = 0 ∷ []
-with_sign (first ∷ others) = if nat_lt first 128 then first ∷ others else 0 ∷ first ∷ others
+with_sign (first ∷ others) = if nat_lt first 0x80 then first ∷ others else 0 ∷ first ∷ others
 
 -- those contents, computed: -1 - n has the complement of the contents of n
 unfoldable pub number_content : ℤ → List ℕ
@@ -39,4 +39,4 @@ abbrev pub is_shortest : List ℕ → Bool
 is_shortest [] = false
 is_shortest (octet ∷ []) = true
 is_shortest (first ∷ second ∷ others) =
-    if first == 0 then nat_le 128 second else (if first == 255 then nat_lt second 128 else true)
+    if first == 0 then nat_le 0x80 second else (if first == 0xff then nat_lt second 0x80 else true)

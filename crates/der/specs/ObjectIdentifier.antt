@@ -17,7 +17,7 @@ pub record IsOid (subidentifiers : List ℕ) : Type 0 where
 abbrev pub with_continuation : List ℕ → List ℕ
 with_continuation [] = []
 with_continuation (last ∷ []) = last ∷ []
-with_continuation (first ∷ second ∷ others) = (128 + first) ∷ with_continuation (second ∷ others)
+with_continuation (first ∷ second ∷ others) = (0x80 + first) ∷ with_continuation (second ∷ others)
 
 -- a subidentifier in base 128 in the fewest octets, most significant first (X.690 8.19.2)
 unfoldable pub subidentifier_octets : ℕ → List ℕ
@@ -27,13 +27,13 @@ subidentifier_octets n = if nat_lt n 128 then n ∷ [] else with_continuation (d
 abbrev pub oid_content : List ℕ → List ℕ
 oid_content subidentifiers = flat_map subidentifier_octets subidentifiers
 
--- The subidentifiers that octets are, with n read of the first: seven bits of each octet, and an octet below 128 is a
+-- The subidentifiers that octets are, with n read of the first: seven bits of each octet, and an octet below 0x80 is a
 -- subidentifier's last (X.690 8.19.2).
 abbrev pub subidentifiers_after : ℕ → List ℕ → List ℕ
 subidentifiers_after n [] = []
 subidentifiers_after n (octet ∷ octets) =
-    if nat_lt octet 128 then (n * 128 + octet) ∷ subidentifiers_after 0 octets
-    else subidentifiers_after (n * 128 + (octet - 128)) octets
+    if nat_lt octet 0x80 then (n * 128 + octet) ∷ subidentifiers_after 0 octets
+    else subidentifiers_after (n * 128 + (octet - 0x80)) octets
 
 unfoldable pub subidentifiers_of : List ℕ → List ℕ
 subidentifiers_of octets = subidentifiers_after 0 octets

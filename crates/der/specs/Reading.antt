@@ -38,7 +38,7 @@ Reads view (Err e) read = read ≡ Err e
 
 -- whether octets after a first one that counts them are the length octets of a number
 unfoldable pub is_length_of : ℕ → List ℕ → Bool
-is_length_of n octets = bytes_eq ((128 + length octets) ∷ octets) (length_octets n)
+is_length_of n octets = bytes_eq ((0x80 + length octets) ∷ octets) (length_octets n)
 
 -- The number that length octets after the first give, where they are the length octets of that number, and the octets
 -- after them (X.690 8.1.3.5, 10.1).
@@ -51,10 +51,10 @@ long_length octets rest =
 unfoldable pub length_at : List ℕ → Result (ℕ × List ℕ) DerFault
 length_at [] = Err Truncated
 length_at (first ∷ rest) =
-    if nat_lt first 128 then Ok (first, rest)
-    else (if (first == 128) || (first == 255) then Err LengthForm
-    else (if nat_lt (length rest) (first - 128) then Err Truncated
-    else long_length (take (first - 128) rest) (drop (first - 128) rest)))
+    if nat_lt first 0x80 then Ok (first, rest)
+    else (if (first == 0x80) || (first == 0xff) then Err LengthForm
+    else (if nat_lt (length rest) (first - 0x80) then Err Truncated
+    else long_length (take (first - 0x80) rest) (drop (first - 0x80) rest)))
 
 -- a value's identifier octet and contents octets, and the octets after it
 pub record Piece : Type 0 where

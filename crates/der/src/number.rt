@@ -31,7 +31,7 @@ fn magnitude_octets(alloc: Global, number: u128) -> Result<Vec<u8>, DerFault>
 {
     let mut octets = Vec::new(alloc);
     let mut rest = number;
-    while rest >= 128 {
+    while rest >= 0x80 {
         octets.push((rest % 256) as u8)?;
         rest /= 256;
     }
@@ -58,8 +58,8 @@ pub fn is_number_content(octets: &[u8]) -> bool
     match octets {
         [] => false,
         [_only] => true,
-        [0, second, _others @ ..] => *second >= 128,
-        [255, second, _others @ ..] => *second < 128,
+        [0, second, _others @ ..] => *second >= 0x80,
+        [0xff, second, _others @ ..] => *second < 0x80,
         [_first, _second, _others @ ..] => true,
     }
 }

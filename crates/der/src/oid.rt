@@ -86,8 +86,8 @@ impl Oid {
         let mut text = String::new(alloc);
         let mut subidentifier: u128 = 0;
         for octet in &self.content {
-            if *octet >= 128 {
-                subidentifier = subidentifier * 128 + u128::from(*octet - 128);
+            if *octet >= 0x80 {
+                subidentifier = subidentifier * 128 + u128::from(*octet - 0x80);
                 continue;
             }
             subidentifier = subidentifier * 128 + u128::from(*octet);
@@ -148,11 +148,11 @@ pub fn is_oid_content(content: &[u8]) -> bool
         if subidentifier >= 1 << 121 {
             return false;
         }
-        if *octet < 128 {
+        if *octet < 0x80 {
             subidentifier = 0;
             count += 1;
         } else {
-            subidentifier = subidentifier * 128 + u128::from(*octet - 128);
+            subidentifier = subidentifier * 128 + u128::from(*octet - 0x80);
             // the first of the octets would be 80
             if subidentifier == 0 {
                 return false;

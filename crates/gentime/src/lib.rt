@@ -6,8 +6,6 @@ mod fault;
 mod laws;
 mod moment;
 mod reading;
-#[cfg(test)]
-mod tests;
 
 pub use fault::GenTimeFault;
 pub use laws::{texts_are_distinct, texts_are_rounded, texts_are_short};

@@ -1,11 +1,11 @@
-use Rattle.std.proofs.Common.{◌≡◌, ◌∙◌, [], true, refl, sym, ap, subst, inl, inr, map}
+use Rattle.std.proofs.Common.{◌≡◌, ◌∙◌, [], true, refl, sym, ap, subst, inl, map}
 use Rattle.std.specs.Prelude.{string_bytes}
-use Rattle.std.proofs.lemmas.Result.{err_from_is_err_and}
+use Rattle.std.proofs.lemmas.Result.{IfErr-weaker, IfOk-weaker, err_from_is_err_and}
 use Rattle.clap.specs.Words.{App, HasKind, fault_of, is_simple, is_simple_and_free, subcommand_of, subcommand_rows_of}
 use Rattle.clap.proofs.OnLiterals.{clap_on_literals}
 use Rattle.command_line.specs.Options.{counter_command}
 use Rattle.command_line.specs.Words.{mixes_signers}
-use Rattle.command_line.proofs.Signers.{asked_is_unmixed, asks_nothing}
+use Rattle.command_line.proofs.Signers.{asked_is_unmixed, refused_by}
 use Rattle.command_line.proofs.parse.matched.Goals as goal
 
 counter_is_simple_and_free : is_simple_and_free counter_command ≡ true
@@ -26,25 +26,26 @@ returns-in_err-matches-clause-refused c =
     let p = err_from_is_err_and c.from_residual-in_err-matches.result c.from_residual-in_err-matches.ensures.1 in
     rw (p.1, p.2) (inl kinds)
 
-pub returns-in-Some-clause-asked : goal.returns-in-Some-clause-asked
-returns-in-Some-clause-asked c =
+pub returns-clause-asked : goal.returns-clause-asked
+returns-clause-asked c =
     let is = c.in_ok-command.ensures in
     let texts = map (λ word. string_bytes word) c.args.words.now in
     let matches = c.in_ok-matches.matches in
     let rows = c.in_ok-matches.ensures.ok.2 (ap is_simple is ∙ counter_is_simple) in
-    let found = c.in-Some.ensures.found in
-    let met = sym (subst (λ (app : App). subcommand_rows_of matches ≡ subcommand_of app texts) is rows.1) ∙ found.1.1 in
-    record {
+    let names = subst (λ (app : App). subcommand_rows_of matches ≡ subcommand_of app texts) is rows.1 in
+    IfOk-weaker c.asked_in.result _ _
+    (λ word found. record {
       taken = (
         subst (λ (app : App). fault_of app texts ≡ []) is
             (c.in_ok-matches.ensures.kinds (ap is_simple_and_free is ∙ counter_is_simple_and_free)),
-        ap mixes_signers met ∙ asked_is_unmixed found.0 found.1.0 _ found.1.2,
+        ap mixes_signers (sym names ∙ found.1.1) ∙ asked_is_unmixed found.0 found.1.0 _ found.1.2,
       );
       name = found.0;
       rows = found.1.0;
-      found = met;
+      found = sym names ∙ found.1.1;
       asked = found.1.2;
-    }
+    })
+    c.asked_in.ensures.found
 
 pub returns-clause-refused : goal.returns-clause-refused
 returns-clause-refused c =
@@ -52,11 +53,9 @@ returns-clause-refused c =
     let texts = map (λ word. string_bytes word) c.args.words.now in
     let matches = c.in_ok-matches.matches in
     let rows = c.in_ok-matches.ensures.ok.2 (ap is_simple is ∙ counter_is_simple) in
-    let found = subst (λ (app : App). subcommand_rows_of matches ≡ subcommand_of app texts) is rows.1 in
+    let names = subst (λ (app : App). subcommand_rows_of matches ≡ subcommand_of app texts) is rows.1 in
     let taken = subst (λ (app : App). fault_of app texts ≡ []) is
     (c.in_ok-matches.ensures.kinds (ap is_simple_and_free is ∙ counter_is_simple_and_free)) in
-    inr (
-      c.in_ok-error_of-in-None.ensures,
-      asks_nothing texts taken
-          (λ word asks. c.in-None.ensures.none refl asks.name asks.rows word (found ∙ asks.found) asks.asked),
-    )
+    IfErr-weaker c.asked_in.result _ _
+    (λ error none. refused_by texts _ error names taken none)
+    c.asked_in.ensures.none

@@ -1,0 +1,5 @@
+//! Tests of moments and their texts.
+#![tactic(auto)]
+
+#[cfg(test)]
+mod moments;
