@@ -16,30 +16,31 @@ frame_is octets = refl
 pub length-frame : (octets : List ℕ) → length (frame octets) ≡ 4 + length octets
 length-frame octets = ap length (frame_is octets) ∙ length-append (to_be_bytes w32 (length octets)) octets
 
-pub sends_header : (u v : Option (List ℕ)) (octets : List ℕ) → SendsBeginning u v (to_be_bytes w32 (length octets))
-    → SendsBeginning u v (frame octets)
-sends_header u v octets s = record {
+pub sends_header : (u v : Option (List ℕ)) (octets header : List ℕ) → header ≡ to_be_bytes w32 (length octets)
+    → SendsBeginning u v header → SendsBeginning u v (frame octets)
+sends_header u v octets header told s = record {
   sent = s.sent;
   unsent = s.unsent ++ octets;
-  split = frame_is octets ∙ ap (λ header. header ++ octets) s.split ∙ append_assoc s.sent s.unsent octets;
+  split = frame_is octets ∙ ap (λ front. front ++ octets) (sym told ∙ s.split) ∙ append_assoc s.sent s.unsent octets;
   grown = s.grown;
 }
 
-pub sends_octets : (u v w : Option (List ℕ)) (octets : List ℕ) → Appends u v (to_be_bytes w32 (length octets))
-    → SendsBeginning v w octets → SendsBeginning u w (frame octets)
-sends_octets u v w octets first s = record {
-  sent = to_be_bytes w32 (length octets) ++ s.sent;
+pub sends_octets : (u v w : Option (List ℕ)) (octets header : List ℕ) → header ≡ to_be_bytes w32 (length octets)
+    → Appends u v header → SendsBeginning v w octets → SendsBeginning u w (frame octets)
+sends_octets u v w octets header told first s = record {
+  sent = header ++ s.sent;
   unsent = s.unsent;
-  split = frame_is octets ∙ ap (λ rest. to_be_bytes w32 (length octets) ++ rest) s.split
-      ∙ sym (append_assoc (to_be_bytes w32 (length octets)) s.sent s.unsent);
-  grown = Appends-trans u v w (to_be_bytes w32 (length octets)) s.sent first s.grown;
+  split = frame_is octets ∙ ap (λ front. front ++ octets) (sym told) ∙ ap (λ rest. header ++ rest) s.split
+      ∙ sym (append_assoc header s.sent s.unsent);
+  grown = Appends-trans u v w header s.sent first s.grown;
 }
 
-pub sends_frame : (u v w : Option (List ℕ)) (octets : List ℕ) → Appends u v (to_be_bytes w32 (length octets))
-    → Appends v w octets → Appends u w (frame octets)
-sends_frame u v w octets first second =
+pub sends_frame : (u v w : Option (List ℕ)) (octets header : List ℕ) → header ≡ to_be_bytes w32 (length octets)
+    → Appends u v header → Appends v w octets → Appends u w (frame octets)
+sends_frame u v w octets header told first second =
     let P : List ℕ → Type 0 = λ sent. Appends u w sent in
-    subst P (sym (frame_is octets)) (Appends-trans u v w (to_be_bytes w32 (length octets)) octets first second)
+    subst P (ap (λ front. front ++ octets) told ∙ sym (frame_is octets))
+    (Appends-trans u v w header octets first second)
 
 -- an answer's frame has at least five octets
 too_short : (received answer rest : List ℕ) → length received < 5 → IsAnswer answer → received ≡ frame answer ++ rest

@@ -7,7 +7,6 @@ use der::Tag;
 use std::alloc::{AllocError, Global};
 
 /// How many digits a number other than 0 has in base 256.
-#[tactic(auto, using(crate::proofs::Digits::digit_count_last, crate::proofs::Digits::digit_count_one, crate::proofs::Digits::digit_count_few))]
 fn digit_count(n: usize) -> u8
     requires { 0 < n }
     ensures count { result ≡ length (digits_of 256 n) }
@@ -17,7 +16,6 @@ fn digit_count(n: usize) -> u8
 }
 
 /// Appends a number's digits in base 256, the highest first.
-#[tactic(auto, using(crate::proofs::Digits::digits_of_last, crate::proofs::Digits::digits_of_one))]
 fn append_digits(octets: &mut Vec<u8>, n: usize) -> Result<(), AllocError>
     requires { 0 < n }
     ensures { OnOk result (octets.new.items ≡ octets.old.items ++ digits_of 256 n) }
@@ -32,7 +30,6 @@ fn append_digits(octets: &mut Vec<u8>, n: usize) -> Result<(), AllocError>
 }
 
 /// Appends the length octets of so many contents octets (X.690 8.1.3, 10.1).
-#[tactic(auto, using(crate::proofs::Digits::length_octets_short, crate::proofs::Digits::length_octets_long))]
 fn append_length(octets: &mut Vec<u8>, count: usize) -> Result<(), AllocError>
     ensures { OnOk result (octets.new.items ≡ octets.old.items ++ length_octets count) }
 {

@@ -74,7 +74,6 @@ fn fill<R: Read>(reader: &mut R, room: &mut Vec<u8>) -> Result<(), Stopped>
 }
 
 /// Writes a frame of octets, all of it or a beginning.
-#[tactic(auto, using(crate::proofs::FramePieces::sends_header, crate::proofs::FramePieces::sends_octets, crate::proofs::FramePieces::sends_frame))]
 pub(crate) fn send<W: Write>(writer: &mut W, octets: &[u8]) -> Result<(), Stopped>
     requires { length octets.now < 2 ^ 32 }
     ensures ok { OnOk result (Appends (W.contents writer.old) (W.contents writer.new) (frame octets.now)) }

@@ -1,7 +1,12 @@
-use Rattle.std.proofs.Common.{rules, ◌≡◌, ◌++◌, [], ◌∷◌, ◌/◌, ◌%◌, ◌≤◌, arith, append_assoc}
+use Rattle.std.proofs.Common.{rules, ◌≡◌, ◌++◌, [], ◌∷◌, ◌/◌, ◌%◌, ◌≤◌, sym, ap, ◌∙◌, arith, append_assoc}
 use Rattle.std.specs.Int.Digits.{digits_of}
-use Rattle.cms.proofs.Digits.{digits_of_last}
+use Rattle.cms.proofs.Digits.{digits_of_last, digits_of_one}
 use Rattle.cms.proofs.encode.+append_digits.Goals as goal
+
+pub returns-then-n-lt256 : goal.returns-then-n-lt256
+returns-then-n-lt256 t c =
+    c.in_ok-push.ensures.items
+    ∙ ap (λ more. c.args.octets.now.items ++ more) (sym (digits_of_one c.args.n c.requires c.if-n-lt256.true))
 
 pub returns : goal.returns
 returns t c =

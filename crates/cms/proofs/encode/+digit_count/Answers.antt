@@ -1,6 +1,14 @@
-use Rattle.std.proofs.Common.{arith, ◌≤◌, ◌<◌, ◌^◌}
-use Rattle.cms.proofs.Digits.{digit_count_few, digit_count_last}
+use Rattle.std.proofs.Common.{◌+◌, ◌≤◌, ◌<◌, ◌^◌, sym, ap, ◌∙◌, arith}
+use Rattle.cms.proofs.Digits.{digit_count_few, digit_count_last, digit_count_one}
 use Rattle.cms.proofs.encode.+digit_count.Goals as goal
+
+pub returns-then-n-lt256-clause-count : goal.returns-then-n-lt256-clause-count
+returns-then-n-lt256-clause-count t c = sym (digit_count_one c.args.n c.requires c.if-n-lt256.true)
+
+pub returns-else-n-lt256-clause-count : goal.returns-else-n-lt256-clause-count
+returns-else-n-lt256-clause-count t c =
+    let low : 256 ≤ c.args.n = omega (arith, c.if-n-lt256.false) in
+    ap (λ k. k + 1) c.digit_count.ensures.count ∙ sym (digit_count_last c.args.n low)
 
 pub returns-else-n-lt256-clause-few : goal.returns-else-n-lt256-clause-few
 returns-else-n-lt256-clause-few t c =

@@ -1,8 +1,13 @@
-use Rattle.std.proofs.Common.{rules, ◌≡◌, ◌∷◌, ◌+◌, ◌≤◌, length, arith, append_assoc}
+use Rattle.std.proofs.Common.{rules, ◌≡◌, ◌∷◌, ◌+◌, ◌≤◌, ◌++◌, length, sym, ap, ◌∙◌, arith, append_assoc}
 use Rattle.std.specs.Int.Digits.{digits_of}
 use Rattle.der.specs.Node.{length_octets}
-use Rattle.cms.proofs.Digits.{length_octets_long}
+use Rattle.cms.proofs.Digits.{length_octets_long, length_octets_short}
 use Rattle.cms.proofs.encode.append_length.Goals as goal
+
+pub returns-then-count-lt128 : goal.returns-then-count-lt128
+returns-then-count-lt128 c =
+    c.in_ok-push.ensures.items
+    ∙ ap (λ more. c.args.octets.now.items ++ more) (sym (length_octets_short c.args.count c.if-count-lt128.true))
 
 pub returns : goal.returns
 returns c =

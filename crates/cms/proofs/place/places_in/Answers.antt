@@ -3,8 +3,34 @@ use Rattle.der.specs.Node.{encoding, encodings}
 use Rattle.cms.specs.Certificate.{serial_number, issuer_name, after_serial}
 use Rattle.cms.specs.Certificate.{after_issuer, certificate}
 use Rattle.cms.specs.Outline.{Outline}
-use Rattle.cms.proofs.Places.{place_is, issuer_stands, serial_stands}
+use Rattle.cms.proofs.Places.{place_is, place_fits, issuer_stands, serial_stands}
 use Rattle.cms.proofs.place.places_in.Goals as goal
+
+pub place_of-requires : goal.place_of-requires
+place_of-requires c =
+    let (p, found) = c.in_ok-outline.ensures.found in
+    let o = c.in_ok-outline.outline in
+    let issuer = (c.encodings_are_read.ensures.lawful _ o.issuer.lawful).1
+    ∙ ap encoding (ap (λ (x : Outline). x.issuer) found.1) in
+    let later = (c.encodings_are_read.ensures.all_lawful _ o.after_issuer.lawful).2
+    ∙ ap encodings (ap (λ (x : Outline). x.after_issuer) found.1) in
+    let last = (c.encodings_are_read.ensures.all_lawful _ o.after.lawful).2
+    ∙ ap encodings (ap (λ (x : Outline). x.after) found.1) in
+    place_fits c.args.octets.now (encoding (certificate p)) _ _ _ (issuer_name p) (after_issuer p) p.after
+    found.0.encoded (issuer_stands p) issuer later last
+
+pub place_of-requires-2 : goal.place_of-requires-2
+place_of-requires-2 c =
+    let (p, found) = c.in_ok-outline.ensures.found in
+    let o = c.in_ok-outline.outline in
+    let serial = (c.encodings_are_read.ensures.lawful _ o.serial.lawful).1
+    ∙ ap encoding (ap (λ (x : Outline). x.serial) found.1) in
+    let after = (c.encodings_are_read.ensures.all_lawful _ o.after_serial.lawful).2
+    ∙ ap encodings (ap (λ (x : Outline). x.after_serial) found.1) in
+    let last = (c.encodings_are_read.ensures.all_lawful _ o.after.lawful).2
+    ∙ ap encodings (ap (λ (x : Outline). x.after) found.1) in
+    place_fits c.args.octets.now (encoding (certificate p)) _ _ _ (serial_number p) (after_serial p) p.after
+    found.0.encoded (serial_stands p) serial after last
 
 pub returns-clause-only : goal.returns-clause-only
 returns-clause-only c = λ p is.
