@@ -9,6 +9,7 @@ mod CountLemmas
 mod CreateLemmas
 mod DepositLookups
 mod FillLemmas
+mod FoundLemmas
 mod FrameLemmas
 mod FreeLemmas
 mod InsertLemmas

@@ -1,5 +1,5 @@
 -- What a query tells, asked in a transaction of its own that is undone.
-use Rattle.std.specs.Prelude.{◌≡◌, ℕ, false, List, [], IsTrue, Option, None, Ok}
+use Rattle.std.specs.Prelude.{◌≡◌, ℕ, false, List, [], IsTrue, Option, None, Some, Ok}
 use Rattle.std.specs.List.{slice_get}
 use Rattle.sqlite_value.specs.Order.{Row}
 use Rattle.sqlite_trees.specs.Tree.{Trees}
@@ -43,3 +43,13 @@ pub record Looks (old new : State) : Type 0 where
 -- the first row of an answer, where there is one
 abbrev pub TellsFirst : List ℕ → Row → Trees → Option Row → Type 0
 TellsFirst sql params db row = (rows : List Row) × TellsRows sql params db rows × (slice_get rows 0 ≡ row)
+
+-- what is read of such a row
+abbrev pub IsReadAs : {Y : Type 0} → (Row → Y → Type 0) → Option Row → Option Y → Type 0
+IsReadAs {Y} Shows None found = found ≡ None
+IsReadAs {Y} Shows (Some row) found = (y : Y) × (found ≡ Some y) × Shows row y
+
+-- what the first row of an answer shows, where there is one
+abbrev pub TellsFirstAs : {Y : Type 0} → (Row → Y → Type 0) → List ℕ → Row → Trees → Option Y → Type 0
+TellsFirstAs Shows sql params db found =
+    (row : Option Row) × TellsFirst sql params db row × IsReadAs Shows row found

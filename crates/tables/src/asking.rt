@@ -1,5 +1,5 @@
 //! Queries, each asked in a transaction of its own that is undone.
-ghost use Rattle.std.specs.Prelude.{◌≡◌, ◌<◌, ◌^◌, pos, false, IfOk, OnOk, IsTrue, string_bytes, option_map};
+ghost use Rattle.std.specs.Prelude.{◌≡◌, ◌<◌, ◌^◌, pos, false, IfOk, IfSome, OnOk, IsTrue, string_bytes, option_map};
 ghost use Rattle.sqlite_value.specs.Order.{column};
 ghost use Rattle.sqlite_value.specs.declared.value.Value.TheVariants.{Int, Text, Blob};
 ghost use Rattle.sqlite.specs.Held.{state};
@@ -7,7 +7,7 @@ ghost use Rattle.sqlite.specs.State.{HasCleanDisk};
 ghost use Rattle.sqlite.specs.Values.{bound};
 ghost use Rattle.tables.specs.Holding.{token_cell};
 ghost use Rattle.tables.specs.Schema.{the_schema};
-ghost use Rattle.tables.specs.Asking.{IsQueryText, IsPlainIn, Answers, TellsRows, TellsFirst, Looks};
+ghost use Rattle.tables.specs.Asking.{IsQueryText, IsPlainIn, Answers, TellsRows, TellsFirst, TellsFirstAs, Looks};
 
 use sqlite::types::ValueRef;
 use sqlite::{Alter, Connection, Error, Row};
@@ -58,13 +58,42 @@ pub(crate) fn first_row<S: Alter>(
     Ok(Some(rows.swap_remove(0)))
 }
 
+/// The number that the first row that a query answers begins with, if there is a row.
+pub(crate) fn first_number<S: Alter>(
+    conn: &mut Connection<S>,
+    sql: &str,
+    params: &[ValueRef<'_>],
+) -> Result<Option<u64>, Error>
+    requires autocommit { conn.old.in_transaction ≡ false }
+    requires text { IsQueryText sql.now }
+    ensures closed { conn.new.in_transaction ≡ false }
+    ensures looks { Looks (state S.Store conn.old) (state S.Store conn.new) }
+    ensures opened { HasCleanDisk (state S.Store conn.new) → OnOk result (IsTrue (state S.Store conn.old).is_open) }
+    ensures told { HasCleanDisk (state S.Store conn.new) → (state S.Store conn.old).now.schema ≡ the_schema
+        → IfOk result (λ found. TellsFirstAs (λ row n. column row 0 ≡ Int (pos n)) sql.now (bound params.now)
+        (state S.Store conn.old).now.trees found) }
+    ensures small { IfOk result (λ found. IfSome found (λ n. n < 2 ^ 63)) }
+{
+    let found = first_row(conn, sql, params)?;
+    match found {
+        Some(row) => {
+            let number = number(&row, 0)?;
+            Ok(Some(number))
+        }
+        None => Ok(None),
+    }
+}
+
 /// A whole number of a row, at least 0.
 pub(crate) fn number(row: &Row, at: usize) -> Result<u64, Error>
     ensures read { IfOk result (λ n. column row.now at ≡ Int (pos n)) }
     ensures small { IfOk result (λ n. n < 2 ^ 63) }
 {
     let number: i64 = row.get(at)?;
-    u64::try_from(number).map_err(|_| Error::IntegralValueOutOfRange(at))
+    match u64::try_from(number) {
+        Ok(unsigned) => Ok(unsigned),
+        Err(_) => Err(Error::IntegralValueOutOfRange(at)),
+    }
 }
 
 /// A whole number of a row.

@@ -4,16 +4,18 @@ ghost use Rattle.std.specs.Prelude.{◌≡◌, ◌<◌, ◌^◌, false, IfOk, If
 ghost use Rattle.std.specs.List.{list_any};
 ghost use Rattle.sqlite.specs.Held.{state};
 ghost use Rattle.sqlite.specs.State.{HasCleanDisk};
-ghost use Rattle.tables.specs.Asking.{Looks};
+ghost use Rattle.sqlite.specs.Values.{bound};
+ghost use Rattle.tables.specs.Asking.{IsQueryText, Looks, TellsFirstAs};
 ghost use Rattle.tables.specs.Found.{IsFoundAs, IsLeastAs};
 ghost use Rattle.tables.specs.Holding.{IsDatabaseOf};
 ghost use Rattle.tables.specs.Queries.{ShowsStamp, ShowsOrigin, ShowsDeposit, ShowsLabel, ShowsDepositSerial};
 ghost use Rattle.tables.specs.Queries.{ShowsReaderSerial, stamp_view, deposit_view, is_within, is_owned};
 ghost use Rattle.tables.specs.Queries.{is_owned_after, is_readable_after};
+ghost use Rattle.tables.specs.Schema.{the_schema};
 ghost use Rattle.tables.specs.Shown.{stamp_shown, origin_shown, deposit_shown, label_shown};
 ghost use Rattle.tables.specs.Tables.{Tables, StampRow, DepositRow, is_stamp, is_deposit, is_deposit_of, is_reader_row};
 
-use crate::asking::{GREATEST, first_row, number, octets, octets_or_none, text};
+use crate::asking::{GREATEST, first_number, first_row, number, octets, octets_or_none, text};
 use crate::rows::{Deposit, Label, Origin, Stamp};
 use sqlite::types::ValueRef;
 use sqlite::{Alter, Connection, Error, Row};
@@ -108,6 +110,56 @@ fn origin_of(row: &Row) -> Result<Origin, Error>
     Ok(Origin { account, gen_time })
 }
 
+/// The stamp of the first row that a query answers, if there is a row.
+fn first_stamp<S: Alter>(
+    conn: &mut Connection<S>,
+    sql: &str,
+    params: &[ValueRef<'_>],
+) -> Result<Option<Stamp>, Error>
+    requires autocommit { conn.old.in_transaction ≡ false }
+    requires text { IsQueryText sql.now }
+    ensures closed { conn.new.in_transaction ≡ false }
+    ensures looks { Looks (state S.Store conn.old) (state S.Store conn.new) }
+    ensures opened { HasCleanDisk (state S.Store conn.new) → OnOk result (IsTrue (state S.Store conn.old).is_open) }
+    ensures told { HasCleanDisk (state S.Store conn.new) → (state S.Store conn.old).now.schema ≡ the_schema
+        → IfOk result (λ found. TellsFirstAs (λ row s. (x : StampRow) → row ≡ stamp_shown x → stamp_view s ≡ x)
+        sql.now (bound params.now) (state S.Store conn.old).now.trees found) }
+{
+    let found = first_row(conn, sql, params)?;
+    match found {
+        Some(row) => {
+            let stamp = stamp_of(&row)?;
+            Ok(Some(stamp))
+        }
+        None => Ok(None),
+    }
+}
+
+/// The deposit of the first row that a query answers, if there is a row.
+fn first_deposit<S: Alter>(
+    conn: &mut Connection<S>,
+    sql: &str,
+    params: &[ValueRef<'_>],
+) -> Result<Option<Deposit>, Error>
+    requires autocommit { conn.old.in_transaction ≡ false }
+    requires text { IsQueryText sql.now }
+    ensures closed { conn.new.in_transaction ≡ false }
+    ensures looks { Looks (state S.Store conn.old) (state S.Store conn.new) }
+    ensures opened { HasCleanDisk (state S.Store conn.new) → OnOk result (IsTrue (state S.Store conn.old).is_open) }
+    ensures told { HasCleanDisk (state S.Store conn.new) → (state S.Store conn.old).now.schema ≡ the_schema
+        → IfOk result (λ found. TellsFirstAs (λ row d. (x : DepositRow) → row ≡ deposit_shown x → deposit_view d ≡ x)
+        sql.now (bound params.now) (state S.Store conn.old).now.trees found) }
+{
+    let found = first_row(conn, sql, params)?;
+    match found {
+        Some(row) => {
+            let deposit = deposit_of(&row)?;
+            Ok(Some(deposit))
+        }
+        None => Ok(None),
+    }
+}
+
 /// The stamp with the serial number.
 pub(crate) fn stamp<S: Alter>(conn: &mut Connection<S>, serial: u64) -> Result<Option<Stamp>, Error>
     requires { conn.old.in_transaction ≡ false }
@@ -120,14 +172,7 @@ pub(crate) fn stamp<S: Alter>(conn: &mut Connection<S>, serial: u64) -> Result<O
     if serial > GREATEST {
         return Err(Error::IntegralValueOutOfRange(0));
     }
-    let found = first_row(conn, STAMP, &[ValueRef::Int(serial as i64)])?;
-    match found {
-        Some(row) => {
-            let stamp = stamp_of(&row)?;
-            Ok(Some(stamp))
-        }
-        None => Ok(None),
-    }
+    first_stamp(conn, STAMP, &[ValueRef::Int(serial as i64)])
 }
 
 /// The account and the genTime of the stamp with the serial number.
@@ -171,18 +216,11 @@ pub(crate) fn next_stamp<S: Alter>(
     if from > GREATEST || to > GREATEST {
         return Err(Error::IntegralValueOutOfRange(0));
     }
-    let found = first_row(
+    first_stamp(
         conn,
         NEXT_STAMP,
         &[ValueRef::Int(from as i64), ValueRef::Int(to as i64)],
-    )?;
-    match found {
-        Some(row) => {
-            let stamp = stamp_of(&row)?;
-            Ok(Some(stamp))
-        }
-        None => Ok(None),
-    }
+    )
 }
 
 /// The deposit with the number.
@@ -200,14 +238,7 @@ pub(crate) fn deposit<S: Alter>(
     if serial > GREATEST {
         return Err(Error::IntegralValueOutOfRange(0));
     }
-    let found = first_row(conn, DEPOSIT, &[ValueRef::Int(serial as i64)])?;
-    match found {
-        Some(row) => {
-            let deposit = deposit_of(&row)?;
-            Ok(Some(deposit))
-        }
-        None => Ok(None),
-    }
+    first_deposit(conn, DEPOSIT, &[ValueRef::Int(serial as i64)])
 }
 
 /// The deposit of the owner under the reference.
@@ -223,21 +254,14 @@ pub(crate) fn deposit_under<S: Alter>(
     ensures value { HasCleanDisk (state S.Store conn.new) → (t : Tables) → IsDatabaseOf t (state S.Store conn.old).now
         → IfOk result (λ found. IsFoundAs ShowsDeposit (is_deposit_of owner.now reference.now) t.deposits found) }
 {
-    let found = first_row(
+    first_deposit(
         conn,
         DEPOSIT_UNDER,
         &[
             ValueRef::Text(owner.as_bytes()),
             ValueRef::Text(reference.as_bytes()),
         ],
-    )?;
-    match found {
-        Some(row) => {
-            let deposit = deposit_of(&row)?;
-            Ok(Some(deposit))
-        }
-        None => Ok(None),
-    }
+    )
 }
 
 /// The owner and the reference of the deposit with the number, where this account owns it.
@@ -345,21 +369,14 @@ pub(crate) fn next_owned<S: Alter>(
     if after > GREATEST {
         return Err(Error::IntegralValueOutOfRange(0));
     }
-    let found = first_row(
+    first_number(
         conn,
         NEXT_OWNED,
         &[
             ValueRef::Text(account.as_bytes()),
             ValueRef::Int(after as i64),
         ],
-    )?;
-    match found {
-        Some(row) => {
-            let next = number(&row, 0)?;
-            Ok(Some(next))
-        }
-        None => Ok(None),
-    }
+    )
 }
 
 /// The least number after `after` of a deposit that the account is a reader of.
@@ -380,19 +397,12 @@ pub(crate) fn next_readable<S: Alter>(
     if after > GREATEST {
         return Err(Error::IntegralValueOutOfRange(0));
     }
-    let found = first_row(
+    first_number(
         conn,
         NEXT_READABLE,
         &[
             ValueRef::Text(account.as_bytes()),
             ValueRef::Int(after as i64),
         ],
-    )?;
-    match found {
-        Some(row) => {
-            let next = number(&row, 0)?;
-            Ok(Some(next))
-        }
-        None => Ok(None),
-    }
+    )
 }

@@ -1,7 +1,9 @@
 //! The queries, each of one table.
 
-ghost use Rattle.std.specs.Prelude.{◌≡◌, ◌<◌, ◌^◌, false, IfOk, IfSome, OnOk, IsTrue};
+ghost use Rattle.std.specs.Prelude.{◌≡◌, ◌<◌, ◌^◌, pos, false, IfOk, IfSome, OnOk, IsTrue};
 ghost use Rattle.std.specs.List.{list_any};
+ghost use Rattle.sqlite_value.specs.Order.{column};
+ghost use Rattle.sqlite_value.specs.declared.value.Value.TheVariants.{Int};
 ghost use Rattle.sqlite.specs.Held.{state};
 ghost use Rattle.sqlite.specs.State.{HasCleanDisk};
 ghost use Rattle.tables.specs.Asking.{Looks};
@@ -10,10 +12,10 @@ ghost use Rattle.tables.specs.Holding.{IsDatabaseOf};
 ghost use Rattle.tables.specs.Queries.{ShowsLast, ShowsCalibration, ShowsNumber, ShowsCount, holds_at};
 ghost use Rattle.tables.specs.Tables.{Tables, is_tally_of};
 
-use crate::asking::{GREATEST, first_row, number, signed};
+use crate::asking::{GREATEST, first_number, first_row, number, signed};
 use crate::rows::{LastStamp, LatestCalibration};
 use sqlite::types::ValueRef;
-use sqlite::{Alter, Connection, Error};
+use sqlite::{Alter, Connection, Error, Row};
 
 const LAST_STAMP: &str = "SELECT serial, gen FROM stamp ORDER BY serial DESC LIMIT 1";
 
@@ -25,6 +27,23 @@ const LATEST_CALIBRATION: &str =
 const GREATEST_HOLD: &str = "SELECT n FROM hold ORDER BY n DESC LIMIT 1";
 
 const HOLD_AT: &str = "SELECT n FROM hold WHERE from_us <= ?1 AND to_us > ?1";
+
+/// The calibration of a row.
+fn calibration_of(row: &Row) -> Result<LatestCalibration, Error>
+    ensures { IfOk result (λ c. (column row.now 0 ≡ Int (pos c.n)) × (column row.now 1 ≡ Int c.reading)
+        × (column row.now 2 ≡ Int c.offset) × (column row.now 3 ≡ Int (pos c.uncertainty))) }
+{
+    let n = number(row, 0)?;
+    let reading = signed(row, 1)?;
+    let offset = signed(row, 2)?;
+    let uncertainty = number(row, 3)?;
+    Ok(LatestCalibration {
+        n,
+        reading,
+        offset,
+        uncertainty,
+    })
+}
 
 /// How many stamps the account has on the day, where a row says it.
 pub(crate) fn tally<S: Alter>(
@@ -42,21 +61,14 @@ pub(crate) fn tally<S: Alter>(
     if day > GREATEST {
         return Err(Error::IntegralValueOutOfRange(0));
     }
-    let found = first_row(
+    first_number(
         conn,
         TALLY,
         &[
             ValueRef::Text(account.as_bytes()),
             ValueRef::Int(day as i64),
         ],
-    )?;
-    match found {
-        Some(row) => {
-            let count = number(&row, 0)?;
-            Ok(Some(count))
-        }
-        None => Ok(None),
-    }
+    )
 }
 
 /// The stamp with the greatest serial number.
@@ -93,16 +105,8 @@ pub(crate) fn latest_calibration<S: Alter>(
     let found = first_row(conn, LATEST_CALIBRATION, &[])?;
     match found {
         Some(row) => {
-            let n = number(&row, 0)?;
-            let reading = signed(&row, 1)?;
-            let offset = signed(&row, 2)?;
-            let uncertainty = number(&row, 3)?;
-            Ok(Some(LatestCalibration {
-                n,
-                reading,
-                offset,
-                uncertainty,
-            }))
+            let calibration = calibration_of(&row)?;
+            Ok(Some(calibration))
         }
         None => Ok(None),
     }
@@ -118,14 +122,7 @@ pub(crate) fn greatest_hold<S: Alter>(conn: &mut Connection<S>) -> Result<Option
         → IfOk result (λ found. IsGreatestAs ShowsNumber (λ row. row.n) t.holds found) }
     ensures small { IfOk result (λ found. IfSome found (λ n. n < 2 ^ 63)) }
 {
-    let found = first_row(conn, GREATEST_HOLD, &[])?;
-    match found {
-        Some(row) => {
-            let n = number(&row, 0)?;
-            Ok(Some(n))
-        }
-        None => Ok(None),
-    }
+    first_number(conn, GREATEST_HOLD, &[])
 }
 
 /// Whether a hold has the moment.

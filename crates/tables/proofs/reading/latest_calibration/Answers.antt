@@ -1,24 +1,23 @@
-use Rattle.std.proofs.Common.{◌∙◌, refl, rules, w64, SFits, to_z-of_z}
+use Rattle.std.proofs.Common.{refl}
 use Rattle.tables.proofs.QueryLemmas.{latest_calibration_found, latest_calibration_text, number_of, signed_of}
 use Rattle.tables.proofs.reading.latest_calibration.Goals as goal
 
 pub first_row-requires-clause-text : goal.first_row-requires-clause-text
 first_row-requires-clause-text g c = latest_calibration_text
 
-pub returns-in_ok-uncertainty-in-Some-clause-value : goal.returns-in_ok-uncertainty-in-Some-clause-value
-returns-in_ok-uncertainty-in-Some-clause-value g c honest t d =
+pub returns-in_ok-calibration-in-Some-clause-value : goal.returns-in_ok-calibration-in-Some-clause-value
+returns-in_ok-calibration-in-Some-clause-value g c honest t d =
     let found = latest_calibration_found t _ _ _ d.holds refl (c.in_ok-found.ensures.told honest d.schema) in
     let here = rw c.in-Some.is at found in
-    let reading : SFits w64 c.in_ok-reading-in-Some.reading = search rules in
-    let offset : SFits w64 c.in_ok-offset-in-Some.offset = search rules in (
+    let read = c.in_ok-calibration-in-Some.ensures in (
       here.0,
       here.1,
       here.2,
       (
-        number_of _ _ 0 _ _ here.3 c.in_ok-n-in-Some.ensures.read refl,
-        to_z-of_z reading ∙ signed_of _ _ 1 _ _ here.3 c.in_ok-reading-in-Some.ensures refl,
-        to_z-of_z offset ∙ signed_of _ _ 2 _ _ here.3 c.in_ok-offset-in-Some.ensures refl,
-        number_of _ _ 3 _ _ here.3 c.in_ok-uncertainty-in-Some.ensures.read refl,
+        number_of _ _ 0 _ _ here.3 read.0 refl,
+        signed_of _ _ 1 _ _ here.3 read.1 refl,
+        signed_of _ _ 2 _ _ here.3 read.2 refl,
+        number_of _ _ 3 _ _ here.3 read.3 refl,
       ),
     )
 

@@ -1,0 +1,11 @@
+use Rattle.tables.proofs.BaseReads.{reads_only}
+use Rattle.tables.proofs.base.Base.latest_calibration.Goals as goal
+
+pub returns-in-Ok-clause-reads : goal.returns-in-Ok-clause-reads
+returns-in-Ok-clause-reads g c =
+    rw (← c.self.view_is) (reads_only g.S.Store _ _ c.latest_calibration.ensures.closed c.latest_calibration.ensures.looks)
+
+pub returns-in-Err-clause-reads : goal.returns-in-Err-clause-reads
+returns-in-Err-clause-reads g c =
+    rw (← c.self.view_is) (reads_only g.S.Store _ _ (rw c.fault.ensures.same c.latest_calibration.ensures.closed)
+    (rw c.fault.ensures.same c.latest_calibration.ensures.looks))
