@@ -29,6 +29,11 @@ fn some_octets(alloc: Global, rng: &mut Pcg32, most: u8) -> Result<Vec<u8>, Allo
     Ok(octets)
 }
 
+/// Appends a value that could be made.
+fn append_made(writer: &mut Writer, made: Result<Writer, DerFault>) -> Result<(), DerFault> {
+    append(writer, made?.as_slice())
+}
+
 /// An INTEGER of up to 41 octets, of either sign: its first octet has bits of both kinds, so that it is the shortest.
 fn integer(alloc: Global, rng: &mut Pcg32) -> Result<Writer, DerFault> {
     let mut number = Writer::new(alloc);
@@ -67,7 +72,7 @@ fn parameters(alloc: Global, rng: &mut Pcg32) -> Result<Writer, DerFault> {
         0 => {}
         1 => wrap(&mut parameters, Tag::NULL)?,
         _ => {
-            append(&mut parameters, octet_string(alloc, rng)?.as_slice())?;
+            append_made(&mut parameters, octet_string(alloc, rng))?;
             for _ in 0..below(rng, 20) {
                 wrap(&mut parameters, Tag::SEQUENCE)?;
             }
@@ -79,10 +84,10 @@ fn parameters(alloc: Global, rng: &mut Pcg32) -> Result<Writer, DerFault> {
 /// A MessageImprint.
 fn imprint(alloc: Global, rng: &mut Pcg32) -> Result<Writer, DerFault> {
     let mut imprint = Writer::new(alloc);
-    append(&mut imprint, identifier(alloc, rng)?.as_slice())?;
-    append(&mut imprint, parameters(alloc, rng)?.as_slice())?;
+    append_made(&mut imprint, identifier(alloc, rng))?;
+    append_made(&mut imprint, parameters(alloc, rng))?;
     wrap(&mut imprint, Tag::SEQUENCE)?;
-    append(&mut imprint, octet_string(alloc, rng)?.as_slice())?;
+    append_made(&mut imprint, octet_string(alloc, rng))?;
     wrap(&mut imprint, Tag::SEQUENCE)?;
     Ok(imprint)
 }
@@ -95,16 +100,21 @@ fn append_flag(rng: &mut Pcg32, writer: &mut Writer) -> Result<(), DerFault> {
     Ok(())
 }
 
+/// An extension.
+fn extension(alloc: Global, rng: &mut Pcg32) -> Result<Writer, DerFault> {
+    let mut extension = Writer::new(alloc);
+    append_made(&mut extension, identifier(alloc, rng))?;
+    append_flag(rng, &mut extension)?;
+    append_made(&mut extension, octet_string(alloc, rng))?;
+    wrap(&mut extension, Tag::SEQUENCE)?;
+    Ok(extension)
+}
+
 /// Up to three extensions; nothing where there is none.
 fn extensions(alloc: Global, rng: &mut Pcg32) -> Result<Writer, DerFault> {
     let mut list = Writer::new(alloc);
     for _ in 0..below(rng, 4) {
-        let mut extension = Writer::new(alloc);
-        append(&mut extension, identifier(alloc, rng)?.as_slice())?;
-        append_flag(rng, &mut extension)?;
-        append(&mut extension, octet_string(alloc, rng)?.as_slice())?;
-        wrap(&mut extension, Tag::SEQUENCE)?;
-        append(&mut list, extension.as_slice())?;
+        append_made(&mut list, extension(alloc, rng))?;
     }
     if !list.is_empty() {
         wrap(&mut list, Tag { octet: 0xa0 })?;
@@ -115,15 +125,15 @@ fn extensions(alloc: Global, rng: &mut Pcg32) -> Result<Writer, DerFault> {
 /// A request without stated FALSEs.
 fn request(alloc: Global, rng: &mut Pcg32) -> Result<Writer, DerFault> {
     let mut request = integer(alloc, rng)?;
-    append(&mut request, imprint(alloc, rng)?.as_slice())?;
+    append_made(&mut request, imprint(alloc, rng))?;
     if below(rng, 2) == 1 {
-        append(&mut request, identifier(alloc, rng)?.as_slice())?;
+        append_made(&mut request, identifier(alloc, rng))?;
     }
     if below(rng, 2) == 1 {
-        append(&mut request, integer(alloc, rng)?.as_slice())?;
+        append_made(&mut request, integer(alloc, rng))?;
     }
     append_flag(rng, &mut request)?;
-    append(&mut request, extensions(alloc, rng)?.as_slice())?;
+    append_made(&mut request, extensions(alloc, rng))?;
     wrap(&mut request, Tag::SEQUENCE)?;
     Ok(request)
 }
