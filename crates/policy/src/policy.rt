@@ -130,7 +130,7 @@ fn anonymous_exists(counter: &Counter, accounts: &[Account]) -> bool
     }
 }
 
-#[tactic(auto, unfolding(crate::specs::Meaning::policy_in), using(crate::proofs::EntriesRead::algorithm_names, crate::proofs::EntriesRead::extension_names, crate::proofs::EntriesRead::tsa_policy_names, crate::proofs::EntriesRead::account_names))]
+#[tactic(auto, unfolding(crate::specs::Meaning::policy_in))]
 fn from_table(alloc: Global, document: &Table) -> Result<Policy, PolicyFault>
     ensures { AnswersMeaning policy_view result (policy_in (table_view document.now)) }
 {

@@ -1,6 +1,6 @@
 //! From messages to octets, from the inside outwards.
-ghost use Rattle.std.specs.Prelude.{◌≡◌, ◌≤◌, ◌++◌, false, [], OnOk, IfOk, IfErr};
-ghost use Rattle.der.specs.Node.{encoding, encodings, IsFormed, AreFormed, IsLawful};
+ghost use Rattle.std.specs.Prelude.{◌≡◌, ◌≤◌, ◌<◌, ◌^◌, ◌++◌, false, [], length, OnOk, IfOk, IfErr};
+ghost use Rattle.der.specs.Node.{element, encoding, encodings, IsFormed, AreFormed, IsLawful};
 ghost use Rattle.der.specs.Tree.{nodes};
 ghost use Rattle.tsp.specs.Grammar.{integer, object_identifier, optional, false_by_default};
 ghost use Rattle.tsp.specs.Request.{time_stamp_req, unstated, algorithm_identifier, message_imprint, extension};
@@ -42,8 +42,7 @@ fn append_accuracy(writer: &mut Message, micros: u32) -> Result<(), TspFault>
     append_part(&mut parts, Tag::INTEGER, micros / 1_000_000)?;
     append_part(&mut parts, MILLIS, micros / 1_000 % 1_000)?;
     append_part(&mut parts, MICROS, micros % 1_000)?;
-    parts.wrap(Tag::SEQUENCE)?;
-    writer.append(parts.as_slice())
+    writer.append_value(Tag::SEQUENCE, parts.as_slice())
 }
 
 /// Appends a BOOLEAN DEFAULT FALSE: nothing for FALSE (X.690 11.5).
@@ -69,8 +68,7 @@ fn append_algorithm(writer: &mut Message, imprint: &MessageImprint<'_>) -> Resul
     if let Some(parameters) = &imprint.parameters {
         members.append(parameters.octets())?;
     }
-    members.wrap(Tag::SEQUENCE)?;
-    writer.append(members.as_slice())
+    writer.append_value(Tag::SEQUENCE, members.as_slice())
 }
 
 /// Appends a MessageImprint (RFC 3161 2.4.1).
@@ -82,8 +80,7 @@ fn append_imprint(writer: &mut Message, imprint: &MessageImprint<'_>) -> Result<
     let mut members = writer.inner();
     append_algorithm(&mut members, imprint)?;
     members.append_value(Tag::OCTET_STRING, imprint.hash)?;
-    members.wrap(Tag::SEQUENCE)?;
-    writer.append(members.as_slice())
+    writer.append_value(Tag::SEQUENCE, members.as_slice())
 }
 
 /// Appends an Extension (RFC 5280 4.1), `critical` only where it is TRUE.
@@ -96,8 +93,7 @@ fn append_extension(writer: &mut Message, item: &Extension<'_>) -> Result<(), Ts
     members.append_value(Tag::OBJECT_IDENTIFIER, item.identifier.content())?;
     append_flag(&mut members, item.critical)?;
     members.append_value(Tag::OCTET_STRING, item.value)?;
-    members.wrap(Tag::SEQUENCE)?;
-    writer.append(members.as_slice())
+    writer.append_value(Tag::SEQUENCE, members.as_slice())
 }
 
 /// Appends Extension after Extension.
@@ -128,8 +124,7 @@ fn append_extensions(
     }
     let mut list = writer.inner();
     append_all(&mut list, extensions)?;
-    list.wrap(tag)?;
-    writer.append(list.as_slice())
+    writer.append_value(tag, list.as_slice())
 }
 
 /// Appends an INTEGER where there is one.
@@ -144,6 +139,27 @@ fn append_nonce(writer: &mut Message, nonce: &Option<Integer<'_>>) -> Result<(),
     }
 }
 
+/// Appends the components of a TSTInfo to a message without octets: its contents octets (RFC 3161 2.4.2).
+fn append_tst(members: &mut Message, tst: &TstInfo<'_>) -> Result<(), TspFault>
+    requires empty { members.old ≡ [] }
+    requires ranges { IsTst (tst_view tst.now) }
+    requires lawful { IsLawful (tst_info (tst_view tst.now)) }
+    ensures contents { OnOk result (element 0x30 members.new ≡ encoding (tst_info (tst_view tst.now))) }
+    ensures short { OnOk result (length members.new < 2 ^ 24) }
+    ensures memory { IfErr result (λ fault. fault ≡ Memory) }
+{
+    members.append_value(Tag::INTEGER, &[1])?;
+    members.append_value(Tag::OBJECT_IDENTIFIER, tst.policy.content())?;
+    append_imprint(members, &tst.imprint)?;
+    members.append_number(Tag::INTEGER, tst.serial)?;
+    members.append_time(tst.gen_time)?;
+    append_accuracy(members, tst.accuracy)?;
+    append_flag(members, tst.ordering)?;
+    append_nonce(members, &tst.nonce)?;
+    append_extensions(members, TST_EXTENSIONS, tst.extensions.again())?;
+    Ok(())
+}
+
 /// Writes a TSTInfo in its one encoding (RFC 3161 2.4.2): the accuracy is always stated, and ordering, nonce and
 /// extensions only where there is one, `critical` only where it is TRUE. The caller hands in parts within their ranges,
 /// of which the TSTInfo is a lawful value; `requests_have_one_reading` says so of what answers a request. Refused only
@@ -155,15 +171,7 @@ pub fn write_tst(alloc: Global, tst: &TstInfo<'_>) -> Result<Vec<u8>, TspFault>
     ensures memory { IfErr result (λ fault. fault ≡ Memory) }
 {
     let mut members = Message::new(alloc);
-    members.append_value(Tag::INTEGER, &[1])?;
-    members.append_value(Tag::OBJECT_IDENTIFIER, tst.policy.content())?;
-    append_imprint(&mut members, &tst.imprint)?;
-    members.append_number(Tag::INTEGER, tst.serial)?;
-    members.append_time(tst.gen_time)?;
-    append_accuracy(&mut members, tst.accuracy)?;
-    append_flag(&mut members, tst.ordering)?;
-    append_nonce(&mut members, &tst.nonce)?;
-    append_extensions(&mut members, TST_EXTENSIONS, tst.extensions.again())?;
+    append_tst(&mut members, tst)?;
     members.wrap(Tag::SEQUENCE)?;
     Ok(members.into_octets())
 }
@@ -183,6 +191,25 @@ fn append_policy(
     }
 }
 
+/// Appends the components of a request without stated FALSEs to a message without octets: its contents octets (RFC 3161
+/// 2.4.1).
+fn append_request(members: &mut Message, request: &Request<'_>) -> Result<(), TspFault>
+    requires empty { members.old ≡ [] }
+    requires lawful { IsLawful (time_stamp_req unstated (request_view request.now)) }
+    ensures contents { OnOk result (element 0x30 members.new
+        ≡ encoding (time_stamp_req unstated (request_view request.now))) }
+    ensures short { OnOk result (length members.new < 2 ^ 24) }
+    ensures memory { IfErr result (λ fault. fault ≡ Memory) }
+{
+    members.append_value(Tag::INTEGER, request.version.content())?;
+    append_imprint(members, &request.imprint)?;
+    append_policy(members, &request.policy)?;
+    append_nonce(members, &request.nonce)?;
+    append_flag(members, request.cert_req)?;
+    append_extensions(members, REQUEST_EXTENSIONS, request.extensions())?;
+    Ok(())
+}
+
 /// Writes a request without stated FALSEs (RFC 3161 2.4.1). The caller hands in a request that is a lawful value so;
 /// one that `read_request` read is. Refused only for want of memory, as `Memory`.
 pub fn write_request(alloc: Global, request: &Request<'_>) -> Result<Vec<u8>, TspFault>
@@ -192,12 +219,7 @@ pub fn write_request(alloc: Global, request: &Request<'_>) -> Result<Vec<u8>, Ts
     ensures memory { IfErr result (λ fault. fault ≡ Memory) }
 {
     let mut members = Message::new(alloc);
-    members.append_value(Tag::INTEGER, request.version.content())?;
-    append_imprint(&mut members, &request.imprint)?;
-    append_policy(&mut members, &request.policy)?;
-    append_nonce(&mut members, &request.nonce)?;
-    append_flag(&mut members, request.cert_req)?;
-    append_extensions(&mut members, REQUEST_EXTENSIONS, request.extensions())?;
+    append_request(&mut members, request)?;
     members.wrap(Tag::SEQUENCE)?;
     Ok(members.into_octets())
 }
