@@ -8,6 +8,3 @@ mod writer;
 pub use reader::FailingReader;
 pub use signer::FailingSigner;
 pub use writer::FailingWriter;
-
-#[cfg(test)]
-mod tests;

@@ -1,74 +1,8 @@
-use super::*;
-use cms::{Algorithm, CmsFault, FramedSigner, KeyedHash, Signer, SignerFault};
+use crate::signers::ALGORITHM;
+use cms::{Algorithm, FramedSigner, Signer, SignerFault};
+use counter_fakes::{FailingReader, FailingWriter};
 use std::alloc::Global;
-use std::io::{Read, Write};
 use std::test::Fail;
-
-/// 2.999.9, without parameters.
-static ALGORITHM: &[u8] = b"\x30\x05\x06\x03\x88\x37\x09";
-
-#[test]
-fn signer_fails_at_chosen_calls(rt: HostRuntime) -> Result<(), Fail> {
-    let alloc = rt.alloc();
-    let behind = KeyedHash::new(alloc, b"k")?;
-    let mut signer = FailingSigner::new(behind, vec![in alloc; 1, 3]?);
-    assert_eq!(rt; signer.algorithm().as_slice(), ALGORITHM);
-    let answers = [false, true, false, true];
-    for (answered, calls) in answers.into_iter().zip(1..) {
-        assert_eq!(rt; signer.sign(b"abc").is_ok(), answered);
-        assert_eq!(rt; signer.calls, calls);
-    }
-    assert_eq!(rt; signer.faults(), 2);
-    Ok(())
-}
-
-// `scripts/refused-memory` runs it with each allocation refused in turn.
-#[test]
-fn want_of_memory_is_no_fault(rt: HostRuntime) -> Result<(), Fail> {
-    let alloc = rt.alloc();
-    let behind = match KeyedHash::new(alloc, b"k") {
-        Err(CmsFault::Memory) => KeyedHash::new(alloc, b"k")?,
-        answer => answer?,
-    };
-    let chosen = match vec![in alloc; 1] {
-        Ok(chosen) => chosen,
-        Err(_) => vec![in alloc; 1]?,
-    };
-    let mut signer = FailingSigner::new(behind, chosen);
-    assert_eq!(rt; signer.sign(b"abc").err(), Some(SignerFault::Failed));
-    assert_eq!(rt; signer.faults(), 1);
-    let signature = match signer.sign(b"abc") {
-        Err(SignerFault::Memory) => {
-            assert_eq!(rt; signer.faults(), 1);
-            signer.sign(b"abc")?
-        }
-        answer => answer?,
-    };
-    assert_eq!(rt; signature.len(), 32);
-    assert_eq!(rt; signer.faults(), 1);
-    Ok(())
-}
-
-#[test]
-fn reader_and_writer_fail_when_told(rt: HostRuntime) -> Result<(), Fail> {
-    let alloc = rt.alloc();
-    let mut octets = [0; 4];
-    let mut reader = FailingReader::new(b"abcdef".as_slice(), vec![in alloc; 2]?, 5);
-    assert_eq!(rt; reader.read(&mut octets)?, 4);
-    assert!(rt; reader.read(&mut octets).is_err());
-    assert_eq!(rt; reader.read(&mut octets)?, 1);
-    assert!(rt; reader.read(&mut octets).is_err());
-    assert_eq!(rt; reader.calls, 4);
-    let mut writer = FailingWriter::new(Vec::new(alloc), vec![in alloc; 2]?, 5);
-    assert_eq!(rt; writer.write(b"abcd")?, 4);
-    assert!(rt; writer.write(b"ef").is_err());
-    assert_eq!(rt; writer.write(b"ef")?, 1);
-    assert!(rt; writer.write(b"f").is_err());
-    assert!(rt; writer.flush().is_ok());
-    assert_eq!(rt; writer.calls, 4);
-    assert_eq!(rt; writer.writer.as_slice(), b"abcde".as_slice());
-    Ok(())
-}
 
 /// How a framed signer fares whose ends give and take so many octets: whether it answers, how many faults it has
 /// counted after one more call, and how many octets were written.
