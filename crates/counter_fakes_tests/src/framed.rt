@@ -72,11 +72,15 @@ fn framed_failing_at(
 // Over memory the signer calls each end twice: for the four octets of the length, and for those that follow.
 #[test]
 fn framed_signer_meets_each_failing_call(rt: HostRuntime) -> Result<(), Fail> {
-    let alloc = rt.alloc();
-    assert_eq!(rt; framed_failing_at(alloc, 3, 1)?, (false, 2, 0, 1, 0));
-    assert_eq!(rt; framed_failing_at(alloc, 3, 2)?, (false, 2, 0, 2, 4));
-    assert_eq!(rt; framed_failing_at(alloc, 1, 3)?, (false, 2, 1, 2, 7));
-    assert_eq!(rt; framed_failing_at(alloc, 2, 3)?, (false, 2, 2, 2, 7));
-    assert_eq!(rt; framed_failing_at(alloc, 3, 3)?, (true, 0, 2, 2, 7));
+    let cases = [
+        (3, 1, (false, 2, 0, 1, 0)),
+        (3, 2, (false, 2, 0, 2, 4)),
+        (1, 3, (false, 2, 1, 2, 7)),
+        (2, 3, (false, 2, 2, 2, 7)),
+        (3, 3, (true, 0, 2, 2, 7)),
+    ];
+    for (read, write, fares) in cases {
+        assert_eq!(rt; framed_failing_at(rt.alloc(), read, write)?, fares);
+    }
     Ok(())
 }
