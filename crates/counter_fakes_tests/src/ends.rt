@@ -18,19 +18,21 @@ fn reader_fails_when_told(rt: HostRuntime) -> Result<(), Fail> {
     Ok(())
 }
 
-/// How many of the octets a write takes; none where it fails.
-fn taken<W: Write>(writer: &mut W, octets: &[u8]) -> Option<usize> {
-    writer.write(octets).ok()
+/// How many octets each of four writes takes; none where it fails.
+fn taken<W: Write>(writer: &mut W) -> [Option<usize>; 4] {
+    [
+        writer.write(b"abcd").ok(),
+        writer.write(b"ef").ok(),
+        writer.write(b"ef").ok(),
+        writer.write(b"f").ok(),
+    ]
 }
 
 #[test]
 fn writer_fails_when_told(rt: HostRuntime) -> Result<(), Fail> {
     let alloc = rt.alloc();
     let mut writer = FailingWriter::new(Vec::new(alloc), vec![in alloc; 2]?, 5);
-    assert_eq!(rt; taken(&mut writer, b"abcd"), Some(4));
-    assert_eq!(rt; taken(&mut writer, b"ef"), None);
-    assert_eq!(rt; taken(&mut writer, b"ef"), Some(1));
-    assert_eq!(rt; taken(&mut writer, b"f"), None);
+    assert_eq!(rt; taken(&mut writer), [Some(4), None, Some(1), None]);
     assert!(rt; writer.flush().is_ok());
     assert_eq!(rt; writer.calls, 4);
     assert_eq!(rt; writer.writer.as_slice(), b"abcde".as_slice());
