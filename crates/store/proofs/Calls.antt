@@ -1,5 +1,5 @@
 -- From the clauses of the tables to those of the store.
-use Rattle.std.proofs.Common.{◌≡◌, ◌⊎◌, inl, inr, ◌∷◌, subst, sym, Result, Ok, Err, OnErr}
+use Rattle.std.proofs.Common.{◌≡◌, ◌⊎◌, inl, inr, ◌∷◌, subst, sym, Result, Ok, Err, IsErr, IfOk, OnOk, OnErr}
 use Rattle.sqlite_trees.specs.Tree.{Trees}
 use Rattle.sqlite_trees.specs.declared.store.Store.{Ghosts}
 use Rattle.tables.specs.Tables.{Tables}
@@ -50,6 +50,17 @@ pub looks_now : {S : Type 0} (g : Ghosts S) (seen old new : BaseValue S) → see
     → OnlyLooks g old new
 looks_now g seen old new e reads = subst (λ v. OnlyLooks g v new) e (looks g seen new reads)
 
+-- two look-ups, one after the other
+pub looks_twice : {S : Type 0} (g : Ghosts S) (seen old mid new : BaseValue S) → seen ≡ old → OnlyReads g seen mid
+    → OnlyReads g mid new → OnlyLooks g old new
+looks_twice g seen old mid new e first second =
+    looks_now g seen old new e
+    record {
+      honest = λ h. first.honest (second.honest h);
+      kept = λ t keeps. second.kept t (first.kept t keeps);
+      leaves = λ h db r. first.leaves (second.honest h) db (second.leaves h db r);
+    }
+
 pub reads_now : {S : Type 0} (g : Ghosts S) (seen old new : BaseValue S) → seen ≡ old → OnlyReads g seen new
     → OnlyReads g old new
 reads_now g seen old new e reads = subst (λ v. OnlyReads g v new) e reads
@@ -93,6 +104,15 @@ crash_looked g entry step old mid new looks honest crash same h db r =
       | inl before ↦ inl (looks.leaves (honest h) db before)
       | inr adds ↦ inr (λ b s fits. subst (λ t. Holds t db) (same b) (adds (tables_of b) (looks.stands b s).kept))
     ]
+
+-- a refusal is no success, and no answer
+pub no_success : {A E : Type 0} (r : Result A E) (P : Type 0) → IsErr r → OnOk r P
+no_success (Ok a) P refused = absurd cc
+no_success (Err e) P refused = tt
+
+pub no_answer : {A E : Type 0} (r : Result A E) (P : A → Type 0) → IsErr r → IfOk r P
+no_answer (Ok a) P refused = absurd cc
+no_answer (Err e) P refused = tt
 
 -- what holds anyway holds of a refusal
 pub on_err : {A E : Type 0} (r : Result A E) (P : Type 0) → P → OnErr r P

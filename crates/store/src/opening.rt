@@ -2,8 +2,9 @@
 ghost use Rattle.std.specs.Prelude.{◌≡◌, ◌⊎◌, [], false, Ok, Err, IfOk, IfErr};
 ghost use Rattle.sqlite_wal.specs.Files.{image_at};
 ghost use Rattle.sqlite_wal.specs.Reads.{AreClean};
-ghost use Rattle.sqlite.specs.Files.{file_state, over_files};
+ghost use Rattle.sqlite.specs.Files.{file_state, over_files, IsOpened};
 ghost use Rattle.sqlite.specs.Held.{state};
+ghost use Rattle.sqlite.specs.Start.{FindsIn};
 ghost use Rattle.sqlite.specs.State.{HasCleanDisk};
 ghost use Rattle.tables.specs.Asking.{Looks};
 ghost use Rattle.tables.specs.Opening.{IsFound, LooksOurs, LooksForeign, Creates, IsInTheWay, takes_name};
@@ -75,6 +76,23 @@ impl<S: Alter + Drop> Store<S> {
             Err((fault, conn)) => Err((StoreFault::from(fault), conn)),
         }
     }
+
+    /// As `adopt`, but lets the connection go with a refusal.
+    fn adopt_or_drop(alloc: Global, conn: Connection<S>) -> Result<Store<S>, StoreFault>
+        requires { conn.in_transaction ≡ false }
+        ensures stands { IfOk result (λ store. (b : History) → IsSound b → IsFound (tables_of b) (state S.Store conn)
+            → Stands S.Store b store) }
+        ensures ours { IfOk result (λ store. HasCleanDisk (state S.Store store.conn) → LooksOurs (state S.Store conn)) }
+        ensures looks { IfOk result (λ store. Looks (state S.Store conn) (state S.Store store.conn)) }
+        ensures uncounted { IfOk result (λ store. store.faults ≡ 0) }
+        ensures refusals { IfErr result (λ e. (e ≡ StoreFault.Memory)
+            ⊎ ((e ≡ StoreFault.Database) ⊎ (e ≡ StoreFault.NotOurs))) }
+    {
+        match Store::adopt(alloc, conn) {
+            Ok(store) => Ok(store),
+            Err((fault, _conn)) => Err(fault),
+        }
+    }
 }
 
 impl<D: Disk + Drop> Store<FileStore<D>> {
@@ -107,14 +125,27 @@ impl<T: Start + Drop> Store<FileStore<FileFrom<T>>> {
         ensures refusals { IfErr result (λ e. (e ≡ StoreFault.Memory)
             ⊎ ((e ≡ StoreFault.Database) ⊎ (e ≡ StoreFault.NotOurs))) }
     {
-        let conn = match Connection::open_from(rt, path, false, start) {
-            Ok(conn) => conn,
-            Err((error, _left)) => return Err(closing_fault(error)),
-        };
-        match Store::adopt(rt.alloc(), conn) {
-            Ok(store) => Ok(store),
-            Err((fault, _conn)) => Err(fault),
-        }
+        let conn = connect(rt, path, start)?;
+        let store = Store::adopt_or_drop(rt.alloc(), conn)?;
+        Ok(store)
+    }
+}
+
+/// A connection to the files at a path, which are made where none stand.
+fn connect<T: Start + Drop>(
+    rt: &HostRuntime,
+    path: &str,
+    start: T,
+) -> Result<Connection<FileStore<FileFrom<T>>>, StoreFault>
+    ensures closed { IfOk result (λ conn. conn.in_transaction ≡ false) }
+    ensures opened { IfOk result (λ conn. HasCleanDisk (file_state conn) → IsOpened conn) }
+    ensures found { IfOk result (λ conn. HasCleanDisk (file_state conn)
+        → FindsIn (image_at T.Start) (file_state conn)) }
+    ensures refusals { IfErr result (λ e. (e ≡ StoreFault.Memory) ⊎ (e ≡ StoreFault.Database)) }
+{
+    match Connection::open_from(rt, path, false, start) {
+        Ok(conn) => Ok(conn),
+        Err((error, _left)) => Err(closing_fault(error)),
     }
 }
 

@@ -1,13 +1,13 @@
 use Rattle.store.proofs.opening.Store+FileStore+FileFrom+T.open.Goals as goal
 
-pub returns-in-Ok-adopt-clause-found : goal.returns-in-Ok-adopt-clause-found
-returns-in-Ok-adopt-clause-found g c clean =
-    let looks = c.in-Ok-adopt.ensures.looks in
+pub returns-clause-found : goal.returns-clause-found
+returns-clause-found g c clean =
+    let looks = c.in_ok-store.ensures.looks in
     let early = looks.clean clean in record {
-      was = c.in-Ok.conn;
-      opened = c.in-Ok.ensures.opened early;
-      found = c.in-Ok.ensures.found early;
-      ours = c.in-Ok-adopt.ensures.ours clean;
+      was = c.in_ok-conn.conn;
+      opened = c.in_ok-conn.ensures.opened early;
+      found = c.in_ok-conn.ensures.found early;
+      ours = c.in_ok-store.ensures.ours clean;
       looks = looks;
-      stands = c.in-Ok-adopt.ensures.stands;
+      stands = c.in_ok-store.ensures.stands;
     }

@@ -3,7 +3,7 @@ use Rattle.tables.specs.Tables.{with_calibration}
 use Rattle.store.specs.History.{Calibrated}
 use Rattle.store.specs.Sound.{IsBackwards}
 use Rattle.store.specs.Values.{calibration_view}
-use Rattle.store.proofs.Calls.{reads_now, kept_seen, crash_after, adds_after, err_after, on_err}
+use Rattle.store.proofs.Calls.{reads_now, kept_seen, crash_after, adds_after, err_after, on_err, no_success}
 use Rattle.store.proofs.Numbered.{calibration_view_of, calibration_step}
 use Rattle.store.proofs.store.Store.calibrate.Goals as goal
 
@@ -92,3 +92,9 @@ pub returns-in_err-commit-clause-err : goal.returns-in_err-commit-clause-err
 returns-in_err-commit-clause-err g c b s =
     on_err _ _ (err_after g.S.Store _ _ _ b (reads_now g.S.Store _ _ _ c.self.view_is c.in_ok-latest.ensures.reads)
     c.in_err-commit.ensures.err s)
+
+pub returns-in_err-latest-clause-ok : goal.returns-in_err-latest-clause-ok
+returns-in_err-latest-clause-ok g c b s fits = no_success _ _ c.from_residual.ensures.0
+
+pub returns-in_err-commit-clause-ok : goal.returns-in_err-commit-clause-ok
+returns-in_err-commit-clause-ok g c b s fits = no_success _ _ c.from_residual-in_err-commit.ensures.0

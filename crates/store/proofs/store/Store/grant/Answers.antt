@@ -1,7 +1,8 @@
 use Rattle.std.proofs.Common.{refl}
 use Rattle.tables.specs.Tables.{with_reader}
 use Rattle.store.specs.History.{Granted}
-use Rattle.store.proofs.Calls.{crash_now, kept_seen}
+use Rattle.store.specs.Stands.{Stands}
+use Rattle.store.proofs.Calls.{crash_now, kept_seen, no_success, on_err}
 use Rattle.store.proofs.Readers.{granted_again}
 use Rattle.store.proofs.store.Store.grant.Goals as goal
 
@@ -18,3 +19,26 @@ returns-clause-repeated g c b s has =
       kept = granted_again g.S.Store b c.args.number c.args.account.now c.commit.new.self has
           (c.in_ok-commit.ensures.ok _ old);
     }
+
+pub returns-clause-crash : goal.returns-clause-crash
+returns-clause-crash g c =
+    crash_now g.S.Store (Granted c.args.number c.args.account.now) (with_reader c.args.number c.args.account.now)
+    c.self.inside.base c.args.self.now c.commit.new.self c.self.view_is c.in_ok-commit.ensures.crash (λ b. refl)
+
+pub returns-clause-ok : goal.returns-clause-ok
+returns-clause-ok g c b s fits =
+    let old = kept_seen g.S.Store c.self.inside.base c.args.self.now b c.self.view_is s in
+    record { sound = (fits, s.sound); kept = c.in_ok-commit.ensures.ok _ old }
+
+pub returns-in_err-commit-clause-repeated : goal.returns-in_err-commit-clause-repeated
+returns-in_err-commit-clause-repeated g c b s has = no_success _ _ c.from_residual.ensures.0
+
+pub returns-in_err-commit-clause-ok : goal.returns-in_err-commit-clause-ok
+returns-in_err-commit-clause-ok g c b s fits = no_success _ _ c.from_residual.ensures.0
+
+pub returns-in_err-commit-clause-err : goal.returns-in_err-commit-clause-err
+returns-in_err-commit-clause-err g c b s =
+    let old = kept_seen g.S.Store c.self.inside.base c.args.self.now b c.self.view_is s in
+    let stands : Stands g.S.Store b c.commit.new.self =
+    record { sound = s.sound; kept = c.in_err-commit.ensures.err _ old } in
+    on_err _ _ stands

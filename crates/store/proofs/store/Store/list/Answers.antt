@@ -2,9 +2,9 @@ use Rattle.std.proofs.Common.{◌∙◌, ◌<◌, ◌^◌, IfSome, ap, sym, subs
 use Rattle.tables.specs.Base.{IsOpen}
 use Rattle.store.specs.Steps.{IsNextSeen}
 use Rattle.store.specs.Values.{listed_view}
-use Rattle.store.proofs.Calls.{looks_now, kept_seen}
+use Rattle.store.proofs.Calls.{looks_now, kept_seen, no_answer}
 use Rattle.store.proofs.Listing.{readable_view}
-use Rattle.store.proofs.Walk.{HasListed, nothing_listed, row_listed, whole_listed}
+use Rattle.store.proofs.Walk.{HasListed, looks_after, nothing_listed, row_listed, whole_listed}
 use Rattle.store.proofs.store.Store.list.Goals as goal
 
 pub returns-in_err-readable-clause-looks : goal.returns-in_err-readable-clause-looks
@@ -49,3 +49,42 @@ returns-clause-value g c =
     c.in_ok-number.ensures.looks
     (λ h b s ahead. subst (λ next. IsNextSeen c.args.account.now c.loop-rows.last b next) is
     (c.in_ok-number.ensures.value h b s ahead))
+
+pub returns-in_err-number-clause-looks : goal.returns-in_err-number-clause-looks
+returns-in_err-number-clause-looks g c =
+    looks_after g.S.Store _ _ _ c.loop-rows.invariant.looks c.in_err-number.ensures.looks
+
+pub returns-in_err-row-clause-looks : goal.returns-in_err-row-clause-looks
+returns-in_err-row-clause-looks g c =
+    looks_after g.S.Store _ _ _ (looks_after g.S.Store _ _ _ c.loop-rows.invariant.looks c.in_ok-number.ensures.looks)
+    c.in_err-row.ensures.looks
+
+pub returns-in_err-add_listed-clause-looks : goal.returns-in_err-add_listed-clause-looks
+returns-in_err-add_listed-clause-looks g c =
+    looks_after g.S.Store _ _ _ (looks_after g.S.Store _ _ _ c.loop-rows.invariant.looks c.in_ok-number.ensures.looks)
+    c.in_ok-row.ensures.looks
+
+pub returns-in_err-readable-2-clause-looks : goal.returns-in_err-readable-2-clause-looks
+returns-in_err-readable-2-clause-looks g c =
+    looks_after g.S.Store _ _ _ (looks_after g.S.Store _ _ _
+    (looks_after g.S.Store _ _ _ c.loop-rows.invariant.looks c.in_ok-number.ensures.looks) c.in_ok-row.ensures.looks)
+    c.in_err-readable-2.ensures.looks
+
+pub returns-clause-looks : goal.returns-clause-looks
+returns-clause-looks g c =
+    looks_after g.S.Store _ _ _ c.loop-rows.invariant.looks c.in_ok-number.ensures.looks
+
+pub returns-in_err-readable-clause-value : goal.returns-in_err-readable-clause-value
+returns-in_err-readable-clause-value g c honest b s = no_answer _ _ c.from_residual.ensures.0
+
+pub returns-in_err-number-clause-value : goal.returns-in_err-number-clause-value
+returns-in_err-number-clause-value g c honest b s = no_answer _ _ c.from_residual-in_err-number.ensures.0
+
+pub returns-in_err-row-clause-value : goal.returns-in_err-row-clause-value
+returns-in_err-row-clause-value g c honest b s = no_answer _ _ c.from_residual-in_err-row.ensures.0
+
+pub returns-in_err-add_listed-clause-value : goal.returns-in_err-add_listed-clause-value
+returns-in_err-add_listed-clause-value g c honest b s = no_answer _ _ c.from_residual-in_err-add_listed.ensures.0
+
+pub returns-in_err-readable-2-clause-value : goal.returns-in_err-readable-2-clause-value
+returns-in_err-readable-2-clause-value g c honest b s = no_answer _ _ c.from_residual-in_err-readable-2.ensures.0

@@ -1,4 +1,4 @@
-use Rattle.store.proofs.Calls.{looks_now, kept_seen}
+use Rattle.store.proofs.Calls.{looks_now, looks_twice, kept_seen, no_answer}
 use Rattle.store.proofs.DepositAnswers.{without_origin, without_label, with_label}
 use Rattle.store.proofs.store.Store.listing.Goals as goal
 
@@ -23,3 +23,24 @@ returns-clause-value g c honest b s =
     let found = c.in_ok-origin.ensures.value (c.in_ok-label.ensures.reads.honest honest) _ kept in
     let labelled = c.in_ok-label.ensures.value honest _ (c.in_ok-origin.ensures.reads.kept _ kept) in
     with_label b _ _ _ _ _ _ s.sound c.in-Some.is c.deref.ensures c.in-Some-2.is found labelled
+
+pub returns-in_default-clause-looks : goal.returns-in_default-clause-looks
+returns-in_default-clause-looks g c = looks_now g.S.Store _ _ _ c.self.view_is c.in_ok-origin.ensures.reads
+
+pub returns-in_err-label-clause-looks : goal.returns-in_err-label-clause-looks
+returns-in_err-label-clause-looks g c =
+    looks_twice g.S.Store _ _ _ _ c.self.view_is c.in_ok-origin.ensures.reads c.in_err-label.ensures.reads
+
+pub returns-in_default-2-clause-looks : goal.returns-in_default-2-clause-looks
+returns-in_default-2-clause-looks g c =
+    looks_twice g.S.Store _ _ _ _ c.self.view_is c.in_ok-origin.ensures.reads c.in_ok-label.ensures.reads
+
+pub returns-clause-looks : goal.returns-clause-looks
+returns-clause-looks g c =
+    looks_twice g.S.Store _ _ _ _ c.self.view_is c.in_ok-origin.ensures.reads c.in_ok-label.ensures.reads
+
+pub returns-in_err-origin-clause-value : goal.returns-in_err-origin-clause-value
+returns-in_err-origin-clause-value g c honest b s = no_answer _ _ c.from_residual.ensures.0
+
+pub returns-in_err-label-clause-value : goal.returns-in_err-label-clause-value
+returns-in_err-label-clause-value g c honest b s = no_answer _ _ c.from_residual-in_err-label.ensures.0

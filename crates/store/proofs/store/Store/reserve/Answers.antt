@@ -3,7 +3,7 @@ use Rattle.tables.specs.Tables.{with_stamp}
 use Rattle.std.specs.Prelude.{None}
 use Rattle.store.specs.History.{Reserved, stamp_of}
 use Rattle.store.specs.Values.{reservation_view}
-use Rattle.store.proofs.Calls.{err_looked, crash_looked, on_err, looked_seen}
+use Rattle.store.proofs.Calls.{err_looked, crash_looked, on_err, no_success, looked_seen}
 use Rattle.store.proofs.store.Store.reserve.Goals as goal
 
 pub returns-in_err-commit-clause-err : goal.returns-in_err-commit-clause-err
@@ -19,3 +19,9 @@ returns-in_err-commit-clause-crash g c =
     c.args.self.now c.self.inside.base c.commit.new.self
     (looked_seen g.S.Store _ _ _ c.self.view_is c.in_ok-last.ensures.looks)
     c.in_err-commit.ensures.honest c.in_err-commit.ensures.crash (λ b. refl)
+
+pub returns-in_err-last-clause-ok : goal.returns-in_err-last-clause-ok
+returns-in_err-last-clause-ok g c b s fits = no_success _ _ c.from_residual.ensures.0
+
+pub returns-in_err-commit-clause-ok : goal.returns-in_err-commit-clause-ok
+returns-in_err-commit-clause-ok g c b s fits = no_success _ _ c.from_residual-in_err-commit.ensures.0
