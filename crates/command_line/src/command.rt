@@ -68,14 +68,17 @@ fn ordering_flag<'a>(alloc: Global) -> Arg<'a>
 fn tst_command<'a>(alloc: Global) -> Result<Command<'a>, AllocError>
     ensures { IfOk result (λ command. app_of command ≡ tst_command) }
 {
+    let options = vec![in alloc;
+        policy_option(alloc),
+        moment_option(alloc),
+        digits_option(alloc),
+        serial_option(alloc),
+        accuracy_option(alloc),
+        ordering_flag(alloc),
+    ]?;
     Command::new(alloc, "tst")
         .about("Reads a request in hexadecimal, and writes its TSTInfo or its rejection")
-        .arg(policy_option(alloc))?
-        .arg(moment_option(alloc))?
-        .arg(digits_option(alloc))?
-        .arg(serial_option(alloc))?
-        .arg(accuracy_option(alloc))?
-        .arg(ordering_flag(alloc))
+        .args(options)
 }
 
 fn check_command<'a>(alloc: Global) -> Result<Command<'a>, AllocError>
@@ -137,13 +140,16 @@ fn uncertainty_option<'a>(alloc: Global) -> Arg<'a>
 fn calibrate_command<'a>(alloc: Global) -> Result<Command<'a>, AllocError>
     ensures { IfOk result (λ command. app_of command ≡ calibrate_command) }
 {
+    let options = vec![in alloc;
+        database_option(alloc),
+        reading_option(alloc),
+        offset_option(alloc),
+        behind_flag(alloc),
+        uncertainty_option(alloc),
+    ]?;
     Command::new(alloc, "calibrate")
         .about("Adds a calibration of the clock to the database")
-        .arg(database_option(alloc))?
-        .arg(reading_option(alloc))?
-        .arg(offset_option(alloc))?
-        .arg(behind_flag(alloc))?
-        .arg(uncertainty_option(alloc))
+        .args(options)
 }
 
 /// The first moment of a hold.
@@ -175,11 +181,14 @@ fn end_option<'a>(alloc: Global) -> Arg<'a>
 fn hold_command<'a>(alloc: Global) -> Result<Command<'a>, AllocError>
     ensures { IfOk result (λ command. app_of command ≡ hold_command) }
 {
+    let options = vec![in alloc;
+        database_option(alloc),
+        first_moment_option(alloc),
+        end_option(alloc),
+    ]?;
     Command::new(alloc, "hold")
         .about("Adds a hold to the database: moments at which no token is given")
-        .arg(database_option(alloc))?
-        .arg(first_moment_option(alloc))?
-        .arg(end_option(alloc))
+        .args(options)
 }
 
 /// The certificate's path.
@@ -230,14 +239,15 @@ fn signer_algorithm_option<'a>(alloc: Global) -> Arg<'a>
 fn desk_command<'a>(alloc: Global, name: &'a str, about: &'a str) -> Result<Command<'a>, AllocError>
     ensures { IfOk result (λ command. app_of command ≡ with_rules desk_options (new_app name.now)) }
 {
-    Command::new(alloc, name)
-        .about(about)
-        .arg(database_option(alloc))?
-        .arg(rules_option(alloc))?
-        .arg(certificate_option(alloc))?
-        .arg(signing_key_option(alloc))?
-        .arg(signer_option(alloc))?
-        .arg(signer_algorithm_option(alloc))
+    let options = vec![in alloc;
+        database_option(alloc),
+        rules_option(alloc),
+        certificate_option(alloc),
+        signing_key_option(alloc),
+        signer_option(alloc),
+        signer_algorithm_option(alloc),
+    ]?;
+    Command::new(alloc, name).about(about).args(options)
 }
 
 /// The key of the account that asks.
@@ -350,14 +360,17 @@ fn check_flag<'a>(alloc: Global) -> Arg<'a>
 fn audit_command<'a>(alloc: Global) -> Result<Command<'a>, AllocError>
     ensures { IfOk result (λ command. app_of command ≡ audit_command) }
 {
+    let options = vec![in alloc;
+        database_option(alloc),
+        rules_option(alloc),
+        account_option(alloc),
+        first_serial_option(alloc),
+        last_serial_option(alloc),
+        check_flag(alloc),
+    ]?;
     Command::new(alloc, "audit")
         .about("Writes the stamps of a range of serial numbers as comma-separated values")
-        .arg(database_option(alloc))?
-        .arg(rules_option(alloc))?
-        .arg(account_option(alloc))?
-        .arg(first_serial_option(alloc))?
-        .arg(last_serial_option(alloc))?
-        .arg(check_flag(alloc))
+        .args(options)
 }
 
 fn bare_command<'a>(alloc: Global) -> Command<'a>
