@@ -29,55 +29,53 @@ type Row = (&'static str, Ask, Result<&'static [u8], Fault>);
 const LISTED: &[u8] = b"1 alice plan-7 0\n";
 
 /// Who sees a deposit, and who gives the right to it.
-fn rows() -> [Row; 41] {
-    [
-        ("alice", Ask::Show(1), Ok(b"abc")),
-        ("alice", Ask::Token(1), Ok(GRANTED_WITH)),
-        ("alice", Ask::List, Ok(LISTED)),
-        // what isn't visible is as what isn't there
-        ("bob", Ask::List, Ok(b"")),
-        ("bob", Ask::Show(1), Err(Fault::NotHere)),
-        ("bob", Ask::Show(999_999), Err(Fault::NotHere)),
-        ("bob", Ask::Token(1), Err(Fault::NotHere)),
-        ("bob", Ask::Token(999_999), Err(Fault::NotHere)),
-        ("bob", Ask::Grant(1, "nobody"), Err(Fault::NotHere)),
-        ("bob", Ask::Grant(999_999, "nobody"), Err(Fault::NotHere)),
-        ("bob", Ask::Revoke(1, "bob"), Err(Fault::NotHere)),
-        ("bob", Ask::Revoke(999_999, "bob"), Err(Fault::NotHere)),
-        ("alice", Ask::Show(0), Err(Fault::NotHere)),
-        ("alice", Ask::Show(2), Err(Fault::NotHere)),
-        ("alice", Ask::Show(u64::MAX), Err(Fault::NotHere)),
-        // a reservation without a deposit
-        ("carol", Ask::Show(2), Err(Fault::NotHere)),
-        ("carol", Ask::Token(2), Err(Fault::NotHere)),
-        ("carol", Ask::Grant(2, "bob"), Err(Fault::NotHere)),
-        // a reader, whose right is taken and given again
-        ("alice", Ask::Grant(1, "bob"), Ok(b"")),
-        ("bob", Ask::List, Ok(LISTED)),
-        ("bob", Ask::Show(1), Ok(b"abc")),
-        ("bob", Ask::Token(1), Ok(GRANTED_WITH)),
-        ("carol", Ask::List, Ok(b"")),
-        ("carol", Ask::Show(1), Err(Fault::NotHere)),
-        ("bob", Ask::Grant(1, "carol"), Err(Fault::NotOwner)),
-        ("bob", Ask::Grant(1, "nobody"), Err(Fault::NotOwner)),
-        ("bob", Ask::Revoke(1, "bob"), Err(Fault::NotOwner)),
-        ("alice", Ask::Revoke(1, "bob"), Ok(b"")),
-        ("bob", Ask::List, Ok(b"")),
-        ("bob", Ask::Show(1), Err(Fault::NotHere)),
-        ("alice", Ask::Grant(1, "bob"), Ok(b"")),
-        ("bob", Ask::List, Ok(LISTED)),
-        // granted twice, and taken where it wasn't granted
-        ("alice", Ask::Grant(1, "bob"), Ok(b"")),
-        ("alice", Ask::Revoke(1, "carol"), Ok(b"")),
-        ("bob", Ask::List, Ok(LISTED)),
-        ("alice", Ask::Grant(1, "nobody"), Err(Fault::UnknownReader)),
-        ("alice", Ask::Revoke(1, "nobody"), Err(Fault::UnknownReader)),
-        ("alice", Ask::Grant(1, "alice"), Err(Fault::SelfGrant)),
-        ("alice", Ask::Revoke(1, "alice"), Err(Fault::SelfGrant)),
-        ("alice", Ask::List, Ok(LISTED)),
-        ("carol", Ask::List, Ok(b"")),
-    ]
-}
+static ROWS: [Row; 41] = [
+    ("alice", Ask::Show(1), Ok(b"abc")),
+    ("alice", Ask::Token(1), Ok(GRANTED_WITH)),
+    ("alice", Ask::List, Ok(LISTED)),
+    // what isn't visible is as what isn't there
+    ("bob", Ask::List, Ok(b"")),
+    ("bob", Ask::Show(1), Err(Fault::NotHere)),
+    ("bob", Ask::Show(999_999), Err(Fault::NotHere)),
+    ("bob", Ask::Token(1), Err(Fault::NotHere)),
+    ("bob", Ask::Token(999_999), Err(Fault::NotHere)),
+    ("bob", Ask::Grant(1, "nobody"), Err(Fault::NotHere)),
+    ("bob", Ask::Grant(999_999, "nobody"), Err(Fault::NotHere)),
+    ("bob", Ask::Revoke(1, "bob"), Err(Fault::NotHere)),
+    ("bob", Ask::Revoke(999_999, "bob"), Err(Fault::NotHere)),
+    ("alice", Ask::Show(0), Err(Fault::NotHere)),
+    ("alice", Ask::Show(2), Err(Fault::NotHere)),
+    ("alice", Ask::Show(u64::MAX), Err(Fault::NotHere)),
+    // a reservation without a deposit
+    ("carol", Ask::Show(2), Err(Fault::NotHere)),
+    ("carol", Ask::Token(2), Err(Fault::NotHere)),
+    ("carol", Ask::Grant(2, "bob"), Err(Fault::NotHere)),
+    // a reader, whose right is taken and given again
+    ("alice", Ask::Grant(1, "bob"), Ok(b"")),
+    ("bob", Ask::List, Ok(LISTED)),
+    ("bob", Ask::Show(1), Ok(b"abc")),
+    ("bob", Ask::Token(1), Ok(GRANTED_WITH)),
+    ("carol", Ask::List, Ok(b"")),
+    ("carol", Ask::Show(1), Err(Fault::NotHere)),
+    ("bob", Ask::Grant(1, "carol"), Err(Fault::NotOwner)),
+    ("bob", Ask::Grant(1, "nobody"), Err(Fault::NotOwner)),
+    ("bob", Ask::Revoke(1, "bob"), Err(Fault::NotOwner)),
+    ("alice", Ask::Revoke(1, "bob"), Ok(b"")),
+    ("bob", Ask::List, Ok(b"")),
+    ("bob", Ask::Show(1), Err(Fault::NotHere)),
+    ("alice", Ask::Grant(1, "bob"), Ok(b"")),
+    ("bob", Ask::List, Ok(LISTED)),
+    // granted twice, and taken where it wasn't granted
+    ("alice", Ask::Grant(1, "bob"), Ok(b"")),
+    ("alice", Ask::Revoke(1, "carol"), Ok(b"")),
+    ("bob", Ask::List, Ok(LISTED)),
+    ("alice", Ask::Grant(1, "nobody"), Err(Fault::UnknownReader)),
+    ("alice", Ask::Revoke(1, "nobody"), Err(Fault::UnknownReader)),
+    ("alice", Ask::Grant(1, "alice"), Err(Fault::SelfGrant)),
+    ("alice", Ask::Revoke(1, "alice"), Err(Fault::SelfGrant)),
+    ("alice", Ask::List, Ok(LISTED)),
+    ("carol", Ask::List, Ok(b"")),
+];
 
 /// What is reserved for a request, the first moment's.
 fn reserved(serial: u64, account: &str) -> Reservation<'_> {
@@ -196,7 +194,7 @@ fn first_wrong(
     desk: &mut Desk<'_, MemStore>,
     policy: &Policy,
 ) -> Result<Option<usize>, Fail> {
-    for (index, (name, ask, wanted)) in rows().iter().enumerate() {
+    for (index, (name, ask, wanted)) in ROWS.iter().enumerate() {
         let told = told(alloc, desk, policy, name, *ask)?;
         if !is_told(&told, *wanted) {
             return Ok(Some(index));

@@ -16,34 +16,32 @@ use sqlite::MemStore;
 use std::alloc::Global;
 use std::test::Fail;
 
-fn rows() -> [Row; 16] {
-    [
-        ("guest", 0, b"", RULE_1),
-        ("guest", 0, WITH_CERTIFICATE, GRANTED_WITH),
-        ("guest", 0, STATES_LENGTH_LONG, RULE_1),
-        ("guest", 0, STATES_FALSE, GRANTED_1),
-        ("guest", 0, UNKNOWN, RULE_4),
-        ("guest", 0, PLAIN, GRANTED_1),
-        ("guest", 0, SHORT_HASH, RULE_5),
-        ("guest", 86_400_000_000, PLAIN, NEXT_DAY_1),
-        ("guest", 86_400_000_001, PLAIN, RULE_10),
-        ("guest", 0, LONG_NONCE, GRANTED_LONG_NONCE),
-        ("guest", 0, NEGATIVE_NONCE, GRANTED_NEGATIVE_NONCE),
-        ("guest", 0, STRICT, RULE_6),
-        ("alice", 0, STRICT, RULE_7),
-        ("alice", 0, STRICT_512, RULE_9),
-        ("guest", 0, OTHER_EXTENSION, RULE_8),
-        ("guest", 0, BATCH, GRANTED_BATCH),
-    ]
-}
+static ROWS: [Row; 16] = [
+    ("guest", 0, b"", RULE_1),
+    ("guest", 0, WITH_CERTIFICATE, GRANTED_WITH),
+    ("guest", 0, STATES_LENGTH_LONG, RULE_1),
+    ("guest", 0, STATES_FALSE, GRANTED_1),
+    ("guest", 0, UNKNOWN, RULE_4),
+    ("guest", 0, PLAIN, GRANTED_1),
+    ("guest", 0, SHORT_HASH, RULE_5),
+    ("guest", 86_400_000_000, PLAIN, NEXT_DAY_1),
+    ("guest", 86_400_000_001, PLAIN, RULE_10),
+    ("guest", 0, LONG_NONCE, GRANTED_LONG_NONCE),
+    ("guest", 0, NEGATIVE_NONCE, GRANTED_NEGATIVE_NONCE),
+    ("guest", 0, STRICT, RULE_6),
+    ("alice", 0, STRICT, RULE_7),
+    ("alice", 0, STRICT_512, RULE_9),
+    ("guest", 0, OTHER_EXTENSION, RULE_8),
+    ("guest", 0, BATCH, GRANTED_BATCH),
+];
 
 // Each to a desk of its own.
 #[test]
 fn answers_one_request(rt: HostRuntime) -> Result<(), Fail> {
     let alloc = rt.alloc();
     let setting = example(alloc)?;
-    for (index, row) in rows().into_iter().enumerate() {
-        let wrong = first_wrong_of_new(alloc, &setting, &[row])?;
+    for (index, row) in ROWS.iter().enumerate() {
+        let wrong = first_wrong_of_new(alloc, &setting, &[*row])?;
         assert!(rt; wrong.is_none(), "row {index}");
     }
     Ok(())

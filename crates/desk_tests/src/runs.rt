@@ -31,6 +31,16 @@ enum Ask {
 /// A row of a list: number, owner, reference, genTime.
 type ListRow = (u64, &'static str, &'static str, u64);
 
+/// What a list shows.
+#[derive(Debug, Clone, Copy)]
+enum Listing {
+    Nothing,
+    /// Alice's first deposit.
+    Plan,
+    /// That one, and bob's.
+    Plans,
+}
+
 /// What is to be answered.
 #[derive(Debug, Clone, Copy)]
 enum Told {
@@ -38,7 +48,7 @@ enum Told {
     Rejected(&'static [u8]),
     Kept(u64, bool),
     Shown(&'static [u8]),
-    Listed(&'static [ListRow]),
+    Listed(Listing),
     Done,
     Refused(Fault),
 }
@@ -46,11 +56,15 @@ enum Told {
 /// Who asks, what, and what is answered.
 type Row = (&'static str, Ask, Told);
 
-/// What a list shows of alice's first deposit.
-const PLAN: &[ListRow] = &[(1, "alice", "plan-7", 0)];
-
-/// What a list shows of that one, and of bob's.
-const PLANS: &[ListRow] = &[(1, "alice", "plan-7", 0), (4, "bob", "plan-7", 0)];
+impl Listing {
+    fn rows(self) -> &'static [ListRow] {
+        match self {
+            Listing::Nothing => &[],
+            Listing::Plan => &[(1, "alice", "plan-7", 0)],
+            Listing::Plans => &[(1, "alice", "plan-7", 0), (4, "bob", "plan-7", 0)],
+        }
+    }
+}
 
 fn is_listed(row: &Listed, wanted: &ListRow) -> bool {
     let (number, owner, reference, gen_time) = *wanted;
@@ -80,7 +94,7 @@ fn is_told(answer: &Answer, wanted: Told) -> bool {
             kept.number == number && kept.is_new == is_new
         }
         (Answer::Shown(octets), Told::Shown(wanted)) => octets.as_slice() == wanted,
-        (Answer::Listed(rows), Told::Listed(wanted)) => are_listed(rows, wanted),
+        (Answer::Listed(rows), Told::Listed(wanted)) => are_listed(rows, wanted.rows()),
         (Answer::Done, Told::Done) => true,
         (Answer::Refused(fault), Told::Refused(wanted)) => *fault == wanted,
         _ => false,
@@ -168,26 +182,24 @@ fn commands_of<'a>(
 }
 
 /// The first is new, the next two are the same, and the last has other octets.
-fn four_deposits() -> [Row; 4] {
-    [
-        ("alice", Ask::Deposit("plan-7", b"abc"), Told::Kept(1, true)),
-        (
-            "alice",
-            Ask::Deposit("plan-7", b"abc"),
-            Told::Kept(1, false),
-        ),
-        (
-            "alice",
-            Ask::Deposit("plan-7", b"abc"),
-            Told::Kept(1, false),
-        ),
-        (
-            "alice",
-            Ask::Deposit("plan-7", b"abd"),
-            Told::Refused(Fault::Conflict),
-        ),
-    ]
-}
+static FOUR_DEPOSITS: [Row; 4] = [
+    ("alice", Ask::Deposit("plan-7", b"abc"), Told::Kept(1, true)),
+    (
+        "alice",
+        Ask::Deposit("plan-7", b"abc"),
+        Told::Kept(1, false),
+    ),
+    (
+        "alice",
+        Ask::Deposit("plan-7", b"abc"),
+        Told::Kept(1, false),
+    ),
+    (
+        "alice",
+        Ask::Deposit("plan-7", b"abd"),
+        Told::Refused(Fault::Conflict),
+    ),
+];
 
 /// The place of the first wrong answer, where the desk runs the rows as one list.
 fn first_wrong_of<G: Signer>(
@@ -210,7 +222,7 @@ fn are_kept_once(
 ) -> Result<(), Fail> {
     let after: [Row; 1] = [("alice", Ask::Stamp(0), Told::Granted(2, GRANTED_2))];
     same(
-        first_wrong_of(alloc, desk, policy, signer, &four_deposits())?,
+        first_wrong_of(alloc, desk, policy, signer, &FOUR_DEPOSITS)?,
         None,
     )?;
     same(first_wrong_of(alloc, desk, policy, signer, &after)?, None)?;
@@ -227,77 +239,75 @@ fn deposits_once_under_a_reference(rt: HostRuntime) -> Result<(), Fail> {
 }
 
 /// The signer fails at its third call, which is carol's deposit: its number stays void, and counts.
-fn mixed() -> [Row; 35] {
-    [
-        ("alice", Ask::Stamp(0), Told::Rejected(RULE_10)),
-        ("", Ask::Calibrate(0), Told::Done),
-        ("alice", Ask::Deposit("plan-7", b"abc"), Told::Kept(1, true)),
-        ("bob", Ask::List, Told::Listed(&[])),
-        ("bob", Ask::Show(1), Told::Refused(Fault::NotHere)),
-        ("alice", Ask::Grant(1, "bob"), Told::Done),
-        ("bob", Ask::List, Told::Listed(PLAN)),
-        ("bob", Ask::Show(1), Told::Shown(b"abc")),
-        (
-            "bob",
-            Ask::Grant(1, "carol"),
-            Told::Refused(Fault::NotOwner),
-        ),
-        ("carol", Ask::Stamp(0), Told::Granted(2, GRANTED_2)),
-        (
-            "carol",
-            Ask::Deposit("a", b"x"),
-            Told::Refused(Fault::Signer),
-        ),
-        ("carol", Ask::Stamp(0), Told::Rejected(RULE_11)),
-        (
-            "carol",
-            Ask::Deposit("a", b"x"),
-            Told::Refused(Fault::Rejected(Rule::Quota)),
-        ),
-        ("carol", Ask::List, Told::Listed(&[])),
-        ("bob", Ask::Deposit("plan-7", b"abd"), Told::Kept(4, true)),
-        (
-            "alice",
-            Ask::Deposit("plan-7", b"abd"),
-            Told::Refused(Fault::Conflict),
-        ),
-        (
-            "alice",
-            Ask::Deposit("plan-7", b"abc"),
-            Told::Kept(1, false),
-        ),
-        ("alice", Ask::Show(4), Told::Refused(Fault::NotHere)),
-        ("bob", Ask::Grant(4, "alice"), Told::Done),
-        ("alice", Ask::Show(4), Told::Shown(b"abd")),
-        ("alice", Ask::List, Told::Listed(PLANS)),
-        (
-            "alice",
-            Ask::Revoke(4, "bob"),
-            Told::Refused(Fault::NotOwner),
-        ),
-        ("bob", Ask::Revoke(4, "alice"), Told::Done),
-        ("alice", Ask::Token(4), Told::Refused(Fault::NotHere)),
-        ("alice", Ask::Token(1), Told::Shown(GRANTED_WITH)),
-        (
-            "alice",
-            Ask::Grant(1, "nobody"),
-            Told::Refused(Fault::UnknownReader),
-        ),
-        (
-            "alice",
-            Ask::Grant(1, "alice"),
-            Told::Refused(Fault::SelfGrant),
-        ),
-        ("", Ask::Hold(5, 6), Told::Done),
-        ("bob", Ask::Stamp(5), Told::Rejected(RULE_10)),
-        ("", Ask::Calibrate(-1), Told::Refused(Fault::Store)),
-        ("", Ask::Stamp(0), Told::Rejected(RULE_3)),
-        ("alice", Ask::Revoke(1, "bob"), Told::Done),
-        ("bob", Ask::Show(1), Told::Refused(Fault::NotHere)),
-        ("bob", Ask::Grant(4, "carol"), Told::Done),
-        ("carol", Ask::Show(4), Told::Shown(b"abd")),
-    ]
-}
+static MIXED: [Row; 35] = [
+    ("alice", Ask::Stamp(0), Told::Rejected(RULE_10)),
+    ("", Ask::Calibrate(0), Told::Done),
+    ("alice", Ask::Deposit("plan-7", b"abc"), Told::Kept(1, true)),
+    ("bob", Ask::List, Told::Listed(Listing::Nothing)),
+    ("bob", Ask::Show(1), Told::Refused(Fault::NotHere)),
+    ("alice", Ask::Grant(1, "bob"), Told::Done),
+    ("bob", Ask::List, Told::Listed(Listing::Plan)),
+    ("bob", Ask::Show(1), Told::Shown(b"abc")),
+    (
+        "bob",
+        Ask::Grant(1, "carol"),
+        Told::Refused(Fault::NotOwner),
+    ),
+    ("carol", Ask::Stamp(0), Told::Granted(2, GRANTED_2)),
+    (
+        "carol",
+        Ask::Deposit("a", b"x"),
+        Told::Refused(Fault::Signer),
+    ),
+    ("carol", Ask::Stamp(0), Told::Rejected(RULE_11)),
+    (
+        "carol",
+        Ask::Deposit("a", b"x"),
+        Told::Refused(Fault::Rejected(Rule::Quota)),
+    ),
+    ("carol", Ask::List, Told::Listed(Listing::Nothing)),
+    ("bob", Ask::Deposit("plan-7", b"abd"), Told::Kept(4, true)),
+    (
+        "alice",
+        Ask::Deposit("plan-7", b"abd"),
+        Told::Refused(Fault::Conflict),
+    ),
+    (
+        "alice",
+        Ask::Deposit("plan-7", b"abc"),
+        Told::Kept(1, false),
+    ),
+    ("alice", Ask::Show(4), Told::Refused(Fault::NotHere)),
+    ("bob", Ask::Grant(4, "alice"), Told::Done),
+    ("alice", Ask::Show(4), Told::Shown(b"abd")),
+    ("alice", Ask::List, Told::Listed(Listing::Plans)),
+    (
+        "alice",
+        Ask::Revoke(4, "bob"),
+        Told::Refused(Fault::NotOwner),
+    ),
+    ("bob", Ask::Revoke(4, "alice"), Told::Done),
+    ("alice", Ask::Token(4), Told::Refused(Fault::NotHere)),
+    ("alice", Ask::Token(1), Told::Shown(GRANTED_WITH)),
+    (
+        "alice",
+        Ask::Grant(1, "nobody"),
+        Told::Refused(Fault::UnknownReader),
+    ),
+    (
+        "alice",
+        Ask::Grant(1, "alice"),
+        Told::Refused(Fault::SelfGrant),
+    ),
+    ("", Ask::Hold(5, 6), Told::Done),
+    ("bob", Ask::Stamp(5), Told::Rejected(RULE_10)),
+    ("", Ask::Calibrate(-1), Told::Refused(Fault::Store)),
+    ("", Ask::Stamp(0), Told::Rejected(RULE_3)),
+    ("alice", Ask::Revoke(1, "bob"), Told::Done),
+    ("bob", Ask::Show(1), Told::Refused(Fault::NotHere)),
+    ("bob", Ask::Grant(4, "carol"), Told::Done),
+    ("carol", Ask::Show(4), Told::Shown(b"abd")),
+];
 
 /// What the tables hold after these.
 static TABLES: [(&str, i64); 12] = [
@@ -332,7 +342,7 @@ fn are_mixed(
     policy: &Policy,
     signer: &mut FailingSigner<KeyedHash>,
 ) -> Result<(), Fail> {
-    same(first_wrong_of(alloc, desk, policy, signer, &mixed())?, None)?;
+    same(first_wrong_of(alloc, desk, policy, signer, &MIXED)?, None)?;
     same((signer.calls, signer.faults()), (4, 1))
 }
 
@@ -352,7 +362,7 @@ fn five() -> [Row; 5] {
         ("alice", Ask::Show(1), Told::Shown(b"abc")),
         ("alice", Ask::Grant(1, "bob"), Told::Done),
         ("alice", Ask::Token(1), Told::Shown(GRANTED_WITH)),
-        ("alice", Ask::List, Told::Listed(PLAN)),
+        ("alice", Ask::List, Told::Listed(Listing::Plan)),
         ("alice", Ask::Show(2), Told::Refused(Fault::NotHere)),
     ]
 }
