@@ -1,7 +1,7 @@
 -- Whether a row's octets say what it says, by what they are read as.
 use Rattle.std.proofs.Common.{◌≡◌, ℕ, ◌≤◌, Bool, List, length, sym, subst}
 use Rattle.std.specs.Prelude.{◌↔◌, IsTrue}
-use Rattle.tables.specs.Tables.{StampRow}
+use Rattle.book.specs.Rows.{StampRow}
 use Rattle.tsp.specs.Request.{RequestValue, Spells}
 use Rattle.tsp.specs.Tst.{TstValue, SpellsTst}
 use Rattle.audit.specs.Consistent.{Agree, IsConsistent}

@@ -9,40 +9,39 @@ use Rattle.std.specs.Io.KnownBytes.{Appends}
 use Rattle.std.specs.declared.alloc.Global.{Global}
 use Rattle.std.proofs.lemmas.Grind.{flat_map-append}
 use Rattle.csv.specs.Writing.{default_writer, row_body}
-use Rattle.sqlite_trees.specs.declared.store.Store.{Ghosts}
-use Rattle.tables.specs.Tables.{StampRow}
-use Rattle.tables.specs.Base.{BaseValue, IsHonest}
-use Rattle.store.specs.History.{History, stamps_between}
-use Rattle.store.specs.Stands.{Stands, OnlyLooks}
+use Rattle.book.specs.declared.standing.Standing.{Ghosts}
+use Rattle.book.specs.Rows.{StampRow}
+use Rattle.book.specs.History.{History, stamps_between}
+use Rattle.book.specs.Stands.{Stands, OnlyLooks}
 use Rattle.audit.specs.Extract.{columns, extract_text, fields, header_text, lines_text, stamp_text, stamps_text}
 use Rattle.audit.specs.Steps.{IsNextLine}
 use Rattle.audit.specs.Writing.{Writes, WritesLine}
 use Rattle.audit.specs.declared.fault.ExtractFault.{ExtractFault}
 use Rattle.audit.specs.declared.fault.ExtractFault.TheVariants.{Write}
 
-pub looks_not : {S : Type 0} (g : Ghosts S) (s : BaseValue S) → OnlyLooks g s s
-looks_not g s = record { honest = λ h. h; stands = λ b x. x; leaves = λ h db r. r }
+pub looks_not : {B : Type 0} (g : Ghosts B) (s : B) → OnlyLooks g s s
+looks_not g s = record { honest = λ h. h; stands = λ b x. x; leaves = λ h left r. r }
 
-pub looks_after : {S : Type 0} (g : Ghosts S) (old mid new : BaseValue S) → OnlyLooks g old mid → OnlyLooks g mid new
+pub looks_after : {B : Type 0} (g : Ghosts B) (old mid new : B) → OnlyLooks g old mid → OnlyLooks g mid new
     → OnlyLooks g old new
 looks_after g old mid new first second = record {
   honest = λ h. first.honest (second.honest h);
   stands = λ b s. second.stands b (first.stands b s);
-  leaves = λ h db r. first.leaves (second.honest h) db (second.leaves h db r);
+  leaves = λ h left r. first.leaves (second.honest h) left (second.leaves h left r);
 }
 
 -- so many octets were written, and of each history's extract the lines of the stamps that are left are not
-pub record HasWritten {S : Type 0} (g : Ghosts S) (old now : BaseValue S) (out out' : Option (List ℕ)) (from to : ℕ)
+pub record HasWritten {B : Type 0} (g : Ghosts B) (old now : B) (out out' : Option (List ℕ)) (from to : ℕ)
     (octets left last : ℕ)
     : Type 0 where
   pub looks : OnlyLooks g old now
-  pub faults : now.faults ≡ old.faults
+  pub faults : g.fault_count now ≡ g.fault_count old
   pub written : List ℕ
   pub count : octets ≡ length written
   pub appended : Appends out out' written
   pub told : List StampRow
   pub lines : written ≡ lines_text told
-  pub splits : IsHonest g now → (b : History) → Stands g b old
+  pub splits : g.honest now → (b : History) → Stands g b old
       → extract_text from to b ≡ written ++ stamps_text (stamps_between left last b)
 
 take_front : (n : ℕ) (xs ys all : List ℕ) → n ≡ length xs → all ≡ xs ++ ys → xs ≡ take n all
@@ -84,7 +83,7 @@ next_left before after found line octets is same next =
     subst (IsNextLine before after) is next ∙ ap (λ l. l ++ stamps_text after) (sym same)
 
 -- the header is written
-pub begun : {S : Type 0} (g : Ghosts S) (store : BaseValue S) (out out' : Option (List ℕ)) (from to octets octets' : ℕ)
+pub begun : {B : Type 0} (g : Ghosts B) (store : B) (out out' : Option (List ℕ)) (from to octets octets' : ℕ)
     (line : List ℕ)
     → octets ≡ 0 → line ≡ header_text → WritesLine out out' line octets octets' (Ok tt)
     → HasWritten g store store out out' from to octets' from to
@@ -102,11 +101,12 @@ begun g store out out' from to octets octets' line none is wrote =
     }
 
 -- a further line is written
-pub added : {S : Type 0} (g : Ghosts S) (old now next : BaseValue S) (out out' out'' : Option (List ℕ))
+pub added : {B : Type 0} (g : Ghosts B) (old now next : B) (out out' out'' : Option (List ℕ))
     (from to octets octets' left last left' last' : ℕ) (line : List ℕ) (stamp : StampRow)
-    → HasWritten g old now out out' from to octets left last → OnlyLooks g now next → next.faults ≡ now.faults
+    → HasWritten g old now out out' from to octets left last → OnlyLooks g now next
+    → g.fault_count next ≡ g.fault_count now
     → line ≡ stamp_text stamp
-    → (IsHonest g next → (b : History) → Stands g b now
+    → (g.honest next → (b : History) → Stands g b now
     → stamps_text (stamps_between left last b) ≡ line ++ stamps_text (stamps_between left' last' b))
     → WritesLine out' out'' line octets octets' (Ok tt)
     → HasWritten g old next out out'' from to octets' left' last'
@@ -129,13 +129,13 @@ added g old now next out out' out'' from to octets octets' left last left' last'
     }
 
 -- all lines are written
-pub ended : {S : Type 0} (g : Ghosts S) (old now next : BaseValue S) (out out' : Option (List ℕ))
+pub ended : {B : Type 0} (g : Ghosts B) (old now next : B) (out out' : Option (List ℕ))
     (from to octets left last : ℕ)
     → HasWritten g old now out out' from to octets left last → OnlyLooks g now next
-    → (IsHonest g next → (b : History) → Stands g b now → stamps_between left last b ≡ [])
+    → (g.honest next → (b : History) → Stands g b now → stamps_between left last b ≡ [])
     → Writes g old next out out' from to octets (Ok tt)
 ended g old now next out out' from to octets left last before looks none =
-    let all : IsHonest g next → (b : History) → Stands g b old → extract_text from to b ≡ before.written =
+    let all : g.honest next → (b : History) → Stands g b old → extract_text from to b ≡ before.written =
     λ h b s. (before.splits (looks.honest h) b s
     ∙ ap (λ l. before.written ++ stamps_text l) (none h b (before.looks.stands b s)) ∙ append-nil before.written) in
     record {
@@ -158,7 +158,7 @@ error_same : (f f' : ExtractFault) → ◌≡◌ {A = Outcome} (Err f) (Err f') 
 error_same f f' e = cc
 
 -- nothing was asked
-pub nothing_written : {S : Type 0} (g : Ghosts S) (store : BaseValue S) (out : Option (List ℕ)) (from to : ℕ)
+pub nothing_written : {B : Type 0} (g : Ghosts B) (store : B) (out : Option (List ℕ)) (from to : ℕ)
     (fault : ExtractFault)
     → fault ≢ Write → Writes g store store out out from to 0 (Err fault)
 nothing_written g store out from to fault other = record {
@@ -174,7 +174,7 @@ nothing_written g store out from to fault other = record {
 }
 
 -- the next stamp isn't told
-pub stopped : {S : Type 0} (g : Ghosts S) (old now next : BaseValue S) (out out' : Option (List ℕ))
+pub stopped : {B : Type 0} (g : Ghosts B) (old now next : B) (out out' : Option (List ℕ))
     (from to octets left last : ℕ) (fault : ExtractFault)
     → HasWritten g old now out out' from to octets left last → OnlyLooks g now next → fault ≢ Write
     → Writes g old next out out' from to octets (Err fault)
@@ -192,7 +192,7 @@ stopped g old now next out out' from to octets left last fault before looks othe
 }
 
 -- the header is cut
-pub cut_first : {S : Type 0} (g : Ghosts S) (store : BaseValue S) (out out' : Option (List ℕ))
+pub cut_first : {B : Type 0} (g : Ghosts B) (store : B) (out out' : Option (List ℕ))
     (from to octets octets' : ℕ) (line : List ℕ) (fault : ExtractFault) (outcome : Outcome)
     → outcome ≡ Err fault → octets ≡ 0 → line ≡ header_text → WritesLine out out' line octets octets' (Err fault)
     → Writes g store store out out' from to octets' outcome
@@ -230,12 +230,12 @@ cut_line octets taken written line rest all short count is =
     ∙ ap (λ n. take n (written ++ (line ++ rest))) (sym count) ∙ ap (take octets) (sym is)
 
 -- a further line is cut
-pub cut_later : {S : Type 0} (g : Ghosts S) (old now next : BaseValue S) (out out' out'' : Option (List ℕ))
+pub cut_later : {B : Type 0} (g : Ghosts B) (old now next : B) (out out' out'' : Option (List ℕ))
     (from to octets octets' left last left' last' : ℕ) (line : List ℕ) (stamp : StampRow) (fault : ExtractFault)
     (outcome : Outcome)
     → outcome ≡ Err fault → HasWritten g old now out out' from to octets left last → OnlyLooks g now next
     → line ≡ stamp_text stamp
-    → (IsHonest g next → (b : History) → Stands g b now
+    → (g.honest next → (b : History) → Stands g b now
     → stamps_text (stamps_between left last b) ≡ line ++ stamps_text (stamps_between left' last' b))
     → WritesLine out' out'' line octets octets' (Err fault)
     → Writes g old next out out'' from to octets' outcome
@@ -247,7 +247,7 @@ cut_later g old now next out out' out'' from to octets octets' left last left' l
     let told : lines_text (before.told ++ stamp ∷ []) ≡ before.written ++ (line ++ []) =
     told_more before.told stamp line is ∙ ap (λ l. l ++ line) (sym before.lines)
     ∙ ap (λ l. before.written ++ l) (sym (append-nil line)) in
-    let all : IsHonest g next → (b : History) → Stands g b old
+    let all : g.honest next → (b : History) → Stands g b old
     → extract_text from to b ≡ before.written ++ (line ++ rest b) =
     λ h b s. (before.splits (looks.honest h) b s
     ∙ ap (λ l. before.written ++ l) (value h b (before.looks.stands b s))) in
@@ -278,13 +278,13 @@ cut_later g old now next out out' out'' from to octets octets' left last left' l
     })
 
 -- so many octets were counted
-pub record HasCounted {S : Type 0} (g : Ghosts S) (old now : BaseValue S) (from to octets left last : ℕ) : Type 0 where
+pub record HasCounted {B : Type 0} (g : Ghosts B) (old now : B) (from to octets left last : ℕ) : Type 0 where
   pub looks : OnlyLooks g old now
-  pub faults : now.faults ≡ old.faults
-  pub splits : IsHonest g now → (b : History) → Stands g b old
+  pub faults : g.fault_count now ≡ g.fault_count old
+  pub splits : g.honest now → (b : History) → Stands g b old
       → length (extract_text from to b) ≡ octets + length (stamps_text (stamps_between left last b))
 
-pub counted_first : {S : Type 0} (g : Ghosts S) (store : BaseValue S) (from to octets : ℕ) → octets ≡ length header_text
+pub counted_first : {B : Type 0} (g : Ghosts B) (store : B) (from to octets : ℕ) → octets ≡ length header_text
     → HasCounted g store store from to octets from to
 counted_first g store from to octets is = record {
   looks = looks_not g store;
@@ -293,10 +293,10 @@ counted_first g store from to octets is = record {
       ∙ ap (λ n. n + length (stamps_text (stamps_between from to b))) (sym is));
 }
 
-pub counted_more : {S : Type 0} (g : Ghosts S) (old now next : BaseValue S) (from to octets left last left' last' : ℕ)
+pub counted_more : {B : Type 0} (g : Ghosts B) (old now next : B) (from to octets left last left' last' : ℕ)
     (line : List ℕ)
-    → HasCounted g old now from to octets left last → OnlyLooks g now next → next.faults ≡ now.faults
-    → (IsHonest g next → (b : History) → Stands g b now
+    → HasCounted g old now from to octets left last → OnlyLooks g now next → g.fault_count next ≡ g.fault_count now
+    → (g.honest next → (b : History) → Stands g b now
     → stamps_text (stamps_between left last b) ≡ line ++ stamps_text (stamps_between left' last' b))
     → HasCounted g old next from to (octets + length line) left' last'
 counted_more g old now next from to octets left last left' last' line before looks same value = record {
@@ -311,13 +311,13 @@ counted_more g old now next from to octets left last left' last' line before loo
 }
 
 -- more octets than 64 bits count
-pub counted_too_many : {S : Type 0} (g : Ghosts S) (old now next : BaseValue S)
+pub counted_too_many : {B : Type 0} (g : Ghosts B) (old now next : B)
     (from to octets left last left' last' : ℕ) (line : List ℕ)
     → HasCounted g old now from to octets left last → OnlyLooks g now next
-    → (IsHonest g next → (b : History) → Stands g b now
+    → (g.honest next → (b : History) → Stands g b now
     → stamps_text (stamps_between left last b) ≡ line ++ stamps_text (stamps_between left' last' b))
     → 2 ^ 64 ≤ octets + length line
-    → IsHonest g next → (b : History) → Stands g b old → 2 ^ 64 ≤ length (extract_text from to b)
+    → g.honest next → (b : History) → Stands g b old → 2 ^ 64 ≤ length (extract_text from to b)
 counted_too_many g old now next from to octets left last left' last' line before looks value many h b s = omega (
   arith,
   many,
@@ -326,10 +326,10 @@ counted_too_many g old now next from to octets left last left' last' line before
   length-append line (stamps_text (stamps_between left' last' b)),
 )
 
-pub counted_all : {S : Type 0} (g : Ghosts S) (old now next : BaseValue S) (from to octets left last : ℕ)
+pub counted_all : {B : Type 0} (g : Ghosts B) (old now next : B) (from to octets left last : ℕ)
     → HasCounted g old now from to octets left last → OnlyLooks g now next
-    → (IsHonest g next → (b : History) → Stands g b now → stamps_between left last b ≡ [])
-    → IsHonest g next → (b : History) → Stands g b old → octets ≡ length (extract_text from to b)
+    → (g.honest next → (b : History) → Stands g b now → stamps_between left last b ≡ [])
+    → g.honest next → (b : History) → Stands g b old → octets ≡ length (extract_text from to b)
 counted_all g old now next from to octets left last before looks none h b s =
     omega (
       arith,

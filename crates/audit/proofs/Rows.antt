@@ -7,7 +7,7 @@ use Rattle.der.specs.ObjectIdentifier.{decimal, oid_of, subidentifier_octets, su
 use Rattle.gentime.specs.Calendar.{civil_date}
 use Rattle.gentime.specs.GenTime.{spelling, text_of, time_of}
 use Rattle.hex.specs.Hex.{encode_with}
-use Rattle.store.specs.History.{Reserved, ReservationValue}
+use Rattle.book.specs.History.{Reserved, ReservationValue}
 use Rattle.audit.specs.Extract.{extract_text, header_text, identifier_text, moment_text, stamp_text}
 
 -- SHA-256 of `abc`

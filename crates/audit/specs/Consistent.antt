@@ -1,7 +1,7 @@
 -- Whether a stamp's octets say what its row says.
 use Rattle.std.specs.Prelude.{◌≡◌, ◌≤◌, length}
 use Rattle.der.specs.ObjectIdentifier.{oid_content}
-use Rattle.tables.specs.Tables.{StampRow}
+use Rattle.book.specs.Rows.{StampRow}
 use Rattle.tsp.specs.Request.{RequestValue, Spells}
 use Rattle.tsp.specs.Tst.{TstValue, SpellsTst}
 

@@ -8,8 +8,8 @@ use Rattle.der.specs.ObjectIdentifier.{oid_of, oid_text}
 use Rattle.gentime.specs.GenTime.{last_moment, text_of}
 use Rattle.hex.specs.Hex.{encode_lower}
 use Rattle.sha2.specs.Sha256.{sha256}
-use Rattle.tables.specs.Tables.{StampRow}
-use Rattle.store.specs.History.{History, stamps_between}
+use Rattle.book.specs.Rows.{StampRow}
+use Rattle.book.specs.History.{History, stamps_between}
 
 abbrev pub columns : List (List ℕ)
 columns =

@@ -1,8 +1,9 @@
--- The refusals: their numbers, what becomes of a store's, and the count of those that its database gave.
+-- The refusals: their numbers, what becomes of a store's, and its count of those that it gave for another
+-- cause than memory.
 use Rattle.std.specs.Prelude.{ℕ}
-use Rattle.tables.specs.Base.{next_count}
-use Rattle.store.specs.declared.fault.StoreFault.{StoreFault}
-use Rattle.store.specs.declared.fault.StoreFault.TheVariants as store
+use Rattle.book.specs.Fault.{next_count}
+use Rattle.book.specs.declared.fault.StoreFault.{StoreFault}
+use Rattle.book.specs.declared.fault.StoreFault.TheVariants as store
 use Rattle.audit.specs.declared.fault.ExtractFault.{ExtractFault}
 use Rattle.audit.specs.declared.fault.ExtractFault.TheVariants.{NotAuditor, Range, Memory, Store, Write}
 

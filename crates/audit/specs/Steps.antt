@@ -1,7 +1,7 @@
 -- What a walk over the stamps of a range writes of them: stepping stones, no definitions.
 use Rattle.std.specs.Prelude.{◌≡◌, List, [], ℕ, ◌++◌, Option, Some, None, Vec}
 use Rattle.std.specs.declared.alloc.Global.{Global}
-use Rattle.tables.specs.Tables.{StampRow}
+use Rattle.book.specs.Rows.{StampRow}
 use Rattle.audit.specs.Extract.{stamp_text, stamps_text}
 
 -- the line of the first of the stamps that were left, or none is left

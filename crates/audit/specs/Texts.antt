@@ -2,7 +2,7 @@
 use Rattle.std.specs.Prelude.{◌≡◌, string_bytes}
 use Rattle.std.specs.Fmt.{decimal}
 use Rattle.hex.specs.Hex.{encode_lower}
-use Rattle.tables.specs.Tables.{StampRow}
+use Rattle.book.specs.Rows.{StampRow}
 use Rattle.audit.specs.Extract.{identifier_text, moment_text, token_text}
 use Rattle.audit.specs.declared.line.Texts.{Texts}
 

@@ -1,11 +1,10 @@
 -- What was written of an extract.
 use Rattle.std.specs.Prelude.{◌≡◌, ℕ, ◌+◌, ◌<◌, List, length, take, Option, Result, Ok, Err, OnOk}
 use Rattle.std.specs.Io.KnownBytes.{Appends}
-use Rattle.sqlite_trees.specs.declared.store.Store.{Ghosts}
-use Rattle.tables.specs.Base.{BaseValue, IsHonest}
-use Rattle.tables.specs.Tables.{StampRow}
-use Rattle.store.specs.History.{History}
-use Rattle.store.specs.Stands.{Stands}
+use Rattle.book.specs.declared.standing.Standing.{Ghosts}
+use Rattle.book.specs.Rows.{StampRow}
+use Rattle.book.specs.History.{History}
+use Rattle.book.specs.Stands.{Stands}
 use Rattle.audit.specs.Extract.{extract_text, lines_text}
 use Rattle.audit.specs.declared.fault.ExtractFault.{ExtractFault}
 use Rattle.audit.specs.declared.fault.ExtractFault.TheVariants.{Write}
@@ -13,7 +12,7 @@ use Rattle.audit.specs.declared.fault.ExtractFault.TheVariants.{Write}
 -- So many octets were written: a beginning of the columns' names and the lines of some stamps, whatever the store is,
 -- and all of these where there was no refusal. Of each history that the store stood for they are a beginning of its
 -- extract, the whole of it where there was no refusal, and not the whole where a write failed.
-pub record Writes {S : Type 0} (g : Ghosts S) (before after : BaseValue S) (out out' : Option (List ℕ)) (from to : ℕ)
+pub record Writes {B : Type 0} (g : Ghosts B) (before after : B) (out out' : Option (List ℕ)) (from to : ℕ)
     (octets : ℕ) (outcome : Result (Unit {0}) ExtractFault)
     : Type 0 where
   pub written : List ℕ
@@ -22,10 +21,10 @@ pub record Writes {S : Type 0} (g : Ghosts S) (before after : BaseValue S) (out 
   pub told : List StampRow
   pub lines : written ≡ take octets (lines_text told)
   pub all : OnOk outcome (written ≡ lines_text told)
-  pub beginning : IsHonest g after → (b : History) → Stands g b before → written ≡ take octets (extract_text from to b)
-  pub whole : IsHonest g after → (b : History) → Stands g b before
+  pub beginning : g.honest after → (b : History) → Stands g b before → written ≡ take octets (extract_text from to b)
+  pub whole : g.honest after → (b : History) → Stands g b before
       → OnOk outcome (written ≡ extract_text from to b)
-  pub cut : IsHonest g after → (b : History) → Stands g b before
+  pub cut : g.honest after → (b : History) → Stands g b before
       → outcome ≡ Err Write → octets < length (extract_text from to b)
 
 -- a beginning of a line was written and counted: all of it, or less where it is refused

@@ -1,13 +1,13 @@
 //! Whether a stamp's octets say what its row says.
 ghost use Rattle.std.specs.Prelude.{◌≡◌, ◌↔◌, IsTrue, MatchResult, option_map};
 ghost use Rattle.der.specs.ObjectIdentifier.{oid_content};
-ghost use Rattle.tables.specs.Queries.{stamp_view};
+ghost use Rattle.book.specs.Values.{stamp_view};
 ghost use Rattle.tsp.specs.View.{imprint_view, request_view, tst_view};
 ghost use Rattle.audit.specs.Consistent.{Agree, IsConsistent};
 
 use crate::fault::ExtractFault;
+use book::Stamp;
 use der::{encodings_are_read, oids_have_one_content_and_text};
-use store::Stamp;
 use tsp::{MessageImprint, Request, TstInfo, read_request, read_tst};
 
 /// Whether a stamp's octets say what its row says: the TSTInfo is one, and carries the row's serial number, genTime and

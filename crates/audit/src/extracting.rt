@@ -1,9 +1,8 @@
 //! The stamps of a range of serial numbers, for an auditor.
 ghost use Rattle.std.specs.Prelude.{◌≡◌, ◌≢◌, ◌<◌, ◌≤◌, ◌^◌, ℕ, length, IfOk, IfErr, IfSome, MatchResult};
 ghost use Rattle.policy.specs.View.{account_view, policy_view};
-ghost use Rattle.tables.specs.Base.{IsHonest};
-ghost use Rattle.store.specs.History.{History, stamps_between};
-ghost use Rattle.store.specs.Stands.{Stands, OnlyLooks};
+ghost use Rattle.book.specs.History.{History, stamps_between};
+ghost use Rattle.book.specs.Stands.{Stands, OnlyLooks};
 ghost use Rattle.audit.specs.Auditor.{IsAllowed, ComesWhere, IfUnasked, IsMet};
 ghost use Rattle.audit.specs.Extract.{extract_text};
 ghost use Rattle.audit.specs.Fault.{count_after};
@@ -14,11 +13,10 @@ use crate::auditor::allow;
 use crate::fault::ExtractFault;
 use crate::line::{header, line_of};
 use crate::writing::write_line;
+use book::{Book, StampsBetween};
 use policy::{Account, Policy};
-use sqlite::Alter;
 use std::alloc::Global;
 use std::io::Write;
-use store::{StampsBetween, Store};
 
 /// What became of an extract.
 #[derive(Debug, Drop)]
@@ -38,32 +36,32 @@ pub struct Extracted {
 /// unless `1 <= from <= to`; nothing is written then, and the store isn't asked. Refused with `Memory`, `Store` or
 /// `Write` where it is met, with `Write` too before a line that would make it longer than 2^64 - 1 octets; a beginning
 /// of the extract may have been written then. The store changes nowhere.
-pub fn extract<S: Alter + Drop, W: Write>(
+pub fn extract<B: Book + Drop, W: Write>(
     alloc: Global,
-    store: &mut Store<S>,
+    store: &mut B,
     policy: &Policy,
     account: &Account,
     from: u64,
     to: u64,
     out: &mut W,
 ) -> Result<(), ExtractFault>
-    ensures looks { OnlyLooks S.Store store.old store.new }
+    ensures looks { OnlyLooks B.Standing store.old store.new }
     ensures written { (octets : ℕ)
-        × Writes S.Store store.old store.new (W.contents out.old) (W.contents out.new) from to octets result }
+        × Writes B.Standing store.old store.new (W.contents out.old) (W.contents out.new) from to octets result }
     ensures refusals { MatchResult result (λ _. IsAllowed (policy_view policy.now) (account_view account.now) from to)
         (ComesWhere (policy_view policy.now) (account_view account.now) from to) }
     ensures unasked { IfErr result (IfUnasked ((store.new ≡ store.old) × (out.new ≡ out.old))) }
-    ensures faults { MatchResult result (λ _. store.new.faults ≡ store.old.faults)
-        (λ e. store.new.faults ≡ count_after e store.old.faults) }
+    ensures faults { MatchResult result (λ _. B.fault_count store.new ≡ B.fault_count store.old)
+        (λ e. B.fault_count store.new ≡ count_after e (B.fault_count store.old)) }
 {
     write_extract(alloc, store, policy, account, from, to, u64::MAX, out).outcome
 }
 
 /// Writes the extract as `extract` does, and tells how many octets `out` took, those of a line that failed too. A line
 /// that would take it beyond `limit` octets in all isn't begun, and is refused as `Write`.
-pub fn write_extract<S: Alter + Drop, W: Write>(
+pub fn write_extract<B: Book + Drop, W: Write>(
     alloc: Global,
-    store: &mut Store<S>,
+    store: &mut B,
     policy: &Policy,
     account: &Account,
     from: u64,
@@ -71,17 +69,17 @@ pub fn write_extract<S: Alter + Drop, W: Write>(
     limit: u64,
     out: &mut W,
 ) -> Extracted
-    ensures looks { OnlyLooks S.Store store.old store.new }
-    ensures written { Writes S.Store store.old store.new (W.contents out.old) (W.contents out.new) from to result.octets
-        result.outcome }
+    ensures looks { OnlyLooks B.Standing store.old store.new }
+    ensures written { Writes B.Standing store.old store.new (W.contents out.old) (W.contents out.new) from to
+        result.octets result.outcome }
     ensures within { result.octets ≤ limit }
     ensures refusals { MatchResult result.outcome
         (λ _. IsAllowed (policy_view policy.now) (account_view account.now) from to)
         (ComesWhere (policy_view policy.now) (account_view account.now) from to) }
     ensures unasked { IfErr result.outcome
         (IfUnasked ((store.new ≡ store.old) × (out.new ≡ out.old) × (result.octets ≡ 0))) }
-    ensures faults { MatchResult result.outcome (λ _. store.new.faults ≡ store.old.faults)
-        (λ e. store.new.faults ≡ count_after e store.old.faults) }
+    ensures faults { MatchResult result.outcome (λ _. B.fault_count store.new ≡ B.fault_count store.old)
+        (λ e. B.fault_count store.new ≡ count_after e (B.fault_count store.old)) }
 {
     if let Err(fault) = allow(policy, account, from, to) {
         return Extracted {
@@ -97,33 +95,33 @@ pub fn write_extract<S: Alter + Drop, W: Write>(
 /// How many octets the extract has: what `write_extract` writes of the same range as long as nobody adds to the store.
 /// It goes through the stamps, and keeps none. Refused as `extract`, but with `Write` only where there are 2^64 octets
 /// or more.
-pub fn extract_length<S: Alter + Drop>(
+pub fn extract_length<B: Book + Drop>(
     alloc: Global,
-    store: &mut Store<S>,
+    store: &mut B,
     policy: &Policy,
     account: &Account,
     from: u64,
     to: u64,
 ) -> Result<u64, ExtractFault>
-    ensures looks { OnlyLooks S.Store store.old store.new }
-    ensures value { IsHonest S.Store store.new → (b : History) → Stands S.Store b store.old
+    ensures looks { OnlyLooks B.Standing store.old store.new }
+    ensures value { B.honest store.new → (b : History) → Stands B.Standing b store.old
         → IfOk result (λ octets. octets ≡ length (extract_text from to b)) }
-    ensures long { IsHonest S.Store store.new → (b : History) → Stands S.Store b store.old
+    ensures long { B.honest store.new → (b : History) → Stands B.Standing b store.old
         → IfErr result (λ e. e ≡ ExtractFault.Write → 2 ^ 64 ≤ length (extract_text from to b)) }
     ensures refusals { MatchResult result (λ _. IsAllowed (policy_view policy.now) (account_view account.now) from to)
         (ComesWhere (policy_view policy.now) (account_view account.now) from to) }
     ensures unasked { IfErr result (IfUnasked (store.new ≡ store.old)) }
-    ensures faults { MatchResult result (λ _. store.new.faults ≡ store.old.faults)
-        (λ e. store.new.faults ≡ count_after e store.old.faults) }
+    ensures faults { MatchResult result (λ _. B.fault_count store.new ≡ B.fault_count store.old)
+        (λ e. B.fault_count store.new ≡ count_after e (B.fault_count store.old)) }
 {
     allow(policy, account, from, to)?;
     count_octets(alloc, store, from, to)
 }
 
 /// Writes the extract's lines, one after the other, and counts their octets.
-fn write_stamps<S: Alter + Drop, W: Write>(
+fn write_stamps<B: Book + Drop, W: Write>(
     alloc: Global,
-    store: &mut Store<S>,
+    store: &mut B,
     from: u64,
     to: u64,
     limit: u64,
@@ -131,16 +129,16 @@ fn write_stamps<S: Alter + Drop, W: Write>(
     octets: &mut u64,
 ) -> Result<(), ExtractFault>
     requires { octets.old ≡ 0 }
-    ensures looks { OnlyLooks S.Store store.old store.new }
-    ensures written { Writes S.Store store.old store.new (W.contents out.old) (W.contents out.new) from to octets.new
+    ensures looks { OnlyLooks B.Standing store.old store.new }
+    ensures written { Writes B.Standing store.old store.new (W.contents out.old) (W.contents out.new) from to octets.new
         result }
     ensures within { octets.new ≤ limit }
     ensures refusals { IfErr result IsMet }
-    ensures faults { MatchResult result (λ _. store.new.faults ≡ store.old.faults)
-        (λ e. store.new.faults ≡ count_after e store.old.faults) }
+    ensures faults { MatchResult result (λ _. B.fault_count store.new ≡ B.fault_count store.old)
+        (λ e. B.fault_count store.new ≡ count_after e (B.fault_count store.old)) }
 {
     write_line(out, header(), limit, octets)?;
-    let mut walk = store.stamps_between(from, to);
+    let mut walk = StampsBetween::of(store, from, to);
     while let Some(line) = next_line(alloc, &mut walk)? {
         write_line(out, &line, limit, octets)?;
     }
@@ -148,23 +146,23 @@ fn write_stamps<S: Alter + Drop, W: Write>(
 }
 
 /// How many octets the extract's lines have.
-fn count_octets<S: Alter + Drop>(
+fn count_octets<B: Book + Drop>(
     alloc: Global,
-    store: &mut Store<S>,
+    store: &mut B,
     from: u64,
     to: u64,
 ) -> Result<u64, ExtractFault>
-    ensures looks { OnlyLooks S.Store store.old store.new }
-    ensures value { IsHonest S.Store store.new → (b : History) → Stands S.Store b store.old
+    ensures looks { OnlyLooks B.Standing store.old store.new }
+    ensures value { B.honest store.new → (b : History) → Stands B.Standing b store.old
         → IfOk result (λ octets. octets ≡ length (extract_text from to b)) }
-    ensures long { IsHonest S.Store store.new → (b : History) → Stands S.Store b store.old
+    ensures long { B.honest store.new → (b : History) → Stands B.Standing b store.old
         → IfErr result (λ e. e ≡ ExtractFault.Write → 2 ^ 64 ≤ length (extract_text from to b)) }
     ensures refusals { IfErr result IsMet }
-    ensures faults { MatchResult result (λ _. store.new.faults ≡ store.old.faults)
-        (λ e. store.new.faults ≡ count_after e store.old.faults) }
+    ensures faults { MatchResult result (λ _. B.fault_count store.new ≡ B.fault_count store.old)
+        (λ e. B.fault_count store.new ≡ count_after e (B.fault_count store.old)) }
 {
     let mut octets = header().len() as u64;
-    let mut walk = store.stamps_between(from, to);
+    let mut walk = StampsBetween::of(store, from, to);
     while let Some(line) = next_line(alloc, &mut walk)? {
         let Some(more) = octets.checked_add(line.len() as u64) else {
             return Err(ExtractFault::Write);
@@ -175,13 +173,13 @@ fn count_octets<S: Alter + Drop>(
 }
 
 /// The line of the stamp with the least serial number of those that are left, or none where none is left.
-fn next_line<S: Alter + Drop>(
+fn next_line<B: Book + Drop>(
     alloc: Global,
-    walk: &mut StampsBetween<'_, S>,
+    walk: &mut StampsBetween<'_, B>,
 ) -> Result<Option<Vec<u8>>, ExtractFault>
-    ensures same_reference { walk.new.store.ghost_name ≡ walk.old.store.ghost_name }
-    ensures looks { OnlyLooks S.Store walk.old.store.now walk.new.store.now }
-    ensures value { IsHonest S.Store walk.new.store.now → (b : History) → Stands S.Store b walk.old.store.now
+    ensures same_reference { walk.new.book.ghost_name ≡ walk.old.book.ghost_name }
+    ensures looks { OnlyLooks B.Standing walk.old.book.now walk.new.book.now }
+    ensures value { B.honest walk.new.book.now → (b : History) → Stands B.Standing b walk.old.book.now
         → IfOk result (IsNextLine (stamps_between walk.old.from walk.old.to b)
         (stamps_between walk.new.from walk.new.to b)) }
     ensures line { IfOk result (λ found. IfSome found IsLine) }
@@ -190,8 +188,8 @@ fn next_line<S: Alter + Drop>(
     ensures end { walk.new.to ≡ walk.old.to }
     ensures refusals { IfErr result IsMet }
     ensures unwritten { IfErr result (λ e. e ≢ ExtractFault.Write) }
-    ensures faults { MatchResult result (λ _. walk.new.store.now.faults ≡ walk.old.store.now.faults)
-        (λ e. walk.new.store.now.faults ≡ count_after e walk.old.store.now.faults) }
+    ensures faults { MatchResult result (λ _. B.fault_count walk.new.book.now ≡ B.fault_count walk.old.book.now)
+        (λ e. B.fault_count walk.new.book.now ≡ count_after e (B.fault_count walk.old.book.now)) }
 {
     match walk.next()? {
         Some(stamp) => Ok(Some(line_of(alloc, &stamp)?)),

@@ -2,8 +2,8 @@ ghost use Rattle.std.specs.Prelude.{◌≡◌};
 ghost use Rattle.audit.specs.Fault.{fault_of};
 ghost use Rattle.audit.specs.declared.fault.ExtractFault.TheVariants.{Memory};
 
+use book::StoreFault;
 use std::alloc::{AllocError, AllocFailed};
-use store::StoreFault;
 use thiserror::Error;
 
 /// Why an extract is refused. Each refusal has a number, which the program prints.
@@ -15,10 +15,10 @@ pub enum ExtractFault {
     /// The serial numbers aren't from 1 on, or the last is before the first.
     #[error("no such range of serial numbers")]
     Range = 2,
-    /// Memory ran out: a growth was refused, or the database answered that it found none.
+    /// Memory ran out: a growth was refused, or the store answered that it found none.
     #[error("out of memory")]
     Memory = 3,
-    /// The database refused for another cause; the store's count of such refusals rose.
+    /// The store refused for another cause; its count of such refusals rose.
     #[error("the store failed")]
     Store = 4,
     /// A write failed, or took no octet. Or a line would take the extract beyond the limit that `write_extract` is

@@ -2,18 +2,18 @@
 ghost use Rattle.std.specs.Prelude.{◌≡◌, ◌<◌, ◌≤◌, IfOk, IfErr, MatchOption, map, option_map, string_bytes};
 ghost use Rattle.csv.specs.Writing.{default_writer, row_text};
 ghost use Rattle.gentime.specs.GenTime.{last_moment};
-ghost use Rattle.tables.specs.Queries.{stamp_view};
+ghost use Rattle.book.specs.Values.{stamp_view};
 ghost use Rattle.audit.specs.Extract.{fields, header_text, identifier_text, moment_text, stamp_text, state_text};
 ghost use Rattle.audit.specs.Extract.{token_text};
 ghost use Rattle.audit.specs.Texts.{AreTexts};
 
 use crate::fault::ExtractFault;
+use book::Stamp;
 use csv::WriterBuilder;
 use der::{DerFault, Oid, oids_have_one_content_and_text};
 use gentime::GenTime;
 use sha2::{Digest, Sha256};
 use std::alloc::Global;
-use store::Stamp;
 
 /// The line of the columns' names.
 pub(crate) fn header() -> &'static [u8]

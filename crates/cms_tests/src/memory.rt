@@ -1,4 +1,4 @@
-//! What becomes of a call that finds no memory: `scripts/refused-memory` runs this with each allocation refused in turn.
+//! What becomes of a call that finds no memory: `tests/refused-memory` runs this with each allocation refused in turn.
 use crate::calls::{algorithm_of, framed, holder, identity_of, signs, text_of, token_of};
 use crate::octets::{PLAIN, PRIVATE, SIGNATURE, TEXT, TOKEN_WITH, TST};
 use std::alloc::Global;

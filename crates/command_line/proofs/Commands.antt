@@ -1,19 +1,29 @@
 -- A command with one more option or subcommand.
-use Rattle.std.proofs.Common.{◌≡◌, ◌∙◌, ◌&&◌, ◌^◌, ◌<◌, ◌≤◌, ℕ, Bool, true, false, not, refl, ap, ap₂, arith, cond}
-use Rattle.std.proofs.Common.{nat_lt, pos}
-use Rattle.std.specs.Prelude.{Err, IfOk, IsOkAnd, Ok, Result, Some, negsuc}
-use Rattle.std.proofs.lemmas.Bool.{le-ltb, ltb-false}
-use Rattle.clap.specs.declared.builder.value_parser.ValueParser.{ValueParser}
-use Rattle.clap.specs.declared.builder.value_parser.ValueParser.TheVariants as values
-use Rattle.command_line.specs.Options.{number_between}
-use Rattle.clap.specs.Words.{AddsArg, AddsSubcommand, App, NarrowsTo, Rule, app_of, rule_of, signed_between, with_rule}
-use Rattle.clap.specs.Words.{with_subcommand}
+use Rattle.std.proofs.Common.{◌≡◌, ◌∙◌, ◌&&◌, ◌+◌, ◌<◌, ℕ, List, [], ◌∷◌, ◌++◌, Bool, true, false, not, refl, sym, ap, ap₂}
+use Rattle.std.proofs.Common.{get_or, length, map, take}
+use Rattle.std.proofs.lemmas.List.{map-append, take_more}
+use Rattle.clap.specs.Words.{AddsArg, AddsSubcommand, App, Text, app_of, new_app, rule_of, with_rule, with_subcommand}
 use Rattle.clap.specs.declared.builder.arg.Arg.{Arg}
 use Rattle.clap.specs.declared.builder.command.Command.{Command}
+use Rattle.command_line.specs.Options.{with_rules, with_subcommands}
+use Rattle.command_line.specs.Table.{app_in, rule_in}
+use Rattle.command_line.specs.declared.options.OptionRow.{OptionRow}
+use Rattle.command_line.specs.declared.table.SubcommandRow.{SubcommandRow}
 
-pub adds_option : (app : App) (rule : Rule) (old new : Command) (arg : Arg) → app_of old ≡ app → AddsArg old arg new
-    → arg.global ≡ false → rule_of arg ≡ rule → app_of new ≡ with_rule app rule
-adds_option app rule old new arg is adds local same = adds.shape local ∙ ap₂ with_rule is same
+-- the values of one row more
+map-more : {X Y : Type 0} (f : X → Y) (xs : List X) (i : ℕ) (d : X) → i < length xs
+    → map f (take i xs) ++ f (get_or xs i d) ∷ [] ≡ map f (take (i + 1) xs)
+map-more f xs i d inside =
+    sym (map-append f (take i xs) (get_or xs i d ∷ [])) ∙ ap (map f) (sym (take_more xs i d inside))
+
+pub adds_option : (name : Text) (rows : List OptionRow) (i : ℕ) (d : OptionRow) (old new : Command) (arg : Arg)
+    → i < length rows → app_of old ≡ with_rules (map rule_in (take i rows)) (new_app name) → AddsArg old arg new
+    → arg.global ≡ false → rule_of arg ≡ rule_in (get_or rows i d)
+    → app_of new ≡ with_rules (map rule_in (take (i + 1) rows)) (new_app name)
+adds_option name rows i d old new arg inside is adds local same =
+    adds.shape local
+    ∙ ap₂ with_rule is same
+    ∙ ap (λ rules. with_rules rules (new_app name)) (map-more rule_in rows i d inside)
 
 third_is_false : (a b c d : Bool) → (a && (b && (not c && d))) ≡ true → c ≡ false
 third_is_false true true false d h = refl
@@ -22,32 +32,22 @@ third_is_false true false c d h = cc
 third_is_false false b c d h = cc
 
 -- a plain command has no option that is its subcommands' too
-pub adds_command : (app below : App) (old new sub : Command) → app_of old ≡ app → app_of sub ≡ below
+adds_plain : (app below : App) (old new sub : Command) → app_of old ≡ app → app_of sub ≡ below
     → below.top.is_plain ≡ true → AddsSubcommand old sub new → app_of new ≡ with_subcommand app below.top
-adds_command app below old new sub is is_sub plain adds =
+adds_plain app below old new sub is is_sub plain adds =
     adds.shape (third_is_false _ _ _ _ (ap (λ (a : App). a.top.is_plain) is_sub ∙ plain))
     ∙ ap₂ with_subcommand is (ap (λ (a : App). a.top) is_sub)
 
--- so it is where the subcommand's making may fail
-pub adds_word : {E : Type 0} (app below : App) (old new : Command) (word : Result Command E) → app_of old ≡ app
-    → IfOk word (λ sub. app_of sub ≡ below) → below.top.is_plain ≡ true
-    → IsOkAnd word (λ sub. AddsSubcommand old sub new) → app_of new ≡ with_subcommand app below.top
-adds_word app below old new (Ok sub) is is_sub plain adds = adds_command app below old new sub is is_sub plain adds
-adds_word app below old new (Err _) is is_sub plain adds = elim adds [ ]
+with_one_more : (subs : List App) (sub app : App)
+    → with_subcommand (with_subcommands subs app) sub.top ≡ with_subcommands (subs ++ sub ∷ []) app
+with_one_more [] sub app = refl
+with_one_more (first ∷ rest) sub app = with_one_more rest sub (with_subcommand app first.top)
 
-abbrev largest : ℕ
-largest = 9223372036854775807
-
-between : (least most : ℕ) → least < 2 ^ 63 → most < 2 ^ 63 → (t : Bool) → nat_lt most largest ≡ t
-    → signed_between (pos least) (cond t (pos most) (pos largest)) ≡ number_between least most
-between least most low high true e = rw (le-ltb largest least (omega arith)) refl
-between least most low high false e =
-    let over : largest ≤ most = ltb-false most largest e in
-    let same : most ≡ largest = omega arith in
-    rw (le-ltb largest least (omega arith), same) refl
-
--- numbers of 63 bits are all that a parser of `i64` narrowed to them takes
-pub narrowed : (least most : ℕ) (parser : ValueParser) → least < 2 ^ 63 → most < 2 ^ 63
-    → NarrowsTo (values.Signed (negsuc largest) (pos largest)) (Some (pos least)) (Some (pos most)) parser
-    → parser ≡ number_between least most
-narrowed least most parser low high is = is ∙ between least most low high (nat_lt most largest) refl
+pub adds_subcommand : (bare : App) (rows : List SubcommandRow) (i : ℕ) (d : SubcommandRow) (old new sub : Command)
+    → i < length rows → app_of old ≡ with_subcommands (map app_in (take i rows)) bare
+    → app_of sub ≡ app_in (get_or rows i d) → AddsSubcommand old sub new
+    → app_of new ≡ with_subcommands (map app_in (take (i + 1) rows)) bare
+adds_subcommand bare rows i d old new sub inside is is_sub adds =
+    adds_plain _ _ old new sub is is_sub refl adds
+    ∙ with_one_more (map app_in (take i rows)) (app_in (get_or rows i d)) bare
+    ∙ ap (λ subs. with_subcommands subs bare) (map-more app_in rows i d inside)

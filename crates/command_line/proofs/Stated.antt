@@ -1,17 +1,12 @@
 -- What a parse found, as the values that the words state.
-use Rattle.std.proofs.Common.{◌≡◌, ◌∙◌, ◌<◌, ◌^◌, ℕ, List, ◌∷◌, get_or, Bor, Result, Option, Ok, Err, Some, None, ap}
-use Rattle.std.proofs.Common.{arith, codes, sym, refl}
+use Rattle.std.proofs.Common.{◌≡◌, ◌∙◌, ◌<◌, ◌^◌, ℕ, List, Bor, Result, Option, Ok, Err, Some, None, ap}
+use Rattle.std.proofs.Common.{sym, refl}
 use Rattle.std.specs.Prelude.{option_map, unwrap_or}
 use Rattle.std.specs.Str.Parse.{ParsesUnsigned, digits_value, without_leading_plus}
 use Rattle.clap.specs.Words.{ReadsOne, Row, Text, first_of, first_value, one_text, rows_of}
 use Rattle.clap.specs.declared.parser.matches.Found.{Found}
 use Rattle.clap.proofs.WalkLemmas.{first_value-rows, one_text-rows}
-use Rattle.command_line.specs.Words.{IsAsked, StatesExchange, StatesHold, StatesNumber}
-use Rattle.command_line.specs.declared.words.ExchangeWords.{ExchangeWords}
-use Rattle.command_line.specs.declared.words.HoldWords.{HoldWords}
-use Rattle.command_line.specs.declared.words.Word.{Word}
-use Rattle.command_line.specs.declared.words.Word.TheVariants.{Tst, Check, Init, Calibrate, Hold, Answer, Exchange}
-use Rattle.command_line.specs.declared.words.Word.TheVariants.{Serve, Audit}
+use Rattle.command_line.specs.Words.{StatesNumber}
 
 pub reads_text : (f : Found) (name : Text) (result : Option (Bor Text)) (text : Bor Text)
     → option_map (λ s. s.now) result ≡ first_value f name → result ≡ Some text
@@ -66,37 +61,3 @@ unread_text f name result text same is given =
     let missing : first_of name (rows_of f) ≡ None = sym (first_value-rows f name) ∙ sym same
     ∙ ap (option_map (λ (s : Bor Text). s.now)) is in
     cc
-
-other : {name : Text} (one two : Text) → name ≡ one → name ≡ two → (one ≡ two → ⊥) → ⊥
-other one two first second differ = differ (sym first ∙ second)
-
-other_letter : {xs ys : Text} (x y : ℕ) → (x ≡ y → ⊥) → x ∷ xs ≡ y ∷ ys → ⊥
-other_letter {xs} {ys} x y differ is = differ (ap (λ (t : Text). get_or t 0 0) is)
-
-pub not_hold : (name : Text) (rows : List Row) (word : Word) → name ≡ codes "hold" → ((words : HoldWords) →
-    StatesHold rows words → ⊥)
-    → IsAsked name rows word → ⊥
-not_hold name rows (Hold words) is none asked = none words asked.1
-not_hold name rows (Tst words) is none asked = other (codes "hold") (codes "tst") is asked.0 (λ e. cc)
-not_hold name rows (Check words) is none asked = other (codes "hold") (codes "check") is asked.0 (λ e. cc)
-not_hold name rows (Init words) is none asked = other (codes "hold") (codes "init") is asked.0 (other_letter 104 105
-    (λ h. omega arith))
-not_hold name rows (Calibrate words) is none asked = other (codes "hold") (codes "calibrate") is asked.0 (λ e. cc)
-not_hold name rows (Answer words) is none asked = other (codes "hold") (codes "answer") is asked.0 (λ e. cc)
-not_hold name rows (Exchange words) is none asked = other (codes "hold") (codes "exchange") is asked.0 (λ e. cc)
-not_hold name rows (Serve words) is none asked = other (codes "hold") (codes "serve") is asked.0 (λ e. cc)
-not_hold name rows (Audit words) is none asked = other (codes "hold") (codes "audit") is asked.0 (λ e. cc)
-
-pub not_exchange : (name : Text) (rows : List Row) (word : Word) → name ≡ codes "exchange"
-    → ((words : ExchangeWords) → StatesExchange rows words → ⊥)
-    → IsAsked name rows word → ⊥
-not_exchange name rows (Exchange words) is none asked = none words asked.1
-not_exchange name rows (Tst words) is none asked = other (codes "exchange") (codes "tst") is asked.0 (λ e. cc)
-not_exchange name rows (Check words) is none asked = other (codes "exchange") (codes "check") is asked.0 (λ e. cc)
-not_exchange name rows (Init words) is none asked = other (codes "exchange") (codes "init") is asked.0 (λ e. cc)
-not_exchange name rows (Calibrate words) is none asked =
-    other (codes "exchange") (codes "calibrate") is asked.0 (λ e. cc)
-not_exchange name rows (Hold words) is none asked = other (codes "exchange") (codes "hold") is asked.0 (λ e. cc)
-not_exchange name rows (Answer words) is none asked = other (codes "exchange") (codes "answer") is asked.0 (λ e. cc)
-not_exchange name rows (Serve words) is none asked = other (codes "exchange") (codes "serve") is asked.0 (λ e. cc)
-not_exchange name rows (Audit words) is none asked = other (codes "exchange") (codes "audit") is asked.0 (λ e. cc)

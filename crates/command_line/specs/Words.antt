@@ -133,6 +133,10 @@ IsAsked name rows (Exchange words) = (name ≡ codes "exchange") × StatesExchan
 IsAsked name rows (Serve words) = (name ≡ codes "serve") × StatesServe rows words
 IsAsked name rows (Audit words) = (name ≡ codes "audit") × StatesAudit rows words
 
+-- no word of this name is what these options state
+abbrev pub IsUnasked : Text → List Row → Type 0
+IsUnasked name rows = (word : Word) → IsAsked name rows word → ⊥
+
 -- whether a key, an address and an algorithm tell one signer: the first alone does, or the other two
 abbrev pub tells_one_signer : Bool → Bool → Bool → Bool
 tells_one_signer key address algorithm =

@@ -6,6 +6,7 @@ mod options;
 mod parse;
 mod refusal;
 mod signer;
+mod table;
 mod words;
 
 pub use refusal::Refusal;

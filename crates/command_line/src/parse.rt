@@ -1,19 +1,18 @@
 //! What the words ask for, by what `clap` finds in them.
-ghost use Rattle.std.specs.Prelude.{◌≡◌, ◌≤◌, ◌⊎◌, ℕ, List, Some, IfOk, IfErr, IfSome, IsNone};
+ghost use Rattle.std.specs.Prelude.{◌≡◌, ◌≤◌, ◌⊎◌, ℕ, List, Some, IfOk, IfErr, IfSome, IsNone, codes};
 ghost use Rattle.clap.specs.Words.{Row, Text, HasKind, fault_of, found_of, kind_of, rows_of, subcommand_rows_of};
 ghost use Rattle.clap.specs.declared.error.kind.ErrorKind.TheVariants.{OutOfMemory};
 ghost use Rattle.command_line.specs.Options.{counter_command};
-ghost use Rattle.command_line.specs.Words.{AskNothing, Asks, IsAsked, IsOwnKind, IsRefusal, IsShown, MixSigners};
-ghost use Rattle.command_line.specs.Words.{StatesAnswer, StatesAudit, StatesCalibrate, StatesCheck, StatesDesk};
-ghost use Rattle.command_line.specs.Words.{StatesExchange, StatesHold, StatesInit, StatesNumber, StatesServe};
-ghost use Rattle.command_line.specs.Words.{StatesTst, texts_of};
+ghost use Rattle.command_line.specs.Words.{AskNothing, Asks, IsAsked, IsOwnKind, IsRefusal, IsShown, IsUnasked};
+ghost use Rattle.command_line.specs.Words.{MixSigners, StatesDesk, StatesNumber, texts_of};
 
 use crate::command::command;
-use crate::options::{
-    ACCURACIES, CONNECTIONS, DIGITS, MOMENTS, Numbers, SERIALS, UNCERTAINTIES, WHOLE_NUMBERS,
-};
+use crate::options::Numbers;
 use crate::refusal::Refusal;
 use crate::signer::{error_of, signer_words};
+use crate::table::{
+    ACCURACIES, CONNECTIONS, DIGITS, MOMENTS, SERIALS, UNCERTAINTIES, WHOLE_NUMBERS,
+};
 use crate::words::{
     AnswerWords, AuditWords, CalibrateWords, CheckWords, DeskWords, ExchangeWords, HoldWords,
     InitWords, ServeWords, TstWords, Word,
@@ -96,77 +95,76 @@ fn word_of<'a>(matches: &ArgMatches<'a>) -> Option<Word<'a>>
 /// The word of this name, by what was found for its options.
 fn word_named<'a>(name: &str, words: &ArgMatches<'a>) -> Option<Word<'a>>
     ensures found { IfSome result (IsAsked name.now (rows_of (found_of words.now))) }
-    ensures none { IsNone result → (word : Word) → IsAsked name.now (rows_of (found_of words.now)) word → ⊥ }
+    ensures none { IsNone result → IsUnasked name.now (rows_of (found_of words.now)) }
 {
     match name {
-        "tst" => Some(Word::Tst(tst_words(words)?)),
-        "check" => Some(Word::Check(check_words(words)?)),
-        "init" => Some(Word::Init(init_words(words)?)),
-        "calibrate" => Some(Word::Calibrate(calibrate_words(words)?)),
-        "hold" => Some(Word::Hold(hold_words(words)?)),
-        "answer" => Some(Word::Answer(answer_words(words)?)),
-        "exchange" => Some(Word::Exchange(exchange_words(words)?)),
-        "serve" => Some(Word::Serve(serve_words(words)?)),
-        "audit" => Some(Word::Audit(audit_words(words)?)),
+        "tst" => tst_word(words),
+        "check" => check_word(words),
+        "init" => init_word(words),
+        "calibrate" => calibrate_word(words),
+        "hold" => hold_word(words),
+        "answer" => answer_word(words),
+        "exchange" => exchange_word(words),
+        "serve" => serve_word(words),
+        "audit" => audit_word(words),
         _ => None,
     }
 }
 
-fn check_words<'a>(matches: &ArgMatches<'a>) -> Option<CheckWords<'a>>
-    ensures found { IfSome result (StatesCheck (rows_of (found_of matches.now))) }
-    ensures none { IsNone result → (words : CheckWords) → StatesCheck (rows_of (found_of matches.now)) words → ⊥ }
+fn check_word<'a>(matches: &ArgMatches<'a>) -> Option<Word<'a>>
+    ensures found { IfSome result (IsAsked (codes "check") (rows_of (found_of matches.now))) }
+    ensures none { IsNone result → IsUnasked (codes "check") (rows_of (found_of matches.now)) }
 {
-    Some(CheckWords {
+    Some(Word::Check(CheckWords {
         rules: matches.get_str("rules")?,
-    })
+    }))
 }
 
-fn init_words<'a>(matches: &ArgMatches<'a>) -> Option<InitWords<'a>>
-    ensures found { IfSome result (StatesInit (rows_of (found_of matches.now))) }
-    ensures none { IsNone result → (words : InitWords) → StatesInit (rows_of (found_of matches.now)) words → ⊥ }
+fn init_word<'a>(matches: &ArgMatches<'a>) -> Option<Word<'a>>
+    ensures found { IfSome result (IsAsked (codes "init") (rows_of (found_of matches.now))) }
+    ensures none { IsNone result → IsUnasked (codes "init") (rows_of (found_of matches.now)) }
 {
-    Some(InitWords {
+    Some(Word::Init(InitWords {
         db: matches.get_str("db")?,
-    })
+    }))
 }
 
-fn calibrate_words<'a>(matches: &ArgMatches<'a>) -> Option<CalibrateWords<'a>>
-    ensures found { IfSome result (StatesCalibrate (rows_of (found_of matches.now))) }
-    ensures none { IsNone result → (words : CalibrateWords)
-        → StatesCalibrate (rows_of (found_of matches.now)) words → ⊥ }
+fn calibrate_word<'a>(matches: &ArgMatches<'a>) -> Option<Word<'a>>
+    ensures found { IfSome result (IsAsked (codes "calibrate") (rows_of (found_of matches.now))) }
+    ensures none { IsNone result → IsUnasked (codes "calibrate") (rows_of (found_of matches.now)) }
 {
-    Some(CalibrateWords {
+    Some(Word::Calibrate(CalibrateWords {
         db: matches.get_str("db")?,
         reading: number(matches, "reading", WHOLE_NUMBERS)?,
         offset: number(matches, "offset", WHOLE_NUMBERS)?,
         behind: matches.get_flag("behind"),
         uncertainty: number(matches, "uncertainty", UNCERTAINTIES)?,
-    })
+    }))
 }
 
-fn hold_words<'a>(matches: &ArgMatches<'a>) -> Option<HoldWords<'a>>
-    ensures found { IfSome result (StatesHold (rows_of (found_of matches.now))) }
-    ensures none { IsNone result → (words : HoldWords) → StatesHold (rows_of (found_of matches.now)) words → ⊥ }
+fn hold_word<'a>(matches: &ArgMatches<'a>) -> Option<Word<'a>>
+    ensures found { IfSome result (IsAsked (codes "hold") (rows_of (found_of matches.now))) }
+    ensures none { IsNone result → IsUnasked (codes "hold") (rows_of (found_of matches.now)) }
 {
-    Some(HoldWords {
+    Some(Word::Hold(HoldWords {
         db: matches.get_str("db")?,
         from: number(matches, "from", WHOLE_NUMBERS)?,
         to: number(matches, "to", WHOLE_NUMBERS)?,
-    })
+    }))
 }
 
-fn tst_words<'a>(matches: &ArgMatches<'a>) -> Option<TstWords<'a>>
-    ensures found { IfSome result (StatesTst (rows_of (found_of matches.now))) }
-    ensures none { IsNone result → (words : TstWords) → StatesTst (rows_of (found_of matches.now)) words → ⊥ }
+fn tst_word<'a>(matches: &ArgMatches<'a>) -> Option<Word<'a>>
+    ensures found { IfSome result (IsAsked (codes "tst") (rows_of (found_of matches.now))) }
+    ensures none { IsNone result → IsUnasked (codes "tst") (rows_of (found_of matches.now)) }
 {
-    Some(TstWords {
+    Some(Word::Tst(TstWords {
         policy: matches.get_str("policy")?,
         moment: number(matches, "moment", MOMENTS)?,
         digits: number(matches, "digits", DIGITS)? as u8,
         serial: number(matches, "serial", SERIALS)?,
         accuracy: number(matches, "accuracy", ACCURACIES)? as u32,
         ordering: matches.get_flag("ordering"),
-    })
+    }))
 }
 
 fn desk_words<'a>(matches: &ArgMatches<'a>) -> Option<DeskWords<'a>>
@@ -181,51 +179,50 @@ fn desk_words<'a>(matches: &ArgMatches<'a>) -> Option<DeskWords<'a>>
     })
 }
 
-fn answer_words<'a>(matches: &ArgMatches<'a>) -> Option<AnswerWords<'a>>
-    ensures found { IfSome result (StatesAnswer (rows_of (found_of matches.now))) }
-    ensures none { IsNone result → (words : AnswerWords) → StatesAnswer (rows_of (found_of matches.now)) words → ⊥ }
+fn answer_word<'a>(matches: &ArgMatches<'a>) -> Option<Word<'a>>
+    ensures found { IfSome result (IsAsked (codes "answer") (rows_of (found_of matches.now))) }
+    ensures none { IsNone result → IsUnasked (codes "answer") (rows_of (found_of matches.now)) }
 {
-    Some(AnswerWords {
+    Some(Word::Answer(AnswerWords {
         desk: desk_words(matches)?,
         reading: number(matches, "reading", WHOLE_NUMBERS)?,
         key: matches.get_str("key"),
-    })
+    }))
 }
 
-fn exchange_words<'a>(matches: &ArgMatches<'a>) -> Option<ExchangeWords<'a>>
-    ensures found { IfSome result (StatesExchange (rows_of (found_of matches.now))) }
-    ensures none { IsNone result → (words : ExchangeWords)
-        → StatesExchange (rows_of (found_of matches.now)) words → ⊥ }
+fn exchange_word<'a>(matches: &ArgMatches<'a>) -> Option<Word<'a>>
+    ensures found { IfSome result (IsAsked (codes "exchange") (rows_of (found_of matches.now))) }
+    ensures none { IsNone result → IsUnasked (codes "exchange") (rows_of (found_of matches.now)) }
 {
-    Some(ExchangeWords {
+    Some(Word::Exchange(ExchangeWords {
         desk: desk_words(matches)?,
         reading: number(matches, "reading", WHOLE_NUMBERS)?,
-    })
+    }))
 }
 
-fn serve_words<'a>(matches: &ArgMatches<'a>) -> Option<ServeWords<'a>>
-    ensures found { IfSome result (StatesServe (rows_of (found_of matches.now))) }
-    ensures none { IsNone result → (words : ServeWords) → StatesServe (rows_of (found_of matches.now)) words → ⊥ }
+fn serve_word<'a>(matches: &ArgMatches<'a>) -> Option<Word<'a>>
+    ensures found { IfSome result (IsAsked (codes "serve") (rows_of (found_of matches.now))) }
+    ensures none { IsNone result → IsUnasked (codes "serve") (rows_of (found_of matches.now)) }
 {
-    Some(ServeWords {
+    Some(Word::Serve(ServeWords {
         desk: desk_words(matches)?,
         listen: matches.get_str("listen")?,
         connections: number(matches, "connections", CONNECTIONS)? as u32,
-    })
+    }))
 }
 
-fn audit_words<'a>(matches: &ArgMatches<'a>) -> Option<AuditWords<'a>>
-    ensures found { IfSome result (StatesAudit (rows_of (found_of matches.now))) }
-    ensures none { IsNone result → (words : AuditWords) → StatesAudit (rows_of (found_of matches.now)) words → ⊥ }
+fn audit_word<'a>(matches: &ArgMatches<'a>) -> Option<Word<'a>>
+    ensures found { IfSome result (IsAsked (codes "audit") (rows_of (found_of matches.now))) }
+    ensures none { IsNone result → IsUnasked (codes "audit") (rows_of (found_of matches.now)) }
 {
-    Some(AuditWords {
+    Some(Word::Audit(AuditWords {
         db: matches.get_str("db")?,
         rules: matches.get_str("rules")?,
         account: matches.get_str("account")?,
         from: number(matches, "from", WHOLE_NUMBERS)?,
         to: number(matches, "to", WHOLE_NUMBERS)?,
         check: matches.get_flag("check"),
-    })
+    }))
 }
 
 fn number(matches: &ArgMatches<'_>, name: &str, numbers: Numbers) -> Option<u64>

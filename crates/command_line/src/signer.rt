@@ -3,7 +3,8 @@ ghost use Rattle.std.specs.Prelude.{◌≡◌, false, is_some, IfOk, IfSome, IsN
 ghost use Rattle.clap.specs.Words.{found_of, kind_of, rows_of};
 ghost use Rattle.command_line.specs.Words.{IsOwnKind, IsTold, StatesSigner, has_one_signer, tells_one_signer};
 
-use crate::command::{answer_command, command, exchange_command, serve_command};
+use crate::command::{command, subcommand};
+use crate::table::{SubcommandRow, subcommand_rows};
 use crate::words::SignerWords;
 use clap::error::ErrorKind;
 use clap::{ArgMatches, Command, Error};
@@ -49,35 +50,33 @@ fn one_signer<'a>(
 pub fn error_of(alloc: Global, matches: &ArgMatches<'_>) -> Result<Error, AllocError>
     ensures { IfOk result (λ error. IsOwnKind (kind_of error)) }
 {
-    match matches.subcommand() {
-        Some(("answer", words)) => signer_error(answer_command(alloc), "counter answer", words),
-        Some(("exchange", words)) => {
-            signer_error(exchange_command(alloc), "counter exchange", words)
-        }
-        Some(("serve", words)) => signer_error(serve_command(alloc), "counter serve", words),
-        _ => value_error(alloc),
-    }
-}
-
-/// The error of a subcommand, under the name that is told, whose options tell no signer.
-fn signer_error<'a>(
-    command: Result<Command<'a>, AllocError>,
-    name: &'a str,
-    words: &ArgMatches<'_>,
-) -> Result<Error, AllocError>
-    ensures { IfOk result (λ error. IsOwnKind (kind_of error)) }
-{
-    let mut command = command?.bin_name(name)?;
-    let (kind, message) = signer_mistake(words);
+    let (kind, message) = mistake(matches);
+    let mut command = asked_command(alloc, matches)?;
     command.error(kind, message)
 }
 
-/// The error of other words, which lack a value.
-fn value_error(alloc: Global) -> Result<Error, AllocError>
-    ensures { IfOk result (λ error. IsOwnKind (kind_of error)) }
+/// The command whose usage is told: the subcommand that is named, or the whole where none is.
+fn asked_command<'a>(alloc: Global, matches: &ArgMatches<'_>) -> Result<Command<'a>, AllocError> {
+    match asked_row(matches) {
+        Some(row) => subcommand(alloc, row)?.bin_name(row.full_name),
+        None => command(alloc),
+    }
+}
+
+/// The row of the subcommand that is named.
+fn asked_row(matches: &ArgMatches<'_>) -> Option<&'static SubcommandRow> {
+    let (name, _) = matches.subcommand()?;
+    subcommand_rows().iter().find(|row| row.name == name)
+}
+
+/// Why words with which `clap` finds no fault ask for nothing: they lack a signer, or a value.
+fn mistake(matches: &ArgMatches<'_>) -> (ErrorKind, &'static str)
+    ensures { IsOwnKind result.0 }
 {
-    let mut command = command(alloc)?;
-    command.error(ErrorKind::MissingRequiredArgument, "a value is missing")
+    match matches.subcommand() {
+        Some(("answer" | "exchange" | "serve", words)) => signer_mistake(words),
+        _ => (ErrorKind::MissingRequiredArgument, NO_VALUE),
+    }
 }
 
 /// Why the options tell no signer, as `clap` says it of options that are missing, or that another excludes.
@@ -94,7 +93,7 @@ fn signer_mistake(matches: &ArgMatches<'_>) -> (ErrorKind, &'static str)
         (false, true, false) => (ErrorKind::MissingRequiredArgument, NO_ALGORITHM),
         (false, false, true) => (ErrorKind::MissingRequiredArgument, NO_ADDRESS),
         (false, false, false) => (ErrorKind::MissingRequiredArgument, NO_SIGNER),
-        _ => (ErrorKind::MissingRequiredArgument, "a value is missing"),
+        _ => (ErrorKind::MissingRequiredArgument, NO_VALUE),
     }
 }
 
@@ -114,3 +113,5 @@ const NO_ADDRESS: &str = "the following required arguments were not provided:\n 
 
 const NO_SIGNER: &str = "the following required arguments were not provided:\n  \
     <--signing-key <signing-key>|--signer <signer> --signer-algorithm <signer-algorithm>>";
+
+const NO_VALUE: &str = "a value is missing";

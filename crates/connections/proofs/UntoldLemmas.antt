@@ -1,6 +1,6 @@
 -- What is served over a stream that tells no octets, without a name for the stream.
 use Rattle.std.proofs.Common.{ℕ, ℤ, List, Option, None, Result, refl, inl, inr}
-use Rattle.sqlite_trees.specs.declared.store.Store.{Ghosts}
+use Rattle.book.specs.declared.standing.Standing.{Ghosts}
 use Rattle.policy.specs.Record.{AccountValue}
 use Rattle.cms.specs.declared.signer.SignerFault.{SignerFault}
 use Rattle.audit.specs.declared.fault.ExtractFault.{ExtractFault}
@@ -17,7 +17,7 @@ abbrev pub nothing_told : {W : Type 0} → W → Option (List ℕ)
 nothing_told stream = None
 
 -- a turn over such a stream
-abbrev pub turn : {W S X : Type 0} → W → W → DeskValue S → DeskValue S → X → X → Turn W S X
+abbrev pub turn : {W B X : Type 0} → W → W → DeskValue B → DeskValue B → X → X → Turn W B X
 turn w w' d d' x x' = record {
   input = None;
   input_after = None;
@@ -29,7 +29,7 @@ turn w w' d d' x x' = record {
   signer_after = x';
 }
 
-abbrev pub without : {W S X : Type 0} → Turn W S X → Turn (Unit {0}) S X
+abbrev pub without : {W B X : Type 0} → Turn W B X → Turn (Unit {0}) B X
 without t = record {
   input = t.input;
   input_after = t.input_after;
@@ -41,8 +41,8 @@ without t = record {
   signer_after = t.signer_after;
 }
 
-module _ {W S X : Type 0} (g : Ghosts S) (signs : X → List ℕ → Result (List ℕ) SignerFault → X → Type 0)
-    (count : X → ℕ) (reading : ℤ) (t : Turn W S X) where
+module _ {W B X : Type 0} (g : Ghosts B) (signs : X → List ℕ → Result (List ℕ) SignerFault → X → Type 0)
+    (count : X → ℕ) (reading : ℤ) (t : Turn W B X) where
   idle : IsIdle t → IsIdle (without t)
   idle i = record { desk = i.desk; signer = i.signer }
 

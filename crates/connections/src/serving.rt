@@ -1,16 +1,15 @@
 //! Connections one after the other.
 ghost use Rattle.std.specs.Prelude.{◌≡◌, Err, IfErr, OnOk};
-ghost use Rattle.tables.specs.Base.{IsHonest};
 ghost use Rattle.connections.specs.Turns.{IsTurn, ServesEach};
 
 use crate::awaiting::await_request;
 use crate::clock::{Clock, ClockFailed};
 use crate::incoming::Incoming;
 use crate::limited::Limited;
+use book::Book;
 use cms::Signer;
 use desk::Desk;
 use service::{Served, serve_one};
-use sqlite::Alter;
 use std::net::{TcpListener, TcpStream};
 use std::time::Duration;
 
@@ -18,15 +17,15 @@ use std::time::Duration;
 pub const CONNECTION_SECONDS: u64 = 20;
 
 /// Serves the request of one connection, if one comes.
-fn serve_stream<R: AllocGlobal + std::time::Clock, C: Clock, S: Alter + Drop, G: Signer>(
+fn serve_stream<R: AllocGlobal + std::time::Clock, C: Clock, B: Book + Drop, G: Signer>(
     rt: &R,
     stream: &TcpStream,
     limit: Duration,
     clock: &mut C,
-    desk: &mut Desk<'_, S>,
+    desk: &mut Desk<'_, B>,
     signer: &mut G,
 ) -> Result<(), ClockFailed>
-    ensures turn { OnOk result (IsTurn C.reads S.Store G.signs G.fault_count
+    ensures turn { OnOk result (IsTurn C.reads B.Standing G.signs G.fault_count
         (record { clock = clock.old; desk = desk.old; signer = signer.old })
         (record { clock = clock.new; desk = desk.new; signer = signer.new })) }
     ensures failed { IfErr result (λ fault. C.reads clock.old (Err fault) clock.new) }
@@ -57,15 +56,15 @@ fn serve_stream<R: AllocGlobal + std::time::Clock, C: Clock, S: Alter + Drop, G:
 }
 
 /// Takes one connection and serves it.
-fn serve_connection<R: AllocGlobal + std::time::Clock, C: Clock, S: Alter + Drop, G: Signer>(
+fn serve_connection<R: AllocGlobal + std::time::Clock, C: Clock, B: Book + Drop, G: Signer>(
     rt: &R,
     listener: &TcpListener,
     limit: Duration,
     clock: &mut C,
-    desk: &mut Desk<'_, S>,
+    desk: &mut Desk<'_, B>,
     signer: &mut G,
 ) -> Result<(), ClockFailed>
-    ensures turn { OnOk result (IsTurn C.reads S.Store G.signs G.fault_count
+    ensures turn { OnOk result (IsTurn C.reads B.Standing G.signs G.fault_count
         (record { clock = clock.old; desk = desk.old; signer = signer.old })
         (record { clock = clock.new; desk = desk.new; signer = signer.new })) }
     ensures failed { IfErr result (λ fault. C.reads clock.old (Err fault) clock.new) }
@@ -87,18 +86,18 @@ fn serve_connection<R: AllocGlobal + std::time::Clock, C: Clock, S: Alter + Drop
 /// that the answer isn't lost.
 ///
 /// `ClockFailed` where the clock fails: the connection is closed then without an answer, and no further one taken.
-pub fn serve_connections<R: AllocGlobal + std::time::Clock, C: Clock, S: Alter + Drop, G: Signer>(
+pub fn serve_connections<R: AllocGlobal + std::time::Clock, C: Clock, B: Book + Drop, G: Signer>(
     rt: &R,
     listener: &TcpListener,
     count: u32,
     limit: Duration,
     clock: &mut C,
-    desk: &mut Desk<'_, S>,
+    desk: &mut Desk<'_, B>,
     signer: &mut G,
 ) -> Result<(), ClockFailed>
     ensures setting { desk.new.setting ≡ desk.old.setting }
-    ensures honest { IsHonest S.Store desk.new.store → IsHonest S.Store desk.old.store }
-    ensures served { ServesEach C.reads S.Store G.signs G.fault_count count
+    ensures honest { B.honest desk.new.store → B.honest desk.old.store }
+    ensures served { ServesEach C.reads B.Standing G.signs G.fault_count count
         (record { clock = clock.old; desk = desk.old; signer = signer.old })
         (record { clock = clock.new; desk = desk.new; signer = signer.new }) result }
 {

@@ -2,10 +2,10 @@
 //!
 //! Calls without clauses: a test's proof needn't read the contracts of what it calls.
 use super::setting::{calibrated, example};
+use book::Book;
 use cms::{KeyedHash, Signer};
 use connections::{Clock, ClockFailed, serve_connections};
 use desk::Desk;
-use sqlite::Alter;
 use std::alloc::Global;
 use std::io::{Read, Write};
 use std::net::{TcpListener, TcpStream};
@@ -73,13 +73,13 @@ pub fn keyed(alloc: Global) -> Result<KeyedHash, Fail> {
     Ok(KeyedHash::new(alloc, b"k")?)
 }
 
-fn serve<R: AllocGlobal + std::time::Clock, C: Clock, S: Alter + Drop, G: Signer>(
+fn serve<R: AllocGlobal + std::time::Clock, C: Clock, B: Book + Drop, G: Signer>(
     rt: &R,
     listener: &TcpListener,
     count: u32,
     limit: Duration,
     clock: &mut C,
-    desk: &mut Desk<'_, S>,
+    desk: &mut Desk<'_, B>,
     signer: &mut G,
 ) -> Result<(), ClockFailed> {
     serve_connections(rt, listener, count, limit, clock, desk, signer)

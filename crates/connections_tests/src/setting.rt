@@ -8,7 +8,7 @@ use policy::{EXAMPLE, Policy};
 use sqlite::{Connection, MemStore};
 use std::alloc::Global;
 use std::test::Fail;
-use store::{Calibration, Store, StoreFault};
+use store::{Book, Calibration, Store, StoreFault};
 
 /// With what a desk is opened.
 #[derive(Drop)]
@@ -58,7 +58,7 @@ fn calibrate(store: &mut Store<MemStore>) -> Result<(), StoreFault> {
     })
 }
 
-fn desk_of(alloc: Global, setting: &Setting, store: Store<MemStore>) -> Desk<'_, MemStore> {
+fn desk_of(alloc: Global, setting: &Setting, store: Store<MemStore>) -> Desk<'_, Store<MemStore>> {
     Desk::new(
         alloc,
         &setting.policy,
@@ -69,7 +69,7 @@ fn desk_of(alloc: Global, setting: &Setting, store: Store<MemStore>) -> Desk<'_,
 }
 
 /// A desk over a store with one calibration, of a clock that is right.
-pub fn calibrated(alloc: Global, setting: &Setting) -> Result<Desk<'_, MemStore>, Fail> {
+pub fn calibrated(alloc: Global, setting: &Setting) -> Result<Desk<'_, Store<MemStore>>, Fail> {
     let mut store = empty(alloc)?;
     calibrate(&mut store)?;
     Ok(desk_of(alloc, setting, store))

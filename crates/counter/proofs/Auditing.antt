@@ -15,7 +15,7 @@ use Rattle.operations.specs.declared.auditing.AuditFault.{AuditFault}
 use Rattle.policy.specs.LookUp.{account_named}
 use Rattle.policy.specs.Meaning.{meaning_of}
 use Rattle.policy.specs.Record.{AccountValue, PolicyValue}
-use Rattle.tables.specs.Tables.{StampRow}
+use Rattle.book.specs.Rows.{StampRow}
 use Rattle.counter.specs.Audits.{Audits, FailsStamps, IsNoAudit, LeavesCut, LeavesExtract, StopsCheck, Tells}
 use Rattle.counter.specs.Audits.{TellsFailing}
 use Rattle.counter.specs.Fault.{fault_line, fault_of_audit}

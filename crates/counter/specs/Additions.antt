@@ -1,6 +1,6 @@
 -- What the words of an operator add to the history.
 use Rattle.std.specs.Prelude.{ℤ, Bool, true, false, ℕ, pos, neg_ℤ}
-use Rattle.store.specs.History.{CalibrationValue, HoldValue}
+use Rattle.book.specs.History.{CalibrationValue, HoldValue}
 use Rattle.command_line.specs.declared.words.CalibrateWords.{CalibrateWords}
 use Rattle.command_line.specs.declared.words.HoldWords.{HoldWords}
 

@@ -13,8 +13,8 @@ use Rattle.operations.specs.Auditing.{TellsSome, extract_of, failing_lines}
 use Rattle.policy.specs.LookUp.{account_named}
 use Rattle.policy.specs.Meaning.{meaning_of}
 use Rattle.policy.specs.Record.{AccountValue, PolicyValue}
-use Rattle.store.specs.declared.fault.StoreFault.TheVariants as store
-use Rattle.tables.specs.Tables.{StampRow}
+use Rattle.book.specs.declared.fault.StoreFault.TheVariants as store
+use Rattle.book.specs.Rows.{StampRow}
 use Rattle.counter.specs.Fault.{fault_line}
 use Rattle.counter.specs.Writing.{Begins}
 use Rattle.counter.specs.declared.fault.Fault.{Fault}

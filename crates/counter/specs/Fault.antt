@@ -10,8 +10,8 @@ use Rattle.hex.specs.declared.error.FromHexError.TheVariants.{InvalidHexCharacte
 use Rattle.hex.specs.declared.error.FromHexError.TheVariants.{OutOfMemory}
 use Rattle.policy.specs.Fault as policy
 use Rattle.policy.specs.declared.fault.PolicyFault.{PolicyFault}
-use Rattle.store.specs.Fault as store
-use Rattle.store.specs.declared.fault.StoreFault.{StoreFault}
+use Rattle.book.specs.Fault as store
+use Rattle.book.specs.declared.fault.StoreFault.{StoreFault}
 use Rattle.tsp.specs.Fault as tsp
 use Rattle.counter.specs.declared.fault.Fault.{Fault}
 use Rattle.counter.specs.declared.fault.Fault.TheVariants.{Der, Tsp, Cms, Policy, Store, Audit, Input}

@@ -6,6 +6,7 @@ ghost use Rattle.counter.specs.Fault.{fault_of, fault_of_audit, fault_of_operati
 
 use crate::output::write_text;
 use audit::ExtractFault;
+use book::StoreFault;
 use cms::CmsFault;
 use der::DerFault;
 use hex::FromHexError;
@@ -13,7 +14,6 @@ use operations::{AuditFault, OperationFault};
 use policy::PolicyFault;
 use std::alloc::{AllocError, AllocFailed};
 use std::io::Write;
-use store::StoreFault;
 use tsp::TspFault;
 
 /// Why the program did not do what its words ask for: the part that refused, and its refusal.

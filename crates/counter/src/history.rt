@@ -1,14 +1,14 @@
 //! What the words of an operator do to the database.
 ghost use Rattle.std.specs.Prelude.{◌≡◌, ◌<◌, ◌≤◌, Err, IfOk, IfErr};
-ghost use Rattle.store.specs.Values.{calibration_view, hold_view};
+ghost use Rattle.book.specs.Values.{calibration_view, hold_view};
 ghost use Rattle.counter.specs.Additions.{calibration_of, hold_of};
 ghost use Rattle.counter.specs.Fault.{IsStoreFault};
 
 use crate::fault::{Fault, InputFault};
+use book::{Calibration, Hold};
 use command_line::{CalibrateWords, HoldWords, InitWords};
 use operations::Addition;
 use std::rt::HostRuntime;
-use store::{Calibration, Hold};
 
 /// Makes the tables of a new database.
 pub fn init(rt: &HostRuntime, words: &InitWords<'_>) -> Result<(), Fault>

@@ -57,7 +57,7 @@ fn octets<S: Signer>(signer: &mut S) -> Result<usize, SignerFault> {
     Ok(signature.len())
 }
 
-// `scripts/refused-memory` runs it with each allocation refused in turn.
+// `tests/refused-memory` runs it with each allocation refused in turn.
 #[test]
 fn want_of_memory_is_no_fault(rt: HostRuntime) -> Result<(), Fail> {
     let mut signer = failing_first(rt.alloc())?;

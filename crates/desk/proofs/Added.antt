@@ -2,14 +2,13 @@
 use Rattle.std.proofs.Common.{◌≡◌, ◌⊎◌, cond, T, Bool, true, false, [], ◌∷◌, Option, Some, None, Ok, refl, sym}
 use Rattle.std.proofs.Common.{ap, ◌∙◌, subst, inl, inr}
 use Rattle.std.specs.Prelude.{int_lt}
-use Rattle.sqlite_trees.specs.declared.store.Store.{Ghosts}
-use Rattle.tables.specs.Base.{BaseValue, IsHonest, IsOpen}
-use Rattle.store.specs.Fault.{count_after}
-use Rattle.store.specs.History.{Entry, History, CalibrationValue}
-use Rattle.store.specs.Sound.{Fits, IsBackwards}
-use Rattle.store.specs.Stands.{Stands, LeavesOrAdds, LeavesAsBefore}
-use Rattle.store.specs.declared.fault.StoreFault.{StoreFault}
-use Rattle.store.specs.declared.fault.StoreFault.TheVariants as store
+use Rattle.book.specs.declared.standing.Standing.{Ghosts}
+use Rattle.book.specs.Fault.{count_after}
+use Rattle.book.specs.History.{Entry, History, CalibrationValue}
+use Rattle.book.specs.Sound.{Fits, IsBackwards}
+use Rattle.book.specs.Stands.{Stands, LeavesOrAdds, LeavesAsBefore}
+use Rattle.book.specs.declared.fault.StoreFault.{StoreFault}
+use Rattle.book.specs.declared.fault.StoreFault.TheVariants as store
 use Rattle.desk.specs.Outcome.{Fine, Outcome, Cause, OfMemory, OfStore, cause_of, faults_after, all_fine}
 use Rattle.desk.specs.Command.{Setting, Command, Done, Refused}
 use Rattle.desk.specs.Effects.{Effect, only, unless, fault_of, is_backwards}
@@ -37,11 +36,11 @@ unturned true free = absurd (free refl)
 unturned false free = refl
 
 -- the entry stands
-pub enters_as : {S : Type 0} (g : Ghosts S) (s : Setting) (c : Command) (entry : Entry) (turns : History → Bool)
-    (old new : BaseValue S) → Enters s c entry turns → new.faults ≡ old.faults
-    → (IsHonest g new → IsOpen g old × IsOpen g new)
+pub enters_as : {B : Type 0} (g : Ghosts B) (s : Setting) (c : Command) (entry : Entry) (turns : History → Bool)
+    (old new : B) → Enters s c entry turns → g.fault_count new ≡ g.fault_count old
+    → (g.honest new → g.is_open old × g.is_open new)
     → ((b : History) → Stands g b old → Fits entry b → Stands g (entry ∷ b) new)
-    → (IsHonest g new → (b : History) → Stands g b old → turns b ≡ true → ⊥)
+    → (g.honest new → (b : History) → Stands g b old → turns b ≡ true → ⊥)
     → StepsBy g no_signer s c (all_fine (Ok [])) old new Done
 enters_as g s c entry turns old new enters same opened ok free = record {
   counted = same;
@@ -56,20 +55,20 @@ enters_as g s c entry turns old new enters same opened ok free = record {
         says = refl;
         moves = refl;
         stands = now;
-        left = λ db r. inr (inl ((now.kept honest (opened honest).1).leaves db r));
+        left = λ left r. inr (inl (now.settled honest (opened honest).1 left r));
       };
 }
 
 -- the commit is refused by this cause
-refused_as : {S : Type 0} (g : Ghosts S) (s : Setting) (c : Command) (entry : Entry) (turns : History → Bool)
-    (old new : BaseValue S) (o : Outcome) (cause : Cause) → Enters s c entry turns
+refused_as : {B : Type 0} (g : Ghosts B) (s : Setting) (c : Command) (entry : Entry) (turns : History → Bool)
+    (old new : B) (o : Outcome) (cause : Cause) → Enters s c entry turns
     → cause_of o.adding ≡ Some cause → cause_of (settled o).adding ≡ None
     → (o.adding ≡ Fine → o.sealing ≡ Fine → ⊥)
     → IsBlamed g c o old new (Refused (fault_of cause))
-    → new.faults ≡ faults_after o old.faults
+    → g.fault_count new ≡ faults_after o (g.fault_count old)
     → ((b : History) → Stands g b old → Stands g b new)
     → LeavesOrAdds g entry old new
-    → (IsHonest g new → (b : History) → Stands g b old → turns b ≡ true → LeavesAsBefore g old new)
+    → (g.honest new → (b : History) → Stands g b old → turns b ≡ true → LeavesAsBefore g old new)
     → StepsBy g no_signer s c o old new (Refused (fault_of cause))
 refused_as g s c entry turns old new o cause enters why answered was_refused blamed counted err crash before = record {
   counted = counted;
@@ -81,10 +80,10 @@ refused_as g s c entry turns old new o cause enters why answered was_refused bla
     says = refl;
     moves = refl;
     stands = err b stands;
-    left = λ db r.
-        let doubt : (t : Bool) → turns b ≡ t → MayBeLeft g s c o b old (only (Refused (fault_of cause))) db = elim [
-          | true ↦ λ e. inl (refl, before honest b stands e db r)
-          | false ↦ λ e. elim (crash honest db r) [
+    left = λ left r.
+        let doubt : (t : Bool) → turns b ≡ t → MayBeLeft g s c o b old (only (Refused (fault_of cause))) left = elim [
+          | true ↦ λ e. inl (refl, before honest b stands e left r)
+          | false ↦ λ e. elim (crash honest left r) [
             | inl left ↦ inl (refl, left)
             | inr adds ↦ inr (inr (record {
               refused = was_refused;
@@ -99,12 +98,12 @@ refused_as g s c entry turns old new o cause enters why answered was_refused bla
 }
 
 -- the store turns it back
-turned_back : {S : Type 0} (g : Ghosts S) (s : Setting) (c : Command) (entry : Entry) (turns : History → Bool)
-    (old new : BaseValue S) → Enters s c entry turns → new.faults ≡ old.faults
+turned_back : {B : Type 0} (g : Ghosts B) (s : Setting) (c : Command) (entry : Entry) (turns : History → Bool)
+    (old new : B) → Enters s c entry turns → g.fault_count new ≡ g.fault_count old
     → ((b : History) → Stands g b old → Stands g b new)
-    → (IsHonest g new → (b : History) → Stands g b old → turns b ≡ true)
+    → (g.honest new → (b : History) → Stands g b old → turns b ≡ true)
     → ((b : History) → turns b ≡ true → IsExcused c b)
-    → (IsHonest g new → (b : History) → Stands g b old → turns b ≡ true → LeavesAsBefore g old new)
+    → (g.honest new → (b : History) → Stands g b old → turns b ≡ true → LeavesAsBefore g old new)
     → StepsBy g no_signer s c (all_fine (Ok [])) old new (Refused fault.Store)
 turned_back g s c entry turns old new enters same err turned excuses before = record {
   counted = same;
@@ -117,20 +116,20 @@ turned_back g s c entry turns old new enters same err turned excuses before = re
     says = refl;
     moves = refl;
     stands = err b stands;
-    left = λ db r. inl (refl, before honest b stands (turned honest b stands) db r);
+    left = λ left r. inl (refl, before honest b stands (turned honest b stands) left r);
   };
 }
 
 -- the store's refusal by this fault
-pub refuses_by : {S : Type 0} (g : Ghosts S) (s : Setting) (c : Command) (entry : Entry) (turns : History → Bool)
-    (old new : BaseValue S) (f : StoreFault) → Enters s c entry turns
+pub refuses_by : {B : Type 0} (g : Ghosts B) (s : Setting) (c : Command) (entry : Entry) (turns : History → Bool)
+    (old new : B) (f : StoreFault) → Enters s c entry turns
     → (f ≡ store.Memory) ⊎ ((f ≡ store.Database) ⊎ (f ≡ store.Backwards))
-    → new.faults ≡ count_after f old.faults
+    → g.fault_count new ≡ count_after f (g.fault_count old)
     → ((b : History) → Stands g b old → Stands g b new)
     → LeavesOrAdds g entry old new
-    → (IsHonest g new → (b : History) → Stands g b old → f ≡ store.Backwards → turns b ≡ true)
+    → (g.honest new → (b : History) → Stands g b old → f ≡ store.Backwards → turns b ≡ true)
     → ((b : History) → turns b ≡ true → IsExcused c b)
-    → (IsHonest g new → (b : History) → Stands g b old → turns b ≡ true → LeavesAsBefore g old new)
+    → (g.honest new → (b : History) → Stands g b old → turns b ≡ true → LeavesAsBefore g old new)
     → StepsBy g no_signer s c (hindered (obstacle.Adding f)) old new (Refused (fault_of (store_cause f)))
 refuses_by g s c entry turns old new store.Memory enters which counted err crash turned excuses before =
     refused_as g s c entry turns old new (hindered (obstacle.Adding store.Memory)) OfMemory enters refl refl

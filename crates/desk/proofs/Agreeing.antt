@@ -10,12 +10,12 @@ use Rattle.std.proofs.lemmas.Slice.Eq.{bytes_eq-Decides}
 use Rattle.policy.specs.Record.{AccountValue, PolicyValue}
 use Rattle.cms.specs.declared.signer.SignerFault.{SignerFault}
 use Rattle.cms.specs.declared.signer.SignerFault.TheVariants as signer
-use Rattle.tables.specs.Tables.{StampRow, DepositRow}
-use Rattle.store.specs.History.{Entry, Reserved, Sealed, Deposited, Granted, Revoked, History, ReservationValue}
-use Rattle.store.specs.History.{reservations, stamps, stamp_of, greatest_serial, token_of, reservation_at, deposit_at}
-use Rattle.store.specs.History.{deposit_under}
-use Rattle.store.specs.Rights.{seen_by, shown_to, is_reader, listed}
-use Rattle.store.specs.Sound.{Along, Fits}
+use Rattle.book.specs.Rows.{StampRow, DepositRow}
+use Rattle.book.specs.History.{Entry, Reserved, Sealed, Deposited, Granted, Revoked, History, ReservationValue}
+use Rattle.book.specs.History.{reservations, stamps, stamp_of, greatest_serial, token_of, reservation_at, deposit_at}
+use Rattle.book.specs.History.{deposit_under}
+use Rattle.book.specs.Rights.{seen_by, shown_to, is_reader, listed}
+use Rattle.book.specs.Sound.{Along, Fits}
 use Rattle.desk.specs.Agreement.{SeenValue, seen_as, Agree, IsCommandOf}
 use Rattle.desk.specs.Outcome.{Outcome, Cause, cause_of, first_cause}
 use Rattle.desk.specs.Findings.{PlanValue, Finding, Fails, Unanswered, Allowed}

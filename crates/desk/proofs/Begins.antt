@@ -4,13 +4,12 @@ use Rattle.std.proofs.Common.{Result, Ok, Err, refl, sym, ap, ◌∙◌, subst, 
 use Rattle.std.proofs.lemmas.Bool.Decides.{nat_tests}
 use Rattle.policy.specs.Record.{AccountValue}
 use Rattle.tsp.specs.declared.rule.Rule.{Rule}
-use Rattle.sqlite_trees.specs.declared.store.Store.{Ghosts}
-use Rattle.tables.specs.Base.{BaseValue, IsHonest}
-use Rattle.store.specs.History.{History, greatest_serial}
-use Rattle.store.specs.Sound.{greatest_number}
-use Rattle.store.specs.Stands.{Stands, OnlyLooks}
-use Rattle.store.specs.declared.fault.StoreFault.{StoreFault}
-use Rattle.store.specs.declared.fault.StoreFault.TheVariants as store
+use Rattle.book.specs.declared.standing.Standing.{Ghosts}
+use Rattle.book.specs.History.{History, greatest_serial}
+use Rattle.book.specs.Sound.{greatest_number}
+use Rattle.book.specs.Stands.{Stands, OnlyLooks}
+use Rattle.book.specs.declared.fault.StoreFault.{StoreFault}
+use Rattle.book.specs.declared.fault.StoreFault.TheVariants as store
 use Rattle.desk.specs.Calls.{store_cause, cause_with, refused, outcome_of, IsOfStore, IsOfLooks, IsOfReserving}
 use Rattle.desk.specs.Calls.{pending_as, reserving, Reserves}
 use Rattle.desk.specs.Command.{Setting, PendingValue, Command, Begin, Rejected, Refused}
@@ -23,10 +22,10 @@ use Rattle.desk.specs.declared.refusal.Refusal.{Refusal}
 use Rattle.desk.specs.declared.refusal.Refusal.TheVariants as refusal
 
 -- a rule fails
-pub rejects : {S : Type 0} (g : Ghosts S) (s : Setting) (account : Option AccountValue) (reading : ℤ) (octets : List ℕ)
-    (o : Outcome) (old new : BaseValue S) (rule : Rule)
-    → OnlyLooks g old new → new.faults ≡ faults_after o old.faults
-    → (IsHonest g new → (b : History) → Stands g b old → Finds s.file account reading octets o b (Fails rule))
+pub rejects : {B : Type 0} (g : Ghosts B) (s : Setting) (account : Option AccountValue) (reading : ℤ) (octets : List ℕ)
+    (o : Outcome) (old new : B) (rule : Rule)
+    → OnlyLooks g old new → g.fault_count new ≡ faults_after o (g.fault_count old)
+    → (g.honest new → (b : History) → Stands g b old → Finds s.file account reading octets o b (Fails rule))
     → StepsBy g no_signer s (Begin account reading octets) o old new (Rejected rule)
 rejects g s account reading octets o old new rule looks counted finds = record {
   counted = counted;
@@ -38,11 +37,11 @@ rejects g s account reading octets o old new rule looks counted finds = record {
     says = refl;
     moves = refl;
     stands = looks.stands b st;
-    left = λ db r. inl (refl, looks.leaves honest db r);
+    left = λ left r. inl (refl, looks.leaves honest left r);
   };
 }
 
-look_blamed : {S : Type 0} (g : Ghosts S) (c : Command) (f : StoreFault) (old new : BaseValue S) → IsOfStore f
+look_blamed : {B : Type 0} (g : Ghosts B) (c : Command) (f : StoreFault) (old new : B) → IsOfStore f
     → IsBlamedFor g c (refused (refusal.Looking f)) old new (fault_of (store_cause f))
 look_blamed g c store.Memory old new h = tt
 look_blamed g c store.Database old new h = inl (inr (inl refl))
@@ -53,7 +52,7 @@ look_blamed g c store.Full old new (inr e) = cc
 look_blamed g c store.Backwards old new (inl e) = cc
 look_blamed g c store.Backwards old new (inr e) = cc
 
-count_blamed : {S : Type 0} (g : Ghosts S) (c : Command) (f : StoreFault) (old new : BaseValue S) → IsOfStore f
+count_blamed : {B : Type 0} (g : Ghosts B) (c : Command) (f : StoreFault) (old new : B) → IsOfStore f
     → IsBlamedFor g c (refused (refusal.Counting f)) old new (fault_of (store_cause f))
 count_blamed g c store.Memory old new h = tt
 count_blamed g c store.Database old new h = inl (inr (inr (inl refl)))
@@ -64,7 +63,7 @@ count_blamed g c store.Full old new (inr e) = cc
 count_blamed g c store.Backwards old new (inl e) = cc
 count_blamed g c store.Backwards old new (inr e) = cc
 
-add_blamed : {S : Type 0} (g : Ghosts S) (c : Command) (f : StoreFault) (old new : BaseValue S) → IsOfStore f
+add_blamed : {B : Type 0} (g : Ghosts B) (c : Command) (f : StoreFault) (old new : B) → IsOfStore f
     → IsBlamedFor g c (refused (refusal.Adding f)) old new (fault_of (store_cause f))
 add_blamed g c store.Memory old new h = tt
 add_blamed g c store.Database old new h = inl (inr (inr (inr (inr (inl refl)))))
@@ -75,7 +74,7 @@ add_blamed g c store.Full old new (inr e) = cc
 add_blamed g c store.Backwards old new (inl e) = cc
 add_blamed g c store.Backwards old new (inr e) = cc
 
-looks_blamed : {S : Type 0} (g : Ghosts S) (c : Command) (r : Refusal) (old new : BaseValue S) → IsOfLooks r
+looks_blamed : {B : Type 0} (g : Ghosts B) (c : Command) (r : Refusal) (old new : B) → IsOfLooks r
     → IsBlamedFor g c (refused r) old new (fault_of (cause_with r))
 looks_blamed g c (refusal.Looking f) old new h = look_blamed g c f old new h
 looks_blamed g c (refusal.Counting f) old new h = count_blamed g c f old new h
@@ -87,8 +86,8 @@ looks_blamed g c refusal.Wrapping old new h = absurd h
 looks_blamed g c (refusal.Sealing f) old new h = absurd h
 
 -- a reservation that is refused names the store where it failed, or where no number is left
-pub reserving_blamed : {S : Type 0} (g : Ghosts S) (c : Command) (r : Refusal) (old new : BaseValue S)
-    → IsOfReserving r → (r ≡ refusal.Spent → IsHonest g new → (b : History) → Stands g b old → IsExcused c b)
+pub reserving_blamed : {B : Type 0} (g : Ghosts B) (c : Command) (r : Refusal) (old new : B)
+    → IsOfReserving r → (r ≡ refusal.Spent → g.honest new → (b : History) → Stands g b old → IsExcused c b)
     → IsBlamedFor g c (refused r) old new (fault_of (cause_with r))
 reserving_blamed g c (refusal.Looking f) old new h spent = absurd h
 reserving_blamed g c (refusal.Counting f) old new h spent = absurd h
@@ -100,10 +99,10 @@ reserving_blamed g c refusal.Wrapping old new h spent = absurd h
 reserving_blamed g c (refusal.Sealing f) old new h spent = absurd h
 
 -- a look-up is refused
-pub leaves_open : {S : Type 0} (g : Ghosts S) (s : Setting) (account : Option AccountValue) (reading : ℤ)
-    (octets : List ℕ) (old new : BaseValue S) (r : Refusal) → IsOfLooks r
-    → OnlyLooks g old new → new.faults ≡ faults_after (refused r) old.faults
-    → (IsHonest g new → (b : History) → Stands g b old
+pub leaves_open : {B : Type 0} (g : Ghosts B) (s : Setting) (account : Option AccountValue) (reading : ℤ)
+    (octets : List ℕ) (old new : B) (r : Refusal) → IsOfLooks r
+    → OnlyLooks g old new → g.fault_count new ≡ faults_after (refused r) (g.fault_count old)
+    → (g.honest new → (b : History) → Stands g b old
     → Finds s.file account reading octets (refused r) b (Unanswered (cause_with r)))
     → StepsBy g no_signer s (Begin account reading octets) (refused r) old new (Refused (fault_of (cause_with r)))
 leaves_open g s account reading octets old new r of looks counted finds = record {
@@ -116,7 +115,7 @@ leaves_open g s account reading octets old new r of looks counted finds = record
     says = refl;
     moves = refl;
     stands = looks.stands b st;
-    left = λ db recovers. inl (refl, looks.leaves honest db recovers);
+    left = λ left recovers. inl (refl, looks.leaves honest left recovers);
   };
 }
 
@@ -157,11 +156,11 @@ is_excused : (n : ℕ) → nat_le greatest_number n ≡ true → greatest_number
 is_excused n e = grind (arith, nat_tests)
 
 -- what the reservation that follows the look-ups meets
-pub record Follows {S : Type 0} (g : Ghosts S) (s : Setting) (name : List ℕ) (plan : PlanValue) (octets : List ℕ)
-    (last : ℕ) (mid new : BaseValue S) (result : Result PendingValue Refusal) : Type 0 where
-  pub honest : IsHonest g new → IsHonest g mid
-  pub counted : new.faults ≡ faults_after (outcome_of result) mid.faults
-  pub reserves : IsHonest g new → (b : History) → Stands g b mid → greatest_serial b ≡ last
+pub record Follows {B : Type 0} (g : Ghosts B) (s : Setting) (name : List ℕ) (plan : PlanValue) (octets : List ℕ)
+    (last : ℕ) (mid new : B) (result : Result PendingValue Refusal) : Type 0 where
+  pub honest : g.honest new → g.honest mid
+  pub counted : g.fault_count new ≡ faults_after (outcome_of result) (g.fault_count mid)
+  pub reserves : g.honest new → (b : History) → Stands g b mid → greatest_serial b ≡ last
       → Reserves g s name plan octets b mid new result
 
 abbrev IsReserving : Result PendingValue Refusal → Type 0
@@ -173,27 +172,27 @@ result_looks : (result : Result PendingValue Refusal) → IsReserving result
 result_looks (Ok p) h = (refl, refl)
 result_looks (Err r) h = reserving_looks r h
 
-result_blamed : {S : Type 0} (g : Ghosts S) (c : Command) (old new : BaseValue S)
+result_blamed : {B : Type 0} (g : Ghosts B) (c : Command) (old new : B)
     (result : Result PendingValue Refusal) → IsReserving result
-    → (result ≡ Err refusal.Spent → IsHonest g new → (b : History) → Stands g b old → IsExcused c b)
+    → (result ≡ Err refusal.Spent → g.honest new → (b : History) → Stands g b old → IsExcused c b)
     → IsBlamed g c (outcome_of result) old new (pending_as result)
 result_blamed g c old new (Ok p) h spent = tt
 result_blamed g c old new (Err r) h spent = reserving_blamed g c r old new h (λ e. spent (ap Err e))
 
 -- no rule fails: the reservation goes on from what was found
-pub reserves_after : {S : Type 0} (g : Ghosts S) (s : Setting) (account : Option AccountValue) (reading : ℤ)
-    (octets : List ℕ) (old mid new : BaseValue S) (plan : PlanValue) (last : ℕ) (name : List ℕ)
+pub reserves_after : {B : Type 0} (g : Ghosts B) (s : Setting) (account : Option AccountValue) (reading : ℤ)
+    (octets : List ℕ) (old mid new : B) (plan : PlanValue) (last : ℕ) (name : List ℕ)
     (result : Result PendingValue Refusal)
-    → name ≡ name_of account → IsReserving result → OnlyLooks g old mid → mid.faults ≡ old.faults
-    → (IsHonest g mid → (b : History) → Stands g b old
+    → name ≡ name_of account → IsReserving result → OnlyLooks g old mid → g.fault_count mid ≡ g.fault_count old
+    → (g.honest mid → (b : History) → Stands g b old
     → Finds s.file account reading octets (all_fine (Ok [])) b (Allowed plan))
-    → (IsHonest g mid → (b : History) → Stands g b old → last ≡ greatest_serial b)
+    → (g.honest mid → (b : History) → Stands g b old → last ≡ greatest_serial b)
     → Follows g s name plan octets last mid new result
     → StepsBy g no_signer s (Begin account reading octets) (outcome_of result) old new (pending_as result)
 reserves_after g s account reading octets old mid new plan last name result named of looks uncounted finds is after_it =
     let o = outcome_of result in
     let fine = result_looks result of in
-    let gone : IsHonest g new → (b : History) → Stands g b old
+    let gone : g.honest new → (b : History) → Stands g b old
     → Reserves g s (name_of account) plan octets b mid new result =
     λ h b st. subst (λ x. Reserves g s x plan octets b mid new result) named
     (after_it.reserves h b (looks.stands b st) (sym (is (after_it.honest h) b st))) in
@@ -214,8 +213,8 @@ reserves_after g s account reading octets old mid new plan last name result name
             says = r.says;
             moves = begin_asks s (name_of account) plan octets b (no_number o b);
             stands = r.stands;
-            left = λ db recovers. elim (r.left db recovers) [
-              | inl none ↦ inl (none.0, looks.leaves (after_it.honest h) db none.1)
+            left = λ left recovers. elim (r.left left recovers) [
+              | inl none ↦ inl (none.0, looks.leaves (after_it.honest h) left none.1)
               | inr (inl holds) ↦ inr (inl holds)
               | inr (inr doubt) ↦ inr (inr (record {
                 refused = λ adding sealing. doubt.0 adding;

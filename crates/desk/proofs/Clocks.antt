@@ -2,11 +2,11 @@
 use Rattle.std.proofs.Common.{◌≡◌, ℕ, ◌≤◌, ℤ, Bool, [], ◌∷◌, Option, Some, None, refl, ap, ◌∙◌, arith}
 use Rattle.std.specs.Prelude.{option_map}
 use Rattle.gentime.specs.GenTime.{last_moment}
-use Rattle.store.specs.History.{Reserved, Sealed, Deposited, Calibrated, Held, Granted, Revoked, History}
-use Rattle.store.specs.History.{CalibrationValue, latest_calibration, last_gen_time, greatest_serial}
-use Rattle.store.specs.Sound.{IsSound}
-use Rattle.store.specs.Values.{last_of}
-use Rattle.store.specs.declared.values.Last.{Last}
+use Rattle.book.specs.History.{Reserved, Sealed, Deposited, Calibrated, Held, Granted, Revoked, History}
+use Rattle.book.specs.History.{CalibrationValue, latest_calibration, last_gen_time, greatest_serial}
+use Rattle.book.specs.Sound.{IsSound}
+use Rattle.book.specs.Values.{last_of}
+use Rattle.book.specs.declared.values.Last.{Last}
 use Rattle.decide.specs.declared.facts.Calibration.{Calibration}
 use Rattle.desk.specs.Facts.{now_in, now_with, is_held_at}
 use Rattle.desk.specs.Calls.{looked_at, calibrations_as, moment_or_last}

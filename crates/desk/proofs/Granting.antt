@@ -3,12 +3,11 @@ use Rattle.std.proofs.Common.{◌≡◌, ℕ, cond, Bool, true, false, List, [],
 use Rattle.std.proofs.Common.{◌∙◌, inl, inr}
 use Rattle.std.specs.Str.{bytes_eq}
 use Rattle.policy.specs.Record.{PolicyValue}
-use Rattle.sqlite_trees.specs.declared.store.Store.{Ghosts}
-use Rattle.tables.specs.Base.{BaseValue, IsHonest, IsOpen}
-use Rattle.store.specs.History.{Entry, History, DepositValue}
-use Rattle.store.specs.Rights.{seen_by}
-use Rattle.store.specs.Sound.{Fits, FitsRight}
-use Rattle.store.specs.Stands.{Stands, OnlyLooks}
+use Rattle.book.specs.declared.standing.Standing.{Ghosts}
+use Rattle.book.specs.History.{Entry, History, DepositValue}
+use Rattle.book.specs.Rights.{seen_by}
+use Rattle.book.specs.Sound.{Fits, FitsRight}
+use Rattle.book.specs.Stands.{Stands, OnlyLooks}
 use Rattle.desk.specs.Command.{Setting, Command, Done, Refused}
 use Rattle.desk.specs.Effects.{Effect, only, unless, has_account, right_effect}
 use Rattle.desk.specs.Obstacles.{MayName}
@@ -62,19 +61,19 @@ made s account reader n b entry o m searched looked refused e =
     ∙ ap (λ x. unless x (entered entry)) e)
 
 -- what the look-ups before the commit found
-pub record Allows {S : Type 0} (g : Ghosts S) (s : Setting) (c : Command) (account reader : List ℕ) (n : ℕ)
-    (entry : Entry) (old mid : BaseValue S) : Type 0 where
+pub record Allows {B : Type 0} (g : Ghosts B) (s : Setting) (c : Command) (account reader : List ℕ) (n : ℕ)
+    (entry : Entry) (old mid : B) : Type 0 where
   pub righting : IsRighting s c account n reader entry
   pub fits : (b : History) → FitsRight n b → Fits entry b
   pub looks : OnlyLooks g old mid
-  pub uncounted : mid.faults ≡ old.faults
-  pub may : IsHonest g mid → (b : History) → Stands g b old → MayName s.file account reader n b
+  pub uncounted : g.fault_count mid ≡ g.fault_count old
+  pub may : g.honest mid → (b : History) → Stands g b old → MayName s.file account reader n b
 
 -- the right is entered
-pub right_entered : {S : Type 0} (g : Ghosts S) (s : Setting) (c : Command) (account reader : List ℕ) (n : ℕ)
-    (entry : Entry) (old mid new : BaseValue S) → Allows g s c account reader n entry old mid
-    → (IsHonest g new → IsHonest g mid) → new.faults ≡ mid.faults
-    → (IsHonest g new → IsOpen g mid × IsOpen g new)
+pub right_entered : {B : Type 0} (g : Ghosts B) (s : Setting) (c : Command) (account reader : List ℕ) (n : ℕ)
+    (entry : Entry) (old mid new : B) → Allows g s c account reader n entry old mid
+    → (g.honest new → g.honest mid) → g.fault_count new ≡ g.fault_count mid
+    → (g.honest new → g.is_open mid × g.is_open new)
     → ((b : History) → Stands g b mid → Fits entry b → Stands g (entry ∷ b) new)
     → StepsBy g no_signer s c (all_fine (Ok [])) old new Done
 right_entered g s c account reader n entry old mid new a before same opened ok = record {
@@ -91,6 +90,6 @@ right_entered g s c account reader n entry old mid new a before same opened ok =
         says = refl;
         moves = refl;
         stands = now;
-        left = λ db r. inr (inl ((now.kept honest (opened honest).1).leaves db r));
+        left = λ left r. inr (inl (now.settled honest (opened honest).1 left r));
       };
 }

@@ -13,8 +13,8 @@ use Rattle.tsp.specs.declared.rule.Rule.TheVariants.{Spelling, Version, Account,
 use Rattle.tsp.specs.declared.rule.Rule.TheVariants.{PolicyAlgorithm, Extensions, Certificate, Clock, Quota, System}
 use Rattle.cms.specs.declared.signer.SignerFault.{SignerFault}
 use Rattle.cms.specs.declared.signer.SignerFault.TheVariants as signer
-use Rattle.store.specs.History.{History, ReservationValue, greatest_serial}
-use Rattle.store.specs.Sound.{greatest_number}
+use Rattle.book.specs.History.{History, ReservationValue, greatest_serial}
+use Rattle.book.specs.Sound.{greatest_number}
 use Rattle.std.proofs.lemmas.Bool.Decides.{nat_tests}
 use Rattle.desk.specs.Outcome.{Outcome, Cause, OfMemory, OfStore, OfSigner, cause_of, cause_of_signing, first_cause}
 use Rattle.desk.specs.Outcome.{all_fine}

@@ -18,13 +18,12 @@ use Rattle.decide.specs.Verdict.{IsJudged}
 use Rattle.decide.specs.declared.facts.Calibration.{Calibration}
 use Rattle.decide.specs.declared.facts.Facts.{Facts}
 use Rattle.decide.specs.declared.facts.ClockFacts.{ClockFacts}
-use Rattle.store.specs.History.{History, CalibrationValue, latest_calibration, count_of_day, day_of}
-use Rattle.sqlite_trees.specs.declared.store.Store.{Ghosts}
-use Rattle.tables.specs.Base.{BaseValue}
-use Rattle.store.specs.Fault.{count_after}
-use Rattle.store.specs.Stands.{OnlyLooks}
-use Rattle.store.specs.declared.fault.StoreFault.{StoreFault}
-use Rattle.store.specs.declared.fault.StoreFault.TheVariants as store
+use Rattle.book.specs.History.{History, CalibrationValue, latest_calibration, count_of_day, day_of}
+use Rattle.book.specs.declared.standing.Standing.{Ghosts}
+use Rattle.book.specs.Fault.{count_after}
+use Rattle.book.specs.Stands.{OnlyLooks}
+use Rattle.book.specs.declared.fault.StoreFault.{StoreFault}
+use Rattle.book.specs.declared.fault.StoreFault.TheVariants as store
 use Rattle.desk.specs.Calls.{call_of, store_cause, IsOfStore, count_for}
 use Rattle.desk.specs.Facts.{calibration_of, now_in, gen_time_of, gen_time_in, count_in, clock_of, facts_of}
 use Rattle.desk.specs.Findings.{HoldsUnasked, HoldsAt, IsAnsweredFor, Fails}
@@ -161,12 +160,12 @@ pub one_unasked : (file : PolicyValue) (account : Option AccountValue) (octets :
 one_unasked file account octets one other f g = ap Fails (one_first (HoldsUnasked file account octets) one other f g)
 
 -- one look-up after the other
-pub looks_then : {S : Type 0} (g : Ghosts S) (old mid new : BaseValue S) → OnlyLooks g old mid → OnlyLooks g mid new
+pub looks_then : {B : Type 0} (g : Ghosts B) (old mid new : B) → OnlyLooks g old mid → OnlyLooks g mid new
     → OnlyLooks g old new
 looks_then g old mid new one other = record {
   honest = λ h. one.honest (other.honest h);
   stands = λ b st. other.stands b (one.stands b st);
-  leaves = λ h db r. one.leaves (other.honest h) db (other.leaves h db r);
+  leaves = λ h left r. one.leaves (other.honest h) left (other.leaves h left r);
 }
 
 -- what isn't read isn't spelled, or is too long

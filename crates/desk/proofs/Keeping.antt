@@ -5,10 +5,10 @@ use Rattle.std.specs.List.{AllByRecursion}
 use Rattle.std.proofs.lemmas.Bool.{eq-eqb}
 use Rattle.std.specs.Str.{bytes_eq}
 use Rattle.policy.specs.Record.{AccountValue}
-use Rattle.store.specs.History.{Entry, Calibrated, Held, Granted, Revoked, History, DepositValue, token_of, deposit_at}
-use Rattle.store.specs.History.{deposit_under, latest_calibration}
-use Rattle.store.specs.Rights.{seen_by, listed}
-use Rattle.store.specs.Sound.{Fits}
+use Rattle.book.specs.History.{Entry, Calibrated, Held, Granted, Revoked, History, DepositValue, token_of, deposit_at}
+use Rattle.book.specs.History.{deposit_under, latest_calibration}
+use Rattle.book.specs.Rights.{seen_by, listed}
+use Rattle.book.specs.Sound.{Fits}
 use Rattle.desk.specs.Outcome.{Outcome, Cause, cause_of, first_cause}
 use Rattle.desk.specs.Findings.{PlanValue, Finding, Fails, Unanswered, Allowed}
 use Rattle.desk.specs.Command.{Setting, PendingValue, Command, Stamp, Begin, Finish, Abandon, Deposit, Show, Token}

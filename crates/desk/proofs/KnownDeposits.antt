@@ -3,16 +3,15 @@ use Rattle.std.proofs.Common.{◌≡◌, ℕ, ◌<◌, nat_le, cond, ℤ, Bool, 
 use Rattle.std.proofs.Common.{length, refl, sym, ap, ◌∙◌, subst, inl, inr, arith}
 use Rattle.std.specs.Str.{bytes_eq}
 use Rattle.std.proofs.lemmas.Bool.Decides.{nat_tests}
-use Rattle.sqlite_trees.specs.declared.store.Store.{Ghosts}
+use Rattle.book.specs.declared.standing.Standing.{Ghosts}
 use Rattle.policy.specs.Record.{AccountValue}
 use Rattle.cms.specs.Signer.{count_after}
 use Rattle.cms.specs.declared.signer.SignerFault.{SignerFault}
-use Rattle.tables.specs.Base.{BaseValue, IsHonest}
-use Rattle.store.specs.Fault.{count_after as count_with}
-use Rattle.store.specs.History.{History, DepositValue, deposit_under}
-use Rattle.store.specs.Stands.{Stands, OnlyLooks}
-use Rattle.store.specs.declared.fault.StoreFault.{StoreFault}
-use Rattle.store.specs.declared.fault.StoreFault.TheVariants as store
+use Rattle.book.specs.Fault.{count_after as count_with}
+use Rattle.book.specs.History.{History, DepositValue, deposit_under}
+use Rattle.book.specs.Stands.{Stands, OnlyLooks}
+use Rattle.book.specs.declared.fault.StoreFault.{StoreFault}
+use Rattle.book.specs.declared.fault.StoreFault.TheVariants as store
 use Rattle.desk.specs.Calls.{call_of, store_cause, IsOfStore}
 use Rattle.desk.specs.Command.{Setting, Command, Deposit, Answer, Stamped, Rejected, Begun, Kept, Shown, Listed, Done}
 use Rattle.desk.specs.Command.{Refused}
@@ -31,9 +30,9 @@ is_many : (n : ℕ) → 1_048_576 < n → nat_le n 1_048_576 ≡ false
 is_many n h = grind (arith, nat_tests)
 
 -- too many octets
-pub is_too_large : {S X : Type 0} (g : Ghosts S) (signs : X → List ℕ → Result (List ℕ) SignerFault → X → Type 0)
+pub is_too_large : {B X : Type 0} (g : Ghosts B) (signs : X → List ℕ → Result (List ℕ) SignerFault → X → Type 0)
     (count : X → ℕ) (x : X) (s : Setting) (a : AccountValue) (reading : ℤ) (reference bytes : List ℕ)
-    (v : BaseValue S) → 1_048_576 < length bytes
+    (v : B) → 1_048_576 < length bytes
     → StepsBy g (with_signer signs count x x) s (Deposit a reading reference bytes) (all_fine (Ok [])) v v
     (Refused fault.TooLarge)
 is_too_large g signs count x s a reading reference bytes v many = record {
@@ -47,16 +46,16 @@ is_too_large g signs count x s a reading reference bytes v many = record {
     says = refl;
     moves = refl;
     stands = stands;
-    left = λ db r. inl (refl, r);
+    left = λ left r. inl (refl, r);
   };
 }
 
 -- a look-up that decides
-looked : {S X : Type 0} (g : Ghosts S) (signs : X → List ℕ → Result (List ℕ) SignerFault → X → Type 0)
-    (count : X → ℕ) (x : X) (s : Setting) (c : Command) (o : Outcome) (old new : BaseValue S) (said : Answer)
-    → OnlyLooks g old new → new.faults ≡ faults_after o old.faults → o.signing ≡ Ok []
+looked : {B X : Type 0} (g : Ghosts B) (signs : X → List ℕ → Result (List ℕ) SignerFault → X → Type 0)
+    (count : X → ℕ) (x : X) (s : Setting) (c : Command) (o : Outcome) (old new : B) (said : Answer)
+    → OnlyLooks g old new → g.fault_count new ≡ faults_after o (g.fault_count old) → o.signing ≡ Ok []
     → IsBlamed g c o old new said
-    → (IsHonest g new → (b : History) → Stands g b old → HasEffect s c o b (only said))
+    → (g.honest new → (b : History) → Stands g b old → HasEffect s c o b (only said))
     → StepsBy g (with_signer signs count x x) s c o old new said
 looked g signs count x s c o old new said looks faults unsigned blamed has = record {
   counted = faults;
@@ -68,7 +67,7 @@ looked g signs count x s c o old new said looks faults unsigned blamed has = rec
     says = refl;
     moves = refl;
     stands = looks.stands b stands;
-    left = λ db r. inl (refl, looks.leaves honest db r);
+    left = λ left r. inl (refl, looks.leaves honest left r);
   };
 }
 
@@ -76,7 +75,7 @@ looked g signs count x s c o old new said looks faults unsigned blamed has = rec
 abbrev pub unsearched : StoreFault → Outcome
 unsearched f = record (all_fine (Ok [])) { searching = call_of f }
 
-search_blamed : {S : Type 0} (g : Ghosts S) (c : Command) (f : StoreFault) (old new : BaseValue S) → IsOfStore f
+search_blamed : {B : Type 0} (g : Ghosts B) (c : Command) (f : StoreFault) (old new : B) → IsOfStore f
     → IsBlamedFor g c (unsearched f) old new (fault_of (store_cause f))
 search_blamed g c store.Memory old new h = tt
 search_blamed g c store.Database old new h = inl (inl refl)
@@ -87,16 +86,16 @@ search_blamed g c store.Full old new (inr e) = cc
 search_blamed g c store.Backwards old new (inl e) = cc
 search_blamed g c store.Backwards old new (inr e) = cc
 
-pub is_unsearched : {S X : Type 0} (g : Ghosts S) (signs : X → List ℕ → Result (List ℕ) SignerFault → X → Type 0)
+pub is_unsearched : {B X : Type 0} (g : Ghosts B) (signs : X → List ℕ → Result (List ℕ) SignerFault → X → Type 0)
     (count : X → ℕ) (x : X) (s : Setting) (a : AccountValue) (reading : ℤ) (reference bytes : List ℕ)
-    (old new : BaseValue S) (f : StoreFault) → nat_le (length bytes) 1_048_576 ≡ true → IsOfStore f
-    → OnlyLooks g old new → new.faults ≡ count_with f old.faults
+    (old new : B) (f : StoreFault) → nat_le (length bytes) 1_048_576 ≡ true → IsOfStore f
+    → OnlyLooks g old new → g.fault_count new ≡ count_with f (g.fault_count old)
     → StepsBy g (with_signer signs count x x) s (Deposit a reading reference bytes) (unsearched f) old new
     (Refused (fault_of (store_cause f)))
 is_unsearched g signs count x s a reading reference bytes old new f few of looks faults =
     let c = Deposit a reading reference bytes in
     let said = Refused (fault_of (store_cause f)) in
-    looked g signs count x s c (unsearched f) old new said looks (faults ∙ same_count f old.faults) refl
+    looked g signs count x s c (unsearched f) old new said looks (faults ∙ same_count f (g.fault_count old)) refl
     (search_blamed g c f old new of)
     (λ honest b stands. subst (λ t. Keeps s a reading reference bytes (unsearched f) b t (only said)) (sym few)
     (subst (λ t. KeepsUnless s a reading reference bytes (unsearched f) b t (only said)) (sym (same_cause f of)) refl))
@@ -131,11 +130,11 @@ other_under : (s : Setting) (a : AccountValue) (reading : ℤ) (reference bytes 
 other_under s a reading reference bytes o b None e = cc
 other_under s a reading reference bytes o b (Some d) e = other_at (bytes_eq d.bytes bytes) d.serial e
 
-pub is_same : {S X : Type 0} (g : Ghosts S) (signs : X → List ℕ → Result (List ℕ) SignerFault → X → Type 0)
+pub is_same : {B X : Type 0} (g : Ghosts B) (signs : X → List ℕ → Result (List ℕ) SignerFault → X → Type 0)
     (count : X → ℕ) (x : X) (s : Setting) (a : AccountValue) (reading : ℤ) (reference bytes : List ℕ)
-    (old new : BaseValue S) (owner : List ℕ) (found : Known) (number : ℕ) → nat_le (length bytes) 1_048_576 ≡ true
-    → OnlyLooks g old new → new.faults ≡ old.faults → owner ≡ a.name → found ≡ known.Same number
-    → (IsHonest g new → (b : History) → Stands g b old → found ≡ known_in bytes (deposit_under owner reference b))
+    (old new : B) (owner : List ℕ) (found : Known) (number : ℕ) → nat_le (length bytes) 1_048_576 ≡ true
+    → OnlyLooks g old new → g.fault_count new ≡ g.fault_count old → owner ≡ a.name → found ≡ known.Same number
+    → (g.honest new → (b : History) → Stands g b old → found ≡ known_in bytes (deposit_under owner reference b))
     → StepsBy g (with_signer signs count x x) s (Deposit a reading reference bytes) (all_fine (Ok [])) old new
     (Kept number false)
 is_same g signs count x s a reading reference bytes old new owner found number few looks faults named told is =
@@ -145,11 +144,11 @@ is_same g signs count x s a reading reference bytes old new owner found number f
     (same_under s a reading reference bytes o b (deposit_under a.name reference b) number
     (under_named bytes reference b owner a.name found (known.Same number) named told (is honest b stands))))
 
-pub is_other : {S X : Type 0} (g : Ghosts S) (signs : X → List ℕ → Result (List ℕ) SignerFault → X → Type 0)
+pub is_other : {B X : Type 0} (g : Ghosts B) (signs : X → List ℕ → Result (List ℕ) SignerFault → X → Type 0)
     (count : X → ℕ) (x : X) (s : Setting) (a : AccountValue) (reading : ℤ) (reference bytes : List ℕ)
-    (old new : BaseValue S) (owner : List ℕ) (found : Known) → nat_le (length bytes) 1_048_576 ≡ true
-    → OnlyLooks g old new → new.faults ≡ old.faults → owner ≡ a.name → found ≡ known.Other
-    → (IsHonest g new → (b : History) → Stands g b old → found ≡ known_in bytes (deposit_under owner reference b))
+    (old new : B) (owner : List ℕ) (found : Known) → nat_le (length bytes) 1_048_576 ≡ true
+    → OnlyLooks g old new → g.fault_count new ≡ g.fault_count old → owner ≡ a.name → found ≡ known.Other
+    → (g.honest new → (b : History) → Stands g b old → found ≡ known_in bytes (deposit_under owner reference b))
     → StepsBy g (with_signer signs count x x) s (Deposit a reading reference bytes) (all_fine (Ok [])) old new
     (Refused fault.Conflict)
 is_other g signs count x s a reading reference bytes old new owner found few looks faults named told is =
@@ -177,7 +176,7 @@ is_unused a bytes reference b owner found named told value =
     (under_named bytes reference b owner a.name found known.Nothing named told value)
 
 -- what the store stands for after the look-up, it stood for before
-blamed_before : {S : Type 0} (g : Ghosts S) (c : Command) (o : Outcome) (old mid new : BaseValue S) (f : Fault)
+blamed_before : {B : Type 0} (g : Ghosts B) (c : Command) (o : Outcome) (old mid new : B) (f : Fault)
     → OnlyLooks g old mid → IsBlamedFor g c o mid new f → IsBlamedFor g c o old new f
 blamed_before g c o old mid new fault.NotHere looks h = tt
 blamed_before g c o old mid new fault.NotOwner looks h = tt
@@ -192,7 +191,7 @@ blamed_before g c o old mid new fault.Store looks (inr spent) =
     inr (λ honest b stands. spent honest b (looks.stands b stands))
 blamed_before g c o old mid new fault.Signer looks h = h
 
-said_before : {S : Type 0} (g : Ghosts S) (c : Command) (o : Outcome) (old mid new : BaseValue S) (said : Answer)
+said_before : {B : Type 0} (g : Ghosts B) (c : Command) (o : Outcome) (old mid new : B) (said : Answer)
     → OnlyLooks g old mid → IsBlamed g c o mid new said → IsBlamed g c o old new said
 said_before g c o old mid new (Stamped serial octets) looks h = tt
 said_before g c o old mid new (Rejected rule) looks h = tt
@@ -204,11 +203,11 @@ said_before g c o old mid new Done looks h = tt
 said_before g c o old mid new (Refused f) looks h = blamed_before g c o old mid new f looks h
 
 -- a step after the look-up is one from before it
-pub is_after : {S : Type 0} (g : Ghosts S) (t : SignerStep) (s : Setting) (c : Command) (P : History → Type 0)
-    (o : Outcome) (old mid new : BaseValue S) (said : Answer)
-    → OnlyLooks g old mid → mid.faults ≡ old.faults
-    → (IsHonest g mid → (b : History) → Stands g b old → P b)
-    → (IsHonest g new → IsHonest g mid)
+pub is_after : {B : Type 0} (g : Ghosts B) (t : SignerStep) (s : Setting) (c : Command) (P : History → Type 0)
+    (o : Outcome) (old mid new : B) (said : Answer)
+    → OnlyLooks g old mid → g.fault_count mid ≡ g.fault_count old
+    → (g.honest mid → (b : History) → Stands g b old → P b)
+    → (g.honest new → g.honest mid)
     → StepsWhere g t s c P o mid new said → StepsBy g t s c o old new said
 is_after g t s c P o old mid new said looks faults holds honest step = record {
   counted = step.counted ∙ ap (faults_after o) faults;
@@ -222,8 +221,8 @@ is_after g t s c P o old mid new said looks faults holds honest step = record {
         says = h.says;
         moves = h.moves;
         stands = h.stands;
-        left = λ db r. elim (h.left db r) [
-          | inl before ↦ inl (before.0, looks.leaves (honest kept) db before.1)
+        left = λ left r. elim (h.left left r) [
+          | inl before ↦ inl (before.0, looks.leaves (honest kept) left before.1)
           | inr later ↦ inr later
         ];
       };

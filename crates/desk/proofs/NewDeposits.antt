@@ -3,8 +3,7 @@ use Rattle.std.proofs.Common.{◌≡◌, ℕ, ◌<◌, ◌≤◌, ◌⊎◌, nat
 use Rattle.std.proofs.Common.{None, Result, Ok, Err, refl, sym, ◌∙◌, ap, subst, inl, inr, arith}
 use Rattle.std.proofs.lemmas.Bool.{eq-eqb}
 use Rattle.std.proofs.lemmas.Bool.Decides.{nat_tests}
-use Rattle.sqlite_trees.specs.Tree.{Trees}
-use Rattle.sqlite_trees.specs.declared.store.Store.{Ghosts}
+use Rattle.book.specs.declared.standing.Standing.{Ghosts}
 use Rattle.sha2.specs.Sha256.{sha256}
 use Rattle.policy.specs.Record.{AccountValue, PolicyValue}
 use Rattle.tsp.specs.Request.{RequestValue, Spells, sha256_request}
@@ -13,15 +12,13 @@ use Rattle.cms.specs.SignedData.{attribute_text}
 use Rattle.cms.specs.Signer.{count_after}
 use Rattle.cms.specs.declared.signer.SignerFault.{SignerFault}
 use Rattle.cms.specs.declared.signer.SignerFault.TheVariants as signer
-use Rattle.tables.specs.Base.{BaseValue, IsHonest, IsOpen, Recovers, Holds}
-use Rattle.store.specs.History.{Entry, Reserved, Deposited, History, ReservationValue, DepositValue, greatest_serial}
-use Rattle.store.specs.History.{deposit_under}
-use Rattle.store.specs.Sound.{Along, Fits, FitsDeposited}
-use Rattle.store.specs.Stands.{Stands, LeavesOrAdds}
-use Rattle.store.specs.Fault.{count_after as count_with}
-use Rattle.store.specs.TablesOf.{tables_of}
-use Rattle.store.specs.declared.fault.StoreFault.{StoreFault}
-use Rattle.store.specs.declared.fault.StoreFault.TheVariants as store
+use Rattle.book.specs.History.{Entry, Reserved, Deposited, History, ReservationValue, DepositValue, greatest_serial}
+use Rattle.book.specs.History.{deposit_under}
+use Rattle.book.specs.Sound.{Along, Fits, FitsDeposited}
+use Rattle.book.specs.Stands.{Stands, LeavesOrAdds}
+use Rattle.book.specs.Fault.{count_after as count_with}
+use Rattle.book.specs.declared.fault.StoreFault.{StoreFault}
+use Rattle.book.specs.declared.fault.StoreFault.TheVariants as store
 use Rattle.desk.specs.Outcome.{Call, Fine, Wanting, Broken, Outcome, Cause, cause_of, counted, all_fine}
 use Rattle.desk.specs.Findings.{PlanValue, Finding, Fails, Unanswered, Allowed, Finds}
 use Rattle.desk.specs.Command.{Setting, PendingValue, Command, Begin, Deposit, Answer, Rejected, Begun, Kept, Refused}
@@ -53,19 +50,19 @@ request_is file a bytes digest certificate r made hashed gives =
 -- From the signature on.
 
 -- no memory for the token
-pub unwrapped : {S : Type 0} (g : Ghosts S) (p : PendingValue) (d : DepositValue) (signature : List ℕ)
-    (v : BaseValue S)
+pub unwrapped : {B : Type 0} (g : Ghosts B) (p : PendingValue) (d : DepositValue) (signature : List ℕ)
+    (v : B)
     → KeepsBy g p d (Ok signature) (refused refusal.Wrapping) v v (Refused fault.Memory)
 unwrapped g p d signature v = record {
   counted = refl;
   blames = λ c first. tt;
-  steps = λ honest b stands fits. record { says = refl; stands = stands; left = λ db r. inl (refl, r) };
+  steps = λ honest b stands fits. record { says = refl; stands = stands; left = λ left r. inl (refl, r) };
 }
 
 -- token and deposit are stored
-stored_as : {S : Type 0} (g : Ghosts S) (p : PendingValue) (d : DepositValue) (signature : List ℕ)
-    (old new : BaseValue S) → new.faults ≡ old.faults
-    → (IsHonest g new → IsOpen g old × IsOpen g new)
+stored_as : {B : Type 0} (g : Ghosts B) (p : PendingValue) (d : DepositValue) (signature : List ℕ)
+    (old new : B) → g.fault_count new ≡ g.fault_count old
+    → (g.honest new → g.is_open old × g.is_open new)
     → ((b : History) → Stands g b old → Fits (Deposited d (token_with p signature)) b
     → Stands g (Deposited d (token_with p signature) ∷ b) new)
     → KeepsBy g p d (Ok signature) (all_fine (Ok [])) old new (Kept d.serial true)
@@ -77,14 +74,14 @@ stored_as g p d signature old new same opened ok = record {
       record {
         says = refl;
         stands = now;
-        left = λ db r. inr (inl ((now.kept honest (opened honest).1).leaves db r));
+        left = λ left r. inr (inl (now.settled honest (opened honest).1 left r));
       };
 }
 
-pub stored : {S : Type 0} (g : Ghosts S) (p : PendingValue) (owner reference bytes signature : List ℕ) (serial : ℕ)
-    (token : List ℕ) (old new : BaseValue S) → serial ≡ p.serial → token ≡ token_with p signature
-    → new.faults ≡ old.faults
-    → (IsHonest g new → IsOpen g old × IsOpen g new)
+pub stored : {B : Type 0} (g : Ghosts B) (p : PendingValue) (owner reference bytes signature : List ℕ) (serial : ℕ)
+    (token : List ℕ) (old new : B) → serial ≡ p.serial → token ≡ token_with p signature
+    → g.fault_count new ≡ g.fault_count old
+    → (g.honest new → g.is_open old × g.is_open new)
     → ((b : History) → Stands g b old → Fits (Deposited (deposit_row serial owner reference bytes) token) b
     → Stands g (Deposited (deposit_row serial owner reference bytes) token ∷ b) new)
     → KeepsBy g p (deposit_row p.serial owner reference bytes) (Ok signature) (all_fine (Ok [])) old new
@@ -99,12 +96,12 @@ stored g p owner reference bytes signature serial token old new number is same o
     → Stands g (Deposited (row n) token ∷ b) new) number ok)))
 
 -- the commit is refused by this fault
-unstored_as : {S : Type 0} (g : Ghosts S) (p : PendingValue) (d : DepositValue) (signature : List ℕ)
-    (old new : BaseValue S) (o : Outcome) (cause : Cause)
+unstored_as : {B : Type 0} (g : Ghosts B) (p : PendingValue) (d : DepositValue) (signature : List ℕ)
+    (old new : B) (o : Outcome) (cause : Cause)
     → no_seal o ≡ Some cause → no_seal (record o { sealing = Fine }) ≡ None → (o.sealing ≡ Fine → ⊥)
-    → ((c : Command) (first : BaseValue S)
+    → ((c : Command) (first : B)
     → IsBlamed g c (joined (all_fine (Ok [])) (Ok signature) o) first new (Refused (fault_of cause)))
-    → new.faults ≡ counted o.sealing (counted o.wrapping old.faults)
+    → g.fault_count new ≡ counted o.sealing (counted o.wrapping (g.fault_count old))
     → ((b : History) → Stands g b old → Stands g b new)
     → LeavesOrAdds g (Deposited d (token_with p signature)) old new
     → KeepsBy g p d (Ok signature) o old new (Refused (fault_of cause))
@@ -114,19 +111,19 @@ unstored_as g p d signature old new o cause why answered was_refused blamed faul
   steps = λ honest b stands fits. record {
     says = sym (ap (λ x. (kept_by p d signature [] x).says) why);
     stands = subst (λ x. Stands g ((kept_by p d signature [] x).adds ++ b) new) (sym why) (err b stands);
-    left = λ db r. elim (crash honest db r) [
+    left = λ left r. elim (crash honest left r) [
       | inl before ↦ inl (ap (λ x. (kept_by p d signature [] x).adds) why, before)
       | inr adds ↦ inr (inr (
         was_refused,
-        subst (λ x. Holds (tables_of ((kept_by p d signature [] x).adds ++ b)) db) (sym answered) (adds b stands fits),
+        subst (λ x. g.holds left ((kept_by p d signature [] x).adds ++ b)) (sym answered) (adds b stands fits),
       ))
     ];
   };
 }
 
-unstored_by : {S : Type 0} (g : Ghosts S) (p : PendingValue) (d : DepositValue) (signature : List ℕ)
-    (old new : BaseValue S) (f : StoreFault) → (f ≡ store.Memory) ⊎ (f ≡ store.Database)
-    → new.faults ≡ count_with f old.faults
+unstored_by : {B : Type 0} (g : Ghosts B) (p : PendingValue) (d : DepositValue) (signature : List ℕ)
+    (old new : B) (f : StoreFault) → (f ≡ store.Memory) ⊎ (f ≡ store.Database)
+    → g.fault_count new ≡ count_with f (g.fault_count old)
     → ((b : History) → Stands g b old → Stands g b new)
     → LeavesOrAdds g (Deposited d (token_with p signature)) old new
     → KeepsBy g p d (Ok signature) (refused (refusal.Sealing f)) old new (Refused (fault_of (store_cause f)))
@@ -143,10 +140,10 @@ unstored_by g p d signature old new store.Full which faults err crash =
 unstored_by g p d signature old new store.Backwards which faults err crash =
     absurd (elim which [ inl e ↦ cc | inr e ↦ cc ])
 
-pub unstored : {S : Type 0} (g : Ghosts S) (p : PendingValue) (owner reference bytes signature : List ℕ) (serial : ℕ)
-    (token : List ℕ) (old new : BaseValue S) (f : StoreFault) → serial ≡ p.serial → token ≡ token_with p signature
+pub unstored : {B : Type 0} (g : Ghosts B) (p : PendingValue) (owner reference bytes signature : List ℕ) (serial : ℕ)
+    (token : List ℕ) (old new : B) (f : StoreFault) → serial ≡ p.serial → token ≡ token_with p signature
     → (f ≡ store.Memory) ⊎ (f ≡ store.Database)
-    → new.faults ≡ count_with f old.faults
+    → g.fault_count new ≡ count_with f (g.fault_count old)
     → ((b : History) → Stands g b old → Stands g b new)
     → LeavesOrAdds g (Deposited (deposit_row serial owner reference bytes) token) old new
     → KeepsBy g p (deposit_row p.serial owner reference bytes) (Ok signature) (refused (refusal.Sealing f)) old new
@@ -160,18 +157,18 @@ unstored g p owner reference bytes signature serial token old new f number is wh
 -- From the reservation on.
 
 -- the signer gives no signature
-unsigned_blamed : {S : Type 0} (g : Ghosts S) (f : SignerFault) (c : Command) (first new : BaseValue S)
+unsigned_blamed : {B : Type 0} (g : Ghosts B) (f : SignerFault) (c : Command) (first new : B)
     → IsBlamed g c (joined (all_fine (Ok [])) (Err f) (all_fine (Ok []))) first new
     (Refused (fault_of (signer_cause f)))
 unsigned_blamed g signer.Failed c first new = refl
 unsigned_blamed g signer.Memory c first new = tt
 
-pub unsigned : {S : Type 0} (g : Ghosts S) (p : PendingValue) (d : DepositValue) (f : SignerFault) (v : BaseValue S)
+pub unsigned : {B : Type 0} (g : Ghosts B) (p : PendingValue) (d : DepositValue) (f : SignerFault) (v : B)
     → KeepsBy g p d (Err f) (all_fine (Ok [])) v v (Refused (fault_of (signer_cause f)))
 unsigned g p d f v = record {
   counted = refl;
   blames = λ c first. unsigned_blamed g f c first v;
-  steps = λ honest b stands fits. record { says = refl; stands = stands; left = λ db r. inl (refl, r) };
+  steps = λ honest b stands fits. record { says = refl; stands = stands; left = λ left r. inl (refl, r) };
 }
 
 -- The whole.
@@ -266,15 +263,15 @@ void_found s owner reference bytes octets o b (Allowed plan) e =
     void_planned s owner reference bytes plan octets o b (no_number o b) e
 
 -- what is in doubt after a beginning that added nothing is in doubt after its deposit
-doubted : {S : Type 0} (g : Ghosts S) (s : Setting) (c : Command) (a : AccountValue) (reading : ℤ)
-    (reference bytes octets : List ℕ) (P : History → Type 0) (o : Outcome) (b : History) (old : BaseValue S)
-    (answer : Answer) (db : Trees) → IsNew s c a reading reference bytes octets P → P b → o.searching ≡ Fine
+doubted : {B : Type 0} (g : Ghosts B) (s : Setting) (c : Command) (a : AccountValue) (reading : ℤ)
+    (reference bytes octets : List ℕ) (P : History → Type 0) (o : Outcome) (b : History) (old : B)
+    (answer : Answer) (left : g.Left) → IsNew s c a reading reference bytes octets P → P b → o.searching ≡ Fine
     → o.sealing ≡ Fine → (call : Call) → o.adding ≡ call
-    → IsDoubted s (Begin (Some a) reading octets) o b db
-    → MayBeLeft g s c o b old (only answer) db
-doubted g s c a reading reference bytes octets P o b old answer db new p fine sealed Fine is d =
+    → IsDoubted g s (Begin (Some a) reading octets) o b left
+    → MayBeLeft g s c o b old (only answer) left
+doubted g s c a reading reference bytes octets P o b old answer left new p fine sealed Fine is d =
     absurd (d.refused is sealed)
-doubted g s c a reading reference bytes octets P o b old answer db new p fine sealed Wanting is d =
+doubted g s c a reading reference bytes octets P o b old answer left new p fine sealed Wanting is d =
     let has = subst (λ x. HasEffect s (Begin (Some a) reading octets) (settled_by x o) b d.doubted) is d.has in
     let o2 = record o { adding = Fine; signing = Err signer.Failed } in
     let e = deposit_found s a.name reference bytes octets o2 b has.0 in
@@ -282,10 +279,10 @@ doubted g s c a reading reference bytes octets P o b old answer db new p fine se
       refused = d.refused;
       doubted = e;
       has = subst (λ x. HasEffect s c (settled_by x o) b e) (sym is) (new.has o2 b has.0 p fine has.1);
-      holds = subst (λ es. Holds (tables_of (es ++ b)) db)
+      holds = subst (λ es. g.holds left (es ++ b))
           (ap (λ x. x.adds) has.2 ∙ sym (void_found s a.name reference bytes octets o2 b has.0 refl)) d.holds;
     }))
-doubted g s c a reading reference bytes octets P o b old answer db new p fine sealed Broken is d =
+doubted g s c a reading reference bytes octets P o b old answer left new p fine sealed Broken is d =
     let has = subst (λ x. HasEffect s (Begin (Some a) reading octets) (settled_by x o) b d.doubted) is d.has in
     let o2 = record o { adding = Fine; signing = Err signer.Failed } in
     let e = deposit_found s a.name reference bytes octets o2 b has.0 in
@@ -293,14 +290,14 @@ doubted g s c a reading reference bytes octets P o b old answer db new p fine se
       refused = d.refused;
       doubted = e;
       has = subst (λ x. HasEffect s c (settled_by x o) b e) (sym is) (new.has o2 b has.0 p fine has.1);
-      holds = subst (λ es. Holds (tables_of (es ++ b)) db)
+      holds = subst (λ es. g.holds left (es ++ b))
           (ap (λ x. x.adds) has.2 ∙ sym (void_found s a.name reference bytes octets o2 b has.0 refl)) d.holds;
     }))
 
 -- a deposit that its beginning decides: nothing is added, and no signer is asked
-decided : {S X : Type 0} (g : Ghosts S) (signs : X → List ℕ → Result (List ℕ) SignerFault → X → Type 0)
+decided : {B X : Type 0} (g : Ghosts B) (signs : X → List ℕ → Result (List ℕ) SignerFault → X → Type 0)
     (count : X → ℕ) (x : X) (s : Setting) (c : Command) (a : AccountValue) (reading : ℤ)
-    (reference bytes octets : List ℕ) (P : History → Type 0) (o : Outcome) (old new : BaseValue S)
+    (reference bytes octets : List ℕ) (P : History → Type 0) (o : Outcome) (old new : B)
     (said answer : Answer) → IsNew s c a reading reference bytes octets P → o.searching ≡ Fine → o.sealing ≡ Fine
     → o.signing ≡ Ok []
     → StepsBy g no_signer s (Begin (Some a) reading octets) o old new said
@@ -325,18 +322,18 @@ decided g signs count x s c a reading reference bytes octets P o old new said an
             says = refl;
             moves = refl;
             stands = subst (λ es. Stands g (es ++ b) new) none h.stands;
-            left = λ db r. elim (h.left db r) [
+            left = λ left r. elim (h.left left r) [
               | inl before ↦ inl (refl, before.1)
-              | inr (inl holds) ↦ inr (inl (subst (λ es. Holds (tables_of (es ++ b)) db) none holds))
-              | inr (inr doubt) ↦ doubted g s c a reading reference bytes octets P o b old answer db is_new p fine
+              | inr (inl holds) ↦ inr (inl (subst (λ es. g.holds left (es ++ b)) none holds))
+              | inr (inr doubt) ↦ doubted g s c a reading reference bytes octets P o b old answer left is_new p fine
                   sealed o.adding refl doubt
             ];
           };
     }
 
-pub is_rejected : {S X : Type 0} (g : Ghosts S) (signs : X → List ℕ → Result (List ℕ) SignerFault → X → Type 0)
+pub is_rejected : {B X : Type 0} (g : Ghosts B) (signs : X → List ℕ → Result (List ℕ) SignerFault → X → Type 0)
     (count : X → ℕ) (x : X) (s : Setting) (c : Command) (a : AccountValue) (reading : ℤ)
-    (reference bytes octets : List ℕ) (P : History → Type 0) (old new : BaseValue S) (rule : Rule)
+    (reference bytes octets : List ℕ) (P : History → Type 0) (old new : B) (rule : Rule)
     → IsNew s c a reading reference bytes octets P
     → StepsBy g no_signer s (Begin (Some a) reading octets) (all_fine (Ok [])) old new (Rejected rule)
     → StepsWhere g (with_signer signs count x x) s c P (all_fine (Ok [])) old new (Refused (fault.Rejected rule))
@@ -358,7 +355,7 @@ beginning_calls refusal.Wrapping h = absurd (elim h [ inl x ↦ x | inr x ↦ x 
 beginning_calls (refusal.Sealing f) h = absurd (elim h [ inl x ↦ x | inr x ↦ x ])
 
 -- its fault names what the deposit's does
-blamed_too : {S : Type 0} (g : Ghosts S) (one other : Command) (o : Outcome) (old new : BaseValue S) (f : Fault)
+blamed_too : {B : Type 0} (g : Ghosts B) (one other : Command) (o : Outcome) (old new : B) (f : Fault)
     → ((b : History) → IsExcused one b → IsExcused other b)
     → IsBlamedFor g one o old new f → IsBlamedFor g other o old new f
 blamed_too g one other o old new fault.NotHere excused h = tt
@@ -374,9 +371,9 @@ blamed_too g one other o old new fault.Store excused (inr spent) =
     inr (λ honest b stands. excused b (spent honest b stands))
 blamed_too g one other o old new fault.Signer excused h = h
 
-pub is_refused : {S X : Type 0} (g : Ghosts S) (signs : X → List ℕ → Result (List ℕ) SignerFault → X → Type 0)
+pub is_refused : {B X : Type 0} (g : Ghosts B) (signs : X → List ℕ → Result (List ℕ) SignerFault → X → Type 0)
     (count : X → ℕ) (x : X) (s : Setting) (c : Command) (a : AccountValue) (reading : ℤ)
-    (reference bytes octets : List ℕ) (P : History → Type 0) (old new : BaseValue S) (r : Refusal)
+    (reference bytes octets : List ℕ) (P : History → Type 0) (old new : B) (r : Refusal)
     → IsNew s c a reading reference bytes octets P → IsOfBeginning r
     → StepsBy g no_signer s (Begin (Some a) reading octets) (refused r) old new (Refused (fault_of (cause_with r)))
     → StepsWhere g (with_signer signs count x x) s c P (refused r) old new (Refused (fault_of (cause_with r)))
@@ -516,44 +513,44 @@ reserved s c a reading reference bytes octets P b p e is_new holds h said =
     }
 
 -- what a stop leaves after it
-left_kept : {S : Type 0} (g : Ghosts S) (s : Setting) (c : Command) (a : AccountValue) (reading : ℤ)
+left_kept : {B : Type 0} (g : Ghosts B) (s : Setting) (c : Command) (a : AccountValue) (reading : ℤ)
     (reference bytes octets : List ℕ) (p : PendingValue) (signing : Result (List ℕ) SignerFault) (finished : Outcome)
-    (b : History) (old mid : BaseValue S) (e : Effect) (db : Trees)
+    (b : History) (old mid : B) (e : Effect) (left : g.Left)
     → IsReserved s c a reading reference bytes octets b p e
-    → ((db : Trees) → Recovers g mid db
-    → MayBeLeft g s (Begin (Some a) reading octets) (all_fine (Ok [])) b old e db)
-    → MayStayKept g p (deposit_row p.serial a.name reference bytes) signing finished (after e b) mid db
+    → ((left : g.Left) → g.leaves mid left
+    → MayBeLeft g s (Begin (Some a) reading octets) (all_fine (Ok [])) b old e left)
+    → MayStayKept g p (deposit_row p.serial a.name reference bytes) signing finished (after e b) mid left
     → MayBeLeft g s c (joined (all_fine (Ok [])) signing finished) b old
-    (kept p (deposit_row p.serial a.name reference bytes) signing e.adds finished) db
-left_kept g s c a reading reference bytes octets p signing finished b old mid e db is before (inl none) =
+    (kept p (deposit_row p.serial a.name reference bytes) signing e.adds finished) left
+left_kept g s c a reading reference bytes octets p signing finished b old mid e left is before (inl none) =
     let d = deposit_row p.serial a.name reference bytes in
-    elim (before db none.1) [
+    elim (before left none.1) [
       | inl nothing ↦ absurd (begun_adds s (Some a) reading octets b p e is.begun nothing.0)
-      | inr (inl holds) ↦ inr (inl (subst (λ es. Holds (tables_of es) db)
+      | inr (inl holds) ↦ inr (inl (subst (λ es. g.holds left es)
           (ap (λ (es : List Entry). es ++ (e.adds ++ b)) (sym none.0) ∙ added p d signing finished e.adds b) holds))
-      | inr (inr doubt) ↦ absurd (sure s (Some a) reading octets b db doubt)
+      | inr (inr doubt) ↦ absurd (sure g s (Some a) reading octets b left doubt)
     ]
-left_kept g s c a reading reference bytes octets p signing finished b old mid e db is before (inr (inl holds)) =
+left_kept g s c a reading reference bytes octets p signing finished b old mid e left is before (inr (inl holds)) =
     let d = deposit_row p.serial a.name reference bytes in
-    inr (inl (subst (λ es. Holds (tables_of es) db) (added p d signing finished e.adds b) holds))
-left_kept g s c a reading reference bytes octets p signing finished b old mid e db is before (inr (inr doubt)) =
+    inr (inl (subst (λ es. g.holds left es) (added p d signing finished e.adds b) holds))
+left_kept g s c a reading reference bytes octets p signing finished b old mid e left is before (inr (inr doubt)) =
     let d = deposit_row p.serial a.name reference bytes in
     let sealed = record finished { sealing = Fine } in
     inr (inr (record {
       refused = λ adding sealing. doubt.0 sealing;
       doubted = kept p d signing e.adds sealed;
       has = is.has signing sealed;
-      holds = subst (λ es. Holds (tables_of es) db) (added p d signing sealed e.adds b) doubt.1;
+      holds = subst (λ es. g.holds left es) (added p d signing sealed e.adds b) doubt.1;
     }))
 
 -- a deposit whose beginning reserved: the signer is asked, and token and deposit are stored where it answers
-pub is_kept : {S X : Type 0} (g : Ghosts S) (signs : X → List ℕ → Result (List ℕ) SignerFault → X → Type 0)
+pub is_kept : {B X : Type 0} (g : Ghosts B) (signs : X → List ℕ → Result (List ℕ) SignerFault → X → Type 0)
     (count : X → ℕ) (x y : X) (s : Setting) (c : Command) (a : AccountValue) (reading : ℤ)
     (reference bytes octets : List ℕ) (P : History → Type 0) (p : PendingValue)
-    (signing : Result (List ℕ) SignerFault) (finished : Outcome) (old mid new : BaseValue S) (answer : Answer)
+    (signing : Result (List ℕ) SignerFault) (finished : Outcome) (old mid new : B) (answer : Answer)
     → IsNew s c a reading reference bytes octets P
     → StepsBy g no_signer s (Begin (Some a) reading octets) (all_fine (Ok [])) old mid (Begun p)
-    → (IsHonest g new → IsHonest g mid)
+    → (g.honest new → g.honest mid)
     → SignsAndKeeps g (with_signer signs count x y) p (deposit_row p.serial a.name reference bytes) signing finished
     mid new answer
     → StepsWhere g (with_signer signs count x y) s c P (joined (all_fine (Ok [])) signing finished) old new answer
@@ -575,7 +572,7 @@ is_kept g signs count x y s c a reading reference bytes octets P p signing finis
             says = after_it.says ∙ says p d signing finished h.effect.adds;
             moves = subst (λ asked. Moves signs asked signing x y) (asks p d signing finished h.effect.adds) done.moves;
             stands = subst (λ es. Stands g es new) (added p d signing finished h.effect.adds b) after_it.stands;
-            left = λ db r. left_kept g s c a reading reference bytes octets p signing finished b old mid h.effect db is
-                h.left (after_it.left db r);
+            left = λ left r. left_kept g s c a reading reference bytes octets p signing finished b old mid h.effect left
+                is h.left (after_it.left left r);
           };
     }

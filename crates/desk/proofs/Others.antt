@@ -6,12 +6,12 @@ use Rattle.std.specs.Option.{option_and_then}
 use Rattle.std.specs.Str.{bytes_eq}
 use Rattle.std.proofs.lemmas.Bool.{eqb-true}
 use Rattle.policy.specs.Record.{AccountValue}
-use Rattle.tables.specs.Tables.{StampRow, DepositRow}
-use Rattle.store.specs.History.{deposits, Entry, Reserved, Sealed, Deposited, Calibrated, Held, Granted, Revoked}
-use Rattle.store.specs.History.{History, ReservationValue, reservations, stamps, stamp_of, greatest_of, greatest_serial}
-use Rattle.store.specs.History.{token_of, reservation_at, deposit_at, deposit_under}
-use Rattle.store.specs.Rights.{seen_by, shown_to, is_reader, listed}
-use Rattle.store.specs.Sound.{Along, Fits, FitsRight}
+use Rattle.book.specs.Rows.{StampRow, DepositRow}
+use Rattle.book.specs.History.{deposits, Entry, Reserved, Sealed, Deposited, Calibrated, Held, Granted, Revoked}
+use Rattle.book.specs.History.{History, ReservationValue, reservations, stamps, stamp_of, greatest_of, greatest_serial}
+use Rattle.book.specs.History.{token_of, reservation_at, deposit_at, deposit_under}
+use Rattle.book.specs.Rights.{seen_by, shown_to, is_reader, listed}
+use Rattle.book.specs.Sound.{Along, Fits, FitsRight}
 use Rattle.desk.specs.Agreement.{SeenValue, seen_as, seen_at}
 use Rattle.desk.specs.Outcome.{Outcome, Cause, cause_of, first_cause}
 use Rattle.desk.specs.Findings.{Finding, Fails, Unanswered, Allowed}

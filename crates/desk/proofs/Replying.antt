@@ -1,14 +1,13 @@
 -- What a stamp's reply says, from the step that it is.
 use Rattle.std.proofs.Common.{◌≡◌, ℕ, ◌+◌, ℤ, List, Option, Result, Ok, sym, ◌∙◌, ap, subst, inl, inr}
-use Rattle.sqlite_trees.specs.declared.store.Store.{Ghosts}
+use Rattle.book.specs.declared.standing.Standing.{Ghosts}
 use Rattle.policy.specs.Record.{AccountValue}
 use Rattle.tsp.specs.Granted.{granted_octets}
 use Rattle.tsp.specs.declared.rule.Rule.{Rule}
 use Rattle.cms.specs.SignedData.{attribute_text, token}
 use Rattle.cms.specs.declared.signer.SignerFault.{SignerFault}
-use Rattle.tables.specs.Base.{BaseValue, IsHonest}
-use Rattle.store.specs.History.{History, greatest_serial}
-use Rattle.store.specs.Stands.{Stands}
+use Rattle.book.specs.History.{History, greatest_serial}
+use Rattle.book.specs.Stands.{Stands}
 use Rattle.desk.specs.Outcome.{Outcome}
 use Rattle.desk.specs.Findings.{PlanValue, IsAllowed, Finding, Fails, Unanswered, Allowed, Finds}
 use Rattle.desk.specs.Command.{Setting, Stamp, Answer, Stamped, Rejected}
@@ -62,11 +61,11 @@ granted_by signs before after s account reading octets o b serial reply (Allowed
     (stamping_by s (name_of account) plan octets o b (no_number o b)) e moves
 
 -- a granted reply
-pub granted_reply : {S X : Type 0} (g : Ghosts S) (signs : X → List ℕ → Result (List ℕ) SignerFault → X → Type 0)
+pub granted_reply : {B X : Type 0} (g : Ghosts B) (signs : X → List ℕ → Result (List ℕ) SignerFault → X → Type 0)
     (count : X → ℕ) (before after : X) (s : Setting) (account : Option AccountValue) (reading : ℤ) (octets : List ℕ)
-    (old new : BaseValue S) (says : Answer)
+    (old new : B) (says : Answer)
     → IsStep g (with_signer signs count before after) s (Stamp account reading octets) old new says
-    → IsHonest g new → (b : History) → Stands g b old → (serial : ℕ) (reply : List ℕ) → says ≡ Stamped serial reply
+    → g.honest new → (b : History) → Stands g b old → (serial : ℕ) (reply : List ℕ) → says ≡ Stamped serial reply
     → IsGranted s (λ text answer. signs before text answer after) account reading octets b serial reply
 granted_reply g signs count before after s account reading octets old new says step honest b st serial reply is =
     let done = step.1.steps honest b st tt in
@@ -82,11 +81,11 @@ rejected_by s account reading octets o b rule (inl first) = inl first
 rejected_by s account reading octets o b rule (inr h) = inr h.0
 
 -- a rejection
-pub rejected_reply : {S X : Type 0} (g : Ghosts S) (signs : X → List ℕ → Result (List ℕ) SignerFault → X → Type 0)
+pub rejected_reply : {B X : Type 0} (g : Ghosts B) (signs : X → List ℕ → Result (List ℕ) SignerFault → X → Type 0)
     (count : X → ℕ) (before after : X) (s : Setting) (account : Option AccountValue) (reading : ℤ) (octets : List ℕ)
-    (old new : BaseValue S) (says : Answer)
+    (old new : B) (says : Answer)
     → IsStep g (with_signer signs count before after) s (Stamp account reading octets) old new says
-    → IsHonest g new → (b : History) → Stands g b old → (rule : Rule) → says ≡ Rejected rule
+    → g.honest new → (b : History) → Stands g b old → (rule : Rule) → says ≡ Rejected rule
     → IsRejected s account reading octets b rule
 rejected_reply g signs count before after s account reading octets old new says step honest b st rule is =
     let done = step.1.steps honest b st tt in

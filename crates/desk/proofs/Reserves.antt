@@ -4,17 +4,14 @@ use Rattle.std.proofs.Common.{None, Ok, Err, refl, sym, ap, ◌∙◌, subst, in
 use Rattle.std.proofs.lemmas.Bool.Decides.{nat_tests}
 use Rattle.gentime.specs.GenTime.{last_moment}
 use Rattle.der.specs.ObjectIdentifier.{oid_content}
-use Rattle.sqlite_trees.specs.Tree.{Trees}
-use Rattle.sqlite_trees.specs.declared.store.Store.{Ghosts}
-use Rattle.tables.specs.Base.{BaseValue, IsHonest, IsOpen, Recovers, Holds}
+use Rattle.book.specs.declared.standing.Standing.{Ghosts}
 use Rattle.cms.specs.Identity.{IdentityValue}
-use Rattle.store.specs.History.{History, Reserved, ReservationValue, greatest_serial}
-use Rattle.store.specs.Sound.{Fits, IsSpent, greatest_number}
-use Rattle.store.specs.Stands.{Stands, LeavesOrAdds}
-use Rattle.store.specs.TablesOf.{tables_of}
-use Rattle.store.specs.Fault.{count_after}
-use Rattle.store.specs.declared.fault.StoreFault.{StoreFault}
-use Rattle.store.specs.declared.fault.StoreFault.TheVariants as store
+use Rattle.book.specs.History.{History, Reserved, ReservationValue, greatest_serial}
+use Rattle.book.specs.Sound.{Fits, IsSpent, greatest_number}
+use Rattle.book.specs.Stands.{Stands, LeavesOrAdds}
+use Rattle.book.specs.Fault.{count_after}
+use Rattle.book.specs.declared.fault.StoreFault.{StoreFault}
+use Rattle.book.specs.declared.fault.StoreFault.TheVariants as store
 use Rattle.desk.specs.Calls.{cause_with, refused, adding_refusal, IsOfReserving, reserving, Reserves}
 use Rattle.desk.specs.Command.{Setting, PendingValue, Begun}
 use Rattle.desk.specs.Effects.{no_number, next_reservation, begin_effect}
@@ -43,26 +40,26 @@ pub left_number : (o : Outcome) (b : History) → greatest_serial b < greatest_n
 left_number o b h = ap (causes_at o) (is_left (greatest_serial b) h)
 
 -- nothing is reserved
-pub reserves_refused : {S : Type 0} (g : Ghosts S) (s : Setting) (account : List ℕ) (plan : PlanValue) (octets : List ℕ)
-    (b : History) (old new : BaseValue S) (r : Refusal) → no_number (refused r) b ≡ Some (cause_with r)
-    → Stands g b new → ((db : Trees) → Recovers g new db → Recovers g old db
+pub reserves_refused : {B : Type 0} (g : Ghosts B) (s : Setting) (account : List ℕ) (plan : PlanValue) (octets : List ℕ)
+    (b : History) (old new : B) (r : Refusal) → no_number (refused r) b ≡ Some (cause_with r)
+    → Stands g b new → ((left : g.Left) → g.leaves new left → g.leaves old left
     ⊎ (((refused r).adding ≡ Fine → ⊥)
-    × Holds (tables_of (after (reserving s account plan octets (settled (refused r)) b) b)) db))
+    × g.holds left (after (reserving s account plan octets (settled (refused r)) b) b)))
     → Reserves g s account plan octets b old new (Err r)
 reserves_refused g s account plan octets b old new r e st leaves = record {
   says = sym (ap (λ x. (begin_effect s account plan octets b x).says) e);
   stands = subst (λ x. Stands g (after (begin_effect s account plan octets b x) b) new) (sym e) st;
-  left = λ db recovers. elim (leaves db recovers) [
+  left = λ left recovers. elim (leaves left recovers) [
     | inl before ↦ inl (ap (λ x. (begin_effect s account plan octets b x).adds) e, before)
     | inr holds ↦ inr (inr holds)
   ];
 }
 
 -- the next number is
-pub reserves_next : {S : Type 0} (g : Ghosts S) (s : Setting) (account : List ℕ) (plan : PlanValue) (octets : List ℕ)
-    (b : History) (old new : BaseValue S) (p : PendingValue) (r : ReservationValue)
+pub reserves_next : {B : Type 0} (g : Ghosts B) (s : Setting) (account : List ℕ) (plan : PlanValue) (octets : List ℕ)
+    (b : History) (old new : B) (p : PendingValue) (r : ReservationValue)
     → no_number (all_fine (Ok [])) b ≡ None → r ≡ next_reservation s account plan octets b → p ≡ pending_of s plan r
-    → IsHonest g new → IsOpen g new → Stands g (Reserved r ∷ b) new
+    → g.honest new → g.is_open new → Stands g (Reserved r ∷ b) new
     → Reserves g s account plan octets b old new (Ok p)
 reserves_next g s account plan octets b old new p r e same waits honest is_open stood =
     let next = next_reservation s account plan octets b in
@@ -71,8 +68,8 @@ reserves_next g s account plan octets b old new p r e same waits honest is_open 
     record {
       says = ap Begun (waits ∙ ap (pending_of s plan) same) ∙ sym (ap (λ x. (effect x).says) e);
       stands = subst (λ x. Stands g (after (effect x) b) new) (sym e) st;
-      left = λ db recovers. inr (inl (subst (λ x. Holds (tables_of (after (effect x) b)) db) (sym e)
-          ((st.kept honest is_open).leaves db recovers)));
+      left = λ left recovers. inr (inl (subst (λ x. g.holds left (after (effect x) b)) (sym e)
+          (st.settled honest is_open left recovers)));
     }
 
 abbrev pub made : ℕ → List ℕ → ℕ → List ℕ → List ℕ → List ℕ → List ℕ → List ℕ → ReservationValue
@@ -152,49 +149,49 @@ adding_is store.Full h = tt
 adding_is store.Backwards h = absurd (not_backwards h)
 
 spent_not_left : (b : History) → greatest_serial b < greatest_number → IsSpent b → ⊥
-spent_not_left b left spent = omega arith
+spent_not_left b unspent spent = omega arith
 
 -- where the commit is there after all, the number is reserved
 doubted_none : (f : StoreFault) (b : History) → greatest_serial b < greatest_number
     → no_number (settled (refused (adding_refusal f))) b ≡ None
-doubted_none store.Memory b left = left_number (settled (refused (adding_refusal store.Memory))) b left
-doubted_none store.Database b left = left_number (settled (refused (adding_refusal store.Database))) b left
-doubted_none store.NotOurs b left = left_number (settled (refused (adding_refusal store.NotOurs))) b left
-doubted_none store.Full b left = left_number (settled (refused (adding_refusal store.Full))) b left
-doubted_none store.Backwards b left = left_number (settled (refused (adding_refusal store.Backwards))) b left
+doubted_none store.Memory b unspent = left_number (settled (refused (adding_refusal store.Memory))) b unspent
+doubted_none store.Database b unspent = left_number (settled (refused (adding_refusal store.Database))) b unspent
+doubted_none store.NotOurs b unspent = left_number (settled (refused (adding_refusal store.NotOurs))) b unspent
+doubted_none store.Full b unspent = left_number (settled (refused (adding_refusal store.Full))) b unspent
+doubted_none store.Backwards b unspent = left_number (settled (refused (adding_refusal store.Backwards))) b unspent
 
 adding_cause : (f : StoreFault) (b : History) → RefusesReserving f → greatest_serial b < greatest_number
     → (f ≡ store.Full → IsSpent b) → no_number (refused (adding_refusal f)) b ≡ Some (cause_with (adding_refusal f))
-adding_cause store.Memory b h left full = left_number (refused (adding_refusal store.Memory)) b left
-adding_cause store.Database b h left full = left_number (refused (adding_refusal store.Database)) b left
-adding_cause store.NotOurs b h left full = absurd (not_ours h)
-adding_cause store.Full b h left full = absurd (spent_not_left b left (full refl))
-adding_cause store.Backwards b h left full = absurd (not_backwards h)
+adding_cause store.Memory b h unspent full = left_number (refused (adding_refusal store.Memory)) b unspent
+adding_cause store.Database b h unspent full = left_number (refused (adding_refusal store.Database)) b unspent
+adding_cause store.NotOurs b h unspent full = absurd (not_ours h)
+adding_cause store.Full b h unspent full = absurd (spent_not_left b unspent (full refl))
+adding_cause store.Backwards b h unspent full = absurd (not_backwards h)
 
 -- the commit was made, and refused
 adding_met : (f : StoreFault) (b : History) → RefusesReserving f → greatest_serial b < greatest_number
     → (f ≡ store.Full → IsSpent b) → (refused (adding_refusal f)).adding ≡ Fine → ⊥
-adding_met store.Memory b h left full e = cc
-adding_met store.Database b h left full e = cc
-adding_met store.NotOurs b h left full e = not_ours h
-adding_met store.Full b h left full e = spent_not_left b left (full refl)
-adding_met store.Backwards b h left full e = not_backwards h
+adding_met store.Memory b h unspent full e = cc
+adding_met store.Database b h unspent full e = cc
+adding_met store.NotOurs b h unspent full e = not_ours h
+adding_met store.Full b h unspent full e = spent_not_left b unspent (full refl)
+adding_met store.Backwards b h unspent full e = not_backwards h
 
 -- the commit is refused
-pub adding_refused : {S : Type 0} (g : Ghosts S) (s : Setting) (account : List ℕ) (plan : PlanValue) (octets : List ℕ)
-    (b : History) (old new : BaseValue S) (f : StoreFault) (r : ReservationValue)
+pub adding_refused : {B : Type 0} (g : Ghosts B) (s : Setting) (account : List ℕ) (plan : PlanValue) (octets : List ℕ)
+    (b : History) (old new : B) (f : StoreFault) (r : ReservationValue)
     → RefusesReserving f → greatest_serial b < greatest_number → (f ≡ store.Full → IsSpent b)
-    → r ≡ next_reservation s account plan octets b → Fits (Reserved r) b → IsHonest g new → Stands g b old
+    → r ≡ next_reservation s account plan octets b → Fits (Reserved r) b → g.honest new → Stands g b old
     → Stands g b new → LeavesOrAdds g (Reserved r) old new
     → Reserves g s account plan octets b old new (Err (adding_refusal f))
-adding_refused g s account plan octets b old new f r h left full same fits honest stood st crash =
-    reserves_refused g s account plan octets b old new (adding_refusal f) (adding_cause f b h left full) st
-    (λ db recovers. elim (crash honest db recovers) [
+adding_refused g s account plan octets b old new f r h unspent full same fits honest stood st crash =
+    reserves_refused g s account plan octets b old new (adding_refusal f) (adding_cause f b h unspent full) st
+    (λ left recovers. elim (crash honest left recovers) [
       | inl before ↦ inl before
       | inr adds ↦ inr (
-        adding_met f b h left full,
-        subst (λ x. Holds (tables_of (after (begin_effect s account plan octets b x) b)) db)
-            (sym (doubted_none f b left))
-            (subst (λ x. Holds (tables_of (Reserved x ∷ b)) db) same (adds b stood fits)),
+        adding_met f b h unspent full,
+        subst (λ x. g.holds left (after (begin_effect s account plan octets b x) b))
+            (sym (doubted_none f b unspent))
+            (subst (λ x. g.holds left (Reserved x ∷ b)) same (adds b stood fits)),
       )
     ])

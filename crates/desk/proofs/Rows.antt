@@ -6,9 +6,9 @@ use Rattle.policy.specs.Record.{AccountValue, PolicyValue}
 use Rattle.tsp.specs.Request.{sha256_request}
 use Rattle.tsp.specs.declared.rule.Rule.TheVariants.{System}
 use Rattle.cms.specs.declared.signer.SignerFault.TheVariants as signer
-use Rattle.store.specs.History.{Reserved, Deposited, Calibrated, Held, Granted, Revoked, History, ReservationValue}
-use Rattle.store.specs.History.{DepositValue}
-use Rattle.store.specs.Rights.{seen_by}
+use Rattle.book.specs.History.{Reserved, Deposited, Calibrated, Held, Granted, Revoked, History, ReservationValue}
+use Rattle.book.specs.History.{DepositValue}
+use Rattle.book.specs.Rights.{seen_by}
 use Rattle.desk.specs.Facts.{facts_of, count_in, gen_time_in}
 use Rattle.desk.specs.Outcome.{Wanting, Broken, OfMemory, OfStore, all_fine, faults_after}
 use Rattle.desk.specs.Findings.{PlanValue}

@@ -2,14 +2,11 @@
 use Rattle.std.proofs.Common.{◌≡◌, ℕ, ◌+◌, ◌<◌, length, get_or, take, map, List, [], ◌∷◌, ◌++◌, Ok, Err, Result}
 use Rattle.std.proofs.Common.{refl, sym, ◌∙◌, ap, subst, inl, inr}
 use Rattle.std.proofs.lemmas.List.{take_more, map-append}
-use Rattle.sqlite_trees.specs.Tree.{Trees}
-use Rattle.sqlite_trees.specs.declared.store.Store.{Ghosts}
+use Rattle.book.specs.declared.standing.Standing.{Ghosts}
 use Rattle.cms.specs.Signer.{count_after}
 use Rattle.cms.specs.declared.signer.SignerFault.{SignerFault}
-use Rattle.tables.specs.Base.{BaseValue, IsHonest, Recovers, Holds}
-use Rattle.store.specs.History.{History}
-use Rattle.store.specs.Stands.{Stands}
-use Rattle.store.specs.TablesOf.{tables_of}
+use Rattle.book.specs.History.{History}
+use Rattle.book.specs.Stands.{Stands}
 use Rattle.desk.specs.Outcome.{Outcome}
 use Rattle.desk.specs.Command.{Setting, Command, Answer}
 use Rattle.desk.specs.Effects.{Effect}
@@ -29,8 +26,8 @@ use Rattle.desk.proofs.Others.{step_stays}
 use Rattle.desk.proofs.Whole.{continued, runs_alike}
 
 -- a step that asks no signer, with a signer that stays as it is
-pub with_resting : {S X : Type 0} (g : Ghosts S) (signs : X → List ℕ → Result (List ℕ) SignerFault → X → Type 0)
-    (count : X → ℕ) (x : X) (s : Setting) (c : Command) (o : Outcome) (old new : BaseValue S) (said says : Answer)
+pub with_resting : {B X : Type 0} (g : Ghosts B) (signs : X → List ℕ → Result (List ℕ) SignerFault → X → Type 0)
+    (count : X → ℕ) (x : X) (s : Setting) (c : Command) (o : Outcome) (old new : B) (said says : Answer)
     → o.signing ≡ Ok [] → says ≡ said → StepsBy g no_signer s c o old new said
     → StepsBy g (with_signer signs count x x) s c o old new says
 with_resting g signs count x s c o old new said says unasked same step = record {
@@ -65,9 +62,9 @@ unsigned (Ok a) = refl
 unsigned (Err x) = unsigned_by x
 
 -- a command's part, as which it is answered
-pub obeyed_by : {A S X : Type 0} (g : Ghosts S) (signs : X → List ℕ → Result (List ℕ) SignerFault → X → Type 0)
+pub obeyed_by : {A B X : Type 0} (g : Ghosts B) (signs : X → List ℕ → Result (List ℕ) SignerFault → X → Type 0)
     (count : X → ℕ) (x : X) (s : Setting) (c d : Command) (as_answer : A → Answer) (r : Result A Obstacle)
-    (old new : BaseValue S) (says : Answer) → d ≡ c → says ≡ told_with as_answer r
+    (old new : B) (says : Answer) → d ≡ c → says ≡ told_with as_answer r
     → StepsBy g no_signer s c (outcome_with r) old new (told_with as_answer r)
     → IsStep g (with_signer signs count x x) s d old new says
 obeyed_by g signs count x s c d as_answer r old new says same is step = (
@@ -77,20 +74,20 @@ obeyed_by g signs count x s c d as_answer r old new says same is step = (
 )
 
 -- a part that has its own outcome
-pub obeyed_as : {S X : Type 0} (g : Ghosts S) (signs : X → List ℕ → Result (List ℕ) SignerFault → X → Type 0)
-    (count : X → ℕ) (x y : X) (s : Setting) (c d : Command) (old new : BaseValue S) (said says : Answer) → d ≡ c
+pub obeyed_as : {B X : Type 0} (g : Ghosts B) (signs : X → List ℕ → Result (List ℕ) SignerFault → X → Type 0)
+    (count : X → ℕ) (x y : X) (s : Setting) (c d : Command) (old new : B) (said says : Answer) → d ≡ c
     → says ≡ said → IsStep g (with_signer signs count x y) s c old new said
     → IsStep g (with_signer signs count x y) s d old new says
 obeyed_as g signs count x y s c d old new said says same is step =
     subst (λ k. IsStep g (with_signer signs count x y) s k old new says) (sym same)
     (subst (IsStep g (with_signer signs count x y) s c old new) (sym is) step)
 
--- the disk was honest before, where it is after
-pub honest_before : {S X : Type 0} (g : Ghosts S) (signs : X → List ℕ → Result (List ℕ) SignerFault → X → Type 0)
-    (count : X → ℕ) (s : Setting) (cs : List Command) (os : List Outcome) (answers : List Answer) (old : BaseValue S)
-    (x : X) (new : BaseValue S) (y : X)
-    → AreSteps g signs count s cs os answers old x new y → IsHonest g new → IsHonest g old
-honest_before g signs count s [] [] [] old x new y h honest = subst (IsHonest g) h.0 honest
+-- the store was honest before, where it is after
+pub honest_before : {B X : Type 0} (g : Ghosts B) (signs : X → List ℕ → Result (List ℕ) SignerFault → X → Type 0)
+    (count : X → ℕ) (s : Setting) (cs : List Command) (os : List Outcome) (answers : List Answer) (old : B)
+    (x : X) (new : B) (y : X)
+    → AreSteps g signs count s cs os answers old x new y → g.honest new → g.honest old
+honest_before g signs count s [] [] [] old x new y h honest = subst g.honest h.0 honest
 honest_before g signs count s (c ∷ cs) (o ∷ os) (answer ∷ answers) old x new y h honest =
     h.2.0 (honest_before g signs count s cs os answers h.0 h.1 new y h.2.2 honest)
 honest_before g signs count s [] [] (answer ∷ answers) old x new y h honest = absurd h
@@ -99,17 +96,17 @@ honest_before g signs count s (c ∷ cs) [] answers old x new y h honest = absur
 honest_before g signs count s (c ∷ cs) (o ∷ os) [] old x new y h honest = absurd h
 
 -- calls go on by one more
-pub steps_go_on : {S X : Type 0} (g : Ghosts S) (signs : X → List ℕ → Result (List ℕ) SignerFault → X → Type 0)
+pub steps_go_on : {B X : Type 0} (g : Ghosts B) (signs : X → List ℕ → Result (List ℕ) SignerFault → X → Type 0)
     (count : X → ℕ) (s : Setting) (cs : List Command) (os : List Outcome) (answers : List Answer) (c : Command)
-    (o : Outcome) (answer : Answer) (old : BaseValue S) (x : X) (mid : BaseValue S) (z : X) (new : BaseValue S) (y : X)
-    → AreSteps g signs count s cs os answers old x mid z → (IsHonest g new → IsHonest g mid)
+    (o : Outcome) (answer : Answer) (old : B) (x : X) (mid : B) (z : X) (new : B) (y : X)
+    → AreSteps g signs count s cs os answers old x mid z → (g.honest new → g.honest mid)
     → StepsBy g (with_signer signs count z y) s c o mid new answer
     → AreSteps g signs count s (cs ++ (c ∷ [])) (os ++ (o ∷ [])) (answers ++ (answer ∷ [])) old x new y
 steps_go_on g signs count s [] [] [] c o answer old x mid z new y h honest step = (
   new,
   y,
   (
-    λ k. subst (IsHonest g) h.0 (honest k),
+    λ k. subst g.honest h.0 (honest k),
     subst (λ m. StepsBy g (with_signer signs count x y) s c o m new answer) h.0
         (subst (λ k. StepsBy g (with_signer signs count k y) s c o mid new answer) h.1 step),
     (refl, refl),
@@ -130,13 +127,13 @@ steps_go_on g signs count s (d ∷ ds) [] told c o answer old x mid z new y h ho
 steps_go_on g signs count s (d ∷ ds) (p ∷ ps) [] c o answer old x mid z new y h honest step = absurd h
 
 -- as a loop over the program's commands goes on: the item at the index comes next
-pub steps_more : {A B S X : Type 0} (g : Ghosts S) (signs : X → List ℕ → Result (List ℕ) SignerFault → X → Type 0)
-    (count : X → ℕ) (s : Setting) (f : A → Command) (h : B → Answer) (commands : List A) (i : ℕ) (item : A)
-    (os : List Outcome) (told : List B) (answer : B) (now : List B) (o : Outcome) (old : BaseValue S) (x : X)
-    (mid : BaseValue S) (z : X) (new : BaseValue S) (y : X) → i < length commands → item ≡ get_or commands i item
+pub steps_more : {A C B X : Type 0} (g : Ghosts B) (signs : X → List ℕ → Result (List ℕ) SignerFault → X → Type 0)
+    (count : X → ℕ) (s : Setting) (f : A → Command) (h : C → Answer) (commands : List A) (i : ℕ) (item : A)
+    (os : List Outcome) (told : List C) (answer : C) (now : List C) (o : Outcome) (old : B) (x : X)
+    (mid : B) (z : X) (new : B) (y : X) → i < length commands → item ≡ get_or commands i item
     → now ≡ told ++ (answer ∷ [])
     → AreSteps g signs count s (map f (take i commands)) os (map h told) old x mid z
-    → (IsHonest g new → IsHonest g mid) → StepsBy g (with_signer signs count z y) s (f item) o mid new (h answer)
+    → (g.honest new → g.honest mid) → StepsBy g (with_signer signs count z y) s (f item) o mid new (h answer)
     → AreSteps g signs count s (map f (take (i + 1) commands)) (os ++ (o ∷ [])) (map h now) old x new y
 steps_more g signs count s f h commands i item os told answer now o old x mid z new y within is all before honest step =
     let one = map f (take i commands) in
@@ -152,20 +149,20 @@ steps_more g signs count s f h commands i item os told answer now o old x mid z 
     (steps_go_on g signs count s one os (map h told) (f item) o (h answer) old x mid z new y before honest step))
 
 -- what is left after the first call and the others
-left_after : {S : Type 0} (g : Ghosts S) (s : Setting) (c : Command) (cs : List Command) (o : Outcome)
-    (os : List Outcome) (e : Effect) (b last : History) (old mid : BaseValue S) (db : Trees) → HasEffect s c o b e
-    → (Recovers g mid db → MayBeLeft g s c o b old e db) → MayBeLeftBy g s cs os (after e b) mid last db
-    → MayBeLeftBy g s (c ∷ cs) (o ∷ os) b old last db
-left_after g s c cs o os e b last old mid db has left (inl same) =
-    elim (left same.1) [
+left_after : {B : Type 0} (g : Ghosts B) (s : Setting) (c : Command) (cs : List Command) (o : Outcome)
+    (os : List Outcome) (e : Effect) (b last : History) (old mid : B) (left : g.Left) → HasEffect s c o b e
+    → (g.leaves mid left → MayBeLeft g s c o b old e left) → MayBeLeftBy g s cs os (after e b) mid last left
+    → MayBeLeftBy g s (c ∷ cs) (o ∷ os) b old last left
+left_after g s c cs o os e b last old mid left has step (inl same) =
+    elim (step same.1) [
       | inl none ↦ inl (same.0 ∙ ap (λ added. added ++ b) none.0, none.1)
       | inr more ↦ elim more [
-        | inl holds ↦ inr (inl (subst (λ y. Holds (tables_of y) db) (sym same.0) holds))
+        | inl holds ↦ inr (inl (subst (λ y. g.holds left y) (sym same.0) holds))
         | inr doubt ↦ inr (inr (e, (has, inl (same.0, doubt))))
       ]
     ]
-left_after g s c cs o os e b last old mid db has left (inr (inl holds)) = inr (inl holds)
-left_after g s c cs o os e b last old mid db has left (inr (inr doubt)) = inr (inr (e, (has, inr doubt)))
+left_after g s c cs o os e b last old mid left has step (inr (inl holds)) = inr (inl holds)
+left_after g s c cs o os e b last old mid left has step (inr (inr doubt)) = inr (inr (e, (has, inr doubt)))
 
 -- what a command leaves of what an account may know, and what the others leave
 stays_on : (account : List ℕ) (c : Command) (cs : List Command) (b mid last : History)
@@ -180,25 +177,25 @@ stays_on account c cs b mid last one others = record {
 }
 
 -- where calls come from a history that the store stood for
-record Reaches {S X : Type 0} (g : Ghosts S) (signs : X → List ℕ → Result (List ℕ) SignerFault → X → Type 0)
-    (s : Setting) (cs : List Command) (os : List Outcome) (answers : List Answer) (b : History) (old : BaseValue S)
-    (x : X) (new : BaseValue S) (y : X) : Type 0 where
+record Reaches {B X : Type 0} (g : Ghosts B) (signs : X → List ℕ → Result (List ℕ) SignerFault → X → Type 0)
+    (s : Setting) (cs : List Command) (os : List Outcome) (answers : List Answer) (b : History) (old : B)
+    (x : X) (new : B) (y : X) : Type 0 where
   history : History
   runs : Runs signs s cs os b x answers history y
   stands : Stands g history new
-  left : (db : Trees) → Recovers g new db → MayBeLeftBy g s cs os b old history db
+  left : (left : g.Left) → g.leaves new left → MayBeLeftBy g s cs os b old history left
   undisturbed : (account : List ℕ) → AreCommandsOfOthers account cs
       → StaysFor account (λ number. OneConcerns number cs) b history
 
-reaches : {S X : Type 0} (g : Ghosts S) (signs : X → List ℕ → Result (List ℕ) SignerFault → X → Type 0)
+reaches : {B X : Type 0} (g : Ghosts B) (signs : X → List ℕ → Result (List ℕ) SignerFault → X → Type 0)
     (count : X → ℕ) (s : Setting) (cs : List Command) (os : List Outcome) (answers : List Answer) (b : History)
-    (old : BaseValue S) (x : X) (new : BaseValue S) (y : X) → AreSteps g signs count s cs os answers old x new y
-    → IsHonest g new → Stands g b old → AreMet cs → Reaches g signs s cs os answers b old x new y
+    (old : B) (x : X) (new : B) (y : X) → AreSteps g signs count s cs os answers old x new y
+    → g.honest new → Stands g b old → AreMet cs → Reaches g signs s cs os answers b old x new y
 reaches g signs count s [] [] [] b old x new y h honest stands met = record {
   history = b;
   runs = (refl, h.1);
   stands = subst (Stands g b) (sym h.0) stands;
-  left = λ db k. inl (refl, subst (λ m. Recovers g m db) h.0 k);
+  left = λ left k. inl (refl, subst (λ m. g.leaves m left) h.0 k);
   undisturbed = λ account others.
       record { own_stamps = refl; own_deposits = refl; seen = λ number free. refl; calibration = refl; holding = refl };
 }
@@ -211,7 +208,8 @@ reaches g signs count s (c ∷ cs) (o ∷ os) (answer ∷ answers) b old x new y
       history = rest.history;
       runs = (e, h.1, (step.has, step.moves, step.says, rest.runs));
       stands = rest.stands;
-      left = λ db k. left_after g s c cs o os e b rest.history old h.0 db step.has (step.left db) (rest.left db k);
+      left = λ left k. left_after g s c cs o os e b rest.history old h.0 left step.has (step.left left)
+          (rest.left left k);
       undisturbed = λ account others. stays_on account c cs b (after e b) rest.history
           (step_stays account s c o b e stands.sound others.0 step.has) (rest.undisturbed account others.1);
     }
@@ -221,9 +219,9 @@ reaches g signs count s (c ∷ cs) [] answers b old x new y h honest stands met 
 reaches g signs count s (c ∷ cs) (o ∷ os) [] b old x new y h honest stands met = absurd h
 
 -- calls one after the other are a run
-pub steps_run : {S X : Type 0} (g : Ghosts S) (signs : X → List ℕ → Result (List ℕ) SignerFault → X → Type 0)
+pub steps_run : {B X : Type 0} (g : Ghosts B) (signs : X → List ℕ → Result (List ℕ) SignerFault → X → Type 0)
     (count : X → ℕ) → TextLaws → (s : Setting) → IsProper s → (cs : List Command) (os : List Outcome)
-    (answers : List Answer) (old : BaseValue S) (x : X) (new : BaseValue S) (y : X)
+    (answers : List Answer) (old : B) (x : X) (new : B) (y : X)
     → AreSteps g signs count s cs os answers old x new y → RunsBy g signs count s cs os answers old x new y
 steps_run g signs count laws s proper cs os answers old x new y h = record {
   steps = h;

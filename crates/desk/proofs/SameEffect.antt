@@ -13,18 +13,18 @@ use Rattle.tsp.specs.Rules.{HoldsOfOctets, IsFirstFailing}
 use Rattle.tsp.specs.declared.rule.Rule.{Rule}
 use Rattle.decide.specs.Clock.{IsGood, IsGoodAt}
 use Rattle.decide.specs.Rules.{Holds}
-use Rattle.tables.specs.Tables.{StampRow, DepositRow}
-use Rattle.store.specs.History.{Granted, Revoked, History, ReservationValue, reservations, deposits, holds, stamps}
-use Rattle.store.specs.History.{stamp_of, day_of, is_of_day, count_of_day, latest_calibration, greatest_serial}
-use Rattle.store.specs.History.{token_of, reservation_at, deposit_under}
-use Rattle.store.specs.Rights.{seen_by, ListedValue, listed_as, listed_at, listed}
+use Rattle.book.specs.Rows.{StampRow, DepositRow}
+use Rattle.book.specs.History.{Granted, Revoked, History, ReservationValue, reservations, deposits, holds, stamps}
+use Rattle.book.specs.History.{stamp_of, day_of, is_of_day, count_of_day, latest_calibration, greatest_serial}
+use Rattle.book.specs.History.{token_of, reservation_at, deposit_under}
+use Rattle.book.specs.Rights.{seen_by, ListedValue, listed_as, listed_at, listed}
 use Rattle.desk.specs.Agreement.{SeenValue, seen_as, Agree, IsCommandOf}
 use Rattle.desk.specs.Facts.{now_in, is_held_at, gen_time_of, gen_time_in, count_in, facts_of}
 use Rattle.desk.specs.Outcome.{Outcome, Cause, OfStore, cause_of, first_cause}
 use Rattle.desk.specs.Findings.{IsUnjudged, PlanValue, IsAllowed, Finding, Fails, Unanswered, Allowed, Finds}
 use Rattle.desk.specs.Command.{Setting, Command, Stamp, Begin, Finish, Abandon, Deposit, Show, Token, ListAll, Grant}
 use Rattle.desk.specs.Command.{Revoke, Calibrate, Hold, Listed}
-use Rattle.store.specs.Sound.{greatest_number}
+use Rattle.book.specs.Sound.{greatest_number}
 use Rattle.desk.specs.Texts.{octets_for, reservation_of, pending_of}
 use Rattle.desk.specs.Effects.{Stamping, Unreserved, signed_or_void, stamping_of, stamp_effect, deposit_effect}
 use Rattle.desk.specs.Effects.{no_number, reply_or_nothing, Effect, only, unless, stamp_found, deposit_found}

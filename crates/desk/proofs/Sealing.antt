@@ -1,15 +1,14 @@
 -- A finish is a step of the machine: the token is stored, or the reservation stays void.
 use Rattle.std.proofs.Common.{◌≡◌, ◌⊎◌, ℕ, List, [], ◌∷◌, Some, None, Ok, refl, sym, ◌∙◌, ap, subst, inl, inr}
-use Rattle.sqlite_trees.specs.declared.store.Store.{Ghosts}
+use Rattle.book.specs.declared.standing.Standing.{Ghosts}
 use Rattle.tsp.specs.Granted.{granted_octets}
 use Rattle.cms.specs.SignedData.{token}
-use Rattle.tables.specs.Base.{BaseValue, IsHonest, IsOpen}
-use Rattle.store.specs.declared.fault.StoreFault.{StoreFault}
-use Rattle.store.specs.declared.fault.StoreFault.TheVariants as store
-use Rattle.store.specs.Fault.{count_after}
-use Rattle.store.specs.History.{Sealed, History}
-use Rattle.store.specs.Sound.{Fits, FitsSealed}
-use Rattle.store.specs.Stands.{Stands, LeavesOrAdds}
+use Rattle.book.specs.declared.fault.StoreFault.{StoreFault}
+use Rattle.book.specs.declared.fault.StoreFault.TheVariants as store
+use Rattle.book.specs.Fault.{count_after}
+use Rattle.book.specs.History.{Sealed, History}
+use Rattle.book.specs.Sound.{Fits, FitsSealed}
+use Rattle.book.specs.Stands.{Stands, LeavesOrAdds}
 use Rattle.desk.specs.Outcome.{Fine, Outcome, Cause, faults_after, all_fine}
 use Rattle.desk.specs.Command.{Setting, PendingValue, Finish, Stamped, Refused}
 use Rattle.desk.specs.Texts.{token_with}
@@ -24,9 +23,9 @@ pub waiting_fits : (p : PendingValue) (b : History) → IsWaiting p b → FitsSe
 waiting_fits p b w = record { reservation = w.reservation; reserved = w.reserved; open_yet = w.open_yet }
 
 -- the token is stored
-seals_as : {S : Type 0} (g : Ghosts S) (s : Setting) (p : PendingValue) (signature : List ℕ) (old new : BaseValue S)
-    → new.faults ≡ old.faults
-    → (IsHonest g new → IsOpen g old × IsOpen g new)
+seals_as : {B : Type 0} (g : Ghosts B) (s : Setting) (p : PendingValue) (signature : List ℕ) (old new : B)
+    → g.fault_count new ≡ g.fault_count old
+    → (g.honest new → g.is_open old × g.is_open new)
     → ((b : History) → Stands g b old → Fits (Sealed p.serial (token_with p signature)) b
     → Stands g (Sealed p.serial (token_with p signature) ∷ b) new)
     → StepsBy g no_signer s (Finish p signature) (all_fine (Ok [])) old new
@@ -43,14 +42,14 @@ seals_as g s p signature old new same opened ok = record {
         says = refl;
         moves = refl;
         stands = now;
-        left = λ db r. inr (inl ((now.kept honest (opened honest).1).leaves db r));
+        left = λ left r. inr (inl (now.settled honest (opened honest).1 left r));
       };
 }
 
-pub seals : {S : Type 0} (g : Ghosts S) (s : Setting) (p : PendingValue) (signature : List ℕ) (serial : ℕ)
-    (token reply : List ℕ) (old new : BaseValue S) → serial ≡ p.serial → token ≡ token_with p signature
-    → reply ≡ granted_octets token → new.faults ≡ old.faults
-    → (IsHonest g new → IsOpen g old × IsOpen g new)
+pub seals : {B : Type 0} (g : Ghosts B) (s : Setting) (p : PendingValue) (signature : List ℕ) (serial : ℕ)
+    (token reply : List ℕ) (old new : B) → serial ≡ p.serial → token ≡ token_with p signature
+    → reply ≡ granted_octets token → g.fault_count new ≡ g.fault_count old
+    → (g.honest new → g.is_open old × g.is_open new)
     → ((b : History) → Stands g b old → Fits (Sealed serial token) b → Stands g (Sealed serial token ∷ b) new)
     → StepsBy g no_signer s (Finish p signature) (all_fine (Ok [])) old new (Stamped serial reply)
 seals g s p signature serial token reply old new number is wrapped same opened ok =
@@ -64,11 +63,11 @@ seals g s p signature serial token reply old new number is wrapped same opened o
     ok))))
 
 -- the commit is refused by this fault
-refused_as : {S : Type 0} (g : Ghosts S) (s : Setting) (p : PendingValue) (signature : List ℕ) (old new : BaseValue S)
+refused_as : {B : Type 0} (g : Ghosts B) (s : Setting) (p : PendingValue) (signature : List ℕ) (old new : B)
     (o : Outcome) (cause : Cause) → no_seal o ≡ Some cause → no_seal (settled o) ≡ None
     → (o.adding ≡ Fine → o.sealing ≡ Fine → ⊥)
     → IsBlamed g (Finish p signature) o old new (Refused (fault_of cause))
-    → new.faults ≡ faults_after o old.faults
+    → g.fault_count new ≡ faults_after o (g.fault_count old)
     → ((b : History) → Stands g b old → Stands g b new)
     → LeavesOrAdds g (Sealed p.serial (token_with p signature)) old new
     → StepsBy g no_signer s (Finish p signature) o old new (Refused (fault_of cause))
@@ -82,7 +81,7 @@ refused_as g s p signature old new o cause why answered was_refused blamed count
     says = refl;
     moves = refl;
     stands = err b stands;
-    left = λ db r. elim (crash honest db r) [
+    left = λ left r. elim (crash honest left r) [
       | inl before ↦ inl (refl, before)
       | inr adds ↦ inr (inr (record {
         refused = was_refused;
@@ -94,9 +93,9 @@ refused_as g s p signature old new o cause why answered was_refused blamed count
   };
 }
 
-refused_by : {S : Type 0} (g : Ghosts S) (s : Setting) (p : PendingValue) (signature : List ℕ) (old new : BaseValue S)
+refused_by : {B : Type 0} (g : Ghosts B) (s : Setting) (p : PendingValue) (signature : List ℕ) (old new : B)
     (fault : StoreFault) → (fault ≡ store.Memory) ⊎ (fault ≡ store.Database)
-    → new.faults ≡ count_after fault old.faults
+    → g.fault_count new ≡ count_after fault (g.fault_count old)
     → ((b : History) → Stands g b old → Stands g b new)
     → LeavesOrAdds g (Sealed p.serial (token_with p signature)) old new
     → StepsBy g no_signer s (Finish p signature) (refused (refusal.Sealing fault)) old new
@@ -114,10 +113,10 @@ refused_by g s p signature old new store.Full which counted err crash =
 refused_by g s p signature old new store.Backwards which counted err crash =
     absurd (elim which [ inl e ↦ cc | inr e ↦ cc ])
 
-pub refuses : {S : Type 0} (g : Ghosts S) (s : Setting) (p : PendingValue) (signature : List ℕ) (serial : ℕ)
-    (token : List ℕ) (old new : BaseValue S) (fault : StoreFault) → serial ≡ p.serial → token ≡ token_with p signature
+pub refuses : {B : Type 0} (g : Ghosts B) (s : Setting) (p : PendingValue) (signature : List ℕ) (serial : ℕ)
+    (token : List ℕ) (old new : B) (fault : StoreFault) → serial ≡ p.serial → token ≡ token_with p signature
     → (fault ≡ store.Memory) ⊎ (fault ≡ store.Database)
-    → new.faults ≡ count_after fault old.faults
+    → g.fault_count new ≡ count_after fault (g.fault_count old)
     → ((b : History) → Stands g b old → Stands g b new)
     → LeavesOrAdds g (Sealed serial token) old new
     → StepsBy g no_signer s (Finish p signature) (refused (refusal.Sealing fault)) old new

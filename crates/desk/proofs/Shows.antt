@@ -8,13 +8,13 @@ use Rattle.std.proofs.lemmas.Bool.{eqb-true}
 use Rattle.policy.specs.Record.{AccountValue, PolicyValue}
 use Rattle.policy.specs.Kinds.{is_among}
 use Rattle.policy.specs.LookUp.{account_named}
-use Rattle.tables.specs.Tables.{DepositRow, StampRow}
-use Rattle.store.specs.History.{Entry, Reserved, Sealed, Deposited, Calibrated, Held, Granted, Revoked, History}
-use Rattle.store.specs.History.{ReservationValue, DepositValue, stamp_of, token_of, reservation_at, deposit_at}
-use Rattle.store.specs.Rights.{is_reader, shown_to, seen_by, deposit_with_stamp}
-use Rattle.store.specs.Sound.{Along, Fits, FitsSealed, IsSound}
-use Rattle.store.specs.Values.{stamped_view}
-use Rattle.store.specs.declared.values.StampedDeposit.{StampedDeposit}
+use Rattle.book.specs.Rows.{DepositRow, StampRow}
+use Rattle.book.specs.History.{Entry, Reserved, Sealed, Deposited, Calibrated, Held, Granted, Revoked, History}
+use Rattle.book.specs.History.{ReservationValue, DepositValue, stamp_of, token_of, reservation_at, deposit_at}
+use Rattle.book.specs.Rights.{is_reader, shown_to, seen_by, deposit_with_stamp}
+use Rattle.book.specs.Sound.{Along, Fits, FitsSealed, IsSound}
+use Rattle.book.specs.Values.{stamped_view}
+use Rattle.book.specs.declared.values.StampedDeposit.{StampedDeposit}
 use Rattle.desk.specs.Effects.{has_account}
 use Rattle.desk.proofs.Views.{reservation_stays}
 

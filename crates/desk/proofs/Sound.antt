@@ -8,8 +8,8 @@ use Rattle.policy.specs.Record.{AccountValue, PolicyValue}
 use Rattle.tsp.specs.Request.{RequestValue, Spells}
 use Rattle.tsp.specs.Tst.{SpellsTst, TstValue, IsTst, tst_info, answer}
 use Rattle.tsp.specs.declared.rule.Rule.TheVariants.{Spelling, Policy}
-use Rattle.store.specs.History.{Entry, Reserved, History, greatest_serial}
-use Rattle.store.specs.Sound.{Along, Fits, greatest_number}
+use Rattle.book.specs.History.{Entry, Reserved, History, greatest_serial}
+use Rattle.book.specs.Sound.{Along, Fits, greatest_number}
 use Rattle.desk.specs.Content.{IsForRequest, IsTrueOf}
 use Rattle.desk.specs.Findings.{PlanValue, IsAllowed}
 use Rattle.desk.specs.Command.{Setting}

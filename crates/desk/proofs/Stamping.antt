@@ -2,8 +2,7 @@
 use Rattle.std.proofs.Common.{◌≡◌, ℕ, ◌<◌, ◌⊎◌, ℤ, List, [], ◌∷◌, ◌++◌, Option, Some, None, Result, Ok, Err, refl, sym}
 use Rattle.std.proofs.Common.{◌∙◌, ap, subst, inl, inr, arith}
 use Rattle.std.proofs.lemmas.Bool.{eq-eqb}
-use Rattle.sqlite_trees.specs.Tree.{Trees}
-use Rattle.sqlite_trees.specs.declared.store.Store.{Ghosts}
+use Rattle.book.specs.declared.standing.Standing.{Ghosts}
 use Rattle.policy.specs.Record.{AccountValue}
 use Rattle.tsp.specs.declared.rule.Rule.{Rule}
 use Rattle.tsp.specs.declared.rule.Rule.TheVariants.{Spelling, Version, Account, Algorithm, HashLength, Policy}
@@ -12,11 +11,9 @@ use Rattle.cms.specs.SignedData.{attribute_text}
 use Rattle.cms.specs.Signer.{count_after}
 use Rattle.cms.specs.declared.signer.SignerFault.{SignerFault}
 use Rattle.cms.specs.declared.signer.SignerFault.TheVariants as signer
-use Rattle.tables.specs.Base.{BaseValue, IsHonest, Recovers, Holds}
-use Rattle.store.specs.History.{Entry, Reserved, Sealed, History, ReservationValue, greatest_serial}
-use Rattle.store.specs.Sound.{Along, Fits}
-use Rattle.store.specs.Stands.{Stands}
-use Rattle.store.specs.TablesOf.{tables_of}
+use Rattle.book.specs.History.{Entry, Reserved, Sealed, History, ReservationValue, greatest_serial}
+use Rattle.book.specs.Sound.{Along, Fits}
+use Rattle.book.specs.Stands.{Stands}
 use Rattle.desk.specs.Outcome.{Call, Fine, Wanting, Broken, Outcome, Cause, counted, faults_after, all_fine}
 use Rattle.desk.specs.Findings.{IsUnjudged, IsAnsweredFor, PlanValue, IsAllowed, Finding, Fails, Unanswered, Allowed}
 use Rattle.desk.specs.Findings.{Finds}
@@ -262,17 +259,17 @@ none_doubted s account reading octets o b e d h none k =
     (ap (λ x. x.adds) (sym h.2) ∙ none)
 
 -- what is in doubt after a beginning that added nothing is in doubt after its stamp
-left_decided : {S : Type 0} (g : Ghosts S) (s : Setting) (account : Option AccountValue) (reading : ℤ)
-    (octets : List ℕ) (o : Outcome) (b : History) (old : BaseValue S) (e : Effect) (answer : Answer) (db : Trees)
+left_decided : {B : Type 0} (g : Ghosts B) (s : Setting) (account : Option AccountValue) (reading : ℤ)
+    (octets : List ℕ) (o : Outcome) (b : History) (old : B) (e : Effect) (answer : Answer) (left : g.Left)
     → HasEffect s (Begin account reading octets) o b e → e.adds ≡ []
     → (call : Call) → o.adding ≡ call
-    → IsDoubted s (Begin account reading octets) o b db
-    → MayBeLeft g s (Stamp account reading octets) (joined o (Ok []) o) b old (only answer) db
-left_decided g s account reading octets o b old e answer db h none Fine is d =
+    → IsDoubted g s (Begin account reading octets) o b left
+    → MayBeLeft g s (Stamp account reading octets) (joined o (Ok []) o) b old (only answer) left
+left_decided g s account reading octets o b old e answer left h none Fine is d =
     let has = subst (λ x. HasEffect s (Begin account reading octets) (settled_by x o) b d.doubted) is d.has in
-    inr (inl (subst (λ es. Holds (tables_of (es ++ b)) db)
+    inr (inl (subst (λ es. g.holds left (es ++ b))
     (none_doubted s account reading octets o b e d.doubted h none has) d.holds))
-left_decided g s account reading octets o b old e answer db h none Wanting is d =
+left_decided g s account reading octets o b old e answer left h none Wanting is d =
     let has = subst (λ x. HasEffect s (Begin account reading octets) (settled_by x o) b d.doubted) is d.has in
     let o2 = record o { adding = Fine; signing = Err signer.Failed } in
     let doubted = stamp_found s (name_of account) octets (joined o2 (Err signer.Failed) o) b has.0 in
@@ -281,10 +278,10 @@ left_decided g s account reading octets o b old e answer db h none Wanting is d 
       doubted = doubted;
       has = subst (λ x. HasEffect s (Stamp account reading octets) (settled_by x (joined o (Ok []) o)) b doubted)
           (sym is) (has.0, finds_joined s account reading octets o2 o (Err signer.Failed) b has.0 has.1, refl);
-      holds = subst (λ es. Holds (tables_of (es ++ b)) db)
+      holds = subst (λ es. g.holds left (es ++ b))
           (ap (λ x. x.adds) has.2 ∙ sym (void_found s (name_of account) octets o2 o b has.0)) d.holds;
     }))
-left_decided g s account reading octets o b old e answer db h none Broken is d =
+left_decided g s account reading octets o b old e answer left h none Broken is d =
     let has = subst (λ x. HasEffect s (Begin account reading octets) (settled_by x o) b d.doubted) is d.has in
     let o2 = record o { adding = Fine; signing = Err signer.Failed } in
     let doubted = stamp_found s (name_of account) octets (joined o2 (Err signer.Failed) o) b has.0 in
@@ -293,14 +290,14 @@ left_decided g s account reading octets o b old e answer db h none Broken is d =
       doubted = doubted;
       has = subst (λ x. HasEffect s (Stamp account reading octets) (settled_by x (joined o (Ok []) o)) b doubted)
           (sym is) (has.0, finds_joined s account reading octets o2 o (Err signer.Failed) b has.0 has.1, refl);
-      holds = subst (λ es. Holds (tables_of (es ++ b)) db)
+      holds = subst (λ es. g.holds left (es ++ b))
           (ap (λ x. x.adds) has.2 ∙ sym (void_found s (name_of account) octets o2 o b has.0)) d.holds;
     }))
 
 -- a stamp that its beginning decides: nothing is added, and no signer is asked
-decided : {S X : Type 0} (g : Ghosts S) (signs : X → List ℕ → Result (List ℕ) SignerFault → X → Type 0)
+decided : {B X : Type 0} (g : Ghosts B) (signs : X → List ℕ → Result (List ℕ) SignerFault → X → Type 0)
     (count : X → ℕ) (x : X) (s : Setting) (account : Option AccountValue) (reading : ℤ) (octets : List ℕ) (o : Outcome)
-    (old new : BaseValue S) (said answer : Answer)
+    (old new : B) (said answer : Answer)
     → StepsBy g no_signer s (Begin account reading octets) o old new said
     → ((b : History) (e : Effect) → HasEffect s (Begin account reading octets) o b e → said ≡ e.says
     → HasEffect s (Stamp account reading octets) (joined o (Ok []) o) b (only answer) × (e.adds ≡ []))
@@ -319,21 +316,21 @@ decided g signs count x s account reading octets o old new said answer begin dec
         says = refl;
         moves = refl;
         stands = subst (λ es. Stands g (es ++ b) new) d.1 h.stands;
-        left = λ db r. elim (h.left db r) [
+        left = λ left r. elim (h.left left r) [
           | inl before ↦ inl (refl, before.1)
           | inr after ↦ elim after [
-            | inl holds ↦ inr (inl (subst (λ es. Holds (tables_of (es ++ b)) db) d.1 holds))
-            | inr doubted ↦ left_decided g s account reading octets o b old h.effect answer db h.has d.1
+            | inl holds ↦ inr (inl (subst (λ es. g.holds left (es ++ b)) d.1 holds))
+            | inr doubted ↦ left_decided g s account reading octets o b old h.effect answer left h.has d.1
                 o.adding refl doubted
           ]
         ];
       };
 }
 
-pub stamp_is_refused : {S X : Type 0} (g : Ghosts S)
+pub stamp_is_refused : {B X : Type 0} (g : Ghosts B)
     (signs : X → List ℕ → Result (List ℕ) SignerFault → X → Type 0)
     (count : X → ℕ) (x : X) (s : Setting) (account : Option AccountValue) (reading : ℤ) (octets : List ℕ) (o : Outcome)
-    (old new : BaseValue S) (fault : Fault)
+    (old new : B) (fault : Fault)
     → StepsBy g no_signer s (Begin account reading octets) o old new (Refused fault)
     → StepsBy g (with_signer signs count x x) s (Stamp account reading octets) (joined o (Ok []) o) old new
     (Rejected System)
@@ -341,10 +338,10 @@ stamp_is_refused g signs count x s account reading octets o old new fault begin 
     decided g signs count x s account reading octets o old new (Refused fault) (Rejected System) begin
     (λ b e h says. stamp_refused s account reading octets o o (Ok []) b e fault h says) tt
 
-pub stamp_is_rejected : {S X : Type 0} (g : Ghosts S)
+pub stamp_is_rejected : {B X : Type 0} (g : Ghosts B)
     (signs : X → List ℕ → Result (List ℕ) SignerFault → X → Type 0)
     (count : X → ℕ) (x : X) (s : Setting) (account : Option AccountValue) (reading : ℤ) (octets : List ℕ) (o : Outcome)
-    (old new : BaseValue S) (rule : Rule)
+    (old new : B) (rule : Rule)
     → StepsBy g no_signer s (Begin account reading octets) o old new (Rejected rule)
     → StepsBy g (with_signer signs count x x) s (Stamp account reading octets) (joined o (Ok []) o) old new
     (Rejected rule)
@@ -412,9 +409,9 @@ same_adds adds (inl none) begun b = rw (none [], none begun)
 same_adds adds (inr more) begun b = rw (more.1 [], more.1 begun)
 
 -- nothing is in doubt after a beginning that reserved
-pub sure : (s : Setting) (account : Option AccountValue) (reading : ℤ) (octets : List ℕ) (b : History) (db : Trees)
-    → IsDoubted s (Begin account reading octets) (all_fine (Ok [])) b db → ⊥
-sure s account reading octets b db d = d.refused refl refl
+pub sure : {B : Type 0} (g : Ghosts B) (s : Setting) (account : Option AccountValue) (reading : ℤ) (octets : List ℕ)
+    (b : History) (left : g.Left) → IsDoubted g s (Begin account reading octets) (all_fine (Ok [])) b left → ⊥
+sure g s account reading octets b left d = d.refused refl refl
 
 -- a beginning that reserved added something
 pub begun_adds : (s : Setting) (account : Option AccountValue) (reading : ℤ) (octets : List ℕ) (b : History)
@@ -422,48 +419,48 @@ pub begun_adds : (s : Setting) (account : Option AccountValue) (reading : ℤ) (
 begun_adds s account reading octets b p e begun none =
     let adds = ap (λ x. x.adds) begun.effect in cc
 
-left_completed : {S : Type 0} (g : Ghosts S) (s : Setting) (account : Option AccountValue) (reading : ℤ)
+left_completed : {B : Type 0} (g : Ghosts B) (s : Setting) (account : Option AccountValue) (reading : ℤ)
     (octets : List ℕ) (p : PendingValue) (signing : Result (List ℕ) SignerFault) (finished : Outcome) (b : History)
-    (old mid : BaseValue S) (e : Effect) (db : Trees)
+    (old mid : B) (e : Effect) (left : g.Left)
     → HasEffect s (Begin account reading octets) (all_fine (Ok [])) b e → Begun p ≡ e.says
-    → ((db : Trees) → Recovers g mid db
-    → MayBeLeft g s (Begin account reading octets) (all_fine (Ok [])) b old e db)
-    → MayStay g p signing finished (after e b) mid db
+    → ((left : g.Left) → g.leaves mid left
+    → MayBeLeft g s (Begin account reading octets) (all_fine (Ok [])) b old e left)
+    → MayStay g p signing finished (after e b) mid left
     → MayBeLeft g s (Stamp account reading octets) (joined (all_fine (Ok [])) signing finished) b old
-    (stamped p signing e.adds finished) db
-left_completed g s account reading octets p signing finished b old mid e db h says before (inl none) =
+    (stamped p signing e.adds finished) left
+left_completed g s account reading octets p signing finished b old mid e left h says before (inl none) =
     let begun = stamp_begun s account reading octets (all_fine (Ok [])) finished signing b e p h (sym says) in
-    elim (before db none.1) [
+    elim (before left none.1) [
       | inl nothing ↦ absurd (begun_adds s account reading octets b p e begun.0 nothing.0)
       | inr more ↦ elim more [
-        | inl holds ↦ inr (inl (subst (λ es. Holds (tables_of es) db)
+        | inl holds ↦ inr (inl (subst (λ es. g.holds left es)
             (ap (λ (es : List Entry). es ++ (e.adds ++ b)) (sym none.0)
             ∙ same_adds (λ es. (stamped p signing es finished).adds) (adds_stamped p signing finished) e.adds b)
             holds))
-        | inr doubted ↦ absurd (sure s account reading octets b db doubted)
+        | inr doubted ↦ absurd (sure g s account reading octets b left doubted)
       ]
     ]
-left_completed g s account reading octets p signing finished b old mid e db h says before (inr (inl holds)) =
-    inr (inl (subst (λ es. Holds (tables_of es) db)
+left_completed g s account reading octets p signing finished b old mid e left h says before (inr (inl holds)) =
+    inr (inl (subst (λ es. g.holds left es)
     (same_adds (λ es. (stamped p signing es finished).adds) (adds_stamped p signing finished) e.adds b) holds))
-left_completed g s account reading octets p signing finished b old mid e db h says before (inr (inr doubt)) =
+left_completed g s account reading octets p signing finished b old mid e left h says before (inr (inr doubt)) =
     let sealed = record finished { sealing = Fine } in
     let begun = stamp_begun s account reading octets (all_fine (Ok [])) sealed signing b e p h (sym says) in
     inr (inr (record {
       refused = λ adding sealing. doubt.0 sealing;
       doubted = stamped p signing e.adds sealed;
       has = begun.1;
-      holds = subst (λ es. Holds (tables_of es) db)
+      holds = subst (λ es. g.holds left es)
           (same_adds (λ es. (stamped p signing es sealed).adds) (adds_stamped p signing sealed) e.adds b) doubt.1;
     }))
 
 -- a stamp whose beginning reserved: the signer is asked, and the token is stored where it answers
-pub stamp_is_completed : {S X : Type 0} (g : Ghosts S)
+pub stamp_is_completed : {B X : Type 0} (g : Ghosts B)
     (signs : X → List ℕ → Result (List ℕ) SignerFault → X → Type 0) (count : X → ℕ) (x y : X) (s : Setting)
     (account : Option AccountValue) (reading : ℤ) (octets : List ℕ) (p : PendingValue)
-    (signing : Result (List ℕ) SignerFault) (finished : Outcome) (old mid new : BaseValue S) (answer : Answer)
+    (signing : Result (List ℕ) SignerFault) (finished : Outcome) (old mid new : B) (answer : Answer)
     → StepsBy g no_signer s (Begin account reading octets) (all_fine (Ok [])) old mid (Begun p)
-    → (IsHonest g new → IsHonest g mid)
+    → (g.honest new → g.honest mid)
     → Completes g (with_signer signs count x y) p signing finished mid new answer
     → IsBlamed g (Stamp account reading octets) (joined (all_fine (Ok [])) signing finished) old new answer
     → StepsBy g (with_signer signs count x y) s (Stamp account reading octets)
@@ -488,9 +485,9 @@ stamp_is_completed g signs count x y s account reading octets p signing finished
             stands = subst (λ es. Stands g es new)
                 (same_adds (λ es. (stamped p signing es finished).adds) (adds_stamped p signing finished)
                 h.effect.adds b) done.stands;
-            left = λ db r. left_completed g s account reading octets p signing finished b old mid h.effect db h.has
+            left = λ left r. left_completed g s account reading octets p signing finished b old mid h.effect left h.has
                 h.says
-                h.left (done.left db r);
+                h.left (done.left left r);
           };
     }
 
@@ -499,30 +496,30 @@ unless_adds : (p : PendingValue) (signature : List ℕ) (why : Option Cause)
 unless_adds p signature None = refl
 unless_adds p signature (Some cause) = refl
 
-left_finished : {S : Type 0} (g : Ghosts S) (s : Setting) (p : PendingValue) (signature : List ℕ) (o : Outcome)
-    (b : History) (old : BaseValue S) (e : Effect) (db : Trees)
+left_finished : {B : Type 0} (g : Ghosts B) (s : Setting) (p : PendingValue) (signature : List ℕ) (o : Outcome)
+    (b : History) (old : B) (e : Effect) (left : g.Left)
     → o.adding ≡ Fine → e ≡ unless (no_seal o) (finish_effect p signature)
-    → MayBeLeft g s (Finish p signature) o b old e db
-    → MayStay g p (Ok signature) o b old db
-left_finished g s p signature o b old e db fine is (inl before) =
+    → MayBeLeft g s (Finish p signature) o b old e left
+    → MayStay g p (Ok signature) o b old left
+left_finished g s p signature o b old e left fine is (inl before) =
     inl (sym (unless_adds p signature (no_seal o)) ∙ (sym (ap (λ x. x.adds) is) ∙ before.0), before.1)
-left_finished g s p signature o b old e db fine is (inr (inl holds)) =
-    inr (inl (subst (λ es. Holds (tables_of (es ++ b)) db)
+left_finished g s p signature o b old e left fine is (inr (inl holds)) =
+    inr (inl (subst (λ es. g.holds left (es ++ b))
     (ap (λ x. x.adds) is ∙ unless_adds p signature (no_seal o)) holds))
-left_finished g s p signature o b old e db fine is (inr (inr d)) =
+left_finished g s p signature o b old e left fine is (inr (inr d)) =
     let has = subst (λ x. HasEffect s (Finish p signature) (settled_by x o) b d.doubted) fine d.has in
     inr (inr (
       d.refused fine,
-      subst (λ es. Holds (tables_of (es ++ b)) db)
+      subst (λ es. g.holds left (es ++ b))
           (ap (λ x. x.adds) has ∙ unless_adds p signature (no_seal (record o { sealing = Fine }))) d.holds,
     ))
 
 -- after a signature: the finish
-completes_by : {S X : Type 0} (g : Ghosts S) (signs : X → List ℕ → Result (List ℕ) SignerFault → X → Type 0)
+completes_by : {B X : Type 0} (g : Ghosts B) (signs : X → List ℕ → Result (List ℕ) SignerFault → X → Type 0)
     (count : X → ℕ) (x y : X) (s : Setting) (p : PendingValue) (signature : List ℕ) (o : Outcome)
-    (old new : BaseValue S) (said answer : Answer)
+    (old new : B) (said answer : Answer)
     → StepsBy g no_signer s (Finish p signature) o old new said
-    → new.faults ≡ counted o.sealing (counted o.wrapping old.faults) → o.adding ≡ Fine
+    → g.fault_count new ≡ counted o.sealing (counted o.wrapping (g.fault_count old)) → o.adding ≡ Fine
     → IsSignature signature → count y ≡ count x → signs x (attribute_text p.identity p.tst) (Ok signature) y
     → (said ≡ (unless (no_seal o) (finish_effect p signature)).says
     → answer ≡ (sealed_by p signature [] (no_seal o)).says)
@@ -538,7 +535,7 @@ completes_by g signs count x y s p signature o old new said answer finish faults
             says = answers (h.says ∙ ap (λ e. e.says) h.has);
             stands = subst (λ es. Stands g (es ++ b) new)
                 (ap (λ e. e.adds) h.has ∙ unless_adds p signature (no_seal o)) h.stands;
-            left = λ db r. left_finished g s p signature o b old h.effect db fine h.has (h.left db r);
+            left = λ left r. left_finished g s p signature o b old h.effect left fine h.has (h.left left r);
           };
     }
 
@@ -569,23 +566,23 @@ refused_later (refusal.Signing f) h = absurd h
 refused_later refusal.Wrapping h = refl
 refused_later (refusal.Sealing f) h = refl
 
-pub completes_refused : {S X : Type 0} (g : Ghosts S)
+pub completes_refused : {B X : Type 0} (g : Ghosts B)
     (signs : X → List ℕ → Result (List ℕ) SignerFault → X → Type 0)
     (count : X → ℕ) (x y : X) (s : Setting) (p : PendingValue) (signature : List ℕ) (r : Refusal)
-    (old new : BaseValue S) → IsOfFinish r
+    (old new : B) → IsOfFinish r
     → StepsBy g no_signer s (Finish p signature) (refused r) old new (Refused (fault_of (cause_with r)))
     → IsSignature signature → count y ≡ count x → signs x (attribute_text p.identity p.tst) (Ok signature) y
     → Completes g (with_signer signs count x y) p (Ok signature) (refused r) old new (Rejected System)
 completes_refused g signs count x y s p signature r old new of_finish finish sized uncounted signed =
     completes_by g signs count x y s p signature (refused r) old new (Refused (fault_of (cause_with r)))
-    (Rejected System) finish (finish.counted ∙ refused_counted r of_finish old.faults) (refused_later r of_finish)
-    sized uncounted signed
+    (Rejected System) finish (finish.counted ∙ refused_counted r of_finish (g.fault_count old))
+    (refused_later r of_finish) sized uncounted signed
     (refused_says p signature (fault_of (cause_with r)) (no_seal (refused r)))
 
-pub completes_sealed : {S X : Type 0} (g : Ghosts S)
+pub completes_sealed : {B X : Type 0} (g : Ghosts B)
     (signs : X → List ℕ → Result (List ℕ) SignerFault → X → Type 0)
     (count : X → ℕ) (x y : X) (s : Setting) (p : PendingValue) (signature : List ℕ)
-    (old new : BaseValue S) (answer : Answer)
+    (old new : B) (answer : Answer)
     → StepsBy g no_signer s (Finish p signature) (all_fine (Ok [])) old new answer
     → IsSignature signature → count y ≡ count x → signs x (attribute_text p.identity p.tst) (Ok signature) y
     → Completes g (with_signer signs count x y) p (Ok signature) (all_fine (Ok [])) old new answer
@@ -594,9 +591,9 @@ completes_sealed g signs count x y s p signature old new answer finish sized unc
     refl sized uncounted signed (λ e. e)
 
 -- after a signer's fault: nothing more
-pub completes_unsigned : {S X : Type 0} (g : Ghosts S)
+pub completes_unsigned : {B X : Type 0} (g : Ghosts B)
     (signs : X → List ℕ → Result (List ℕ) SignerFault → X → Type 0)
-    (count : X → ℕ) (x y : X) (p : PendingValue) (fault : SignerFault) (v : BaseValue S)
+    (count : X → ℕ) (x y : X) (p : PendingValue) (fault : SignerFault) (v : B)
     → count y ≡ count_after {A = List ℕ} (Err fault) (count x)
     → signs x (attribute_text p.identity p.tst) (Err fault) y
     → Completes g (with_signer signs count x y) p (Err fault) (all_fine (Ok [])) v v (Rejected System)
@@ -604,7 +601,7 @@ completes_unsigned g signs count x y p fault v faulted signed = record {
   counted = refl;
   signer = faulted;
   moves = signed;
-  steps = λ honest b stands w. record { says = refl; stands = stands; left = λ db r. inl (refl, r) };
+  steps = λ honest b stands w. record { says = refl; stands = stands; left = λ left r. inl (refl, r) };
 }
 
 pub signer_counted : (A : Type 0) (fault : SignerFault) (n : ℕ)
@@ -613,7 +610,7 @@ signer_counted A signer.Failed n = refl
 signer_counted A signer.Memory n = refl
 
 -- a reply names neither store nor signer
-pub reply_blamed : {S : Type 0} (g : Ghosts S) (c : Command) (o : Outcome) (old new : BaseValue S) (r : Reply)
+pub reply_blamed : {B : Type 0} (g : Ghosts B) (c : Command) (o : Outcome) (old new : B) (r : Reply)
     → IsBlamed g c o old new (reply_as r)
 reply_blamed g c o old new (reply.Granted serial bytes) = tt
 reply_blamed g c o old new (reply.Rejected rejection) = tt

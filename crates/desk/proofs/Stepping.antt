@@ -9,11 +9,11 @@ use Rattle.policy.specs.Record.{AccountValue, PolicyValue}
 use Rattle.tsp.specs.Request.{Spells}
 use Rattle.cms.specs.declared.signer.SignerFault.{SignerFault}
 use Rattle.cms.specs.declared.signer.SignerFault.TheVariants as signer
-use Rattle.store.specs.History.{Entry, Reserved, Sealed, Deposited, Calibrated, Held, Granted, Revoked, History}
-use Rattle.store.specs.History.{ReservationValue, DepositValue, CalibrationValue, greatest_serial, latest_calibration}
-use Rattle.store.specs.History.{token_of, deposit_at, deposit_under}
-use Rattle.store.specs.Rights.{seen_by, shown_to, is_reader}
-use Rattle.store.specs.Sound.{Along, Fits, FitsSealed, FitsRight, greatest_number}
+use Rattle.book.specs.History.{Entry, Reserved, Sealed, Deposited, Calibrated, Held, Granted, Revoked, History}
+use Rattle.book.specs.History.{ReservationValue, DepositValue, CalibrationValue, greatest_serial, latest_calibration}
+use Rattle.book.specs.History.{token_of, deposit_at, deposit_under}
+use Rattle.book.specs.Rights.{seen_by, shown_to, is_reader}
+use Rattle.book.specs.Sound.{Along, Fits, FitsSealed, FitsRight, greatest_number}
 use Rattle.desk.specs.Content.{IsTrueOf}
 use Rattle.desk.specs.Outcome.{Outcome, Cause, cause_of}
 use Rattle.desk.specs.Findings.{PlanValue, IsAllowed, Finding, Fails, Unanswered, Allowed, Finds}

@@ -5,10 +5,10 @@ use Rattle.std.specs.List.{find}
 use Rattle.std.specs.Str.{bytes_eq}
 use Rattle.std.proofs.lemmas.Bool.{eqb-true, eq-eqb}
 use Rattle.std.proofs.lemmas.Slice.Eq.{bytes_eq-Decides}
-use Rattle.store.specs.History.{Entry, Reserved, Sealed, Deposited, Calibrated, Held, Granted, Revoked, History}
-use Rattle.store.specs.History.{ReservationValue, DepositValue, reservations, greatest_of, greatest_serial, token_of}
-use Rattle.store.specs.History.{reservation_at, deposit_at, deposit_under}
-use Rattle.store.specs.Sound.{Along, Fits, FitsReserved, FitsSealed}
+use Rattle.book.specs.History.{Entry, Reserved, Sealed, Deposited, Calibrated, Held, Granted, Revoked, History}
+use Rattle.book.specs.History.{ReservationValue, DepositValue, reservations, greatest_of, greatest_serial, token_of}
+use Rattle.book.specs.History.{reservation_at, deposit_at, deposit_under}
+use Rattle.book.specs.Sound.{Along, Fits, FitsReserved, FitsSealed}
 
 abbrev search_serial : ℕ → List ReservationValue → Option ReservationValue
 search_serial n rs = find (λ r. r.serial == n) rs

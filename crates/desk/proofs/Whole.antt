@@ -1,8 +1,8 @@
 -- Runs: journeys go on by them, and an account's run is one from each history that agrees.
 use Rattle.std.proofs.Common.{◌≡◌, ℕ, ◌⊎◌, List, [], ◌∷◌, Result, drop, refl, sym, subst, inl, inr}
 use Rattle.cms.specs.declared.signer.SignerFault.{SignerFault}
-use Rattle.store.specs.History.{History}
-use Rattle.store.specs.Sound.{IsSound}
+use Rattle.book.specs.History.{History}
+use Rattle.book.specs.Sound.{IsSound}
 use Rattle.desk.specs.Agreement.{Agree, IsCommandOf}
 use Rattle.desk.specs.Content.{IsSoundInFull}
 use Rattle.desk.specs.Outcome.{Outcome}

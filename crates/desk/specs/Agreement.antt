@@ -1,9 +1,9 @@
 -- What an account may know of a history: histories that agree for it can't be told apart by its commands.
 use Rattle.std.specs.Prelude.{◌≡◌, ℕ, List, filter, Option, Some, None, option_map}
 use Rattle.std.specs.Str.{bytes_eq}
-use Rattle.store.specs.History.{History, DepositValue, stamps, deposits, holds, latest_calibration, last_gen_time}
-use Rattle.store.specs.History.{greatest_serial, reservation_at, token_of}
-use Rattle.store.specs.Rights.{seen_by}
+use Rattle.book.specs.History.{History, DepositValue, stamps, deposits, holds, latest_calibration, last_gen_time}
+use Rattle.book.specs.History.{greatest_serial, reservation_at, token_of}
+use Rattle.book.specs.Rights.{seen_by}
 use Rattle.desk.specs.Command.{Command, Stamp, Begin, Finish, Abandon, Deposit, Show, Token, ListAll, Grant, Revoke}
 use Rattle.desk.specs.Command.{Calibrate, Hold}
 

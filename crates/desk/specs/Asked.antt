@@ -2,7 +2,7 @@
 use Rattle.std.specs.Prelude.{List, map}
 use Rattle.policy.specs.View.{account_view}
 use Rattle.decide.specs.View.{account_asked}
-use Rattle.store.specs.Values.{calibration_view, hold_view}
+use Rattle.book.specs.Values.{calibration_view, hold_view}
 use Rattle.desk.specs.Command as machine
 use Rattle.desk.specs.Answers.{reply_as}
 use Rattle.desk.specs.Shown.{deposited_as, shown_as, listed_as}

@@ -11,14 +11,11 @@ use Rattle.cms.specs.SignedData.{attribute_text}
 use Rattle.cms.specs.declared.signer.SignerFault.{SignerFault}
 use Rattle.cms.specs.declared.signer.SignerFault.TheVariants as signer
 use Rattle.decide.specs.declared.facts.Calibration.{Calibration}
-use Rattle.store.specs.declared.fault.StoreFault.{StoreFault}
-use Rattle.store.specs.declared.fault.StoreFault.TheVariants as store
-use Rattle.sqlite_trees.specs.Tree.{Trees}
-use Rattle.sqlite_trees.specs.declared.store.Store.{Ghosts}
-use Rattle.tables.specs.Base.{BaseValue, Recovers, Holds}
-use Rattle.store.specs.History.{History, CalibrationValue, greatest_serial, count_of_day}
-use Rattle.store.specs.Stands.{Stands}
-use Rattle.store.specs.TablesOf.{tables_of}
+use Rattle.book.specs.declared.fault.StoreFault.{StoreFault}
+use Rattle.book.specs.declared.fault.StoreFault.TheVariants as store
+use Rattle.book.specs.declared.standing.Standing.{Ghosts}
+use Rattle.book.specs.History.{History, CalibrationValue, greatest_serial, count_of_day}
+use Rattle.book.specs.Stands.{Stands}
 use Rattle.desk.specs.Facts.{calibration_of, clock_of}
 use Rattle.desk.specs.Outcome.{Call, Fine, Wanting, Broken, Outcome, Cause, OfMemory, OfStore, OfSigner, all_fine}
 use Rattle.desk.specs.Effects.{Effect, begin_effect, no_number, fault_of}
@@ -180,16 +177,16 @@ abbrev pub reserving : Setting → List ℕ → PlanValue → List ℕ → Outco
 reserving s account plan octets o b = begin_effect s account plan octets b (no_number o b)
 
 -- what a stop after it may leave
-abbrev pub LeftReserving : {S : Type 0} → Ghosts S → Setting → List ℕ → PlanValue → List ℕ → Outcome → History
-    → BaseValue S → Trees → Type 0
-LeftReserving g s account plan octets o b old db =
-    (((reserving s account plan octets o b).adds ≡ []) × Recovers g old db)
-    ⊎ (Holds (tables_of (after (reserving s account plan octets o b) b)) db
-    ⊎ ((o.adding ≡ Fine → ⊥) × Holds (tables_of (after (reserving s account plan octets (settled o) b) b)) db))
+abbrev pub LeftReserving : {B : Type 0} → (g : Ghosts B) → Setting → List ℕ → PlanValue → List ℕ → Outcome → History
+    → B → g.Left → Type 0
+LeftReserving g s account plan octets o b old left =
+    (((reserving s account plan octets o b).adds ≡ []) × g.leaves old left)
+    ⊎ (g.holds left (after (reserving s account plan octets o b) b)
+    ⊎ ((o.adding ≡ Fine → ⊥) × g.holds left (after (reserving s account plan octets (settled o) b) b)))
 
-pub record Reserves {S : Type 0} (g : Ghosts S) (s : Setting) (account : List ℕ) (plan : PlanValue) (octets : List ℕ)
-    (b : History) (old new : BaseValue S) (result : Result PendingValue Refusal) : Type 0 where
+pub record Reserves {B : Type 0} (g : Ghosts B) (s : Setting) (account : List ℕ) (plan : PlanValue) (octets : List ℕ)
+    (b : History) (old new : B) (result : Result PendingValue Refusal) : Type 0 where
   pub says : pending_as result ≡ (reserving s account plan octets (outcome_of result) b).says
   pub stands : Stands g (after (reserving s account plan octets (outcome_of result) b) b) new
-  pub left : (db : Trees) → Recovers g new db
-      → LeftReserving g s account plan octets (outcome_of result) b old db
+  pub left : (left : g.Left) → g.leaves new left
+      → LeftReserving g s account plan octets (outcome_of result) b old left

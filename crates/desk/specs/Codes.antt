@@ -3,7 +3,6 @@ use Rattle.std.specs.Prelude.{ℕ, Bool, List, Option, refl}
 use Rattle.std.specs.Coded.{Coded, code_by, coded×, coded_ℕ, coded_bool, coded_list, coded_option}
 use Rattle.policy.specs.Record.{AlgorithmValue, ExtensionValue, TsaPolicyValue, AccountValue, CounterValue, PolicyValue}
 use Rattle.cms.specs.Identity.{IdentityValue}
-use Rattle.tables.specs.Base.{BaseValue, base_code}
 use Rattle.desk.specs.Command.{Setting}
 use Rattle.desk.specs.Stepped.{DeskValue}
 
@@ -85,7 +84,7 @@ setting_code =
     (λ s. (s.file, (s.identity, s.algorithm))) (λ p. record { file = p.0; identity = p.1.0; algorithm = p.1.1 })
     (λ _. refl)
 
-abbrev pub desk_code : {S : Type 0} → Coded S → Coded (DeskValue S)
-desk_code {S} store =
-    code_by (Setting × BaseValue S) (coded× setting_code (base_code store)) (λ d. (d.setting, d.store))
+abbrev pub desk_code : {B : Type 0} → Coded B → Coded (DeskValue B)
+desk_code {B} store =
+    code_by (Setting × B) (coded× setting_code store) (λ d. (d.setting, d.store))
     (λ p. record { setting = p.0; store = p.1 }) (λ _. refl)

@@ -3,8 +3,8 @@ use Rattle.std.specs.Prelude.{ℕ, ℤ, Bool, List, Option}
 use Rattle.policy.specs.Record.{AccountValue, PolicyValue}
 use Rattle.tsp.specs.declared.rule.Rule.{Rule}
 use Rattle.cms.specs.Identity.{IdentityValue}
-use Rattle.store.specs.History.{CalibrationValue, HoldValue}
-use Rattle.store.specs.Rights.{ListedValue}
+use Rattle.book.specs.History.{CalibrationValue, HoldValue}
+use Rattle.book.specs.Rights.{ListedValue}
 use Rattle.desk.specs.declared.fault.Fault.{Fault}
 
 -- with what the desk was opened: the policy file's record, the signer's certificate, and the octets of its

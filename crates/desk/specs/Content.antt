@@ -5,9 +5,9 @@ use Rattle.der.specs.ObjectIdentifier.{oid_content}
 use Rattle.sha2.specs.Sha256.{sha256}
 use Rattle.tsp.specs.Request.{RequestValue, Spells}
 use Rattle.tsp.specs.Tst.{SpellsTst, answer}
-use Rattle.store.specs.History.{Entry, Reserved, Sealed, Deposited, Calibrated, Held, Granted, Revoked, History}
-use Rattle.store.specs.History.{ReservationValue, DepositValue, reservation_at}
-use Rattle.store.specs.Sound.{Along, IsSound}
+use Rattle.book.specs.History.{Entry, Reserved, Sealed, Deposited, Calibrated, Held, Granted, Revoked, History}
+use Rattle.book.specs.History.{ReservationValue, DepositValue, reservation_at}
+use Rattle.book.specs.Sound.{Along, IsSound}
 
 -- A reservation is for the request that its octets spell: with its algorithm and digest, and the TSTInfo that answers
 -- it.

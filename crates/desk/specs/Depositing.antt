@@ -2,16 +2,13 @@
 use Rattle.std.specs.Prelude.{◌≡◌, ◌⊎◌, ℕ, true, if◌then◌else◌, List, [], ◌∷◌, ◌++◌, Option, Some, None, Result}
 use Rattle.std.specs.Prelude.{Ok, Err}
 use Rattle.std.specs.Str.{bytes_eq}
-use Rattle.sqlite_trees.specs.Tree.{Trees}
-use Rattle.sqlite_trees.specs.declared.store.Store.{Ghosts}
+use Rattle.book.specs.declared.standing.Standing.{Ghosts}
 use Rattle.policy.specs.Record.{AccountValue}
 use Rattle.cms.specs.SignedData.{attribute_text}
 use Rattle.cms.specs.declared.signer.SignerFault.{SignerFault}
-use Rattle.tables.specs.Base.{BaseValue, IsHonest, Recovers, Holds}
-use Rattle.store.specs.History.{Entry, Deposited, History, DepositValue, deposit_under}
-use Rattle.store.specs.Sound.{FitsDeposited}
-use Rattle.store.specs.Stands.{Stands}
-use Rattle.store.specs.TablesOf.{tables_of}
+use Rattle.book.specs.History.{Entry, Deposited, History, DepositValue, deposit_under}
+use Rattle.book.specs.Sound.{FitsDeposited}
+use Rattle.book.specs.Stands.{Stands}
 use Rattle.desk.specs.Outcome.{Fine, Outcome, Cause, counted, faults_after, all_fine}
 use Rattle.desk.specs.Command.{Setting, PendingValue, Command, Answer, Kept, Refused}
 use Rattle.desk.specs.Texts.{token_with}
@@ -50,34 +47,34 @@ kept p d (Err fault) begun sealed = record {
   says = Refused (fault_of (signer_cause fault));
 }
 
--- what a stop leaves after that: what it could leave before, the tables with the deposit, or those in doubt
-abbrev pub MayStayKept : {S : Type 0} → Ghosts S → PendingValue → DepositValue → Result (List ℕ) SignerFault → Outcome
-    → History → BaseValue S → Trees → Type 0
-MayStayKept g p d signing o b old db =
-    (((kept p d signing [] o).adds ≡ []) × Recovers g old db)
-    ⊎ (Holds (tables_of ((kept p d signing [] o).adds ++ b)) db
+-- what a stop leaves after that: what it could leave before, the history with the deposit, or those in doubt
+abbrev pub MayStayKept : {B : Type 0} → (g : Ghosts B) → PendingValue → DepositValue → Result (List ℕ) SignerFault
+    → Outcome → History → B → g.Left → Type 0
+MayStayKept g p d signing o b old left =
+    (((kept p d signing [] o).adds ≡ []) × g.leaves old left)
+    ⊎ (g.holds left ((kept p d signing [] o).adds ++ b)
     ⊎ ((o.sealing ≡ Fine → ⊥)
-    × Holds (tables_of ((kept p d signing [] (record o { sealing = Fine })).adds ++ b)) db))
+    × g.holds left ((kept p d signing [] (record o { sealing = Fine })).adds ++ b)))
 
 -- what holds after it, where the store stood for the history b
-pub record HasKept {S : Type 0} (g : Ghosts S) (p : PendingValue) (d : DepositValue)
-    (signing : Result (List ℕ) SignerFault) (o : Outcome) (b : History) (old new : BaseValue S) (answer : Answer)
+pub record HasKept {B : Type 0} (g : Ghosts B) (p : PendingValue) (d : DepositValue)
+    (signing : Result (List ℕ) SignerFault) (o : Outcome) (b : History) (old new : B) (answer : Answer)
     : Type 0 where
   pub says : answer ≡ (kept p d signing [] o).says
   pub stands : Stands g ((kept p d signing [] o).adds ++ b) new
-  pub left : (db : Trees) → Recovers g new db → MayStayKept g p d signing o b old db
+  pub left : (left : g.Left) → g.leaves new left → MayStayKept g p d signing o b old left
 
 -- A deposit from its signature on: token and deposit are stored in one commit.
-pub record KeepsBy {S : Type 0} (g : Ghosts S) (p : PendingValue) (d : DepositValue)
-    (signing : Result (List ℕ) SignerFault) (o : Outcome) (old new : BaseValue S) (answer : Answer) : Type 0 where
-  pub counted : new.faults ≡ counted o.sealing (counted o.wrapping old.faults)
-  pub blames : (c : Command) (first : BaseValue S) → IsBlamed g c (joined (all_fine (Ok [])) signing o) first new answer
-  pub steps : IsHonest g new → (b : History) → Stands g b old → FitsDeposited d b
+pub record KeepsBy {B : Type 0} (g : Ghosts B) (p : PendingValue) (d : DepositValue)
+    (signing : Result (List ℕ) SignerFault) (o : Outcome) (old new : B) (answer : Answer) : Type 0 where
+  pub counted : g.fault_count new ≡ counted o.sealing (counted o.wrapping (g.fault_count old))
+  pub blames : (c : Command) (first : B) → IsBlamed g c (joined (all_fine (Ok [])) signing o) first new answer
+  pub steps : g.honest new → (b : History) → Stands g b old → FitsDeposited d b
       → HasKept g p d signing o b old new answer
 
 -- The same from its reservation on: the signer is asked first.
-pub record SignsAndKeeps {S : Type 0} (g : Ghosts S) (t : SignerStep) (p : PendingValue) (d : DepositValue)
-    (signing : Result (List ℕ) SignerFault) (o : Outcome) (old new : BaseValue S) (answer : Answer) : Type 0 where
+pub record SignsAndKeeps {B : Type 0} (g : Ghosts B) (t : SignerStep) (p : PendingValue) (d : DepositValue)
+    (signing : Result (List ℕ) SignerFault) (o : Outcome) (old new : B) (answer : Answer) : Type 0 where
   pub signer : t.counts signing
   pub moves : t.moves (Some (attribute_text p.identity p.tst)) signing
   pub keeps : KeepsBy g p d signing o old new answer
@@ -92,12 +89,12 @@ IsRejectedLate (begun.Rejected rejection) = IsLate rejection.rule
 IsRejectedLate (begun.Pending p) = Unit {0}
 
 -- A step of the machine from each history of which P holds.
-pub record StepsWhere {S : Type 0} (g : Ghosts S) (t : SignerStep) (s : Setting) (c : Command) (P : History → Type 0)
-    (o : Outcome) (old new : BaseValue S) (answer : Answer) : Type 0 where
-  pub counted : new.faults ≡ faults_after o old.faults
+pub record StepsWhere {B : Type 0} (g : Ghosts B) (t : SignerStep) (s : Setting) (c : Command) (P : History → Type 0)
+    (o : Outcome) (old new : B) (answer : Answer) : Type 0 where
+  pub counted : g.fault_count new ≡ faults_after o (g.fault_count old)
   pub signer : t.counts o.signing
   pub blames : IsBlamed g c o old new answer
-  pub steps : IsHonest g new → (b : History) → Stands g b old → P b → HasStepped g t s c o b old new answer
+  pub steps : g.honest new → (b : History) → Stands g b old → P b → HasStepped g t s c o b old new answer
 
 -- the owner hasn't used the reference
 abbrev pub IsUnused : AccountValue → List ℕ → History → Type 0

@@ -7,9 +7,9 @@ use Rattle.policy.specs.Kinds.{is_among}
 use Rattle.tsp.specs.declared.rule.Rule.TheVariants.{System}
 use Rattle.cms.specs.SignedData.{attribute_text}
 use Rattle.cms.specs.declared.signer.SignerFault.{SignerFault}
-use Rattle.store.specs.History.{Entry, Reserved, Sealed, Deposited, Calibrated, History, ReservationValue, DepositValue}
-use Rattle.store.specs.History.{CalibrationValue, greatest_serial, latest_calibration}
-use Rattle.store.specs.Sound.{greatest_number}
+use Rattle.book.specs.History.{Entry, Reserved, Sealed, Deposited, Calibrated, History, ReservationValue, DepositValue}
+use Rattle.book.specs.History.{CalibrationValue, greatest_serial, latest_calibration}
+use Rattle.book.specs.Sound.{greatest_number}
 use Rattle.desk.specs.Outcome.{Outcome, Cause, OfMemory, OfStore, OfSigner, cause_of, cause_of_signing, first_cause}
 use Rattle.desk.specs.Findings.{PlanValue, Finding, Fails, Unanswered, Allowed}
 use Rattle.desk.specs.Command.{Setting, PendingValue, Answer, Stamped, Rejected, Begun, Kept, Shown, Done, Refused}

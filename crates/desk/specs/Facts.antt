@@ -2,8 +2,8 @@
 use Rattle.std.specs.Prelude.{ℕ, ℤ, pos, negsuc, nat_le, Bool, false, ◌&&◌, Option, Some, None, option_map}
 use Rattle.gentime.specs.GenTime.{last_moment}
 use Rattle.policy.specs.Record.{AccountValue, PolicyValue}
-use Rattle.store.specs.History.{History, CalibrationValue, latest_calibration, is_held, last_gen_time, count_of_day}
-use Rattle.store.specs.History.{day_of}
+use Rattle.book.specs.History.{History, CalibrationValue, latest_calibration, is_held, last_gen_time, count_of_day}
+use Rattle.book.specs.History.{day_of}
 use Rattle.decide.specs.Clock.{now_at, at_least_zero, gen_time}
 use Rattle.decide.specs.declared.facts.Calibration.{Calibration}
 use Rattle.decide.specs.declared.facts.ClockFacts.{ClockFacts}

@@ -9,7 +9,7 @@ use Rattle.tsp.specs.declared.rule.Rule.TheVariants.{Spelling, Version, Account,
 use Rattle.tsp.specs.declared.rule.Rule.TheVariants.{PolicyAlgorithm, Extensions, Certificate, Clock, Quota, System}
 use Rattle.decide.specs.Clock.{IsGood, IsGoodAt}
 use Rattle.decide.specs.Rules.{Holds, HoldsOf, policy_asked}
-use Rattle.store.specs.History.{History}
+use Rattle.book.specs.History.{History}
 use Rattle.desk.specs.Facts.{facts_of}
 use Rattle.desk.specs.Outcome.{Fine, Cause, cause_of, Outcome}
 

@@ -1,7 +1,7 @@
 -- What one command tells its account of others, and leaves of others' for it.
 use Rattle.std.specs.Prelude.{ℕ, List}
-use Rattle.store.specs.History.{History}
-use Rattle.store.specs.Sound.{IsSound}
+use Rattle.book.specs.History.{History}
+use Rattle.book.specs.Sound.{IsSound}
 use Rattle.desk.specs.Agreement.{Agree, IsCommandOf}
 use Rattle.desk.specs.Outcome.{Outcome}
 use Rattle.desk.specs.Command.{Setting, Command}

@@ -10,9 +10,9 @@ use Rattle.tsp.specs.declared.rule.Rule.{Rule}
 use Rattle.tsp.specs.declared.rule.Rule.TheVariants.{System}
 use Rattle.cms.specs.SignedData.{attribute_text}
 use Rattle.cms.specs.declared.signer.SignerFault.{SignerFault}
-use Rattle.store.specs.History.{Entry, Reserved, History, ReservationValue, stamps, deposits, holds, latest_calibration}
-use Rattle.store.specs.History.{greatest_serial}
-use Rattle.store.specs.Sound.{greatest_number}
+use Rattle.book.specs.History.{Entry, Reserved, History, ReservationValue, stamps, deposits, holds, latest_calibration}
+use Rattle.book.specs.History.{greatest_serial}
+use Rattle.book.specs.Sound.{greatest_number}
 use Rattle.desk.specs.Agreement.{seen_at, Agree, IsCommandOf}
 use Rattle.desk.specs.Outcome.{Outcome, Cause, cause_of, cause_of_signing}
 use Rattle.desk.specs.Findings.{PlanValue, IsAllowed, HoldsAt}

@@ -2,10 +2,10 @@
 use Rattle.std.specs.Prelude.{◌≡◌, ℕ, true, false, List, [], Some, None, option_map, Result, Ok, Err}
 use Rattle.std.specs.Str.{bytes_eq}
 use Rattle.policy.specs.Record.{PolicyValue}
-use Rattle.tables.specs.Queries.{deposit_view}
-use Rattle.store.specs.History.{History, DepositValue, token_of}
-use Rattle.store.specs.Rights.{seen_by}
-use Rattle.store.specs.declared.values.StampedDeposit.{StampedDeposit}
+use Rattle.book.specs.Values.{deposit_view}
+use Rattle.book.specs.History.{History, DepositValue, token_of}
+use Rattle.book.specs.Rights.{seen_by}
+use Rattle.book.specs.declared.values.StampedDeposit.{StampedDeposit}
 use Rattle.desk.specs.Outcome.{Outcome, Wanting, all_fine}
 use Rattle.desk.specs.Command.{Answer, Refused}
 use Rattle.desk.specs.Effects.{fault_of, has_account}

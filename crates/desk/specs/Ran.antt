@@ -1,14 +1,11 @@
 -- Calls one after the other are a run of the machine: what the contract of `run` says.
 use Rattle.std.specs.Prelude.{◌≡◌, ◌⊎◌, ℕ, List, [], ◌∷◌, Some, Result}
-use Rattle.sqlite_trees.specs.Tree.{Trees}
-use Rattle.sqlite_trees.specs.declared.store.Store.{Ghosts}
+use Rattle.book.specs.declared.standing.Standing.{Ghosts}
 use Rattle.cms.specs.declared.signer.SignerFault.{SignerFault}
-use Rattle.tables.specs.Base.{BaseValue, IsHonest, Recovers, Holds}
-use Rattle.store.specs.History.{History}
-use Rattle.store.specs.Rights.{is_reader}
-use Rattle.store.specs.Sound.{IsSound}
-use Rattle.store.specs.Stands.{Stands}
-use Rattle.store.specs.TablesOf.{tables_of}
+use Rattle.book.specs.History.{History}
+use Rattle.book.specs.Rights.{is_reader}
+use Rattle.book.specs.Sound.{IsSound}
+use Rattle.book.specs.Stands.{Stands}
 use Rattle.desk.specs.Agreement.{Agree}
 use Rattle.desk.specs.Outcome.{Outcome}
 use Rattle.desk.specs.Command.{Setting, PendingValue, Command, Answer, Begun}
@@ -21,11 +18,11 @@ use Rattle.desk.specs.Laws.{Concerns, StaysFor}
 use Rattle.desk.specs.Stepped.{StepsBy, IsDoubted, with_signer}
 
 -- Each call is a step under its outcome, from what the one before it left of store and signer.
-abbrev pub AreSteps : {S X : Type 0} → Ghosts S → (X → List ℕ → Result (List ℕ) SignerFault → X → Type 0) → (X → ℕ)
-    → Setting → List Command → List Outcome → List Answer → BaseValue S → X → BaseValue S → X → Type 0
+abbrev pub AreSteps : {B X : Type 0} → Ghosts B → (X → List ℕ → Result (List ℕ) SignerFault → X → Type 0) → (X → ℕ)
+    → Setting → List Command → List Outcome → List Answer → B → X → B → X → Type 0
 AreSteps g signs count s [] [] [] old x new y = (new ≡ old) × (y ≡ x)
-AreSteps {S} {X} g signs count s (c ∷ cs) (o ∷ os) (answer ∷ answers) old x new y =
-    (mid : BaseValue S) × (z : X) × ((IsHonest g mid → IsHonest g old)
+AreSteps {B} {X} g signs count s (c ∷ cs) (o ∷ os) (answer ∷ answers) old x new y =
+    (mid : B) × (z : X) × ((g.honest mid → g.honest old)
     × StepsBy g (with_signer signs count x z) s c o old mid answer
     × AreSteps g signs count s cs os answers mid z new y)
 AreSteps g signs count s [] [] (answer ∷ answers) old x new y = ⊥
@@ -33,21 +30,22 @@ AreSteps g signs count s [] (o ∷ os) answers old x new y = ⊥
 AreSteps g signs count s (c ∷ cs) [] answers old x new y = ⊥
 AreSteps g signs count s (c ∷ cs) (o ∷ os) [] old x new y = ⊥
 
--- A commit was refused, and nothing was added after it: the tables of the history with what its command adds where it
--- is there after all.
-abbrev pub IsDoubtedIn : Setting → List Command → List Outcome → History → History → Trees → Type 0
-IsDoubtedIn s (c ∷ cs) (o ∷ os) b last db =
+-- A commit was refused, and nothing was added after it: the history with what its command adds where it is there
+-- after all.
+abbrev pub IsDoubtedIn : {B : Type 0} → (g : Ghosts B) → Setting → List Command → List Outcome → History → History
+    → g.Left → Type 0
+IsDoubtedIn g s (c ∷ cs) (o ∷ os) b last left =
     (e : Effect) × (HasEffect s c o b e
-    × (((last ≡ after e b) × IsDoubted s c o b db) ⊎ IsDoubtedIn s cs os (after e b) last db))
-IsDoubtedIn s [] os b last db = ⊥
-IsDoubtedIn s (c ∷ cs) [] b last db = ⊥
+    × (((last ≡ after e b) × IsDoubted g s c o b left) ⊎ IsDoubtedIn g s cs os (after e b) last left))
+IsDoubtedIn g s [] os b last left = ⊥
+IsDoubtedIn g s (c ∷ cs) [] b last left = ⊥
 
--- What a stop after a run may leave: where nothing was added, what it could leave before; the tables of the history
--- after it; or, in doubt, with what a refused commit would have added too. Between its calls each step says it.
-abbrev pub MayBeLeftBy : {S : Type 0} → Ghosts S → Setting → List Command → List Outcome → History → BaseValue S
-    → History → Trees → Type 0
-MayBeLeftBy g s cs os b old last db =
-    ((last ≡ b) × Recovers g old db) ⊎ (Holds (tables_of last) db ⊎ IsDoubtedIn s cs os b last db)
+-- What a stop after a run may leave: where nothing was added, what it could leave before; the history after
+-- it; or, in doubt, with what a refused commit would have added too. Between its calls each step says it.
+abbrev pub MayBeLeftBy : {B : Type 0} → (g : Ghosts B) → Setting → List Command → List Outcome → History → B
+    → History → g.Left → Type 0
+MayBeLeftBy g s cs os b old last left =
+    ((last ≡ b) × g.leaves old left) ⊎ (g.holds left last ⊎ IsDoubtedIn g s cs os b last left)
 
 -- each command is another account's
 abbrev pub AreCommandsOfOthers : List ℕ → List Command → Type 0
@@ -67,15 +65,15 @@ pub record GoesOn (b : History) (w : List Told) : Type 0 where
       → is_reader number account b ≡ is_reader number account (rights_along journey)
 
 -- What holds after a run, where the store stood for the history b.
-pub record HasRun {S X : Type 0} (g : Ghosts S) (signs : X → List ℕ → Result (List ℕ) SignerFault → X → Type 0)
-    (s : Setting) (cs : List Command) (os : List Outcome) (answers : List Answer) (b : History) (old : BaseValue S)
-    (x : X) (new : BaseValue S) (y : X) : Type 0 where
+pub record HasRun {B X : Type 0} (g : Ghosts B) (signs : X → List ℕ → Result (List ℕ) SignerFault → X → Type 0)
+    (s : Setting) (cs : List Command) (os : List Outcome) (answers : List Answer) (b : History) (old : B)
+    (x : X) (new : B) (y : X) : Type 0 where
   pub history : History
   -- The answers, the history that follows and the signer are a run of the machine,
   pub runs : Runs signs s cs os b x answers history y
   -- and the store stands for that history.
   pub stands : Stands g history new
-  pub left : (db : Trees) → Recovers g new db → MayBeLeftBy g s cs os b old history db
+  pub left : (left : g.Left) → g.leaves new left → MayBeLeftBy g s cs os b old history left
   -- Each journey that ends in b goes on by these commands, to their end or to a stop in one of them, and keeps its
   -- promises there; who may read a deposit is told by the rights that it acknowledged and that its stops left.
   pub journeys : (w : List Told) → Journey b w → (outcomes : List Outcome) (b' : History) (w' : List Told)
@@ -89,11 +87,11 @@ pub record HasRun {S X : Type 0} (g : Ghosts S) (signs : X → List ℕ → Resu
   pub undisturbed : (account : List ℕ) → AreCommandsOfOthers account cs
       → StaysFor account (λ number. OneConcerns number cs) b history
 
--- Calls one after the other, under their outcomes. While the disk returns what was written, what holds after them is
+-- Calls one after the other, under their outcomes. While the store returns what was written, what holds after them is
 -- the run's, from each history that the store stood for.
-pub record RunsBy {S X : Type 0} (g : Ghosts S) (signs : X → List ℕ → Result (List ℕ) SignerFault → X → Type 0)
-    (count : X → ℕ) (s : Setting) (cs : List Command) (os : List Outcome) (answers : List Answer) (old : BaseValue S)
-    (x : X) (new : BaseValue S) (y : X) : Type 0 where
+pub record RunsBy {B X : Type 0} (g : Ghosts B) (signs : X → List ℕ → Result (List ℕ) SignerFault → X → Type 0)
+    (count : X → ℕ) (s : Setting) (cs : List Command) (os : List Outcome) (answers : List Answer) (old : B)
+    (x : X) (new : B) (y : X) : Type 0 where
   pub steps : AreSteps g signs count s cs os answers old x new y
   -- What a signer is asked to sign, and what waits for its signature, is over the reservation that the same command
   -- adds before all else, under a serial number above all before it.
@@ -101,10 +99,10 @@ pub record RunsBy {S X : Type 0} (g : Ghosts S) (signs : X → List ℕ → Resu
       → e.asks ≡ Some text → IsReservedText s e b text
   pub begun : (c : Command) (o : Outcome) (b : History) (e : Effect) (p : PendingValue) → HasEffect s c o b e
       → e.says ≡ Begun p → IsPendingOf s e b p
-  pub run : IsHonest g new → (b : History) → Stands g b old → AreMet cs → HasRun g signs s cs os answers b old x new y
+  pub run : g.honest new → (b : History) → Stands g b old → AreMet cs → HasRun g signs s cs os answers b old x new y
 
 -- the same under some outcomes
-abbrev pub IsRun : {S X : Type 0} → Ghosts S → (X → List ℕ → Result (List ℕ) SignerFault → X → Type 0) → (X → ℕ)
-    → Setting → List Command → List Answer → BaseValue S → X → BaseValue S → X → Type 0
+abbrev pub IsRun : {B X : Type 0} → Ghosts B → (X → List ℕ → Result (List ℕ) SignerFault → X → Type 0) → (X → ℕ)
+    → Setting → List Command → List Answer → B → X → B → X → Type 0
 IsRun g signs count s cs answers old x new y =
     (os : List Outcome) × RunsBy g signs count s cs os answers old x new y

@@ -1,6 +1,6 @@
 -- Who may read a deposit after a journey: what was acknowledged of rights, and what the stops left, in their order.
 use Rattle.std.specs.Prelude.{List, [], ◌∷◌, ◌++◌, drop}
-use Rattle.store.specs.History.{Entry, Granted, Revoked, History}
+use Rattle.book.specs.History.{Entry, Granted, Revoked, History}
 use Rattle.desk.specs.Command.{Command, Stamp, Begin, Finish, Abandon, Deposit, Show, Token, ListAll, Grant, Revoke}
 use Rattle.desk.specs.Command.{Calibrate, Hold, Answer, Stamped, Rejected, Begun, Kept, Shown, Listed, Done, Refused}
 use Rattle.desk.specs.Runs.{Told, Journey, begins, goes, stops}

@@ -7,7 +7,7 @@ use Rattle.tsp.specs.declared.rule.Rule.{Rule}
 use Rattle.tsp.specs.declared.rule.Rule.TheVariants.{System}
 use Rattle.cms.specs.SignedData.{attribute_text, token}
 use Rattle.cms.specs.declared.signer.SignerFault.{SignerFault}
-use Rattle.store.specs.History.{History, greatest_serial}
+use Rattle.book.specs.History.{History, greatest_serial}
 use Rattle.desk.specs.Command.{Setting}
 use Rattle.desk.specs.Findings.{PlanValue, IsAllowed, HoldsAt}
 use Rattle.desk.specs.Texts.{tst_of}

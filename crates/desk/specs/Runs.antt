@@ -4,9 +4,9 @@ use Rattle.std.specs.List.{AllByRecursion, Contains}
 use Rattle.der.specs.ObjectIdentifier.{IsOid}
 use Rattle.cms.specs.declared.signer.SignerFault.{SignerFault}
 use Rattle.decide.specs.Clock.{Follows}
-use Rattle.store.specs.History.{Entry, Reserved, Sealed, Deposited, Calibrated, Held, Granted, Revoked, History}
-use Rattle.store.specs.History.{last_gen_time, token_of, deposit_at, ReservationValue}
-use Rattle.store.specs.Sound.{Along}
+use Rattle.book.specs.History.{Entry, Reserved, Sealed, Deposited, Calibrated, Held, Granted, Revoked, History}
+use Rattle.book.specs.History.{last_gen_time, token_of, deposit_at, ReservationValue}
+use Rattle.book.specs.Sound.{Along}
 use Rattle.desk.specs.Content.{IsForRequest, IsSoundInFull}
 use Rattle.desk.specs.Outcome.{Outcome}
 use Rattle.desk.specs.Command.{Setting, Command, Deposit, Grant, Revoke, Calibrate, Hold, Answer, Stamped, Kept, Done}

@@ -1,15 +1,12 @@
 -- A call of the program is a step of the machine: what each call's contract says.
 use Rattle.std.specs.Prelude.{◌≡◌, ℕ, ◌≤◌, ◌⊎◌, true, List, [], Option, None, Result, Err}
-use Rattle.sqlite_trees.specs.Tree.{Trees}
-use Rattle.sqlite_trees.specs.declared.store.Store.{Ghosts}
+use Rattle.book.specs.declared.standing.Standing.{Ghosts}
 use Rattle.cms.specs.Signer.{count_after}
 use Rattle.cms.specs.declared.signer.SignerFault.{SignerFault}
 use Rattle.cms.specs.declared.signer.SignerFault.TheVariants as signer
-use Rattle.tables.specs.Base.{BaseValue, IsHonest, Recovers, Holds}
-use Rattle.store.specs.History.{History, greatest_serial, latest_calibration}
-use Rattle.store.specs.Sound.{greatest_number}
-use Rattle.store.specs.Stands.{Stands}
-use Rattle.store.specs.TablesOf.{tables_of}
+use Rattle.book.specs.History.{History, greatest_serial, latest_calibration}
+use Rattle.book.specs.Sound.{greatest_number}
+use Rattle.book.specs.Stands.{Stands}
 use Rattle.desk.specs.Outcome.{Call, Fine, Wanting, Broken, Outcome, faults_after}
 use Rattle.desk.specs.Command.{Setting, Command, Stamp, Begin, Finish, Abandon, Deposit, Show, Token, ListAll, Grant}
 use Rattle.desk.specs.Command.{Revoke, Calibrate, Hold, Answer, Stamped, Rejected, Begun, Kept, Shown, Listed, Done}
@@ -21,12 +18,12 @@ use Rattle.desk.specs.Steps.{HasEffect, IsMet, Moves}
 use Rattle.desk.specs.Runs.{after}
 
 -- a desk: with what it was opened, and its store
-pub record DeskValue (S : Type 0) : Type 0 where
+pub record DeskValue (B : Type 0) : Type 0 where
   pub setting : Setting
-  pub store : BaseValue S
+  pub store : B
 
 -- the desk with another store
-abbrev pub with_store : {S : Type 0} → DeskValue S → BaseValue S → DeskValue S
+abbrev pub with_store : {B : Type 0} → DeskValue B → B → DeskValue B
 with_store desk store = record desk { store = store }
 
 -- the signer in a call: how its count of faults goes on, and how it moves by the text that it is asked to sign
@@ -56,30 +53,31 @@ settled_by Broken o = record o { adding = Fine; signing = Err signer.Failed }
 abbrev pub settled : Outcome → Outcome
 settled o = settled_by o.adding o
 
--- A commit was refused: the tables of the history with what the command adds where it is there after all.
-pub record IsDoubted (s : Setting) (c : Command) (o : Outcome) (b : History) (db : Trees) : Type 0 where
+-- A commit was refused: the history with what the command adds where it is there after all.
+pub record IsDoubted {B : Type 0} (g : Ghosts B) (s : Setting) (c : Command) (o : Outcome) (b : History) (left : g.Left)
+    : Type 0 where
   pub refused : o.adding ≡ Fine → o.sealing ≡ Fine → ⊥
   pub doubted : Effect
   pub has : HasEffect s c (settled o) b doubted
-  pub holds : Holds (tables_of (after doubted b)) db
+  pub holds : g.holds left (after doubted b)
 
--- What a stop after the call may leave: where nothing was added, what it could leave before; the tables of the history
--- with what was added; or, in doubt, with what the refused commit would have added too.
-abbrev pub MayBeLeft : {S : Type 0} → Ghosts S → Setting → Command → Outcome → History → BaseValue S → Effect → Trees
+-- What a stop after the call may leave: where nothing was added, what it could leave before; the history with what
+-- was added; or, in doubt, with what the refused commit would have added too.
+abbrev pub MayBeLeft : {B : Type 0} → (g : Ghosts B) → Setting → Command → Outcome → History → B → Effect → g.Left
     → Type 0
-MayBeLeft g s c o b old e db =
-    ((e.adds ≡ []) × Recovers g old db) ⊎ (Holds (tables_of (after e b)) db ⊎ IsDoubted s c o b db)
+MayBeLeft g s c o b old e left =
+    ((e.adds ≡ []) × g.leaves old left) ⊎ (g.holds left (after e b) ⊎ IsDoubted g s c o b left)
 
 -- What holds after a call, where the store stood for the history b: the answer is that of the command's effect, the
 -- signer moved by it, the store stands for the history with what the effect adds, and so does what a stop leaves.
-pub record HasStepped {S : Type 0} (g : Ghosts S) (t : SignerStep) (s : Setting) (c : Command) (o : Outcome)
-    (b : History) (old new : BaseValue S) (answer : Answer) : Type 0 where
+pub record HasStepped {B : Type 0} (g : Ghosts B) (t : SignerStep) (s : Setting) (c : Command) (o : Outcome)
+    (b : History) (old new : B) (answer : Answer) : Type 0 where
   pub effect : Effect
   pub has : HasEffect s c o b effect
   pub says : answer ≡ effect.says
   pub moves : t.moves effect.asks o.signing
   pub stands : Stands g (after effect b) new
-  pub left : (db : Trees) → Recovers g new db → MayBeLeft g s c o b old effect db
+  pub left : (left : g.Left) → g.leaves new left → MayBeLeft g s c o b old effect left
 
 -- one of the store's calls was refused for a cause that the store counts
 abbrev pub IsBroken : Outcome → Type 0
@@ -102,7 +100,7 @@ IsExcused (Calibrate c) b = is_backwards c (latest_calibration b) ≡ true
 IsExcused (Hold h) b = ⊥
 
 -- Store and signer are named only where they failed and counted it, and the store where it is excused.
-abbrev pub IsBlamedFor : {S : Type 0} → Ghosts S → Command → Outcome → BaseValue S → BaseValue S → Fault → Type 0
+abbrev pub IsBlamedFor : {B : Type 0} → Ghosts B → Command → Outcome → B → B → Fault → Type 0
 IsBlamedFor g c o old new fault.NotHere = Unit {0}
 IsBlamedFor g c o old new fault.NotOwner = Unit {0}
 IsBlamedFor g c o old new fault.Conflict = Unit {0}
@@ -112,10 +110,10 @@ IsBlamedFor g c o old new fault.TooLarge = Unit {0}
 IsBlamedFor g c o old new (fault.Rejected rule) = Unit {0}
 IsBlamedFor g c o old new fault.Memory = Unit {0}
 IsBlamedFor g c o old new fault.Store =
-    IsBroken o ⊎ (IsHonest g new → (b : History) → Stands g b old → IsExcused c b)
+    IsBroken o ⊎ (g.honest new → (b : History) → Stands g b old → IsExcused c b)
 IsBlamedFor g c o old new fault.Signer = o.signing ≡ Err signer.Failed
 
-abbrev pub IsBlamed : {S : Type 0} → Ghosts S → Command → Outcome → BaseValue S → BaseValue S → Answer → Type 0
+abbrev pub IsBlamed : {B : Type 0} → Ghosts B → Command → Outcome → B → B → Answer → Type 0
 IsBlamed g c o old new (Stamped serial octets) = Unit {0}
 IsBlamed g c o old new (Rejected rule) = Unit {0}
 IsBlamed g c o old new (Begun p) = Unit {0}
@@ -126,16 +124,16 @@ IsBlamed g c o old new Done = Unit {0}
 IsBlamed g c o old new (Refused f) = IsBlamedFor g c o old new f
 
 -- A call is a step of the machine under an outcome. The counts of faults of store and signer are the outcome's, and
--- they are named only where the outcome says that they failed, or the store is excused, whatever the disk does. While
--- the disk returns what was written, what holds after it is the step's, from each history that the store stood for.
-pub record StepsBy {S : Type 0} (g : Ghosts S) (t : SignerStep) (s : Setting) (c : Command) (o : Outcome)
-    (old new : BaseValue S) (answer : Answer) : Type 0 where
-  pub counted : new.faults ≡ faults_after o old.faults
+-- they are named only where the outcome says that they failed, or the store is excused, whatever it returns. While it
+-- returns what was written, what holds after it is the step's, from each history that the store stood for.
+pub record StepsBy {B : Type 0} (g : Ghosts B) (t : SignerStep) (s : Setting) (c : Command) (o : Outcome)
+    (old new : B) (answer : Answer) : Type 0 where
+  pub counted : g.fault_count new ≡ faults_after o (g.fault_count old)
   pub signer : t.counts o.signing
   pub blames : IsBlamed g c o old new answer
-  pub steps : IsHonest g new → (b : History) → Stands g b old → IsMet c b → HasStepped g t s c o b old new answer
+  pub steps : g.honest new → (b : History) → Stands g b old → IsMet c b → HasStepped g t s c o b old new answer
 
 -- the same under some outcome
-abbrev pub IsStep : {S : Type 0} → Ghosts S → SignerStep → Setting → Command → BaseValue S → BaseValue S → Answer
+abbrev pub IsStep : {B : Type 0} → Ghosts B → SignerStep → Setting → Command → B → B → Answer
     → Type 0
 IsStep g t s c old new answer = (o : Outcome) × StepsBy g t s c o old new answer

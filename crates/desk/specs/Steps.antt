@@ -4,9 +4,9 @@ use Rattle.std.specs.Prelude.{None, Result}
 use Rattle.policy.specs.Record.{AccountValue}
 use Rattle.tsp.specs.Request.{Spells}
 use Rattle.cms.specs.declared.signer.SignerFault.{SignerFault}
-use Rattle.store.specs.History.{Granted, Revoked, Held, History, ReservationValue, DepositValue, reservation_at}
-use Rattle.store.specs.History.{token_of, deposit_under}
-use Rattle.store.specs.Rights.{seen_by, listed}
+use Rattle.book.specs.History.{Granted, Revoked, Held, History, ReservationValue, DepositValue, reservation_at}
+use Rattle.book.specs.History.{token_of, deposit_under}
+use Rattle.book.specs.Rights.{seen_by, listed}
 use Rattle.desk.specs.Outcome.{Outcome, Cause, cause_of}
 use Rattle.desk.specs.Findings.{Finding, Finds}
 use Rattle.desk.specs.Command.{Setting, PendingValue, Command, Stamp, Begin, Finish, Abandon, Deposit, Show, Token}

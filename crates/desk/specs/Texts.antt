@@ -9,7 +9,7 @@ use Rattle.policy.specs.Record.{AccountValue, PolicyValue, TsaPolicyValue}
 use Rattle.tsp.specs.Request.{RequestValue, time_stamp_req, sha256_request, unstated}
 use Rattle.tsp.specs.Tst.{tst_info, answer}
 use Rattle.cms.specs.SignedData.{token}
-use Rattle.store.specs.History.{ReservationValue}
+use Rattle.book.specs.History.{ReservationValue}
 use Rattle.desk.specs.Findings.{PlanValue}
 use Rattle.desk.specs.Command.{Setting, PendingValue}
 

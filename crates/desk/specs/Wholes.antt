@@ -1,15 +1,12 @@
 -- A stamp in its parts: what a beginning, a signature and a finish met and did is what the stamp met and did.
 use Rattle.std.specs.Prelude.{◌≡◌, ◌⊎◌, ℕ, List, [], ◌∷◌, ◌++◌, Option, Some, None, Result, Ok, Err}
-use Rattle.sqlite_trees.specs.Tree.{Trees}
-use Rattle.sqlite_trees.specs.declared.store.Store.{Ghosts}
+use Rattle.book.specs.declared.standing.Standing.{Ghosts}
 use Rattle.tsp.specs.Granted.{granted_octets}
 use Rattle.tsp.specs.declared.rule.Rule.TheVariants.{System}
 use Rattle.cms.specs.SignedData.{attribute_text}
 use Rattle.cms.specs.declared.signer.SignerFault.{SignerFault}
-use Rattle.tables.specs.Base.{BaseValue, IsHonest, Recovers, Holds}
-use Rattle.store.specs.History.{Entry, Sealed, History}
-use Rattle.store.specs.Stands.{Stands}
-use Rattle.store.specs.TablesOf.{tables_of}
+use Rattle.book.specs.History.{Entry, Sealed, History}
+use Rattle.book.specs.Stands.{Stands}
 use Rattle.desk.specs.Outcome.{Fine, Outcome, Cause, counted}
 use Rattle.desk.specs.Command.{PendingValue, Answer, Stamped, Rejected}
 use Rattle.desk.specs.Texts.{token_with}
@@ -53,27 +50,27 @@ IsOfFinish (refusal.Signing f) = ⊥
 IsOfFinish refusal.Wrapping = Unit {0}
 IsOfFinish (refusal.Sealing f) = Unit {0}
 
--- what a stop leaves after that: what it could leave before, the tables with the token, or those in doubt
-abbrev pub MayStay : {S : Type 0} → Ghosts S → PendingValue → Result (List ℕ) SignerFault → Outcome → History
-    → BaseValue S → Trees → Type 0
-MayStay g p signing o b old db =
-    (((stamped p signing [] o).adds ≡ []) × Recovers g old db)
-    ⊎ (Holds (tables_of ((stamped p signing [] o).adds ++ b)) db
+-- what a stop leaves after that: what it could leave before, the history with the token, or those in doubt
+abbrev pub MayStay : {B : Type 0} → (g : Ghosts B) → PendingValue → Result (List ℕ) SignerFault → Outcome → History
+    → B → g.Left → Type 0
+MayStay g p signing o b old left =
+    (((stamped p signing [] o).adds ≡ []) × g.leaves old left)
+    ⊎ (g.holds left ((stamped p signing [] o).adds ++ b)
     ⊎ ((o.sealing ≡ Fine → ⊥)
-    × Holds (tables_of ((stamped p signing [] (record o { sealing = Fine })).adds ++ b)) db))
+    × g.holds left ((stamped p signing [] (record o { sealing = Fine })).adds ++ b)))
 
 -- what holds after it, where the store stood for the history b
-pub record HasCompleted {S : Type 0} (g : Ghosts S) (p : PendingValue) (signing : Result (List ℕ) SignerFault)
-    (o : Outcome) (b : History) (old new : BaseValue S) (answer : Answer) : Type 0 where
+pub record HasCompleted {B : Type 0} (g : Ghosts B) (p : PendingValue) (signing : Result (List ℕ) SignerFault)
+    (o : Outcome) (b : History) (old new : B) (answer : Answer) : Type 0 where
   pub says : answer ≡ (stamped p signing [] o).says
   pub stands : Stands g ((stamped p signing [] o).adds ++ b) new
-  pub left : (db : Trees) → Recovers g new db → MayStay g p signing o b old db
+  pub left : (left : g.Left) → g.leaves new left → MayStay g p signing o b old left
 
 -- A stamp from its reservation on: the signer is asked, and the token is stored where it answers.
-pub record Completes {S : Type 0} (g : Ghosts S) (t : SignerStep) (p : PendingValue)
-    (signing : Result (List ℕ) SignerFault) (o : Outcome) (old new : BaseValue S) (answer : Answer) : Type 0 where
-  pub counted : new.faults ≡ counted o.sealing (counted o.wrapping old.faults)
+pub record Completes {B : Type 0} (g : Ghosts B) (t : SignerStep) (p : PendingValue)
+    (signing : Result (List ℕ) SignerFault) (o : Outcome) (old new : B) (answer : Answer) : Type 0 where
+  pub counted : g.fault_count new ≡ counted o.sealing (counted o.wrapping (g.fault_count old))
   pub signer : t.counts signing
   pub moves : t.moves (Some (attribute_text p.identity p.tst)) signing
-  pub steps : IsHonest g new → (b : History) → Stands g b old → IsWaiting p b
+  pub steps : g.honest new → (b : History) → Stands g b old → IsWaiting p b
       → HasCompleted g p signing o b old new answer

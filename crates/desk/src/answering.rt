@@ -3,7 +3,6 @@ ghost use Rattle.std.specs.Prelude.{◌≡◌};
 ghost use Rattle.policy.specs.View.{policy_view};
 ghost use Rattle.tsp.specs.Rules.{IsFirstFailing};
 ghost use Rattle.tsp.specs.declared.rule.Rule.{Rule};
-ghost use Rattle.tables.specs.Base.{IsHonest};
 ghost use Rattle.decide.specs.View.{account_asked};
 ghost use Rattle.desk.specs.Answers.{reply_as};
 ghost use Rattle.desk.specs.Calls.{opening_view};
@@ -15,15 +14,14 @@ use crate::beginning::begin_with;
 use crate::finishing::{complete, no_answer};
 use crate::opening::Opening;
 use crate::reply::{Begun, Reply};
+use book::Book;
 use cms::Signer;
 use policy::Account;
-use sqlite::Alter;
 use std::alloc::Global;
-use store::Store;
 
 /// Answers a request: the granted reply, the rejection by the first rule that fails, or the rejection by rule 12.
-pub(crate) fn answer_with<S: Alter + Drop, G: Signer>(
-    store: &mut Store<S>,
+pub(crate) fn answer_with<B: Book + Drop, G: Signer>(
+    store: &mut B,
     alloc: Global,
     opening: Opening<'_>,
     account: Option<&Account>,
@@ -31,11 +29,12 @@ pub(crate) fn answer_with<S: Alter + Drop, G: Signer>(
     query: &[u8],
     signer: &mut G,
 ) -> Reply
-    ensures honest { IsHonest S.Store store.new → IsHonest S.Store store.old }
+    ensures honest { B.honest store.new → B.honest store.old }
     ensures unasked { (rule : Rule) → IsFirstFailing (HoldsUnasked (policy_view opening.entry.policy.now)
         (account_asked account.entry) query.now) rule
         → (reply_as result ≡ Rejected rule) × (store.new ≡ store.old) × (signer.new ≡ signer.old) }
-    ensures step { IsStep S.Store (with_signer G.signs G.fault_count signer.old signer.new) (opening_view opening.entry)
+    ensures step { IsStep B.Standing (with_signer G.signs G.fault_count signer.old signer.new)
+        (opening_view opening.entry)
         (Stamp (account_asked account.entry) reading query.now) store.old store.new (reply_as result) }
 {
     match begin_with(store, alloc, opening, account, reading, query) {

@@ -4,7 +4,6 @@ ghost use Rattle.policy.specs.View.{policy_view};
 ghost use Rattle.tsp.specs.Rules.{IsFirstFailing};
 ghost use Rattle.tsp.specs.declared.rule.Rule.{Rule};
 ghost use Rattle.desk.specs.Effects.{name_of};
-ghost use Rattle.tables.specs.Base.{IsHonest};
 ghost use Rattle.decide.specs.View.{account_asked};
 ghost use Rattle.desk.specs.Answers.{begun_as, told};
 ghost use Rattle.desk.specs.Calls.{outcome_of, opening_view, IsOfBeginning};
@@ -17,10 +16,9 @@ use crate::opening::Opening;
 use crate::refusal::Refusal;
 use crate::reply::Begun;
 use crate::reserving::reserve_next;
+use book::Book;
 use policy::Account;
-use sqlite::Alter;
 use std::alloc::Global;
-use store::Store;
 use tsp::Rejection;
 
 /// The account's name, for which a stamp is reserved.
@@ -35,16 +33,16 @@ fn name_of<'a>(account: Option<&'a Account>) -> &'a str
 
 /// Judges a request, and reserves the next serial number where no rule fails. A refusal tells the call that was
 /// refused.
-pub(crate) fn begin_with<'p, S: Alter + Drop>(
-    store: &mut Store<S>,
+pub(crate) fn begin_with<'p, B: Book + Drop>(
+    store: &mut B,
     alloc: Global,
     opening: Opening<'p>,
     account: Option<&Account>,
     reading: i64,
     query: &[u8],
 ) -> Result<Begun<'p>, Refusal>
-    ensures honest { IsHonest S.Store store.new → IsHonest S.Store store.old }
-    ensures step { StepsBy S.Store no_signer (opening_view opening.entry)
+    ensures honest { B.honest store.new → B.honest store.old }
+    ensures step { StepsBy B.Standing no_signer (opening_view opening.entry)
         (Begin (account_asked account.entry) reading query.now) (outcome_of result) store.old store.new
         (told begun_as result) }
     ensures unasked { (rule : Rule) → IsFirstFailing (HoldsUnasked (policy_view opening.entry.policy.now)

@@ -1,7 +1,7 @@
 use crate::fault::Fault;
 use crate::reply::{Deposited, Reply};
+use book::{Calibration, Hold, Listed};
 use policy::Account;
-use store::{Calibration, Hold, Listed};
 
 /// What a desk may be asked, with the arguments of its call.
 #[derive(Clone, Copy, Debug)]

@@ -4,12 +4,11 @@ ghost use Rattle.std.specs.Prelude.{MatchResult};
 ghost use Rattle.cms.specs.declared.signer.SignerFault.{SignerFault as SpecFault};
 ghost use Rattle.der.specs.Node.{encoding, IsLawful};
 ghost use Rattle.policy.specs.View.{account_view, policy_view};
-ghost use Rattle.tables.specs.Base.{IsHonest};
 ghost use Rattle.tsp.specs.Request.{Spells, time_stamp_req, unstated};
 ghost use Rattle.tsp.specs.View.{request_view};
-ghost use Rattle.store.specs.Fault.{count_after};
-ghost use Rattle.store.specs.History.{History, deposit_under, greatest_serial};
-ghost use Rattle.store.specs.Stands.{Stands, OnlyLooks};
+ghost use Rattle.book.specs.Fault.{count_after};
+ghost use Rattle.book.specs.History.{History, deposit_under, greatest_serial};
+ghost use Rattle.book.specs.Stands.{Stands, OnlyLooks};
 ghost use Rattle.desk.specs.Answers.{answered, begun_as, told};
 ghost use Rattle.desk.specs.Calls.{outcome_of, opening_view, plan_of, IsOfBeginning, IsOfReserving, Reserves};
 ghost use Rattle.desk.specs.Command.{Begin, Deposit};
@@ -29,12 +28,11 @@ use crate::pending::Pending;
 use crate::refusal::Refusal;
 use crate::reply::{Begun, Deposited};
 use crate::reserving::{GREATEST, reserve_next};
+use book::{Book, StoreFault};
 use cms::{Signer, token};
 use policy::{Account, Policy};
 use sha2::{Digest, Sha256};
-use sqlite::Alter;
 use std::alloc::Global;
-use store::{Store, StoreFault};
 use tsp::{Rejection, Request, requests_have_one_reading, write_request};
 
 /// The most octets of a deposit.
@@ -52,18 +50,18 @@ pub(crate) enum Known {
 }
 
 /// What an owner has deposited under a reference, as the octets are told from others.
-fn find_known<S: Alter + Drop>(
-    store: &mut Store<S>,
+fn find_known<B: Book + Drop>(
+    store: &mut B,
     owner: &str,
     reference: &str,
     bytes: &[u8],
 ) -> Result<Known, StoreFault>
-    ensures looks { OnlyLooks S.Store store.old store.new }
-    ensures value { IsHonest S.Store store.new → (b : History) → Stands S.Store b store.old
+    ensures looks { OnlyLooks B.Standing store.old store.new }
+    ensures value { B.honest store.new → (b : History) → Stands B.Standing b store.old
         → IfOk result (λ known. known ≡ known_in bytes.now (deposit_under owner.now reference.now b)) }
     ensures refusals { IfErr result (λ e. (e ≡ StoreFault.Memory) ⊎ (e ≡ StoreFault.Database)) }
-    ensures faults { MatchResult result (λ _. store.new.faults ≡ store.old.faults)
-        (λ e. store.new.faults ≡ count_after e store.old.faults) }
+    ensures faults { MatchResult result (λ _. B.fault_count store.new ≡ B.fault_count store.old)
+        (λ e. B.fault_count store.new ≡ count_after e (B.fault_count store.old)) }
 {
     let Some(deposit) = store.by_reference(owner, reference)? else {
         return Ok(Known::Nothing);
@@ -104,8 +102,8 @@ fn octets_of(alloc: Global, planned: &Planned<'_, '_>) -> Result<Vec<u8>, Refusa
 
 /// Reserves the next serial number for the request without its stated FALSEs: `reserve_next` on the octets that are
 /// written first.
-fn reserve<'p, S: Alter + Drop>(
-    store: &mut Store<S>,
+fn reserve<'p, B: Book + Drop>(
+    store: &mut B,
     alloc: Global,
     opening: Opening<'p>,
     account: &str,
@@ -114,11 +112,11 @@ fn reserve<'p, S: Alter + Drop>(
     requires spelled { Spells (encoding (time_stamp_req unstated (request_view planned.request)))
         (request_view planned.request) }
     requires short { length (encoding (time_stamp_req unstated (request_view planned.request))) ≤ 65536 }
-    ensures honest { IsHonest S.Store store.new → IsHonest S.Store store.old }
-    ensures counted { store.new.faults ≡ faults_after (outcome_of result) store.old.faults }
-    ensures reserves { IsHonest S.Store store.new → (b : History) → Stands S.Store b store.old
+    ensures honest { B.honest store.new → B.honest store.old }
+    ensures counted { B.fault_count store.new ≡ faults_after (outcome_of result) (B.fault_count store.old) }
+    ensures reserves { B.honest store.new → (b : History) → Stands B.Standing b store.old
         → greatest_serial b ≡ planned.entry.last
-        → Reserves S.Store (opening_view opening.entry) account.now (plan_of planned.entry)
+        → Reserves B.Standing (opening_view opening.entry) account.now (plan_of planned.entry)
         (encoding (time_stamp_req unstated (request_view planned.entry.request))) b store.old store.new result }
     ensures refusals { IfErr result IsOfReserving }
 {
@@ -135,16 +133,16 @@ fn reserve<'p, S: Alter + Drop>(
 
 /// Judges the request as which a deposit is stamped, and reserves the next serial number where no rule fails. The
 /// octets of the deposit are hashed here, and nowhere else.
-fn begin<'p, S: Alter + Drop>(
-    store: &mut Store<S>,
+fn begin<'p, B: Book + Drop>(
+    store: &mut B,
     alloc: Global,
     opening: Opening<'p>,
     account: &Account,
     reading: i64,
     bytes: &[u8],
 ) -> Result<Begun<'p>, Refusal>
-    ensures honest { IsHonest S.Store store.new → IsHonest S.Store store.old }
-    ensures step { StepsBy S.Store no_signer (opening_view opening.entry)
+    ensures honest { B.honest store.new → B.honest store.old }
+    ensures step { StepsBy B.Standing no_signer (opening_view opening.entry)
         (Begin (Some (account_view account.now)) reading
         (octets_for (policy_view opening.entry.policy.now) (account_view account.now) bytes.now))
         (outcome_of result) store.old store.new (told begun_as result) }
@@ -169,8 +167,8 @@ fn begin<'p, S: Alter + Drop>(
 }
 
 /// Stores a deposit with its token over a signature, in one commit. The token's memory is taken before.
-fn seal<S: Alter + Drop>(
-    store: &mut Store<S>,
+fn seal<B: Book + Drop>(
+    store: &mut B,
     alloc: Global,
     pending: Pending<'_>,
     signature: &[u8],
@@ -180,8 +178,8 @@ fn seal<S: Alter + Drop>(
 ) -> Result<Deposited, Refusal>
     requires some { 1 ≤ length signature.now }
     requires few { length signature.now ≤ 4096 }
-    ensures honest { IsHonest S.Store store.new → IsHonest S.Store store.old }
-    ensures keeps { KeepsBy S.Store pending.entry
+    ensures honest { B.honest store.new → B.honest store.old }
+    ensures keeps { KeepsBy B.Standing pending.entry
         (deposit_row pending.entry.serial owner.now reference.now bytes.now) (Ok signature.now) (outcome_of result)
         store.old store.new (told deposited_as result) }
 {
@@ -208,8 +206,8 @@ fn seal<S: Alter + Drop>(
 
 /// Has the text of a reservation signed, and stores the deposit with its token. Where the signer, memory or the store
 /// refuses, the reservation stays void.
-fn sign_and_seal<S: Alter + Drop, X: Signer>(
-    store: &mut Store<S>,
+fn sign_and_seal<B: Book + Drop, X: Signer>(
+    store: &mut B,
     alloc: Global,
     pending: Pending<'_>,
     owner: &str,
@@ -217,9 +215,9 @@ fn sign_and_seal<S: Alter + Drop, X: Signer>(
     bytes: &[u8],
     signer: &mut X,
 ) -> Result<Deposited, Refusal>
-    ensures honest { IsHonest S.Store store.new → IsHonest S.Store store.old }
+    ensures honest { B.honest store.new → B.honest store.old }
     ensures keeps { (signing : Result (List ℕ) SpecFault) × (o : Outcome)
-        × SignsAndKeeps S.Store (with_signer X.signs X.fault_count signer.old signer.new) pending.entry
+        × SignsAndKeeps B.Standing (with_signer X.signs X.fault_count signer.old signer.new) pending.entry
         (deposit_row pending.entry.serial owner.now reference.now bytes.now) signing o store.old store.new
         (told deposited_as result) }
 {
@@ -238,8 +236,8 @@ fn sign_and_seal<S: Alter + Drop, X: Signer>(
 }
 
 /// Stamps and stores a deposit whose owner hasn't used the reference.
-fn deposit_new<S: Alter + Drop, X: Signer>(
-    store: &mut Store<S>,
+fn deposit_new<B: Book + Drop, X: Signer>(
+    store: &mut B,
     alloc: Global,
     opening: Opening<'_>,
     account: &Account,
@@ -249,9 +247,9 @@ fn deposit_new<S: Alter + Drop, X: Signer>(
     signer: &mut X,
 ) -> Result<Deposited, Fault>
     requires few { length bytes.now ≤ 1048576 }
-    ensures honest { IsHonest S.Store store.new → IsHonest S.Store store.old }
+    ensures honest { B.honest store.new → B.honest store.old }
     ensures refusals { IfErr result IsOfDeposit }
-    ensures step { (o : Outcome) × StepsWhere S.Store (with_signer X.signs X.fault_count signer.old signer.new)
+    ensures step { (o : Outcome) × StepsWhere B.Standing (with_signer X.signs X.fault_count signer.old signer.new)
         (opening_view opening.entry) (Deposit (account_view account.now) reading reference.now bytes.now)
         (IsUnused (account_view account.now) reference.now) o store.old store.new (answered deposited_as result) }
 {
@@ -269,8 +267,8 @@ fn deposit_new<S: Alter + Drop, X: Signer>(
 }
 
 /// Stamps and stores a deposit, or tells the number under which the owner has deposited the same octets.
-pub(crate) fn deposit_with<S: Alter + Drop, X: Signer>(
-    store: &mut Store<S>,
+pub(crate) fn deposit_with<B: Book + Drop, X: Signer>(
+    store: &mut B,
     alloc: Global,
     opening: Opening<'_>,
     account: &Account,
@@ -279,11 +277,12 @@ pub(crate) fn deposit_with<S: Alter + Drop, X: Signer>(
     bytes: &[u8],
     signer: &mut X,
 ) -> Result<Deposited, Fault>
-    ensures honest { IsHonest S.Store store.new → IsHonest S.Store store.old }
+    ensures honest { B.honest store.new → B.honest store.old }
     ensures large { 1048576 < length bytes.now
         → (result ≡ Err Fault.TooLarge) × (store.new ≡ store.old) × (signer.new ≡ signer.old) }
     ensures refusals { IfErr result IsOfDeposit }
-    ensures step { IsStep S.Store (with_signer X.signs X.fault_count signer.old signer.new) (opening_view opening.entry)
+    ensures step { IsStep B.Standing (with_signer X.signs X.fault_count signer.old signer.new)
+        (opening_view opening.entry)
         (Deposit (account_view account.now) reading reference.now bytes.now) store.old store.new
         (answered deposited_as result) }
 {

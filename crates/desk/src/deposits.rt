@@ -1,7 +1,6 @@
 //! The calls of the counter on deposits and the rights to them.
 ghost use Rattle.std.specs.Prelude.{◌≡◌, ◌<◌, length, Err, IfErr};
 ghost use Rattle.policy.specs.View.{account_view};
-ghost use Rattle.tables.specs.Base.{IsHonest};
 ghost use Rattle.desk.specs.Answers.{answered};
 ghost use Rattle.desk.specs.Command.{Deposit, Show, Token, ListAll, Grant, Revoke};
 ghost use Rattle.desk.specs.Fault.{IsOfDeposit};
@@ -15,12 +14,11 @@ use crate::fault::Fault;
 use crate::reply::Deposited;
 use crate::rights::{grant_by, revoke_by};
 use crate::showing::{list_to, show_to, token_to};
+use book::{Book, Listed};
 use cms::Signer;
 use policy::Account;
-use sqlite::Alter;
-use store::Listed;
 
-impl<'p, S: Alter + Drop> Desk<'p, S> {
+impl<'p, B: Book + Drop> Desk<'p, B> {
     /// Stamps octets for the account (RFC 3161 2.4.1, with SHA-256), and keeps them with their token under the owner's
     /// reference, in one commit: the deposit's number, which is its stamp's serial number. Under a reference that the
     /// owner has used, the same octets are answered by the old number, and nothing is reserved. A reference has 1 to 64
@@ -40,11 +38,11 @@ impl<'p, S: Alter + Drop> Desk<'p, S> {
         signer: &mut G,
     ) -> Result<Deposited, Fault>
         ensures setting { self.new.setting ≡ self.old.setting }
-        ensures honest { IsHonest S.Store self.new.store → IsHonest S.Store self.old.store }
+        ensures honest { B.honest self.new.store → B.honest self.old.store }
         ensures large { 1048576 < length bytes.now
             → (result ≡ Err Fault.TooLarge) × (self.new ≡ self.old) × (signer.new ≡ signer.old) }
         ensures refusals { IfErr result IsOfDeposit }
-        ensures step { IsStep S.Store (with_signer G.signs G.fault_count signer.old signer.new) self.old.setting
+        ensures step { IsStep B.Standing (with_signer G.signs G.fault_count signer.old signer.new) self.old.setting
             (Deposit (account_view account.now) reading reference.now bytes.now) self.old.store self.new.store
             (answered deposited_as result) }
         ensures isolated { IsIsolated self.old.setting
@@ -67,9 +65,9 @@ impl<'p, S: Alter + Drop> Desk<'p, S> {
     /// Any other is `NotHere`, as is a number that no deposit has. Refused also with `Memory` or `Store`.
     pub fn show(&mut self, account: &Account, number: u64) -> Result<Vec<u8>, Fault>
         ensures setting { self.new.setting ≡ self.old.setting }
-        ensures honest { IsHonest S.Store self.new.store → IsHonest S.Store self.old.store }
-        ensures step { IsStep S.Store no_signer self.old.setting (Show (account_view account.now) number) self.old.store
-            self.new.store (answered shown_as result) }
+        ensures honest { B.honest self.new.store → B.honest self.old.store }
+        ensures step { IsStep B.Standing no_signer self.old.setting (Show (account_view account.now) number)
+            self.old.store self.new.store (answered shown_as result) }
         ensures isolated { IsIsolated self.old.setting (Show (account_view account.now) number) }
     {
         match show_to(&mut self.store, account, number) {
@@ -82,8 +80,8 @@ impl<'p, S: Alter + Drop> Desk<'p, S> {
     /// is.
     pub fn token_of(&mut self, account: &Account, number: u64) -> Result<Vec<u8>, Fault>
         ensures setting { self.new.setting ≡ self.old.setting }
-        ensures honest { IsHonest S.Store self.new.store → IsHonest S.Store self.old.store }
-        ensures step { IsStep S.Store no_signer self.old.setting (Token (account_view account.now) number)
+        ensures honest { B.honest self.new.store → B.honest self.old.store }
+        ensures step { IsStep B.Standing no_signer self.old.setting (Token (account_view account.now) number)
             self.old.store
             self.new.store (answered shown_as result) }
         ensures isolated { IsIsolated self.old.setting (Token (account_view account.now) number) }
@@ -98,8 +96,8 @@ impl<'p, S: Alter + Drop> Desk<'p, S> {
     /// each. Refused only with `Memory` or `Store`.
     pub fn list(&mut self, account: &Account) -> Result<Vec<Listed>, Fault>
         ensures setting { self.new.setting ≡ self.old.setting }
-        ensures honest { IsHonest S.Store self.new.store → IsHonest S.Store self.old.store }
-        ensures step { IsStep S.Store no_signer self.old.setting (ListAll (account_view account.now)) self.old.store
+        ensures honest { B.honest self.new.store → B.honest self.old.store }
+        ensures step { IsStep B.Standing no_signer self.old.setting (ListAll (account_view account.now)) self.old.store
             self.new.store (answered listed_as result) }
         ensures isolated { IsIsolated self.old.setting (ListAll (account_view account.now)) }
     {
@@ -109,7 +107,7 @@ impl<'p, S: Alter + Drop> Desk<'p, S> {
         }
     }
 
-    /// Lets the account of a name see a deposit, from now on; again is accepted, and changes no table. It may be one
+    /// Lets the account of a name see a deposit, from now on; again is accepted, and changes nothing. It may be one
     /// that isn't active.
     ///
     /// Refused in this order: `NotHere` where the deposit isn't visible to the account that grants, `NotOwner` where it
@@ -117,8 +115,8 @@ impl<'p, S: Alter + Drop> Desk<'p, S> {
     /// itself. `Memory` and `Store` come where they are met.
     pub fn grant(&mut self, account: &Account, number: u64, name: &str) -> Result<(), Fault>
         ensures setting { self.new.setting ≡ self.old.setting }
-        ensures honest { IsHonest S.Store self.new.store → IsHonest S.Store self.old.store }
-        ensures step { IsStep S.Store no_signer self.old.setting (Grant (account_view account.now) number name.now)
+        ensures honest { B.honest self.new.store → B.honest self.old.store }
+        ensures step { IsStep B.Standing no_signer self.old.setting (Grant (account_view account.now) number name.now)
             self.old.store self.new.store (answered done_as result) }
         ensures isolated { IsIsolated self.old.setting (Grant (account_view account.now) number name.now) }
     {
@@ -129,12 +127,12 @@ impl<'p, S: Alter + Drop> Desk<'p, S> {
         }
     }
 
-    /// Takes that right away, from now on; one that wasn't granted may be taken too, which changes no table. The right
+    /// Takes that right away, from now on; one that wasn't granted may be taken too, which changes nothing. The right
     /// of an account that has left the policy file stays: it is `UnknownReader`. Refused as `grant` is.
     pub fn revoke(&mut self, account: &Account, number: u64, name: &str) -> Result<(), Fault>
         ensures setting { self.new.setting ≡ self.old.setting }
-        ensures honest { IsHonest S.Store self.new.store → IsHonest S.Store self.old.store }
-        ensures step { IsStep S.Store no_signer self.old.setting (Revoke (account_view account.now) number name.now)
+        ensures honest { B.honest self.new.store → B.honest self.old.store }
+        ensures step { IsStep B.Standing no_signer self.old.setting (Revoke (account_view account.now) number name.now)
             self.old.store self.new.store (answered done_as result) }
         ensures isolated { IsIsolated self.old.setting (Revoke (account_view account.now) number name.now) }
     {

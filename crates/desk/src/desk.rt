@@ -6,9 +6,8 @@ ghost use Rattle.policy.specs.View.{policy_view};
 ghost use Rattle.tsp.specs.Rules.{IsFirstFailing};
 ghost use Rattle.tsp.specs.declared.rule.Rule.{Rule};
 ghost use Rattle.decide.specs.View.{account_asked};
-ghost use Rattle.tables.specs.Base.{IsHonest};
-ghost use Rattle.store.specs.History.{History};
-ghost use Rattle.store.specs.Stands.{Stands};
+ghost use Rattle.book.specs.History.{History};
+ghost use Rattle.book.specs.Stands.{Stands};
 ghost use Rattle.desk.specs.Answers.{begun_as, reply_as, answered};
 ghost use Rattle.desk.specs.Calls.{opening_view};
 ghost use Rattle.desk.specs.Command.{Begin, Finish, Abandon, Stamp, Stamped, Rejected, Done};
@@ -16,7 +15,6 @@ ghost use Rattle.desk.specs.Isolation.{IsIsolated};
 ghost use Rattle.desk.specs.Findings.{HoldsUnasked};
 ghost use Rattle.desk.specs.Replies.{IsGranted, IsRejected};
 ghost use Rattle.desk.specs.Stepped.{IsStep, no_signer, with_signer, with_store};
-ghost use Rattle.store.specs.contracts.store.Store.{the_row as store_row};
 ghost use Rattle.desk.specs.contracts.desk.Desk.{the_row as desk_row};
 
 use crate::answering::answer_with;
@@ -26,30 +24,30 @@ use crate::finishing::finish_with;
 use crate::opening::Opening;
 use crate::pending::Pending;
 use crate::reply::{Begun, Reply};
+use book::Book;
 use cms::{Algorithm, Identity, Signer};
 use policy::{Account, Policy};
-use sqlite::Alter;
 use std::alloc::Global;
 use std::marker::Model;
-use store::Store;
 
-/// The counter of a Time-Stamping Authority: gives tokens by a written policy, over a store.
+/// The counter of a Time-Stamping Authority: gives tokens by a written policy, over a store, which is any
+/// `Book`.
 ///
 /// A call that is refused changes nothing, but for a reservation that was committed before the refusal: it stays void.
 #[derive(Drop)]
-pub struct Desk<'p, S: Alter + Drop> {
+pub struct Desk<'p, B: Book + Drop> {
     pub(crate) opening: Opening<'p>,
-    pub(crate) store: Store<S>,
+    pub(crate) store: B,
     pub(crate) alloc: Global,
 }
 
-impl<'p, S: Alter + Drop> Model for Desk<'p, S> {
+impl<'p, B: Book + Drop> Model for Desk<'p, B> {
     ghost use Rattle.desk.specs.Codes.{desk_code};
     ghost use Rattle.desk.specs.Stepped.{DeskValue};
 
-    ghost Value = { DeskValue S };
+    ghost Value = { DeskValue B };
 
-    ghost coded = { desk_code S.code };
+    ghost coded = { desk_code B.code };
 
     ghost use Rattle.desk.specs.Calls.{opening_view};
 
@@ -58,7 +56,7 @@ impl<'p, S: Alter + Drop> Model for Desk<'p, S> {
     ghost invariant = { λ desk. Unit {0} };
 }
 
-impl<'p, S: Alter + Drop> Desk<'p, S> {
+impl<'p, B: Book + Drop> Desk<'p, B> {
     /// A desk over a store, by a policy file, whose tokens name the identity's certificate and the signer's algorithm.
     /// It keeps the allocator for its answers. Takes no memory.
     pub fn new(
@@ -66,8 +64,8 @@ impl<'p, S: Alter + Drop> Desk<'p, S> {
         policy: &'p Policy,
         identity: &'p Identity,
         algorithm: &'p Algorithm,
-        store: Store<S>,
-    ) -> Desk<'p, S>
+        store: B,
+    ) -> Desk<'p, B>
         ensures { result ≡ record {
           setting = record { file = policy_view policy.now; identity = identity.now; algorithm = algorithm.now };
           store = store;
@@ -92,9 +90,9 @@ impl<'p, S: Alter + Drop> Desk<'p, S> {
     }
 
     /// The store, lent: what it becomes is what the desk's store is from then on. Takes no memory.
-    pub fn store(&mut self) -> &mut Store<S>
-        ensures* lends { sem 𝓛 (Lends (desk_row (record { mir = named 1; lft = [] }) S.row S.Store)
-            (store_row S.row S.Store) self.entry result (with_store self.old)) }
+    pub fn store(&mut self) -> &mut B
+        ensures* lends { sem 𝓛 (Lends (desk_row (record { mir = named 1; lft = [] }) B.row B.Standing)
+            B.row self.entry result (with_store self.old)) }
         ensures same { result.now ≡ self.old.store }
     {
         let store = &mut self.store;
@@ -102,7 +100,7 @@ impl<'p, S: Alter + Drop> Desk<'p, S> {
     }
 
     /// The store, taken back. Takes no memory.
-    pub fn into_store(self) -> Store<S>
+    pub fn into_store(self) -> B
         ensures { result ≡ self.entry.store }
     {
         let Desk {
@@ -128,8 +126,9 @@ impl<'p, S: Alter + Drop> Desk<'p, S> {
         query: &[u8],
     ) -> Result<Begun<'p>, Fault>
         ensures setting { self.new.setting ≡ self.old.setting }
-        ensures honest { IsHonest S.Store self.new.store → IsHonest S.Store self.old.store }
-        ensures step { IsStep S.Store no_signer self.old.setting (Begin (account_asked account.entry) reading query.now)
+        ensures honest { B.honest self.new.store → B.honest self.old.store }
+        ensures step { IsStep B.Standing no_signer self.old.setting
+            (Begin (account_asked account.entry) reading query.now)
             self.old.store self.new.store (answered begun_as result) }
         ensures unasked { (rule : Rule)
             → IsFirstFailing (HoldsUnasked self.old.setting.file (account_asked account.entry)
@@ -158,8 +157,8 @@ impl<'p, S: Alter + Drop> Desk<'p, S> {
         requires some { 1 ≤ length signature.now }
         requires few { length signature.now ≤ 4096 }
         ensures setting { self.new.setting ≡ self.old.setting }
-        ensures honest { IsHonest S.Store self.new.store → IsHonest S.Store self.old.store }
-        ensures step { IsStep S.Store no_signer self.old.setting (Finish pending.entry signature.now) self.old.store
+        ensures honest { B.honest self.new.store → B.honest self.old.store }
+        ensures step { IsStep B.Standing no_signer self.old.setting (Finish pending.entry signature.now) self.old.store
             self.new.store (answered reply_as result) }
     {
         match finish_with(&mut self.store, self.alloc, pending, signature) {
@@ -171,8 +170,8 @@ impl<'p, S: Alter + Drop> Desk<'p, S> {
     /// Leaves the reservation of a pending stamp void. The caller's condition is that of `finish`. Takes no memory.
     pub fn abandon(&mut self, pending: Pending<'p>)
         ensures same { self.new ≡ self.old }
-        ensures step { IsStep S.Store no_signer self.old.setting (Abandon pending.entry) self.old.store self.new.store
-            Done }
+        ensures step { IsStep B.Standing no_signer self.old.setting (Abandon pending.entry) self.old.store
+            self.new.store Done }
     {
         pending.abandon();
     }
@@ -190,19 +189,19 @@ impl<'p, S: Alter + Drop> Desk<'p, S> {
         signer: &mut G,
     ) -> Reply
         ensures setting { self.new.setting ≡ self.old.setting }
-        ensures honest { IsHonest S.Store self.new.store → IsHonest S.Store self.old.store }
+        ensures honest { B.honest self.new.store → B.honest self.old.store }
         ensures unasked { (rule : Rule)
             → IsFirstFailing (HoldsUnasked self.old.setting.file (account_asked account.entry)
             query.now) rule
             → (reply_as result ≡ Rejected rule) × (self.new ≡ self.old) × (signer.new ≡ signer.old) }
-        ensures granted { IsHonest S.Store self.new.store → (b : History) → Stands S.Store b self.old.store
+        ensures granted { B.honest self.new.store → (b : History) → Stands B.Standing b self.old.store
             → (serial : ℕ) (reply : List ℕ) → reply_as result ≡ Stamped serial reply
             → IsGranted self.old.setting (λ text answer. G.signs signer.old text answer signer.new)
             (account_asked account.entry) reading query.now b serial reply }
-        ensures rejected { IsHonest S.Store self.new.store → (b : History) → Stands S.Store b self.old.store
+        ensures rejected { B.honest self.new.store → (b : History) → Stands B.Standing b self.old.store
             → (rule : Rule) → reply_as result ≡ Rejected rule
             → IsRejected self.old.setting (account_asked account.entry) reading query.now b rule }
-        ensures step { IsStep S.Store (with_signer G.signs G.fault_count signer.old signer.new) self.old.setting
+        ensures step { IsStep B.Standing (with_signer G.signs G.fault_count signer.old signer.new) self.old.setting
             (Stamp (account_asked account.entry) reading query.now) self.old.store self.new.store (reply_as result) }
         ensures isolated { IsIsolated self.old.setting (Stamp (account_asked account.entry) reading query.now) }
     {

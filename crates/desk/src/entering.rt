@@ -1,23 +1,21 @@
 //! Calibrations and holds, which commands add.
 
-ghost use Rattle.tables.specs.Base.{IsHonest};
-ghost use Rattle.store.specs.Values.{calibration_view, hold_view};
+ghost use Rattle.book.specs.Values.{calibration_view, hold_view};
 ghost use Rattle.desk.specs.Command.{Setting, Calibrate, Hold as AddHold};
 ghost use Rattle.desk.specs.Obstacles.{outcome_with, told_with};
 ghost use Rattle.desk.specs.Shown.{done_as};
 ghost use Rattle.desk.specs.Stepped.{StepsBy, no_signer};
 
 use crate::obstacle::Obstacle;
-use sqlite::Alter;
-use store::{Calibration, Hold, Store};
+use book::{Book, Calibration, Hold};
 
 /// Adds a calibration of the clock.
-pub(crate) fn calibrate_by<S: Alter + Drop>(
-    store: &mut Store<S>,
+pub(crate) fn calibrate_by<B: Book + Drop>(
+    store: &mut B,
     calibration: &Calibration,
 ) -> Result<(), Obstacle>
-    ensures honest { IsHonest S.Store store.new → IsHonest S.Store store.old }
-    ensures step { (s : Setting) → StepsBy S.Store no_signer s (Calibrate (calibration_view calibration.now))
+    ensures honest { B.honest store.new → B.honest store.old }
+    ensures step { (s : Setting) → StepsBy B.Standing no_signer s (Calibrate (calibration_view calibration.now))
         (outcome_with result) store.old store.new (told_with done_as result) }
 {
     match store.calibrate(calibration) {
@@ -27,9 +25,9 @@ pub(crate) fn calibrate_by<S: Alter + Drop>(
 }
 
 /// Adds a hold.
-pub(crate) fn hold_by<S: Alter + Drop>(store: &mut Store<S>, hold: &Hold) -> Result<(), Obstacle>
-    ensures honest { IsHonest S.Store store.new → IsHonest S.Store store.old }
-    ensures step { (s : Setting) → StepsBy S.Store no_signer s (AddHold (hold_view hold.now)) (outcome_with result)
+pub(crate) fn hold_by<B: Book + Drop>(store: &mut B, hold: &Hold) -> Result<(), Obstacle>
+    ensures honest { B.honest store.new → B.honest store.old }
+    ensures step { (s : Setting) → StepsBy B.Standing no_signer s (AddHold (hold_view hold.now)) (outcome_with result)
         store.old store.new (told_with done_as result) }
 {
     match store.hold(hold) {

@@ -5,10 +5,9 @@ ghost use Rattle.tsp.specs.Request.{Spells};
 ghost use Rattle.tsp.specs.View.{request_view};
 ghost use Rattle.decide.specs.Verdict.{IsJudged};
 ghost use Rattle.decide.specs.View.{account_asked};
-ghost use Rattle.tables.specs.Base.{IsHonest};
-ghost use Rattle.store.specs.History.{History, greatest_serial, day_of};
-ghost use Rattle.store.specs.Fault.{count_after};
-ghost use Rattle.store.specs.Stands.{Stands, OnlyLooks};
+ghost use Rattle.book.specs.History.{History, greatest_serial, day_of};
+ghost use Rattle.book.specs.Fault.{count_after};
+ghost use Rattle.book.specs.Stands.{Stands, OnlyLooks};
 ghost use Rattle.tsp.specs.Rules.{HasVersionOne, IsFirstFailing};
 ghost use Rattle.tsp.specs.declared.rule.Rule.{Rule};
 ghost use Rattle.desk.specs.Depositing.{FailsLate};
@@ -18,12 +17,11 @@ ghost use Rattle.desk.specs.Calls.{outcome_of, finding_of, count_for, IsOfLooks,
 
 use crate::looking::{Looked, look};
 use crate::refusal::Refusal;
+use book::{Book, StoreFault};
 use decide::{ClockState, Facts, Verdict, clock_state, decide, judge_request, verdicts_are_one};
 use der::Oid;
 use gentime::GenTime;
 use policy::{Account, Policy};
-use sqlite::Alter;
-use store::{Store, StoreFault};
 use tsp::{Request, Rule, read_request, requests_have_one_reading};
 
 /// A stamp that no rule refuses: its request, its policy and its genTime, and the greatest serial number so far.
@@ -45,17 +43,17 @@ pub(crate) enum Found<'p, 'a> {
 }
 
 /// How many reservations the account has on the day of a genTime.
-fn count<S: Alter + Drop>(
-    store: &mut Store<S>,
+fn count<B: Book + Drop>(
+    store: &mut B,
     account: Option<&Account>,
     gen_time: GenTime,
 ) -> Result<u64, StoreFault>
-    ensures looks { OnlyLooks S.Store store.old store.new }
-    ensures value { IsHonest S.Store store.new → (b : History) → Stands S.Store b store.old
+    ensures looks { OnlyLooks B.Standing store.old store.new }
+    ensures value { B.honest store.new → (b : History) → Stands B.Standing b store.old
         → IfOk result (λ count. count ≡ count_for (account_asked account.entry) (day_of gen_time) b) }
     ensures refusals { IfErr result (λ e. (e ≡ StoreFault.Memory) ⊎ (e ≡ StoreFault.Database)) }
-    ensures faults { MatchResult result (λ _. store.new.faults ≡ store.old.faults)
-        (λ e. store.new.faults ≡ count_after e store.old.faults) }
+    ensures faults { MatchResult result (λ _. B.fault_count store.new ≡ B.fault_count store.old)
+        (λ e. B.fault_count store.new ≡ count_after e (B.fault_count store.old)) }
 {
     match account {
         None => Ok(0),
@@ -64,23 +62,23 @@ fn count<S: Alter + Drop>(
 }
 
 /// Judges the rules 10 and 11, which ask the store, of a request that the rules before them let through.
-fn ask<'p, 'a, S: Alter + Drop>(
-    store: &mut Store<S>,
+fn ask<'p, 'a, B: Book + Drop>(
+    store: &mut B,
     policy: &'p Policy,
     account: Option<&Account>,
     reading: i64,
     request: Request<'a>,
 ) -> Result<Found<'p, 'a>, Refusal>
-    ensures looks { OnlyLooks S.Store store.old store.new }
-    ensures counted { store.new.faults ≡ faults_after (outcome_of result) store.old.faults }
-    ensures finds { IsHonest S.Store store.new → (b : History) → Stands S.Store b store.old → (octets : List ℕ)
+    ensures looks { OnlyLooks B.Standing store.old store.new }
+    ensures counted { B.fault_count store.new ≡ faults_after (outcome_of result) (B.fault_count store.old) }
+    ensures finds { B.honest store.new → (b : History) → Stands B.Standing b store.old → (octets : List ℕ)
         → Spells octets (request_view request.entry) → length octets ≤ 65536
         → IsJudged (policy_view policy.now) (account_asked account.entry) (request_view request.entry) None
         → Finds (policy_view policy.now) (account_asked account.entry) reading octets (outcome_of result) b
         (finding_of result) }
     ensures same { IfOk result (HasRequest (request_view request.entry)) }
     ensures late { HasVersionOne (request_view request.entry) → IfOk result FailsLate }
-    ensures last { IsHonest S.Store store.new → (b : History) → Stands S.Store b store.old
+    ensures last { B.honest store.new → (b : History) → Stands B.Standing b store.old
         → IfOk result (HasLast (greatest_serial b)) }
     ensures refusals { IfErr result IsOfLooks }
 {
@@ -109,22 +107,22 @@ fn ask<'p, 'a, S: Alter + Drop>(
 }
 
 /// Judges the rules 2 to 11 of a request in their order: `find`, once the request is read.
-pub(crate) fn judge<'p, 'a, S: Alter + Drop>(
-    store: &mut Store<S>,
+pub(crate) fn judge<'p, 'a, B: Book + Drop>(
+    store: &mut B,
     policy: &'p Policy,
     account: Option<&Account>,
     reading: i64,
     request: Request<'a>,
 ) -> Result<Found<'p, 'a>, Refusal>
-    ensures looks { OnlyLooks S.Store store.old store.new }
-    ensures counted { store.new.faults ≡ faults_after (outcome_of result) store.old.faults }
-    ensures finds { IsHonest S.Store store.new → (b : History) → Stands S.Store b store.old → (octets : List ℕ)
+    ensures looks { OnlyLooks B.Standing store.old store.new }
+    ensures counted { B.fault_count store.new ≡ faults_after (outcome_of result) (B.fault_count store.old) }
+    ensures finds { B.honest store.new → (b : History) → Stands B.Standing b store.old → (octets : List ℕ)
         → Spells octets (request_view request.entry) → length octets ≤ 65536
         → Finds (policy_view policy.now) (account_asked account.entry) reading octets (outcome_of result) b
         (finding_of result) }
     ensures same { IfOk result (HasRequest (request_view request.entry)) }
     ensures late { HasVersionOne (request_view request.entry) → IfOk result FailsLate }
-    ensures last { IsHonest S.Store store.new → (b : History) → Stands S.Store b store.old
+    ensures last { B.honest store.new → (b : History) → Stands B.Standing b store.old
         → IfOk result (HasLast (greatest_serial b)) }
     ensures unasked { (octets : List ℕ) → Spells octets (request_view request.entry) → length octets ≤ 65536
         → (rule : Rule) → IsFirstFailing (HoldsUnasked (policy_view policy.now) (account_asked account.entry) octets)
@@ -142,20 +140,20 @@ pub(crate) fn judge<'p, 'a, S: Alter + Drop>(
 
 /// Judges the rules 1 to 11 in their order. A request that fails one of the rules 1 to 9 is answered without a call of
 /// the store and without memory; the day is counted only where the clock is good.
-pub(crate) fn find<'p, 'a, S: Alter + Drop>(
-    store: &mut Store<S>,
+pub(crate) fn find<'p, 'a, B: Book + Drop>(
+    store: &mut B,
     policy: &'p Policy,
     account: Option<&Account>,
     reading: i64,
     query: &'a [u8],
 ) -> Result<Found<'p, 'a>, Refusal>
-    ensures looks { OnlyLooks S.Store store.old store.new }
-    ensures counted { store.new.faults ≡ faults_after (outcome_of result) store.old.faults }
-    ensures finds { IsHonest S.Store store.new → (b : History) → Stands S.Store b store.old
+    ensures looks { OnlyLooks B.Standing store.old store.new }
+    ensures counted { B.fault_count store.new ≡ faults_after (outcome_of result) (B.fault_count store.old) }
+    ensures finds { B.honest store.new → (b : History) → Stands B.Standing b store.old
         → Finds (policy_view policy.now) (account_asked account.entry) reading query.now (outcome_of result) b
         (finding_of result) }
     ensures read { IfOk result (IsReadFrom query.now) }
-    ensures last { IsHonest S.Store store.new → (b : History) → Stands S.Store b store.old
+    ensures last { B.honest store.new → (b : History) → Stands B.Standing b store.old
         → IfOk result (HasLast (greatest_serial b)) }
     ensures unasked { (rule : Rule)
         → IsFirstFailing (HoldsUnasked (policy_view policy.now) (account_asked account.entry)

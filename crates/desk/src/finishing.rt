@@ -1,7 +1,6 @@
 //! A stamp from its reservation on.
 ghost use Rattle.std.specs.Prelude.{◌≡◌, ◌≤◌, List, ℕ, Result, length, IfErr};
 ghost use Rattle.cms.specs.declared.signer.SignerFault.{SignerFault as SpecFault};
-ghost use Rattle.tables.specs.Base.{IsHonest};
 ghost use Rattle.desk.specs.Answers.{reply_as, told};
 ghost use Rattle.desk.specs.Calls.{outcome_of};
 ghost use Rattle.tsp.specs.declared.rule.Rule.TheVariants.{System};
@@ -13,10 +12,9 @@ ghost use Rattle.desk.specs.Wholes.{IsOfFinish, Completes};
 use crate::pending::Pending;
 use crate::refusal::Refusal;
 use crate::reply::Reply;
+use book::Book;
 use cms::{Signer, token};
-use sqlite::Alter;
 use std::alloc::Global;
-use store::Store;
 use tsp::{Rejection, Rule, write_granted};
 
 /// The reply of rule 12.
@@ -27,17 +25,17 @@ pub(crate) fn no_answer() -> Reply
 }
 
 /// Stores the token over a signature, and answers the granted reply. All memory is taken before.
-pub(crate) fn finish_with<S: Alter + Drop>(
-    store: &mut Store<S>,
+pub(crate) fn finish_with<B: Book + Drop>(
+    store: &mut B,
     alloc: Global,
     pending: Pending<'_>,
     signature: &[u8],
 ) -> Result<Reply, Refusal>
     requires some { 1 ≤ length signature.now }
     requires few { length signature.now ≤ 4096 }
-    ensures honest { IsHonest S.Store store.new → IsHonest S.Store store.old }
+    ensures honest { B.honest store.new → B.honest store.old }
     ensures refusals { IfErr result IsOfFinish }
-    ensures step { (s : Setting) → StepsBy S.Store no_signer s (Finish pending.entry signature.now)
+    ensures step { (s : Setting) → StepsBy B.Standing no_signer s (Finish pending.entry signature.now)
         (outcome_of result) store.old store.new (told reply_as result) }
 {
     let Pending {
@@ -64,15 +62,15 @@ pub(crate) fn finish_with<S: Alter + Drop>(
 
 /// Has the text of a reservation signed, and stores the token. The rejection by rule 12 where the signer, memory or the
 /// store refuses: the reservation stays void.
-pub(crate) fn complete<S: Alter + Drop, X: Signer>(
-    store: &mut Store<S>,
+pub(crate) fn complete<B: Book + Drop, X: Signer>(
+    store: &mut B,
     alloc: Global,
     pending: Pending<'_>,
     signer: &mut X,
 ) -> Reply
-    ensures honest { IsHonest S.Store store.new → IsHonest S.Store store.old }
+    ensures honest { B.honest store.new → B.honest store.old }
     ensures completes { (s : Setting) → (signing : Result (List ℕ) SpecFault) × (o : Outcome)
-        × Completes S.Store (with_signer X.signs X.fault_count signer.old signer.new) pending.entry signing o
+        × Completes B.Standing (with_signer X.signs X.fault_count signer.old signer.new) pending.entry signing o
         store.old store.new (reply_as result) }
 {
     match signer.sign(pending.text()) {

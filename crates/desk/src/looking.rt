@@ -2,18 +2,16 @@
 ghost use Rattle.std.specs.Prelude.{◌≡◌, ◌⊎◌, ℕ, ◌≤◌, pos, Option, Some, None, option_map, IfOk, IfErr, MatchResult};
 ghost use Rattle.std.specs.Prelude.{MatchOption};
 ghost use Rattle.gentime.specs.GenTime.{last_moment};
-ghost use Rattle.tables.specs.Base.{IsHonest};
-ghost use Rattle.store.specs.History.{History};
-ghost use Rattle.store.specs.Stands.{Stands, OnlyLooks};
-ghost use Rattle.store.specs.Fault.{count_after};
-ghost use Rattle.store.specs.Values.{calibration_option};
+ghost use Rattle.book.specs.History.{History};
+ghost use Rattle.book.specs.Stands.{Stands, OnlyLooks};
+ghost use Rattle.book.specs.Fault.{count_after};
+ghost use Rattle.book.specs.Values.{calibration_option};
 ghost use Rattle.desk.specs.Facts.{now_with, is_held_at};
 ghost use Rattle.desk.specs.Calls.{looked_at, calibrations_as, moment_or_last};
 
+use book::{Book, StoreFault};
 use decide::{Calibration, ClockFacts, now_of};
 use gentime::GenTime;
-use sqlite::Alter;
-use store::{Store, StoreFault};
 
 /// The last moment that a genTime can state, 9999-12-31T23:59:59.999999Z.
 const LAST_MOMENT: i64 = 253_402_300_799_999_999;
@@ -26,7 +24,7 @@ pub(crate) struct Looked {
 }
 
 /// The same calibration, as it is judged.
-fn calibration_as(latest: Option<store::Calibration>) -> Option<Calibration>
+fn calibration_as(latest: Option<book::Calibration>) -> Option<Calibration>
     ensures { result ≡ calibrations_as (calibration_option latest) }
 {
     match latest {
@@ -76,17 +74,17 @@ fn statable(now: i128) -> Option<i64>
 }
 
 /// Whether the moment that the reading stands for is held.
-fn is_held<S: Alter + Drop>(
-    store: &mut Store<S>,
+fn is_held<B: Book + Drop>(
+    store: &mut B,
     reading: i64,
     calibration: Option<Calibration>,
 ) -> Result<bool, StoreFault>
-    ensures looks { OnlyLooks S.Store store.old store.new }
-    ensures value { IsHonest S.Store store.new → (b : History) → Stands S.Store b store.old
+    ensures looks { OnlyLooks B.Standing store.old store.new }
+    ensures value { B.honest store.new → (b : History) → Stands B.Standing b store.old
         → IfOk result (λ held. held ≡ is_held_at (now_with reading calibration) b) }
     ensures refusals { IfErr result (λ e. (e ≡ StoreFault.Memory) ⊎ (e ≡ StoreFault.Database)) }
-    ensures faults { MatchResult result (λ _. store.new.faults ≡ store.old.faults)
-        (λ e. store.new.faults ≡ count_after e store.old.faults) }
+    ensures faults { MatchResult result (λ _. B.fault_count store.new ≡ B.fault_count store.old)
+        (λ e. B.fault_count store.new ≡ count_after e (B.fault_count store.old)) }
 {
     let Some(calibration) = calibration else {
         return Ok(false);
@@ -98,16 +96,13 @@ fn is_held<S: Alter + Drop>(
 }
 
 /// What the store says of the clock at a reading, and its greatest serial number.
-pub(crate) fn look<S: Alter + Drop>(
-    store: &mut Store<S>,
-    reading: i64,
-) -> Result<Looked, StoreFault>
-    ensures looks { OnlyLooks S.Store store.old store.new }
-    ensures value { IsHonest S.Store store.new → (b : History) → Stands S.Store b store.old
+pub(crate) fn look<B: Book + Drop>(store: &mut B, reading: i64) -> Result<Looked, StoreFault>
+    ensures looks { OnlyLooks B.Standing store.old store.new }
+    ensures value { B.honest store.new → (b : History) → Stands B.Standing b store.old
         → IfOk result (λ looked. looked ≡ looked_at reading b) }
     ensures refusals { IfErr result (λ e. (e ≡ StoreFault.Memory) ⊎ (e ≡ StoreFault.Database)) }
-    ensures faults { MatchResult result (λ _. store.new.faults ≡ store.old.faults)
-        (λ e. store.new.faults ≡ count_after e store.old.faults) }
+    ensures faults { MatchResult result (λ _. B.fault_count store.new ≡ B.fault_count store.old)
+        (λ e. B.fault_count store.new ≡ count_after e (B.fault_count store.old)) }
 {
     let last = store.last()?;
     let calibration = calibration_as(store.calibration()?);

@@ -4,7 +4,7 @@ ghost use Rattle.desk.specs.Obstacles.{fault_with};
 
 use crate::fault::Fault;
 use crate::refusal::fault_of;
-use store::StoreFault;
+use book::StoreFault;
 
 /// What stands in the way: what the account may not, or the call that was refused.
 #[derive(Clone, Copy, Debug, PartialEq, Eq)]

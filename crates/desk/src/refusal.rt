@@ -4,8 +4,8 @@ ghost use Rattle.desk.specs.Effects.{fault_of as fault_for};
 ghost use Rattle.desk.specs.Calls.{store_cause, cause_with};
 
 use crate::fault::Fault;
+use book::StoreFault;
 use cms::SignerFault;
-use store::StoreFault;
 
 /// The call that was refused.
 #[derive(Clone, Copy, Debug, PartialEq, Eq)]

@@ -1,11 +1,10 @@
 //! How a stamp is reserved.
 ghost use Rattle.std.specs.Prelude.{◌≡◌, ◌≤◌, ◌+◌, length, Ok, IfOk, IfErr};
-ghost use Rattle.tables.specs.Base.{IsHonest};
 ghost use Rattle.gentime.specs.GenTime.{last_moment};
 ghost use Rattle.tsp.specs.Request.{Spells};
 ghost use Rattle.tsp.specs.View.{request_view};
-ghost use Rattle.store.specs.History.{History, greatest_serial};
-ghost use Rattle.store.specs.Stands.{Stands};
+ghost use Rattle.book.specs.History.{History, greatest_serial};
+ghost use Rattle.book.specs.Stands.{Stands};
 ghost use Rattle.desk.specs.Outcome.{faults_after};
 ghost use Rattle.desk.specs.Calls.{adding_refusal, outcome_of, plan_of, opening_view, IsPrepared, IsOfReserving};
 ghost use Rattle.desk.specs.Calls.{Reserves};
@@ -14,12 +13,11 @@ use crate::finding::Planned;
 use crate::opening::Opening;
 use crate::pending::Pending;
 use crate::refusal::Refusal;
+use book::{Book, Reservation, StoreFault};
 use cms::attribute_text;
 use der::Oid;
 use gentime::GenTime;
-use sqlite::Alter;
 use std::alloc::Global;
-use store::{Reservation, Store, StoreFault};
 use tsp::{ObjectIdentifier, requests_have_one_reading, write_tst};
 
 /// The greatest serial number, 2^63 - 1.
@@ -112,8 +110,8 @@ fn adding_refusal(fault: StoreFault) -> Refusal
 }
 
 /// Reserves the next serial number for a stamp that no rule refuses. Once the reservation is committed it succeeds.
-pub(crate) fn reserve_next<'p, 'a, S: Alter + Drop>(
-    store: &mut Store<S>,
+pub(crate) fn reserve_next<'p, 'a, B: Book + Drop>(
+    store: &mut B,
     alloc: Global,
     opening: Opening<'p>,
     account: &str,
@@ -122,11 +120,11 @@ pub(crate) fn reserve_next<'p, 'a, S: Alter + Drop>(
 ) -> Result<Pending<'p>, Refusal>
     requires spelled { Spells query.now (request_view planned.request) }
     requires short { length query.now ≤ 65536 }
-    ensures honest { IsHonest S.Store store.new → IsHonest S.Store store.old }
-    ensures counted { store.new.faults ≡ faults_after (outcome_of result) store.old.faults }
-    ensures reserves { IsHonest S.Store store.new → (b : History) → Stands S.Store b store.old
+    ensures honest { B.honest store.new → B.honest store.old }
+    ensures counted { B.fault_count store.new ≡ faults_after (outcome_of result) (B.fault_count store.old) }
+    ensures reserves { B.honest store.new → (b : History) → Stands B.Standing b store.old
         → greatest_serial b ≡ planned.entry.last
-        → Reserves S.Store (opening_view opening.entry) account.now (plan_of planned.entry) query.now b store.old
+        → Reserves B.Standing (opening_view opening.entry) account.now (plan_of planned.entry) query.now b store.old
         store.new result }
     ensures refusals { IfErr result IsOfReserving }
 {

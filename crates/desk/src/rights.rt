@@ -1,9 +1,8 @@
 //! Who gives and takes rights.
 ghost use Rattle.std.specs.Prelude.{◌≡◌, IfErr, MatchResult};
 ghost use Rattle.policy.specs.View.{account_view, policy_view};
-ghost use Rattle.tables.specs.Base.{IsHonest};
-ghost use Rattle.store.specs.History.{History};
-ghost use Rattle.store.specs.Stands.{Stands, OnlyLooks};
+ghost use Rattle.book.specs.History.{History};
+ghost use Rattle.book.specs.Stands.{Stands, OnlyLooks};
 ghost use Rattle.desk.specs.Calls.{opening_view};
 ghost use Rattle.desk.specs.Command.{Grant, Revoke};
 ghost use Rattle.desk.specs.Effects.{has_account};
@@ -15,9 +14,8 @@ ghost use Rattle.desk.specs.Stepped.{StepsBy, no_signer};
 use crate::obstacle::Obstacle;
 use crate::opening::Opening;
 use crate::showing::see;
+use book::Book;
 use policy::{Account, Policy};
-use sqlite::Alter;
-use store::Store;
 
 /// Whether the policy file has an account of that name, active or not.
 fn is_known(policy: &Policy, name: &str) -> bool
@@ -28,16 +26,16 @@ fn is_known(policy: &Policy, name: &str) -> bool
 
 /// Whether an account may give a reader the right to see a deposit, and take it: the owner may, and for another
 /// account.
-fn may_name<S: Alter + Drop>(
-    store: &mut Store<S>,
+fn may_name<B: Book + Drop>(
+    store: &mut B,
     policy: &Policy,
     account: &str,
     number: u64,
     name: &str,
 ) -> Result<(), Obstacle>
-    ensures looks { OnlyLooks S.Store store.old store.new }
-    ensures counted { store.new.faults ≡ faults_after (outcome_with result) store.old.faults }
-    ensures may { IsHonest S.Store store.new → (b : History) → Stands S.Store b store.old
+    ensures looks { OnlyLooks B.Standing store.old store.new }
+    ensures counted { B.fault_count store.new ≡ faults_after (outcome_with result) (B.fault_count store.old) }
+    ensures may { B.honest store.new → (b : History) → Stands B.Standing b store.old
         → MatchResult result (λ _. MayName (policy_view policy.now) account.now name.now number b)
         (MayNot (policy_view policy.now) account.now name.now number b) }
     ensures refusals { IfErr result IsOfRight }
@@ -59,15 +57,15 @@ fn may_name<S: Alter + Drop>(
 }
 
 /// Lets a reader see a deposit, from now on.
-pub(crate) fn grant_by<S: Alter + Drop>(
-    store: &mut Store<S>,
+pub(crate) fn grant_by<B: Book + Drop>(
+    store: &mut B,
     opening: Opening<'_>,
     account: &Account,
     number: u64,
     name: &str,
 ) -> Result<(), Obstacle>
-    ensures honest { IsHonest S.Store store.new → IsHonest S.Store store.old }
-    ensures step { StepsBy S.Store no_signer (opening_view opening.entry)
+    ensures honest { B.honest store.new → B.honest store.old }
+    ensures step { StepsBy B.Standing no_signer (opening_view opening.entry)
         (Grant (account_view account.now) number name.now) (outcome_with result) store.old store.new
         (told_with done_as result) }
 {
@@ -83,15 +81,15 @@ pub(crate) fn grant_by<S: Alter + Drop>(
 }
 
 /// Takes that right away, from now on.
-pub(crate) fn revoke_by<S: Alter + Drop>(
-    store: &mut Store<S>,
+pub(crate) fn revoke_by<B: Book + Drop>(
+    store: &mut B,
     opening: Opening<'_>,
     account: &Account,
     number: u64,
     name: &str,
 ) -> Result<(), Obstacle>
-    ensures honest { IsHonest S.Store store.new → IsHonest S.Store store.old }
-    ensures step { StepsBy S.Store no_signer (opening_view opening.entry)
+    ensures honest { B.honest store.new → B.honest store.old }
+    ensures step { StepsBy B.Standing no_signer (opening_view opening.entry)
         (Revoke (account_view account.now) number name.now) (outcome_with result) store.old store.new
         (told_with done_as result) }
 {

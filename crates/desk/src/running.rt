@@ -3,7 +3,6 @@ ghost use Rattle.std.specs.Prelude.{◌≡◌, ◌≤◌, List, map, IfOk, IfErr
 ghost use Rattle.std.specs.List.{AllByRecursion};
 ghost use Rattle.der.specs.ObjectIdentifier.{IsOid};
 ghost use Rattle.policy.specs.View.{tsa_policy_view};
-ghost use Rattle.tables.specs.Base.{IsHonest};
 ghost use Rattle.desk.specs.Answers.{answered};
 ghost use Rattle.desk.specs.Asked.{command_view, answer_view, commands_view, answers_view};
 ghost use Rattle.desk.specs.Calls.{opening_view};
@@ -24,11 +23,10 @@ use crate::opening::Opening;
 use crate::reply::Deposited;
 use crate::rights::{grant_by, revoke_by};
 use crate::showing::{list_to, show_to, token_to};
+use book::{Book, Listed};
 use cms::Signer;
 use policy::{Counter, TsaPolicy};
-use sqlite::Alter;
 use std::alloc::Global;
-use store::{Listed, Store};
 use tsp::requests_have_one_reading;
 
 fn kept(deposited: Result<Deposited, Fault>) -> Answer
@@ -68,16 +66,16 @@ fn done(outcome: Result<(), Obstacle>) -> Answer
 }
 
 /// Does what one command asks.
-pub(crate) fn obey<S: Alter + Drop, G: Signer>(
-    store: &mut Store<S>,
+pub(crate) fn obey<B: Book + Drop, G: Signer>(
+    store: &mut B,
     alloc: Global,
     opening: Opening<'_>,
     command: &Command<'_>,
     signer: &mut G,
 ) -> Answer
-    ensures honest { IsHonest S.Store store.new → IsHonest S.Store store.old }
-    ensures step { IsStep S.Store (with_signer G.signs G.fault_count signer.old signer.new) (opening_view opening.entry)
-        (command_view command.now) store.old store.new (answer_view result) }
+    ensures honest { B.honest store.new → B.honest store.old }
+    ensures step { IsStep B.Standing (with_signer G.signs G.fault_count signer.old signer.new)
+        (opening_view opening.entry) (command_view command.now) store.old store.new (answer_view result) }
 {
     match *command {
         Command::Stamp {
@@ -112,8 +110,8 @@ pub(crate) fn obey<S: Alter + Drop, G: Signer>(
 }
 
 /// Does what each command asks, one after the other. Room for all the answers is taken first.
-pub(crate) fn obey_each<S: Alter + Drop, G: Signer>(
-    store: &mut Store<S>,
+pub(crate) fn obey_each<B: Book + Drop, G: Signer>(
+    store: &mut B,
     alloc: Global,
     opening: Opening<'_>,
     commands: &[Command<'_>],
@@ -121,7 +119,7 @@ pub(crate) fn obey_each<S: Alter + Drop, G: Signer>(
 ) -> Result<Vec<Answer>, Fault>
     ensures memory { IfErr result (λ fault. fault ≡ Fault.Memory) }
     ensures unmoved { OnErr result ((store.new ≡ store.old) × (signer.new ≡ signer.old)) }
-    ensures steps { IfOk result (λ answers. (os : List Outcome) × AreSteps S.Store G.signs G.fault_count
+    ensures steps { IfOk result (λ answers. (os : List Outcome) × AreSteps B.Standing G.signs G.fault_count
         (opening_view opening.entry) (commands_view commands.now) os (answers_view answers.items) store.old signer.old
         store.new signer.new) }
 {
@@ -157,17 +155,17 @@ fn has_object_identifiers(policies: &[TsaPolicy])
 }
 
 /// A run over a store.
-fn run_with<S: Alter + Drop, G: Signer>(
-    store: &mut Store<S>,
+fn run_with<B: Book + Drop, G: Signer>(
+    store: &mut B,
     alloc: Global,
     opening: Opening<'_>,
     commands: &[Command<'_>],
     signer: &mut G,
 ) -> Result<Vec<Answer>, Fault>
-    ensures honest { IsHonest S.Store store.new → IsHonest S.Store store.old }
+    ensures honest { B.honest store.new → B.honest store.old }
     ensures memory { IfErr result (λ fault. fault ≡ Fault.Memory) }
     ensures unmoved { OnErr result ((store.new ≡ store.old) × (signer.new ≡ signer.old)) }
-    ensures run { IfOk result (λ answers. IsRun S.Store G.signs G.fault_count (opening_view opening.entry)
+    ensures run { IfOk result (λ answers. IsRun B.Standing G.signs G.fault_count (opening_view opening.entry)
         (commands_view commands.now) (answers_view answers.items) store.old signer.old store.new signer.new) }
 {
     requests_have_one_reading();
@@ -180,7 +178,7 @@ fn run_with<S: Alter + Drop, G: Signer>(
     }
 }
 
-impl<'p, S: Alter + Drop> Desk<'p, S> {
+impl<'p, B: Book + Drop> Desk<'p, B> {
     /// Does what each command asks, one after the other: an answer for each, none for no command. A command that is
     /// refused doesn't stop those after it. The caller's conditions are those of the commands: an uncertainty of at
     /// most 10^12 microseconds, and a hold that ends after its first moment.
@@ -192,10 +190,10 @@ impl<'p, S: Alter + Drop> Desk<'p, S> {
         signer: &mut G,
     ) -> Result<Vec<Answer>, Fault>
         ensures setting { self.new.setting ≡ self.old.setting }
-        ensures honest { IsHonest S.Store self.new.store → IsHonest S.Store self.old.store }
+        ensures honest { B.honest self.new.store → B.honest self.old.store }
         ensures memory { IfErr result (λ fault. fault ≡ Fault.Memory) }
         ensures unmoved { OnErr result ((self.new ≡ self.old) × (signer.new ≡ signer.old)) }
-        ensures run { IfOk result (λ answers. IsRun S.Store G.signs G.fault_count self.old.setting
+        ensures run { IfOk result (λ answers. IsRun B.Standing G.signs G.fault_count self.old.setting
             (commands_view commands.now) (answers_view answers.items) self.old.store signer.old self.new.store
             signer.new) }
     {

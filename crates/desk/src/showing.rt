@@ -1,9 +1,8 @@
 //! What an account sees.
 ghost use Rattle.std.specs.Prelude.{◌≡◌, IfErr, MatchResult};
 ghost use Rattle.policy.specs.View.{account_view};
-ghost use Rattle.tables.specs.Base.{IsHonest};
-ghost use Rattle.store.specs.History.{History};
-ghost use Rattle.store.specs.Stands.{Stands, OnlyLooks};
+ghost use Rattle.book.specs.History.{History};
+ghost use Rattle.book.specs.Stands.{Stands, OnlyLooks};
 ghost use Rattle.desk.specs.Command.{Setting, Show, Token, ListAll};
 ghost use Rattle.desk.specs.Obstacles.{outcome_with, told_with, IsOfSight, Sees, IsUnseen};
 ghost use Rattle.desk.specs.Outcome.{faults_after};
@@ -11,21 +10,20 @@ ghost use Rattle.desk.specs.Shown.{shown_as, listed_as};
 ghost use Rattle.desk.specs.Stepped.{StepsBy, no_signer};
 
 use crate::obstacle::Obstacle;
+use book::{Book, Listed, StampedDeposit};
 use policy::Account;
-use sqlite::Alter;
 use std::alloc::Global;
-use store::{Listed, StampedDeposit, Store};
 use tsp::write_granted;
 
 /// The deposit with a number, and its stamp, where the account sees it. It is read only then.
-pub(crate) fn see<S: Alter + Drop>(
-    store: &mut Store<S>,
+pub(crate) fn see<B: Book + Drop>(
+    store: &mut B,
     account: &str,
     number: u64,
 ) -> Result<StampedDeposit, Obstacle>
-    ensures looks { OnlyLooks S.Store store.old store.new }
-    ensures counted { store.new.faults ≡ faults_after (outcome_with result) store.old.faults }
-    ensures sees { IsHonest S.Store store.new → (b : History) → Stands S.Store b store.old
+    ensures looks { OnlyLooks B.Standing store.old store.new }
+    ensures counted { B.fault_count store.new ≡ faults_after (outcome_with result) (B.fault_count store.old) }
+    ensures sees { B.honest store.new → (b : History) → Stands B.Standing b store.old
         → MatchResult result (Sees account.now number b) (IsUnseen account.now number b) }
     ensures refusals { IfErr result IsOfSight }
 {
@@ -44,13 +42,13 @@ pub(crate) fn see<S: Alter + Drop>(
 }
 
 /// The octets of a deposit that the account sees.
-pub(crate) fn show_to<S: Alter + Drop>(
-    store: &mut Store<S>,
+pub(crate) fn show_to<B: Book + Drop>(
+    store: &mut B,
     account: &Account,
     number: u64,
 ) -> Result<Vec<u8>, Obstacle>
-    ensures looks { OnlyLooks S.Store store.old store.new }
-    ensures step { (s : Setting) → StepsBy S.Store no_signer s (Show (account_view account.now) number)
+    ensures looks { OnlyLooks B.Standing store.old store.new }
+    ensures step { (s : Setting) → StepsBy B.Standing no_signer s (Show (account_view account.now) number)
         (outcome_with result) store.old store.new (told_with shown_as result) }
 {
     match see(store, account.name.as_str(), number) {
@@ -60,14 +58,14 @@ pub(crate) fn show_to<S: Alter + Drop>(
 }
 
 /// The granted reply with the token of a deposit that the account sees.
-pub(crate) fn token_to<S: Alter + Drop>(
-    store: &mut Store<S>,
+pub(crate) fn token_to<B: Book + Drop>(
+    store: &mut B,
     alloc: Global,
     account: &Account,
     number: u64,
 ) -> Result<Vec<u8>, Obstacle>
-    ensures looks { OnlyLooks S.Store store.old store.new }
-    ensures step { (s : Setting) → StepsBy S.Store no_signer s (Token (account_view account.now) number)
+    ensures looks { OnlyLooks B.Standing store.old store.new }
+    ensures step { (s : Setting) → StepsBy B.Standing no_signer s (Token (account_view account.now) number)
         (outcome_with result) store.old store.new (told_with shown_as result) }
 {
     match see(store, account.name.as_str(), number) {
@@ -83,12 +81,12 @@ pub(crate) fn token_to<S: Alter + Drop>(
 }
 
 /// All that the account sees, by number.
-pub(crate) fn list_to<S: Alter + Drop>(
-    store: &mut Store<S>,
+pub(crate) fn list_to<B: Book + Drop>(
+    store: &mut B,
     account: &Account,
 ) -> Result<Vec<Listed>, Obstacle>
-    ensures looks { OnlyLooks S.Store store.old store.new }
-    ensures step { (s : Setting) → StepsBy S.Store no_signer s (ListAll (account_view account.now))
+    ensures looks { OnlyLooks B.Standing store.old store.new }
+    ensures step { (s : Setting) → StepsBy B.Standing no_signer s (ListAll (account_view account.now))
         (outcome_with result) store.old store.new (told_with listed_as result) }
 {
     match store.list(account.name.as_str()) {

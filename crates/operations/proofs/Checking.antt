@@ -6,21 +6,20 @@ use Rattle.std.proofs.Math.Seq.{take-append-add, take-length}
 use Rattle.std.proofs.lemmas.Grind.{flat_map-append}
 use Rattle.std.proofs.lemmas.List.{length-append}
 use Rattle.std.specs.Io.KnownBytes.{Appends}
-use Rattle.sqlite_trees.specs.declared.store.Store.{Ghosts}
-use Rattle.tables.specs.Base.{BaseValue, IsHonest}
-use Rattle.tables.specs.Queries.{stamp_view}
-use Rattle.tables.specs.Tables.{StampRow}
-use Rattle.tables.specs.declared.rows.Stamp.{Stamp}
-use Rattle.store.specs.History.{History, stamps_between}
-use Rattle.store.specs.Stands.{OnlyLooks, Stands}
-use Rattle.store.specs.Values.{HandsOut}
+use Rattle.book.specs.declared.standing.Standing.{Ghosts}
+use Rattle.book.specs.Values.{stamp_view}
+use Rattle.book.specs.Rows.{StampRow}
+use Rattle.book.specs.declared.rows.Stamp.{Stamp}
+use Rattle.book.specs.History.{History, stamps_between}
+use Rattle.book.specs.Stands.{OnlyLooks, Stands}
+use Rattle.book.specs.Ranges.{HandsOut}
 use Rattle.audit.specs.Consistent.{IsConsistent}
 use Rattle.operations.specs.Auditing.{AreFailing, Checks, IsCutOff, TellsSome, failing_line, failing_lines}
 
-looks_not : {S : Type 0} (g : Ghosts S) (s : BaseValue S) → OnlyLooks g s s
+looks_not : {B : Type 0} (g : Ghosts B) (s : B) → OnlyLooks g s s
 looks_not g s = record { honest = λ h. h; stands = λ b x. x; leaves = λ h db r. r }
 
-pub looks_after : {S : Type 0} (g : Ghosts S) (old mid new : BaseValue S) → OnlyLooks g old mid → OnlyLooks g mid new
+pub looks_after : {B : Type 0} (g : Ghosts B) (old mid new : B) → OnlyLooks g old mid → OnlyLooks g mid new
     → OnlyLooks g old new
 looks_after g old mid new first second = record {
   honest = λ h. first.honest (second.honest h);
@@ -65,7 +64,7 @@ nonempty_next [] serial e = cc e
 nonempty_next (first ∷ serials) serial e = cc e
 
 -- The stamps before those that are left are checked, and the lines of those that fail are told.
-pub record HasChecked {S : Type 0} (g : Ghosts S) (old now : BaseValue S) (err err' : Option (List ℕ))
+pub record HasChecked {B : Type 0} (g : Ghosts B) (old now : B) (err err' : Option (List ℕ))
     (from to left : ℕ) (agree : Bool)
     : Type 0 where
   pub looks : OnlyLooks g old now
@@ -73,12 +72,12 @@ pub record HasChecked {S : Type 0} (g : Ghosts S) (old now : BaseValue S) (err e
   pub told : Appends err err' (failing_lines serials)
   pub agreed : agree ≡ true → (serials ≡ []) × (err' ≡ err)
   pub failed : agree ≡ false → serials ≢ []
-  pub checked : IsHonest g now → (b : History) → Stands g b old
+  pub checked : g.honest now → (b : History) → Stands g b old
       → (before : List StampRow)
       × (stamps_between from to b ≡ before ++ stamps_between left to b)
       × AreFailing before serials
 
-pub begun : {S : Type 0} (g : Ghosts S) (store : BaseValue S) (err : Option (List ℕ)) (from to : ℕ)
+pub begun : {B : Type 0} (g : Ghosts B) (store : B) (err : Option (List ℕ)) (from to : ℕ)
     → HasChecked g store store err err from to from true
 begun g store err from to = record {
   looks = looks_not g store;
@@ -90,15 +89,15 @@ begun g store err from to = record {
 }
 
 -- what the next stamp is to a history's
-abbrev pub IsNext : {S : Type 0} → Ghosts S → (now next : BaseValue S) → (left left' to : ℕ) → StampRow → Type 0
+abbrev pub IsNext : {B : Type 0} → Ghosts B → (now next : B) → (left left' to : ℕ) → StampRow → Type 0
 IsNext g now next left left' to stamp =
-    IsHonest g next → (b : History) → Stands g b now
+    g.honest next → (b : History) → Stands g b now
     → stamps_between left to b ≡ stamp ∷ stamps_between left' to b
 
-pub next_is : {S : Type 0} (g : Ghosts S) (now next : BaseValue S) (left left' to to' to'' : ℕ) (found : Option Stamp)
+pub next_is : {B : Type 0} (g : Ghosts B) (now next : B) (left left' to to' to'' : ℕ) (found : Option Stamp)
     (stamp : Stamp)
     → found ≡ Some stamp → to' ≡ to → to'' ≡ to'
-    → (IsHonest g next → (b : History) → Stands g b now
+    → (g.honest next → (b : History) → Stands g b now
     → HandsOut (stamps_between left to' b) (stamps_between left' to'' b) found)
     → IsNext g now next left left' to (stamp_view stamp)
 next_is g now next left left' to to' to'' found stamp is same last value h b s =
@@ -110,7 +109,7 @@ split_next : (all before after after' : List StampRow) (stamp : StampRow) → al
 split_next all before after after' stamp parts next =
     parts ∙ ap (λ l. before ++ l) next ∙ sym (append_assoc before (stamp ∷ []) after')
 
-pub passed : {S : Type 0} (g : Ghosts S) (old now next : BaseValue S) (err err' : Option (List ℕ))
+pub passed : {B : Type 0} (g : Ghosts B) (old now next : B) (err err' : Option (List ℕ))
     (from to left left' : ℕ) (agree : Bool) (stamp : StampRow)
     → HasChecked g old now err err' from to left agree → OnlyLooks g now next → IsNext g now next left left' to stamp
     → IsConsistent stamp → HasChecked g old next err err' from to left' agree
@@ -137,7 +136,7 @@ tells_more err err' err'' serials serial first second =
     subst (Appends err err'') (sym (lines_next serials serial))
     (Appends-trans err err' err'' (failing_lines serials) (failing_line serial) first second)
 
-pub failed : {S : Type 0} (g : Ghosts S) (old now next : BaseValue S) (err err' err'' : Option (List ℕ))
+pub failed : {B : Type 0} (g : Ghosts B) (old now next : B) (err err' err'' : Option (List ℕ))
     (from to left left' : ℕ) (agree : Bool) (stamp : StampRow)
     → HasChecked g old now err err' from to left agree → OnlyLooks g now next → IsNext g now next left left' to stamp
     → (IsConsistent stamp → ⊥) → Appends err' err'' (failing_line stamp.serial)
@@ -173,11 +172,11 @@ cut_next err err' err'' serials serial first second =
       subst (Appends err err'') (sym taken) appended,
     )
 
-pub cut_off : {S : Type 0} (g : Ghosts S) (old now next : BaseValue S) (err err' err'' : Option (List ℕ))
+pub cut_off : {B : Type 0} (g : Ghosts B) (old now next : B) (err err' err'' : Option (List ℕ))
     (from to left left' : ℕ) (agree : Bool) (stamp : StampRow)
     → HasChecked g old now err err' from to left agree → OnlyLooks g now next → IsNext g now next left left' to stamp
     → (IsConsistent stamp → ⊥) → IsCutOff err' err'' (failing_line stamp.serial)
-    → IsHonest g next → (b : History) → Stands g b old → Checks (stamps_between from to b) err err'' false
+    → g.honest next → (b : History) → Stands g b old → Checks (stamps_between from to b) err err'' false
 cut_off g old now next err err' err'' from to left left' agree stamp before looks is fails line h b s =
     let found = before.checked (looks.honest h) b s in
     let one = is h b (before.looks.stands b s) in
@@ -212,11 +211,11 @@ all_told err err' serials some told =
     some_told err err' serials some (length (failing_lines serials))
     (subst (Appends err err') (sym (take-length (failing_lines serials))) told)
 
-pub ended : {S : Type 0} (g : Ghosts S) (old now next : BaseValue S) (err err' : Option (List ℕ))
+pub ended : {B : Type 0} (g : Ghosts B) (old now next : B) (err err' : Option (List ℕ))
     (from to left left' : ℕ) (agree : Bool)
     → HasChecked g old now err err' from to left agree → OnlyLooks g now next
-    → (IsHonest g next → (b : History) → Stands g b now → stamps_between left to b ≡ [])
-    → IsHonest g next → (b : History) → Stands g b old → Checks (stamps_between from to b) err err' agree
+    → (g.honest next → (b : History) → Stands g b now → stamps_between left to b ≡ [])
+    → g.honest next → (b : History) → Stands g b old → Checks (stamps_between from to b) err err' agree
 ended g old now next err err' from to left left' agree before looks none h b s =
     let found = before.checked (looks.honest h) b s in
     let last = none h b (before.looks.stands b s) in

@@ -1,6 +1,6 @@
 -- What answering one HTTP request does to a reader and a writer, out of what the service says of it.
 use Rattle.std.proofs.Common.{ℕ, ℤ, List, Option, Result, Ok, Err, ap, inl, inr}
-use Rattle.sqlite_trees.specs.declared.store.Store.{Ghosts}
+use Rattle.book.specs.declared.standing.Standing.{Ghosts}
 use Rattle.cms.specs.declared.signer.SignerFault.{SignerFault}
 use Rattle.desk.specs.Command.{Command, Stamp, Answer}
 use Rattle.service.specs.Answers.{AnswerValue}
@@ -12,8 +12,8 @@ use Rattle.service.specs.declared.served.Served.TheVariants as served
 use Rattle.operations.specs.Exchanges as known
 use Rattle.operations.specs.Exchanges.{AsksExtract, Exchanges, IsAnswerFor, IsJudged}
 
-module _ {W S X : Type 0} (g : Ghosts S) (signs : X → List ℕ → Result (List ℕ) SignerFault → X → Type 0)
-    (count : X → ℕ) (contents : W → Option (List ℕ)) (reading : ℤ) (t : Turn W S X) where
+module _ {W B X : Type 0} (g : Ghosts B) (signs : X → List ℕ → Result (List ℕ) SignerFault → X → Type 0)
+    (count : X → ℕ) (contents : W → Option (List ℕ)) (reading : ℤ) (t : Turn W B X) where
   judged : (c : Command) (reply : Answer) → Takes g signs count t c reply → IsJudged t.desk.setting.file c reply
   judged (Stamp account reading octets) reply takes = λ rule first. (takes.1 rule first).0
   judged other reply takes = tt

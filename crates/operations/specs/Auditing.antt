@@ -1,6 +1,6 @@
 -- What an audit writes.
-use Rattle.std.specs.Prelude.{◌≡◌, ◌≢◌, ◌⊎◌, ℕ, ◌<◌, Bool, true, false, List, [], ◌∷◌, ◌++◌, Option, codes, length}
-use Rattle.std.specs.Prelude.{take}
+use Rattle.std.specs.Prelude.{◌≡◌, ◌≢◌, ◌⊎◌, ℕ, ◌<◌, Bool, true, false, List, [], ◌∷◌, ◌++◌, IfErr, IfOk}
+use Rattle.std.specs.Prelude.{Option, Result, codes, length, take}
 use Rattle.std.specs.Fmt.{decimal}
 use Rattle.std.specs.Io.KnownBytes.{Appends}
 use Rattle.std.specs.List.{flat_map}
@@ -11,8 +11,8 @@ use Rattle.audit.specs.Extract.{header_text, stamps_text}
 use Rattle.audit.specs.declared.fault.ExtractFault.{ExtractFault}
 use Rattle.audit.specs.declared.fault.ExtractFault.TheVariants as extract
 use Rattle.policy.specs.View.{account_view, policy_view}
-use Rattle.store.specs.declared.fault.StoreFault.TheVariants as store
-use Rattle.tables.specs.Tables.{StampRow}
+use Rattle.book.specs.declared.fault.StoreFault.TheVariants as store
+use Rattle.book.specs.Rows.{StampRow}
 use Rattle.operations.specs.declared.auditing.AuditFault.{AuditFault}
 use Rattle.operations.specs.declared.auditing.AuditFault.TheVariants as fault
 use Rattle.operations.specs.declared.auditing.Inquiry.{Inquiry}
@@ -98,3 +98,12 @@ Leaves inquiry out out' told told' refused =
     × Allows inquiry
     × WritesExtract out out'
     × TellsFailing told told'))
+
+-- What is known of an audit and its answer: whether all stamps agree, or the refusal.
+abbrev pub IsAudited : Inquiry → (out out' told told' : Option (List ℕ)) → Result Bool AuditFault → Type 0
+IsAudited inquiry out out' told told' done =
+    IfOk done (λ agree. Allows inquiry
+    × WritesExtract out out'
+    × (agree ≡ true → told' ≡ told)
+    × (agree ≡ false → (inquiry.check ≡ true) × TellsSome told told'))
+    × IfErr done (λ refused. ComesWhere inquiry refused × Leaves inquiry out out' told told' refused)

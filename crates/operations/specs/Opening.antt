@@ -1,7 +1,7 @@
 -- How the opening of a database, and what comes after it, can be refused.
 use Rattle.std.specs.Prelude.{◌≡◌, ◌⊎◌}
-use Rattle.store.specs.declared.fault.StoreFault.{StoreFault}
-use Rattle.store.specs.declared.fault.StoreFault.TheVariants.{Memory, Database, NotOurs}
+use Rattle.book.specs.declared.fault.StoreFault.{StoreFault}
+use Rattle.book.specs.declared.fault.StoreFault.TheVariants.{Memory, Database, NotOurs}
 use Rattle.operations.specs.declared.fault.OperationFault.{OperationFault}
 use Rattle.operations.specs.declared.fault.OperationFault.TheVariants as operation
 
@@ -21,3 +21,7 @@ IsServingFault (operation.Store fault) = IsOpeningFault fault
 IsServingFault operation.Unreached = Unit {0}
 IsServingFault operation.Unheard = Unit {0}
 IsServingFault operation.Clock = Unit {0}
+
+-- the key holder can't be reached
+abbrev pub IsUnreached : OperationFault → Type 0
+IsUnreached fault = fault ≡ operation.Unreached

@@ -1,15 +1,13 @@
 //! What an operator adds to the history.
 ghost use Rattle.std.specs.Prelude.{◌≡◌, ◌⊎◌, ◌∷◌, IfErr, OnOk, OnErr};
-ghost use Rattle.tables.specs.Base.{IsHonest, IsOpen};
-ghost use Rattle.store.specs.History.{History};
-ghost use Rattle.store.specs.Sound.{Fits};
-ghost use Rattle.store.specs.Stands.{LeavesOrAdds, Stands};
-ghost use Rattle.operations.specs.Addition.{entry_of};
+ghost use Rattle.book.specs.History.{History};
+ghost use Rattle.book.specs.Sound.{Fits};
+ghost use Rattle.book.specs.Stands.{LeavesOrAdds, Stands};
+ghost use Rattle.operations.specs.Addition.{IsAdded, IsAdditionFault, entry_of};
 
-use crate::opening::{close, open};
-use sqlite::Alter;
-use sqlite_disk::Unknown;
-use store::{Calibration, Hold, Store, StoreFault};
+use crate::opening::perform_at;
+use crate::operation::Operation;
+use book::{Book, Calibration, Hold, StoreFault};
 
 /// What an operator adds to the history.
 #[derive(Clone, Copy, Debug, PartialEq, Eq)]
@@ -21,22 +19,40 @@ pub enum Addition {
 }
 
 impl Addition {
-    /// Adds it to a history. The caller's conditions are those of `Store::calibrate` and `Store::hold`, and so are the
+    /// Adds it to a history. The caller's conditions are those of `Book::calibrate` and `Book::hold`, and so are the
     /// refusals: `Memory`, `Database`, and `Backwards` for a calibration whose reading is before that of the latest.
-    pub fn add_to<S: Alter + Drop>(&self, store: &mut Store<S>) -> Result<(), StoreFault>
-        ensures opened { IsHonest S.Store store.new
-            → OnOk result (IsOpen S.Store store.old × IsOpen S.Store store.new) }
-        ensures ok { (b : History) → Stands S.Store b store.old → Fits (entry_of self.now) b
-            → OnOk result (Stands S.Store (entry_of self.now ∷ b) store.new) }
-        ensures err { (b : History) → Stands S.Store b store.old → OnErr result (Stands S.Store b store.new) }
-        ensures crash { LeavesOrAdds S.Store (entry_of self.now) store.old store.new }
-        ensures refusals { IfErr result (λ e.
-            (e ≡ StoreFault.Memory) ⊎ ((e ≡ StoreFault.Database) ⊎ (e ≡ StoreFault.Backwards))) }
+    pub fn add_to<B: Book>(&self, book: &mut B) -> Result<(), StoreFault>
+        ensures opened { B.honest book.new → OnOk result (B.is_open book.old × B.is_open book.new) }
+        ensures ok { (b : History) → Stands B.Standing b book.old → Fits (entry_of self.now) b
+            → OnOk result (Stands B.Standing (entry_of self.now ∷ b) book.new) }
+        ensures err { (b : History) → Stands B.Standing b book.old → OnErr result (Stands B.Standing b book.new) }
+        ensures crash { LeavesOrAdds B.Standing (entry_of self.now) book.old book.new }
+        ensures refusals { IfErr result IsAdditionFault }
     {
         match self {
-            Addition::Calibration(calibration) => store.calibrate(calibration),
-            Addition::Hold(hold) => store.hold(hold),
+            Addition::Calibration(calibration) => book.calibrate(calibration),
+            Addition::Hold(hold) => book.hold(hold),
         }
+    }
+}
+
+impl Operation<(), ()> for Addition {
+    type Answer = Result<(), StoreFault>;
+
+    ghost answers = { λ _ _ _ _ _ done. IfErr done IsAdditionFault };
+
+    ghost moves = { λ _ g addition old new done. IsAdded g (entry_of addition) old new done };
+
+    fn perform<B: Book + Drop>(
+        self,
+        _rt: &HostRuntime,
+        book: B,
+        _input: &mut (),
+        _output: &mut (),
+    ) -> (B, Result<(), StoreFault>) {
+        let mut book = book;
+        let done = self.add_to(&mut book);
+        (book, done)
     }
 }
 
@@ -48,22 +64,5 @@ pub fn add(rt: &HostRuntime, path: &str, addition: &Addition) -> Result<(), Stor
     ensures { IfErr result (λ e. (e ≡ StoreFault.Memory)
         ⊎ ((e ≡ StoreFault.Database) ⊎ ((e ≡ StoreFault.NotOurs) ⊎ (e ≡ StoreFault.Backwards)))) }
 {
-    let store = open(rt, path, Unknown)?;
-    let (store, done) = add_over(store, addition);
-    // What was committed stays in the log where it can't be copied into the file.
-    let _ = close(store);
-    done
-}
-
-/// Adds it to the history of a store, which it gives back.
-fn add_over<S: Alter + Drop>(
-    store: Store<S>,
-    addition: &Addition,
-) -> (Store<S>, Result<(), StoreFault>)
-    ensures { IfErr result.1 (λ e.
-        (e ≡ StoreFault.Memory) ⊎ ((e ≡ StoreFault.Database) ⊎ (e ≡ StoreFault.Backwards))) }
-{
-    let mut store = store;
-    let done = addition.add_to(&mut store);
-    (store, done)
+    perform_at(rt, path, *addition, &mut (), &mut ())?
 }

@@ -8,16 +8,14 @@ ghost use Rattle.desk.specs.Stepped.{IsStep, with_signer};
 ghost use Rattle.operations.specs.Judged.{IsJudgedReply};
 ghost use Rattle.operations.specs.Opening.{IsStartingFault};
 
+use crate::desk_operation::{DeskOperation, perform_at_desk};
 use crate::fault::OperationFault;
-use crate::opening::{close, open};
-use crate::signing::{Signing, reach};
+use crate::signing::Signing;
 use crate::terms::Terms;
+use book::Book;
 use cms::Signer;
 use desk::{Desk, Reply};
 use policy::Account;
-use sqlite::Alter;
-use sqlite_disk::Unknown;
-use store::Store;
 
 /// A request, and who asks when.
 #[derive(Clone, Copy, Debug)]
@@ -28,6 +26,24 @@ pub struct Question<'a> {
     pub reading: i64,
     /// The request's octets.
     pub query: &'a [u8],
+}
+
+impl DeskOperation<(), ()> for Question<'_> {
+    type Answer = Reply;
+
+    ghost answers = { λ question file _ _ _ _ reply. IsJudgedReply file (account_asked question.account)
+        question.query.now (reply_as reply) };
+
+    fn perform<B: Book + Drop, G: Signer>(
+        self,
+        _rt: &HostRuntime,
+        desk: &mut Desk<'_, B>,
+        signer: &mut G,
+        _input: &mut (),
+        _output: &mut (),
+    ) -> Reply {
+        answer_with(desk, signer, &self)
+    }
 }
 
 /// Answers the request as `Desk::answer` does, over the history that the database at the path keeps. Refused with
@@ -45,68 +61,18 @@ pub fn answer(
         (account_asked question.now.account) question.now.query.now (reply_as reply)) }
     ensures refusals { IfErr result IsStartingFault }
 {
-    let store = open(rt, path, Unknown)?;
-    let (store, done) = answer_over(rt, store, terms, signing, question);
-    // What was committed stays in the log where it can't be copied into the file.
-    let _ = close(store);
-    done
-}
-
-/// Answers the request over a store, which it gives back.
-fn answer_over<S: Alter + Drop>(
-    rt: &HostRuntime,
-    store: Store<S>,
-    terms: Terms<'_>,
-    signing: Signing<'_>,
-    question: &Question<'_>,
-) -> (Store<S>, Result<Reply, OperationFault>)
-    ensures judged { IfOk result.1 (λ reply. IsJudgedReply (policy_view terms.entry.policy.now)
-        (account_asked question.now.account) question.now.query.now (reply_as reply)) }
-    ensures refusals { IfErr result.1 IsStartingFault }
-{
-    let mut desk = Desk::new(
-        rt.alloc(),
-        terms.policy,
-        terms.identity,
-        terms.algorithm,
-        store,
-    );
-    let done = answer_by(rt, &mut desk, signing, question);
-    (desk.into_store(), done)
-}
-
-/// Answers the request by a desk, whoever signs.
-fn answer_by<S: Alter + Drop>(
-    rt: &HostRuntime,
-    desk: &mut Desk<'_, S>,
-    signing: Signing<'_>,
-    question: &Question<'_>,
-) -> Result<Reply, OperationFault>
-    ensures judged { IfOk result (λ reply. IsJudgedReply desk.old.setting.file (account_asked question.now.account)
-        question.now.query.now (reply_as reply)) }
-    ensures refusals { IfErr result IsStartingFault }
-{
-    match signing {
-        Signing::Keyed(signer) => {
-            let mut signer = signer;
-            Ok(answer_with(desk, &mut signer, question))
-        }
-        Signing::Session { address, algorithm } => {
-            let mut signer = reach(rt, address, algorithm)?;
-            Ok(answer_with(desk, &mut signer, question))
-        }
-    }
+    perform_at_desk(rt, path, terms, signing, *question, &mut (), &mut ())
 }
 
 /// Answers the request by a desk and a signer.
-fn answer_with<S: Alter + Drop, G: Signer>(
-    desk: &mut Desk<'_, S>,
+fn answer_with<B: Book + Drop, G: Signer>(
+    desk: &mut Desk<'_, B>,
     signer: &mut G,
     question: &Question<'_>,
 ) -> Reply
     ensures judged { IsJudgedReply desk.old.setting.file (account_asked question.now.account) question.now.query.now
         (reply_as result) }
-    ensures step { IsStep S.Store (with_signer G.signs G.fault_count signer.old signer.new) desk.old.setting
+    ensures step { IsStep B.Standing (with_signer G.signs G.fault_count signer.old signer.new) desk.old.setting
         (Stamp (account_asked question.now.account) question.now.reading question.now.query.now) desk.old.store
         desk.new.store (reply_as result) }
 {

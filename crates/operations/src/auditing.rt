@@ -1,21 +1,19 @@
 //! How the stamps that the database at a path keeps are extracted and checked.
 ghost use Rattle.std.specs.Prelude.{◌≡◌, ◌⊎◌, true, false, IfOk, IfErr, OnOk, OnErr, string_bytes};
 ghost use Rattle.std.specs.Io.KnownBytes.{Appends};
-ghost use Rattle.tables.specs.Base.{IsHonest};
-ghost use Rattle.store.specs.History.{History, stamps_between};
-ghost use Rattle.store.specs.Stands.{OnlyLooks, Stands};
+ghost use Rattle.book.specs.History.{History, stamps_between};
+ghost use Rattle.book.specs.Stands.{OnlyLooks, Stands};
 ghost use Rattle.operations.specs.Auditing.{Allows, BeginsExtract, Checks, ComesWhere, IsCutOff, IsExtractFault};
 ghost use Rattle.operations.specs.declared.auditing.AuditFault.TheVariants.{Extract, Store};
-ghost use Rattle.operations.specs.Auditing.{Leaves, TellsFailing, TellsSome, WritesExtract, failing_line};
+ghost use Rattle.operations.specs.Auditing.{IsAudited, Leaves, TellsFailing, TellsSome, WritesExtract, failing_line};
 
-use crate::opening::{close, open};
+use crate::opening::perform_at;
+use crate::operation::Operation;
 use audit::{ExtractFault, check_row, extract, write_octets};
+use book::{Book, StampsBetween, StoreFault};
 use policy::{Account, Policy};
-use sqlite::Alter;
-use sqlite_disk::Unknown;
 use std::alloc::{AllocError, Global};
 use std::io::Write;
-use store::{Store, StoreFault};
 
 /// Of which stamps an account asks for an extract.
 #[derive(Clone, Copy, Debug)]
@@ -57,6 +55,27 @@ impl From<ExtractFault> for AuditFault {
     }
 }
 
+impl<O: Write, E: Write> Operation<O, E> for Inquiry<'_> {
+    type Answer = Result<bool, AuditFault>;
+
+    ghost answers = { λ inquiry out out' told told' done. IsAudited inquiry (O.contents out) (O.contents out')
+        (E.contents told) (E.contents told') done };
+
+    ghost moves = { λ _ _ _ _ _ _. Unit {0} };
+
+    fn perform<B: Book + Drop>(
+        self,
+        rt: &HostRuntime,
+        book: B,
+        output: &mut O,
+        errors: &mut E,
+    ) -> (B, Result<bool, AuditFault>) {
+        let mut book = book;
+        let done = audit_book(rt.alloc(), &mut book, &self, output, errors);
+        (book, done)
+    }
+}
+
 /// Writes the extract of the stamps that the database at the path keeps, as `audit::extract` does, and then, where that
 /// is asked, checks each stamp as `check_stamps` does: whether all agree. Refused with `Store` where the database can't
 /// be opened, and with `Extract` as `audit::extract`; nothing is checked then. Where the check is refused it is
@@ -77,17 +96,13 @@ pub fn audit<O: Write, E: Write>(
     ensures refused { IfErr result (Leaves inquiry.now (O.contents output.old) (O.contents output.new)
         (E.contents errors.old) (E.contents errors.new)) }
 {
-    let mut store = open(rt, path, Unknown)?;
-    let done = audit_store(rt.alloc(), &mut store, inquiry, output, errors);
-    // What was committed stays in the log where it can't be copied into the file.
-    let _ = close(store);
-    done
+    perform_at(rt, path, *inquiry, output, errors)?
 }
 
-/// Writes the extract of a store, and then checks its stamps where that is asked.
-fn audit_store<S: Alter + Drop, O: Write, E: Write>(
+/// Writes the extract of a book, and then checks its stamps where that is asked.
+fn audit_book<B: Book + Drop, O: Write, E: Write>(
     alloc: Global,
-    store: &mut Store<S>,
+    book: &mut B,
     inquiry: &Inquiry<'_>,
     output: &mut O,
     errors: &mut E,
@@ -101,11 +116,11 @@ fn audit_store<S: Alter + Drop, O: Write, E: Write>(
     ensures refused { IfErr result (Leaves inquiry.now (O.contents output.old) (O.contents output.new)
         (E.contents errors.old) (E.contents errors.new)) }
 {
-    write_extract(alloc, store, inquiry, output)?;
+    write_extract(alloc, book, inquiry, output)?;
     if !inquiry.check {
         return Ok(true);
     }
-    match check_stamps(alloc, store, inquiry.from, inquiry.to, errors) {
+    match check_stamps(alloc, book, inquiry.from, inquiry.to, errors) {
         Ok(agree) => Ok(agree),
         Err(ExtractFault::Memory) => Err(AuditFault::Extract(ExtractFault::Memory)),
         // No other refusal of a walk over stamps is told than the database's.
@@ -113,10 +128,10 @@ fn audit_store<S: Alter + Drop, O: Write, E: Write>(
     }
 }
 
-/// Writes the extract of a store, and has the output send what it keeps.
-fn write_extract<S: Alter + Drop, O: Write>(
+/// Writes the extract of a book, and has the output send what it keeps.
+fn write_extract<B: Book + Drop, O: Write>(
     alloc: Global,
-    store: &mut Store<S>,
+    book: &mut B,
     inquiry: &Inquiry<'_>,
     output: &mut O,
 ) -> Result<(), AuditFault>
@@ -128,7 +143,7 @@ fn write_extract<S: Alter + Drop, O: Write>(
 {
     extract(
         alloc,
-        store,
+        book,
         inquiry.policy,
         inquiry.account,
         inquiry.from,
@@ -144,19 +159,17 @@ fn write_extract<S: Alter + Drop, O: Write>(
 /// Checks each stamp of the range from its octets, and writes a line `row N fails` for each whose octets don't say what
 /// its row says, N being its serial number: whether there is none. Where a line can't be written the stamps after it
 /// aren't looked at. Refused with `Memory` and `Store`, where they are met; the lines that were written stand. The
-/// store changes nowhere, and no stamp is kept.
-pub fn check_stamps<S: Alter + Drop, E: Write>(
+/// book changes nowhere, and no stamp is kept.
+pub fn check_stamps<B: Book + Drop, E: Write>(
     alloc: Global,
-    store: &mut Store<S>,
+    book: &mut B,
     from: u64,
     to: u64,
     errors: &mut E,
 ) -> Result<bool, ExtractFault>
-    ensures looks { OnlyLooks S.Store store.old store.new }
-    ensures checked { IsHonest S.Store store.new → (b : History) → Stands S.Store b store.old
+    ensures looks { OnlyLooks B.Standing book.old book.new }
+    ensures checked { B.honest book.new → (b : History) → Stands B.Standing b book.old
         → IfOk result (Checks (stamps_between from to b) (E.contents errors.old) (E.contents errors.new)) }
-
-    // Whatever the database tells:
     ensures agreed { IfOk result (λ agree. agree ≡ true → E.contents errors.new ≡ E.contents errors.old) }
     ensures failed { IfOk result (λ agree. agree ≡ false
         → TellsSome (E.contents errors.old) (E.contents errors.new)) }
@@ -164,7 +177,7 @@ pub fn check_stamps<S: Alter + Drop, E: Write>(
     ensures refusals { IfErr result (λ e. (e ≡ ExtractFault.Memory) ⊎ (e ≡ ExtractFault.Store)) }
 {
     let mut agree = true;
-    let mut walk = store.stamps_between(from, to);
+    let mut walk = StampsBetween::of(book, from, to);
     while let Some(stamp) = walk.next()? {
         if !check_row(&stamp)? {
             agree = false;

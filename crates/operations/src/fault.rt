@@ -2,7 +2,7 @@
 ghost use Rattle.std.specs.Prelude.{◌≡◌};
 ghost use Rattle.operations.specs.declared.fault.OperationFault.TheVariants.{Store};
 
-use store::StoreFault;
+use book::StoreFault;
 
 /// Why nothing is answered.
 #[derive(Clone, Copy, Debug, PartialEq, Eq)]

@@ -1,10 +1,10 @@
 //! What stands at a path, found without changing it.
 ghost use Rattle.std.specs.Prelude.{◌≡◌, ◌⊎◌, IfErr};
 
+use book::StoreFault;
 use std::fs;
 use std::fs::File;
 use std::io::{self, ErrorKind, Read};
-use store::StoreFault;
 
 /// What stands at a path.
 #[derive(Clone, Copy, Debug, PartialEq, Eq)]

@@ -4,10 +4,12 @@
 mod adding;
 mod answering;
 mod auditing;
+mod desk_operation;
 mod exchanging;
 mod fault;
 mod finding;
 mod opening;
+mod operation;
 mod serving;
 mod signing;
 mod terms;

@@ -2,18 +2,40 @@
 ghost use Rattle.std.specs.Prelude.{IfErr};
 ghost use Rattle.operations.specs.Opening.{IsServingFault};
 
+use crate::desk_operation::{DeskOperation, perform_at_desk};
 use crate::fault::OperationFault;
-use crate::opening::{close, open};
-use crate::signing::{Signing, reach};
+use crate::signing::Signing;
 use crate::terms::Terms;
+use book::Book;
 use cms::Signer;
 use connections::{CONNECTION_SECONDS, SystemClock, serve_connections};
 use desk::Desk;
-use sqlite::Alter;
-use sqlite_disk::Unknown;
 use std::net::TcpListener;
 use std::time::Duration;
-use store::Store;
+
+/// Connections at an address are served.
+#[derive(Drop)]
+struct Serving<'a> {
+    address: &'a str,
+    connections: u32,
+}
+
+impl DeskOperation<(), ()> for Serving<'_> {
+    type Answer = Result<(), OperationFault>;
+
+    ghost answers = { λ _ _ _ _ _ _ done. IfErr done IsServingFault };
+
+    fn perform<B: Book + Drop, G: Signer>(
+        self,
+        rt: &HostRuntime,
+        desk: &mut Desk<'_, B>,
+        signer: &mut G,
+        _input: &mut (),
+        _output: &mut (),
+    ) -> Result<(), OperationFault> {
+        listen(rt, desk, signer, self.address, self.connections)
+    }
+}
 
 /// Serves that many connections at the address, one after the other, over the history that the database at the path
 /// keeps; readings are the machine's clock's. One that fails counts too. Refused as `answer`, then with `Unheard` where
@@ -28,64 +50,17 @@ pub fn serve(
 ) -> Result<(), OperationFault>
     ensures { IfErr result IsServingFault }
 {
-    let store = open(rt, path, Unknown)?;
-    let (store, done) = serve_over(rt, store, terms, signing, address, connections);
-    // What was committed stays in the log where it can't be copied into the file.
-    let _ = close(store);
-    done
-}
-
-/// Serves connections over a store, which it gives back.
-fn serve_over<S: Alter + Drop>(
-    rt: &HostRuntime,
-    store: Store<S>,
-    terms: Terms<'_>,
-    signing: Signing<'_>,
-    address: &str,
-    connections: u32,
-) -> (Store<S>, Result<(), OperationFault>)
-    ensures { IfErr result.1 IsServingFault }
-{
-    let mut desk = Desk::new(
-        rt.alloc(),
-        terms.policy,
-        terms.identity,
-        terms.algorithm,
-        store,
-    );
-    let done = serve_by(rt, &mut desk, signing, address, connections);
-    (desk.into_store(), done)
-}
-
-/// Serves connections by a desk, with the signer's answers.
-fn serve_by<S: Alter + Drop>(
-    rt: &HostRuntime,
-    desk: &mut Desk<'_, S>,
-    signing: Signing<'_>,
-    address: &str,
-    connections: u32,
-) -> Result<(), OperationFault>
-    ensures { IfErr result IsServingFault }
-{
-    match signing {
-        Signing::Keyed(signer) => {
-            let mut signer = signer;
-            listen(rt, desk, &mut signer, address, connections)
-        }
-        Signing::Session {
-            address: holder,
-            algorithm,
-        } => {
-            let mut signer = reach(rt, holder, algorithm)?;
-            listen(rt, desk, &mut signer, address, connections)
-        }
-    }
+    let serving = Serving {
+        address,
+        connections,
+    };
+    perform_at_desk(rt, path, terms, signing, serving, &mut (), &mut ())?
 }
 
 /// Listens on the address, and serves connections.
-fn listen<S: Alter + Drop, G: Signer>(
+fn listen<B: Book + Drop, G: Signer>(
     rt: &HostRuntime,
-    desk: &mut Desk<'_, S>,
+    desk: &mut Desk<'_, B>,
     signer: &mut G,
     address: &str,
     connections: u32,

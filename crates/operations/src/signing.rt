@@ -1,5 +1,6 @@
 //! Who signs.
 ghost use Rattle.std.specs.Prelude.{◌≡◌, IfErr};
+ghost use Rattle.operations.specs.Opening.{IsUnreached};
 ghost use Rattle.operations.specs.Signing.{algorithm_of};
 
 use crate::fault::OperationFault;
@@ -44,7 +45,7 @@ pub(crate) fn reach(
     address: &str,
     algorithm: Algorithm,
 ) -> Result<FramedSigner<TcpStream, TcpStream>, OperationFault>
-    ensures { IfErr result (λ fault. fault ≡ OperationFault.Unreached) }
+    ensures { IfErr result IsUnreached }
 {
     match connect_signer(rt, address, Duration::from_secs(SIGNER_SECONDS), algorithm) {
         Ok(signer) => Ok(signer),

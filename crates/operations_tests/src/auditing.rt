@@ -8,7 +8,7 @@ use policy::{EXAMPLE, Policy};
 use sqlite::MemStore;
 use std::alloc::Global;
 use std::test::Fail;
-use store::{Reservation, Store, StoreFault};
+use store::{Book, Reservation, Store, StoreFault};
 
 /// A request for SHA-256 of `abc` (FIPS 180-4).
 const REQUEST: &[u8] =

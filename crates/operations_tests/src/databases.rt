@@ -7,7 +7,7 @@ use std::alloc::Global;
 use std::fs;
 use std::io::{self, ErrorKind};
 use std::test::Fail;
-use store::{Calibration, Hold, Store, StoreFault};
+use store::{Book, Calibration, Hold, Store, StoreFault};
 
 /// A calibration at a reading.
 fn at(reading: i64) -> Addition {

@@ -472,7 +472,7 @@ fn faults_have_numbers_and_texts(rt: HostRuntime) -> Result<(), Fail> {
     Ok(())
 }
 
-/// Each field and its path: the table and the key as docs/policy.md has them.
+/// Each field and its path: the table and the key as docs/formats.md has them.
 static PATHS: [(Field, &str); 29] = [
     (Field::Key, "a key"),
     (Field::Counter, "counter"),

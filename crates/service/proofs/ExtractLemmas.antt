@@ -5,10 +5,9 @@ use Rattle.std.proofs.KnownBytes.{Appends-trans}
 use Rattle.std.proofs.lemmas.List.{take-append-le, take_all}
 use Rattle.std.specs.Io.KnownBytes.{Appends}
 use Rattle.std.specs.Prelude.{Result}
-use Rattle.sqlite_trees.specs.declared.store.Store.{Ghosts}
-use Rattle.tables.specs.Base.{BaseValue, IsHonest}
-use Rattle.store.specs.History.{History}
-use Rattle.store.specs.Stands.{Stands}
+use Rattle.book.specs.declared.standing.Standing.{Ghosts}
+use Rattle.book.specs.History.{History}
+use Rattle.book.specs.Stands.{Stands}
 use Rattle.audit.specs.Auditor.{ComesWhere, IfUnasked}
 use Rattle.audit.specs.Extract.{extract_text}
 use Rattle.audit.specs.Fault.{count_after}
@@ -36,7 +35,7 @@ text_of : (head body : List ℕ) (count : ℕ) → head ≡ extract_head count �
 text_of head body count states is =
     ap (λ n. extract_head n ++ body) (sym is) ∙ ap (λ l. l ++ body) (sym states)
 
-module _ {S W : Type 0} (g : Ghosts S) (contents : W → Option (List ℕ)) (w mid w' : W) (old new : BaseValue S)
+module _ {B W : Type 0} (g : Ghosts B) (contents : W → Option (List ℕ)) (w mid w' : W) (old new : B)
     (from to count : ℕ) (head : List ℕ) (states : head ≡ extract_head count) where
   -- a part of the head is written
   pub head_cut : (n : ℕ) → n < length head → Appends (contents w) (contents w') (take n head)
@@ -101,10 +100,11 @@ module _ {S W : Type 0} (g : Ghosts S) (contents : W → Option (List ℕ)) (w m
     }
 
 -- a refusal of an extract is told, or memory is wanting for that
-pub keeping_back : {S W : Type 0} (g : Ghosts S) (contents : W → Option (List ℕ)) (w w' : W) (old new : BaseValue S)
+pub keeping_back : {B W : Type 0} (g : Ghosts B) (contents : W → Option (List ℕ)) (w w' : W) (old new : B)
     (file : PolicyValue) (account : AccountValue) (from to : ℕ) (outcome : Served) (f : ExtractFault) (r : Refusal)
-    → ComesWhere file account from to f → IfUnasked (new ≡ old) f → new.faults ≡ count_after f old.faults
-    → (IsHonest g new → (b : History) → Stands g b old → f ≡ Write → 2 ^ 64 ≤ length (extract_text from to b))
+    → ComesWhere file account from to f → IfUnasked (new ≡ old) f
+    → g.fault_count new ≡ count_after f (g.fault_count old)
+    → (g.honest new → (b : History) → Stands g b old → f ≡ Write → 2 ^ 64 ≤ length (extract_text from to b))
     → r ≡ refusal_of_extract f → SendsOrWants contents w w' (refusal_answer r) outcome
     → ServesExtract g contents w w' old new file account from to outcome
 keeping_back g contents w w' old new file account from to outcome f r comes unasked counted long same (inl sent) =

@@ -3,7 +3,7 @@ use Rattle.std.proofs.Common.{◌≡◌, ◌∙◌, ℕ, ◌+◌, ℤ, List, ◌
 use Rattle.std.proofs.Common.{refl, ap, inl, inr}
 use Rattle.std.proofs.lemmas.List.{take_at, drop_at}
 use lib.Seq.{take-add}
-use Rattle.sqlite_trees.specs.declared.store.Store.{Ghosts}
+use Rattle.book.specs.declared.standing.Standing.{Ghosts}
 use Rattle.cms.specs.declared.signer.SignerFault.{SignerFault}
 use Rattle.desk.specs.Command.{Command, Answer}
 use Rattle.desk.specs.Stepped.{DeskValue}
@@ -20,8 +20,8 @@ use Rattle.service.specs.declared.served.Served.{Served}
 use Rattle.service.specs.declared.served.Served.TheVariants as served
 
 -- before and after
-abbrev pub turn : {W S X : Type 0} → Option (List ℕ) → Option (List ℕ) → W → W → DeskValue S → DeskValue S → X → X
-    → Turn W S X
+abbrev pub turn : {W B X : Type 0} → Option (List ℕ) → Option (List ℕ) → W → W → DeskValue B → DeskValue B → X → X
+    → Turn W B X
 turn before after w w' d d' x x' = record {
   input = before;
   input_after = after;
@@ -33,8 +33,8 @@ turn before after w w' d d' x x' = record {
   signer_after = x';
 }
 
-module _ {W S X : Type 0} (g : Ghosts S) (signs : X → List ℕ → Result (List ℕ) SignerFault → X → Type 0) (count : X → ℕ)
-    (contents : W → Option (List ℕ)) (reading : ℤ) (t : Turn W S X) where
+module _ {W B X : Type 0} (g : Ghosts B) (signs : X → List ℕ → Result (List ℕ) SignerFault → X → Type 0) (count : X → ℕ)
+    (contents : W → Option (List ℕ)) (reading : ℤ) (t : Turn W B X) where
   -- what is sent of an answer that there is a reason for
   pub sends : (a : AnswerValue) (outcome : Served) → IsAnswer g signs count reading t a
       → Sends contents t.writer t.writer_after a outcome → Serves g signs count contents reading t outcome

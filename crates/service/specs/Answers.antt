@@ -6,8 +6,8 @@ use Rattle.http.specs.StatusCode.{reason_phrase}
 use Rattle.gentime.specs.GenTime.{text_of}
 use Rattle.der.specs.Node.{encoding}
 use Rattle.tsp.specs.Rejection.{rejection}
-use Rattle.store.specs.History.{History}
-use Rattle.store.specs.Rights.{ListedValue}
+use Rattle.book.specs.History.{History}
+use Rattle.book.specs.Rights.{ListedValue}
 use Rattle.audit.specs.Extract.{extract_text}
 use Rattle.desk.specs.Command.{Command, Show}
 use Rattle.desk.specs.Command.{Answer, Stamped, Rejected, Begun, Kept, Shown, Listed, Done, Refused}

@@ -1,10 +1,9 @@
 -- What the answers to auditors give: stepping stones of the proofs.
 use Rattle.std.specs.Prelude.{◌≡◌, ◌⊎◌, ◌≤◌, ◌^◌, ℕ, List, length, Option}
-use Rattle.sqlite_trees.specs.declared.store.Store.{Ghosts}
+use Rattle.book.specs.declared.standing.Standing.{Ghosts}
 use Rattle.policy.specs.Record.{AccountValue, PolicyValue}
-use Rattle.tables.specs.Base.{BaseValue, IsHonest}
-use Rattle.store.specs.History.{History}
-use Rattle.store.specs.Stands.{Stands}
+use Rattle.book.specs.History.{History}
+use Rattle.book.specs.Stands.{Stands}
 use Rattle.audit.specs.Auditor.{IsAllowed, ComesWhere, IfUnasked}
 use Rattle.audit.specs.Extract.{extract_text}
 use Rattle.audit.specs.Fault.{count_after}
@@ -15,10 +14,10 @@ use Rattle.service.specs.Refusals.{refusal_of_extract}
 use Rattle.service.specs.Served.{Sends, SendsOctets, unavailable}
 use Rattle.service.specs.declared.served.Served.{Served}
 
-module _ {S W : Type 0} (g : Ghosts S) (contents : W → Option (List ℕ)) (w w' : W) (old new : BaseValue S) where
+module _ {B W : Type 0} (g : Ghosts B) (contents : W → Option (List ℕ)) (w w' : W) (old new : B) where
   -- the extract's answer is written whose body is found to have so many octets
   pub record SendsExtract (from to count : ℕ) (outcome : Served) : Type 0 where
-    pub sent : IsHonest g new → (b : History) → Stands g b old → count ≡ length (extract_text from to b)
+    pub sent : g.honest new → (b : History) → Stands g b old → count ≡ length (extract_text from to b)
         → Sends contents w w' (extract_answer from to b) outcome
     pub told : SendsOctets contents w w' outcome
 
@@ -30,11 +29,11 @@ module _ {S W : Type 0} (g : Ghosts S) (contents : W → Option (List ℕ)) (w w
   -- an extract is answered
   pub data ServesExtract (file : PolicyValue) (account : AccountValue) (from to : ℕ) (outcome : Served) : Type 0 where
     extracted : IsAllowed file account from to
-        → (IsHonest g new → (b : History) → Stands g b old → Sends contents w w' (extract_answer from to b) outcome)
+        → (g.honest new → (b : History) → Stands g b old → Sends contents w w' (extract_answer from to b) outcome)
         → SendsOctets contents w w' outcome → ServesExtract file account from to outcome
     kept_back : (f : ExtractFault) → ComesWhere file account from to f → IfUnasked (new ≡ old) f
-        → new.faults ≡ count_after f old.faults
-        → (IsHonest g new → (b : History) → Stands g b old → f ≡ Write → 2 ^ 64 ≤ length (extract_text from to b))
+        → g.fault_count new ≡ count_after f (g.fault_count old)
+        → (g.honest new → (b : History) → Stands g b old → f ≡ Write → 2 ^ 64 ≤ length (extract_text from to b))
         → Sends contents w w' (refusal_answer (refusal_of_extract f)) outcome
         → ServesExtract file account from to outcome
     unanswered : Sends contents w w' unavailable outcome → ServesExtract file account from to outcome

@@ -1,14 +1,13 @@
 -- What `serve_one` does: it reads one request, has the desk take the one step that it asks for, and writes one answer.
 use Rattle.std.specs.Prelude.{◌≡◌, ◌⊎◌, ℕ, ◌<◌, ◌≤◌, ◌^◌, ℤ, List, [], length, take, Option, Result, Ok, Err}
 use Rattle.std.specs.Io.KnownBytes.{Appends, Consumes, IsAtEnd}
-use Rattle.sqlite_trees.specs.declared.store.Store.{Ghosts}
+use Rattle.book.specs.declared.standing.Standing.{Ghosts}
 use Rattle.cms.specs.declared.signer.SignerFault.{SignerFault}
 use Rattle.tsp.specs.Rules.{IsFirstFailing}
 use Rattle.tsp.specs.declared.rule.Rule.{Rule}
 use Rattle.policy.specs.Record.{AccountValue}
-use Rattle.tables.specs.Base.{IsHonest}
-use Rattle.store.specs.History.{History}
-use Rattle.store.specs.Stands.{Stands, OnlyLooks}
+use Rattle.book.specs.History.{History}
+use Rattle.book.specs.Stands.{Stands, OnlyLooks}
 use Rattle.desk.specs.Command.{Command, Stamp, Deposit, Answer, Rejected}
 use Rattle.desk.specs.Findings.{HoldsUnasked}
 use Rattle.desk.specs.Stepped.{DeskValue, IsStep, no_signer, with_signer}
@@ -27,28 +26,28 @@ use Rattle.service.specs.declared.served.Served.{Served}
 use Rattle.service.specs.declared.served.Served.TheVariants as served
 
 -- what a reader has left, the writer, the desk and the signer: before a call, and after it
-pub record Turn (W S X : Type 0) : Type 0 where
+pub record Turn (W B X : Type 0) : Type 0 where
   pub input : Option (List ℕ)
   pub input_after : Option (List ℕ)
   pub writer : W
   pub writer_after : W
-  pub desk : DeskValue S
-  pub desk_after : DeskValue S
+  pub desk : DeskValue B
+  pub desk_after : DeskValue B
   pub signer : X
   pub signer_after : X
 
 -- the desk takes no step, and the signer isn't asked
-pub record IsIdle {W S X : Type 0} (t : Turn W S X) : Type 0 where
+pub record IsIdle {W B X : Type 0} (t : Turn W B X) : Type 0 where
   pub desk : t.desk_after ≡ t.desk
   pub signer : t.signer_after ≡ t.signer
 
 -- nothing is written and nothing is done
-pub record IsSilent {W S X : Type 0} (t : Turn W S X) : Type 0 where
+pub record IsSilent {W B X : Type 0} (t : Turn W B X) : Type 0 where
   pub writer : t.writer_after ≡ t.writer
   pub idle : IsIdle t
 
 -- what was read is a request by the desk's policy file that asks for this, and no octet behind it
-abbrev pub Reads : {W S X : Type 0} → ℤ → Turn W S X → Result Asked Refusal → Type 0
+abbrev pub Reads : {W B X : Type 0} → ℤ → Turn W B X → Result Asked Refusal → Type 0
 Reads reading t asked = IsRequest t.desk.setting.file reading t.input t.input_after asked
 
 -- of a text that an answer of that status has, what is written
@@ -71,7 +70,7 @@ abbrev pub SendsOrWants : {W : Type 0} → (W → Option (List ℕ)) → W → W
 SendsOrWants contents old new a outcome =
     Sends contents old new a outcome ⊎ Sends contents old new unavailable outcome
 
--- Of the octets of an extract's answer, whatever the disk does: a whole one has the length that it states; and of
+-- Of the octets of an extract's answer, whatever the store returns: a whole one has the length that it states; and of
 -- another, as many were written as is told.
 abbrev pub SendsOctets : {W : Type 0} → (W → Option (List ℕ)) → W → W → Served → Type 0
 SendsOctets contents old new served.Closed = ⊥
@@ -81,10 +80,10 @@ SendsOctets contents old new served.ReadFailed = ⊥
 SendsOctets contents old new (served.WriteFailed told sent) =
     (told ≡ 200) × (octets : List ℕ) × (length octets ≡ sent) × Appends (contents old) (contents new) octets
 
-module _ {S X : Type 0} (g : Ghosts S) (signs : X → List ℕ → Result (List ℕ) SignerFault → X → Type 0) (count : X
+module _ {B X : Type 0} (g : Ghosts B) (signs : X → List ℕ → Result (List ℕ) SignerFault → X → Type 0) (count : X
     → ℕ) where
   -- the desk takes the command's step and no other; the signer moves by it, and stays where the step asks none
-  abbrev pub Steps : DeskValue S → DeskValue S → X → X → Command → Answer → Type 0
+  abbrev pub Steps : DeskValue B → DeskValue B → X → X → Command → Answer → Type 0
   Steps old new signer signer' (Stamp account reading octets) answer =
       IsStep g (with_signer signs count signer signer') old.setting (Stamp account reading octets) old.store new.store
       answer
@@ -97,27 +96,27 @@ module _ {S X : Type 0} (g : Ghosts S) (signs : X → List ℕ → Result (List 
   Steps old new signer signer' other answer =
       IsStep g no_signer old.setting other old.store new.store answer × (signer' ≡ signer)
 
-  abbrev pub Takes : {W : Type 0} → Turn W S X → Command → Answer → Type 0
+  abbrev pub Takes : {W : Type 0} → Turn W B X → Command → Answer → Type 0
   Takes t c answer = Steps t.desk t.desk_after t.signer t.signer_after c answer
 
   -- the desk's store is looked into and changes nowhere, and the signer isn't asked
-  pub record IsLook {W : Type 0} (t : Turn W S X) : Type 0 where
+  pub record IsLook {W : Type 0} (t : Turn W B X) : Type 0 where
     pub store : OnlyLooks g t.desk.store t.desk_after.store
     pub signer : t.signer_after ≡ t.signer
 
   -- An extract is refused, where that refusal comes; the store's are counted. What can't be written has 2^64 octets or
   -- more.
-  pub record IsKeptBack {W : Type 0} (t : Turn W S X) (account : AccountValue) (from to : ℕ) (f : ExtractFault)
+  pub record IsKeptBack {W : Type 0} (t : Turn W B X) (account : AccountValue) (from to : ℕ) (f : ExtractFault)
       : Type 0 where
     pub look : IsLook t
     pub comes : ComesWhere t.desk.setting.file account from to f
     pub unasked : IfUnasked (t.desk_after.store ≡ t.desk.store) f
-    pub counted : t.desk_after.store.faults ≡ count_after f t.desk.store.faults
-    pub long : IsHonest g t.desk_after.store → (b : History) → Stands g b t.desk.store → f ≡ Write
+    pub counted : g.fault_count t.desk_after.store ≡ count_after f (g.fault_count t.desk.store)
+    pub long : g.honest t.desk_after.store → (b : History) → Stands g b t.desk.store → f ≡ Write
         → 2 ^ 64 ≤ length (extract_text from to b)
 
   -- why an answer is written
-  pub data IsAnswer {W : Type 0} (reading : ℤ) (t : Turn W S X) (a : AnswerValue) : Type 0 where
+  pub data IsAnswer {W : Type 0} (reading : ℤ) (t : Turn W B X) (a : AnswerValue) : Type 0 where
     -- the request is refused
     refuses : (r : Refusal) → Reads reading t (Err r) → IsIdle t → a ≡ refusal_answer r → IsAnswer reading t a
     -- the desk takes the step that the request asks for, and the answer tells its reply
@@ -139,7 +138,7 @@ module _ {S X : Type 0} (g : Ghosts S) (signs : X → List ℕ → Result (List 
         → a ≡ unavailable → IsAnswer reading t a
 
   -- an answer is written, for a reason
-  pub record Writes {W : Type 0} (contents : W → Option (List ℕ)) (reading : ℤ) (t : Turn W S X) (outcome : Served)
+  pub record Writes {W : Type 0} (contents : W → Option (List ℕ)) (reading : ℤ) (t : Turn W B X) (outcome : Served)
       : Type 0 where
     pub answer : AnswerValue
     pub is : IsAnswer reading t answer
@@ -147,7 +146,7 @@ module _ {S X : Type 0} (g : Ghosts S) (signs : X → List ℕ → Result (List 
 
   -- The extract that the request asks for is written, row by row: it is that of each history that the store stands for.
   -- A store that fails between two rows leaves a beginning of the answer.
-  pub record Extracts {W : Type 0} (contents : W → Option (List ℕ)) (reading : ℤ) (t : Turn W S X) (outcome : Served)
+  pub record Extracts {W : Type 0} (contents : W → Option (List ℕ)) (reading : ℤ) (t : Turn W B X) (outcome : Served)
       : Type 0 where
     pub account : AccountValue
     pub from : ℕ
@@ -155,12 +154,12 @@ module _ {S X : Type 0} (g : Ghosts S) (signs : X → List ℕ → Result (List 
     pub read : Reads reading t (Ok (Extract account from to))
     pub allowed : IsAllowed t.desk.setting.file account from to
     pub look : IsLook t
-    pub sent : IsHonest g t.desk_after.store → (b : History) → Stands g b t.desk.store
+    pub sent : g.honest t.desk_after.store → (b : History) → Stands g b t.desk.store
         → Sends contents t.writer t.writer_after (extract_answer from to b) outcome
     pub told : SendsOctets contents t.writer t.writer_after outcome
 
   -- what each outcome says
-  abbrev pub Serves : {W : Type 0} → (W → Option (List ℕ)) → ℤ → Turn W S X → Served → Type 0
+  abbrev pub Serves : {W : Type 0} → (W → Option (List ℕ)) → ℤ → Turn W B X → Served → Type 0
   Serves contents reading t served.Closed = Consumes t.input t.input_after [] × IsAtEnd t.input_after × IsSilent t
   Serves contents reading t served.ReadFailed = IsPart t.input t.input_after × IsSilent t
   Serves contents reading t (served.Answered status) =

@@ -13,7 +13,7 @@ use Rattle.std.specs.Fmt.{decimal}
 use Rattle.std.specs.List.{flat_map}
 use Rattle.der.specs.Node.{encoding}
 use Rattle.tsp.specs.Rejection.{rejection}
-use Rattle.store.specs.Values.{listed_view}
+use Rattle.book.specs.Values.{listed_view}
 use Rattle.desk.specs.declared.reply.Reply.{Reply}
 use Rattle.desk.specs.declared.reply.Reply.TheVariants as reply
 use Rattle.service.specs.Answers.{AnswerValue, success, line_feed, listed_line, refusal_answer}

@@ -1,7 +1,7 @@
 //! Extracts for auditors, written row by row. Their length is found first, by a walk of its own over the same stamps.
 ghost use Rattle.std.specs.Prelude.{◌≡◌};
 ghost use Rattle.policy.specs.View.{account_view};
-ghost use Rattle.store.specs.Stands.{OnlyLooks};
+ghost use Rattle.book.specs.Stands.{OnlyLooks};
 ghost use Rattle.service.specs.Extracting.{SendsExtractOrWants, ServesExtract};
 
 use crate::answer::{Media, head_text};
@@ -10,27 +10,26 @@ use crate::responding::{refuse, wanting};
 use crate::served::Served;
 use crate::writing::write_octets;
 use audit::{extract_length, write_extract};
+use book::Book;
 use desk::Desk;
 use http::StatusCode;
 use policy::{Account, Policy};
-use sqlite::Alter;
 use std::alloc::Global;
 use std::io::Write;
-use store::Store;
 
 /// Writes the answer with an extract that is found to have so many octets.
-fn send_extract<W: Write, S: Alter + Drop>(
+fn send_extract<W: Write, B: Book + Drop>(
     alloc: Global,
     writer: &mut W,
-    store: &mut Store<S>,
+    store: &mut B,
     policy: &Policy,
     account: &Account,
     from: u64,
     to: u64,
     length: u64,
 ) -> Served
-    ensures looks { OnlyLooks S.Store store.old store.new }
-    ensures sent { SendsExtractOrWants S.Store W.contents writer.old writer.new store.old store.new from to length
+    ensures looks { OnlyLooks B.Standing store.old store.new }
+    ensures sent { SendsExtractOrWants B.Standing W.contents writer.old writer.new store.old store.new from to length
         result }
 {
     let count = length as usize;
@@ -59,17 +58,17 @@ fn send_extract<W: Write, S: Alter + Drop>(
 }
 
 /// Answers an auditor who asks for the stamps with serial numbers from one on and up to another.
-pub(crate) fn serve_extract<W: Write, S: Alter + Drop>(
+pub(crate) fn serve_extract<W: Write, B: Book + Drop>(
     alloc: Global,
     writer: &mut W,
-    desk: &mut Desk<'_, S>,
+    desk: &mut Desk<'_, B>,
     account: &Account,
     from: u64,
     to: u64,
 ) -> Served
     ensures setting { desk.new.setting ≡ desk.old.setting }
-    ensures looks { OnlyLooks S.Store desk.old.store desk.new.store }
-    ensures served { ServesExtract S.Store W.contents writer.old writer.new desk.old.store desk.new.store
+    ensures looks { OnlyLooks B.Standing desk.old.store desk.new.store }
+    ensures served { ServesExtract B.Standing W.contents writer.old writer.new desk.old.store desk.new.store
         desk.old.setting.file (account_view account.now) from to result }
 {
     let policy = desk.policy();

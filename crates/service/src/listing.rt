@@ -2,12 +2,12 @@
 ghost use Rattle.std.specs.Prelude.{◌≡◌, ◌++◌, map, IfSome, OnSome, IfOk, string_bytes, codes};
 ghost use Rattle.std.specs.Fmt.{decimal};
 ghost use Rattle.std.specs.List.{flat_map};
-ghost use Rattle.store.specs.Values.{listed_view};
+ghost use Rattle.book.specs.Values.{listed_view};
 ghost use Rattle.service.specs.Answers.{listed_line, line_feed};
 
+use book::Listed;
 use gentime::GenTime;
 use std::alloc::{AllocError, Global};
-use store::Listed;
 
 /// A deposit's number on a line.
 pub(crate) fn number_line(alloc: Global, number: u64) -> Result<String, AllocError>

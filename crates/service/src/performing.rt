@@ -1,16 +1,14 @@
 //! What the desk does for a request.
 ghost use Rattle.std.specs.Prelude.{◌≡◌};
-ghost use Rattle.tables.specs.Base.{IsHonest};
 ghost use Rattle.desk.specs.Command.{Answer};
 ghost use Rattle.service.specs.Answers.{answer_to};
 ghost use Rattle.service.specs.Served.{Steps};
 ghost use Rattle.service.specs.Views.{demand_view, performed_answer};
 
 use crate::demand::Demand;
+use book::{Book, Listed};
 use cms::Signer;
 use desk::{Deposited, Desk, Fault, Reply};
-use sqlite::Alter;
-use store::Listed;
 
 /// What the desk answers.
 #[derive(Drop)]
@@ -32,15 +30,15 @@ pub(crate) enum Performed {
 }
 
 /// Has the desk take the step that is asked for.
-pub(crate) fn perform<S: Alter + Drop, G: Signer>(
-    desk: &mut Desk<'_, S>,
+pub(crate) fn perform<B: Book + Drop, G: Signer>(
+    desk: &mut Desk<'_, B>,
     demand: Demand<'_>,
     reading: i64,
     signer: &mut G,
 ) -> Performed
     ensures setting { desk.new.setting ≡ desk.old.setting }
-    ensures honest { IsHonest S.Store desk.new.store → IsHonest S.Store desk.old.store }
-    ensures steps { (reply : Answer) × Steps S.Store G.signs G.fault_count desk.old desk.new signer.old signer.new
+    ensures honest { B.honest desk.new.store → B.honest desk.old.store }
+    ensures steps { (reply : Answer) × Steps B.Standing G.signs G.fault_count desk.old desk.new signer.old signer.new
         (demand_view reading demand.entry) reply
         × (performed_answer result ≡ answer_to (demand_view reading demand.entry) reply) }
 {

@@ -2,7 +2,6 @@
 ghost use Rattle.std.specs.Prelude.{◌≡◌, ℕ, List, Option};
 ghost use Rattle.std.specs.Io.KnownBytes.{Consumes};
 ghost use Rattle.httparse.specs.Grammar.{RequestHead, print_request};
-ghost use Rattle.tables.specs.Base.{IsHonest};
 ghost use Rattle.service.specs.Heads.{IsHead, head_value};
 ghost use Rattle.service.specs.Requests.{IsRequest, asked_by};
 ghost use Rattle.service.specs.Served.{Serves};
@@ -18,18 +17,18 @@ use crate::responding::{refuse, respond, wanting};
 use crate::routes::{Action, place_of};
 use crate::served::Served;
 use crate::wanted::check_head;
+use book::Book;
 use cms::Signer;
 use desk::Desk;
 use httparse::spans::EMPTY_HEADER_SPAN;
-use sqlite::Alter;
 use std::alloc::Global;
 use std::io::{Read, Write};
 
 /// Answers a whole request.
-fn serve_whole<W: Write, S: Alter + Drop, G: Signer>(
+fn serve_whole<W: Write, B: Book + Drop, G: Signer>(
     alloc: Global,
     writer: &mut W,
-    desk: &mut Desk<'_, S>,
+    desk: &mut Desk<'_, B>,
     reading: i64,
     signer: &mut G,
     head: Head<'_>,
@@ -38,11 +37,11 @@ fn serve_whole<W: Write, S: Alter + Drop, G: Signer>(
 ) -> Served
     requires { IsInPlace head }
     ensures setting { desk.new.setting ≡ desk.old.setting }
-    ensures honest { IsHonest S.Store desk.new.store → IsHonest S.Store desk.old.store }
+    ensures honest { B.honest desk.new.store → B.honest desk.old.store }
     ensures served { (before after : Option (List ℕ))
         → IsRequest desk.old.setting.file reading before after
         (asked_by desk.old.setting.file reading (head_view head.entry) body.now action)
-        → Serves S.Store G.signs G.fault_count W.contents reading (record {
+        → Serves B.Standing G.signs G.fault_count W.contents reading (record {
           input = before;
           input_after = after;
           writer = writer.old;
@@ -66,21 +65,21 @@ fn serve_whole<W: Write, S: Alter + Drop, G: Signer>(
 }
 
 /// Reads the body of a request whose head was read, and answers it.
-fn serve_head<R: Read, W: Write, S: Alter + Drop, G: Signer>(
+fn serve_head<R: Read, W: Write, B: Book + Drop, G: Signer>(
     alloc: Global,
     reader: &mut R,
     writer: &mut W,
-    desk: &mut Desk<'_, S>,
+    desk: &mut Desk<'_, B>,
     reading: i64,
     signer: &mut G,
     head: Head<'_>,
 ) -> Served
     requires { IsInPlace head }
     ensures setting { desk.new.setting ≡ desk.old.setting }
-    ensures honest { IsHonest S.Store desk.new.store → IsHonest S.Store desk.old.store }
+    ensures honest { B.honest desk.new.store → B.honest desk.old.store }
     ensures served { (before : Option (List ℕ)) (h : RequestHead) → IsHead (print_request h) h
         → head_view head.entry ≡ head_value h → Consumes before (R.remaining reader.old) (print_request h)
-        → Serves S.Store G.signs G.fault_count W.contents reading (record {
+        → Serves B.Standing G.signs G.fault_count W.contents reading (record {
           input = before;
           input_after = R.remaining reader.new;
           writer = writer.old;
@@ -127,17 +126,17 @@ fn serve_head<R: Read, W: Write, S: Alter + Drop, G: Signer>(
 /// desk that wants memory, or whose store or signer fails, is told by the reply's rule 12 on `/tsp`, and by 503
 /// elsewhere. An auditor's extract is written row by row, and no row is kept: it is `WriteFailed` too where the store
 /// or memory fails once the answer is begun.
-pub fn serve_one<R: Read, W: Write, S: Alter + Drop, G: Signer>(
+pub fn serve_one<R: Read, W: Write, B: Book + Drop, G: Signer>(
     alloc: Global,
     reader: &mut R,
     writer: &mut W,
-    desk: &mut Desk<'_, S>,
+    desk: &mut Desk<'_, B>,
     reading: i64,
     signer: &mut G,
 ) -> Served
     ensures setting { desk.new.setting ≡ desk.old.setting }
-    ensures honest { IsHonest S.Store desk.new.store → IsHonest S.Store desk.old.store }
-    ensures served { Serves S.Store G.signs G.fault_count W.contents reading (record {
+    ensures honest { B.honest desk.new.store → B.honest desk.old.store }
+    ensures served { Serves B.Standing G.signs G.fault_count W.contents reading (record {
       input = R.remaining reader.old;
       input_after = R.remaining reader.new;
       writer = writer.old;

@@ -9,12 +9,12 @@ use Rattle.std.specs.List.{AllByRecursion, list_any, range_with_len, cons_option
 use Rattle.tables.specs.Tables.{StampRow, DepositRow, CalibrationRow, HoldRow, is_stamp, is_deposit}
 use Rattle.tables.specs.Tables.{is_deposit_of, is_reader_row}
 use Rattle.store.specs.Alike.{HaveSameRows, AreAlike}
-use Rattle.store.specs.History.{History, ReservationValue, reservations, calibrations}
-use Rattle.store.specs.History.{holds, deposits, greatest_of, greatest_serial}
-use Rattle.store.specs.History.{token_of, stamp_of, stamps, stamp_at}
-use Rattle.store.specs.History.{deposit_at, deposit_under, first_of}
-use Rattle.store.specs.Rights.{is_reader, seen_by, listed, listed_at}
-use Rattle.store.specs.Sound.{IsSound}
+use Rattle.book.specs.History.{History, ReservationValue, reservations, calibrations}
+use Rattle.book.specs.History.{holds, deposits, greatest_of, greatest_serial}
+use Rattle.book.specs.History.{token_of, stamp_of, stamps, stamp_at}
+use Rattle.book.specs.History.{deposit_at, deposit_under, first_of}
+use Rattle.book.specs.Rights.{is_reader, seen_by, listed, listed_at}
+use Rattle.book.specs.Sound.{IsSound}
 use Rattle.store.specs.TablesOf.{tables_of, calibration_row, hold_row}
 use Rattle.store.proofs.Members.{IsFalling, IsSingle, member_here, member_after, member_cases, no_member, all_of}
 use Rattle.store.proofs.Members.{some_pass, none_pass, fails_each, true_or_false, find_none, find_single, found_member}

@@ -7,16 +7,16 @@ use Rattle.std.proofs.lemmas.Bool.{cases_Bool}
 use Rattle.std.proofs.lemmas.Bool.Decides.{leb_tells}
 use Rattle.std.proofs.lemmas.List.{reverse-append}
 use Rattle.std.proofs.Math.Nat.{min-le_left, min-le_right, le-min}
-use Rattle.tables.specs.Tables.{StampRow}
+use Rattle.book.specs.Rows.{StampRow}
 use Rattle.tables.specs.Found.{IsLeastAs}
 use Rattle.tables.specs.Queries.{ShowsStamp, is_within, stamp_view}
-use Rattle.tables.specs.declared.rows.Stamp.{Stamp}
-use Rattle.store.specs.History.{History, Reserved, Sealed, Deposited, Calibrated, Held, Granted, Revoked}
-use Rattle.store.specs.History.{reservations, stamp_of, token_of, stamps, stamps_between}
-use Rattle.store.specs.Sound.{IsSound, greatest_number}
-use Rattle.store.specs.Steps.{IsNextStamp, IsWithin, only_within}
+use Rattle.book.specs.declared.rows.Stamp.{Stamp}
+use Rattle.book.specs.History.{History, Reserved, Sealed, Deposited, Calibrated, Held, Granted, Revoked}
+use Rattle.book.specs.History.{reservations, stamp_of, token_of, stamps, stamps_between}
+use Rattle.book.specs.Sound.{IsSound, greatest_number}
+use Rattle.book.specs.Ranges.{IsNextStamp, IsWithin}
+use Rattle.store.specs.Steps.{only_within}
 use Rattle.store.specs.TablesOf.{tables_of}
-use Rattle.store.specs.Values.{HandsOut}
 use Rattle.store.proofs.Falling.{stamps_fall}
 use Rattle.store.proofs.Members.{IsFalling, member_here, member_after, member_cases, no_member, all_of}
 use Rattle.store.proofs.Stamps.{stamps_are}
@@ -181,14 +181,6 @@ empty_view b from to cap s is crossed =
           let most = within_most from cap row in_it in omega (arith, crossed, least, most))
       | inr out ↦ out
     ]))
-
--- the next of a walk that goes on after it
-pub handed_out : (from to : ℕ) (b : History) (found : Option Stamp) (next : ℕ) → IsNextStamp from to b found
-    → IfSome found (λ stamp. next ≡ stamp.serial + 1) → (found ≡ None → next ≡ from)
-    → HandsOut (stamps_between from to b) (stamps_between next to b) found
-handed_out from to b None next is moved still = (is, subst (λ n. stamps_between n to b ≡ []) (sym (still refl)) is)
-handed_out from to b (Some stamp) next is moved still =
-    subst (λ n. stamps_between from to b ≡ stamp_view stamp ∷ stamps_between n to b) (sym moved) is
 
 small_cap : (to cap serial : ℕ) → cap ≡ min to greatest_number → serial ≤ cap → serial < 2 ^ 63
 small_cap to cap serial is below = let most = min-le_right to greatest_number in omega (arith, is, below, most)

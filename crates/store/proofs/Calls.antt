@@ -1,4 +1,4 @@
--- From the clauses of the tables to those of the store.
+-- From the clauses of the tables to those of a book.
 use Rattle.std.proofs.Common.{◌≡◌, ◌⊎◌, inl, inr, ◌∷◌, subst, sym, Result, Ok, Err, IsErr, IfOk, OnOk, OnErr}
 use Rattle.sqlite_trees.specs.Tree.{Trees}
 use Rattle.sqlite_trees.specs.declared.store.Store.{Ghosts}
@@ -6,15 +6,26 @@ use Rattle.tables.specs.Tables.{Tables}
 use Rattle.sqlite.specs.Held.{state}
 use Rattle.tables.specs.Base.{BaseValue, IsHonest, Keeps, Recovers, Holds, StandsFor}
 use Rattle.tables.specs.Queries.{OnlyReads}
-use Rattle.store.specs.History.{Entry, History}
-use Rattle.store.specs.Sound.{Fits}
+use Rattle.book.specs.History.{Entry, History}
+use Rattle.book.specs.Sound.{Fits, IsSound}
 use Rattle.store.specs.TablesOf.{tables_of}
-use Rattle.store.specs.Stands.{Stands, OnlyLooks, LeavesOrAdds}
+use Rattle.book.specs.Stands.{Stands, OnlyLooks, LeavesOrAdds, LeavesAsBefore}
+use Rattle.store.specs.Stands.{over_tables}
 
-pub looks : {S : Type 0} (g : Ghosts S) (old new : BaseValue S) → OnlyReads g old new → OnlyLooks g old new
+-- a store that keeps the tables of a sound history
+pub stands_for : {S : Type 0} (g : Ghosts S) (b : History) (store : BaseValue S) → IsSound b
+    → Keeps g (tables_of b) store → Stands (over_tables g) b store
+stands_for g b store sound kept = record {
+  sound = sound;
+  kept = kept;
+  settled = λ honest is_open left leaves. (kept honest is_open).leaves left leaves;
+}
+
+pub looks : {S : Type 0} (g : Ghosts S) (old new : BaseValue S) → OnlyReads g old new
+    → OnlyLooks (over_tables g) old new
 looks g old new reads = record {
   honest = reads.honest;
-  stands = λ b s. record { sound = s.sound; kept = reads.kept (tables_of b) s.kept };
+  stands = λ b s. stands_for g b new s.sound (reads.kept (tables_of b) s.kept);
   leaves = reads.leaves;
 }
 
@@ -23,8 +34,8 @@ pub crash_after : {S : Type 0} (g : Ghosts S) (entry : Entry) (step : Tables →
     → OnlyReads g old mid → (IsHonest g new → IsHonest g mid)
     → (IsHonest g new → (db : Trees) → Recovers g new db → Recovers g mid db
     ⊎ ((t : Tables) → Keeps g t mid → Holds (step t) db))
-    → (IsHonest g mid → (b : History) → Stands g b old → step (tables_of b) ≡ tables_of (entry ∷ b))
-    → LeavesOrAdds g entry old new
+    → (IsHonest g mid → (b : History) → Stands (over_tables g) b old → step (tables_of b) ≡ tables_of (entry ∷ b))
+    → LeavesOrAdds (over_tables g) entry old new
 crash_after g entry step old mid new reads honest crash same h db r =
     elim (crash h db r) [
       | inl before ↦ inl (reads.leaves (honest h) db before)
@@ -37,22 +48,21 @@ pub adds_after : {S : Type 0} (g : Ghosts S) (entry : Entry) (step : Tables → 
     (b : History)
     → OnlyReads g old mid → (IsHonest g new → IsHonest g mid)
     → ((t : Tables) → Keeps g t mid → Keeps g (step t) new)
-    → (IsHonest g mid → (b : History) → Stands g b old → step (tables_of b) ≡ tables_of (entry ∷ b))
-    → Stands g b old → Fits entry b → Stands g (entry ∷ b) new
-adds_after g entry step old mid new b reads honest ok same s fits = record {
-  sound = (fits, s.sound);
-  kept = λ h is_open. subst (λ t. StandsFor t (state g new.conn)) (same (honest h) b s)
-      (ok (tables_of b) (reads.kept (tables_of b) s.kept) h is_open);
-}
+    → (IsHonest g mid → (b : History) → Stands (over_tables g) b old → step (tables_of b) ≡ tables_of (entry ∷ b))
+    → Stands (over_tables g) b old → Fits entry b → Stands (over_tables g) (entry ∷ b) new
+adds_after g entry step old mid new b reads honest ok same s fits =
+    stands_for g (entry ∷ b) new (fits, s.sound)
+    (λ h is_open. subst (λ t. StandsFor t (state g new.conn)) (same (honest h) b s)
+    (ok (tables_of b) (reads.kept (tables_of b) s.kept) h is_open))
 
 -- what a store's own field says is said of the store
 pub looks_now : {S : Type 0} (g : Ghosts S) (seen old new : BaseValue S) → seen ≡ old → OnlyReads g seen new
-    → OnlyLooks g old new
-looks_now g seen old new e reads = subst (λ v. OnlyLooks g v new) e (looks g seen new reads)
+    → OnlyLooks (over_tables g) old new
+looks_now g seen old new e reads = subst (λ v. OnlyLooks (over_tables g) v new) e (looks g seen new reads)
 
 -- two look-ups, one after the other
 pub looks_twice : {S : Type 0} (g : Ghosts S) (seen old mid new : BaseValue S) → seen ≡ old → OnlyReads g seen mid
-    → OnlyReads g mid new → OnlyLooks g old new
+    → OnlyReads g mid new → OnlyLooks (over_tables g) old new
 looks_twice g seen old mid new e first second =
     looks_now g seen old new e
     record {
@@ -65,45 +75,71 @@ pub reads_now : {S : Type 0} (g : Ghosts S) (seen old new : BaseValue S) → see
     → OnlyReads g old new
 reads_now g seen old new e reads = subst (λ v. OnlyReads g v new) e reads
 
-pub kept_seen : {S : Type 0} (g : Ghosts S) (seen old : BaseValue S) (b : History) → seen ≡ old → Stands g b old
+pub kept_seen : {S : Type 0} (g : Ghosts S) (seen old : BaseValue S) (b : History) → seen ≡ old
+    → Stands (over_tables g) b old
     → Keeps g (tables_of b) seen
 kept_seen g seen old b e s = subst (λ v. Keeps g (tables_of b) v) (sym e) s.kept
 
 -- a commit that fails after a look-up leaves the history
 pub err_after : {S : Type 0} (g : Ghosts S) (old mid new : BaseValue S) (b : History) → OnlyReads g old mid
     → ((t : Tables) → Keeps g t mid → Keeps g t new)
-    → Stands g b old → Stands g b new
+    → Stands (over_tables g) b old → Stands (over_tables g) b new
 err_after g old mid new b reads err s =
-    record { sound = s.sound; kept = err (tables_of b) (reads.kept (tables_of b) s.kept) }
+    stands_for g b new s.sound (err (tables_of b) (reads.kept (tables_of b) s.kept))
 
-pub err_looked : {S : Type 0} (g : Ghosts S) (old mid new : BaseValue S) (b : History) → OnlyLooks g old mid
+pub err_looked : {S : Type 0} (g : Ghosts S) (old mid new : BaseValue S) (b : History)
+    → OnlyLooks (over_tables g) old mid
     → ((t : Tables) → Keeps g t mid → Keeps g t new)
-    → Stands g b old → Stands g b new
-err_looked g old mid new b looks err s = record { sound = s.sound; kept = err (tables_of b) (looks.stands b s).kept }
+    → Stands (over_tables g) b old → Stands (over_tables g) b new
+err_looked g old mid new b looks err s = stands_for g b new s.sound (err (tables_of b) (looks.stands b s).kept)
 
 -- one commit
 pub crash_now : {S : Type 0} (g : Ghosts S) (entry : Entry) (step : Tables → Tables) (seen old new : BaseValue S)
     → seen ≡ old
     → (IsHonest g new → (db : Trees) → Recovers g new db → Recovers g seen db
     ⊎ ((t : Tables) → Keeps g t seen → Holds (step t) db))
-    → ((b : History) → step (tables_of b) ≡ tables_of (entry ∷ b)) → LeavesOrAdds g entry old new
+    → ((b : History) → step (tables_of b) ≡ tables_of (entry ∷ b)) → LeavesOrAdds (over_tables g) entry old new
 crash_now g entry step seen old new e crash same h db r =
     elim (crash h db r) [
       | inl before ↦ inl (subst (λ v. Recovers g v db) e before)
       | inr adds ↦ inr (λ b s fits. subst (λ t. Holds t db) (same b) (adds (tables_of b) (kept_seen g seen old b e s)))
     ]
 
+pub adds_now : {S : Type 0} (g : Ghosts S) (entry : Entry) (step : Tables → Tables) (seen old new : BaseValue S)
+    (b : History)
+    → seen ≡ old
+    → ((t : Tables) → Keeps g t seen → Keeps g (step t) new)
+    → ((b : History) → step (tables_of b) ≡ tables_of (entry ∷ b))
+    → Stands (over_tables g) b old → Fits entry b → Stands (over_tables g) (entry ∷ b) new
+adds_now g entry step seen old new b e ok same s fits =
+    stands_for g (entry ∷ b) new (fits, s.sound)
+    (subst (λ t. Keeps g t new) (same b) (ok (tables_of b) (kept_seen g seen old b e s)))
+
+pub err_now : {S : Type 0} (g : Ghosts S) (seen old new : BaseValue S) (b : History) → seen ≡ old
+    → ((t : Tables) → Keeps g t seen → Keeps g t new)
+    → Stands (over_tables g) b old → Stands (over_tables g) b new
+err_now g seen old new b e err s = stands_for g b new s.sound (err (tables_of b) (kept_seen g seen old b e s))
+
 -- a look-up of the store itself, then a commit
 pub crash_looked : {S : Type 0} (g : Ghosts S) (entry : Entry) (step : Tables → Tables) (old mid new : BaseValue S)
-    → OnlyLooks g old mid → (IsHonest g new → IsHonest g mid)
+    → OnlyLooks (over_tables g) old mid → (IsHonest g new → IsHonest g mid)
     → (IsHonest g new → (db : Trees) → Recovers g new db → Recovers g mid db
     ⊎ ((t : Tables) → Keeps g t mid → Holds (step t) db))
-    → ((b : History) → step (tables_of b) ≡ tables_of (entry ∷ b)) → LeavesOrAdds g entry old new
+    → ((b : History) → step (tables_of b) ≡ tables_of (entry ∷ b)) → LeavesOrAdds (over_tables g) entry old new
 crash_looked g entry step old mid new looks honest crash same h db r =
     elim (crash h db r) [
       | inl before ↦ inl (looks.leaves (honest h) db before)
       | inr adds ↦ inr (λ b s fits. subst (λ t. Holds t db) (same b) (adds (tables_of b) (looks.stands b s).kept))
     ]
+
+pub adds_looked : {S : Type 0} (g : Ghosts S) (entry : Entry) (step : Tables → Tables) (old mid new : BaseValue S)
+    (b : History)
+    → OnlyLooks (over_tables g) old mid → ((t : Tables) → Keeps g t mid → Keeps g (step t) new)
+    → ((b : History) → step (tables_of b) ≡ tables_of (entry ∷ b))
+    → Stands (over_tables g) b old → Fits entry b → Stands (over_tables g) (entry ∷ b) new
+adds_looked g entry step old mid new b looks ok same s fits =
+    stands_for g (entry ∷ b) new (fits, s.sound)
+    (subst (λ t. Keeps g t new) (same b) (ok (tables_of b) (looks.stands b s).kept))
 
 -- a refusal is no success, and no answer
 pub no_success : {A E : Type 0} (r : Result A E) (P : Type 0) → IsErr r → OnOk r P
@@ -119,6 +155,7 @@ pub on_err : {A E : Type 0} (r : Result A E) (P : Type 0) → P → OnErr r P
 on_err (Ok a) P p = tt
 on_err (Err e) P p = p
 
-pub looked_seen : {S : Type 0} (g : Ghosts S) (old seen new : BaseValue S) → seen ≡ new → OnlyLooks g old new
-    → OnlyLooks g old seen
-looked_seen g old seen new e looks = subst (λ v. OnlyLooks g old v) (sym e) looks
+pub looked_seen : {S : Type 0} (g : Ghosts S) (old seen new : BaseValue S) → seen ≡ new
+    → OnlyLooks (over_tables g) old new
+    → OnlyLooks (over_tables g) old seen
+looked_seen g old seen new e looks = subst (λ v. OnlyLooks (over_tables g) old v) (sym e) looks

@@ -7,7 +7,7 @@ use Rattle.sqlite.specs.Closing.{IsCopied}
 use Rattle.sqlite.specs.Effect.{Database}
 use Rattle.sqlite.specs.Files.{file_state, over_files}
 use Rattle.tables.specs.Base.{BaseValue, Holds}
-use Rattle.store.specs.History.{History}
+use Rattle.book.specs.History.{History}
 use Rattle.store.specs.Opening.{LeavesFiles}
 use Rattle.store.specs.Stands.{Stands}
 use Rattle.store.specs.TablesOf.{tables_of}

@@ -4,13 +4,13 @@ use Rattle.std.proofs.Common.{sym, ap, ◌∙◌, subst, string_bytes}
 use Rattle.tables.specs.Found.{IsFoundAs}
 use Rattle.tables.specs.Tables.{DepositRow, is_stamp, is_deposit}
 use Rattle.tables.specs.Queries.{ShowsStamp, ShowsDeposit, ShowsLabel, ShowsOrigin, stamp_view, deposit_view, is_owned}
-use Rattle.tables.specs.declared.rows.Stamp.{Stamp}
-use Rattle.tables.specs.declared.rows.Deposit.{Deposit}
+use Rattle.book.specs.declared.rows.Stamp.{Stamp}
+use Rattle.book.specs.declared.rows.Deposit.{Deposit}
 use Rattle.tables.specs.declared.rows.Label.{Label}
 use Rattle.tables.specs.declared.rows.Origin.{Origin}
-use Rattle.store.specs.History.{History, deposit_at, stamp_at}
-use Rattle.store.specs.Rights.{deposit_with_stamp}
-use Rattle.store.specs.Sound.{IsSound}
+use Rattle.book.specs.History.{History, deposit_at, stamp_at}
+use Rattle.book.specs.Rights.{deposit_with_stamp}
+use Rattle.book.specs.Sound.{IsSound}
 use Rattle.store.specs.Steps.{IsAskedFor, IsOriginOf, listing_at}
 use Rattle.store.specs.TablesOf.{tables_of}
 use Rattle.store.proofs.DepositRows.{deposit_view_of, stamp_view_of, origin_view_of, same_deposit, same_stamp}

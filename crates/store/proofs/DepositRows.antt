@@ -12,15 +12,15 @@ use Rattle.tables.specs.Found.{IsFoundAs}
 use Rattle.tables.specs.Tables.{StampRow, DepositRow, is_stamp, is_deposit, is_deposit_of}
 use Rattle.tables.specs.Tables.{is_reader_row}
 use Rattle.tables.specs.Queries.{ShowsStamp, ShowsDeposit, ShowsLabel, ShowsOrigin, stamp_view, deposit_view, is_owned}
-use Rattle.tables.specs.declared.rows.Stamp.{Stamp}
-use Rattle.tables.specs.declared.rows.Deposit.{Deposit}
+use Rattle.book.specs.declared.rows.Stamp.{Stamp}
+use Rattle.book.specs.declared.rows.Deposit.{Deposit}
 use Rattle.tables.specs.declared.rows.Label.{Label}
 use Rattle.tables.specs.declared.rows.Origin.{Origin}
-use Rattle.store.specs.History.{Reserved, Sealed, Deposited, Calibrated, Held, Granted, Revoked, History}
-use Rattle.store.specs.History.{ReservationValue, reservations, reservation_at, greatest_serial, deposits}
-use Rattle.store.specs.History.{deposit_at, deposit_under, token_of, stamp_of, stamps, stamp_at}
-use Rattle.store.specs.Rights.{is_reader, shown_to, is_visible}
-use Rattle.store.specs.Sound.{IsSound, greatest_number}
+use Rattle.book.specs.History.{Reserved, Sealed, Deposited, Calibrated, Held, Granted, Revoked, History}
+use Rattle.book.specs.History.{ReservationValue, reservations, reservation_at, greatest_serial, deposits}
+use Rattle.book.specs.History.{deposit_at, deposit_under, token_of, stamp_of, stamps, stamp_at}
+use Rattle.book.specs.Rights.{is_reader, shown_to, is_visible}
+use Rattle.book.specs.Sound.{IsSound, greatest_number}
 use Rattle.store.specs.TablesOf.{tables_of}
 use Rattle.store.proofs.Falling.{stamps_fall}
 use Rattle.store.proofs.Members.{IsSingle, IsSearchedAs, both_true, true_or_false, found_is_searched, found_member}

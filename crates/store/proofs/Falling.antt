@@ -3,16 +3,16 @@ use Rattle.std.proofs.Common.{◌≡◌, ℕ, ◌<◌, ◌≤◌, max, List, [],
 use Rattle.std.proofs.Common.{Some, None, option_map, refl, ap, subst, arith}
 use Rattle.std.specs.List.{AllByRecursion}
 use Rattle.std.proofs.Math.Nat.{le-max_left, le-max_right}
-use Rattle.tables.specs.Tables.{StampRow}
+use Rattle.book.specs.Rows.{StampRow}
 use Rattle.tables.specs.Found.{IsGreatestAs}
 use Rattle.tables.specs.Queries.{ShowsLast}
 use Rattle.tables.specs.declared.rows.LastStamp.{LastStamp}
-use Rattle.store.specs.History.{Reserved, Sealed, Deposited, Calibrated, Held, Granted, Revoked, History}
-use Rattle.store.specs.History.{ReservationValue, reservations, greatest_of}
-use Rattle.store.specs.History.{token_of, stamp_of, stamps, first_of}
-use Rattle.store.specs.Sound.{IsSound}
+use Rattle.book.specs.History.{Reserved, Sealed, Deposited, Calibrated, Held, Granted, Revoked, History}
+use Rattle.book.specs.History.{ReservationValue, reservations, greatest_of}
+use Rattle.book.specs.History.{token_of, stamp_of, stamps, first_of}
+use Rattle.book.specs.Sound.{IsSound}
 use Rattle.store.specs.TablesOf.{tables_of}
-use Rattle.store.specs.Values.{last_of}
+use Rattle.book.specs.Values.{last_of}
 use Rattle.store.specs.Steps.{last_from}
 use Rattle.store.proofs.Members.{IsFalling, IsFirstAs, falling_map, greatest_is_first}
 use Rattle.store.proofs.Stamps.{stamps_are}

@@ -11,5 +11,6 @@ pub mod Members
 pub mod Numbered
 pub mod Readers
 pub mod Stamps
+pub mod Tables
 pub mod Tallies
 pub mod Walk

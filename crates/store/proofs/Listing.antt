@@ -11,9 +11,9 @@ use Rattle.std.proofs.lemmas.List.Elements.{filter_map-append}
 use Rattle.tables.specs.Found.{IsLeastAs}
 use Rattle.tables.specs.Tables.{DepositRow, ReaderRow, is_reader_row}
 use Rattle.tables.specs.Queries.{ShowsDepositSerial, ShowsReaderSerial, is_owned, is_owned_after, is_readable_after}
-use Rattle.store.specs.History.{History, deposit_at, reservation_at, greatest_serial}
-use Rattle.store.specs.Rights.{ListedValue, listed_as, is_reader, shown_to, seen_by, is_visible, listed_at, listed}
-use Rattle.store.specs.Sound.{IsSound}
+use Rattle.book.specs.History.{History, deposit_at, reservation_at, greatest_serial}
+use Rattle.book.specs.Rights.{ListedValue, listed_as, is_reader, shown_to, seen_by, is_visible, listed_at, listed}
+use Rattle.book.specs.Sound.{IsSound}
 use Rattle.store.specs.Steps.{IsNextSeen, IsNextReadable, least_of, later_of, listing_at}
 use Rattle.store.specs.TablesOf.{tables_of}
 use Rattle.store.proofs.DepositRows.{visible_view, none_beyond}

@@ -4,7 +4,7 @@ use Rattle.std.proofs.Common.{List, [], ◌∷◌, map, find, Option, Some, None
 use Rattle.std.proofs.Common.{subst, inl, inr, ◌⊎◌, arith, Contains}
 use Rattle.std.specs.List.{AllByRecursion, list_any}
 use Rattle.tables.specs.Found.{IsFoundAs, IsGreatestAs}
-use Rattle.store.specs.History.{first_of}
+use Rattle.book.specs.History.{first_of}
 
 pub member_here : {X : Type 0} (x : X) (xs : List X) → Contains (x ∷ xs) x
 member_here x xs = (0, omega arith, refl)

@@ -6,8 +6,8 @@ use Rattle.tables.specs.Tables.{CalibrationRow, HoldRow, with_hold, with_calibra
 use Rattle.tables.specs.Found.{IsGreatestAs}
 use Rattle.tables.specs.Queries.{ShowsCalibration, ShowsNumber, holds_at}
 use Rattle.tables.specs.declared.rows.LatestCalibration.{LatestCalibration}
-use Rattle.store.specs.History.{Reserved, Sealed, Deposited, Calibrated, Held, Granted, Revoked, History}
-use Rattle.store.specs.History.{CalibrationValue, HoldValue, calibrations, holds, latest_calibration, is_held, first_of}
+use Rattle.book.specs.History.{Reserved, Sealed, Deposited, Calibrated, Held, Granted, Revoked, History}
+use Rattle.book.specs.History.{CalibrationValue, HoldValue, calibrations, holds, latest_calibration, is_held, first_of}
 use Rattle.store.specs.Steps.{calibration_from, next_number}
 use Rattle.store.specs.TablesOf.{tables_of, calibration_row, hold_row}
 use Rattle.store.proofs.Members.{IsFalling, IsFirstAs, greatest_is_first}

@@ -16,8 +16,8 @@ use Rattle.sqlite.specs.State.{State}
 use Rattle.tables.specs.Base.{BaseValue, Keeps, StandsFor}
 use Rattle.tables.specs.Holding.{Holds, reader_cells}
 use Rattle.tables.specs.Tables.{Tables, ReaderRow, is_reader_row, with_reader, without_reader}
-use Rattle.store.specs.History.{Reserved, Sealed, Deposited, Calibrated, Held, Granted, Revoked, History}
-use Rattle.store.specs.Rights.{is_reader}
+use Rattle.book.specs.History.{Reserved, Sealed, Deposited, Calibrated, Held, Granted, Revoked, History}
+use Rattle.book.specs.Rights.{is_reader}
 use Rattle.store.specs.TablesOf.{tables_of}
 use Rattle.store.proofs.Members.{both_true, neither_true, true_or_false}
 

@@ -1,10 +1,10 @@
 -- The definitions, computed on a worked history.
 use Rattle.std.proofs.Common.{◌≡◌, ℕ, List, [], ◌∷◌, refl, Some, None, true, false, pos, negsuc, codes}
-use Rattle.tables.specs.Tables.{DepositRow}
-use Rattle.store.specs.History.{Reserved, Sealed, Deposited, Calibrated, Held, Granted, Revoked, History}
-use Rattle.store.specs.History.{ReservationValue, greatest_serial, last_gen_time, count_of_day, latest_calibration}
-use Rattle.store.specs.History.{is_held, token_of, deposit_under}
-use Rattle.store.specs.Rights.{seen_by, is_visible, listed}
+use Rattle.book.specs.Rows.{DepositRow}
+use Rattle.book.specs.History.{Reserved, Sealed, Deposited, Calibrated, Held, Granted, Revoked, History}
+use Rattle.book.specs.History.{ReservationValue, greatest_serial, last_gen_time, count_of_day, latest_calibration}
+use Rattle.book.specs.History.{is_held, token_of, deposit_under}
+use Rattle.book.specs.Rights.{seen_by, is_visible, listed}
 use Rattle.store.specs.TablesOf.{tables_of}
 
 abbrev alice : List ℕ

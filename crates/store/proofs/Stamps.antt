@@ -5,10 +5,10 @@ use Rattle.std.proofs.lemmas.Bool.{eq-eqb, ne_eqb}
 use Rattle.std.proofs.lemmas.Bool.Decides.{eqb_tells}
 use Rattle.std.proofs.Math.Nat.{le-max_left, le-max_right}
 use Rattle.tables.specs.Tables.{sealed_row}
-use Rattle.store.specs.History.{Reserved, Sealed, Deposited, Calibrated, Held, Granted, Revoked, History}
-use Rattle.store.specs.History.{ReservationValue, reservations, reservation_at, greatest_of, token_of}
-use Rattle.store.specs.History.{stamp_of, stamps}
-use Rattle.store.specs.Sound.{FitsReserved, FitsSealed, IsSound}
+use Rattle.book.specs.History.{Reserved, Sealed, Deposited, Calibrated, Held, Granted, Revoked, History}
+use Rattle.book.specs.History.{ReservationValue, reservations, reservation_at, greatest_of, token_of}
+use Rattle.book.specs.History.{stamp_of, stamps}
+use Rattle.book.specs.Sound.{FitsReserved, FitsSealed, IsSound}
 use Rattle.store.specs.TablesOf.{tables_of}
 
 pub eqb_comm : (a b : ℕ) → (a == b) ≡ (b == a)

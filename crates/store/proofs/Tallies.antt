@@ -9,8 +9,8 @@ use Rattle.std.proofs.lemmas.List.Sums.{sum_by-cons}
 use Rattle.tables.specs.Tables.{TallyRow, is_tally_of, raised_row, with_one_more}
 use Rattle.tables.specs.Found.{IsFoundAs}
 use Rattle.tables.specs.Queries.{ShowsCount}
-use Rattle.store.specs.History.{Reserved, Sealed, Deposited, Calibrated, Held, Granted, Revoked, History}
-use Rattle.store.specs.History.{reservations, day_of, is_of_day, count_of_day}
+use Rattle.book.specs.History.{Reserved, Sealed, Deposited, Calibrated, Held, Granted, Revoked, History}
+use Rattle.book.specs.History.{reservations, day_of, is_of_day, count_of_day}
 use Rattle.store.specs.TablesOf.{tables_of}
 use Rattle.store.proofs.Members.{both_true, neither_true, true_or_false, none_pass, fails_each}
 use Rattle.store.proofs.Members.{member_here, member_after, member_cases}

@@ -3,16 +3,18 @@ use Rattle.std.proofs.Common.{◌≡◌, ℕ, ◌<◌, ◌^◌, IfSome, List, []
 use Rattle.std.proofs.Common.{option_to_list, refl, sym, ap, ◌∙◌}
 use Rattle.sqlite_trees.specs.declared.store.Store.{Ghosts}
 use Rattle.tables.specs.Base.{BaseValue, IsHonest, IsOpen}
-use Rattle.store.specs.History.{History}
-use Rattle.store.specs.Rights.{ListedValue, listed}
-use Rattle.store.specs.Stands.{Stands, OnlyLooks}
+use Rattle.book.specs.History.{History}
+use Rattle.book.specs.Rights.{ListedValue, listed}
+use Rattle.book.specs.Stands.{Stands, OnlyLooks}
+use Rattle.store.specs.Stands.{over_tables}
 use Rattle.store.specs.Steps.{IsNextSeen, IsNextReadable, listing_at}
-use Rattle.store.specs.Values.{listed_view}
-use Rattle.store.specs.declared.values.Listed.{Listed}
+use Rattle.book.specs.Values.{listed_view}
+use Rattle.book.specs.declared.values.Listed.{Listed}
 use Rattle.store.proofs.Listing.{listed_up_to, next_listed, all_listed}
 
-pub looks_after : {S : Type 0} (g : Ghosts S) (old mid new : BaseValue S) → OnlyLooks g old mid → OnlyLooks g mid new
-    → OnlyLooks g old new
+pub looks_after : {S : Type 0} (g : Ghosts S) (old mid new : BaseValue S) → OnlyLooks (over_tables g) old mid
+    → OnlyLooks (over_tables g) mid new
+    → OnlyLooks (over_tables g) old new
 looks_after g old mid new first second = record {
   honest = λ h. first.honest (second.honest h);
   stands = λ b s. second.stands b (first.stands b s);
@@ -23,17 +25,17 @@ looks_after g old mid new first second = record {
 pub record HasListed {S : Type 0} (g : Ghosts S) (old now : BaseValue S) (account : List ℕ) (rows : List ListedValue)
     (last : ℕ) (readable : Option ℕ)
     : Type 0 where
-  pub looks : OnlyLooks g old now
+  pub looks : OnlyLooks (over_tables g) old now
   pub faults : now.faults ≡ old.faults
   pub opened : IsHonest g now → IsOpen g now → IsOpen g old
-  pub listed : IsHonest g now → (b : History) → Stands g b old → rows ≡ listed_up_to account b last
-  pub ahead : IsHonest g now → (b : History) → Stands g b old → IsNextReadable account last b readable
+  pub listed : IsHonest g now → (b : History) → Stands (over_tables g) b old → rows ≡ listed_up_to account b last
+  pub ahead : IsHonest g now → (b : History) → Stands (over_tables g) b old → IsNextReadable account last b readable
   pub small : IfSome readable (λ n. n < 2 ^ 63)
 
 pub nothing_listed : {S : Type 0} (g : Ghosts S) (old now : BaseValue S) (account : List ℕ) (readable : Option ℕ)
-    → OnlyLooks g old now
+    → OnlyLooks (over_tables g) old now
     → now.faults ≡ old.faults → (IsHonest g now → IsOpen g old)
-    → (IsHonest g now → (b : History) → Stands g b old → IsNextReadable account 0 b readable)
+    → (IsHonest g now → (b : History) → Stands (over_tables g) b old → IsNextReadable account 0 b readable)
     → IfSome readable (λ n. n < 2 ^ 63)
     → HasListed g old now account [] 0 readable
 nothing_listed g old now account readable looks same is_open ahead small = record {
@@ -49,15 +51,17 @@ nothing_listed g old now account readable looks same is_open ahead small = recor
 pub row_listed : {S : Type 0} (g : Ghosts S) (old now seen shown new : BaseValue S) (account : List ℕ)
     (rows : List ListedValue) (last number : ℕ)
     (readable next : Option ℕ) (row : Option Listed)
-    → HasListed g old now account rows last readable → OnlyLooks g now seen → OnlyLooks g seen shown
-    → OnlyLooks g shown new
+    → HasListed g old now account rows last readable → OnlyLooks (over_tables g) now seen
+    → OnlyLooks (over_tables g) seen shown
+    → OnlyLooks (over_tables g) shown new
     → seen.faults ≡ now.faults → shown.faults ≡ seen.faults → new.faults ≡ shown.faults
     → (IsHonest g seen → IsOpen g now)
     → (last < number)
-    → (IsHonest g seen → (b : History) → Stands g b now → IsNextReadable account last b readable
+    → (IsHonest g seen → (b : History) → Stands (over_tables g) b now → IsNextReadable account last b readable
     → IsNextSeen account last b (Some number))
-    → (IsHonest g shown → (b : History) → Stands g b seen → option_map listed_view row ≡ listing_at number b)
-    → (IsHonest g new → (b : History) → Stands g b shown → (before : ℕ) → before < number
+    → (IsHonest g shown → (b : History) → Stands (over_tables g) b seen
+    → option_map listed_view row ≡ listing_at number b)
+    → (IsHonest g new → (b : History) → Stands (over_tables g) b shown → (before : ℕ) → before < number
     → IsNextReadable account before b readable
     → IsNextReadable account number b next)
     → IfSome next (λ n. n < 2 ^ 63)
@@ -88,10 +92,10 @@ row_listed g old now seen shown new account rows last number readable next row b
 -- where none is seen any more, all is listed
 pub whole_listed : {S : Type 0} (g : Ghosts S) (old now seen : BaseValue S) (account : List ℕ)
     (rows : List ListedValue) (last : ℕ) (readable : Option ℕ)
-    → HasListed g old now account rows last readable → OnlyLooks g now seen
-    → (IsHonest g seen → (b : History) → Stands g b now → IsNextReadable account last b readable
+    → HasListed g old now account rows last readable → OnlyLooks (over_tables g) now seen
+    → (IsHonest g seen → (b : History) → Stands (over_tables g) b now → IsNextReadable account last b readable
     → IsNextSeen account last b None)
-    → IsHonest g seen → (b : History) → Stands g b old → rows ≡ listed account b
+    → IsHonest g seen → (b : History) → Stands (over_tables g) b old → rows ≡ listed account b
 whole_listed g old now seen account rows last readable before first none h b s =
     let at_now = first.honest h in
     before.listed at_now b s ∙ all_listed account b last s.sound

@@ -1,9 +1,9 @@
 -- Histories that a store can't tell apart: equal tables, and what follows of their views and of who sees what.
 use Rattle.std.specs.Prelude.{◌≡◌, ℕ, ℤ, List, IsPermutation}
 use Rattle.tables.specs.Tables.{Tables}
-use Rattle.store.specs.History.{History, greatest_serial, last_gen_time, count_of_day, latest_calibration, is_held}
-use Rattle.store.specs.History.{stamp_at, stamps_between, deposit_at, deposit_under}
-use Rattle.store.specs.Rights.{is_reader, seen_by, listed, deposit_with_stamp}
+use Rattle.book.specs.History.{History, greatest_serial, last_gen_time, count_of_day, latest_calibration, is_held}
+use Rattle.book.specs.History.{stamp_at, stamps_between, deposit_at, deposit_under}
+use Rattle.book.specs.Rights.{is_reader, seen_by, listed, deposit_with_stamp}
 
 -- the same rows in each table, in any order
 pub record HaveSameRows (t u : Tables) : Type 0 where

@@ -1,10 +1,5 @@
 pub mod Alike
-pub mod Fault
-pub mod History
 pub mod Opening
-pub mod Rights
-pub mod Sound
 pub mod Stands
 pub mod Steps
 pub mod TablesOf
-pub mod Values

@@ -12,8 +12,8 @@ use Rattle.sqlite.specs.Start.{FindsIn}
 use Rattle.tables.specs.Asking.{Looks}
 use Rattle.tables.specs.Base.{BaseValue, Holds}
 use Rattle.tables.specs.Opening.{IsFound, LooksOurs}
-use Rattle.store.specs.History.{History}
-use Rattle.store.specs.Sound.{IsSound}
+use Rattle.book.specs.History.{History}
+use Rattle.book.specs.Sound.{IsSound}
 use Rattle.store.specs.Stands.{Stands}
 use Rattle.store.specs.TablesOf.{tables_of}
 

@@ -1,10 +1,11 @@
--- Which histories a store stands for, and what its calls leave.
+-- Which histories a store stands for, and what its calls leave, said of the tables; and the store as a book.
 use Rattle.std.specs.Prelude.{◌⊎◌, ◌∷◌}
 use Rattle.sqlite_trees.specs.Tree.{Trees}
 use Rattle.sqlite_trees.specs.declared.store.Store.{Ghosts}
-use Rattle.tables.specs.Base.{BaseValue, IsHonest, Keeps, Recovers, Holds}
-use Rattle.store.specs.History.{Entry, History}
-use Rattle.store.specs.Sound.{Fits, IsSound}
+use Rattle.tables.specs.Base.{BaseValue, IsHonest, IsOpen, Keeps, Recovers, Holds}
+use Rattle.book.specs.declared.standing.Standing.{Ghosts as Standing}
+use Rattle.book.specs.History.{Entry, History}
+use Rattle.book.specs.Sound.{Fits, IsSound}
 use Rattle.store.specs.TablesOf.{tables_of}
 
 -- the history is sound, and while the connection is open and its disk returns what was written, the database holds its
@@ -25,5 +26,14 @@ LeavesOrAdds g entry old new =
     IsHonest g new → (db : Trees) → Recovers g new db
     → Recovers g old db ⊎ ((b : History) → Stands g b old → Fits entry b → Holds (tables_of (entry ∷ b)) db)
 
-abbrev pub LeavesAsBefore : {S : Type 0} → Ghosts S → BaseValue S → BaseValue S → Type 0
-LeavesAsBefore g old new = (db : Trees) → Recovers g new db → Recovers g old db
+-- what is known of the store as a book
+abbrev pub over_tables : {S : Type 0} → Ghosts S → Standing (BaseValue S)
+over_tables g = record {
+  honest = IsHonest g;
+  is_open = IsOpen g;
+  keeps = λ store b. Keeps g (tables_of b) store;
+  Left = Trees;
+  leaves = Recovers g;
+  holds = λ db b. Holds (tables_of b) db;
+  fault_count = λ store. store.faults;
+}

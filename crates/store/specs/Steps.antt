@@ -4,12 +4,12 @@ use Rattle.std.specs.Prelude.{List, [], ◌∷◌, Option, Some, None, option_ma
 use Rattle.tables.specs.declared.rows.LastStamp.{LastStamp}
 use Rattle.tables.specs.declared.rows.LatestCalibration.{LatestCalibration}
 use Rattle.tables.specs.declared.rows.Origin.{Origin}
-use Rattle.tables.specs.declared.rows.Stamp.{Stamp}
-use Rattle.tables.specs.Queries.{stamp_view}
-use Rattle.store.specs.History.{CalibrationValue, ReservationValue, History, deposit_at, reservation_at, stamps_between}
-use Rattle.store.specs.Rights.{ListedValue, listed_as, is_reader, is_visible}
-use Rattle.store.specs.Sound.{greatest_number}
-use Rattle.store.specs.declared.values.Last.{Last}
+use Rattle.book.specs.declared.rows.Stamp.{Stamp}
+use Rattle.book.specs.Values.{stamp_view}
+use Rattle.book.specs.History.{CalibrationValue, ReservationValue, History, deposit_at, reservation_at, stamps_between}
+use Rattle.book.specs.Rights.{ListedValue, listed_as, is_reader, is_visible}
+use Rattle.book.specs.Sound.{greatest_number}
+use Rattle.book.specs.declared.values.Last.{Last}
 
 abbrev pub last_from : Option LastStamp → Last
 last_from None = record { serial = 0; gen_time = None }
@@ -65,17 +65,6 @@ IsOriginOf serial b None = reservation_at serial b ≡ None
 IsOriginOf serial b (Some origin) =
     (r : ReservationValue) × (reservation_at serial b ≡ Some r) × (string_bytes origin.account ≡ r.account)
     × (origin.gen_time ≡ r.gen_time)
-
--- a number of a range, both ends in it
-pub record IsWithin (from to number : ℕ) : Type 0 where
-  pub least : from ≤ number
-  pub most : number ≤ to
-
--- the stamp of a range with the least serial number, and what is left of the range then; or none is in it
-abbrev pub IsNextStamp : ℕ → ℕ → History → Option Stamp → Type 0
-IsNextStamp from to b None = stamps_between from to b ≡ []
-IsNextStamp from to b (Some stamp) =
-    stamps_between from to b ≡ stamp_view stamp ∷ stamps_between (stamp.serial + 1) to b
 
 -- a stamp, where its serial number is in the range
 abbrev pub only_within : ℕ → ℕ → Option Stamp → Option Stamp

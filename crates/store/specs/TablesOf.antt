@@ -2,8 +2,8 @@
 use Rattle.std.specs.Prelude.{ℕ, ◌+◌, [], ◌∷◌, length, None}
 use Rattle.tables.specs.Tables.{Tables, no_rows, with_stamp, with_token, with_deposit, with_calibration, with_hold}
 use Rattle.tables.specs.Tables.{with_reader, without_reader, CalibrationRow, HoldRow}
-use Rattle.store.specs.History.{Entry, Reserved, Sealed, Deposited, Calibrated, Held, Granted, Revoked, History}
-use Rattle.store.specs.History.{CalibrationValue, HoldValue, stamp_of}
+use Rattle.book.specs.History.{Entry, Reserved, Sealed, Deposited, Calibrated, Held, Granted, Revoked, History}
+use Rattle.book.specs.History.{CalibrationValue, HoldValue, stamp_of}
 
 -- calibrations and holds are numbered 1, 2, 3 in the order of their entries
 abbrev pub calibration_row : CalibrationValue → ℕ → CalibrationRow

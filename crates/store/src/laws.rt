@@ -1,9 +1,16 @@
-//! What holds of each history.
-ghost use Rattle.std.specs.Prelude.{◌≤◌, ◌<◌, Contains};
+//! What holds of each history, and of the store as a book.
+ghost use Rattle.std.specs.Prelude.{◌≤◌, ◌<◌, ◌↔◌, Contains};
+ghost use Rattle.tables.specs.Base.{BaseValue};
+ghost use Rattle.book.specs.Stands.{Stands as BookStands, OnlyLooks as BookLooks, LeavesOrAdds as BookAdds};
+ghost use Rattle.book.specs.History.{Entry, History, ReservationValue, Reserved, greatest_serial, reservations};
+ghost use Rattle.book.specs.Sound.{Fits, IsSound};
 ghost use Rattle.store.specs.Alike.{HaveSameRows, AreAlike};
-ghost use Rattle.store.specs.History.{History, ReservationValue, Reserved, greatest_serial, reservations};
-ghost use Rattle.store.specs.Sound.{Fits, IsSound};
+ghost use Rattle.store.specs.Stands.{Stands, OnlyLooks, LeavesOrAdds};
 ghost use Rattle.store.specs.TablesOf.{tables_of};
+
+use crate::store::Store;
+use book::Standing;
+use sqlite::Alter;
 
 /// Sound histories with the same rows in their tables, in whatever order, have the same views, and in both the same
 /// account sees the same.
@@ -18,4 +25,14 @@ pub fn serials_rise()
         → r.serial ≤ greatest_serial b }
     ensures next { (b : History) (new r : ReservationValue) → Fits (Reserved new) b → Contains (reservations b) r
         → r.serial < new.serial }
+{}
+
+/// What is said of a store as of any book is said of the tables in its database, and the other way round: the
+/// histories that it stands for, what a look-up leaves, and what a crash in a change may leave.
+pub fn book_stands_in_tables<S: Alter + Drop>()
+    ensures stands { (b : History) (store : BaseValue S)
+        → BookStands ⟦<Store<S> as Standing>⟧ b store ↔ Stands S.Store b store }
+    ensures looks { (old new : BaseValue S) → BookLooks ⟦<Store<S> as Standing>⟧ old new ↔ OnlyLooks S.Store old new }
+    ensures leaves { (entry : Entry) (old new : BaseValue S)
+        → BookAdds ⟦<Store<S> as Standing>⟧ entry old new ↔ LeavesOrAdds S.Store entry old new }
 {}

@@ -9,14 +9,14 @@ ghost use Rattle.sqlite.specs.State.{HasCleanDisk};
 ghost use Rattle.tables.specs.Asking.{Looks};
 ghost use Rattle.tables.specs.Opening.{IsFound, LooksOurs, LooksForeign, Creates, IsInTheWay, takes_name};
 ghost use Rattle.tables.specs.Schema.{no_schema};
-ghost use Rattle.store.specs.History.{History};
+ghost use Rattle.book.specs.History.{History};
 ghost use Rattle.store.specs.Opening.{OpensFound, LeavesFiles};
-ghost use Rattle.store.specs.Sound.{IsSound};
+ghost use Rattle.book.specs.Sound.{IsSound};
 ghost use Rattle.store.specs.Stands.{Stands};
 ghost use Rattle.store.specs.TablesOf.{tables_of};
 
-use crate::fault::StoreFault;
 use crate::store::Store;
+use book::StoreFault;
 use sqlite::{Alter, Connection, Error, ErrorCode, FileFrom, FileStore, Start};
 use sqlite_disk::{Disk, Files};
 use std::alloc::Global;

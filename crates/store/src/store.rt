@@ -1,18 +1,19 @@
-//! The store: each change of the history is one commit, each look-up answers a view of it.
-ghost use Rattle.std.specs.Prelude.{◌≡◌, ◌⊎◌, ◌∷◌, Err, IfOk, IfErr, IsErr, OnOk, OnErr, MatchResult, ◌↔◌, ◌<◌, ◌^◌};
-ghost use Rattle.std.specs.Prelude.{false, IsTrue, option_map};
+//! The store: a book that is kept in tables.
+ghost use Rattle.std.specs.Prelude.{◌≡◌, ◌↔◌, ◌<◌, ◌^◌, false, IsTrue, option_map};
 ghost use Rattle.std.specs.Option.{ForSome};
-ghost use Rattle.tables.specs.Base.{IsHonest, IsOpen};
-ghost use Rattle.store.specs.History.{History, Reserved, Sealed, Calibrated, Held, count_of_day, latest_calibration};
-ghost use Rattle.store.specs.History.{is_held};
-ghost use Rattle.store.specs.Sound.{Fits, IsSpent, IsBackwards};
-ghost use Rattle.store.specs.Stands.{Stands, OnlyLooks, LeavesOrAdds, LeavesAsBefore};
-ghost use Rattle.store.specs.Fault.{count_after};
+ghost use Rattle.sqlite_trees.specs.Tree.{Trees};
+ghost use Rattle.tables.specs.Base.{IsHonest, IsOpen, Keeps, Recovers, Holds};
+ghost use Rattle.book.specs.Sound.{IsBackwards};
+ghost use Rattle.book.specs.Values.{calibration_view, calibration_option};
 ghost use Rattle.store.specs.Steps.{last_from, calibration_from, next_calibration, next_number};
-ghost use Rattle.store.specs.Values.{reservation_view, calibration_view, hold_view, last_of, calibration_option};
+ghost use Rattle.store.specs.TablesOf.{tables_of};
 
-use crate::fault::StoreFault;
-use crate::values::{Calibration, Hold, Last, Reservation};
+use crate::deposits::{add_listed, asked_for};
+use crate::ranges::only_within;
+use book::{
+    Book, Calibration, Deposit, Hold, Last, Listed, Reservation, Stamp, StampedDeposit, Standing,
+    StoreFault,
+};
 use sqlite::{Alter, Connection};
 use std::alloc::Global;
 use std::marker::Model;
@@ -47,83 +48,44 @@ impl<S: Alter + Drop> Model for Store<S> {
     ghost invariant = { λ store. Unit {0} };
 }
 
-impl<S: Alter + Drop> Store<S> {
-    /// The greatest serial number and the last genTime that were reserved.
-    pub fn last(&mut self) -> Result<Last, StoreFault>
-        ensures looks { OnlyLooks S.Store self.old self.new }
-        ensures opened { IsHonest S.Store self.new → OnOk result (IsOpen S.Store self.old) }
-        ensures value { IsHonest S.Store self.new → (b : History) → Stands S.Store b self.old
-            → IfOk result (λ last. last ≡ last_of b) }
-        ensures refusals { IfErr result (λ e. (e ≡ StoreFault.Memory) ⊎ (e ≡ StoreFault.Database)) }
-        ensures faults { MatchResult result (λ _. self.new.faults ≡ self.old.faults) (λ e. self.new.faults
-            ≡ count_after e self.old.faults) }
-    {
+impl<S: Alter + Drop> Standing for Store<S> {
+    ghost honest = { IsHonest S.Store };
+
+    ghost is_open = { IsOpen S.Store };
+
+    ghost keeps = { λ store b. Keeps S.Store (tables_of b) store };
+
+    ghost Left = { Trees };
+
+    ghost leaves = { Recovers S.Store };
+
+    ghost holds = { λ db b. Holds (tables_of b) db };
+
+    ghost fault_count = { λ store. store.faults };
+}
+
+impl<S: Alter + Drop> Book for Store<S> {
+    fn last(&mut self) -> Result<Last, StoreFault> {
         let stamp = self.base.greatest_stamp()?;
         Ok(last_from(stamp))
     }
 
-    /// How many stamps the account has reserved on a day, counted from 1970-01-01 in UTC: those that never got their
-    /// token too.
-    pub fn count_of_day(&mut self, account: &str, day: u64) -> Result<u64, StoreFault>
-        ensures looks { OnlyLooks S.Store self.old self.new }
-        ensures opened { IsHonest S.Store self.new → OnOk result (IsOpen S.Store self.old) }
-        ensures value { IsHonest S.Store self.new → (b : History) → Stands S.Store b self.old
-            → IfOk result (λ count. count ≡ count_of_day account.now day b) }
-        ensures refusals { IfErr result (λ e. (e ≡ StoreFault.Memory) ⊎ (e ≡ StoreFault.Database)) }
-        ensures faults { MatchResult result (λ _. self.new.faults ≡ self.old.faults) (λ e. self.new.faults
-            ≡ count_after e self.old.faults) }
-    {
+    fn count_of_day(&mut self, account: &str, day: u64) -> Result<u64, StoreFault> {
         let count = self.base.tally(account, day)?;
         Ok(count.unwrap_or(0))
     }
 
-    /// The latest calibration, if any.
-    pub fn calibration(&mut self) -> Result<Option<Calibration>, StoreFault>
-        ensures looks { OnlyLooks S.Store self.old self.new }
-        ensures opened { IsHonest S.Store self.new → OnOk result (IsOpen S.Store self.old) }
-        ensures value { IsHonest S.Store self.new → (b : History) → Stands S.Store b self.old
-            → IfOk result (λ found. calibration_option found ≡ latest_calibration b) }
-        ensures refusals { IfErr result (λ e. (e ≡ StoreFault.Memory) ⊎ (e ≡ StoreFault.Database)) }
-        ensures faults { MatchResult result (λ _. self.new.faults ≡ self.old.faults) (λ e. self.new.faults
-            ≡ count_after e self.old.faults) }
-    {
+    fn calibration(&mut self) -> Result<Option<Calibration>, StoreFault> {
         let latest = self.base.latest_calibration()?;
         Ok(calibration_from(latest))
     }
 
-    /// Whether a moment is held, in microseconds since 1970-01-01T00:00:00Z.
-    pub fn held_at(&mut self, now: i64) -> Result<bool, StoreFault>
-        ensures looks { OnlyLooks S.Store self.old self.new }
-        ensures opened { IsHonest S.Store self.new → OnOk result (IsOpen S.Store self.old) }
-        ensures value { IsHonest S.Store self.new → (b : History) → Stands S.Store b self.old
-            → IfOk result (λ held. held ≡ is_held now b) }
-        ensures refusals { IfErr result (λ e. (e ≡ StoreFault.Memory) ⊎ (e ≡ StoreFault.Database)) }
-        ensures faults { MatchResult result (λ _. self.new.faults ≡ self.old.faults) (λ e. self.new.faults
-            ≡ count_after e self.old.faults) }
-    {
+    fn held_at(&mut self, now: i64) -> Result<bool, StoreFault> {
         let held = self.base.held_at(now)?;
         Ok(held)
     }
 
-    /// Reserves a stamp, which counts on its UTC day from now on, whether it is sealed or not. The caller's condition
-    /// is that its serial number is the greatest plus one, where that is at most 2^63 - 1. Refused with `Full`, and no
-    /// row is added, where the greatest is 2^63 - 1.
-    pub fn reserve(&mut self, reservation: &Reservation<'_>) -> Result<(), StoreFault>
-        ensures honest { IsHonest S.Store self.new → IsHonest S.Store self.old }
-        ensures opened { IsHonest S.Store self.new → OnOk result (IsOpen S.Store self.old × IsOpen S.Store self.new) }
-        ensures ok { (b : History) → Stands S.Store b self.old → Fits (Reserved (reservation_view reservation.now)) b
-            → OnOk result (Stands S.Store (Reserved (reservation_view reservation.now) ∷ b) self.new) }
-        ensures err { (b : History) → Stands S.Store b self.old → OnErr result (Stands S.Store b self.new) }
-        ensures crash { LeavesOrAdds S.Store (Reserved (reservation_view reservation.now)) self.old self.new }
-        ensures full { IsHonest S.Store self.new → (b : History) → Stands S.Store b self.old → result
-            ≡ Err StoreFault.Full → IsSpent b }
-        ensures spent { IsHonest S.Store self.new → (b : History) → Stands S.Store b self.old → IsSpent b
-            → IsErr result × LeavesAsBefore S.Store self.old self.new }
-        ensures refusals { IfErr result (λ e. (e ≡ StoreFault.Memory)
-            ⊎ ((e ≡ StoreFault.Database) ⊎ (e ≡ StoreFault.Full))) }
-        ensures faults { MatchResult result (λ _. self.new.faults ≡ self.old.faults) (λ e. self.new.faults
-            ≡ count_after e self.old.faults) }
-    {
+    fn reserve(&mut self, reservation: &Reservation<'_>) -> Result<(), StoreFault> {
         let last = self.last()?;
         if last.serial == GREATEST {
             return Err(StoreFault::Full);
@@ -142,42 +104,89 @@ impl<S: Alter + Drop> Store<S> {
         Ok(())
     }
 
-    /// Stores the token of a serial number. The caller's condition is that the number is reserved and not sealed.
-    pub fn seal(&mut self, serial: u64, token: &[u8]) -> Result<(), StoreFault>
-        ensures honest { IsHonest S.Store self.new → IsHonest S.Store self.old }
-        ensures opened { IsHonest S.Store self.new → OnOk result (IsOpen S.Store self.old × IsOpen S.Store self.new) }
-        ensures ok { (b : History) → Stands S.Store b self.old → Fits (Sealed serial token.now) b
-            → OnOk result (Stands S.Store (Sealed serial token.now ∷ b) self.new) }
-        ensures err { (b : History) → Stands S.Store b self.old → OnErr result (Stands S.Store b self.new) }
-        ensures crash { LeavesOrAdds S.Store (Sealed serial token.now) self.old self.new }
-        ensures refusals { IfErr result (λ e. (e ≡ StoreFault.Memory) ⊎ (e ≡ StoreFault.Database)) }
-        ensures faults { MatchResult result (λ _. self.new.faults ≡ self.old.faults) (λ e. self.new.faults
-            ≡ count_after e self.old.faults) }
-    {
+    fn seal(&mut self, serial: u64, token: &[u8]) -> Result<(), StoreFault> {
         self.base.commit(&Change::Seal { serial, token })?;
         Ok(())
     }
 
-    /// Adds a calibration, which is the latest from now on. The caller's condition is an uncertainty of at most 10^12.
-    /// Refused with `Backwards` where its reading is before that of the latest.
-    pub fn calibrate(&mut self, calibration: &Calibration) -> Result<(), StoreFault>
-        ensures honest { IsHonest S.Store self.new → IsHonest S.Store self.old }
-        ensures opened { IsHonest S.Store self.new → OnOk result (IsOpen S.Store self.old × IsOpen S.Store self.new) }
-        ensures ok { (b : History) → Stands S.Store b self.old → Fits (Calibrated (calibration_view calibration.now)) b
-            → OnOk result (Stands S.Store (Calibrated (calibration_view calibration.now) ∷ b) self.new) }
-        ensures err { (b : History) → Stands S.Store b self.old → OnErr result (Stands S.Store b self.new) }
-        ensures crash { LeavesOrAdds S.Store (Calibrated (calibration_view calibration.now)) self.old self.new }
-        ensures backwards { IsHonest S.Store self.new → (b : History) → Stands S.Store b self.old → result
-            ≡ Err StoreFault.Backwards
-            → IsBackwards (calibration_view calibration.now) (latest_calibration b) }
-        ensures refused { IsHonest S.Store self.new → (b : History) → Stands S.Store b self.old
-            → IsBackwards (calibration_view calibration.now) (latest_calibration b)
-            → IsErr result × LeavesAsBefore S.Store self.old self.new }
-        ensures refusals { IfErr result (λ e. (e ≡ StoreFault.Memory)
-            ⊎ ((e ≡ StoreFault.Database) ⊎ (e ≡ StoreFault.Backwards))) }
-        ensures faults { MatchResult result (λ _. self.new.faults ≡ self.old.faults) (λ e. self.new.faults
-            ≡ count_after e self.old.faults) }
-    {
+    fn seal_deposit(
+        &mut self,
+        serial: u64,
+        token: &[u8],
+        owner: &str,
+        reference: &str,
+        bytes: &[u8],
+    ) -> Result<(), StoreFault> {
+        self.base.commit(&Change::Deposit {
+            serial,
+            token,
+            owner,
+            reference,
+            bytes,
+        })?;
+        Ok(())
+    }
+
+    fn deposit(&mut self, number: u64) -> Result<Option<StampedDeposit>, StoreFault> {
+        let asked = asked_for(number);
+        let Some(deposit) = self.base.deposit(asked)? else {
+            return Ok(None);
+        };
+        let Some(stamp) = self.base.stamp(asked)? else {
+            return Ok(None);
+        };
+        Ok(Some(StampedDeposit { deposit, stamp }))
+    }
+
+    fn visible(&mut self, number: u64, account: &str) -> Result<bool, StoreFault> {
+        let asked = asked_for(number);
+        let reads = self.base.is_reader(asked, account)?;
+        if reads {
+            return Ok(true);
+        }
+        let owns = self.base.is_owner(asked, account)?;
+        Ok(owns)
+    }
+
+    fn by_reference(
+        &mut self,
+        owner: &str,
+        reference: &str,
+    ) -> Result<Option<Deposit>, StoreFault> {
+        let found = self.base.deposit_under(owner, reference)?;
+        Ok(found)
+    }
+
+    fn list(&mut self, account: &str) -> Result<Vec<Listed>, StoreFault> {
+        let mut rows = Vec::new(self.alloc);
+        let mut last = 0;
+        let mut readable = self.base.next_readable(account, 0)?;
+        while let Some(number) = self.next_seen(account, last, readable)? {
+            let row = self.listing(number)?;
+            add_listed(&mut rows, row)?;
+            readable = self.next_readable(account, number, readable)?;
+            last = number;
+        }
+        Ok(rows)
+    }
+
+    fn grant(&mut self, number: u64, account: &str) -> Result<(), StoreFault> {
+        self.base.commit(&Change::Grant {
+            serial: number,
+            account,
+        })?;
+        Ok(())
+    }
+
+    fn revoke(&mut self, number: u64, account: &str) -> Result<(), StoreFault> {
+        self.base.commit(&Change::Revoke {
+            serial: number,
+            account,
+        })?;
+        Ok(())
+    }
+
+    fn calibrate(&mut self, calibration: &Calibration) -> Result<(), StoreFault> {
         let latest = self.base.latest_calibration()?;
         if is_backwards(calibration, latest) {
             return Err(StoreFault::Backwards);
@@ -196,18 +205,7 @@ impl<S: Alter + Drop> Store<S> {
         Ok(())
     }
 
-    /// Adds a hold. The caller's condition is that its first moment is before its end.
-    pub fn hold(&mut self, hold: &Hold) -> Result<(), StoreFault>
-        ensures honest { IsHonest S.Store self.new → IsHonest S.Store self.old }
-        ensures opened { IsHonest S.Store self.new → OnOk result (IsOpen S.Store self.old × IsOpen S.Store self.new) }
-        ensures ok { (b : History) → Stands S.Store b self.old → Fits (Held (hold_view hold.now)) b
-            → OnOk result (Stands S.Store (Held (hold_view hold.now) ∷ b) self.new) }
-        ensures err { (b : History) → Stands S.Store b self.old → OnErr result (Stands S.Store b self.new) }
-        ensures crash { LeavesOrAdds S.Store (Held (hold_view hold.now)) self.old self.new }
-        ensures refusals { IfErr result (λ e. (e ≡ StoreFault.Memory) ⊎ (e ≡ StoreFault.Database)) }
-        ensures faults { MatchResult result (λ _. self.new.faults ≡ self.old.faults) (λ e. self.new.faults
-            ≡ count_after e self.old.faults) }
-    {
+    fn hold(&mut self, hold: &Hold) -> Result<(), StoreFault> {
         let greatest = self.base.greatest_hold()?;
         let Hold { from, to } = *hold;
         self.base.commit(&Change::Hold {
@@ -218,13 +216,21 @@ impl<S: Alter + Drop> Store<S> {
         Ok(())
     }
 
-    /// How many calls of the database were refused for another cause than memory, modulo 2^64. Takes no memory.
-    pub fn faults(&self) -> u64
-        ensures { result ≡ self.now.faults }
-    {
-        self.base.faults()
+    fn next_stamp(&mut self, from: u64, to: u64) -> Result<Option<Stamp>, StoreFault> {
+        let to = to.min(GREATEST);
+        if from > to {
+            return Ok(None);
+        }
+        let found = self.base.next_stamp(from, to)?;
+        Ok(only_within(found, from, to))
     }
 
+    fn faults(&self) -> u64 {
+        self.base.faults()
+    }
+}
+
+impl<S: Alter + Drop> Store<S> {
     /// The connection. Takes no memory.
     pub fn into_connection(self) -> Connection<S>
         ensures same { result ≡ self.conn }

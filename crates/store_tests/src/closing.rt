@@ -5,7 +5,7 @@ use sqlite::{Alter, Connection, FileStore, Files, Options};
 use sqlite_disk::{Disk, Memory};
 use std::alloc::Global;
 use std::test::*;
-use store::{Hold, Store, StoreFault};
+use store::{Book, Hold, Store, StoreFault};
 
 fn opened(alloc: Global) -> Result<Connection<FileStore<Memory>>, Fail> {
     let files = Files {

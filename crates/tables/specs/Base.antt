@@ -1,5 +1,5 @@
 -- What a connection with the count of its faults holds, and the words under which it keeps tables.
-use Rattle.std.specs.Prelude.{◌≡◌, ℕ, ◌+◌, ◌%◌, ◌^◌, false, IsTrue}
+use Rattle.std.specs.Prelude.{◌≡◌, ℕ, false, IsTrue}
 use Rattle.std.specs.Coded.{Coded, code_by, coded×, coded_ℕ}
 use Rattle.std.proofs.Common.{refl}
 use Rattle.sqlite.specs.Held.{Held, held_code, state}
@@ -40,7 +40,3 @@ Keeps g t k = IsHonest g k → IsOpen g k → StandsFor t (state g k.conn)
 -- what an opening after a crash at this moment may find
 abbrev pub Recovers : {S : Type 0} → Ghosts S → BaseValue S → Trees → Type 0
 Recovers g k = (state g k.conn).may_leave
-
--- the next count of faults
-abbrev pub next_count : ℕ → ℕ
-next_count n = (n + 1) % 2 ^ 64

@@ -6,7 +6,7 @@ use Rattle.tables.specs.declared.change.Change.{Change}
 use Rattle.tables.specs.declared.change.Change.TheVariants.{Reserve, Seal, Deposit, Calibrate, Hold, Grant, Revoke}
 use Rattle.tables.specs.declared.fault.TableFault.{TableFault}
 use Rattle.tables.specs.declared.fault.TableFault.TheVariants.{Memory, Database}
-use Rattle.tables.specs.Base.{next_count}
+use Rattle.book.specs.Fault.{next_count}
 
 abbrev pub applied : Change → Tables → Tables
 applied (Reserve serial account day gen_time policy algorithm digest request tst) t = with_stamp record {

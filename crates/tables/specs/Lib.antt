@@ -2,6 +2,7 @@ pub mod Asking
 pub mod Base
 pub mod Carrying
 pub mod Changes
+pub mod Faults
 pub mod Found
 pub mod Holding
 pub mod Opening

@@ -1,14 +1,14 @@
 -- What the queries show of a row.
 use Rattle.std.specs.Prelude.{◌≡◌, ◌==◌, ℕ, ℤ, ◌&&◌, Bool, List, int_le, int_lt, nat_le, nat_lt, bytes_eq, string_bytes}
-use Rattle.std.specs.Prelude.{option_map}
 use Rattle.sqlite_trees.specs.Tree.{Trees}
 use Rattle.sqlite_trees.specs.declared.store.Store.{Ghosts}
 use Rattle.tables.specs.Tables.{Tables, StampRow, CalibrationRow, HoldRow, TallyRow, DepositRow, ReaderRow}
 use Rattle.tables.specs.Base.{BaseValue, IsHonest, Keeps, Recovers}
 use Rattle.tables.specs.declared.rows.LastStamp.{LastStamp}
 use Rattle.tables.specs.declared.rows.LatestCalibration.{LatestCalibration}
-use Rattle.tables.specs.declared.rows.Stamp.{Stamp}
-use Rattle.tables.specs.declared.rows.Deposit.{Deposit}
+use Rattle.book.specs.declared.rows.Stamp.{Stamp}
+use Rattle.book.specs.declared.rows.Deposit.{Deposit}
+pub use Rattle.book.specs.Values.{stamp_view, deposit_view}
 use Rattle.tables.specs.declared.rows.Label.{Label}
 use Rattle.tables.specs.declared.rows.Origin.{Origin}
 
@@ -33,29 +33,6 @@ ShowsCount row count = count ≡ row.count
 
 abbrev pub holds_at : ℤ → HoldRow → Bool
 holds_at now row = int_le row.from now && int_lt now row.to
-
--- whole rows, as the code has them
-abbrev pub stamp_view : Stamp → StampRow
-stamp_view s = record {
-  serial = s.serial;
-  account = string_bytes s.account;
-  day = s.day;
-  gen_time = s.gen_time;
-  policy = s.policy.items;
-  algorithm = s.algorithm.items;
-  digest = s.digest.items;
-  request = s.request.items;
-  tst = s.tst.items;
-  token = option_map (λ t. t.items) s.token;
-}
-
-abbrev pub deposit_view : Deposit → DepositRow
-deposit_view d = record {
-  serial = d.serial;
-  owner = string_bytes d.owner;
-  reference = string_bytes d.reference;
-  bytes = d.bytes.items;
-}
 
 abbrev pub ShowsStamp : StampRow → Stamp → Type 0
 ShowsStamp row s = stamp_view s ≡ row

@@ -2,23 +2,9 @@
 -- takes. The order of a list says nothing. Moments and offsets are whole microseconds from 1970-01-01T00:00:00Z, days
 -- whole days from it, and texts, object identifiers and blobs are their octets.
 use Rattle.std.specs.Prelude.{ℕ, ◌+◌, ℤ, Bool, not, ◌&&◌, ◌==◌, if◌then◌else◌, List, [], ◌∷◌, map, filter, bytes_eq}
-use Rattle.std.specs.Prelude.{Option, Some}
+use Rattle.std.specs.Prelude.{Some}
 use Rattle.std.specs.List.{list_any}
-
--- a reservation of a serial number, and its token once it is sealed
-pub record StampRow : Type 0 where
-  pub serial : ℕ
-  pub account : List ℕ
-  -- the UTC day of its genTime
-  pub day : ℕ
-  pub gen_time : ℕ
-  -- the contents of the policy's and the hash algorithm's object identifiers
-  pub policy : List ℕ
-  pub algorithm : List ℕ
-  pub digest : List ℕ
-  pub request : List ℕ
-  pub tst : List ℕ
-  pub token : Option (List ℕ)
+pub use Rattle.book.specs.Rows.{StampRow, DepositRow}
 
 pub record CalibrationRow : Type 0 where
   pub n : ℕ
@@ -31,12 +17,6 @@ pub record HoldRow : Type 0 where
   pub n : ℕ
   pub from : ℤ
   pub to : ℤ
-
-pub record DepositRow : Type 0 where
-  pub serial : ℕ
-  pub owner : List ℕ
-  pub reference : List ℕ
-  pub bytes : List ℕ
 
 -- an account that may read a deposit
 pub record ReaderRow : Type 0 where

@@ -14,6 +14,7 @@ mod rows;
 mod writing;
 
 pub use base::Base;
+pub use book::{Deposit, Stamp};
 pub use change::Change;
 pub use fault::{OpenFault, TableFault};
-pub use rows::{Deposit, Label, LastStamp, LatestCalibration, Origin, Stamp};
+pub use rows::{Label, LastStamp, LatestCalibration, Origin};

@@ -16,7 +16,8 @@ ghost use Rattle.tables.specs.Shown.{stamp_shown, origin_shown, deposit_shown, l
 ghost use Rattle.tables.specs.Tables.{Tables, StampRow, DepositRow, is_stamp, is_deposit, is_deposit_of, is_reader_row};
 
 use crate::asking::{GREATEST, first_number, first_row, number, octets, octets_or_none, text};
-use crate::rows::{Deposit, Label, Origin, Stamp};
+use crate::rows::{Label, Origin};
+use book::{Deposit, Stamp};
 use sqlite::types::ValueRef;
 use sqlite::{Alter, Connection, Error, Row};
 

@@ -1,5 +1,6 @@
 //! Tokens over a database.
 use crate::setting::{CERTIFICATE, REQUEST, Setting, setting_of};
+use book::Book;
 use cms::{KeyedHash, Signer};
 use desk::{Desk, Reply};
 use policy::Account;
@@ -19,7 +20,8 @@ pub fn grants(rt: &HostRuntime, path: &str, count: u64) -> anyhow::Result<u64> {
     Ok(granted)
 }
 
-/// Answers the request as many times over a store, which it gives back, and tells how many times by a token.
+/// Answers the request as many times over a store, which it gives back, and tells how many times by a token. It takes
+/// a store over any storage for a book, so that the types of one over files aren't compared with a book's.
 fn granted_over<S: Alter + Drop, G: Signer>(
     alloc: Global,
     store: Store<S>,
@@ -27,19 +29,30 @@ fn granted_over<S: Alter + Drop, G: Signer>(
     signer: &mut G,
     count: u64,
 ) -> (Store<S>, u64) {
+    granted_by(alloc, store, setting, signer, count)
+}
+
+/// The same over any book.
+fn granted_by<B: Book + Drop, G: Signer>(
+    alloc: Global,
+    book: B,
+    setting: &Setting,
+    signer: &mut G,
+    count: u64,
+) -> (B, u64) {
     let mut desk = Desk::new(
         alloc,
         &setting.policy,
         &setting.identity,
         &setting.algorithm,
-        store,
+        book,
     );
     let granted = answered(&mut desk, setting.policy.anonymous(), signer, count);
     (desk.into_store(), granted)
 }
 
-fn answered<S: Alter + Drop, G: Signer>(
-    desk: &mut Desk<'_, S>,
+fn answered<B: Book + Drop, G: Signer>(
+    desk: &mut Desk<'_, B>,
     account: Option<&Account>,
     signer: &mut G,
     count: u64,

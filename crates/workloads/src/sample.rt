@@ -2,7 +2,7 @@
 use sqlite::{Alter, Connection};
 use sqlite_disk::Unknown;
 use std::alloc::Global;
-use store::{Calibration, Hold, Reservation, Store, StoreFault};
+use store::{Book, Calibration, Hold, Reservation, Store, StoreFault};
 
 /// The octets of a reservation's parts, of no meaning to the store.
 const OCTETS: &[u8] = b"\x88\x37";

@@ -7,7 +7,7 @@ use sqlite::{Connection, MemStore};
 use std::alloc::Global;
 use std::net::TcpListener;
 use std::time::Duration;
-use store::{Calibration, Store};
+use store::{Book, Calibration, Store};
 
 /// A store in memory with one calibration, at that reading, of a clock that is right.
 fn calibrated(alloc: Global, reading: i64) -> anyhow::Result<Store<MemStore>> {

@@ -15,7 +15,8 @@ ghost use Rattle.tables.specs.Changes.{IsCounted};
 use super::Base;
 use crate::fault::TableFault;
 use crate::lookups;
-use crate::rows::{Deposit, Label, Origin, Stamp};
+use crate::rows::{Label, Origin};
+use book::{Deposit, Stamp};
 use sqlite::Alter;
 
 impl<S: Alter + Drop> Base<S> {

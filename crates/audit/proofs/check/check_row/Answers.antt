@@ -1,4 +1,4 @@
-use Rattle.tables.specs.Queries.{stamp_view}
+use Rattle.book.specs.Values.{stamp_view}
 use Rattle.tsp.specs.View.{request_view, tst_view}
 use Rattle.audit.proofs.Checks.{none_consistent, tells_consistent}
 use Rattle.audit.proofs.check.check_row.Goals as goal

@@ -5,8 +5,8 @@ use Rattle.audit.proofs.extracting.count_octets.Given as goal
 
 abbrev pub invariant-loop-line : goal.invariant-loop-line
 invariant-loop-line g l =
-    HasCounted g.S.Store l.fn.store l.walk.store.now l.from l.to l.octets l.walk.from l.walk.to
-    × (l.walk.store.ghost_name ≡ l.initial.walk.store.ghost_name)
+    HasCounted g.B.Standing l.fn.store l.walk.book.now l.from l.to l.octets l.walk.from l.walk.to
+    × (l.walk.book.ghost_name ≡ l.initial.walk.book.ghost_name)
 
 abbrev pub decreases-loop-line : goal.decreases-loop-line
 decreases-loop-line g l = l.walk.to + 1 - l.walk.from

@@ -1,4 +1,4 @@
-use Rattle.tables.specs.Queries.{stamp_view}
+use Rattle.book.specs.Values.{stamp_view}
 use Rattle.audit.proofs.extracting.next_line.Goals as goal
 
 pub returns-in_ok-line_of-in-Some-clause-line : goal.returns-in_ok-line_of-in-Some-clause-line

@@ -11,14 +11,14 @@ write_line-requires-clause-some g c = some_header c.header.result.now c.header.e
 pub returns-in_err-write_line-clause-written : goal.returns-in_err-write_line-clause-written
 returns-in_err-write_line-clause-written g c =
     let failing = err_from_is_err_and c.from_residual.result c.from_residual.ensures.1 in
-    cut_first g.S.Store _ _ _ _ _ _ _ _ _ _ (failing.1 ∙ ap Err failing.2) c.requires c.header.ensures
+    cut_first g.B.Standing _ _ _ _ _ _ _ _ _ _ (failing.1 ∙ ap Err failing.2) c.requires c.header.ensures
     c.in_err-write_line.ensures.written
 
 pub loop-line-init : goal.loop-line-init
 loop-line-init g c =
-    let walk = c.stamps_between-walk.ensures in
+    let walk = c.of-walk.ensures in
     rw (walk.begun, walk.from, walk.to) (
-      begun g.S.Store _ _ _ _ _ _ _ _ c.requires c.header.ensures c.in_ok-write_line.ensures.written,
+      begun g.B.Standing _ _ _ _ _ _ _ _ c.requires c.header.ensures c.in_ok-write_line.ensures.written,
       c.in_ok-write_line.ensures.within,
       refl,
     )
@@ -32,7 +32,7 @@ write_line-requires-in-Some-clause-some g c =
 pub loop-line-preserved : goal.loop-line-preserved
 loop-line-preserved g c =
     let line = subst (λ found. IfSome found IsLine) c.in-Some.is c.in_ok-line.ensures.line in (
-      added g.S.Store _ _ _ _ _ _ _ _ _ _ _ _ _ _ c.deref.result.now line.0 c.loop-line.invariant.0
+      added g.B.Standing _ _ _ _ _ _ _ _ _ _ _ _ _ _ c.deref.result.now line.0 c.loop-line.invariant.0
           c.in_ok-line.ensures.looks c.in_ok-line.ensures.faults (c.deref.ensures.value ∙ line.1)
           (λ h b s. next_left _ _ _ _ _ c.in-Some.is c.deref.ensures.value (c.in_ok-line.ensures.value h b s))
           c.in_ok-write_line-2.ensures.written,
@@ -46,11 +46,11 @@ returns-in_err-write_line-2-clause-written g c =
     c.from_residual-in_err-write_line-2.ensures.1 in
     let line = subst (λ found. IfSome found IsLine) c.in-Some.is c.in_ok-line.ensures.line in
     let store = c.in_err-write_line-2.store-in-Break-branch-4-1-own.given.0 in
-    let same : c.next_line.new.walk.store.now ≡ store = search rules in
-    subst (λ s. Writes g.S.Store c.args.store.now s (g.W.Write.contents c.args.out.now)
+    let same : c.next_line.new.walk.book.now ≡ store = search rules in
+    subst (λ s. Writes g.B.Standing c.args.store.now s (g.W.Write.contents c.args.out.now)
     (g.W.Write.contents c.write_line-in-Some.new.out) c.args.from c.args.to c.write_line-in-Some.new.octets
     c.from_residual-in_err-write_line-2.result) same
-    (cut_later g.S.Store _ _ _ _ _ _ _ _ _ _ _ _ _ _ c.deref.result.now line.0 _ _ (failing.1 ∙ ap Err failing.2)
+    (cut_later g.B.Standing _ _ _ _ _ _ _ _ _ _ _ _ _ _ c.deref.result.now line.0 _ _ (failing.1 ∙ ap Err failing.2)
     c.loop-line.invariant.0 c.in_ok-line.ensures.looks (c.deref.ensures.value ∙ line.1)
     (λ h b s. next_left _ _ _ _ _ c.in-Some.is c.deref.ensures.value (c.in_ok-line.ensures.value h b s))
     c.in_err-write_line-2.ensures.written)

@@ -5,9 +5,9 @@ use Rattle.audit.proofs.extracting.write_stamps.Given as goal
 
 abbrev pub invariant-loop-line : goal.invariant-loop-line
 invariant-loop-line g l =
-    HasWritten g.S.Store l.fn.store l.walk.store.now (g.W.Write.contents l.fn.out) (g.W.Write.contents l.out) l.from
+    HasWritten g.B.Standing l.fn.store l.walk.book.now (g.W.Write.contents l.fn.out) (g.W.Write.contents l.out) l.from
     l.to l.octets l.walk.from l.walk.to
-    × (l.octets ≤ l.limit) × (l.walk.store.ghost_name ≡ l.initial.walk.store.ghost_name)
+    × (l.octets ≤ l.limit) × (l.walk.book.ghost_name ≡ l.initial.walk.book.ghost_name)
 
 abbrev pub decreases-loop-line : goal.decreases-loop-line
 decreases-loop-line g l = l.walk.to + 1 - l.walk.from

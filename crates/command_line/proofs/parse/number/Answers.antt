@@ -16,7 +16,6 @@ returns-then-number-numbers-clause-stated c =
 pub returns-in_err-number-clause-none : goal.returns-in_err-number-clause-none
 returns-in_err-number-clause-none c =
     λ _ number states least most.
-    let bound = c.args.numbers.small_most in
     let small : number < 2 ^ 64 = omega arith in
     unread_number (λ t r. ParsesUnsigned 64 10 t r × ExplainsUnsignedError 10 t r × HasUnsignedDigitsIfOk t r)
     (found_of c.args.matches.now) c.args.name.now c.get_one.result number c.get_one.ensures.value

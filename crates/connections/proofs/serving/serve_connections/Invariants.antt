@@ -4,6 +4,6 @@ use Rattle.connections.proofs.serving.serve_connections.Given as goal
 
 abbrev pub invariant-loop-connection : goal.invariant-loop-connection
 invariant-loop-connection g l =
-    IsServedBy g.C.Clock.reads g.S.Store g.G.Signer.signs g.G.Signer.fault_count l._connection
+    IsServedBy g.C.Clock.reads g.B.Standing g.G.Signer.signs g.G.Signer.fault_count l._connection
     (record { clock = l.fn.clock; desk = l.fn.desk; signer = l.fn.signer })
     (record { clock = l.clock; desk = l.desk; signer = l.signer })

@@ -11,7 +11,7 @@ returns-clause-turn g c =
     served.new.signer in
     let fits : SFits w64 c.in-Ok.reading = search rules in
     let P : ℤ → Type 0 =
-    λ r. Serves g.S.Store g.G.Signer.signs g.G.Signer.fault_count nothing_told r t served.result in
+    λ r. Serves g.B.Standing g.G.Signer.signs g.G.Signer.fault_count nothing_told r t served.result in
     record {
       setting = served.ensures.setting;
       honest = served.ensures.honest;
@@ -19,7 +19,7 @@ returns-clause-turn g c =
         reading = c.in-Ok.reading;
         given = c.in-Ok.ensures;
         outcome = served.result;
-        serves = serves g.S.Store g.G.Signer.signs g.G.Signer.fault_count c.in-Ok.reading t served.result
+        serves = serves g.B.Standing g.G.Signer.signs g.G.Signer.fault_count c.in-Ok.reading t served.result
             (subst P (to_z-of_z fits) served.ensures.served);
       });
     }

@@ -1,6 +1,6 @@
 use Rattle.std.proofs.Common.{[], Ok, Err, sym, subst, SFits, w64, to_z-of_z, rules}
 use Rattle.decide.specs.View.{account_asked}
-use Rattle.store.specs.History.{greatest_serial}
+use Rattle.book.specs.History.{greatest_serial}
 use Rattle.desk.specs.Calls.{refused, opening_view, plan_of, finding_of, HasLast}
 use Rattle.desk.specs.Command.{Begin, Rejected}
 use Rattle.desk.specs.Findings.{Finds}
@@ -15,7 +15,7 @@ returns-in-Err-clause-step g c =
     let reading : SFits w64 c.args.reading = search rules in
     let s = opening_view c.args.opening in
     let account = account_asked c.args.account in
-    leaves_open g.S.Store s account c.args.reading c.args.query.now c.args.store.now c.find.new.store
+    leaves_open g.B.Standing s account c.args.reading c.args.query.now c.args.store.now c.find.new.store
     c.in-Err.refusal c.in-Err.ensures.refusals c.in-Err.ensures.looks c.in-Err.ensures.counted
     (λ honest b st. subst (λ x. Finds s.file account x c.args.query.now (refused c.in-Err.refusal) b
     (finding_of (Err c.in-Err.refusal))) (to_z-of_z reading) (c.in-Err.ensures.finds honest b st))
@@ -26,9 +26,9 @@ returns-in-Ok-Fails-clause-step g c =
     let s = opening_view c.args.opening in
     let account = account_asked c.args.account in
     let octets = c.args.query.now in
-    subst (λ x. StepsBy g.S.Store no_signer s (Begin account c.args.reading octets) (all_fine (Ok [])) c.args.store.now
-    c.find.new.store (Rejected x)) (sym c.of.ensures)
-    (rejects g.S.Store s account c.args.reading octets (all_fine (Ok [])) c.args.store.now c.find.new.store
+    subst (λ x. StepsBy g.B.Standing no_signer s (Begin account c.args.reading octets) (all_fine (Ok []))
+    c.args.store.now c.find.new.store (Rejected x)) (sym c.of.ensures)
+    (rejects g.B.Standing s account c.args.reading octets (all_fine (Ok [])) c.args.store.now c.find.new.store
     c.in-Ok-Fails.rule c.in-Ok-Fails.ensures.looks c.in-Ok-Fails.ensures.counted
     (λ honest b st. subst (λ (f : Found). Finds s.file account c.args.reading octets (all_fine (Ok [])) b
     (finding_of (Ok f))) c.in-Ok-Fails.field-0-is
@@ -41,7 +41,7 @@ returns-in-Ok-clause-step g c =
     let s = opening_view c.args.opening in
     let account = account_asked c.args.account in
     let octets = c.args.query.now in
-    reserves_after g.S.Store s account c.args.reading octets c.args.store.now c.find.new.store
+    reserves_after g.B.Standing s account c.args.reading octets c.args.store.now c.find.new.store
     c.reserve_next.new.store (plan_of c.in-Ok-Allows.planned) c.in-Ok-Allows.planned.last c.name_of.result.now
     (Ok c.in-Ok.pending) c.name_of.ensures tt c.in-Ok-Allows.ensures.looks
     c.in-Ok-Allows.ensures.counted
@@ -64,7 +64,7 @@ returns-in-Err-reserve_next-clause-step g c =
     let account = account_asked c.args.account in
     let octets = c.args.query.now in
     let refusal = c.in-Err-reserve_next.refusal in
-    reserves_after g.S.Store s account c.args.reading octets c.args.store.now c.find.new.store
+    reserves_after g.B.Standing s account c.args.reading octets c.args.store.now c.find.new.store
     c.reserve_next.new.store (plan_of c.in-Ok-Allows.planned) c.in-Ok-Allows.planned.last c.name_of.result.now
     (Err refusal) c.name_of.ensures c.in-Err-reserve_next.ensures.refusals
     c.in-Ok-Allows.ensures.looks c.in-Ok-Allows.ensures.counted

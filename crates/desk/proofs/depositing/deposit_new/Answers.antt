@@ -27,13 +27,13 @@ returns-in-Err-clause-step g c =
     let octets = octets_for s.file a bytes in
     let deposit = Deposit a c.args.reading reference bytes in
     let r = c.in-Err.refusal in
-    let begin = subst (λ x. StepsBy g.S.Store no_signer s (Begin (Some a) x octets) (refused r) c.args.store.now
+    let begin = subst (λ x. StepsBy g.B.Standing no_signer s (Begin (Some a) x octets) (refused r) c.args.store.now
     c.begin.new.store (Refused (fault_of (cause_with r)))) (to_z-of_z reading) c.in-Err.ensures.step in (
       refused r,
-      subst (λ (x : Fault). StepsWhere g.S.Store (with_signer g.X.Signer.signs g.X.Signer.fault_count
+      subst (λ (x : Fault). StepsWhere g.B.Standing (with_signer g.X.Signer.signs g.X.Signer.fault_count
           c.args.signer.now c.args.signer.now) s deposit (IsUnused a reference) (refused r) c.args.store.now
           c.begin.new.store (Refused x)) (sym c.from.ensures)
-          (is_refused g.S.Store g.X.Signer.signs g.X.Signer.fault_count c.args.signer.now s deposit a c.args.reading
+          (is_refused g.B.Standing g.X.Signer.signs g.X.Signer.fault_count c.args.signer.now s deposit a c.args.reading
           reference bytes octets (IsUnused a reference) c.args.store.now c.begin.new.store r
           (new_deposit s a c.args.reading reference bytes c.requires.few c.begin.ensures.spelled)
           c.in-Err.ensures.refusals begin),
@@ -47,12 +47,12 @@ returns-in-Ok-Rejected-clause-step g c =
     let reference = c.args.reference.now in
     let bytes = c.args.bytes.now in
     let octets = octets_for s.file a bytes in
-    let begin = subst (λ (f : Begun). StepsBy g.S.Store no_signer s (Begin (Some a) c.args.reading octets)
+    let begin = subst (λ (f : Begun). StepsBy g.B.Standing no_signer s (Begin (Some a) c.args.reading octets)
     (all_fine (Ok [])) c.args.store.now c.begin.new.store (begun_as f)) c.in-Ok-Rejected.field-0-is
-    (subst (λ x. StepsBy g.S.Store no_signer s (Begin (Some a) x octets) (all_fine (Ok [])) c.args.store.now
+    (subst (λ x. StepsBy g.B.Standing no_signer s (Begin (Some a) x octets) (all_fine (Ok [])) c.args.store.now
     c.begin.new.store (begun_as c.in-Ok-Rejected.field-0)) (to_z-of_z reading) c.in-Ok-Rejected.ensures.step) in (
       all_fine (Ok []),
-      is_rejected g.S.Store g.X.Signer.signs g.X.Signer.fault_count c.args.signer.now s
+      is_rejected g.B.Standing g.X.Signer.signs g.X.Signer.fault_count c.args.signer.now s
           (Deposit a c.args.reading reference bytes) a c.args.reading reference bytes octets (IsUnused a reference)
           c.args.store.now c.begin.new.store c.in-Ok-Rejected.rejection.rule
           (new_deposit s a c.args.reading reference bytes c.requires.few c.begin.ensures.spelled) begin,
@@ -67,17 +67,17 @@ returns-in-Ok-clause-step g c =
     let bytes = c.args.bytes.now in
     let octets = octets_for s.file a bytes in
     let p = c.in-Ok-Pending.pending in
-    let begin = subst (λ (f : Begun). StepsBy g.S.Store no_signer s (Begin (Some a) c.args.reading octets)
+    let begin = subst (λ (f : Begun). StepsBy g.B.Standing no_signer s (Begin (Some a) c.args.reading octets)
     (all_fine (Ok [])) c.args.store.now c.begin.new.store (begun_as f)) c.in-Ok-Pending.field-0-is
-    (subst (λ x. StepsBy g.S.Store no_signer s (Begin (Some a) x octets) (all_fine (Ok [])) c.args.store.now
+    (subst (λ x. StepsBy g.B.Standing no_signer s (Begin (Some a) x octets) (all_fine (Ok [])) c.args.store.now
     c.begin.new.store (begun_as c.in-Ok-Pending.field-0)) (to_z-of_z reading) c.in-Ok-Pending.ensures.step) in
     let done = c.in-Ok.ensures.keeps in
-    let keeps = subst (λ (n : List ℕ). SignsAndKeeps g.S.Store (with_signer g.X.Signer.signs g.X.Signer.fault_count
+    let keeps = subst (λ (n : List ℕ). SignsAndKeeps g.B.Standing (with_signer g.X.Signer.signs g.X.Signer.fault_count
     c.args.signer.now c.sign_and_seal.new.signer) p (deposit_row p.serial n reference bytes) done.0 done.1
     c.begin.new.store c.sign_and_seal.new.store (deposited_as c.in-Ok.deposited)) c.as_str-owner.ensures.value
     done.2 in (
       joined (all_fine (Ok [])) done.0 done.1,
-      is_kept g.S.Store g.X.Signer.signs g.X.Signer.fault_count c.args.signer.now c.sign_and_seal.new.signer s
+      is_kept g.B.Standing g.X.Signer.signs g.X.Signer.fault_count c.args.signer.now c.sign_and_seal.new.signer s
           (Deposit a c.args.reading reference bytes) a c.args.reading reference bytes octets (IsUnused a reference) p
           done.0 done.1 c.args.store.now c.begin.new.store c.sign_and_seal.new.store (deposited_as c.in-Ok.deposited)
           (new_deposit s a c.args.reading reference bytes c.requires.few c.begin.ensures.spelled) begin
@@ -94,21 +94,21 @@ returns-in-Err-sign_and_seal-clause-step g c =
     let octets = octets_for s.file a bytes in
     let p = c.in-Ok-Pending.pending in
     let deposit = Deposit a c.args.reading reference bytes in
-    let begin = subst (λ (f : Begun). StepsBy g.S.Store no_signer s (Begin (Some a) c.args.reading octets)
+    let begin = subst (λ (f : Begun). StepsBy g.B.Standing no_signer s (Begin (Some a) c.args.reading octets)
     (all_fine (Ok [])) c.args.store.now c.begin.new.store (begun_as f)) c.in-Ok-Pending.field-0-is
-    (subst (λ x. StepsBy g.S.Store no_signer s (Begin (Some a) x octets) (all_fine (Ok [])) c.args.store.now
+    (subst (λ x. StepsBy g.B.Standing no_signer s (Begin (Some a) x octets) (all_fine (Ok [])) c.args.store.now
     c.begin.new.store (begun_as c.in-Ok-Pending.field-0)) (to_z-of_z reading) c.in-Ok-Pending.ensures.step) in
     let done = c.in-Err-sign_and_seal.ensures.keeps in
     let refused = Refused (fault_of (cause_with c.in-Err-sign_and_seal.refusal)) in
-    let keeps = subst (λ (n : List ℕ). SignsAndKeeps g.S.Store (with_signer g.X.Signer.signs g.X.Signer.fault_count
+    let keeps = subst (λ (n : List ℕ). SignsAndKeeps g.B.Standing (with_signer g.X.Signer.signs g.X.Signer.fault_count
     c.args.signer.now c.sign_and_seal.new.signer) p (deposit_row p.serial n reference bytes) done.0 done.1
     c.begin.new.store c.sign_and_seal.new.store refused) c.as_str-owner.ensures.value done.2 in (
       joined (all_fine (Ok [])) done.0 done.1,
-      subst (λ (x : Fault). StepsWhere g.S.Store (with_signer g.X.Signer.signs g.X.Signer.fault_count
+      subst (λ (x : Fault). StepsWhere g.B.Standing (with_signer g.X.Signer.signs g.X.Signer.fault_count
           c.args.signer.now c.sign_and_seal.new.signer) s deposit (IsUnused a reference)
           (joined (all_fine (Ok [])) done.0 done.1) c.args.store.now c.sign_and_seal.new.store (Refused x))
           (sym c.from-in-Err-sign_and_seal.ensures)
-          (is_kept g.S.Store g.X.Signer.signs g.X.Signer.fault_count c.args.signer.now c.sign_and_seal.new.signer s
+          (is_kept g.B.Standing g.X.Signer.signs g.X.Signer.fault_count c.args.signer.now c.sign_and_seal.new.signer s
           deposit a c.args.reading reference bytes octets (IsUnused a reference) p done.0 done.1 c.args.store.now
           c.begin.new.store c.sign_and_seal.new.store refused
           (new_deposit s a c.args.reading reference bytes c.requires.few c.begin.ensures.spelled) begin

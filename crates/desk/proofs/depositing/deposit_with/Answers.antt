@@ -18,7 +18,7 @@ use Rattle.desk.proofs.depositing.deposit_with.Goals as goal
 pub returns-then-bytes-gt-MOST-clause-step : goal.returns-then-bytes-gt-MOST-clause-step
 returns-then-bytes-gt-MOST-clause-step g c = (
   all_fine (Ok []),
-  is_too_large g.S.Store g.X.Signer.signs g.X.Signer.fault_count c.args.signer.now (opening_view c.args.opening)
+  is_too_large g.B.Standing g.X.Signer.signs g.X.Signer.fault_count c.args.signer.now (opening_view c.args.opening)
       (account_view c.args.account.now) c.args.reading c.args.reference.now c.args.bytes.now c.args.store.now
       (omega arith),
 )
@@ -29,10 +29,10 @@ returns-in-Err-clause-step g c =
     let a = account_view c.args.account.now in
     let f = c.in-Err.fault in (
       unsearched f,
-      subst (λ (x : Fault). StepsBy g.S.Store (with_signer g.X.Signer.signs g.X.Signer.fault_count
+      subst (λ (x : Fault). StepsBy g.B.Standing (with_signer g.X.Signer.signs g.X.Signer.fault_count
           c.args.signer.now c.args.signer.now) s (Deposit a c.args.reading c.args.reference.now c.args.bytes.now)
           (unsearched f) c.args.store.now c.find_known.new.store (Refused x)) (sym c.from.ensures)
-          (is_unsearched g.S.Store g.X.Signer.signs g.X.Signer.fault_count c.args.signer.now s a c.args.reading
+          (is_unsearched g.B.Standing g.X.Signer.signs g.X.Signer.fault_count c.args.signer.now s a c.args.reading
           c.args.reference.now c.args.bytes.now c.args.store.now c.find_known.new.store f
           (is_few (length c.args.bytes.now) (omega arith)) c.in-Err.ensures.refusals c.in-Err.ensures.looks
           c.in-Err.ensures.faults),
@@ -45,7 +45,7 @@ returns-in-Ok-Same-clause-step g c =
     let bytes = c.args.bytes.now in
     let reference = c.args.reference.now in (
       all_fine (Ok []),
-      is_same g.S.Store g.X.Signer.signs g.X.Signer.fault_count c.args.signer.now s a c.args.reading reference bytes
+      is_same g.B.Standing g.X.Signer.signs g.X.Signer.fault_count c.args.signer.now s a c.args.reading reference bytes
           c.args.store.now c.find_known.new.store c.as_str.result.now c.in-Ok-Same.field-0
           c.in-Ok-Same.number (is_few (length bytes) (omega arith)) c.in-Ok-Same.ensures.looks
           c.in-Ok-Same.ensures.faults c.as_str.ensures.value c.in-Ok-Same.field-0-is c.in-Ok-Same.ensures.value,
@@ -58,7 +58,7 @@ returns-in-Ok-Other-clause-step g c =
     let bytes = c.args.bytes.now in
     let reference = c.args.reference.now in (
       all_fine (Ok []),
-      is_other g.S.Store g.X.Signer.signs g.X.Signer.fault_count c.args.signer.now s a c.args.reading reference bytes
+      is_other g.B.Standing g.X.Signer.signs g.X.Signer.fault_count c.args.signer.now s a c.args.reading reference bytes
           c.args.store.now c.find_known.new.store c.as_str.result.now c.in-Ok-Other.field-0
           (is_few (length bytes) (omega arith)) c.in-Ok-Other.ensures.looks c.in-Ok-Other.ensures.faults
           c.as_str.ensures.value c.in-Ok-Other.field-0-is c.in-Ok-Other.ensures.value,
@@ -74,10 +74,10 @@ returns-in-Ok-Nothing-clause-step g c =
     let t = with_signer g.X.Signer.signs g.X.Signer.fault_count c.args.signer.now c.deposit_new.new.signer in
     let said = answered deposited_as c.deposit_new.result in
     let done = c.deposit_new.ensures.step in
-    let step = subst (λ x. StepsWhere g.S.Store t s (Deposit a x reference bytes) (IsUnused a reference) done.0
+    let step = subst (λ x. StepsWhere g.B.Standing t s (Deposit a x reference bytes) (IsUnused a reference) done.0
     c.find_known.new.store c.deposit_new.new.store said) (to_z-of_z reading) done.1 in (
       done.0,
-      is_after g.S.Store t s (Deposit a c.args.reading reference bytes) (IsUnused a reference) done.0
+      is_after g.B.Standing t s (Deposit a c.args.reading reference bytes) (IsUnused a reference) done.0
           c.args.store.now c.find_known.new.store c.deposit_new.new.store said c.in-Ok-Nothing.ensures.looks
           c.in-Ok-Nothing.ensures.faults
           (λ honest b st. is_unused a bytes reference b c.as_str.result.now c.in-Ok-Nothing.field-0

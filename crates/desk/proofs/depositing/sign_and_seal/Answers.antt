@@ -38,7 +38,7 @@ returns-clause-keeps g c =
       record {
         signer = c.in-Err.ensures.counted ∙ signer_counted ⊥ fault (g.X.Signer.fault_count c.args.signer.now);
         moves = signed;
-        keeps = unsigned g.S.Store c.args.pending
+        keeps = unsigned g.B.Standing c.args.pending
             (deposit_row c.args.pending.serial c.args.owner.now c.args.reference.now c.args.bytes.now) fault
             c.args.store.now;
       },

@@ -1,6 +1,6 @@
 use Rattle.std.proofs.Common.{◌≡◌, true, false, Err, ap}
-use Rattle.store.specs.History.{Calibrated, latest_calibration}
-use Rattle.store.specs.Values.{calibration_view}
+use Rattle.book.specs.History.{Calibrated, latest_calibration}
+use Rattle.book.specs.Values.{calibration_view}
 use Rattle.desk.specs.Command.{Calibrate}
 use Rattle.desk.specs.Effects.{is_backwards}
 use Rattle.desk.proofs.Added.{enters_as, refuses_by, backwards_where, is_backwards_where}
@@ -9,7 +9,7 @@ use Rattle.desk.proofs.entering.calibrate_by.Goals as goal
 pub returns-in-Ok-clause-step : goal.returns-in-Ok-clause-step
 returns-in-Ok-clause-step g c s =
     let x = calibration_view c.args.calibration.now in
-    enters_as g.S.Store s (Calibrate x) (Calibrated x) (λ b. is_backwards x (latest_calibration b)) c.args.store.now
+    enters_as g.B.Standing s (Calibrate x) (Calibrated x) (λ b. is_backwards x (latest_calibration b)) c.args.store.now
     c.calibrate.new.self (record { has = λ o b e h. h; fits = λ b m. m }) c.in-Ok.ensures.faults c.in-Ok.ensures.opened
     c.in-Ok.ensures.ok
     (λ honest b stands e.
@@ -20,7 +20,7 @@ returns-in-Ok-clause-step g c s =
 pub returns-in-Err-clause-step : goal.returns-in-Err-clause-step
 returns-in-Err-clause-step g c s =
     let x = calibration_view c.args.calibration.now in
-    refuses_by g.S.Store s (Calibrate x) (Calibrated x) (λ b. is_backwards x (latest_calibration b)) c.args.store.now
+    refuses_by g.B.Standing s (Calibrate x) (Calibrated x) (λ b. is_backwards x (latest_calibration b)) c.args.store.now
     c.calibrate.new.self c.in-Err.fault (record { has = λ o b e h. h; fits = λ b m. m }) c.in-Err.ensures.refusals
     c.in-Err.ensures.faults c.in-Err.ensures.err c.in-Err.ensures.crash
     (λ honest b stands e. is_backwards_where x (latest_calibration b)

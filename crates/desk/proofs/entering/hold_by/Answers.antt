@@ -1,6 +1,6 @@
 use Rattle.std.proofs.Common.{false, inl, inr}
-use Rattle.store.specs.History.{Held}
-use Rattle.store.specs.Values.{hold_view}
+use Rattle.book.specs.History.{Held}
+use Rattle.book.specs.Values.{hold_view}
 use Rattle.desk.specs.Command.{Hold}
 use Rattle.desk.proofs.Added.{enters_as, refuses_by}
 use Rattle.desk.proofs.entering.hold_by.Goals as goal
@@ -8,14 +8,14 @@ use Rattle.desk.proofs.entering.hold_by.Goals as goal
 pub returns-in-Ok-clause-step : goal.returns-in-Ok-clause-step
 returns-in-Ok-clause-step g c s =
     let x = hold_view c.args.hold.now in
-    enters_as g.S.Store s (Hold x) (Held x) (λ b. false) c.args.store.now c.hold.new.self
+    enters_as g.B.Standing s (Hold x) (Held x) (λ b. false) c.args.store.now c.hold.new.self
     (record { has = λ o b e h. h; fits = λ b m. m }) c.in-Ok.ensures.faults c.in-Ok.ensures.opened c.in-Ok.ensures.ok
     (λ honest b stands e. cc)
 
 pub returns-in-Err-clause-step : goal.returns-in-Err-clause-step
 returns-in-Err-clause-step g c s =
     let x = hold_view c.args.hold.now in
-    refuses_by g.S.Store s (Hold x) (Held x) (λ b. false) c.args.store.now c.hold.new.self c.in-Err.fault
+    refuses_by g.B.Standing s (Hold x) (Held x) (λ b. false) c.args.store.now c.hold.new.self c.in-Err.fault
     (record { has = λ o b e h. h; fits = λ b m. m })
     (elim c.in-Err.ensures.refusals [ inl e ↦ inl e | inr e ↦ inr (inl e) ]) c.in-Err.ensures.faults
     c.in-Err.ensures.err c.in-Err.ensures.crash (λ honest b stands e. absurd (elim c.in-Err.ensures.refusals [

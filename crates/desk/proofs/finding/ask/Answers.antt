@@ -37,7 +37,7 @@ returns-in_default-clause-finds g c honest b st octets spelled short judged =
 
 pub returns-in-Err-count-clause-looks : goal.returns-in-Err-count-clause-looks
 returns-in-Err-count-clause-looks g c =
-    looks_then g.S.Store _ _ _ c.in-Ok.ensures.looks c.in-Err-count.ensures.looks
+    looks_then g.B.Standing _ _ _ c.in-Ok.ensures.looks c.in-Err-count.ensures.looks
 
 pub returns-in-Err-count-clause-finds : goal.returns-in-Err-count-clause-finds
 returns-in-Err-count-clause-finds g c honest b st octets spelled short judged =
@@ -56,7 +56,7 @@ returns-in-Err-count-clause-finds g c honest b st octets spelled short judged =
 
 pub returns-in-Deny-clause-looks : goal.returns-in-Deny-clause-looks
 returns-in-Deny-clause-looks g c =
-    looks_then g.S.Store _ _ _ c.in-Ok.ensures.looks c.in-Ok-count.ensures.looks
+    looks_then g.B.Standing _ _ _ c.in-Ok.ensures.looks c.in-Ok-count.ensures.looks
 
 pub returns-in-Deny-clause-finds : goal.returns-in-Deny-clause-finds
 returns-in-Deny-clause-finds g c honest b st octets spelled short judged =
@@ -77,7 +77,7 @@ returns-in-Deny-clause-finds g c honest b st octets spelled short judged =
 
 pub returns-in-Allow-clause-looks : goal.returns-in-Allow-clause-looks
 returns-in-Allow-clause-looks g c =
-    looks_then g.S.Store _ _ _ c.in-Ok.ensures.looks c.in-Ok-count.ensures.looks
+    looks_then g.B.Standing _ _ _ c.in-Ok.ensures.looks c.in-Ok-count.ensures.looks
 
 pub returns-in-Allow-clause-finds : goal.returns-in-Allow-clause-finds
 returns-in-Allow-clause-finds g c honest b st octets spelled short judged =

@@ -17,7 +17,7 @@ returns-in-Ok-finish_with-clause-completes g c s =
     (sym c.deref.ensures.value) c.in-Ok.ensures.signs) in (
       Ok lent,
       all_fine (Ok []),
-      completes_sealed g.S.Store g.X.Signer.signs g.X.Signer.fault_count c.args.signer.now c.sign.new.self s
+      completes_sealed g.B.Standing g.X.Signer.signs g.X.Signer.fault_count c.args.signer.now c.sign.new.self s
           c.args.pending lent c.args.store.now c.finish_with.new.store _ (c.in-Ok-finish_with.ensures.step s)
           sized c.in-Ok.ensures.counted signed,
     )
@@ -32,10 +32,10 @@ returns-in-Ok-clause-completes g c s =
     let refusal = c.in-Err-finish_with.field-0 in (
       Ok lent,
       refused refusal,
-      subst (λ (a : Answer). Completes g.S.Store (with_signer g.X.Signer.signs g.X.Signer.fault_count
+      subst (λ (a : Answer). Completes g.B.Standing (with_signer g.X.Signer.signs g.X.Signer.fault_count
           c.args.signer.now c.sign.new.self) c.args.pending (Ok lent) (refused refusal) c.args.store.now
           c.finish_with.new.store a) (sym c.no_answer.ensures)
-          (completes_refused g.S.Store g.X.Signer.signs g.X.Signer.fault_count c.args.signer.now c.sign.new.self s
+          (completes_refused g.B.Standing g.X.Signer.signs g.X.Signer.fault_count c.args.signer.now c.sign.new.self s
           c.args.pending lent refusal c.args.store.now c.finish_with.new.store c.in-Err-finish_with.ensures.refusals
           (c.in-Err-finish_with.ensures.step s) sized c.in-Ok.ensures.counted signed),
     )
@@ -47,10 +47,10 @@ returns-clause-completes g c s =
     c.text.ensures c.in-Err.ensures.signs in (
       Err fault,
       all_fine (Ok []),
-      subst (λ (a : Answer). Completes g.S.Store (with_signer g.X.Signer.signs g.X.Signer.fault_count
+      subst (λ (a : Answer). Completes g.B.Standing (with_signer g.X.Signer.signs g.X.Signer.fault_count
           c.args.signer.now c.sign.new.self) c.args.pending (Err fault) (all_fine (Ok [])) c.args.store.now
           c.args.store.now a) (sym c.no_answer-in-Err.ensures)
-          (completes_unsigned g.S.Store g.X.Signer.signs g.X.Signer.fault_count c.args.signer.now c.sign.new.self
+          (completes_unsigned g.B.Standing g.X.Signer.signs g.X.Signer.fault_count c.args.signer.now c.sign.new.self
           c.args.pending fault c.args.store.now
           (c.in-Err.ensures.counted ∙ signer_counted ⊥ fault (g.X.Signer.fault_count c.args.signer.now)) signed),
     )

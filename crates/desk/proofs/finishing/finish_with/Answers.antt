@@ -11,7 +11,7 @@ returns-in-Ok-seal-clause-step g c s =
     let reply : c.in-Ok-write_granted.bytes.items ≡ granted_octets c.deref-3.result.now =
     c.in-Ok-write_granted.ensures.text
     ∙ ap granted_octets (c.deref-2.ensures.value ∙ sym c.deref-3.ensures.value) in
-    seals g.S.Store s c.args.pending c.args.signature.now c.pending.inside.serial c.deref-3.result.now
+    seals g.B.Standing s c.args.pending c.args.signature.now c.pending.inside.serial c.deref-3.result.now
     c.in-Ok-write_granted.bytes.items c.args.store.now c.seal.new.self
     (ap (λ (p : PendingValue). p.serial) c.pending.view_is)
     is reply c.in-Ok-seal.ensures.faults c.in-Ok-seal.ensures.opened c.in-Ok-seal.ensures.ok
@@ -20,6 +20,6 @@ pub returns-clause-step : goal.returns-clause-step
 returns-clause-step g c s =
     let is = token_seen c.args.pending _ c.args.signature.now c.in-Ok.token.items c.deref-3.result.now
     c.deref.result.now c.pending.view_is c.deref.ensures.value c.deref-3.ensures.value c.in-Ok.ensures.text in
-    refuses g.S.Store s c.args.pending c.args.signature.now c.pending.inside.serial c.deref-3.result.now
+    refuses g.B.Standing s c.args.pending c.args.signature.now c.pending.inside.serial c.deref-3.result.now
     c.args.store.now c.seal.new.self c.in-Err-seal.fault (ap (λ (p : PendingValue). p.serial) c.pending.view_is) is
     c.in-Err-seal.ensures.refusals c.in-Err-seal.ensures.faults c.in-Err-seal.ensures.err c.in-Err-seal.ensures.crash

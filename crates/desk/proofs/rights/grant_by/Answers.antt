@@ -1,6 +1,6 @@
 use Rattle.std.proofs.Common.{subst}
 use Rattle.policy.specs.View.{account_view}
-use Rattle.store.specs.History.{Granted}
+use Rattle.book.specs.History.{Granted}
 use Rattle.desk.specs.Calls.{opening_view}
 use Rattle.desk.specs.Command.{Grant}
 use Rattle.desk.specs.Obstacles.{MayName}
@@ -13,7 +13,7 @@ returns-in-Ok-grant-clause-step g c =
     let a = account_view c.args.account.now in
     let name = c.args.name.now in
     let n = c.args.number in
-    right_entered g.S.Store s (Grant a n name) a.name name n (Granted n name) c.args.store.now c.may_name.new.store
+    right_entered g.B.Standing s (Grant a n name) a.name name n (Granted n name) c.args.store.now c.may_name.new.store
     c.grant.new.self (record {
       righting = λ o b e h. h;
       fits = λ b f. f;

@@ -1,6 +1,6 @@
 use Rattle.std.proofs.Common.{subst}
 use Rattle.policy.specs.View.{account_view}
-use Rattle.store.specs.History.{Revoked}
+use Rattle.book.specs.History.{Revoked}
 use Rattle.desk.specs.Calls.{opening_view}
 use Rattle.desk.specs.Command.{Revoke}
 use Rattle.desk.specs.Obstacles.{MayName}
@@ -13,7 +13,7 @@ returns-in-Ok-revoke-clause-step g c =
     let a = account_view c.args.account.now in
     let name = c.args.name.now in
     let n = c.args.number in
-    right_entered g.S.Store s (Revoke a n name) a.name name n (Revoked n name) c.args.store.now c.may_name.new.store
+    right_entered g.B.Standing s (Revoke a n name) a.name name n (Revoked n name) c.args.store.now c.may_name.new.store
     c.revoke.new.self (record {
       righting = λ o b e h. h;
       fits = λ b f. f;

@@ -13,7 +13,7 @@ loop-command-preserved g c =
       room = omega (arith, c.loop-command.invariant.room, c.in-Ok-push.ensures.capacity);
       steps = (
         before.0 ++ (step.0 ∷ []),
-        steps_more g.S.Store g.G.Signer.signs g.G.Signer.fault_count (opening_view c.args.opening) command_view
+        steps_more g.B.Standing g.G.Signer.signs g.G.Signer.fault_count (opening_view c.args.opening) command_view
             answer_view c.args.commands.now c.loop-command.command-index c.command-item.result before.0
             c.loop-command.answers.items c.obey-answer.result c.push.new.self.items step.0 c.args.store.now
             c.args.signer.now c.loop-command.store c.loop-command.signer c.obey-answer.new.store

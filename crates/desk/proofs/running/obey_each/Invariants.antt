@@ -10,7 +10,7 @@ abbrev pub invariant-loop-command : goal.invariant-loop-command
 invariant-loop-command g l = record {
   counted : vec_len l.answers ≡ l.command-index;
   room : length l.commands ≤ vec_capacity l.answers;
-  steps : (os : List Outcome) × AreSteps g.S.Store g.G.Signer.signs g.G.Signer.fault_count (opening_view l.opening)
+  steps : (os : List Outcome) × AreSteps g.B.Standing g.G.Signer.signs g.G.Signer.fault_count (opening_view l.opening)
       (commands_view (take l.command-index l.commands)) os (answers_view l.answers.items) l.fn.store l.fn.signer
       l.store l.signer;
 }

@@ -12,7 +12,7 @@ use Rattle.desk.proofs.running.run_with.Goals as goal
 pub returns-in-Ok-clause-honest : goal.returns-in-Ok-clause-honest
 returns-in-Ok-clause-honest g c =
     let steps = c.in-Ok.ensures.steps in
-    honest_before g.S.Store g.G.Signer.signs g.G.Signer.fault_count (opening_view c.args.opening)
+    honest_before g.B.Standing g.G.Signer.signs g.G.Signer.fault_count (opening_view c.args.opening)
     (commands_view c.args.commands.now) steps.0 (answers_view c.in-Ok.answers.items) c.args.store.now
     c.args.signer.now c.obey_each.new.store c.obey_each.new.signer steps.1
 
@@ -29,7 +29,7 @@ returns-in-Ok-clause-run g c =
     } in
     let steps = c.in-Ok.ensures.steps in (
       steps.0,
-      steps_run g.S.Store g.G.Signer.signs g.G.Signer.fault_count laws s proper (commands_view c.args.commands.now)
+      steps_run g.B.Standing g.G.Signer.signs g.G.Signer.fault_count laws s proper (commands_view c.args.commands.now)
           steps.0 (answers_view c.in-Ok.answers.items) c.args.store.now c.args.signer.now c.obey_each.new.store
           c.obey_each.new.signer steps.1,
     )

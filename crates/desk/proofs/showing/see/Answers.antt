@@ -1,5 +1,5 @@
 use Rattle.std.proofs.Common.{◌≡◌, subst}
-use Rattle.store.specs.Rights.{deposit_with_stamp}
+use Rattle.book.specs.Rights.{deposit_with_stamp}
 use Rattle.desk.proofs.Shows.{found_as, unseen}
 use Rattle.desk.proofs.showing.see.Goals as goal
 

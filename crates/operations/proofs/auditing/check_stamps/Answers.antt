@@ -1,10 +1,9 @@
 use Rattle.std.proofs.Common.{◌≡◌, ◌∙◌, false, refl, rules, subst, sym}
 use Rattle.std.proofs.lemmas.Result.{err_from_is_err_and}
 use Rattle.std.specs.Io.KnownBytes.{Appends}
-use Rattle.tables.specs.Base.{IsHonest}
-use Rattle.tables.specs.Queries.{stamp_view}
-use Rattle.store.specs.History.{History, stamps_between}
-use Rattle.store.specs.Stands.{Stands}
+use Rattle.book.specs.Values.{stamp_view}
+use Rattle.book.specs.History.{History, stamps_between}
+use Rattle.book.specs.Stands.{Stands}
 use Rattle.operations.specs.Auditing.{Checks, failing_lines}
 use Rattle.operations.proofs.Checking.{all_told, begun, cut_off, cut_told, failed, next_is, passed}
 use Rattle.operations.proofs.auditing.check_stamps.Goals.{then-not-branch+in_ok-tell+else-not-branch-2, else-not-branch}
@@ -12,8 +11,8 @@ use Rattle.operations.proofs.auditing.check_stamps.Goals as goal
 
 pub loop-stamp-init : goal.loop-stamp-init
 loop-stamp-init g c =
-    let walk = c.stamps_between-walk.ensures in
-    rw (walk.begun, walk.from, walk.to) (begun g.S.Store _ _ _ _, refl, refl)
+    let walk = c.of-walk.ensures in
+    rw (walk.begun, walk.from, walk.to) (begun g.B.Standing _ _ _ _, refl, refl)
 
 pub loop-stamp-preserved : goal.loop-stamp-preserved
 loop-stamp-preserved g c =
@@ -21,16 +20,16 @@ loop-stamp-preserved g c =
     let handed = c.in_ok-stamp.ensures in
     let now = c.loop-stamp.walk in
     let then = c.next.new.self in
-    let next = next_is g.S.Store now.store.now then.store.now now.from then.from c.args.to now.to then.to
+    let next = next_is g.B.Standing now.book.now then.book.now now.from then.from c.args.to now.to then.to
     c.in_ok-stamp.field-0 c.in-Some.stamp c.in-Some.is before.1 handed.end handed.value in (
       elim c.if-not-branch.branch [
         | then-not-branch+in_ok-tell+else-not-branch-2 w ↦
             let fails = w.if-not-branch.true in
             let whole = w.in_ok-tell.ensures.whole w.if-not-branch-2.false in
-            rw (w.errors-is, w.agree-is) (failed g.S.Store _ _ _ _ _ _ _ _ _ _ _ (stamp_view c.in-Some.stamp) before.0
+            rw (w.errors-is, w.agree-is) (failed g.B.Standing _ _ _ _ _ _ _ _ _ _ _ (stamp_view c.in-Some.stamp) before.0
             handed.looks next (λ h. let yes = c.in_ok-check_row.ensures.1 h in cc (yes, fails)) whole)
         | else-not-branch w ↦
-            rw (w.errors-is, w.agree-is) (passed g.S.Store _ _ _ _ _ _ _ _ _ _ (stamp_view c.in-Some.stamp) before.0
+            rw (w.errors-is, w.agree-is) (passed g.B.Standing _ _ _ _ _ _ _ _ _ _ (stamp_view c.in-Some.stamp) before.0
             handed.looks next (c.in_ok-check_row.ensures.0 w.if-not-branch.false))
       ],
       handed.end ∙ before.1,
@@ -43,16 +42,16 @@ loop-stamp-preserved-after-not-branch g c =
     let handed = c.in_ok-stamp.ensures in
     let now = c.loop-stamp.walk in
     let then = c.next.new.self in
-    let next = next_is g.S.Store now.store.now then.store.now now.from then.from c.args.to now.to then.to
+    let next = next_is g.B.Standing now.book.now then.book.now now.from then.from c.args.to now.to then.to
     c.in_ok-stamp.field-0 c.in-Some.stamp c.in-Some.is before.1 handed.end handed.value in (
       elim c.if-not-branch.branch [
         | then-not-branch+in_ok-tell+else-not-branch-2 w ↦
             let fails = w.if-not-branch.true in
             let whole = w.in_ok-tell.ensures.whole w.if-not-branch-2.false in
-            rw (w.errors-is, w.agree-is) (failed g.S.Store _ _ _ _ _ _ _ _ _ _ _ (stamp_view c.in-Some.stamp) before.0
+            rw (w.errors-is, w.agree-is) (failed g.B.Standing _ _ _ _ _ _ _ _ _ _ _ (stamp_view c.in-Some.stamp) before.0
             handed.looks next (λ h. let yes = c.in_ok-check_row.ensures.1 h in cc (yes, fails)) whole)
         | else-not-branch w ↦
-            rw (w.errors-is, w.agree-is) (passed g.S.Store _ _ _ _ _ _ _ _ _ _ (stamp_view c.in-Some.stamp) before.0
+            rw (w.errors-is, w.agree-is) (passed g.B.Standing _ _ _ _ _ _ _ _ _ _ (stamp_view c.in-Some.stamp) before.0
             handed.looks next (c.in_ok-check_row.ensures.0 w.if-not-branch.false))
       ],
       handed.end ∙ before.1,
@@ -75,16 +74,16 @@ returns-then-not-branch-2-clause-checked g c =
     let handed = c.in_ok-stamp.ensures in
     let now = c.loop-stamp.walk in
     let then = c.next.new.self in
-    let next = next_is g.S.Store now.store.now then.store.now now.from then.from c.args.to now.to then.to
+    let next = next_is g.B.Standing now.book.now then.book.now now.from then.from c.args.to now.to then.to
     c.in_ok-stamp.field-0 c.in-Some.stamp c.in-Some.is before.1 handed.end handed.value in
     let fails = c.if-not-branch.true in
     let cut = c.in_ok-tell.ensures.cut c.if-not-branch-2.true in
-    let store = c.store-then-not-branch-2-1.given.0 in
-    let same : c.next.new.self.store.now ≡ store = search rules in
-    subst (λ s. IsHonest g.S.Store s → (b : History) → Stands g.S.Store b c.args.store.now
+    let book = c.book-then-not-branch-2-1.given.0 in
+    let same : c.next.new.self.book.now ≡ book = search rules in
+    subst (λ s. g.B.Standing.honest s → (b : History) → Stands g.B.Standing b c.args.book.now
     → Checks (stamps_between c.args.from c.args.to b) (g.E.Write.contents c.args.errors.now)
     (g.E.Write.contents c.tell.new.errors) false) same
-    (cut_off g.S.Store _ _ _ _ _ _ _ _ _ _ _ (stamp_view c.in-Some.stamp) before.0 handed.looks next
+    (cut_off g.B.Standing _ _ _ _ _ _ _ _ _ _ _ (stamp_view c.in-Some.stamp) before.0 handed.looks next
     (λ h. let yes = c.in_ok-check_row.ensures.1 h in cc (yes, fails)) cut)
 
 pub returns-then-not-branch-2-clause-failed : goal.returns-then-not-branch-2-clause-failed

@@ -5,9 +5,9 @@ use Rattle.operations.proofs.auditing.check_stamps.Given as goal
 
 abbrev pub invariant-loop-stamp : goal.invariant-loop-stamp
 invariant-loop-stamp g l =
-    HasChecked g.S.Store l.fn.store l.walk.store.now (g.E.Write.contents l.fn.errors) (g.E.Write.contents l.errors)
+    HasChecked g.B.Standing l.fn.book l.walk.book.now (g.E.Write.contents l.fn.errors) (g.E.Write.contents l.errors)
     l.from l.to l.walk.from l.agree
-    × (l.walk.to ≡ l.to) × (l.walk.store.ghost_name ≡ l.initial.walk.store.ghost_name)
+    × (l.walk.to ≡ l.to) × (l.walk.book.ghost_name ≡ l.initial.walk.book.ghost_name)
 
 abbrev pub decreases-loop-stamp : goal.decreases-loop-stamp
 decreases-loop-stamp g l = l.to + 1 - l.walk.from

@@ -5,7 +5,7 @@ use Rattle.operations.proofs.exchanging.exchange_with.Goals as goal
 
 pub returns-clause-exchanged : goal.returns-clause-exchanged
 returns-clause-exchanged g c =
-    let turn : Turn g.row.W.Denot g.row.S.Denot g.row.G.Denot =
+    let turn : Turn g.row.W.Denot g.row.B.Denot g.row.G.Denot =
     record {
       input = g.R.Read.remaining c.args.reader.now;
       input_after = g.R.Read.remaining c.serve_one.new.reader;
@@ -19,7 +19,7 @@ returns-clause-exchanged g c =
     in
     let fits : SFits w64 c.args.reading = search rules in
     let at : ℤ → Type 0 =
-    λ n. Serves g.S.Store g.G.Signer.signs g.G.Signer.fault_count g.W.Write.contents n turn c.serve_one.result
+    λ n. Serves g.B.Standing g.G.Signer.signs g.G.Signer.fault_count g.W.Write.contents n turn c.serve_one.result
     in
-    exchanged g.S.Store g.G.Signer.signs g.G.Signer.fault_count g.W.Write.contents c.args.reading turn
+    exchanged g.B.Standing g.G.Signer.signs g.G.Signer.fault_count g.W.Write.contents c.args.reading turn
     c.serve_one.result (subst at (to_z-of_z fits) c.serve_one.ensures.served)

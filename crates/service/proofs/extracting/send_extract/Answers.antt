@@ -11,11 +11,11 @@ returns-then-of_head-len-clause-sent g c =
     let n = c.write_octets-of_head.result in
     let short : n < length head =
     omega (arith, c.if-of_head-len.true, c.len-2.ensures, c.as_bytes.ensures.len, ap length c.as_bytes.ensures.value) in
-    let P : ℕ → Type 0 = λ status. SendsExtract g.S.Store g.W.Write.contents c.args.writer.now
+    let P : ℕ → Type 0 = λ status. SendsExtract g.B.Standing g.W.Write.contents c.args.writer.now
     c.write_octets-of_head.new.writer c.args.store.now c.args.store.now c.args.from c.args.to c.args.length
     (served.WriteFailed status n) in
     inl (subst P (sym c.as_u16-status.ensures.value)
-    (head_cut g.S.Store g.W.Write.contents c.args.writer.now c.args.writer.now c.write_octets-of_head.new.writer
+    (head_cut g.B.Standing g.W.Write.contents c.args.writer.now c.args.writer.now c.write_octets-of_head.new.writer
     c.args.store.now c.args.store.now c.args.from c.args.to c.args.length head states n short
     c.write_octets-of_head.ensures.written))
 
@@ -35,12 +35,12 @@ returns-then-written-length-clause-sent g c =
     ) in
     let sent : length head + octets ≡ c.len-then-written-length.result + octets =
     omega (arith, c.len-then-written-length.ensures, c.as_bytes.ensures.len, ap length c.as_bytes.ensures.value) in
-    let P : ℕ → ℕ → Type 0 = λ status sent. SendsExtract g.S.Store g.W.Write.contents c.args.writer.now
+    let P : ℕ → ℕ → Type 0 = λ status sent. SendsExtract g.B.Standing g.W.Write.contents c.args.writer.now
     c.write_extract-written.new.out c.args.store.now c.write_extract-written.new.store c.args.from c.args.to
     c.args.length (served.WriteFailed status sent) in
     inl (subst (P c.as_u16-status.result) sent (subst (λ s. P s (length head + octets))
     (sym c.as_u16-status.ensures.value)
-    (rows_cut g.S.Store g.W.Write.contents c.args.writer.now c.write_octets-of_head.new.writer
+    (rows_cut g.B.Standing g.W.Write.contents c.args.writer.now c.write_octets-of_head.new.writer
     c.write_extract-written.new.out c.args.store.now c.write_extract-written.new.store c.args.from c.args.to
     c.args.length head states n octets c.write_extract-written.result.outcome whole
     c.write_octets-of_head.ensures.written c.write_extract-written.ensures.written c.if-written-length.true)))
@@ -60,11 +60,11 @@ returns-clause-sent g c =
       ap length c.as_bytes.ensures.value,
     ) in
     let least : c.args.length ≤ octets = omega (arith, c.if-written-length.false) in
-    let P : ℕ → Type 0 = λ status. SendsExtract g.S.Store g.W.Write.contents c.args.writer.now
+    let P : ℕ → Type 0 = λ status. SendsExtract g.B.Standing g.W.Write.contents c.args.writer.now
     c.write_extract-written.new.out c.args.store.now c.write_extract-written.new.store c.args.from c.args.to
     c.args.length (served.Answered status) in
     inl (subst P (sym c.as_u16-status.ensures.value)
-    (all_written g.S.Store g.W.Write.contents c.args.writer.now c.write_octets-of_head.new.writer
+    (all_written g.B.Standing g.W.Write.contents c.args.writer.now c.write_octets-of_head.new.writer
     c.write_extract-written.new.out c.args.store.now c.write_extract-written.new.store c.args.from c.args.to
     c.args.length head states n octets c.write_extract-written.result.outcome whole
     c.write_octets-of_head.ensures.written c.write_extract-written.ensures.written least

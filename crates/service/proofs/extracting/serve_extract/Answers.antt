@@ -4,7 +4,7 @@ use Rattle.service.proofs.extracting.serve_extract.Goals as goal
 
 pub returns-in-Err-clause-served : goal.returns-in-Err-clause-served
 returns-in-Err-clause-served g c =
-    keeping_back g.S.Store g.W.Write.contents c.args.writer.now c.refuse.new.writer c.args.desk.now.store
+    keeping_back g.B.Standing g.W.Write.contents c.args.writer.now c.refuse.new.writer c.args.desk.now.store
     c.extract_length.new.store c.args.desk.now.setting.file (account_view c.args.account.now) c.args.from c.args.to
     c.refuse.result c.in-Err.fault c.from.result
     (rw c.policy-policy.ensures at c.in-Err.ensures.refusals)

@@ -1,7 +1,7 @@
 -- The lines of the deposits before.
 use Rattle.std.proofs.Common.{◌≡◌, take, map}
 use Rattle.std.specs.List.{flat_map}
-use Rattle.store.specs.Values.{listed_view}
+use Rattle.book.specs.Values.{listed_view}
 use Rattle.service.specs.Answers.{listed_line}
 use Rattle.service.proofs.listing.listed_lines.Given as goal
 

@@ -1,7 +1,7 @@
 use Rattle.std.proofs.Common.{◌≡◌, ℕ, ℤ, List, Option, map, Bool, true, false, ◌++◌, refl, subst, rules, SFits, w64}
 use Rattle.std.proofs.Common.{to_z-of_z}
 use Rattle.policy.specs.Record.{AccountValue}
-use Rattle.store.specs.Values.{listed_view}
+use Rattle.book.specs.Values.{listed_view}
 use Rattle.desk.specs.Answers.{reply_as}
 use Rattle.desk.specs.Command.{Stamp, Deposit, Kept, Shown, Listed, Done, Refused}
 use Rattle.decide.specs.View.{account_asked}
@@ -26,7 +26,7 @@ returns-in-Stamp-clause-steps g c =
     let fits : SFits w64 c.args.reading = search rules in
     let account = account_asked c.in-Stamp.account in
     let P : ℤ → Type 0 =
-    λ r. IsStep g.S.Store (with_signer g.G.Signer.signs g.G.Signer.fault_count c.args.signer.now
+    λ r. IsStep g.B.Standing (with_signer g.G.Signer.signs g.G.Signer.fault_count c.args.signer.now
     c.answer.new.signer)
     c.args.desk.now.setting (Stamp account r c.in-Stamp.query.now) c.args.desk.now.store c.answer.new.self.store
     (reply_as c.answer.result) in
@@ -88,7 +88,7 @@ returns-in-Ok-clause-steps g c =
     let account = account_view c.in-Keep.account.now in
     let deposited = c.in-Ok.deposited in
     let P : ℤ → Type 0 =
-    λ r. IsStep g.S.Store (with_signer g.G.Signer.signs g.G.Signer.fault_count c.args.signer.now
+    λ r. IsStep g.B.Standing (with_signer g.G.Signer.signs g.G.Signer.fault_count c.args.signer.now
     c.deposit.new.signer)
     c.args.desk.now.setting (Deposit account r c.in-Keep.reference.now c.in-Keep.bytes.now) c.args.desk.now.store
     c.deposit.new.self.store (Kept deposited.number deposited.is_new) in
@@ -104,7 +104,7 @@ returns-in-Err-clause-steps g c =
     let fits : SFits w64 c.args.reading = search rules in
     let account = account_view c.in-Keep.account.now in
     let P : ℤ → Type 0 =
-    λ r. IsStep g.S.Store (with_signer g.G.Signer.signs g.G.Signer.fault_count c.args.signer.now
+    λ r. IsStep g.B.Standing (with_signer g.G.Signer.signs g.G.Signer.fault_count c.args.signer.now
     c.deposit.new.signer)
     c.args.desk.now.setting (Deposit account r c.in-Keep.reference.now c.in-Keep.bytes.now) c.args.desk.now.store
     c.deposit.new.self.store (Refused c.in-Err.fault) in

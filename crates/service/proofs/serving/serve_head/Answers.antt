@@ -25,7 +25,7 @@ wanted_as v w place asked same at checked =
 
 pub returns-in_default-clause-served : goal.returns-in_default-clause-served
 returns-in_default-clause-served g c = λ before h is same consumed.
-    wanting_early g.S.Store g.G.Signer.signs g.G.Signer.fault_count g.W.Write.contents c.args.reading
+    wanting_early g.B.Standing g.G.Signer.signs g.G.Signer.fault_count g.W.Write.contents c.args.reading
     (turn before (g.R.Read.remaining c.args.reader.now) c.args.writer.now c.wanting.new.writer c.args.desk.now
     c.args.desk.now
     c.args.signer.now c.args.signer.now)
@@ -36,7 +36,7 @@ returns-in-Err-clause-served g c = λ before h is same consumed.
     let r = c.in-Err.refusal in
     let wanted = wanted_as (head_view c.args.head) (head_value h) c.in-Ok.place (Err r) same c.in-Ok.ensures
     c.in-Err.ensures.value in
-    refusing g.S.Store g.G.Signer.signs g.G.Signer.fault_count g.W.Write.contents c.args.reading
+    refusing g.B.Standing g.G.Signer.signs g.G.Signer.fault_count g.W.Write.contents c.args.reading
     (turn before (g.R.Read.remaining c.args.reader.now) c.args.writer.now c.refuse.new.writer c.args.desk.now
     c.args.desk.now
     c.args.signer.now c.args.signer.now)
@@ -45,7 +45,7 @@ returns-in-Err-clause-served g c = λ before h is same consumed.
 
 pub returns-in_default-vec-clause-served : goal.returns-in_default-vec-clause-served
 returns-in_default-vec-clause-served g c = λ before h is same consumed.
-    wanting_early g.S.Store g.G.Signer.signs g.G.Signer.fault_count g.W.Write.contents c.args.reading
+    wanting_early g.B.Standing g.G.Signer.signs g.G.Signer.fault_count g.W.Write.contents c.args.reading
     (turn before (g.R.Read.remaining c.args.reader.now) c.args.writer.now c.wanting-in_default-vec.new.writer
     c.args.desk.now
     c.args.desk.now c.args.signer.now c.args.signer.now)
@@ -60,7 +60,7 @@ returns-in-Cut-clause-served g c = λ before h is same consumed.
     let part = c.in-Cut.ensures.reads.0 in
     let short : length part.octets < w.count =
     omega (arith, part.is, c.read_body.auto.body, c.as_mut_slice.ensures.len, c.in-Ok-vec.ensures.len) in
-    refusing g.S.Store g.G.Signer.signs g.G.Signer.fault_count g.W.Write.contents c.args.reading
+    refusing g.B.Standing g.G.Signer.signs g.G.Signer.fault_count g.W.Write.contents c.args.reading
     (turn before (g.R.Read.remaining c.read_body.new.reader) c.args.writer.now c.refuse-in-Cut.new.writer
     c.args.desk.now
     c.args.desk.now c.args.signer.now c.args.signer.now)
@@ -100,7 +100,7 @@ returns-clause-served g c = λ before h is same consumed.
     let fits : SFits w64 c.args.reading = search rules in
     let P : ℤ → Type 0 = λ r. (b a : Option (List ℕ))
     → IsRequest file r b a (asked_by file r (head_view c.args.head) body c.in-Ok-check_head.wanted.action)
-    → Serves g.S.Store g.G.Signer.signs g.G.Signer.fault_count g.W.Write.contents r
+    → Serves g.B.Standing g.G.Signer.signs g.G.Signer.fault_count g.W.Write.contents r
     (turn b a c.args.writer.now c.serve_whole.new.writer c.args.desk.now c.serve_whole.new.desk c.args.signer.now
     c.serve_whole.new.signer) c.serve_whole.result in
     let served : P c.args.reading = subst P (to_z-of_z fits) c.serve_whole.ensures.served in

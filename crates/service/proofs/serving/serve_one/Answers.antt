@@ -15,7 +15,7 @@ use Rattle.service.proofs.serving.serve_one.Goals as goal
 
 pub returns-in_default-clause-served : goal.returns-in_default-clause-served
 returns-in_default-clause-served g c =
-    wanting_early g.S.Store g.G.Signer.signs g.G.Signer.fault_count g.W.Write.contents c.args.reading
+    wanting_early g.B.Standing g.G.Signer.signs g.G.Signer.fault_count g.W.Write.contents c.args.reading
     (turn (g.R.Read.remaining c.args.reader.now) (g.R.Read.remaining c.args.reader.now) c.args.writer.now
     c.wanting.new.writer
     c.args.desk.now c.args.desk.now c.args.signer.now c.args.signer.now)
@@ -31,7 +31,7 @@ returns-in-Failed-clause-served g c =
 pub returns-in-Cut-clause-served : goal.returns-in-Cut-clause-served
 returns-in-Cut-clause-served g c =
     let part = c.in-Cut.ensures.0 in
-    refusing g.S.Store g.G.Signer.signs g.G.Signer.fault_count g.W.Write.contents c.args.reading
+    refusing g.B.Standing g.G.Signer.signs g.G.Signer.fault_count g.W.Write.contents c.args.reading
     (turn (g.R.Read.remaining c.args.reader.now) (g.R.Read.remaining c.read_head.new.reader) c.args.writer.now
     c.refuse.new.writer
     c.args.desk.now c.args.desk.now c.args.signer.now c.args.signer.now)
@@ -41,7 +41,7 @@ returns-in-Cut-clause-served g c =
 pub returns-in-Refused-clause-served : goal.returns-in-Refused-clause-served
 returns-in-Refused-clause-served g c =
     let part = c.in-Refused.ensures in
-    refusing g.S.Store g.G.Signer.signs g.G.Signer.fault_count g.W.Write.contents c.args.reading
+    refusing g.B.Standing g.G.Signer.signs g.G.Signer.fault_count g.W.Write.contents c.args.reading
     (turn (g.R.Read.remaining c.args.reader.now) (g.R.Read.remaining c.read_head.new.reader) c.args.writer.now
     c.refuse-in-Refused.new.writer
     c.args.desk.now c.args.desk.now c.args.signer.now c.args.signer.now)
@@ -61,7 +61,7 @@ returns-clause-served g c =
     let P : ℤ → Type 0 = λ r. (b : Option (List ℕ)) (h : RequestHead) → IsHead (print_request h) h
     → head_view c.head_at-head.result ≡ head_value h
     → Consumes b (g.R.Read.remaining c.read_head.new.reader) (print_request h)
-    → Serves g.S.Store g.G.Signer.signs g.G.Signer.fault_count g.W.Write.contents r
+    → Serves g.B.Standing g.G.Signer.signs g.G.Signer.fault_count g.W.Write.contents r
     (turn b (g.R.Read.remaining c.serve_head.new.reader) c.args.writer.now c.serve_head.new.writer c.args.desk.now
     c.serve_head.new.desk c.args.signer.now c.serve_head.new.signer) c.serve_head.result in
     let served : P c.args.reading = subst P (to_z-of_z fits) c.serve_head.ensures.served in

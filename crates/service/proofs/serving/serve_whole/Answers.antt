@@ -15,7 +15,7 @@ returns-in-Err-clause-served g c = λ before after request.
     let same = rw c.policy.ensures at (c.in-Err.ensures c.args.reading) in
     let P : Result Asked Refusal → Type 0 =
     λ asked. IsRequest c.args.desk.now.setting.file c.args.reading before after asked in
-    refusing g.S.Store g.G.Signer.signs g.G.Signer.fault_count g.W.Write.contents c.args.reading
+    refusing g.B.Standing g.G.Signer.signs g.G.Signer.fault_count g.W.Write.contents c.args.reading
     (turn before after c.args.writer.now c.refuse.new.writer c.args.desk.now c.args.desk.now c.args.signer.now
     c.args.signer.now)
     c.in-Err.refusal c.refuse.result (subst P (sym same) request) (record { desk = refl; signer = refl })
@@ -28,11 +28,12 @@ returns-in-Ok-Step-clause-served g c = λ before after request.
     let P : Result Asked Refusal → Type 0 =
     λ asked. IsRequest c.args.desk.now.setting.file c.args.reading before after asked in
     let fits : SFits w64 c.args.reading = search rules in
-    let Q : ℤ → Type 0 = λ r. (reply : Answer) × Steps g.S.Store g.G.Signer.signs g.G.Signer.fault_count c.args.desk.now
+    let Q : ℤ → Type 0 = λ r. (reply : Answer) × Steps g.B.Standing g.G.Signer.signs g.G.Signer.fault_count
+    c.args.desk.now
     c.perform-performed.new.desk c.args.signer.now c.perform-performed.new.signer (demand_view r demand) reply
     × (performed_answer c.perform-performed.result ≡ answer_to (demand_view r demand) reply) in
     let steps : Q c.args.reading = subst Q (to_z-of_z fits) c.perform-performed.ensures.steps in
-    replying g.S.Store g.G.Signer.signs g.G.Signer.fault_count g.W.Write.contents c.args.reading
+    replying g.B.Standing g.G.Signer.signs g.G.Signer.fault_count g.W.Write.contents c.args.reading
     (turn before after c.args.writer.now c.respond.new.writer c.args.desk.now c.perform-performed.new.desk
     c.args.signer.now
     c.perform-performed.new.signer)
@@ -44,7 +45,7 @@ returns-in-Ok-Extract-clause-served g c = λ before after request.
     let same = rw c.in-Ok-Extract.field-0-is at (rw c.policy.ensures at (c.in-Ok-Extract.ensures c.args.reading)) in
     let P : Result Asked Refusal → Type 0 =
     λ asked. IsRequest c.args.desk.now.setting.file c.args.reading before after asked in
-    answering_auditor g.S.Store g.G.Signer.signs g.G.Signer.fault_count g.W.Write.contents c.args.reading
+    answering_auditor g.B.Standing g.G.Signer.signs g.G.Signer.fault_count g.W.Write.contents c.args.reading
     (turn before after c.args.writer.now c.serve_extract.new.writer c.args.desk.now c.serve_extract.new.desk
     c.args.signer.now
     c.args.signer.now)

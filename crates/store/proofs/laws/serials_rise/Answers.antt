@@ -1,5 +1,5 @@
 use Rattle.std.proofs.Common.{arith}
-use Rattle.store.specs.History.{reservations}
+use Rattle.book.specs.History.{reservations}
 use Rattle.store.proofs.Alike.{not_above}
 use Rattle.store.proofs.laws.serials_rise.Goals as goal
 

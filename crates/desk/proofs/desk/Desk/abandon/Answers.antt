@@ -17,7 +17,7 @@ returns-clause-step g c = (
       says = refl;
       moves = refl;
       stands = st;
-      left = λ db r. inl (refl, r);
+      left = λ left r. inl (refl, r);
     };
   },
 )

@@ -14,7 +14,7 @@ returns-clause-step g c =
     let a = account_view c.args.account.now in
     let said = answered deposited_as c.deposit_with.result in (
       c.deposit_with.ensures.step.0,
-      steps_opened g.S.Store _
+      steps_opened g.B.Standing _
           (record { setting = opening_view c.self.inside.opening; store = c.self.inside.store }) c.args.self.now _
           (Deposit a c.args.reading c.args.reference.now c.args.bytes.now) c.deposit_with.ensures.step.0
           c.deposit_with.new.store said said c.self.view_is

@@ -21,7 +21,7 @@ returns-clause-step g c =
     ] in
     let command = (ListAll (account_view c.args.account.now)) in (
       outcome_with c.list_to.result,
-      steps_opened g.S.Store no_signer
+      steps_opened g.B.Standing no_signer
           (record { setting = opening_view c.self.inside.opening; store = c.self.inside.store }) c.args.self.now
           command command (outcome_with c.list_to.result) c.list_to.new.store (told_with listed_as c.list_to.result)
           (answered listed_as c.match-list_to.result) c.self.view_is refl same

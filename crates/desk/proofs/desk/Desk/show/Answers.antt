@@ -21,7 +21,7 @@ returns-clause-step g c =
     ] in
     let command = (Show (account_view c.args.account.now) c.args.number) in (
       outcome_with c.show_to.result,
-      steps_opened g.S.Store no_signer
+      steps_opened g.B.Standing no_signer
           (record { setting = opening_view c.self.inside.opening; store = c.self.inside.store }) c.args.self.now
           command command (outcome_with c.show_to.result) c.show_to.new.store (told_with shown_as c.show_to.result)
           (answered shown_as c.match-show_to.result) c.self.view_is refl same

@@ -1,8 +1,8 @@
 use Rattle.std.proofs.Common.{◌≡◌, ◌∙◌, sym, refl}
 use Rattle.tables.specs.declared.fault.OpenFault.{OpenFault}
 use Rattle.tables.specs.declared.fault.OpenFault.TheVariants as opening
-use Rattle.store.specs.declared.fault.StoreFault.TheVariants.{NotOurs}
-use Rattle.store.specs.Fault.{opening_fault_of}
+use Rattle.book.specs.declared.fault.StoreFault.TheVariants.{NotOurs}
+use Rattle.tables.specs.Faults.{opening_fault_of}
 use Rattle.store.proofs.store.Store.adopt.Goals as goal
 
 not_ours : (fault : OpenFault) → opening_fault_of fault ≡ NotOurs → fault ≡ opening.NotOurs

@@ -1,0 +1,186 @@
+-- The history of what the counter accepted, newest entry first, and what it says: views are filters and searches of
+-- this one list.
+use Rattle.std.specs.Prelude.{ℕ, ◌/◌, ◌==◌, ◌&&◌, max, nat_le, ℤ, int_le, int_lt, Bool, List, []}
+use Rattle.std.specs.Prelude.{◌∷◌, map, filter, filter_map, find, count_by, reverse, Option, Some, None, option_map}
+use Rattle.std.specs.Prelude.{if◌then◌else◌}
+use Rattle.std.specs.List.{list_any}
+use Rattle.std.specs.Str.{bytes_eq}
+use Rattle.book.specs.Rows.{StampRow, DepositRow}
+
+-- What is reserved for a stamp before it is signed (RFC 3161 2.4.2): genTime in microseconds since
+-- 1970-01-01T00:00:00Z; policy and algorithm are the contents octets of object identifiers (X.690 8.19), as the tables
+-- keep them; request and tst are whole DER texts.
+pub record ReservationValue : Type 0 where
+  pub serial : ℕ
+  pub account : List ℕ
+  pub gen_time : ℕ
+  pub policy : List ℕ
+  pub algorithm : List ℕ
+  pub digest : List ℕ
+  pub request : List ℕ
+  pub tst : List ℕ
+
+-- what the clock was found to be at one of its readings, in microseconds
+pub record CalibrationValue : Type 0 where
+  pub reading : ℤ
+  pub offset : ℤ
+  pub uncertainty : ℕ
+
+-- the moments from the first on and before the second
+pub record HoldValue : Type 0 where
+  pub from : ℤ
+  pub to : ℤ
+
+-- a deposit under its number, which is its stamp's serial number
+abbrev pub DepositValue : Type 0
+DepositValue = DepositRow
+
+pub data Entry : Type 0 where
+  Reserved : ReservationValue → Entry
+  -- the token of a serial number
+  Sealed : ℕ → List ℕ → Entry
+  -- a deposit with the token of its number: it seals that number too
+  Deposited : DepositRow → List ℕ → Entry
+  Calibrated : CalibrationValue → Entry
+  Held : HoldValue → Entry
+  -- an account may read the deposit with that number
+  Granted : ℕ → List ℕ → Entry
+  -- it may not any more
+  Revoked : ℕ → List ℕ → Entry
+
+abbrev pub History : Type 0
+History = List Entry
+
+-- What an entry adds to each kind of list.
+abbrev pub reservation_in : Entry → Option ReservationValue
+reservation_in (Reserved r) = Some r
+reservation_in (Sealed serial token) = None
+reservation_in (Deposited d token) = None
+reservation_in (Calibrated c) = None
+reservation_in (Held h) = None
+reservation_in (Granted number account) = None
+reservation_in (Revoked number account) = None
+
+abbrev pub calibration_in : Entry → Option CalibrationValue
+calibration_in (Reserved r) = None
+calibration_in (Sealed serial token) = None
+calibration_in (Deposited d token) = None
+calibration_in (Calibrated c) = Some c
+calibration_in (Held h) = None
+calibration_in (Granted number account) = None
+calibration_in (Revoked number account) = None
+
+abbrev pub hold_in : Entry → Option HoldValue
+hold_in (Reserved r) = None
+hold_in (Sealed serial token) = None
+hold_in (Deposited d token) = None
+hold_in (Calibrated c) = None
+hold_in (Held h) = Some h
+hold_in (Granted number account) = None
+hold_in (Revoked number account) = None
+
+abbrev pub deposit_in : Entry → Option DepositRow
+deposit_in (Reserved r) = None
+deposit_in (Sealed serial token) = None
+deposit_in (Deposited d token) = Some d
+deposit_in (Calibrated c) = None
+deposit_in (Held h) = None
+deposit_in (Granted number account) = None
+deposit_in (Revoked number account) = None
+
+-- the newest of each kind first
+abbrev pub reservations : History → List ReservationValue
+reservations b = filter_map reservation_in b
+
+abbrev pub calibrations : History → List CalibrationValue
+calibrations b = filter_map calibration_in b
+
+abbrev pub holds : History → List HoldValue
+holds b = filter_map hold_in b
+
+abbrev pub deposits : History → List DepositRow
+deposits b = filter_map deposit_in b
+
+-- the greatest serial number, 0 where none is reserved
+abbrev pub greatest_of : List ReservationValue → ℕ
+greatest_of [] = 0
+greatest_of (r ∷ rs) = max r.serial (greatest_of rs)
+
+abbrev pub greatest_serial : History → ℕ
+greatest_serial b = greatest_of (reservations b)
+
+-- the first of a list, the newest
+abbrev pub first_of : {X : Type 0} → List X → Option X
+first_of [] = None
+first_of (x ∷ xs) = Some x
+
+-- the genTime that was reserved last
+abbrev pub last_gen_time : History → Option ℕ
+last_gen_time b = option_map (λ r. r.gen_time) (first_of (reservations b))
+
+-- the UTC day of a moment, counted from 1970-01-01
+abbrev pub day_of : ℕ → ℕ
+day_of moment = moment / 86_400_000_000
+
+abbrev pub is_of_day : List ℕ → ℕ → ReservationValue → Bool
+is_of_day account day r = bytes_eq r.account account && (day_of r.gen_time == day)
+
+-- how many reservations an account has on a day, those that never got their token too
+abbrev pub count_of_day : List ℕ → ℕ → History → ℕ
+count_of_day account day b = count_by (is_of_day account day) (reservations b)
+
+abbrev pub latest_calibration : History → Option CalibrationValue
+latest_calibration b = first_of (calibrations b)
+
+-- the moment is held: a hold's first moment is, its last bound isn't
+abbrev pub is_held : ℤ → History → Bool
+is_held now b = list_any (λ h. int_le h.from now && int_lt now h.to) (holds b)
+
+-- the token of a serial number, where it is sealed
+abbrev pub token_of : ℕ → History → Option (List ℕ)
+token_of serial [] = None
+token_of serial (Reserved r ∷ b) = token_of serial b
+token_of serial (Sealed n token ∷ b) = if n == serial then Some token else token_of serial b
+token_of serial (Deposited d token ∷ b) = if d.serial == serial then Some token else token_of serial b
+token_of serial (Calibrated c ∷ b) = token_of serial b
+token_of serial (Held h ∷ b) = token_of serial b
+token_of serial (Granted number account ∷ b) = token_of serial b
+token_of serial (Revoked number account ∷ b) = token_of serial b
+
+abbrev pub reservation_at : ℕ → History → Option ReservationValue
+reservation_at serial b = find (λ r. r.serial == serial) (reservations b)
+
+-- a reservation with its token, where it is sealed: a stamp
+abbrev pub stamp_of : Option (List ℕ) → ReservationValue → StampRow
+stamp_of token r = record {
+  serial = r.serial;
+  account = r.account;
+  day = day_of r.gen_time;
+  gen_time = r.gen_time;
+  policy = r.policy;
+  algorithm = r.algorithm;
+  digest = r.digest;
+  request = r.request;
+  tst = r.tst;
+  token = token;
+}
+
+-- a stamp by its serial number
+abbrev pub stamp_at : ℕ → History → Option StampRow
+stamp_at serial b = option_map (stamp_of (token_of serial b)) (reservation_at serial b)
+
+-- all stamps, the newest first
+abbrev pub stamps : History → List StampRow
+stamps b = map (λ r. stamp_of (token_of r.serial b) r) (reservations b)
+
+-- the stamps of a range, both ends in it, by serial number
+abbrev pub stamps_between : ℕ → ℕ → History → List StampRow
+stamps_between from to b = reverse (filter (λ s. nat_le from s.serial && nat_le s.serial to) (stamps b))
+
+-- a deposit by its number
+abbrev pub deposit_at : ℕ → History → Option DepositRow
+deposit_at number b = find (λ d. d.serial == number) (deposits b)
+
+-- a deposit by its owner and the owner's reference
+abbrev pub deposit_under : List ℕ → List ℕ → History → Option DepositRow
+deposit_under owner reference b = find (λ d. bytes_eq d.owner owner && bytes_eq d.reference reference) (deposits b)

@@ -1,0 +1,24 @@
+-- What is known of a stamp and of a deposit. Moments are whole microseconds from 1970-01-01T00:00:00Z, days whole days
+-- from it, and texts, object identifiers and blobs are their octets.
+use Rattle.std.specs.Prelude.{ℕ, List, Option}
+
+-- a reservation of a serial number, and its token once it is sealed
+pub record StampRow : Type 0 where
+  pub serial : ℕ
+  pub account : List ℕ
+  -- the UTC day of its genTime
+  pub day : ℕ
+  pub gen_time : ℕ
+  -- the contents of the policy's and the hash algorithm's object identifiers
+  pub policy : List ℕ
+  pub algorithm : List ℕ
+  pub digest : List ℕ
+  pub request : List ℕ
+  pub tst : List ℕ
+  pub token : Option (List ℕ)
+
+pub record DepositRow : Type 0 where
+  pub serial : ℕ
+  pub owner : List ℕ
+  pub reference : List ℕ
+  pub bytes : List ℕ

@@ -1,0 +1,242 @@
+//! The book: each change of the history is one commit, each look-up answers a view of it.
+ghost use Rattle.std.specs.Prelude.{◌≡◌, ◌⊎◌, ◌∷◌, ◌<◌, ◌^◌, true, false, map, option_map, Err, IfOk, IfErr, IfSome};
+ghost use Rattle.std.specs.Prelude.{IsErr, OnOk, OnErr, MatchResult};
+ghost use Rattle.book.specs.History.{History, Reserved, Sealed, Deposited, Calibrated, Held, Granted, Revoked};
+ghost use Rattle.book.specs.History.{count_of_day, latest_calibration, is_held, deposit_under};
+ghost use Rattle.book.specs.Rights.{is_reader, is_visible, listed, deposit_with_stamp};
+ghost use Rattle.book.specs.Sound.{Fits, IsSpent, IsBackwards};
+ghost use Rattle.book.specs.Stands.{Stands, OnlyLooks, LeavesOrAdds, LeavesAsBefore};
+ghost use Rattle.book.specs.Fault.{count_after};
+ghost use Rattle.book.specs.Values.{reservation_view, calibration_view, hold_view, last_of, calibration_option};
+ghost use Rattle.book.specs.Values.{deposit_of, stamped_view, listed_view, deposit_view};
+ghost use Rattle.book.specs.Ranges.{IsNextStamp, IsWithin};
+
+use crate::fault::StoreFault;
+use crate::rows::{Deposit, Stamp};
+use crate::standing::Standing;
+use crate::values::{Calibration, Hold, Last, Listed, Reservation, StampedDeposit};
+
+/// The history of what the counter accepted. Each change is one commit.
+///
+/// A call refused with `Memory` or `Database` changes nothing that the book shows, and `faults` counts exactly the
+/// refusals with `Database`. After a fault it may be shut; each later call is then refused, and where the fault came in
+/// the commit itself, a later opening may find the change.
+pub trait Book: Standing {
+    /// The greatest serial number and the last genTime that were reserved.
+    fn last(&mut self) -> Result<Last, StoreFault>
+        ensures looks { OnlyLooks Self.Standing self.old self.new }
+        ensures opened { Self.honest self.new → OnOk result (Self.is_open self.old) }
+        ensures value { Self.honest self.new → (b : History) → Stands Self.Standing b self.old
+            → IfOk result (λ last. last ≡ last_of b) }
+        ensures refusals { IfErr result (λ e. (e ≡ StoreFault.Memory) ⊎ (e ≡ StoreFault.Database)) }
+        ensures faults { MatchResult result (λ _. Self.fault_count self.new ≡ Self.fault_count self.old)
+            (λ e. Self.fault_count self.new ≡ count_after e (Self.fault_count self.old)) };
+
+    /// How many stamps the account has reserved on a day, counted from 1970-01-01 in UTC: those that never got their
+    /// token too.
+    fn count_of_day(&mut self, account: &str, day: u64) -> Result<u64, StoreFault>
+        ensures looks { OnlyLooks Self.Standing self.old self.new }
+        ensures opened { Self.honest self.new → OnOk result (Self.is_open self.old) }
+        ensures value { Self.honest self.new → (b : History) → Stands Self.Standing b self.old
+            → IfOk result (λ count. count ≡ count_of_day account.now day b) }
+        ensures refusals { IfErr result (λ e. (e ≡ StoreFault.Memory) ⊎ (e ≡ StoreFault.Database)) }
+        ensures faults { MatchResult result (λ _. Self.fault_count self.new ≡ Self.fault_count self.old)
+            (λ e. Self.fault_count self.new ≡ count_after e (Self.fault_count self.old)) };
+
+    /// The latest calibration, if any.
+    fn calibration(&mut self) -> Result<Option<Calibration>, StoreFault>
+        ensures looks { OnlyLooks Self.Standing self.old self.new }
+        ensures opened { Self.honest self.new → OnOk result (Self.is_open self.old) }
+        ensures value { Self.honest self.new → (b : History) → Stands Self.Standing b self.old
+            → IfOk result (λ found. calibration_option found ≡ latest_calibration b) }
+        ensures refusals { IfErr result (λ e. (e ≡ StoreFault.Memory) ⊎ (e ≡ StoreFault.Database)) }
+        ensures faults { MatchResult result (λ _. Self.fault_count self.new ≡ Self.fault_count self.old)
+            (λ e. Self.fault_count self.new ≡ count_after e (Self.fault_count self.old)) };
+
+    /// Whether a moment is held, in microseconds since 1970-01-01T00:00:00Z.
+    fn held_at(&mut self, now: i64) -> Result<bool, StoreFault>
+        ensures looks { OnlyLooks Self.Standing self.old self.new }
+        ensures opened { Self.honest self.new → OnOk result (Self.is_open self.old) }
+        ensures value { Self.honest self.new → (b : History) → Stands Self.Standing b self.old
+            → IfOk result (λ held. held ≡ is_held now b) }
+        ensures refusals { IfErr result (λ e. (e ≡ StoreFault.Memory) ⊎ (e ≡ StoreFault.Database)) }
+        ensures faults { MatchResult result (λ _. Self.fault_count self.new ≡ Self.fault_count self.old)
+            (λ e. Self.fault_count self.new ≡ count_after e (Self.fault_count self.old)) };
+
+    /// Reserves a stamp, which counts on its UTC day from now on, whether it is sealed or not. The caller's condition
+    /// is that its serial number is the greatest plus one, where that is at most 2^63 - 1. Refused with `Full`, and
+    /// nothing is added, where the greatest is 2^63 - 1.
+    fn reserve(&mut self, reservation: &Reservation<'_>) -> Result<(), StoreFault>
+        ensures honest { Self.honest self.new → Self.honest self.old }
+        ensures opened { Self.honest self.new → OnOk result (Self.is_open self.old × Self.is_open self.new) }
+        ensures ok { (b : History) → Stands Self.Standing b self.old
+            → Fits (Reserved (reservation_view reservation.now)) b
+            → OnOk result (Stands Self.Standing (Reserved (reservation_view reservation.now) ∷ b) self.new) }
+        ensures err { (b : History) → Stands Self.Standing b self.old → OnErr result (Stands Self.Standing b self.new) }
+        ensures crash { LeavesOrAdds Self.Standing (Reserved (reservation_view reservation.now)) self.old self.new }
+        ensures full { Self.honest self.new → (b : History) → Stands Self.Standing b self.old
+            → result ≡ Err StoreFault.Full → IsSpent b }
+        ensures spent { Self.honest self.new → (b : History) → Stands Self.Standing b self.old → IsSpent b
+            → IsErr result × LeavesAsBefore Self.Standing self.old self.new }
+        ensures refusals { IfErr result (λ e. (e ≡ StoreFault.Memory)
+            ⊎ ((e ≡ StoreFault.Database) ⊎ (e ≡ StoreFault.Full))) }
+        ensures faults { MatchResult result (λ _. Self.fault_count self.new ≡ Self.fault_count self.old)
+            (λ e. Self.fault_count self.new ≡ count_after e (Self.fault_count self.old)) };
+
+    /// Stores the token of a serial number. The caller's condition is that the number is reserved and not sealed.
+    fn seal(&mut self, serial: u64, token: &[u8]) -> Result<(), StoreFault>
+        ensures honest { Self.honest self.new → Self.honest self.old }
+        ensures opened { Self.honest self.new → OnOk result (Self.is_open self.old × Self.is_open self.new) }
+        ensures ok { (b : History) → Stands Self.Standing b self.old → Fits (Sealed serial token.now) b
+            → OnOk result (Stands Self.Standing (Sealed serial token.now ∷ b) self.new) }
+        ensures err { (b : History) → Stands Self.Standing b self.old → OnErr result (Stands Self.Standing b self.new) }
+        ensures crash { LeavesOrAdds Self.Standing (Sealed serial token.now) self.old self.new }
+        ensures refusals { IfErr result (λ e. (e ≡ StoreFault.Memory) ⊎ (e ≡ StoreFault.Database)) }
+        ensures faults { MatchResult result (λ _. Self.fault_count self.new ≡ Self.fault_count self.old)
+            (λ e. Self.fault_count self.new ≡ count_after e (Self.fault_count self.old)) };
+
+    /// Stores a deposit and its token in one commit, which seals its serial number: that is the deposit's number from
+    /// now on. The caller's condition is that it is reserved for the owner and not sealed, and that the owner hasn't
+    /// used the reference.
+    fn seal_deposit(
+        &mut self,
+        serial: u64,
+        token: &[u8],
+        owner: &str,
+        reference: &str,
+        bytes: &[u8],
+    ) -> Result<(), StoreFault>
+        ensures honest { Self.honest self.new → Self.honest self.old }
+        ensures opened { Self.honest self.new → OnOk result (Self.is_open self.old × Self.is_open self.new) }
+        ensures ok { (b : History) → Stands Self.Standing b self.old
+            → Fits (Deposited (deposit_of serial owner.now reference.now bytes.now) token.now) b
+            → OnOk result (Stands Self.Standing
+            (Deposited (deposit_of serial owner.now reference.now bytes.now) token.now ∷ b) self.new) }
+        ensures err { (b : History) → Stands Self.Standing b self.old → OnErr result (Stands Self.Standing b self.new) }
+        ensures crash { LeavesOrAdds Self.Standing
+            (Deposited (deposit_of serial owner.now reference.now bytes.now) token.now) self.old self.new }
+        ensures refusals { IfErr result (λ e. (e ≡ StoreFault.Memory) ⊎ (e ≡ StoreFault.Database)) }
+        ensures faults { MatchResult result (λ _. Self.fault_count self.new ≡ Self.fault_count self.old)
+            (λ e. Self.fault_count self.new ≡ count_after e (Self.fault_count self.old)) };
+
+    /// The deposit with a number, and its stamp, if there is one.
+    fn deposit(&mut self, number: u64) -> Result<Option<StampedDeposit>, StoreFault>
+        ensures looks { OnlyLooks Self.Standing self.old self.new }
+        ensures opened { Self.honest self.new → OnOk result (Self.is_open self.old) }
+        ensures value { Self.honest self.new → (b : History) → Stands Self.Standing b self.old
+            → IfOk result (λ found. option_map stamped_view found ≡ deposit_with_stamp number b) }
+        ensures refusals { IfErr result (λ e. (e ≡ StoreFault.Memory) ⊎ (e ≡ StoreFault.Database)) }
+        ensures faults { MatchResult result (λ _. Self.fault_count self.new ≡ Self.fault_count self.old)
+            (λ e. Self.fault_count self.new ≡ count_after e (Self.fault_count self.old)) };
+
+    /// Whether there is a deposit with a number that the account sees, as its owner or as a reader. No deposit's bytes
+    /// are read.
+    fn visible(&mut self, number: u64, account: &str) -> Result<bool, StoreFault>
+        ensures looks { OnlyLooks Self.Standing self.old self.new }
+        ensures opened { Self.honest self.new → OnOk result (Self.is_open self.old) }
+        ensures value { Self.honest self.new → (b : History) → Stands Self.Standing b self.old
+            → IfOk result (λ visible. visible ≡ is_visible account.now number b) }
+        ensures refusals { IfErr result (λ e. (e ≡ StoreFault.Memory) ⊎ (e ≡ StoreFault.Database)) }
+        ensures faults { MatchResult result (λ _. Self.fault_count self.new ≡ Self.fault_count self.old)
+            (λ e. Self.fault_count self.new ≡ count_after e (Self.fault_count self.old)) };
+
+    /// The deposit of an owner under a reference, if there is one.
+    fn by_reference(&mut self, owner: &str, reference: &str) -> Result<Option<Deposit>, StoreFault>
+        ensures looks { OnlyLooks Self.Standing self.old self.new }
+        ensures opened { Self.honest self.new → OnOk result (Self.is_open self.old) }
+        ensures value { Self.honest self.new → (b : History) → Stands Self.Standing b self.old
+            → IfOk result (λ found. option_map deposit_view found ≡ deposit_under owner.now reference.now b) }
+        ensures refusals { IfErr result (λ e. (e ≡ StoreFault.Memory) ⊎ (e ≡ StoreFault.Database)) }
+        ensures faults { MatchResult result (λ _. Self.fault_count self.new ≡ Self.fault_count self.old)
+            (λ e. Self.fault_count self.new ≡ count_after e (Self.fault_count self.old)) };
+
+    /// The deposits that an account sees, as their owner or as a reader, by number, each once. No deposit's bytes are
+    /// read.
+    fn list(&mut self, account: &str) -> Result<Vec<Listed>, StoreFault>
+        ensures looks { OnlyLooks Self.Standing self.old self.new }
+        ensures opened { Self.honest self.new → OnOk result (Self.is_open self.old) }
+        ensures value { Self.honest self.new → (b : History) → Stands Self.Standing b self.old
+            → IfOk result (λ rows. map listed_view rows.items ≡ listed account.now b) }
+        ensures refusals { IfErr result (λ e. (e ≡ StoreFault.Memory) ⊎ (e ≡ StoreFault.Database)) }
+        ensures faults { MatchResult result (λ _. Self.fault_count self.new ≡ Self.fault_count self.old)
+            (λ e. Self.fault_count self.new ≡ count_after e (Self.fault_count self.old)) };
+
+    /// Lets an account read a deposit, from now on. The caller's condition is that the number is a deposit's. A right
+    /// that the account has already is accepted again, and nothing changes.
+    fn grant(&mut self, number: u64, account: &str) -> Result<(), StoreFault>
+        ensures honest { Self.honest self.new → Self.honest self.old }
+        ensures opened { Self.honest self.new → OnOk result (Self.is_open self.old × Self.is_open self.new) }
+        ensures ok { (b : History) → Stands Self.Standing b self.old → Fits (Granted number account.now) b
+            → OnOk result (Stands Self.Standing (Granted number account.now ∷ b) self.new) }
+        ensures err { (b : History) → Stands Self.Standing b self.old → OnErr result (Stands Self.Standing b self.new) }
+        ensures crash { LeavesOrAdds Self.Standing (Granted number account.now) self.old self.new }
+        ensures repeated { (b : History) → Stands Self.Standing b self.old → is_reader number account.now b ≡ true
+            → OnOk result (Stands Self.Standing b self.new) }
+        ensures refusals { IfErr result (λ e. (e ≡ StoreFault.Memory) ⊎ (e ≡ StoreFault.Database)) }
+        ensures faults { MatchResult result (λ _. Self.fault_count self.new ≡ Self.fault_count self.old)
+            (λ e. Self.fault_count self.new ≡ count_after e (Self.fault_count self.old)) };
+
+    /// Takes the right to read a deposit from an account, from now on. The caller's condition is that the number is a
+    /// deposit's. A right that the account doesn't have may be taken all the same, and nothing changes.
+    fn revoke(&mut self, number: u64, account: &str) -> Result<(), StoreFault>
+        ensures honest { Self.honest self.new → Self.honest self.old }
+        ensures opened { Self.honest self.new → OnOk result (Self.is_open self.old × Self.is_open self.new) }
+        ensures ok { (b : History) → Stands Self.Standing b self.old → Fits (Revoked number account.now) b
+            → OnOk result (Stands Self.Standing (Revoked number account.now ∷ b) self.new) }
+        ensures err { (b : History) → Stands Self.Standing b self.old → OnErr result (Stands Self.Standing b self.new) }
+        ensures crash { LeavesOrAdds Self.Standing (Revoked number account.now) self.old self.new }
+        ensures unneeded { (b : History) → Stands Self.Standing b self.old → is_reader number account.now b ≡ false
+            → OnOk result (Stands Self.Standing b self.new) }
+        ensures refusals { IfErr result (λ e. (e ≡ StoreFault.Memory) ⊎ (e ≡ StoreFault.Database)) }
+        ensures faults { MatchResult result (λ _. Self.fault_count self.new ≡ Self.fault_count self.old)
+            (λ e. Self.fault_count self.new ≡ count_after e (Self.fault_count self.old)) };
+
+    /// Adds a calibration, which is the latest from now on. The caller's condition is an uncertainty of at most 10^12.
+    /// Refused with `Backwards` where its reading is before that of the latest.
+    fn calibrate(&mut self, calibration: &Calibration) -> Result<(), StoreFault>
+        ensures honest { Self.honest self.new → Self.honest self.old }
+        ensures opened { Self.honest self.new → OnOk result (Self.is_open self.old × Self.is_open self.new) }
+        ensures ok { (b : History) → Stands Self.Standing b self.old
+            → Fits (Calibrated (calibration_view calibration.now)) b
+            → OnOk result (Stands Self.Standing (Calibrated (calibration_view calibration.now) ∷ b) self.new) }
+        ensures err { (b : History) → Stands Self.Standing b self.old → OnErr result (Stands Self.Standing b self.new) }
+        ensures crash { LeavesOrAdds Self.Standing (Calibrated (calibration_view calibration.now)) self.old self.new }
+        ensures backwards { Self.honest self.new → (b : History) → Stands Self.Standing b self.old
+            → result ≡ Err StoreFault.Backwards
+            → IsBackwards (calibration_view calibration.now) (latest_calibration b) }
+        ensures refused { Self.honest self.new → (b : History) → Stands Self.Standing b self.old
+            → IsBackwards (calibration_view calibration.now) (latest_calibration b)
+            → IsErr result × LeavesAsBefore Self.Standing self.old self.new }
+        ensures refusals { IfErr result (λ e. (e ≡ StoreFault.Memory)
+            ⊎ ((e ≡ StoreFault.Database) ⊎ (e ≡ StoreFault.Backwards))) }
+        ensures faults { MatchResult result (λ _. Self.fault_count self.new ≡ Self.fault_count self.old)
+            (λ e. Self.fault_count self.new ≡ count_after e (Self.fault_count self.old)) };
+
+    /// Adds a hold. The caller's condition is that its first moment is before its end.
+    fn hold(&mut self, hold: &Hold) -> Result<(), StoreFault>
+        ensures honest { Self.honest self.new → Self.honest self.old }
+        ensures opened { Self.honest self.new → OnOk result (Self.is_open self.old × Self.is_open self.new) }
+        ensures ok { (b : History) → Stands Self.Standing b self.old → Fits (Held (hold_view hold.now)) b
+            → OnOk result (Stands Self.Standing (Held (hold_view hold.now) ∷ b) self.new) }
+        ensures err { (b : History) → Stands Self.Standing b self.old → OnErr result (Stands Self.Standing b self.new) }
+        ensures crash { LeavesOrAdds Self.Standing (Held (hold_view hold.now)) self.old self.new }
+        ensures refusals { IfErr result (λ e. (e ≡ StoreFault.Memory) ⊎ (e ≡ StoreFault.Database)) }
+        ensures faults { MatchResult result (λ _. Self.fault_count self.new ≡ Self.fault_count self.old)
+            (λ e. Self.fault_count self.new ≡ count_after e (Self.fault_count self.old)) };
+
+    /// The stamp with the least serial number from `from` on and up to `to`.
+    fn next_stamp(&mut self, from: u64, to: u64) -> Result<Option<Stamp>, StoreFault>
+        ensures looks { OnlyLooks Self.Standing self.old self.new }
+        ensures opened { Self.honest self.new → IfOk result (λ found. IfSome found (λ _. Self.is_open self.old)) }
+        ensures value { Self.honest self.new → (b : History) → Stands Self.Standing b self.old
+            → IfOk result (IsNextStamp from to b) }
+        ensures within { IfOk result (λ found. IfSome found (λ stamp. IsWithin from to stamp.serial)) }
+        ensures small { IfOk result (λ found. IfSome found (λ stamp. stamp.serial < 2 ^ 63)) }
+        ensures refusals { IfErr result (λ e. (e ≡ StoreFault.Memory) ⊎ (e ≡ StoreFault.Database)) }
+        ensures faults { MatchResult result (λ _. Self.fault_count self.new ≡ Self.fault_count self.old)
+            (λ e. Self.fault_count self.new ≡ count_after e (Self.fault_count self.old)) };
+
+    /// How many calls were refused for another cause than memory, modulo 2^64. Takes no memory.
+    fn faults(&self) -> u64
+        ensures { result ≡ Self.fault_count self.now };
+}

@@ -1,0 +1,16 @@
+//! The history of what the counter accepted, and what a book that keeps it owes its callers.
+#![tactic(auto)]
+
+mod book;
+mod fault;
+mod ranges;
+mod rows;
+mod standing;
+mod values;
+
+pub use book::Book;
+pub use fault::StoreFault;
+pub use ranges::StampsBetween;
+pub use rows::{Deposit, Stamp};
+pub use standing::Standing;
+pub use values::{Calibration, Hold, Last, Listed, Reservation, StampedDeposit};

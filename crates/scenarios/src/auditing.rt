@@ -1,0 +1,146 @@
+//! Extracts for auditors.
+use crate::bench::Kept;
+use crate::printing::Printer;
+use crate::words::Words;
+use audit::{ExtractFault, Extracted, extract, extract_length, write_extract};
+use counter_fakes::FailingWriter;
+use policy::{Account, Policy};
+use std::alloc::Global;
+use std::mem;
+
+/// Who asks, under which policy file, and for which stamps.
+#[derive(Clone, Copy)]
+pub struct Asked<'a> {
+    pub policy: &'a Policy,
+    pub account: &'a Account,
+    pub from: u64,
+    pub to: u64,
+}
+
+/// What takes an extract.
+type Taker = FailingWriter<Vec<u8>>;
+
+fn whole(
+    alloc: Global,
+    store: &mut Kept,
+    asked: Asked<'_>,
+    out: &mut Taker,
+) -> Result<(), ExtractFault> {
+    extract(
+        alloc,
+        store,
+        asked.policy,
+        asked.account,
+        asked.from,
+        asked.to,
+        out,
+    )
+}
+
+fn limited(
+    alloc: Global,
+    store: &mut Kept,
+    asked: Asked<'_>,
+    limit: u64,
+    out: &mut Taker,
+) -> Extracted {
+    let (policy, account) = (asked.policy, asked.account);
+    write_extract(
+        alloc, store, policy, account, asked.from, asked.to, limit, out,
+    )
+}
+
+fn length(alloc: Global, store: &mut Kept, asked: Asked<'_>) -> Result<u64, ExtractFault> {
+    extract_length(
+        alloc,
+        store,
+        asked.policy,
+        asked.account,
+        asked.from,
+        asked.to,
+    )
+}
+
+/// A taker of so many octets.
+fn taker(alloc: Global, octets: usize) -> Taker {
+    FailingWriter::new(Vec::new(alloc), Vec::new(alloc), octets)
+}
+
+/// A taker of all, which has the room.
+fn with_room(alloc: Global, room: &mut Vec<u8>) -> Taker {
+    let mut octets = mem::replace(room, Vec::new(alloc));
+    octets.clear();
+    FailingWriter::new(octets, Vec::new(alloc), usize::MAX)
+}
+
+/// Tells of the length, of the extract and of its octets, each with its refusal's number.
+fn tell_whole(
+    alloc: Global,
+    printer: Printer<'_>,
+    store: &mut Kept,
+    asked: Asked<'_>,
+    room: &mut Vec<u8>,
+) {
+    printer.tell(&length(alloc, store, asked));
+    let mut out = with_room(alloc, room);
+    let ending = whole(alloc, store, asked, &mut out);
+    printer.tell(&ending);
+    if let Err(fault) = ending {
+        printer.number("refusal", u64::from(fault.number()));
+    }
+    printer.octets("extract", &out.writer);
+    *room = out.writer;
+}
+
+/// Tells of what a taker of so many octets has, whether the extract begins so, and how many lines and octets that has.
+fn tell_beginning(
+    alloc: Global,
+    printer: Printer<'_>,
+    store: &mut Kept,
+    asked: Asked<'_>,
+    octets: usize,
+) {
+    let mut cut = taker(alloc, octets);
+    printer.tell(&whole(alloc, store, asked, &mut cut));
+    printer.number("taken", cut.writer.len() as u64);
+    let mut out = taker(alloc, usize::MAX);
+    printer.tell(&whole(alloc, store, asked, &mut out));
+    printer.tell(&out.writer.starts_with(&cut.writer));
+    let lines = out.writer.iter().filter(|octet| **octet == b'\n').count();
+    printer.number("lines", lines as u64);
+    let told = length(alloc, store, asked);
+    printer.tell(&(told == Ok(out.writer.len() as u64)));
+}
+
+/// Tells of the extract within a limit that is so much less than its length.
+fn tell_limited(
+    alloc: Global,
+    printer: Printer<'_>,
+    store: &mut Kept,
+    asked: Asked<'_>,
+    less: u64,
+) {
+    let length = length(alloc, store, asked).unwrap_or(0);
+    let mut out = taker(alloc, usize::MAX);
+    let got = limited(alloc, store, asked, length.saturating_sub(less), &mut out);
+    printer.tell(&got.outcome);
+    printer.number("octets", got.octets);
+    printer.octets("extract", &out.writer);
+}
+
+/// Makes the call that the word names.
+pub fn call(
+    alloc: Global,
+    printer: Printer<'_>,
+    store: &mut Kept,
+    word: &str,
+    asked: Asked<'_>,
+    words: &mut Words<'_>,
+    room: &mut Vec<u8>,
+) {
+    match word {
+        "extract" => tell_whole(alloc, printer, store, asked, room),
+        "beginning" => tell_beginning(alloc, printer, store, asked, words.number() as usize),
+        _ => tell_limited(alloc, printer, store, asked, words.number()),
+    }
+}

@@ -1,0 +1,105 @@
+//! Connections, and the stores that are made and taken over them.
+use crate::bench::{Bench, Counter, Kept, Place};
+use crate::setting::Setting;
+use desk::Desk;
+use sqlite::{Connection, Error};
+use std::alloc::Global;
+use store::{Store, StoreFault};
+
+type Opened = Result<Kept, (StoreFault, Connection<Place>)>;
+
+fn create(alloc: Global, conn: Connection<Place>) -> Opened {
+    if !conn.is_autocommit() {
+        return Err((StoreFault::Full, conn));
+    }
+    Store::create(alloc, conn)
+}
+
+fn adopt(alloc: Global, conn: Connection<Place>) -> Opened {
+    if !conn.is_autocommit() {
+        return Err((StoreFault::Full, conn));
+    }
+    Store::adopt(alloc, conn)
+}
+
+fn desk_over(alloc: Global, setting: &Setting, store: Kept) -> Counter<'_> {
+    Desk::new(
+        alloc,
+        &setting.policy,
+        &setting.identity,
+        &setting.algorithm,
+        store,
+    )
+}
+
+/// Connects to an empty database in memory.
+pub fn connect(bench: &mut Bench<'_>) {
+    match Connection::open_in_memory(bench.alloc) {
+        Ok(conn) => bench.conn = Some(conn),
+        Err(fault) => bench.printer.tell(&fault),
+    }
+}
+
+/// Keeps a desk over the store that was opened, or the connection and why it was refused.
+fn keep(bench: &mut Bench<'_>, opened: Opened) {
+    match opened {
+        Ok(store) => bench.desk = Some(desk_over(bench.alloc, bench.setting, store)),
+        Err((fault, conn)) => {
+            bench.printer.tell(&fault);
+            bench.conn = Some(conn);
+        }
+    }
+}
+
+/// Makes a store over the connection.
+pub fn make(bench: &mut Bench<'_>) {
+    if let Some(conn) = bench.conn.take() {
+        let opened = create(bench.alloc, conn);
+        keep(bench, opened);
+    }
+}
+
+/// Takes the store that the connection has.
+pub fn take(bench: &mut Bench<'_>) {
+    if let Some(conn) = bench.conn.take() {
+        let opened = adopt(bench.alloc, conn);
+        keep(bench, opened);
+    }
+}
+
+fn connection_of(desk: Counter<'_>) -> Connection<Place> {
+    desk.into_store().into_connection()
+}
+
+/// Gives the store's connection back.
+pub fn part(bench: &mut Bench<'_>) {
+    if let Some(desk) = bench.desk.take() {
+        bench.conn = Some(connection_of(desk));
+    }
+}
+
+fn number(conn: &mut Connection<Place>, sql: &str) -> Result<i64, Error> {
+    conn.query_row(sql, &[])?.get(0)
+}
+
+/// The number, asked for once more where it is refused.
+fn number_again(conn: &mut Connection<Place>, sql: &str) -> Result<i64, Error> {
+    match number(conn, sql) {
+        Ok(number) => Ok(number),
+        Err(_) => number(conn, sql),
+    }
+}
+
+/// Asks the database for a number.
+pub fn ask(bench: &mut Bench<'_>, sql: &str) {
+    if let Some(conn) = &mut bench.conn {
+        bench.printer.tell(&number_again(conn, sql));
+    }
+}
+
+/// Makes statements.
+pub fn execute(bench: &mut Bench<'_>, sql: &str) {
+    if let Some(conn) = &mut bench.conn {
+        bench.printer.tell(&conn.execute_batch(sql));
+    }
+}

@@ -1,0 +1,253 @@
+//! Calls of the desk.
+use crate::bench::{Counter, Holder};
+use crate::printing::Printer;
+use cms::Signer;
+use desk::{Answer, Begun, Command, Deposited, Fault, Pending, Reply};
+use policy::Account;
+use store::Listed;
+
+/// Tells of a reply.
+pub fn tell_reply(printer: Printer<'_>, reply: &Reply) {
+    match reply {
+        Reply::Granted { serial, bytes } => {
+            printer.number("granted", *serial);
+            printer.octets("reply", bytes);
+        }
+        Reply::Rejected(rejection) => printer.octets("reply", rejection.as_slice()),
+    }
+}
+
+fn tell_shown(printer: Printer<'_>, shown: Result<Vec<u8>, Fault>) {
+    match shown {
+        Ok(octets) => printer.octets("shown", &octets),
+        Err(fault) => printer.tell(&fault),
+    }
+}
+
+fn answer(
+    desk: &mut Counter<'_>,
+    account: Option<&Account>,
+    reading: i64,
+    query: &[u8],
+    signer: &mut Holder,
+) -> Reply {
+    desk.answer(account, reading, query, signer)
+}
+
+fn deposit(
+    desk: &mut Counter<'_>,
+    account: &Account,
+    reading: i64,
+    reference: &str,
+    bytes: &[u8],
+    signer: &mut Holder,
+) -> Result<Deposited, Fault> {
+    desk.deposit(account, reading, reference, bytes, signer)
+}
+
+fn show(desk: &mut Counter<'_>, account: &Account, number: u64) -> Result<Vec<u8>, Fault> {
+    desk.show(account, number)
+}
+
+fn token(desk: &mut Counter<'_>, account: &Account, number: u64) -> Result<Vec<u8>, Fault> {
+    desk.token_of(account, number)
+}
+
+fn list(desk: &mut Counter<'_>, account: &Account) -> Result<Vec<Listed>, Fault> {
+    desk.list(account)
+}
+
+fn grant(
+    desk: &mut Counter<'_>,
+    account: &Account,
+    number: u64,
+    reader: &str,
+) -> Result<(), Fault> {
+    desk.grant(account, number, reader)
+}
+
+fn revoke(
+    desk: &mut Counter<'_>,
+    account: &Account,
+    number: u64,
+    reader: &str,
+) -> Result<(), Fault> {
+    desk.revoke(account, number, reader)
+}
+
+/// Makes the call of a deposit's command, and tells of it.
+fn call_about_deposits(printer: Printer<'_>, desk: &mut Counter<'_>, command: Command<'_>) {
+    match command {
+        Command::Show { account, number } => tell_shown(printer, show(desk, account, number)),
+        Command::Token { account, number } => tell_shown(printer, token(desk, account, number)),
+        Command::List { account } => printer.list(list(desk, account)),
+        Command::Grant {
+            account,
+            number,
+            reader,
+        } => printer.tell(&grant(desk, account, number, reader)),
+        Command::Revoke {
+            account,
+            number,
+            reader,
+        } => printer.tell(&revoke(desk, account, number, reader)),
+        _ => printer.line("  no such call"),
+    }
+}
+
+/// Makes the call of a command, and tells of it. Calibrations and holds are calls of the store.
+pub fn call(
+    printer: Printer<'_>,
+    desk: &mut Counter<'_>,
+    command: Command<'_>,
+    signer: &mut Holder,
+) {
+    match command {
+        Command::Stamp {
+            account,
+            reading,
+            query,
+        } => tell_reply(printer, &answer(desk, account, reading, query, signer)),
+        Command::Deposit {
+            account,
+            reading,
+            reference,
+            bytes,
+        } => printer.tell(&deposit(desk, account, reading, reference, bytes, signer)),
+        other => call_about_deposits(printer, desk, other),
+    }
+}
+
+fn run(
+    desk: &mut Counter<'_>,
+    commands: &[Command<'_>],
+    signer: &mut Holder,
+) -> Result<Vec<Answer>, Fault> {
+    desk.run(commands, signer)
+}
+
+fn tell_answer(printer: Printer<'_>, answer: &Answer) {
+    match answer {
+        Answer::Stamped(reply) => tell_reply(printer, reply),
+        Answer::Shown(octets) => printer.octets("shown", octets),
+        Answer::Listed(rows) => printer.rows(rows),
+        other => printer.tell(other),
+    }
+}
+
+/// Runs a list of commands, and tells of each answer.
+pub fn run_all(
+    printer: Printer<'_>,
+    desk: &mut Counter<'_>,
+    commands: &[Command<'_>],
+    signer: &mut Holder,
+) {
+    match run(desk, commands, signer) {
+        Ok(answers) => {
+            for answer in &answers {
+                tell_answer(printer, answer);
+            }
+        }
+        Err(fault) => printer.tell(&fault),
+    }
+}
+
+/// Tells how many of a request's fronts, from one octet on and without the whole, are answered by that reply.
+pub fn tell_fronts(
+    printer: Printer<'_>,
+    desk: &mut Counter<'_>,
+    account: Option<&Account>,
+    query: &[u8],
+    reply: &[u8],
+    signer: &mut Holder,
+) {
+    let mut count: u64 = 0;
+    for len in 1..query.len() {
+        let front = query.get(..len).unwrap_or(&[]);
+        if is_reply(&answer(desk, account, 0, front, signer), reply) {
+            count = count.saturating_add(1);
+        }
+    }
+    printer.number("fronts", count);
+}
+
+fn is_reply(reply: &Reply, octets: &[u8]) -> bool {
+    match reply {
+        Reply::Granted { serial: _, bytes } => bytes.as_slice() == octets,
+        Reply::Rejected(rejection) => rejection.as_slice() == octets,
+    }
+}
+
+/// What waits for its signature after a request at the first moment.
+fn begun<'p>(
+    desk: &mut Counter<'p>,
+    account: Option<&Account>,
+    query: &[u8],
+) -> Option<Pending<'p>> {
+    match desk.begin(account, 0, query) {
+        Ok(Begun::Pending(pending)) => Some(pending),
+        Ok(Begun::Rejected(_)) => None,
+        Err(_) => None,
+    }
+}
+
+fn abandon<'p>(desk: &mut Counter<'p>, pending: Pending<'p>) {
+    desk.abandon(pending);
+}
+
+fn signed<'p>(desk: &mut Counter<'p>, pending: Pending<'p>, signer: &mut Holder) -> Option<Reply> {
+    match signer.sign(pending.text()) {
+        Ok(signature) => desk.finish(pending, &signature).ok(),
+        Err(_) => {
+            abandon(desk, pending);
+            None
+        }
+    }
+}
+
+/// Signs what waits, if anything does, and tells of it.
+fn finish<'p>(
+    printer: Printer<'_>,
+    desk: &mut Counter<'p>,
+    pending: Option<Pending<'p>>,
+    signer: &mut Holder,
+) {
+    let reply = match pending {
+        Some(pending) => signed(desk, pending, signer),
+        None => None,
+    };
+    match reply {
+        Some(reply) => tell_reply(printer, &reply),
+        None => printer.line("  nothing"),
+    }
+}
+
+/// Begins two stamps one after the other, and finishes them the other way round.
+pub fn finish_backwards(
+    printer: Printer<'_>,
+    desk: &mut Counter<'_>,
+    account: Option<&Account>,
+    query: &[u8],
+    signer: &mut Holder,
+) {
+    let first = begun(desk, account, query);
+    let second = begun(desk, account, query);
+    finish(printer, desk, second, signer);
+    finish(printer, desk, first, signer);
+}
+
+/// Begins a stamp, and leaves it void.
+pub fn leave(
+    printer: Printer<'_>,
+    desk: &mut Counter<'_>,
+    account: Option<&Account>,
+    query: &[u8],
+) {
+    match begun(desk, account, query) {
+        Some(pending) => {
+            abandon(desk, pending);
+            printer.line("  left");
+        }
+        None => printer.line("  nothing"),
+    }
+}

@@ -1,0 +1,48 @@
+//! The laws, each called once, and the numbers of the refusals.
+use crate::bench::Place;
+use crate::printing::Printer;
+use desk::{
+    Fault, accounts_are_isolated, accounts_disturb_little, grants_are_of_their_plan,
+    journeys_keep_their_promises, rejections_tell_their_rule, steps_leave_sound_histories,
+    texts_are_reserved,
+};
+use store::{book_stands_in_tables, equal_tables_tell_the_same, serials_rise};
+use tsp::Rule;
+
+static FAULTS: [Fault; 10] = [
+    Fault::NotHere,
+    Fault::NotOwner,
+    Fault::Conflict,
+    Fault::UnknownReader,
+    Fault::SelfGrant,
+    Fault::TooLarge,
+    Fault::Rejected(Rule::Quota),
+    Fault::Memory,
+    Fault::Store,
+    Fault::Signer,
+];
+
+/// Tells the numbers of the desk's refusals.
+pub fn number(printer: Printer<'_>) {
+    for fault in &FAULTS {
+        printer.tell(&(*fault, fault.number()));
+    }
+}
+
+/// Calls the laws of the store.
+pub fn call_of_store() {
+    equal_tables_tell_the_same();
+    serials_rise();
+    book_stands_in_tables::<Place>();
+}
+
+/// Calls the laws of the desk.
+pub fn call_of_desk() {
+    steps_leave_sound_histories();
+    grants_are_of_their_plan();
+    rejections_tell_their_rule();
+    texts_are_reserved();
+    journeys_keep_their_promises();
+    accounts_are_isolated::<cms::KeyedHash>();
+    accounts_disturb_little();
+}

@@ -1,0 +1,96 @@
+//! With what a scenario's desk is opened.
+use crate::names::Names;
+use crate::words::Words;
+use cms::{Algorithm, Identity, KeyedHash};
+use counter_fakes::FailingSigner;
+use policy::{Account, EXAMPLE, Policy};
+use std::alloc::Global;
+
+/// The record of a policy file, that of another, the certificate and the algorithm.
+#[derive(Drop)]
+pub struct Setting {
+    pub policy: Policy,
+    pub other: Policy,
+    pub identity: Identity,
+    pub algorithm: Algorithm,
+}
+
+/// The rest of a scenario's line that begins with that word.
+fn rest_of<'t>(scenario: &'t str, word: &str) -> Option<&'t str> {
+    for line in scenario.lines() {
+        let mut words = Words { rest: line };
+        if words.next() == word {
+            return Some(words.rest);
+        }
+    }
+    None
+}
+
+fn text_of<'n>(names: &'n Names, name: &str) -> Option<&'n str> {
+    str::from_utf8(names.octets(name)).ok()
+}
+
+/// The example of a policy file with its first `old` replaced.
+fn changed(alloc: Global, old: &str, new: &str) -> Option<Policy> {
+    let (front, back) = EXAMPLE.split_once(old)?;
+    let text = format!(in alloc; "{front}{new}{back}").ok()?;
+    Policy::from_text(alloc, &text).ok()
+}
+
+/// The example, in which a line may say by two names what is replaced and by what, or another file by its name.
+fn policy_by(alloc: Global, names: &Names, line: Option<&str>) -> Option<Policy> {
+    let Some(rest) = line else {
+        return Policy::from_text(alloc, EXAMPLE).ok();
+    };
+    let mut words = Words { rest };
+    let first = text_of(names, words.next())?;
+    match words.next() {
+        "" => Policy::from_text(alloc, first).ok(),
+        second => changed(alloc, first, text_of(names, second)?),
+    }
+}
+
+fn identity_of(alloc: Global, names: &Names) -> Option<Identity> {
+    Identity::from_certificate(alloc, names.octets("CERTIFICATE")).ok()
+}
+
+fn algorithm_of(alloc: Global, names: &Names) -> Option<Algorithm> {
+    Algorithm::from_bytes(alloc, names.octets("ALGORITHM")).ok()
+}
+
+/// The setting of a scenario.
+pub fn setting_of(alloc: Global, names: &Names, scenario: &str) -> Option<Setting> {
+    Some(Setting {
+        policy: policy_by(alloc, names, rest_of(scenario, "policy"))?,
+        other: policy_by(alloc, names, rest_of(scenario, "other"))?,
+        identity: identity_of(alloc, names)?,
+        algorithm: algorithm_of(alloc, names)?,
+    })
+}
+
+/// The numbers of the line `signer NUMBER..`.
+fn chosen_of(alloc: Global, scenario: &str) -> Option<Vec<u64>> {
+    let mut chosen = Vec::new(alloc);
+    for word in rest_of(scenario, "signer").unwrap_or("").split(' ') {
+        if let Ok(number) = word.parse() {
+            chosen.push(number).ok()?;
+        }
+    }
+    Some(chosen)
+}
+
+/// A signer with a key that fails at the calls that a scenario chooses.
+pub fn signer_of(alloc: Global, scenario: &str) -> Option<FailingSigner<KeyedHash>> {
+    let signer = KeyedHash::new(alloc, b"k").ok()?;
+    Some(FailingSigner::new(signer, chosen_of(alloc, scenario)?))
+}
+
+impl Setting {
+    /// The account of a name; one with `other/` in front is the other file's.
+    pub fn account(&self, name: &str) -> Option<&Account> {
+        match name.strip_prefix("other/") {
+            Some(name) => self.other.account_named(name),
+            None => self.policy.account_named(name),
+        }
+    }
+}

@@ -1,0 +1,184 @@
+//! Calls of the store.
+use crate::bench::Kept;
+use crate::names::Names;
+use crate::printing::Printer;
+use crate::stamps::{check, flip, tell_stamp, walk};
+use crate::words::Words;
+use store::{
+    Book, Calibration, Deposit, Hold, Last, Listed, Reservation, StampedDeposit, StoreFault,
+};
+
+type Ending = Result<(), StoreFault>;
+
+fn calibrate(store: &mut Kept, words: &mut Words<'_>) -> Ending {
+    let calibration = Calibration {
+        reading: words.signed(),
+        offset: words.signed(),
+        uncertainty: words.number(),
+    };
+    store.calibrate(&calibration)
+}
+
+fn hold(store: &mut Kept, words: &mut Words<'_>) -> Ending {
+    let hold = Hold {
+        from: words.signed(),
+        to: words.signed(),
+    };
+    store.hold(&hold)
+}
+
+/// What is reserved under a serial number.
+fn reservation<'w>(serial: u64, names: &'w Names, words: Words<'w>) -> Reservation<'w> {
+    let mut words = words;
+    Reservation {
+        serial,
+        account: words.next(),
+        gen_time: words.number(),
+        policy: names.octets(words.next()),
+        algorithm: names.octets(words.next()),
+        digest: names.octets(words.next()),
+        request: names.octets(words.next()),
+        tst: names.octets(words.next()),
+    }
+}
+
+fn reserve(store: &mut Kept, reservation: &Reservation<'_>) -> Ending {
+    store.reserve(reservation)
+}
+
+/// Reserves under each serial number from one to another, up to the first that is refused.
+fn reserve_all<'w>(store: &mut Kept, names: &'w Names, words: Words<'w>) -> Ending {
+    let mut words = words;
+    let (from, to) = (words.number(), words.number());
+    for serial in from..=to {
+        reserve(store, &reservation(serial, names, words))?;
+    }
+    Ok(())
+}
+
+fn seal(store: &mut Kept, names: &Names, words: &mut Words<'_>) -> Ending {
+    let serial = words.number();
+    store.seal(serial, names.octets(words.next()))
+}
+
+fn seal_deposit(store: &mut Kept, names: &Names, words: &mut Words<'_>) -> Ending {
+    let serial = words.number();
+    let (owner, reference) = (words.next(), words.next());
+    let token = names.octets(words.next());
+    store.seal_deposit(serial, token, owner, reference, names.octets(words.next()))
+}
+
+fn grant(store: &mut Kept, words: &mut Words<'_>) -> Ending {
+    let number = words.number();
+    store.grant(number, words.next())
+}
+
+fn revoke(store: &mut Kept, words: &mut Words<'_>) -> Ending {
+    let number = words.number();
+    store.revoke(number, words.next())
+}
+
+/// What becomes of a change; none where the word names none.
+fn changed(store: &mut Kept, names: &Names, word: &str, words: &mut Words<'_>) -> Option<Ending> {
+    Some(match word {
+        "calibrate" => calibrate(store, words),
+        "hold" => hold(store, words),
+        "reserve" => reserve_all(store, names, *words),
+        "seal" => seal(store, names, words),
+        "seal-deposit" => seal_deposit(store, names, words),
+        "grant" => grant(store, words),
+        "revoke" => revoke(store, words),
+        _ => return None,
+    })
+}
+
+fn calibration(store: &mut Kept) -> Result<Option<Calibration>, StoreFault> {
+    store.calibration()
+}
+
+fn is_held(store: &mut Kept, words: &mut Words<'_>) -> Result<bool, StoreFault> {
+    store.held_at(words.signed())
+}
+
+fn last(store: &mut Kept) -> Result<Last, StoreFault> {
+    store.last()
+}
+
+fn count(store: &mut Kept, words: &mut Words<'_>) -> Result<u64, StoreFault> {
+    let account = words.next();
+    store.count_of_day(account, words.number())
+}
+
+fn list(store: &mut Kept, words: &mut Words<'_>) -> Result<Vec<Listed>, StoreFault> {
+    store.list(words.next())
+}
+
+fn is_visible(store: &mut Kept, words: &mut Words<'_>) -> Result<bool, StoreFault> {
+    let number = words.number();
+    store.visible(number, words.next())
+}
+
+fn stamped(store: &mut Kept, words: &mut Words<'_>) -> Result<Option<StampedDeposit>, StoreFault> {
+    store.deposit(words.number())
+}
+
+fn under(store: &mut Kept, words: &mut Words<'_>) -> Result<Option<Deposit>, StoreFault> {
+    let owner = words.next();
+    store.by_reference(owner, words.next())
+}
+
+fn tell_deposit(printer: Printer<'_>, deposit: &Deposit) {
+    printer.tell(&(
+        deposit.serial,
+        deposit.owner.as_str(),
+        deposit.reference.as_str(),
+    ));
+    printer.octets("bytes", &deposit.bytes);
+}
+
+fn tell_stamped(printer: Printer<'_>, answer: Result<Option<StampedDeposit>, StoreFault>) {
+    match answer {
+        Ok(Some(found)) => {
+            tell_deposit(printer, &found.deposit);
+            tell_stamp(printer, &found.stamp);
+        }
+        Ok(None) => printer.line("  None"),
+        Err(fault) => printer.tell(&fault),
+    }
+}
+
+fn tell_under(printer: Printer<'_>, answer: Result<Option<Deposit>, StoreFault>) {
+    match answer {
+        Ok(Some(found)) => tell_deposit(printer, &found),
+        Ok(None) => printer.line("  None"),
+        Err(fault) => printer.tell(&fault),
+    }
+}
+
+/// Tells what a look-up shows.
+fn show(printer: Printer<'_>, store: &mut Kept, word: &str, words: &mut Words<'_>) {
+    match word {
+        "calibration" => printer.tell(&calibration(store)),
+        "held" => printer.tell(&is_held(store, words)),
+        "last" => printer.tell(&last(store)),
+        "count" => printer.tell(&count(store, words)),
+        "list" => printer.list(list(store, words)),
+        "visible" => printer.tell(&is_visible(store, words)),
+        "deposit" => tell_stamped(printer, stamped(store, words)),
+        "under" => tell_under(printer, under(store, words)),
+        "walk" => walk(printer, store, words),
+        "check" => check(printer, store, words),
+        "flip" => flip(printer, store, words),
+        "faults" => printer.number("faults", store.faults()),
+        _ => printer.line("  no such call"),
+    }
+}
+
+/// Makes the call that the words name.
+pub fn call(printer: Printer<'_>, store: &mut Kept, words: &mut Words<'_>) {
+    let word = words.next();
+    match changed(store, printer.names, word, words) {
+        Some(ending) => printer.tell(&ending),
+        None => show(printer, store, word, words),
+    }
+}

@@ -1,0 +1,16 @@
+use Rattle.std.proofs.Common.{◌∙◌, ap, to_z-of_z}
+use Rattle.book.specs.History.{is_held}
+use Rattle.store.proofs.Calls.{looks_now, kept_seen}
+use Rattle.store.proofs.Numbered.{held_view}
+use Rattle.store.proofs.store.StoreBook.held_at.Goals as goal
+
+pub returns-in_err-held-clause-looks : goal.returns-in_err-held-clause-looks
+returns-in_err-held-clause-looks g c = looks_now g.S.Store _ _ _ c.self.view_is c.in_err-held.ensures.reads
+
+pub returns-clause-looks : goal.returns-clause-looks
+returns-clause-looks g c = looks_now g.S.Store _ _ _ c.self.view_is c.in_ok-held.ensures.reads
+
+pub returns-clause-value : goal.returns-clause-value
+returns-clause-value g c honest b s =
+    c.in_ok-held.ensures.value honest _ (kept_seen g.S.Store _ _ b c.self.view_is s) ∙ held_view b _
+    ∙ ap (λ now. is_held now b) (to_z-of_z c.ranges.now)
