@@ -1,0 +1,166 @@
+"""A time-stamping authority in a folder, for the tests beside this file: a key, certificates and a database, a key
+holder and `counter serve`."""
+
+import contextlib
+import os
+import subprocess
+import tempfile
+import time
+
+from certificates import ALGORITHMS, CertificationAuthority
+from programs import EXAMPLE, KEY_HOLDER, PROGRAM, now, openssl, sqlite
+
+# how long a program has to listen on its port, on a slow machine
+SECONDS_TO_START = 120
+MOST_CONNECTIONS = 2**32 - 1
+
+
+def listening_port(running):
+    """The port on which the process listens, once it does; none if it ends first."""
+    end = time.monotonic() + SECONDS_TO_START
+    while time.monotonic() < end and running.poll() is None:
+        with contextlib.suppress(OSError):
+            folder = f"/proc/{running.pid}/fd"
+            inodes = {os.readlink(os.path.join(folder, name)) for name in os.listdir(folder)}
+            with open("/proc/net/tcp", encoding="ascii") as file:
+                for line in file.readlines()[1:]:
+                    parts = line.split()
+                    if parts[3] == "0A" and f"socket:[{parts[9]}]" in inodes:
+                        return int(parts[1].split(":")[1], 16)
+        time.sleep(0.005)
+    return None
+
+
+class Running:
+    """A process of the test's own; it is killed at the end, if not before."""
+
+    def __init__(self, words):
+        # a file, since nobody reads it before the end
+        self.errors = tempfile.TemporaryFile()
+        how = {"stdin": subprocess.DEVNULL, "stdout": subprocess.PIPE, "stderr": self.errors}
+        self.process = subprocess.Popen(words, **how)
+
+    def __enter__(self):
+        return self
+
+    def __exit__(self, *_):
+        self.kill()
+
+    def kill(self):
+        """Ends it at once, as `kill -9` does, and answers what it wrote since."""
+        if self.errors.closed:
+            return b""
+        self.process.kill()
+        written, _ = self.process.communicate()
+        with self.errors:
+            self.errors.seek(0)
+            return written + self.errors.read()
+
+
+class KeyHolder(Running):
+    """The key holder, at work on a port that the system picked if none is named."""
+
+    def __init__(self, certified, *options, program=KEY_HOLDER, port=0):
+        words = ["--key", certified.key, "--certificate", certified.der, "--listen", f"127.0.0.1:{port}", *options]
+        super().__init__([program, *words])
+        self.address = self.process.stdout.readline().decode().strip()
+        self.port = int(self.address.rpartition(":")[2])
+
+
+class Server(Running):
+    """`counter serve`, at work on a port that the system picked."""
+
+    def __init__(self, words):
+        super().__init__(words)
+        self.port = listening_port(self.process)
+        if self.port is None:
+            raise RuntimeError(f"it doesn't listen: {words}: {self.kill()}")
+        self.url = f"http://127.0.0.1:{self.port}"
+
+
+class Authority:
+    """Files in a folder: a certification authority, the key and certificate that it certifies for time-stamping, the
+    policy file, and a database that is calibrated by the machine's clock, unless told not to. The policy file is the
+    example as it is, or with more fraction digits and with quotas that aren't used up, or the one at the path."""
+
+    def __init__(self, folder, kind, is_example=False, policy=None, is_calibrated=True):
+        self.folder, self.kind = folder, kind
+        self.rules, self.db = self.path("rules.toml"), self.path("counter.db")
+        issuer = CertificationAuthority(folder, kind)
+        self.certified = issuer.certified("tsa")
+        self.ca, self.pem, self.certificate = issuer.pem, self.certified.pem, self.certified.der
+        self.algorithm = self.write("tsa.algorithm", ALGORITHMS[kind])
+        with open(policy or EXAMPLE, encoding="utf-8") as file:
+            rules = file.read()
+        if not (is_example or policy):
+            rules = rules.replace("fraction_digits = 0", "fraction_digits = 6").replace(
+                "daily_quota = 1000", "daily_quota = 1000000000"
+            )
+        self.write("rules.toml", rules.encode())
+        self.words("init", "--db", self.db)
+        if is_calibrated:
+            self.words("calibrate", "--db", self.db, "--reading", str(now()), "--offset", "0", "--uncertainty", "1")
+
+    def path(self, name):
+        return os.path.join(self.folder, name)
+
+    def write(self, name, octets):
+        with open(self.path(name), "wb") as file:
+            file.write(octets)
+        return self.path(name)
+
+    def words(self, *words):
+        subprocess.run([PROGRAM, *words], check=True)
+
+    def key_holder(self, port=0):
+        return KeyHolder(self.certified, port=port)
+
+    def desk_words(self, *signer):
+        """The options of the words that give tokens: with a signer's; one word alone is a key holder's address."""
+        if len(signer) == 1:
+            signer = ["--signer", *signer, "--signer-algorithm", self.algorithm]
+        return ["--db", self.db, "--rules", self.rules, "--certificate", self.certificate, *signer]
+
+    def serve_words(self, *signer):
+        words = [PROGRAM, "serve", *self.desk_words(*signer)]
+        return [*words, "--listen", "127.0.0.1:0", "--connections", str(MOST_CONNECTIONS)]
+
+    def serving(self, *signer):
+        return Server(self.serve_words(*signer))
+
+    def query(self, *options, data=b"abc"):
+        """A request that OpenSSL makes."""
+        return openssl("ts", "-query", "-data", self.write("data", data), *options)[0]
+
+    def is_verified(self, reply, *options):
+        """Whether OpenSSL verifies the reply, with the certificate at hand."""
+        words = [
+            "ts",
+            "-verify",
+            "-in",
+            self.write("reply", reply),
+            "-CAfile",
+            self.ca,
+            "-untrusted",
+            self.pem,
+            *options,
+        ]
+        said, status = openssl(*words)
+        return status == 0 and b"Verification: OK" in said
+
+    def shown(self, reply):
+        """What OpenSSL says of the reply."""
+        return openssl("ts", "-reply", "-in", self.write("reply", reply), "-text")[0].decode()
+
+    def is_sound(self, wrong, when):
+        """The database as sqlite3 finds it once nobody has it open."""
+        wrong.unless(f"integrity {when}", sqlite(self.db, "PRAGMA integrity_check"), [{"integrity_check": "ok"}])
+        wrong.unless(f"foreign keys {when}", sqlite(self.db, "PRAGMA foreign_key_check"), [])
+        wrong.unless(f"deposits without a token {when}", sqlite(self.db, LACKING), [])
+        rows = sqlite(self.db, "SELECT serial FROM stamp ORDER BY serial")
+        wrong.unless(f"serials {when}", [row["serial"] for row in rows], list(range(1, 1 + len(rows))))
+        tallied = sqlite(self.db, "SELECT coalesce(sum(count), 0) AS count FROM tally")
+        wrong.unless(f"the tallies {when}", tallied, [{"count": len(rows)}])
+
+
+LACKING = "SELECT deposit.serial FROM deposit LEFT JOIN stamp USING (serial) WHERE token IS NULL"

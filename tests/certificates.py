@@ -1,0 +1,48 @@
+"""Keys and certificates that OpenSSL makes, for the tests."""
+
+import os
+import subprocess
+
+# what `openssl req -newkey` is told of each kind of key
+KINDS = {"RSA": ["rsa:2048"], "ECDSA": ["ec", "-pkeyopt", "ec_paramgen_curve:P-256"]}
+# the AlgorithmIdentifier of signatures with SHA-256: PKCS #1 v1.5 (RFC 4055 5), and ECDSA (RFC 5758 3.2)
+ALGORITHMS = {
+    "RSA": bytes.fromhex("300d06092a864886f70d01010b0500"),
+    "ECDSA": bytes.fromhex("300a06082a8648ce3d040302"),
+}
+# the extensions of a certificate for time-stamps (RFC 3161 2.3)
+USAGE = "keyUsage=critical,digitalSignature", "extendedKeyUsage=critical,timeStamping"
+
+
+def made(*words):
+    subprocess.run(["openssl", *words], check=True, stderr=subprocess.DEVNULL)
+
+
+class Certified:
+    """A key and its certificate, in files of that name in the folder."""
+
+    def __init__(self, folder, name):
+        self.key, self.request, self.pem, self.der = (
+            os.path.join(folder, f"{name}.{kind}") for kind in ("key", "csr", "pem", "der")
+        )
+
+
+class CertificationAuthority:
+    """One in a folder, with a key of that kind."""
+
+    def __init__(self, folder, kind):
+        self.folder, self.kind = folder, kind
+        self.pem, self.key = os.path.join(folder, "ca.pem"), os.path.join(folder, "ca.key")
+        subject = ["-subj", "/O=Example/CN=CA"]
+        made("req", "-newkey", *KINDS[kind], "-nodes", "-x509", *subject, "-keyout", self.key, "-out", self.pem)
+
+    def certified(self, name, *options, newkey=None, extensions=USAGE):
+        """A new key that it certifies for that name, with these extensions and options of `openssl x509`."""
+        new = Certified(self.folder, name)
+        asked = [word for extension in extensions for word in ("-addext", extension)]
+        words = ["-nodes", "-subj", f"/O=Example/CN={name}", *asked, "-keyout", new.key, "-out", new.request]
+        made("req", "-newkey", *(newkey or KINDS[self.kind]), *words)
+        signer = ["-CA", self.pem, "-CAkey", self.key, "-CAcreateserial"]
+        made("x509", "-req", "-in", new.request, "-copy_extensions", "copy", *signer, *options, "-out", new.pem)
+        made("x509", "-in", new.pem, "-outform", "DER", "-out", new.der)
+        return new

@@ -1,0 +1,122 @@
+"""The programs that the tests run, and what is found wrong of them: the counter and the crates' other programs, OpenSSL
+and sqlite3."""
+
+import json
+import os
+import re
+import subprocess
+import time
+
+ROOT = os.path.dirname(os.path.dirname(os.path.abspath(__file__)))
+SCRIPTS = os.path.join(ROOT, "scripts")
+CRATES = os.path.join(ROOT, "crates")
+PROGRAM = os.path.join(CRATES, "counter", "out", "counter")
+KEY_HOLDER = os.path.join(ROOT, "key-holder", "out", "key-holder")
+EXAMPLE = os.path.join(ROOT, "docs", "example-policy.toml")
+# Debian's Python, for which Debian's packages are installed
+PYTHON = "/usr/bin/python3"
+# a line of `openssl asn1parse`: depth, kind and text
+VALUE = re.compile(r"\s*\d+:d=(\d+)\s+hl=\d+\s+l=\s*\d+\s+(?:prim|cons):\s*([A-Z0-9 \[\]a-z]+?)\s*(?::(.*))?$")
+# a certificate of the outline that is read, and no real one: an empty key and signature, and the name CN=TSA
+NAME = "300e310c300a06035504030c03545341"
+ALGORITHM = bytes.fromhex("30050603883709")
+VALIDITY = "301e170d3730303130313030303030305a170d3439313233313233353935395a"
+CERTIFICATE = bytes.fromhex(
+    "3064 3057 020107 {0} {1} {2} {1} 300b {0} 03020001 {0} 03020001".format(ALGORITHM.hex(), NAME, VALIDITY)
+)
+
+
+class Wrong:
+    """What was found wrong, told as it is found."""
+
+    count = 0
+
+    def unless(self, what, got, want):
+        if got != want:
+            self.count += 1
+            print(f"{what}: got {got!r}, want {want!r}", flush=True)
+
+    def ended(self, what):
+        """Tells at the end of a test what it did, and how much was wrong; its status."""
+        print(f"{what}; {self.count} wrong")
+        return self.count > 0
+
+
+def built(crate):
+    """The path of a crate's program, which is proved and built first if that wasn't done since the sources changed."""
+    words = [os.path.join(SCRIPTS, "built"), crate]
+    return subprocess.run(words, stdout=subprocess.PIPE, check=True, text=True).stdout.strip()
+
+
+def built_key_holder(*targets):
+    """The path of the key holder, which its Makefile builds, with its other targets if some are named."""
+    subprocess.run(["make", "-s", "-C", os.path.join(ROOT, "key-holder"), "all", *targets], check=True)
+    return KEY_HOLDER
+
+
+def build():
+    """Proves and builds the counter, if that wasn't done yet, and builds the key holder."""
+    built("counter")
+    built_key_holder()
+
+
+def compiled(source, program, *options):
+    """Compiles a C file that lies beside the test."""
+    subprocess.run(["cc", "-o", program, source, *options], check=True)
+    return program
+
+
+def compiled_library(name, folder):
+    """Compiles a C file of this folder as a library that a program loads before the others."""
+    source = os.path.join(ROOT, "tests", f"{name}.c")
+    return compiled(source, os.path.join(folder, f"{name}.so"), "-shared", "-fPIC", "-O1")
+
+
+def ended_runs(what, begun):
+    """Waits for calls that each answer a count of runs and what is wrong with them, and tells of all: the status."""
+    runs, wrong = 0, []
+    for number, found in (one.result() for one in begun):
+        runs += number
+        wrong += found
+    print(*wrong, f"{what}: {runs} runs; {len(wrong)} wrong", sep="\n")
+    return len(wrong) > 0
+
+
+def has_client():
+    """Whether the RFC 3161 client rfc3161ng is installed."""
+    return subprocess.run([PYTHON, "-c", "import rfc3161ng"], stderr=subprocess.DEVNULL).returncode == 0
+
+
+def openssl(*words, **how):
+    """What OpenSSL writes, and its status."""
+    done = subprocess.run(["openssl", *words], stdout=subprocess.PIPE, stderr=subprocess.PIPE, **how)
+    return done.stdout, done.returncode
+
+
+def values(der):
+    """The values that `openssl asn1parse` finds: depth, kind and text of each."""
+    said = subprocess.run(["openssl", "asn1parse", "-inform", "DER"], input=der, capture_output=True, check=True)
+    found = []
+    for text in said.stdout.decode().splitlines():
+        parts = VALUE.match(text.replace("[HEX DUMP]", ""))
+        if not parts:
+            raise ValueError(f"not understood: {text}")
+        found.append((int(parts[1]), parts[2], parts[3]))
+    return found
+
+
+def name_of(identifier):
+    """How OpenSSL shows an object identifier: by its name if it has one."""
+    said = subprocess.run(["openssl", "asn1parse", "-genstr", f"OID:{identifier}"], capture_output=True, check=True)
+    return said.stdout.decode().strip().rsplit(":", 1)[1]
+
+
+def sqlite(path, sql):
+    """The rows that sqlite3 finds, each a dictionary."""
+    done = subprocess.run(["sqlite3", "-json", path, sql], capture_output=True, check=True)
+    return json.loads(done.stdout or b"[]")
+
+
+def now():
+    """The reading of the machine's clock."""
+    return time.time_ns() // 1000
