@@ -29,12 +29,13 @@ impl Algorithm {
     /// value more, its parameters, of any kind (RFC 5280 4.1.1.2).
     ///
     /// Refused as `TooLarge` for more than 256 octets, which is judged first, as `NotCertificate` where the octets are
-    /// no AlgorithmIdentifier, and as `Memory` where memory runs out.
+    /// no AlgorithmIdentifier, and as `Memory` where memory runs out for one that they are.
     pub fn from_bytes(alloc: Global, octets: &[u8]) -> Result<Algorithm, CmsFault>
         ensures same { IfOk result (λ algorithm. algorithm ≡ octets.now) }
         ensures found { OnOk result (IsAlgorithm octets.now) }
         ensures only { IsAlgorithm octets.now → length octets.now ≤ 256 → IfErr result (λ fault. fault ≡ Memory) }
         ensures too_large { (result ≡ Err TooLarge) ↔ (256 < length octets.now) }
+        ensures memory { result ≡ Err Memory → IsAlgorithm octets.now }
     {
         if octets.len() > MAX_ALGORITHM {
             return Err(CmsFault::TooLarge);

@@ -47,13 +47,14 @@ impl Identity {
     /// else of it is looked at.
     ///
     /// Refused as `TooLarge` for more than 16,384 octets, which is judged first, as `NotCertificate` where the octets
-    /// are no such certificate, and as `Memory` where memory runs out.
+    /// are no such certificate, and as `Memory` where memory runs out for one that they are.
     pub fn from_certificate(alloc: Global, octets: &[u8]) -> Result<Identity, CmsFault>
         ensures found { IfOk result (λ identity. (p : CertificateParts)
             × (IsCertificate octets.now p × (identity ≡ identity_of octets.now p))) }
         ensures only { (p : CertificateParts) → IsCertificate octets.now p → length octets.now ≤ 16384
             → MatchResult result (λ identity. identity ≡ identity_of octets.now p) (λ fault. fault ≡ Memory) }
         ensures too_large { (result ≡ Err TooLarge) ↔ (16384 < length octets.now) }
+        ensures memory { result ≡ Err Memory → (p : CertificateParts) × IsCertificate octets.now p }
     {
         if octets.len() > MAX_CERTIFICATE {
             return Err(CmsFault::TooLarge);
