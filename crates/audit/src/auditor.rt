@@ -48,6 +48,7 @@ fn is_same(one: &Account, other: &Account) -> bool
         && are_same_keys(&one.key_sha256, &other.key_sha256)
         && one.active == other.active
         && one.auditor == other.auditor
+        && one.operator == other.operator
         && are_same_names(&one.policies, &other.policies)
         && one.daily_quota == other.daily_quota
 }

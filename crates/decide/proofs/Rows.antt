@@ -75,6 +75,7 @@ guest = record {
   key_sha256 = None;
   active = true;
   auditor = false;
+  operator = false;
   policies = codes "open" ∷ [];
   daily_quota = 1000;
 }

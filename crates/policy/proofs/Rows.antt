@@ -77,6 +77,7 @@ meant = record {
         key_sha256 = None;
         active = true;
         auditor = false;
+        operator = false;
         policies =
             codes "open" ∷ [];
         daily_quota = 2;

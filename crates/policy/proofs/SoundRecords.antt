@@ -385,8 +385,8 @@ accounts_more : (policy_names : List (List ℕ)) (earlier : List AccountValue) (
     → AreAccounts policy_names (earlier ++ entry ∷ [])
 unfolding account_of
 accounts_more policy_names earlier ms entry e are =
-    let a = bound (only (codes "name" ∷ codes "key_sha256" ∷ codes "active" ∷ codes "auditor" ∷ codes "policies" ∷ codes
-    "daily_quota" ∷ []) ms) _ entry e in
+    let a = bound (only (codes "name" ∷ codes "key_sha256" ∷ codes "active" ∷ codes "auditor" ∷ codes "operator" ∷ codes
+    "policies" ∷ codes "daily_quota" ∷ []) ms) _ entry e in
     let name = bound (new_name_in field.AccountName (map (λ e. e.name) earlier) ms) _ entry a.after in
     let key = bound (optional None (new_hash_in field.AccountKeySha256 (map (λ e. e.key_sha256) earlier))
     (get_member (codes "key_sha256") ms)) _ entry name.after in
@@ -394,8 +394,10 @@ accounts_more policy_names earlier ms entry e are =
     key.after in
     let auditor = bound (optional false (truth_in field.AccountAuditor) (get_member (codes "auditor") ms)) _ entry
     active.after in
+    let operator = bound (optional false (truth_in field.AccountOperator) (get_member (codes "operator") ms)) _ entry
+    auditor.after in
     let policies = bound (wanted field.AccountPolicies (names_in field.AccountPolicies 1 policy_names)
-    (get_member (codes "policies") ms)) _ entry auditor.after in
+    (get_member (codes "policies") ms)) _ entry operator.after in
     let quota = bound (wanted field.AccountDailyQuota (number_in field.AccountDailyQuota 0 1000000000)
     (get_member (codes "daily_quota") ms)) _ entry policies.after in
     let new = new_named field.AccountName (map (λ e. e.name) earlier) ms name.value name.is in
@@ -405,6 +407,8 @@ accounts_more policy_names earlier ms entry e are =
       active = active.value;
       auditor =
           auditor.value;
+      operator =
+          operator.value;
       policies = policies.value;
       daily_quota = quota.value;
     } in

@@ -96,11 +96,12 @@ unfoldable pub account_of : List (List ℕ) → List (List ℕ) → List (Option
     → Result AccountValue PolicyFault
 account_of policy_names names hashes ms = do
   known ← only (codes "name" ∷ codes "key_sha256" ∷ codes "active" ∷ codes "auditor"
-      ∷ codes "policies" ∷ codes "daily_quota" ∷ []) ms
+      ∷ codes "operator" ∷ codes "policies" ∷ codes "daily_quota" ∷ []) ms
   name ← new_name_in field.AccountName names ms
   key_sha256 ← optional None (new_hash_in field.AccountKeySha256 hashes) (get_member (codes "key_sha256") ms)
   active ← optional true (truth_in field.AccountActive) (get_member (codes "active") ms)
   auditor ← optional false (truth_in field.AccountAuditor) (get_member (codes "auditor") ms)
+  operator ← optional false (truth_in field.AccountOperator) (get_member (codes "operator") ms)
   policies ← wanted field.AccountPolicies (names_in field.AccountPolicies 1 policy_names)
       (get_member (codes "policies") ms)
   daily_quota ← wanted field.AccountDailyQuota (number_in field.AccountDailyQuota 0 1000000000)
@@ -110,6 +111,7 @@ account_of policy_names names hashes ms = do
     key_sha256 = key_sha256;
     active = active;
     auditor = auditor;
+    operator = operator;
     policies = policies;
     daily_quota = daily_quota;
   })

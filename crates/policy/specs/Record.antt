@@ -24,6 +24,7 @@ pub record AccountValue : Type 0 where
   pub key_sha256 : Option (List ℕ)
   pub active : Bool
   pub auditor : Bool
+  pub operator : Bool
   pub policies : List (List ℕ)
   pub daily_quota : ℕ
 

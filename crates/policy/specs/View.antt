@@ -47,6 +47,7 @@ account_view account = record {
   key_sha256 = account.key_sha256;
   active = account.active;
   auditor = account.auditor;
+  operator = account.operator;
   policies = names_view account.policies;
   daily_quota = account.daily_quota;
 }

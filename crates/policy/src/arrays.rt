@@ -199,6 +199,7 @@ fn account(
             "key_sha256",
             "active",
             "auditor",
+            "operator",
             "policies",
             "daily_quota",
         ],
@@ -207,6 +208,7 @@ fn account(
     let key_sha256 = new_hash(table, Field::AccountKeySha256, earlier)?;
     let active = optional_truth(table, "active", Field::AccountActive, true)?;
     let auditor = optional_truth(table, "auditor", Field::AccountAuditor, false)?;
+    let operator = optional_truth(table, "operator", Field::AccountOperator, false)?;
     let policies = some_names(alloc, table, "policies", Field::AccountPolicies, policies)?;
     let daily_quota = number(
         table,
@@ -220,6 +222,7 @@ fn account(
         key_sha256,
         active,
         auditor,
+        operator,
         policies,
         daily_quota: daily_quota as u32,
     })

@@ -71,6 +71,8 @@ pub struct Account {
     pub active: bool,
     /// Whether it may see every stamp.
     pub auditor: bool,
+    /// Whether it may add calibrations of the clock, and holds.
+    pub operator: bool,
     /// The names of its policies, at least one. The first is its default.
     pub policies: Vec<String>,
     /// How many reservations it may have on one UTC day of genTime, void ones too, 0 to 1,000,000,000.

@@ -57,6 +57,8 @@ pub enum Field {
     AccountActive,
     /// `auditor` of an account.
     AccountAuditor,
+    /// `operator` of an account.
+    AccountOperator,
     /// `policies` of an account.
     AccountPolicies,
     /// `daily_quota` of an account.
@@ -94,6 +96,7 @@ impl Field {
             Field::AccountKeySha256 => "account.key_sha256",
             Field::AccountActive => "account.active",
             Field::AccountAuditor => "account.auditor",
+            Field::AccountOperator => "account.operator",
             Field::AccountPolicies => "account.policies",
             Field::AccountDailyQuota => "account.daily_quota",
         }

@@ -55,7 +55,7 @@ fn is_refused(alloc: Global, text: &str, fault: PolicyFault) -> bool {
 }
 
 /// What is replaced, by what, and the fault.
-static CHANGES: [(&str, &str, PolicyFault); 46] = [
+static CHANGES: [(&str, &str, PolicyFault); 47] = [
     ("[counter]", "[counter", PolicyFault::Toml),
     (
         "[counter]",
@@ -262,6 +262,11 @@ static CHANGES: [(&str, &str, PolicyFault); 46] = [
         "auditor = true",
         "auditor = 1",
         PolicyFault::BadValue(Field::AccountAuditor),
+    ),
+    (
+        "auditor = true",
+        "auditor = true\noperator = \"yes\"",
+        PolicyFault::BadValue(Field::AccountOperator),
     ),
     (
         "policies = [\"open\", \"strict\"]",
@@ -473,7 +478,7 @@ fn faults_have_numbers_and_texts(rt: HostRuntime) -> Result<(), Fail> {
 }
 
 /// Each field and its path: the table and the key as docs/formats.md has them.
-static PATHS: [(Field, &str); 29] = [
+static PATHS: [(Field, &str); 30] = [
     (Field::Key, "a key"),
     (Field::Counter, "counter"),
     (Field::CounterAccuracyUs, "counter.accuracy_us"),
@@ -501,6 +506,7 @@ static PATHS: [(Field, &str); 29] = [
     (Field::AccountKeySha256, "account.key_sha256"),
     (Field::AccountActive, "account.active"),
     (Field::AccountAuditor, "account.auditor"),
+    (Field::AccountOperator, "account.operator"),
     (Field::AccountPolicies, "account.policies"),
     (Field::AccountDailyQuota, "account.daily_quota"),
 ];
