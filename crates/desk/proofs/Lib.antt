@@ -4,6 +4,7 @@ pub mod Agreeing
 pub mod Alone
 pub mod Begins
 pub mod Clocks
+pub mod Entered
 pub mod Given
 pub mod Granting
 pub mod Headline

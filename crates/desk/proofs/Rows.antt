@@ -23,6 +23,7 @@ alice = record {
   key_sha256 = None;
   active = true;
   auditor = false;
+  operator = false;
   policies = codes "open"
       ∷ [];
   daily_quota = 1000;
@@ -34,6 +35,7 @@ carol = record {
   key_sha256 = None;
   active = true;
   auditor = false;
+  operator = false;
   policies = codes "open"
       ∷ [];
   daily_quota = 2;

@@ -2,7 +2,8 @@
 use Rattle.std.specs.Prelude.{Result, Ok, Err}
 use Rattle.desk.specs.Command as answer
 use Rattle.desk.specs.Command.{Answer}
-use Rattle.desk.specs.Calls.{cause_with}
+use Rattle.book.specs.declared.fault.StoreFault.{StoreFault}
+use Rattle.desk.specs.Calls.{cause_with, store_cause}
 use Rattle.desk.specs.Effects.{fault_of}
 use Rattle.desk.specs.declared.fault.Fault.{Fault}
 use Rattle.desk.specs.declared.refusal.Refusal.{Refusal}
@@ -28,3 +29,8 @@ answered as_answer (Err fault) = answer.Refused fault
 abbrev pub told : {A : Type 0} → (A → Answer) → Result A Refusal → Answer
 told as_answer (Ok a) = as_answer a
 told as_answer (Err refusal) = answer.Refused (fault_of (cause_with refusal))
+
+-- a calibration or a hold is added, or the store refuses it
+abbrev pub entered : Result (Unit {0}) StoreFault → Answer
+entered (Ok done) = answer.Done
+entered (Err f) = answer.Refused (fault_of (store_cause f))

@@ -32,16 +32,18 @@ tsa_policy_code =
 
 abbrev account_code : Coded AccountValue
 account_code =
-    code_by (List ℕ × (Option (List ℕ) × (Bool × (Bool × (List (List ℕ) × ℕ)))))
-    (coded× octets (coded× (coded_option octets) (coded× coded_bool (coded× coded_bool (coded× names coded_ℕ)))))
-    (λ a. (a.name, (a.key_sha256, (a.active, (a.auditor, (a.policies, a.daily_quota))))))
+    code_by (List ℕ × (Option (List ℕ) × (Bool × (Bool × (Bool × (List (List ℕ) × ℕ))))))
+    (coded× octets (coded× (coded_option octets) (coded× coded_bool (coded× coded_bool (coded× coded_bool
+    (coded× names coded_ℕ))))))
+    (λ a. (a.name, (a.key_sha256, (a.active, (a.auditor, (a.operator, (a.policies, a.daily_quota)))))))
     (λ p. record {
       name = p.0;
       key_sha256 = p.1.0;
       active = p.1.1.0;
       auditor = p.1.1.1.0;
-      policies = p.1.1.1.1.0;
-      daily_quota = p.1.1.1.1.1;
+      operator = p.1.1.1.1.0;
+      policies = p.1.1.1.1.1.0;
+      daily_quota = p.1.1.1.1.1.1;
     }) (λ _. refl)
 
 abbrev counter_code : Coded CounterValue

@@ -5,6 +5,7 @@ use Rattle.policy.specs.Record.{PolicyValue}
 use Rattle.book.specs.Values.{deposit_view}
 use Rattle.book.specs.History.{History, DepositValue, token_of}
 use Rattle.book.specs.Rights.{seen_by}
+use Rattle.book.specs.declared.fault.StoreFault.{StoreFault}
 use Rattle.book.specs.declared.values.StampedDeposit.{StampedDeposit}
 use Rattle.desk.specs.Outcome.{Outcome, Wanting, all_fine}
 use Rattle.desk.specs.Command.{Answer, Refused}
@@ -24,6 +25,11 @@ fault_with (obstacle.Searching f) = fault_of (store_cause f)
 fault_with (obstacle.Looking f) = fault_of (store_cause f)
 fault_with obstacle.Growing = fault.Memory
 fault_with (obstacle.Adding f) = fault_of (store_cause f)
+
+-- what stands in the way where the store refuses to add
+abbrev pub adding : {A : Type 0} → Result A StoreFault → Result A Obstacle
+adding (Ok a) = Ok a
+adding (Err f) = Err (obstacle.Adding f)
 
 -- all calls answered but the one that was refused
 abbrev pub hindered : Obstacle → Outcome

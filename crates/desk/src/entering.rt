@@ -1,13 +1,54 @@
-//! Calibrations and holds, which commands add.
+//! Calibrations and holds: what an operator adds.
 
+ghost use Rattle.std.specs.Prelude.{◌≡◌, ◌⊎◌, Err, IfErr};
+ghost use Rattle.book.specs.History.{History, latest_calibration};
+ghost use Rattle.book.specs.Sound.{IsBackwards};
+ghost use Rattle.book.specs.Stands.{Stands};
 ghost use Rattle.book.specs.Values.{calibration_view, hold_view};
+ghost use Rattle.desk.specs.Answers.{entered};
+ghost use Rattle.desk.specs.Calls.{IsOfStore};
 ghost use Rattle.desk.specs.Command.{Setting, Calibrate, Hold as AddHold};
-ghost use Rattle.desk.specs.Obstacles.{outcome_with, told_with};
+ghost use Rattle.desk.specs.Isolation.{IsIsolated};
+ghost use Rattle.desk.specs.Obstacles.{adding, outcome_with, told_with};
 ghost use Rattle.desk.specs.Shown.{done_as};
-ghost use Rattle.desk.specs.Stepped.{StepsBy, no_signer};
+ghost use Rattle.desk.specs.Stepped.{StepsBy, IsStep, no_signer};
 
+use crate::desk::Desk;
 use crate::obstacle::Obstacle;
-use book::{Book, Calibration, Hold};
+use book::{Book, Calibration, Hold, StoreFault};
+
+/// Adds a calibration of the clock, and tells why the store refuses it.
+fn add_calibration<B: Book + Drop>(
+    store: &mut B,
+    calibration: &Calibration,
+) -> Result<(), StoreFault>
+    ensures honest { B.honest store.new → B.honest store.old }
+    ensures step { (s : Setting) → StepsBy B.Standing no_signer s (Calibrate (calibration_view calibration.now))
+        (outcome_with (adding result)) store.old store.new (told_with done_as (adding result)) }
+    ensures backwards { B.honest store.new → (b : History) → Stands B.Standing b store.old
+        → result ≡ Err StoreFault.Backwards
+        → IsBackwards (calibration_view calibration.now) (latest_calibration b) }
+    ensures refusals { IfErr result (λ e. (e ≡ StoreFault.Memory)
+        ⊎ ((e ≡ StoreFault.Database) ⊎ (e ≡ StoreFault.Backwards))) }
+{
+    match store.calibrate(calibration) {
+        Ok(()) => Ok(()),
+        Err(fault) => Err(fault),
+    }
+}
+
+/// Adds a hold, and tells why the store refuses it.
+fn add_hold<B: Book + Drop>(store: &mut B, hold: &Hold) -> Result<(), StoreFault>
+    ensures honest { B.honest store.new → B.honest store.old }
+    ensures step { (s : Setting) → StepsBy B.Standing no_signer s (AddHold (hold_view hold.now))
+        (outcome_with (adding result)) store.old store.new (told_with done_as (adding result)) }
+    ensures refusals { IfErr result IsOfStore }
+{
+    match store.hold(hold) {
+        Ok(()) => Ok(()),
+        Err(fault) => Err(fault),
+    }
+}
 
 /// Adds a calibration of the clock.
 pub(crate) fn calibrate_by<B: Book + Drop>(
@@ -18,7 +59,7 @@ pub(crate) fn calibrate_by<B: Book + Drop>(
     ensures step { (s : Setting) → StepsBy B.Standing no_signer s (Calibrate (calibration_view calibration.now))
         (outcome_with result) store.old store.new (told_with done_as result) }
 {
-    match store.calibrate(calibration) {
+    match add_calibration(store, calibration) {
         Ok(()) => Ok(()),
         Err(fault) => Err(Obstacle::Adding(fault)),
     }
@@ -30,8 +71,41 @@ pub(crate) fn hold_by<B: Book + Drop>(store: &mut B, hold: &Hold) -> Result<(), 
     ensures step { (s : Setting) → StepsBy B.Standing no_signer s (AddHold (hold_view hold.now)) (outcome_with result)
         store.old store.new (told_with done_as result) }
 {
-    match store.hold(hold) {
+    match add_hold(store, hold) {
         Ok(()) => Ok(()),
         Err(fault) => Err(Obstacle::Adding(fault)),
+    }
+}
+
+impl<'p, B: Book + Drop> Desk<'p, B> {
+    /// Adds a calibration of the clock, which is the latest from now on. The caller's condition is an uncertainty of at
+    /// most 10^12 microseconds. Refused with `Backwards` where its reading is before that of the latest, which the
+    /// machine calls a refusal of the store; else with `Memory` or `Database`, where it is met.
+    pub fn calibrate(&mut self, calibration: &Calibration) -> Result<(), StoreFault>
+        ensures setting { self.new.setting ≡ self.old.setting }
+        ensures honest { B.honest self.new.store → B.honest self.old.store }
+        ensures step { IsStep B.Standing no_signer self.old.setting (Calibrate (calibration_view calibration.now))
+            self.old.store self.new.store (entered result) }
+        ensures isolated { IsIsolated self.old.setting (Calibrate (calibration_view calibration.now)) }
+        ensures backwards { B.honest self.new.store → (b : History) → Stands B.Standing b self.old.store
+            → result ≡ Err StoreFault.Backwards
+            → IsBackwards (calibration_view calibration.now) (latest_calibration b) }
+        ensures refusals { IfErr result (λ e. (e ≡ StoreFault.Memory)
+            ⊎ ((e ≡ StoreFault.Database) ⊎ (e ≡ StoreFault.Backwards))) }
+    {
+        add_calibration(&mut self.store, calibration)
+    }
+
+    /// Adds a hold: moments at which no token is given, from now on. The caller's condition is that its first moment is
+    /// before its end. Refused with `Memory` or `Database`, where it is met.
+    pub fn hold(&mut self, hold: &Hold) -> Result<(), StoreFault>
+        ensures setting { self.new.setting ≡ self.old.setting }
+        ensures honest { B.honest self.new.store → B.honest self.old.store }
+        ensures step { IsStep B.Standing no_signer self.old.setting (AddHold (hold_view hold.now)) self.old.store
+            self.new.store (entered result) }
+        ensures isolated { IsIsolated self.old.setting (AddHold (hold_view hold.now)) }
+        ensures refusals { IfErr result IsOfStore }
+    {
+        add_hold(&mut self.store, hold)
     }
 }

@@ -32,5 +32,6 @@ pub use laws::{
     journeys_keep_their_promises, rejections_tell_their_rule, steps_leave_sound_histories,
     texts_are_reserved,
 };
+pub use looking::Looked;
 pub use pending::Pending;
 pub use reply::{Begun, Deposited, Reply};

@@ -9,6 +9,7 @@ ghost use Rattle.book.specs.Values.{calibration_option};
 ghost use Rattle.desk.specs.Facts.{now_with, is_held_at};
 ghost use Rattle.desk.specs.Calls.{looked_at, calibrations_as, moment_or_last};
 
+use crate::desk::Desk;
 use book::{Book, StoreFault};
 use decide::{Calibration, ClockFacts, now_of};
 use gentime::GenTime;
@@ -16,11 +17,13 @@ use gentime::GenTime;
 /// The last moment that a genTime can state, 9999-12-31T23:59:59.999999Z.
 const LAST_MOMENT: i64 = 253_402_300_799_999_999;
 
-/// The facts of the clock, and the greatest serial number.
+/// What a look at the store finds.
 #[derive(Clone, Copy, Debug)]
-pub(crate) struct Looked {
-    pub(crate) clock: ClockFacts,
-    pub(crate) serial: u64,
+pub struct Looked {
+    /// The facts of the clock.
+    pub clock: ClockFacts,
+    /// The greatest serial number, 0 where none is reserved.
+    pub serial: u64,
 }
 
 /// The same calibration, as it is judged.
@@ -116,4 +119,20 @@ pub(crate) fn look<B: Book + Drop>(store: &mut B, reading: i64) -> Result<Looked
         },
         serial: last.serial,
     })
+}
+
+impl<'p, B: Book + Drop> Desk<'p, B> {
+    /// What the store says of the clock at a reading, in microseconds, and its greatest serial number: by that stamps
+    /// are judged. Nothing changes. Refused with `Memory` or `Database`, where it is met.
+    pub fn look(&mut self, reading: i64) -> Result<Looked, StoreFault>
+        ensures setting { self.new.setting ≡ self.old.setting }
+        ensures looks { OnlyLooks B.Standing self.old.store self.new.store }
+        ensures value { B.honest self.new.store → (b : History) → Stands B.Standing b self.old.store
+            → IfOk result (λ looked. looked ≡ looked_at reading b) }
+        ensures refusals { IfErr result (λ e. (e ≡ StoreFault.Memory) ⊎ (e ≡ StoreFault.Database)) }
+        ensures faults { MatchResult result (λ _. B.fault_count self.new.store ≡ B.fault_count self.old.store)
+            (λ e. B.fault_count self.new.store ≡ count_after e (B.fault_count self.old.store)) }
+    {
+        look(&mut self.store, reading)
+    }
 }

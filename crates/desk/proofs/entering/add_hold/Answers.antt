@@ -3,7 +3,7 @@ use Rattle.book.specs.History.{Held}
 use Rattle.book.specs.Values.{hold_view}
 use Rattle.desk.specs.Command.{Hold}
 use Rattle.desk.proofs.Added.{enters_as, refuses_by}
-use Rattle.desk.proofs.entering.hold_by.Goals as goal
+use Rattle.desk.proofs.entering.add_hold.Goals as goal
 
 pub returns-in-Ok-clause-step : goal.returns-in-Ok-clause-step
 returns-in-Ok-clause-step g c s =

@@ -4,7 +4,7 @@ use Rattle.book.specs.Values.{calibration_view}
 use Rattle.desk.specs.Command.{Calibrate}
 use Rattle.desk.specs.Effects.{is_backwards}
 use Rattle.desk.proofs.Added.{enters_as, refuses_by, backwards_where, is_backwards_where}
-use Rattle.desk.proofs.entering.calibrate_by.Goals as goal
+use Rattle.desk.proofs.entering.add_calibration.Goals as goal
 
 pub returns-in-Ok-clause-step : goal.returns-in-Ok-clause-step
 returns-in-Ok-clause-step g c s =
