@@ -1,0 +1,6 @@
+pub mod Changes
+pub mod Falling
+pub mod Numbers
+pub mod Repeats
+pub mod SameViews
+pub mod Walk

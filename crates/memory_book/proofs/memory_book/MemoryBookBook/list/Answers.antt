@@ -1,0 +1,16 @@
+use Rattle.std.proofs.Common.{ap, ◌∙◌}
+use Rattle.book.specs.History.{History, reservations}
+use Rattle.memory_book.specs.Entries.{history_of}
+use Rattle.memory_book.specs.Listing.{listed_along}
+use Rattle.memory_book.proofs.Changes.{if_ok}
+use Rattle.memory_book.proofs.Numbers.{listed_is}
+use Rattle.memory_book.proofs.SameViews.{same_listed}
+use Rattle.memory_book.proofs.memory_book.MemoryBookBook.list.Goals as goal
+
+pub returns-clause-value : goal.returns-clause-value
+returns-clause-value c honest b s =
+    if_ok _ _ _ c.listed.result c.listed.ensures
+    (λ rows is. is
+    ∙ ap (λ (d : History). listed_along c.args.account.now d (reservations d))
+    (ap history_of c.as_slice.ensures.value ∙ s.kept)
+    ∙ same_listed c.args.account.now b ∙ listed_is c.args.account.now b s.sound)

@@ -1,0 +1,34 @@
+use Rattle.std.proofs.Common.{◌≡◌, ◌+◌, ◌∷◌, min, ap, sym, subst, ◌∙◌}
+use Rattle.book.specs.Rows.{StampRow}
+use Rattle.book.specs.History.{History, reservations, stamps_between, stamp_of, token_of}
+use Rattle.memory_book.specs.Entries.{history_of, reservation_value}
+use Rattle.memory_book.specs.Ranges.{oldest_within}
+use Rattle.memory_book.proofs.Repeats.{same_reservations, same_tokens}
+use Rattle.memory_book.proofs.SameViews.{told}
+use Rattle.memory_book.proofs.Walk.{next_none, next_some}
+use Rattle.memory_book.proofs.memory_book.MemoryBookBook.next_stamp.Goals as goal
+
+pub returns-in_default-clause-value : goal.returns-in_default-clause-value
+returns-in_default-clause-value c honest b s =
+    let cap = min c.args.to 9223372036854775807 in
+    let kept = ap history_of c.as_slice-entries.ensures.value ∙ s.kept in
+    next_none b c.args.from c.args.to s.sound
+    (sym (c.in_default.ensures.value
+    ∙ ap (λ n. oldest_within c.args.from n (reservations (history_of c.as_slice-entries.result.now))) c.min.ensures
+    ∙ told (λ (d : History). oldest_within c.args.from cap (reservations d)) _ b kept
+    (ap (oldest_within c.args.from cap) (same_reservations b))))
+
+pub returns-clause-value : goal.returns-clause-value
+returns-clause-value c honest b s =
+    let cap = min c.args.to 9223372036854775807 in
+    let kept = ap history_of c.as_slice-entries.ensures.value ∙ s.kept in
+    let x = reservation_value c.in-Some.reservation.now in
+    let next = next_some b c.args.from c.args.to x s.sound
+    (sym (c.in-Some.ensures.value
+    ∙ ap (λ n. oldest_within c.args.from n (reservations (history_of c.as_slice-entries.result.now))) c.min.ensures
+    ∙ told (λ (d : History). oldest_within c.args.from cap (reservations d)) _ b kept
+    (ap (oldest_within c.args.from cap) (same_reservations b)))) in
+    let view = c.in_ok-stamp_of.ensures
+    ∙ ap (λ t. stamp_of t x) (c.token_of-token.ensures ∙ told (token_of x.serial) _ b kept (same_tokens x.serial b)) in
+    subst (λ (row : StampRow). stamps_between c.args.from c.args.to b
+    ≡ row ∷ stamps_between (row.serial + 1) c.args.to b) (sym view) next

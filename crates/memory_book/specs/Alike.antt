@@ -1,0 +1,13 @@
+-- Histories that say the same.
+use Rattle.std.specs.Prelude.{◌≡◌, ℕ, List}
+use Rattle.book.specs.History.{History, reservations, calibrations, holds, deposits, token_of}
+use Rattle.book.specs.Rights.{is_reader}
+
+-- All that a book is asked is said by these.
+pub record SayTheSame (b d : History) : Type 0 where
+  pub reservations : reservations b ≡ reservations d
+  pub calibrations : calibrations b ≡ calibrations d
+  pub holds : holds b ≡ holds d
+  pub deposits : deposits b ≡ deposits d
+  pub tokens : (serial : ℕ) → token_of serial b ≡ token_of serial d
+  pub readers : (number : ℕ) (account : List ℕ) → is_reader number account b ≡ is_reader number account d

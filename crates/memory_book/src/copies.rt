@@ -1,0 +1,107 @@
+//! Copies of what is kept, and of what is to be kept. Each is refused with `Memory` where a growth is.
+ghost use Rattle.std.specs.Prelude.{◌≡◌, ◌∷◌, option_map, MatchResult, string_bytes};
+ghost use Rattle.book.specs.History.{stamp_of};
+ghost use Rattle.book.specs.Values.{reservation_view, stamp_view, deposit_view};
+ghost use Rattle.memory_book.specs.Entries.{reservation_value, entry_view, history_of};
+
+use crate::entry::{OwnedEntry, OwnedReservation};
+use book::{Deposit, Reservation, Stamp, StoreFault};
+use std::alloc::Global;
+
+/// The microseconds of a day.
+pub(crate) const DAY: u64 = 86_400_000_000;
+
+pub(crate) fn octets_of(alloc: Global, octets: &[u8]) -> Result<Vec<u8>, StoreFault>
+    ensures { MatchResult result (λ v. v.items ≡ octets.now) (λ e. e ≡ StoreFault.Memory) }
+{
+    match Vec::from_slice(alloc, octets) {
+        Ok(octets) => Ok(octets),
+        Err(_) => Err(StoreFault::Memory),
+    }
+}
+
+pub(crate) fn text_of(alloc: Global, text: &str) -> Result<String, StoreFault>
+    ensures { MatchResult result (λ s. string_bytes s ≡ text.now) (λ e. e ≡ StoreFault.Memory) }
+{
+    match String::from_str(alloc, text) {
+        Ok(text) => Ok(text),
+        Err(_) => Err(StoreFault::Memory),
+    }
+}
+
+pub(crate) fn reservation_of(
+    alloc: Global,
+    reservation: &Reservation<'_>,
+) -> Result<OwnedReservation, StoreFault>
+    ensures { MatchResult result (λ r. reservation_value r ≡ reservation_view reservation.now)
+        (λ e. e ≡ StoreFault.Memory) }
+{
+    Ok(OwnedReservation {
+        serial: reservation.serial,
+        account: text_of(alloc, reservation.account)?,
+        gen_time: reservation.gen_time,
+        policy: octets_of(alloc, reservation.policy)?,
+        algorithm: octets_of(alloc, reservation.algorithm)?,
+        digest: octets_of(alloc, reservation.digest)?,
+        request: octets_of(alloc, reservation.request)?,
+        tst: octets_of(alloc, reservation.tst)?,
+    })
+}
+
+/// The token, if there is one.
+fn token_of(alloc: Global, token: Option<&[u8]>) -> Result<Option<Vec<u8>>, StoreFault>
+    ensures { MatchResult result (λ copy. option_map (λ t. t.items) copy ≡ option_map (λ t. t.now) token.entry)
+        (λ e. e ≡ StoreFault.Memory) }
+{
+    match token {
+        Some(token) => Ok(Some(octets_of(alloc, token)?)),
+        None => Ok(None),
+    }
+}
+
+/// The stamp of a reservation, with its token.
+pub(crate) fn stamp_of(
+    alloc: Global,
+    reservation: &OwnedReservation,
+    token: Option<&[u8]>,
+) -> Result<Stamp, StoreFault>
+    ensures { MatchResult result
+        (λ s. stamp_view s ≡ stamp_of (option_map (λ t. t.now) token.entry) (reservation_value reservation.now))
+        (λ e. e ≡ StoreFault.Memory) }
+{
+    Ok(Stamp {
+        serial: reservation.serial,
+        account: text_of(alloc, reservation.account.as_str())?,
+        day: reservation.gen_time / DAY,
+        gen_time: reservation.gen_time,
+        policy: octets_of(alloc, reservation.policy.as_slice())?,
+        algorithm: octets_of(alloc, reservation.algorithm.as_slice())?,
+        digest: octets_of(alloc, reservation.digest.as_slice())?,
+        request: octets_of(alloc, reservation.request.as_slice())?,
+        tst: octets_of(alloc, reservation.tst.as_slice())?,
+        token: token_of(alloc, token)?,
+    })
+}
+
+pub(crate) fn deposit_of(alloc: Global, deposit: &Deposit) -> Result<Deposit, StoreFault>
+    ensures { MatchResult result (λ d. deposit_view d ≡ deposit_view deposit.now) (λ e. e ≡ StoreFault.Memory) }
+{
+    Ok(Deposit {
+        serial: deposit.serial,
+        owner: text_of(alloc, deposit.owner.as_str())?,
+        reference: text_of(alloc, deposit.reference.as_str())?,
+        bytes: octets_of(alloc, deposit.bytes.as_slice())?,
+    })
+}
+
+/// Adds the newest entry.
+pub(crate) fn add(entries: &mut Vec<OwnedEntry>, entry: OwnedEntry) -> Result<(), StoreFault>
+    ensures { MatchResult result
+        (λ _. history_of entries.new.items ≡ entry_view entry ∷ history_of entries.old.items)
+        (λ e. (e ≡ StoreFault.Memory) × (history_of entries.new.items ≡ history_of entries.old.items)) }
+{
+    match entries.insert(0, entry) {
+        Ok(()) => Ok(()),
+        Err(_) => Err(StoreFault::Memory),
+    }
+}

@@ -1,0 +1,13 @@
+//! A book in memory, for tests: a list of entries, and faults at chosen calls.
+#![tactic(auto)]
+
+mod calls;
+mod copies;
+mod entry;
+mod laws;
+mod listing;
+mod memory_book;
+mod views;
+
+pub use laws::one_history_is_kept;
+pub use memory_book::MemoryBook;

@@ -1,0 +1,193 @@
+//! The book: each change is one entry more, each look-up a search of the entries.
+ghost use Rattle.std.specs.Prelude.{◌≡◌, []};
+ghost use Rattle.book.specs.History.{History};
+ghost use Rattle.book.specs.Stands.{Stands};
+
+use crate::calls::Calls;
+use crate::copies::{add, octets_of, reservation_of, stamp_of, text_of};
+use crate::entry::OwnedEntry;
+use crate::listing::{by_reference, is_backwards, is_visible, listed, stamped_deposit};
+use crate::views::{
+    count_of_day, greatest_serial, is_held, is_reader, last_of, latest_calibration, oldest_within,
+    token_of,
+};
+use book::{
+    Book, Calibration, Deposit, Hold, Last, Listed, Reservation, Stamp, StampedDeposit, Standing,
+    StoreFault,
+};
+use std::alloc::Global;
+
+/// The greatest serial number, 2^63 - 1.
+const GREATEST: u64 = 9_223_372_036_854_775_807;
+
+/// A history in memory. It refuses a call with `Database` where the call is chosen, and with `Memory` where a growth is
+/// refused; a call so refused changes nothing else.
+#[derive(Debug, Drop)]
+pub struct MemoryBook {
+    /// The newest first.
+    entries: Vec<OwnedEntry>,
+    calls: Calls,
+    alloc: Global,
+}
+
+impl Standing for MemoryBook {
+    ghost use Rattle.memory_book.specs.Entries.{history_of};
+    ghost use Rattle.memory_book.specs.Repeats.{without_repeats};
+
+    ghost honest = { λ _. Unit {0} };
+
+    ghost is_open = { λ _. Unit {0} };
+
+    ghost keeps = { λ book b. history_of book.entries.items ≡ without_repeats b };
+
+    ghost Left = { History };
+
+    ghost leaves = { λ book left. left ≡ history_of book.entries.items };
+
+    ghost holds = { λ left b. left ≡ without_repeats b };
+
+    ghost fault_count = { λ book. book.calls.faults };
+}
+
+impl MemoryBook {
+    /// A book of no entries, whose calls with these numbers are refused with `Database`; the first call of a look-up or
+    /// a change is 1. Takes no memory.
+    pub fn new(alloc: Global, chosen: Vec<u64>) -> MemoryBook
+        ensures empty { Stands ⟦<MemoryBook as Standing>⟧ [] result }
+    {
+        MemoryBook {
+            entries: Vec::new(alloc),
+            calls: Calls {
+                chosen,
+                count: 0,
+                faults: 0,
+            },
+            alloc,
+        }
+    }
+}
+
+impl Book for MemoryBook {
+    fn last(&mut self) -> Result<Last, StoreFault> {
+        self.calls.begin()?;
+        Ok(last_of(self.entries.as_slice()))
+    }
+
+    fn count_of_day(&mut self, account: &str, day: u64) -> Result<u64, StoreFault> {
+        self.calls.begin()?;
+        Ok(count_of_day(self.entries.as_slice(), account, day))
+    }
+
+    fn calibration(&mut self) -> Result<Option<Calibration>, StoreFault> {
+        self.calls.begin()?;
+        Ok(latest_calibration(self.entries.as_slice()))
+    }
+
+    fn held_at(&mut self, now: i64) -> Result<bool, StoreFault> {
+        self.calls.begin()?;
+        Ok(is_held(self.entries.as_slice(), now))
+    }
+
+    fn reserve(&mut self, reservation: &Reservation<'_>) -> Result<(), StoreFault> {
+        self.calls.begin()?;
+        if greatest_serial(self.entries.as_slice()) == GREATEST {
+            return Err(StoreFault::Full);
+        }
+        let reservation = reservation_of(self.alloc, reservation)?;
+        add(&mut self.entries, OwnedEntry::Reservation(reservation))
+    }
+
+    fn seal(&mut self, serial: u64, token: &[u8]) -> Result<(), StoreFault> {
+        self.calls.begin()?;
+        let token = octets_of(self.alloc, token)?;
+        add(&mut self.entries, OwnedEntry::Seal(serial, token))
+    }
+
+    fn seal_deposit(
+        &mut self,
+        serial: u64,
+        token: &[u8],
+        owner: &str,
+        reference: &str,
+        bytes: &[u8],
+    ) -> Result<(), StoreFault> {
+        self.calls.begin()?;
+        let deposit = Deposit {
+            serial,
+            owner: text_of(self.alloc, owner)?,
+            reference: text_of(self.alloc, reference)?,
+            bytes: octets_of(self.alloc, bytes)?,
+        };
+        let token = octets_of(self.alloc, token)?;
+        add(&mut self.entries, OwnedEntry::Deposit(deposit, token))
+    }
+
+    fn deposit(&mut self, number: u64) -> Result<Option<StampedDeposit>, StoreFault> {
+        self.calls.begin()?;
+        stamped_deposit(self.alloc, self.entries.as_slice(), number)
+    }
+
+    fn visible(&mut self, number: u64, account: &str) -> Result<bool, StoreFault> {
+        self.calls.begin()?;
+        Ok(is_visible(self.entries.as_slice(), number, account))
+    }
+
+    fn by_reference(
+        &mut self,
+        owner: &str,
+        reference: &str,
+    ) -> Result<Option<Deposit>, StoreFault> {
+        self.calls.begin()?;
+        by_reference(self.alloc, self.entries.as_slice(), owner, reference)
+    }
+
+    fn list(&mut self, account: &str) -> Result<Vec<Listed>, StoreFault> {
+        self.calls.begin()?;
+        listed(self.alloc, self.entries.as_slice(), account)
+    }
+
+    fn grant(&mut self, number: u64, account: &str) -> Result<(), StoreFault> {
+        self.calls.begin()?;
+        if is_reader(self.entries.as_slice(), number, account) {
+            return Ok(());
+        }
+        let account = text_of(self.alloc, account)?;
+        add(&mut self.entries, OwnedEntry::Grant(number, account))
+    }
+
+    fn revoke(&mut self, number: u64, account: &str) -> Result<(), StoreFault> {
+        self.calls.begin()?;
+        if !is_reader(self.entries.as_slice(), number, account) {
+            return Ok(());
+        }
+        let account = text_of(self.alloc, account)?;
+        add(&mut self.entries, OwnedEntry::Revocation(number, account))
+    }
+
+    fn calibrate(&mut self, calibration: &Calibration) -> Result<(), StoreFault> {
+        self.calls.begin()?;
+        if is_backwards(calibration, latest_calibration(self.entries.as_slice())) {
+            return Err(StoreFault::Backwards);
+        }
+        add(&mut self.entries, OwnedEntry::Calibration(*calibration))
+    }
+
+    fn hold(&mut self, hold: &Hold) -> Result<(), StoreFault> {
+        self.calls.begin()?;
+        add(&mut self.entries, OwnedEntry::Hold(*hold))
+    }
+
+    fn next_stamp(&mut self, from: u64, to: u64) -> Result<Option<Stamp>, StoreFault> {
+        self.calls.begin()?;
+        let entries = self.entries.as_slice();
+        let Some(reservation) = oldest_within(entries, from, to.min(GREATEST)) else {
+            return Ok(None);
+        };
+        let token = token_of(entries, reservation.serial);
+        Ok(Some(stamp_of(self.alloc, reservation, token)?))
+    }
+
+    fn faults(&self) -> u64 {
+        self.calls.faults
+    }
+}
