@@ -1,0 +1,34 @@
+//! The words of a line.
+
+/// What is left of a line, whose words are parted by single spaces.
+#[derive(Clone, Copy)]
+pub struct Words<'t> {
+    pub rest: &'t str,
+}
+
+/// A text's front up to a space, and what stands behind it.
+fn parted(text: &str) -> (&str, &str) {
+    match text.split_once(' ') {
+        Some(parts) => parts,
+        None => (text, ""),
+    }
+}
+
+impl<'t> Words<'t> {
+    /// The next word; an empty one where none is left.
+    pub fn next(&mut self) -> &'t str {
+        let (word, rest) = parted(self.rest);
+        self.rest = rest;
+        word
+    }
+
+    /// The number of the next word; the greatest where it is none.
+    pub fn number(&mut self) -> u64 {
+        self.next().parse().unwrap_or(u64::MAX)
+    }
+
+    /// The same of a number that may be below 0; the least where it is none.
+    pub fn signed(&mut self) -> i64 {
+        self.next().parse().unwrap_or(i64::MIN)
+    }
+}

@@ -1,0 +1,82 @@
+//! Look-ups in a policy file's record.
+use crate::files::Files;
+use policy::{Account, Algorithm, Extension, HashAlgorithm, Policy, TsaPolicy};
+use transcript::{Printer, Words};
+
+fn tell_account(printer: Printer<'_>, account: Option<&Account>) {
+    match account {
+        Some(account) => printer.number(&account.name, u64::from(account.daily_quota)),
+        None => printer.line("  None"),
+    }
+}
+
+fn tell_policy(printer: Printer<'_>, policy: Option<&TsaPolicy>) {
+    match policy {
+        Some(policy) => {
+            printer.digits(&policy.name, policy.oid.content());
+            printer.number("algorithms", policy.algorithms.len() as u64);
+            printer.tell(&policy.certificate);
+        }
+        None => printer.line("  None"),
+    }
+}
+
+fn tell_algorithm(printer: Printer<'_>, algorithm: Option<&Algorithm>) {
+    match algorithm {
+        Some(algorithm) => printer.number(&algorithm.name, u64::from(algorithm.length)),
+        None => printer.line("  None"),
+    }
+}
+
+fn tell_extension(printer: Printer<'_>, extension: Option<&Extension>) {
+    match extension {
+        Some(extension) => printer.number(&extension.name, u64::from(extension.max_length)),
+        None => printer.line("  None"),
+    }
+}
+
+fn default_policy<'p>(policy: &'p Policy, name: &str) -> Option<&'p TsaPolicy> {
+    policy.default_policy(policy.account_named(name)?)
+}
+
+/// Tells the hash algorithm that has an identifier, the identifier that it has, and the length of its hashes.
+fn tell_hash_algorithm(printer: Printer<'_>, content: &[u8]) {
+    match HashAlgorithm::of_identifier(content) {
+        Some(algorithm) => {
+            printer.tell(&algorithm);
+            printer.digits("identifier", algorithm.identifier());
+            printer.number("length", u64::from(algorithm.hash_length()));
+        }
+        None => printer.line("  None"),
+    }
+}
+
+/// Tells what a look-up by octets finds.
+fn look_up(printer: Printer<'_>, policy: &Policy, word: &str, octets: &[u8]) {
+    match word {
+        "policy-of" => tell_policy(printer, policy.policy_of_oid(octets)),
+        "algorithm-of" => tell_algorithm(printer, policy.algorithm_of_oid(octets)),
+        "extension-of" => tell_extension(printer, policy.extension_of_oid(octets)),
+        "hash-algorithm" => tell_hash_algorithm(printer, octets),
+        _ => tell_account(printer, policy.account_of_key(octets)),
+    }
+}
+
+/// Makes the look-up that the words name in the record that was read last.
+pub fn call(printer: Printer<'_>, files: &Files, words: Words<'_>) {
+    let mut words = words;
+    let Some(policy) = &files.policy else {
+        return;
+    };
+    match words.next() {
+        "anonymous" => tell_account(printer, policy.anonymous()),
+        "named" => tell_account(printer, policy.account_named(words.next())),
+        "default" => tell_policy(printer, default_policy(policy, words.next())),
+        "policy-named" => tell_policy(printer, policy.policy_named(words.next())),
+        word => {
+            if let Ok(octets) = printer.names.octets_of(words.rest) {
+                look_up(printer, policy, word, &octets);
+            }
+        }
+    }
+}

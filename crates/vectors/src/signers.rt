@@ -1,0 +1,111 @@
+//! Signers: the stand-in, one that fails at chosen calls, and a key holder over frames.
+use crate::ends::{Reader, Writer, reader_of, writer_of};
+use crate::tokens::algorithm_of;
+use cms::{CmsFault, FramedSigner, KeyedHash, Signer, SignerFault};
+use counter_fakes::FailingSigner;
+use std::alloc::{AllocError, Global};
+use transcript::{Printer, Words};
+
+/// The algorithm 2.999.9, without parameters.
+static ALGORITHM: &[u8] = b"\x30\x05\x06\x03\x88\x37\x09";
+
+fn signature_of<S: Signer>(signer: &mut S, text: &[u8]) -> Result<Vec<u8>, SignerFault> {
+    signer.sign(text)
+}
+
+/// Has each of the names' octets signed, and tells of each how many faults there were then.
+fn sign_all<S: Signer>(printer: Printer<'_>, signer: &mut S, words: Words<'_>) {
+    let mut words = words;
+    for _ in 0..words.rest.len() {
+        let name = words.next();
+        if name.is_empty() {
+            break;
+        }
+        match signature_of(signer, printer.names.octets(name)) {
+            Ok(signature) => printer.digits("signature", &signature),
+            Err(fault) => printer.tell(&fault),
+        }
+        printer.number("faults", signer.faults());
+    }
+    printer.digits("algorithm", signer.algorithm().as_slice());
+}
+
+fn stand_in(alloc: Global, key: &[u8]) -> Result<KeyedHash, CmsFault> {
+    KeyedHash::new(alloc, key)
+}
+
+/// The stand-in with the key of the first name signs the others.
+fn sign_by_key(alloc: Global, printer: Printer<'_>, words: Words<'_>) {
+    let mut words = words;
+    match stand_in(alloc, printer.names.octets(words.next())) {
+        Ok(mut signer) => sign_all(printer, &mut signer, words),
+        Err(fault) => printer.tell(&fault),
+    }
+}
+
+/// The numbers of a word, parted by commas.
+pub fn chosen_of(alloc: Global, word: &str) -> Result<Vec<u64>, AllocError> {
+    let mut chosen = Vec::new(alloc);
+    for number in word.split(',') {
+        if let Ok(number) = number.parse() {
+            chosen.push(number)?;
+        }
+    }
+    Ok(chosen)
+}
+
+/// A signer that fails at the calls that the first word chooses, with the key of the name behind it, signs the others.
+fn sign_failing(alloc: Global, printer: Printer<'_>, words: Words<'_>) -> Result<(), AllocError> {
+    let mut words = words;
+    let chosen = chosen_of(alloc, words.next())?;
+    match stand_in(alloc, printer.names.octets(words.next())) {
+        Ok(behind) => {
+            let mut signer = FailingSigner::new(behind, chosen);
+            sign_all(printer, &mut signer, words);
+            printer.number("calls", signer.calls);
+        }
+        Err(fault) => printer.tell(&fault),
+    }
+    Ok(())
+}
+
+fn framed<'e, 'r, 'i>(
+    alloc: Global,
+    reader: &'e mut Reader<'r, 'i>,
+    writer: &'e mut Writer,
+) -> Result<FramedSigner<&'e mut Reader<'r, 'i>, &'e mut Writer>, CmsFault> {
+    let algorithm = algorithm_of(alloc, ALGORITHM)?;
+    Ok(FramedSigner::new(alloc, reader, writer, algorithm))
+}
+
+/// A key holder over frames signs: the words are those of its reader and its writer, and then names. Tells what was
+/// written, what wasn't read, and how often either end was called.
+fn sign_framed(alloc: Global, printer: Printer<'_>, words: Words<'_>) -> Result<(), AllocError> {
+    let mut words = words;
+    let mut input = printer.names.octets(words.next());
+    let mut reader = reader_of(alloc, &mut input, &mut words)?;
+    let mut writer = writer_of(alloc, &mut words)?;
+    match framed(alloc, &mut reader, &mut writer) {
+        Ok(mut signer) => sign_all(printer, &mut signer, words),
+        Err(fault) => printer.tell(&fault),
+    }
+    printer.number("reads", reader.calls);
+    printer.number("writes", writer.calls);
+    printer.digits("written", &writer.writer);
+    drop(reader);
+    printer.digits("unread", input);
+    Ok(())
+}
+
+/// Makes the call that the words name.
+pub fn call(alloc: Global, printer: Printer<'_>, words: Words<'_>) -> Result<(), AllocError> {
+    let mut words = words;
+    match words.next() {
+        "stand-in" => {
+            sign_by_key(alloc, printer, words);
+            Ok(())
+        }
+        "failing" => sign_failing(alloc, printer, words),
+        _ => sign_framed(alloc, printer, words),
+    }
+}

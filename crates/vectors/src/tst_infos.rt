@@ -1,0 +1,115 @@
+//! TSTInfo, as they are read, and as they answer requests.
+ghost use Rattle.std.specs.Prelude.{◌<◌, ◌≤◌, ◌^◌};
+
+use crate::requests::{tell_extension, tell_written};
+use der::{DerFault, Oid};
+use gentime::GenTime;
+use std::alloc::{AllocError, Global};
+use transcript::{Printer, Words};
+use tsp::{
+    ObjectIdentifier, TspFault, TstInfo, read_request, read_tst, requests_have_one_reading,
+    write_tst,
+};
+
+fn tell_parts(printer: Printer<'_>, tst: &TstInfo<'_>) {
+    printer.digits("policy", tst.policy.content());
+    printer.digits("hash", tst.imprint.hash);
+    printer.number("serial", tst.serial);
+    printer.tell(&tst.gen_time.micros());
+    printer.number("accuracy", u64::from(tst.accuracy));
+    printer.tell(&tst.ordering);
+    match &tst.nonce {
+        Some(nonce) => printer.digits("nonce", nonce.content()),
+        None => printer.line("  nonce None"),
+    }
+    for extension in tst.extensions.again() {
+        tell_extension(printer, &extension);
+    }
+}
+
+fn written(alloc: Global, octets: &[u8]) -> Result<Vec<u8>, TspFault> {
+    let tst = read_tst(octets)?;
+    write_tst(alloc, &tst)
+}
+
+fn read(alloc: Global, printer: Printer<'_>, octets: &[u8]) {
+    match read_tst(octets) {
+        Ok(tst) => {
+            tell_parts(printer, &tst);
+            tell_written(printer, written(alloc, octets), octets);
+        }
+        Err(fault) => printer.tell(&fault),
+    }
+}
+
+/// The TSTInfo that answers the request of those octets.
+fn answer(
+    alloc: Global,
+    octets: &[u8],
+    policy: &Oid,
+    serial: u64,
+    gen_time: GenTime,
+    accuracy: u32,
+    ordering: bool,
+) -> Result<Vec<u8>, TspFault>
+    requires first_serial { 1 ≤ serial }
+    requires last_serial { serial < 2 ^ 63 }
+    requires some_accuracy { 1 ≤ accuracy }
+    requires most_accuracy { accuracy ≤ 1000000 }
+{
+    requests_have_one_reading();
+    let request = read_request(octets)?;
+    let tst = request.into_tst_info(
+        ObjectIdentifier::of(policy),
+        serial,
+        gen_time,
+        accuracy,
+        ordering,
+    );
+    write_tst(alloc, &tst)
+}
+
+fn policy_of(alloc: Global, text: &str) -> Result<Oid, DerFault> {
+    Oid::parse_text(alloc, text)
+}
+
+/// A number of at least 1 and at most that one.
+fn some(number: u64, most: u64) -> u64
+    requires { 1 ≤ most }
+    ensures some { 1 ≤ result }
+    ensures few { result ≤ most }
+{
+    number.min(most).max(1)
+}
+
+/// Tells of the TSTInfo that answers a request: the policy, the serial number, the moment, the accuracy, the ordering
+/// and the request's octets.
+fn tell_answer(alloc: Global, printer: Printer<'_>, words: Words<'_>) -> Result<(), AllocError> {
+    let mut words = words;
+    let policy = policy_of(alloc, words.next());
+    let serial = some(words.number(), i64::MAX as u64);
+    let moment = GenTime::from_micros(words.signed());
+    let accuracy = some(words.number(), 1_000_000) as u32;
+    let ordering = words.next() == "true";
+    let octets = printer.names.octets_of(words.rest)?;
+    match (policy, moment) {
+        (Ok(policy), Ok(moment)) => {
+            let tst = answer(alloc, &octets, &policy, serial, moment, accuracy, ordering);
+            tell_written(printer, tst, &[]);
+        }
+        (policy, moment) => printer.tell(&(policy.err(), moment.err())),
+    }
+    Ok(())
+}
+
+/// Makes the call that the words name.
+pub fn call(alloc: Global, printer: Printer<'_>, words: Words<'_>) -> Result<(), AllocError> {
+    let mut words = words;
+    match words.next() {
+        "read" => {
+            read(alloc, printer, &printer.names.octets_of(words.rest)?);
+            Ok(())
+        }
+        _ => tell_answer(alloc, printer, words),
+    }
+}
