@@ -35,7 +35,7 @@ static OF_FILES: [PolicyFault; 7] = [
     PolicyFault::Memory,
 ];
 
-static FIELDS: [Field; 29] = [
+static FIELDS: [Field; 30] = [
     Field::Key,
     Field::Counter,
     Field::CounterAccuracyUs,
@@ -63,6 +63,7 @@ static FIELDS: [Field; 29] = [
     Field::AccountKeySha256,
     Field::AccountActive,
     Field::AccountAuditor,
+    Field::AccountOperator,
     Field::AccountPolicies,
     Field::AccountDailyQuota,
 ];

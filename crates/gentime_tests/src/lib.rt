@@ -1,5 +1,0 @@
-//! Tests of moments and their texts.
-#![tactic(auto)]
-
-#[cfg(test)]
-mod moments;

@@ -1,5 +1,0 @@
-//! A test of the store over files in memory.
-#![tactic(auto)]
-
-#[cfg(test)]
-mod closing;
