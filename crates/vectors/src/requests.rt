@@ -43,7 +43,7 @@ pub fn tell_extension(printer: Printer<'_>, extension: &Extension<'_>) {
     printer.digits("value", extension.value);
 }
 
-/// Tells of the first extensions, and how many there are.
+/// Tells of the first extensions, how many there are, and whether there is none.
 fn tell_extensions(printer: Printer<'_>, request: &Request<'_>) {
     let mut count = 0u64;
     for extension in request.extensions() {
@@ -53,6 +53,7 @@ fn tell_extensions(printer: Printer<'_>, request: &Request<'_>) {
         count = count.saturating_add(1);
     }
     printer.number("extensions", count);
+    printer.tell(&request.extensions().is_empty());
 }
 
 fn tell_parts(printer: Printer<'_>, request: &Request<'_>) {

@@ -60,6 +60,8 @@ pub fn call(alloc: Global, printer: Printer<'_>, words: Words<'_>) -> Result<(),
             printer.tell(&fault);
         }
     }
-    printer.digits("written", writer.as_slice());
+    printer.number("length", writer.len() as u64);
+    printer.tell(&writer.is_empty());
+    printer.digits("written", &writer.into_octets());
     Ok(())
 }
