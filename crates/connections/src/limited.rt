@@ -1,25 +1,21 @@
-//! A stream whose reads and writes end by a moment.
-ghost use Rattle.std.specs.Prelude.{◌≡◌, ◌<◌, None};
-ghost use Rattle.std.specs.Io.{ReadsAtMost};
+//! A stream whose writes end by a moment.
+ghost use Rattle.std.specs.Prelude.{◌≡◌, None};
 
 use std::io;
-use std::io::{ErrorKind, Read, Write};
-use std::net::{Shutdown, TcpStream};
+use std::io::{ErrorKind, Write};
+use std::net::TcpStream;
 use std::time::{Clock, Duration, Instant};
 
-/// The most octets that are dropped behind an answer.
-const MOST_DROPPED: usize = 16_777_216;
-
-/// How many seconds the next of them is waited for.
-const DROP_SECONDS: u64 = 2;
-
-/// One way of a stream. From its first call on it has so much time: what isn't done by then fails.
+/// What is written to a stream that doesn't wait. From the first write on it has so much time: what isn't done by then
+/// fails. What the system has no room for yet is waited for.
 #[derive(Drop)]
 pub(crate) struct Limited<'a, R> {
     clock: &'a R,
     stream: &'a TcpStream,
     limit: Duration,
-    end: Option<Instant>,
+    /// When the time is up; none before the first write.
+    pub(crate) end: Option<Instant>,
+    is_waiting: bool,
 }
 
 impl<'a, R: Clock> Limited<'a, R> {
@@ -33,6 +29,7 @@ impl<'a, R: Clock> Limited<'a, R> {
             stream,
             limit,
             end: None,
+            is_waiting: false,
         }
     }
 
@@ -55,53 +52,22 @@ impl<'a, R: Clock> Limited<'a, R> {
         }
         Ok(left)
     }
-
-    /// Ends our side, and reads and drops what the peer still sends, until it ends its own, sends nothing for some
-    /// time, the time is up, or 16 MiB are dropped: how many octets were, at most a buffer more. A stream that is
-    /// closed with octets in it that weren't read would be reset, and the peer might lose what was written.
-    pub(crate) fn close(mut self) -> usize
-        ensures { result < 16_781_312 }
-    {
-        if self.stream.shutdown(Shutdown::Write).is_err() {
-            return 0;
-        }
-        let mut room = [0u8; 4096];
-        let mut dropped = 0;
-        while dropped < MOST_DROPPED {
-            match self.read_some(&mut room) {
-                Ok(0) | Err(_) => return dropped,
-                Ok(taken) => dropped += taken,
-            }
-        }
-        dropped
-    }
-
-    /// Reads what comes, unless nothing does for some time.
-    fn read_some(&mut self, room: &mut [u8]) -> io::Result<usize>
-        ensures { ReadsAtMost result room.new }
-    {
-        let left = self.left()?;
-        let most = Duration::from_secs(DROP_SECONDS);
-        self.stream.set_read_timeout(Some(left.min(most)))?;
-        let mut stream = self.stream;
-        stream.read(room)
-    }
-}
-
-impl<R: Clock> Read for Limited<'_, R> {
-    fn read(&mut self, buf: &mut [u8]) -> io::Result<usize> {
-        let left = self.left()?;
-        self.stream.set_read_timeout(Some(left))?;
-        let mut stream = self.stream;
-        stream.read(buf)
-    }
 }
 
 impl<R: Clock> Write for Limited<'_, R> {
     fn write(&mut self, buf: &[u8]) -> io::Result<usize> {
         let left = self.left()?;
-        self.stream.set_write_timeout(Some(left))?;
         let mut stream = self.stream;
+        if !self.is_waiting {
+            match stream.write(buf) {
+                Err(error) if error.kind() == ErrorKind::WouldBlock => {
+                    self.stream.set_nonblocking(false)?;
+                    self.is_waiting = true;
+                }
+                written => return written,
+            }
+        }
+        self.stream.set_write_timeout(Some(left))?;
         stream.write(buf)
     }
 

@@ -1,30 +1,41 @@
-//! Connections one after the other.
+//! Connections whose requests are whole, one after the other.
 ghost use Rattle.std.specs.Prelude.{◌≡◌, Err, IfErr, OnOk};
 ghost use Rattle.connections.specs.Turns.{IsTurn, ServesEach};
 
-use crate::awaiting::await_request;
 use crate::clock::{Clock, ClockFailed};
 use crate::incoming::Incoming;
 use crate::limited::Limited;
+use crate::listening::Listening;
+use crate::request::Request;
+use crate::waiting::Waiting;
 use book::Book;
 use cms::Signer;
 use desk::Desk;
 use service::{Served, serve_one};
-use std::net::{TcpListener, TcpStream};
-use std::time::Duration;
+use std::net::TcpStream;
+use std::time::{Duration, Instant};
 
 /// The limit on a connection's time: so many seconds for its request, and so many for its answer.
 pub const CONNECTION_SECONDS: u64 = 20;
 
-/// Serves the request of one connection, if one comes.
-fn serve_stream<R: AllocGlobal + std::time::Clock, C: Clock, B: Book + Drop, G: Signer>(
+/// Until which moment a connection has to be read further behind its answer, where its client may still send.
+fn rest_until(served: Served, request: &Request, end: Option<Instant>) -> Option<Instant> {
+    match served {
+        Served::Answered(_) if !request.is_exact() => end,
+        _ => None,
+    }
+}
+
+/// Serves a request. Until which moment the connection has to be read further, where it has to be.
+fn serve_request<R: AllocGlobal + std::time::Clock, C: Clock, B: Book + Drop, G: Signer>(
     rt: &R,
     stream: &TcpStream,
+    request: &Request,
     limit: Duration,
     clock: &mut C,
     desk: &mut Desk<'_, B>,
     signer: &mut G,
-) -> Result<(), ClockFailed>
+) -> Result<Option<Instant>, ClockFailed>
     ensures turn { OnOk result (IsTurn C.reads B.Standing G.signs G.fault_count
         (record { clock = clock.old; desk = desk.old; signer = signer.old })
         (record { clock = clock.new; desk = desk.new; signer = signer.new })) }
@@ -32,33 +43,24 @@ fn serve_stream<R: AllocGlobal + std::time::Clock, C: Clock, B: Book + Drop, G: 
     ensures desk_kept { IfErr result (λ fault. desk.new ≡ desk.old) }
     ensures signer_kept { IfErr result (λ fault. signer.new ≡ signer.old) }
 {
-    // Where it can't be set, an answer may take longer to go out.
-    let _ = stream.set_nodelay(true);
-    let alloc = rt.alloc();
-    let mut reader = Limited::new(rt, stream, limit);
-    let Some(awaited) = await_request(alloc, &mut reader) else {
-        return Ok(());
-    };
     let reading = match clock.reading() {
         Ok(reading) => reading,
         Err(failed) => return Err(failed),
     };
     let mut input = Incoming {
-        octets: awaited.octets.as_slice(),
-        rest: reader,
+        octets: request.octets(),
+        rest: stream,
     };
     let mut output = Limited::new(rt, stream, limit);
-    let served = serve_one(alloc, &mut input, &mut output, desk, reading, signer);
-    if matches!(served, Served::Answered(_)) && !awaited.is_exact {
-        let _dropped = output.close();
-    }
-    Ok(())
+    let served = serve_one(rt.alloc(), &mut input, &mut output, desk, reading, signer);
+    Ok(rest_until(served, request, output.end))
 }
 
-/// Takes one connection and serves it.
+/// Waits for the next connection whose request is whole, and serves it. At most so many are waited for.
 fn serve_connection<R: AllocGlobal + std::time::Clock, C: Clock, B: Book + Drop, G: Signer>(
     rt: &R,
-    listener: &TcpListener,
+    listening: &mut Listening<'_>,
+    most: usize,
     limit: Duration,
     clock: &mut C,
     desk: &mut Desk<'_, B>,
@@ -71,24 +73,33 @@ fn serve_connection<R: AllocGlobal + std::time::Clock, C: Clock, B: Book + Drop,
     ensures desk_kept { IfErr result (λ fault. desk.new ≡ desk.old) }
     ensures signer_kept { IfErr result (λ fault. signer.new ≡ signer.old) }
 {
-    match listener.accept() {
-        Ok((stream, _)) => serve_stream(rt, &stream, limit, clock, desk, signer),
-        Err(_) => Ok(()),
+    let Some(Waiting { peer, request }) = listening.next(rt, most, limit) else {
+        return Ok(());
+    };
+    match serve_request(rt, &peer.stream, &request, limit, clock, desk, signer) {
+        Ok(Some(end)) => {
+            let _ = listening.close(rt, peer, end);
+            Ok(())
+        }
+        Ok(None) => Ok(()),
+        Err(failed) => Err(failed),
     }
 }
 
-/// Serves so many connections, one after the other: one request of each, by `service::serve_one`. One that fails counts
-/// too, also where it can't be taken.
+/// Serves so many connections: one request of each, by `service::serve_one`. They are served one after the other, and
+/// the next is one whose request is whole; until then up to 128 are read side by side, so that none holds up another.
+/// One that fails counts too, also where it was given up before it could be taken. Where the system has no descriptor
+/// for one, it is tried again after 50 milliseconds.
 ///
 /// A request has so much time to come, from when its connection is taken, and its answer so much to go out, from when
-/// it begins; what isn't done by then fails, and the next connection is taken. The clock is asked once for each
-/// request, when it is there. Where a client may still send behind the answer, that is read and dropped for a while, so
-/// that the answer isn't lost.
+/// it begins; what isn't done by then fails. The clock is asked once for each request, when it is there. Where a client
+/// may still send behind the answer, that is read and dropped for a while, so that the answer isn't lost; the call ends
+/// once the last of these is closed.
 ///
-/// `ClockFailed` where the clock fails: the connection is closed then without an answer, and no further one taken.
+/// `ClockFailed` where the clock fails: the connection is closed then without an answer, and no further one served.
 pub fn serve_connections<R: AllocGlobal + std::time::Clock, C: Clock, B: Book + Drop, G: Signer>(
     rt: &R,
-    listener: &TcpListener,
+    listening: &mut Listening<'_>,
     count: u32,
     limit: Duration,
     clock: &mut C,
@@ -101,11 +112,13 @@ pub fn serve_connections<R: AllocGlobal + std::time::Clock, C: Clock, B: Book + 
         (record { clock = clock.old; desk = desk.old; signer = signer.old })
         (record { clock = clock.new; desk = desk.new; signer = signer.new }) result }
 {
-    for _connection in 0..count {
-        match serve_connection(rt, listener, limit, clock, desk, signer) {
+    for done in 0..count {
+        let most = (count - done) as usize;
+        match serve_connection(rt, listening, most, limit, clock, desk, signer) {
             Ok(()) => {}
             Err(fault) => return Err(fault),
         }
     }
+    listening.finish(rt);
     Ok(())
 }

@@ -1,6 +1,6 @@
 //! Requests that come whole, in part, or with more behind them.
 use super::exchanges::{
-    Exchanged, client, ends_well, exchanged, keyed, listening, long, received, serving,
+    Exchanged, client, ends_well, exchanged, keyed, listening, long, received, serving, taking,
 };
 use super::octets::{GRANTED_WITH, RULE_1, WITH_CERTIFICATE};
 use super::setting::{EMPTY, QUERY, REPLY, answer, request};
@@ -14,7 +14,14 @@ fn told(rt: &HostRuntime, octets: &[u8], readings: u32) -> Result<Vec<u8>, Fail>
     let listener = listening(rt)?;
     let mut stream = client(rt, &listener, octets)?;
     stream.shutdown(Shutdown::Write)?;
-    ends_well(serving(rt, &listener, 1, long(), readings, &mut keyed(rt.alloc())?)?)?;
+    ends_well(serving(
+        rt,
+        &mut taking(rt, &listener)?,
+        1,
+        long(),
+        readings,
+        &mut keyed(rt.alloc())?,
+    )?)?;
     received(rt.alloc(), &mut stream)
 }
 

@@ -4,7 +4,7 @@
 use super::setting::{calibrated, example};
 use book::Book;
 use cms::{KeyedHash, Signer};
-use connections::{Clock, ClockFailed, serve_connections};
+use connections::{Clock, ClockFailed, Listening, serve_connections};
 use desk::Desk;
 use std::alloc::Global;
 use std::io::{Read, Write};
@@ -75,20 +75,25 @@ pub fn keyed(alloc: Global) -> Result<KeyedHash, Fail> {
 
 fn serve<R: AllocGlobal + std::time::Clock, C: Clock, B: Book + Drop, G: Signer>(
     rt: &R,
-    listener: &TcpListener,
+    listening: &mut Listening<'_>,
     count: u32,
     limit: Duration,
     clock: &mut C,
     desk: &mut Desk<'_, B>,
     signer: &mut G,
 ) -> Result<(), ClockFailed> {
-    serve_connections(rt, listener, count, limit, clock, desk, signer)
+    serve_connections(rt, listening, count, limit, clock, desk, signer)
+}
+
+/// A listener of whose connections none is taken yet.
+pub fn taking<'l>(rt: &HostRuntime, listener: &'l TcpListener) -> Result<Listening<'l>, Fail> {
+    Ok(Listening::new(rt, rt.alloc(), listener)?)
 }
 
 /// Serves so many connections by a desk of its own: how that ends.
 pub fn serving<R: AllocGlobal + std::time::Clock, G: Signer>(
     rt: &R,
-    listener: &TcpListener,
+    listening: &mut Listening<'_>,
     count: u32,
     limit: Duration,
     readings: u32,
@@ -98,7 +103,7 @@ pub fn serving<R: AllocGlobal + std::time::Clock, G: Signer>(
     let setting = example(alloc)?;
     let mut desk = calibrated(alloc, &setting)?;
     let mut clock = FixedClock { left: readings };
-    Ok(serve(rt, listener, count, limit, &mut clock, &mut desk, signer))
+    Ok(serve(rt, listening, count, limit, &mut clock, &mut desk, signer))
 }
 
 /// Sees that the clock didn't fail.
@@ -149,7 +154,14 @@ pub fn exchange<G: Signer>(
     let listener = listening(rt)?;
     let clients = clients(rt, &listener, rows)?;
     let count = u32::try_from(rows.len())?;
-    let ended = serving(rt, &listener, count, limit, readings, signer)?;
+    let ended = serving(
+        rt,
+        &mut taking(rt, &listener)?,
+        count,
+        limit,
+        readings,
+        signer,
+    )?;
     receive(rt.alloc(), clients, rows)?;
     Ok(ended)
 }

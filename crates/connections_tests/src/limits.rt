@@ -1,5 +1,5 @@
 //! Limits on time, by a machine whose clock moves on each time that it is looked at.
-use super::exchanges::{client, ends_well, keyed, listening, long, serving};
+use super::exchanges::{client, ends_well, keyed, listening, long, serving, taking};
 use super::octets::RULE_1;
 use super::setting::{EMPTY, REPLY, answer};
 use std::alloc::Global;
@@ -49,7 +49,7 @@ fn told(rt: &HostRuntime, before: &[u8], octets: &[u8], step: Duration) -> Resul
     };
     ends_well(serving(
         &(machine, alloc),
-        &listener,
+        &mut taking(rt, &listener)?,
         1,
         long(),
         1,

@@ -1,6 +1,6 @@
 //! Connections that are served, each for what the one before it left.
 use super::exchanges::{
-    answers, client, ends_well, exchange, exchanged, keyed, listening, long, serving, short,
+    answers, client, ends_well, exchange, exchanged, keyed, listening, long, serving, short, taking,
 };
 use super::octets::{GRANTED_WITH, RULE_1, WITH_CERTIFICATE};
 use super::setting::{EMPTY, QUERY, REPLY, answer, request};
@@ -87,7 +87,14 @@ fn tells_it_before_the_body(rt: HostRuntime) -> Result<(), Fail> {
     let listener = listening(&rt)?;
     let head: &[u8] = b"POST /tsp HTTP/1.1\r\nContent-Length: 1048577\r\n\r\n";
     let mut stream = client(&rt, &listener, head)?;
-    ends_well(serving(&rt, &listener, 1, short(), 1, &mut keyed(rt.alloc())?)?)?;
+    ends_well(serving(
+        &rt,
+        &mut taking(&rt, &listener)?,
+        1,
+        short(),
+        1,
+        &mut keyed(rt.alloc())?,
+    )?)?;
     let _ = stream.write_all(&[7; 40_000]);
     comes(rt.alloc(), &mut stream)
 }

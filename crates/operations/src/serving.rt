@@ -8,7 +8,7 @@ use crate::signing::Signing;
 use crate::terms::Terms;
 use book::Book;
 use cms::Signer;
-use connections::{CONNECTION_SECONDS, SystemClock, serve_connections};
+use connections::{CONNECTION_SECONDS, Listening, SystemClock, serve_connections};
 use desk::Desk;
 use std::net::TcpListener;
 use std::time::Duration;
@@ -39,7 +39,8 @@ impl DeskOperation<(), ()> for Serving<'_> {
 
 /// Serves that many connections at the address, one after the other, over the history that the database at the path
 /// keeps; readings are the machine's clock's. One that fails counts too. Refused as `answer`, then with `Unheard` where
-/// the address can't be listened on, and with `Clock` where the clock fails; those that were served before stand.
+/// the address can't be listened on or the system can't wait for several connections at once, and with `Clock` where the
+/// clock fails; those that were served before stand.
 pub fn serve(
     rt: &HostRuntime,
     path: &str,
@@ -70,10 +71,13 @@ fn listen<B: Book + Drop, G: Signer>(
     let Ok(listener) = TcpListener::bind(rt, address) else {
         return Err(OperationFault::Unheard);
     };
+    let Ok(mut listening) = Listening::new(rt, rt.alloc(), &listener) else {
+        return Err(OperationFault::Unheard);
+    };
     let mut clock = SystemClock { machine: rt };
     match serve_connections(
         rt,
-        &listener,
+        &mut listening,
         connections,
         Duration::from_secs(CONNECTION_SECONDS),
         &mut clock,

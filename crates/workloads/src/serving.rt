@@ -1,7 +1,7 @@
 //! Exchanges over loopback, with the database in memory.
 use crate::setting::{CERTIFICATE, setting_of};
 use cms::KeyedHash;
-use connections::{CONNECTION_SECONDS, Clock, SystemClock, serve_connections};
+use connections::{CONNECTION_SECONDS, Clock, Listening, SystemClock, serve_connections};
 use desk::Desk;
 use sqlite::{Connection, MemStore};
 use std::alloc::Global;
@@ -42,9 +42,10 @@ fn serve_at(rt: &HostRuntime, listener: &TcpListener, count: u32) -> anyhow::Res
         store,
     );
     let limit = Duration::from_secs(CONNECTION_SECONDS);
+    let mut listening = Listening::new(rt, alloc, listener)?;
     serve_connections(
         rt,
-        listener,
+        &mut listening,
         count,
         limit,
         &mut clock,

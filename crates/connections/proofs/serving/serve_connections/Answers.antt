@@ -6,25 +6,25 @@ pub returns-in-Err-clause-setting : goal.returns-in-Err-clause-setting
 returns-in-Err-clause-setting g c =
     ap (λ d. d.setting) c.in-Err.ensures.desk_kept
     ∙ served_setting g.C.Clock.reads g.B.Standing g.G.Signer.signs g.G.Signer.fault_count _ _ _
-    c.loop-connection.invariant
+    c.loop-done.invariant
 
 pub returns-in-Err-clause-honest : goal.returns-in-Err-clause-honest
 returns-in-Err-clause-honest g c = λ honest.
     served_honest g.C.Clock.reads g.B.Standing g.G.Signer.signs g.G.Signer.fault_count _ _ _
-    c.loop-connection.invariant
+    c.loop-done.invariant
     (subst (λ d. g.B.Standing.honest d.store) c.in-Err.ensures.desk_kept honest)
 
-pub loop-connection-preserved : goal.loop-connection-preserved
-loop-connection-preserved g c =
+pub loop-done-preserved : goal.loop-done-preserved
+loop-done-preserved g c =
     served_more g.C.Clock.reads g.B.Standing g.G.Signer.signs g.G.Signer.fault_count _ _ _ _
-    c.loop-connection.invariant c.in-Ok.ensures.turn
+    c.loop-done.invariant c.in-Ok.ensures.turn
 
 pub returns-clause-setting : goal.returns-clause-setting
 returns-clause-setting g c =
     served_setting g.C.Clock.reads g.B.Standing g.G.Signer.signs g.G.Signer.fault_count _ _ _
-    c.loop-connection.invariant
+    c.loop-done.invariant
 
 pub returns-clause-honest : goal.returns-clause-honest
 returns-clause-honest g c =
     served_honest g.C.Clock.reads g.B.Standing g.G.Signer.signs g.G.Signer.fault_count _ _ _
-    c.loop-connection.invariant
+    c.loop-done.invariant

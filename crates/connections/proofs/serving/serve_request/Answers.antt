@@ -2,7 +2,7 @@ use Rattle.std.proofs.Common.{ℤ, subst, rules, SFits, w64, to_z-of_z}
 use Rattle.service.specs.Served.{Serves}
 use Rattle.connections.specs.Turns.{one}
 use Rattle.connections.proofs.UntoldLemmas.{nothing_told, turn, serves}
-use Rattle.connections.proofs.serving.serve_stream.Goals as goal
+use Rattle.connections.proofs.serving.serve_request.Goals as goal
 
 pub returns-clause-turn : goal.returns-clause-turn
 returns-clause-turn g c =

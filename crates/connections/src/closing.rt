@@ -1,0 +1,89 @@
+//! A connection that was answered, and whose client may still send.
+ghost use Rattle.std.specs.Prelude.{◌<◌};
+
+use crate::peer::Peer;
+use mio::Registry;
+use std::io::{ErrorKind, Read};
+use std::time::{Duration, Instant};
+
+/// The most octets that are dropped behind an answer.
+const MOST_DROPPED: usize = 16_777_216;
+
+/// How many seconds the next of them is waited for.
+const DROP_SECONDS: u64 = 2;
+
+/// How often one connection is read before it is another's turn.
+const MOST_READS: u32 = 64;
+
+/// A connection of which our side is ended. What the peer still sends is read and dropped, until it ends its own side,
+/// sends nothing for some time, its time is up, or 16 MiB are dropped, at most a buffer more. A stream that is closed
+/// with octets in it that weren't read would be reset, and the peer might lose what was written.
+#[derive(Drop)]
+pub(crate) struct Closing {
+    peer: Peer,
+    /// When the next octet has to have come.
+    until: Instant,
+    dropped: usize,
+    ghost few: { dropped < 16_781_312 },
+}
+
+/// When the next octet has to have come.
+fn until(now: Instant) -> Option<Instant> {
+    now.checked_add(Duration::from_secs(DROP_SECONDS))
+}
+
+impl Closing {
+    /// Nothing is dropped yet. None where there is no such moment.
+    pub(crate) fn new(peer: Peer, now: Instant) -> Option<Closing> {
+        match until(now) {
+            Some(until) => Some(Closing {
+                peer,
+                until,
+                dropped: 0,
+            }),
+            None => None,
+        }
+    }
+
+    /// The system tells that something may be there of what has that token.
+    pub(crate) fn hear(&mut self, token: mio::Token) {
+        self.peer.hear(token);
+    }
+
+    /// The time that is left.
+    pub(crate) fn left(&self, now: Instant) -> Duration {
+        self.peer.left(now).min(self.until.duration_since(now))
+    }
+
+    /// Drops what is there, and tells whether it can be closed.
+    pub(crate) fn is_done(&mut self, registry: &Registry, now: Instant) -> bool {
+        if self.peer.is_ready && self.drop_some(registry, now) {
+            return true;
+        }
+        self.peer.end <= now || self.until <= now
+    }
+
+    /// Reads and drops what is there; whether it is the last.
+    fn drop_some(&mut self, registry: &Registry, now: Instant) -> bool {
+        for _ in 0..MOST_READS {
+            if self.dropped >= MOST_DROPPED {
+                return true;
+            }
+            let mut room = [0u8; 4096];
+            let mut stream = &self.peer.stream;
+            match stream.read(&mut room) {
+                Ok(0) => return true,
+                Ok(taken) => self.dropped += taken,
+                Err(error) if error.kind() == ErrorKind::WouldBlock => {
+                    return self.peer.wait(registry).is_err();
+                }
+                Err(_) => return true,
+            }
+            match until(now) {
+                Some(until) => self.until = until,
+                None => return true,
+            }
+        }
+        false
+    }
+}

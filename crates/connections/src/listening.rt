@@ -1,0 +1,289 @@
+//! A listener, and those of its connections that are read side by side.
+use crate::closing::Closing;
+use crate::peer::Peer;
+use crate::request::{Progress, Request};
+use crate::waiting::Waiting;
+use mio::unix::SourceFd;
+use mio::{Events, Interest, Poll, Registry, Token};
+use std::alloc::Global;
+use std::io;
+use std::io::ErrorKind;
+use std::net::{Net, Shutdown, TcpListener, TcpStream};
+use std::os::fd::AsRawFd;
+use std::time::{Clock, Duration, Instant};
+
+/// The most connections that are read side by side.
+const MOST_WAITING: usize = 128;
+
+/// The most connections that are closed side by side.
+const MOST_CLOSING: usize = 128;
+
+/// The most events that the system tells of at once.
+const MOST_EVENTS: usize = 64;
+
+/// What the system calls the listener.
+const LISTENER: Token = Token(0);
+
+/// How many milliseconds after the system had no descriptor for a connection another is tried.
+const PAUSE_MILLISECONDS: u64 = 50;
+
+/// What was taken of the listener.
+enum Taken {
+    /// A connection.
+    One,
+    /// One that was given up before.
+    Failed,
+    /// None, since there is none, or the system has nothing to spare for it.
+    None,
+}
+
+/// A listener, and those of its connections that aren't done with. So many are read side by side, and the next one is
+/// taken once one of them is done with.
+#[derive(Drop)]
+pub struct Listening<'l> {
+    alloc: Global,
+    listener: &'l TcpListener,
+    poll: Poll,
+    events: Events,
+    /// In the order in which they were taken.
+    waiting: Vec<Waiting>,
+    closing: Vec<Closing>,
+    /// A connection may be there to be taken.
+    is_ready: bool,
+    /// The system had nothing to spare for one.
+    is_short: bool,
+    /// What it calls the last one that was taken.
+    token: usize,
+}
+
+/// Those of a token may have something to be read.
+fn hear(waiting: &mut [Waiting], closing: &mut [Closing], token: Token) {
+    for one in waiting.iter_mut() {
+        one.peer.hear(token);
+    }
+    for one in closing.iter_mut() {
+        one.hear(token);
+    }
+}
+
+/// Reads what is there of each in turn: where the first stands that is done with, and how.
+fn first_done(
+    waiting: &mut [Waiting],
+    registry: &Registry,
+    now: Instant,
+) -> Option<(usize, Progress)> {
+    for (place, one) in waiting.iter_mut().enumerate() {
+        match one.progress(registry, now) {
+            Progress::Came | Progress::Waits => {}
+            done => return Some((place, done)),
+        }
+    }
+    None
+}
+
+/// Drops what is there of each in turn: where the first stands that can be closed.
+fn first_closed(closing: &mut [Closing], registry: &Registry, now: Instant) -> Option<usize> {
+    for (place, one) in closing.iter_mut().enumerate() {
+        if one.is_done(registry, now) {
+            return Some(place);
+        }
+    }
+    None
+}
+
+/// The least time that one of them has left, where it is less.
+fn least_left(
+    waiting: &[Waiting],
+    closing: &[Closing],
+    now: Instant,
+    least: Option<Duration>,
+) -> Option<Duration> {
+    let mut least = least;
+    for one in waiting {
+        least = lesser(least, one.peer.left(now));
+    }
+    for one in closing {
+        least = lesser(least, one.left(now));
+    }
+    least
+}
+
+fn lesser(least: Option<Duration>, left: Duration) -> Option<Duration> {
+    match least {
+        Some(least) => Some(least.min(left)),
+        None => Some(left),
+    }
+}
+
+impl<'l> Listening<'l> {
+    /// A listener, of whose connections none is taken yet. From now on it doesn't wait for one. An error where the
+    /// system can't wait for several, or memory runs out.
+    pub fn new<N: Net>(
+        net: &N,
+        alloc: Global,
+        listener: &'l TcpListener,
+    ) -> io::Result<Listening<'l>> {
+        listener.set_nonblocking(true)?;
+        let poll = Poll::new(net)?;
+        let descriptor = listener.as_raw_fd();
+        poll.registry()
+            .register(&mut SourceFd(&descriptor), LISTENER, Interest::READABLE)?;
+        Ok(Listening {
+            alloc,
+            listener,
+            poll,
+            events: Events::with_capacity(alloc, MOST_EVENTS)?,
+            waiting: Vec::with_capacity(alloc, MOST_WAITING)?,
+            closing: Vec::with_capacity(alloc, MOST_CLOSING)?,
+            is_ready: true,
+            is_short: false,
+            token: 0,
+        })
+    }
+
+    /// Waits for the next connection whose request is whole; none for one that failed. At most so many are waited for.
+    pub(crate) fn next<R: Clock>(
+        &mut self,
+        rt: &R,
+        most: usize,
+        limit: Duration,
+    ) -> Option<Waiting> {
+        for _ in 0..u64::MAX {
+            let now = Instant::now(rt).ok()?;
+            if self.take(now, most.min(MOST_WAITING), limit) {
+                return None;
+            }
+            match first_done(&mut self.waiting, self.poll.registry(), now) {
+                Some((place, Progress::Whole)) => return self.removed(place),
+                Some((place, _)) => {
+                    let _ = self.removed(place);
+                    return None;
+                }
+                None => {}
+            }
+            self.close_some(now);
+            self.wait(rt).ok()?;
+        }
+        None
+    }
+
+    /// The connection at a place, which isn't waited for any longer.
+    fn removed(&mut self, place: usize) -> Option<Waiting> {
+        if place < self.waiting.len() {
+            Some(self.waiting.remove(place))
+        } else {
+            None
+        }
+    }
+
+    /// Takes the connections that are there, as long as fewer than so many are waited for. Whether one failed.
+    fn take(&mut self, now: Instant, most: usize, limit: Duration) -> bool {
+        self.is_short = false;
+        for _ in self.waiting.len()..most {
+            if !self.is_ready {
+                return false;
+            }
+            match self.take_one(now, limit) {
+                Taken::One => {}
+                Taken::Failed => return true,
+                Taken::None => return false,
+            }
+        }
+        false
+    }
+
+    /// Takes a connection, if one is there.
+    fn take_one(&mut self, now: Instant, limit: Duration) -> Taken {
+        match self.listener.accept() {
+            Ok((stream, _)) => match self.add(stream, now, limit) {
+                Ok(()) => Taken::One,
+                Err(_) => Taken::Failed,
+            },
+            Err(error) => match error.kind() {
+                ErrorKind::ConnectionAborted => Taken::Failed,
+                ErrorKind::WouldBlock => {
+                    self.is_ready = false;
+                    Taken::None
+                }
+                _ => {
+                    self.is_short = true;
+                    Taken::None
+                }
+            },
+        }
+    }
+
+    /// Waits for the request of a connection from now on.
+    fn add(&mut self, stream: TcpStream, now: Instant, limit: Duration) -> io::Result<()> {
+        // Where it can't be set, an answer may take longer to go out.
+        let _ = stream.set_nodelay(true);
+        let Some(end) = now.checked_add(limit) else {
+            return Err(io::Error::from(ErrorKind::InvalidInput));
+        };
+        self.token = self.token.wrapping_add(1);
+        self.waiting.push(Waiting {
+            peer: Peer::new(stream, Token(self.token), end)?,
+            request: Request::new(self.alloc),
+        })?;
+        Ok(())
+    }
+
+    /// Ends our side of a connection that was answered, and drops what its client still sends, until that moment.
+    pub(crate) fn close<R: Clock>(&mut self, rt: &R, peer: Peer, end: Instant) -> io::Result<()> {
+        let now = Instant::now(rt)?;
+        peer.stream.shutdown(Shutdown::Write)?;
+        peer.stream.set_nonblocking(true)?;
+        let Some(closing) = Closing::new(peer.again(end), now) else {
+            return Err(io::Error::from(ErrorKind::InvalidInput));
+        };
+        if self.closing.len() >= MOST_CLOSING {
+            let _ = self.closing.remove(0);
+        }
+        self.closing.push(closing)?;
+        Ok(())
+    }
+
+    /// Drops what is there of the connections that are being closed.
+    fn close_some(&mut self, now: Instant) {
+        for _ in 0..MOST_CLOSING {
+            match first_closed(&mut self.closing, self.poll.registry(), now) {
+                Some(place) if place < self.closing.len() => {
+                    let _ = self.closing.remove(place);
+                }
+                _ => return,
+            }
+        }
+    }
+
+    /// Waits until the connections that are being closed can be.
+    pub(crate) fn finish<R: Clock>(&mut self, rt: &R) {
+        for _ in 0..u64::MAX {
+            let Ok(now) = Instant::now(rt) else {
+                return;
+            };
+            self.close_some(now);
+            if self.closing.is_empty() || self.wait(rt).is_err() {
+                return;
+            }
+        }
+    }
+
+    /// Waits until something may be there, or a connection has had its time.
+    fn wait<R: Clock>(&mut self, rt: &R) -> io::Result<()> {
+        let now = Instant::now(rt)?;
+        let pause = if self.is_short {
+            Some(Duration::from_millis(PAUSE_MILLISECONDS))
+        } else {
+            None
+        };
+        let left = least_left(&self.waiting, &self.closing, now, pause);
+        self.poll.poll(&mut self.events, left)?;
+        for event in &self.events {
+            if event.token() == LISTENER {
+                self.is_ready = true;
+            }
+            hear(&mut self.waiting, &mut self.closing, event.token());
+        }
+        Ok(())
+    }
+}
