@@ -22,6 +22,7 @@ use Rattle.desk.specs.declared.fault.Fault.{Fault}
 use Rattle.desk.specs.declared.fault.Fault.TheVariants as fault
 use Rattle.desk.specs.Steps.{KeepsUnder, KeepsUnless, Keeps, HasEffect}
 use Rattle.desk.specs.Laws.{IsReservedText, IsPendingOf}
+use Rattle.desk.specs.Serials.{serials_of}
 use Rattle.desk.proofs.Headline.{SealedBy, stamping_by}
 use Rattle.desk.proofs.Keeping.{if_has, unless_has, right_has}
 
@@ -47,11 +48,13 @@ answer_given s b adds answer other = plainly s b (record { adds = adds; asks = N
 -- the next reservation's text
 text_of : (s : Setting) (b : History) (account : List ℕ) (plan : PlanValue) (octets : List ℕ) (later : List Entry)
     (r : ReservationValue) (e : Effect) → r ≡ next_reservation s account plan octets b
-    → e.adds ≡ later ++ (Reserved r ∷ []) → IsReservedText s e b (attribute_text s.identity r.tst)
-text_of s b account plan octets later r e is adds = record {
+    → e.adds ≡ later ++ (Reserved r ∷ []) → serials_of e.adds ≡ r.serial ∷ []
+    → IsReservedText s e b (attribute_text s.identity r.tst)
+text_of s b account plan octets later r e is adds alone = record {
   reservation = r;
   later = later;
   adds = adds;
+  alone = alone;
   above = let number : r.serial ≡ greatest_serial b + 1 = ap (λ x. x.serial) is in omega arith;
   text_is = refl;
 }
@@ -68,13 +71,13 @@ stamp_given s b account plan octets o (Unreserved cause) by = plainly s b (stamp
 stamp_given s b account plan octets o (Void r cause) by =
     let e = stamp_effect s (Void r cause) in record {
       asked = λ text h. asked_of s b e (attribute_text s.identity r.tst) text
-          (text_of s b account plan octets [] r e by refl) h;
+          (text_of s b account plan octets [] r e by refl refl) h;
       begun = λ p h. absurd cc;
     }
 stamp_given s b account plan octets o (Sealing r token) by =
     let e = stamp_effect s (Sealing r token) in record {
       asked = λ text h. asked_of s b e (attribute_text s.identity r.tst) text
-          (text_of s b account plan octets (Sealed r.serial token ∷ []) r e by.1 refl) h;
+          (text_of s b account plan octets (Sealed r.serial token ∷ []) r e by.1 refl refl) h;
       begun = λ p h. absurd cc;
     }
 
@@ -100,7 +103,14 @@ begin_given s b account octets plan None =
       begun = λ p h.
           let above : greatest_serial b < r.serial = omega arith in
           let waiting : IsPendingOf s e b (pending_of s plan r) = record {
-            of_reservation = record { reservation = r; later = []; adds = refl; above = above; text_is = refl };
+            of_reservation = record {
+              reservation = r;
+              later = [];
+              adds = refl;
+              alone = refl;
+              above = above;
+              text_is = refl;
+            };
             number = refl;
             tst = refl;
           } in
@@ -123,14 +133,14 @@ deposit_given s b owner reference bytes plan octets o (Unreserved cause) by =
 deposit_given s b owner reference bytes plan octets o (Void r cause) by =
     let e = deposit_effect s owner reference bytes (Void r cause) in record {
       asked = λ text h. asked_of s b e (attribute_text s.identity r.tst) text
-          (text_of s b owner plan octets [] r e by refl) h;
+          (text_of s b owner plan octets [] r e by refl refl) h;
       begun = λ p h. absurd cc;
     }
 deposit_given s b owner reference bytes plan octets o (Sealing r token) by =
     let e = deposit_effect s owner reference bytes (Sealing r token) in record {
       asked = λ text h. asked_of s b e (attribute_text s.identity r.tst) text
           (text_of s b owner plan octets (Deposited (deposit_row r.serial owner reference bytes) token ∷ []) r e by.1
-          refl) h;
+          refl refl) h;
       begun = λ p h. absurd cc;
     }
 

@@ -17,9 +17,8 @@ use Rattle.book.specs.History.{History, ReservationValue, greatest_serial}
 use Rattle.book.specs.Sound.{greatest_number}
 use Rattle.std.proofs.lemmas.Bool.Decides.{nat_tests}
 use Rattle.desk.specs.Outcome.{Outcome, Cause, OfMemory, OfStore, OfSigner, cause_of, cause_of_signing, first_cause}
-use Rattle.desk.specs.Outcome.{all_fine}
 use Rattle.desk.specs.Findings.{IsUnjudged, PlanValue, IsAllowed, HoldsAt, Finding, Fails, Unanswered, Allowed, Finds}
-use Rattle.desk.specs.Command.{Setting, PendingValue, Stamp, Stamped, Rejected}
+use Rattle.desk.specs.Command.{Setting, PendingValue, Stamp, Answer, Stamped, Rejected}
 use Rattle.desk.specs.Texts.{pending_of, token_with}
 use Rattle.desk.specs.Effects.{Effect, Stamping, Unreserved, Void, Sealing, no_number, no_seal, next_reservation}
 use Rattle.desk.specs.Effects.{sealed_or_void, signed_or_void, stamping_of, stamp_effect, stamp_found, name_of}
@@ -252,60 +251,65 @@ one_first H one other f g =
     sym (rule_of_number one) ∙ (ap rule_at (same_least H one other f g (compared (number_of one) (number_of other)))
     ∙ rule_of_number other)
 
--- all calls answered: what is found is the judgement
-unjudged_fine : (s : Setting) (account : Option AccountValue) (reading : ℤ) (signature : List ℕ) (b : History)
-    (cause : Cause)
-    → IsUnjudged s.file account reading (all_fine (Ok signature)) b cause → ⊥
-unjudged_fine s account reading signature b cause (inl h) = cc
-unjudged_fine s account reading signature b cause (inr h) = let e = h.2 in cc
+-- rule 10 or 11 couldn't be judged: a call had no answer
+unjudged_answer : (s : Setting) (account : Option AccountValue) (reading : ℤ) (o : Outcome) (b : History)
+    (cause : Cause) → IsUnjudged s.file account reading o b cause → IsUnanswered o
+unjudged_answer s account reading o b cause (inl h) = (cause, (0, omega arith, h))
+unjudged_answer s account reading o b cause (inr h) = (cause, (1, omega arith, h.2))
 
-left_over : (n : ℕ) → n < greatest_number → nat_le greatest_number n ≡ false
-left_over n h = grind (arith, nat_tests)
+-- a stamp is granted or rejected
+abbrev IsOfStamp : Answer → Type 0
+IsOfStamp answer =
+    ((serial : ℕ) × ((reply : List ℕ) × (answer ≡ Stamped serial reply))) ⊎ ((rule : Rule) × (answer ≡ Rejected rule))
 
--- where no rule fails, all is answered and a number is left, the stamp is granted
-granted_where_found : (s : Setting) (account : Option AccountValue) (reading : ℤ) (octets signature : List ℕ)
-    (b : History) (plan : PlanValue) → IsAllowed s.file account reading octets b plan
-    → greatest_serial b < greatest_number → (f : Finding)
-    → Finds s.file account reading octets (all_fine (Ok signature)) b f
-    → (reply : List ℕ) × ((stamp_found s (name_of account) octets (all_fine (Ok signature)) b f).says
-    ≡ Stamped (greatest_serial b + 1) reply)
-granted_where_found s account reading octets signature b plan allowed left (Fails rule) found = absurd
-    (found.0.fails (allowed.holds rule))
-granted_where_found s account reading octets signature b plan allowed left (Unanswered cause) found = absurd
-    (unjudged_fine s account reading signature b cause found.1)
-granted_where_found s account reading octets signature b plan allowed left (Allowed other) found =
-    let r = next_reservation s (name_of account) other octets b in (
-      granted_octets (token_with (pending_of s other r) signature),
-      ap (λ t. (stamp_effect s (stamping_of s (name_of account) other octets (all_fine (Ok signature)) b
-          (first_cause ((if t then Some OfStore else None) ∷ None ∷ None ∷ [])))).says)
-          (left_over (greatest_serial b) left),
-    )
+stamp_says : (s : Setting) (st : Stamping) → IsOfStamp (stamp_effect s st).says
+stamp_says s (Unreserved cause) = inr (System, refl)
+stamp_says s (Void r cause) = inr (System, refl)
+stamp_says s (Sealing r token) = inl (r.serial, (granted_octets token, refl))
 
-pub granted_where : (s : Setting) (account : Option AccountValue) (reading : ℤ) (octets signature : List ℕ)
+found_says : (s : Setting) (name octets : List ℕ) (o : Outcome) (b : History) (f : Finding)
+    → IsOfStamp (stamp_found s name octets o b f).says
+found_says s name octets o b (Fails rule) = inr (rule, refl)
+found_says s name octets o b (Unanswered cause) = inr (System, refl)
+found_says s name octets o b (Allowed plan) = stamp_says s (stamping_of s name plan octets o b (no_number o b))
+
+-- where no rule fails, all that it needs is answered and a number is left, the stamp is granted
+pub granted_where : (s : Setting) (account : Option AccountValue) (reading : ℤ) (octets : List ℕ) (o : Outcome)
     (b : History) (e : Effect) (plan : PlanValue)
-    → IsAllowed s.file account reading octets b plan → greatest_serial b < greatest_number
-    → HasEffect s (Stamp account reading octets) (all_fine (Ok signature)) b e
+    → IsAllowed s.file account reading octets b plan → greatest_serial b < greatest_number → (IsUnanswered o → ⊥)
+    → HasEffect s (Stamp account reading octets) o b e
     → (reply : List ℕ) × (e.says ≡ Stamped (greatest_serial b + 1) reply)
-granted_where s account reading octets signature b e plan allowed left h =
-    let g = granted_where_found s account reading octets signature b plan allowed left h.0 h.1 in
-    (g.0, ap (λ x. x.says) h.2 ∙ g.1)
+granted_where s account reading octets o b e plan allowed left answered h =
+    let says : IsOfStamp e.says = subst (λ x. IsOfStamp x.says) (sym h.2)
+    (found_says s (name_of account) octets o b h.0) in
+    elim says [
+      | inl k ↦ (
+        k.1.0,
+        k.1.1 ∙ ap (λ n. Stamped n k.1.0)
+            (granted_is s account reading octets o b e k.0 k.1.0 h k.1.1).number,
+      )
+      | inr k ↦ absurd (elim (rejected_is s account reading octets o b e k.0 h k.1) [
+        | inl first ↦ first.fails (allowed.holds k.0)
+        | inr last ↦ elim last.1 [ inl call ↦ answered call | inr spent ↦ omega arith ]
+      ])
+    ]
 
--- where a rule fails, and all is answered, the stamp is rejected by it
-rejected_where_found : (s : Setting) (account : Option AccountValue) (reading : ℤ) (octets signature : List ℕ)
+-- where a rule fails, and all that it needs is answered, the stamp is rejected by it
+rejected_where_found : (s : Setting) (account : Option AccountValue) (reading : ℤ) (octets : List ℕ) (o : Outcome)
     (b : History) (rule : Rule)
-    → IsFirstFailing (HoldsAt s.file account reading octets b) rule → (f : Finding)
-    → Finds s.file account reading octets (all_fine (Ok signature)) b f
-    → (stamp_found s (name_of account) octets (all_fine (Ok signature)) b f).says ≡ Rejected rule
-rejected_where_found s account reading octets signature b rule first (Fails other) found =
+    → IsFirstFailing (HoldsAt s.file account reading octets b) rule → (IsUnanswered o → ⊥) → (f : Finding)
+    → Finds s.file account reading octets o b f
+    → (stamp_found s (name_of account) octets o b f).says ≡ Rejected rule
+rejected_where_found s account reading octets o b rule first answered (Fails other) found =
     ap Rejected (one_first (HoldsAt s.file account reading octets b) other rule found.0 first)
-rejected_where_found s account reading octets signature b rule first (Unanswered cause) found = absurd
-    (unjudged_fine s account reading signature b cause found.1)
-rejected_where_found s account reading octets signature b rule first (Allowed plan) found = absurd
+rejected_where_found s account reading octets o b rule first answered (Unanswered cause) found = absurd
+    (answered (unjudged_answer s account reading o b cause found.1))
+rejected_where_found s account reading octets o b rule first answered (Allowed plan) found = absurd
     (first.fails (found.0.holds rule))
 
-pub rejected_where : (s : Setting) (account : Option AccountValue) (reading : ℤ) (octets signature : List ℕ)
+pub rejected_where : (s : Setting) (account : Option AccountValue) (reading : ℤ) (octets : List ℕ) (o : Outcome)
     (b : History) (e : Effect) (rule : Rule)
-    → IsFirstFailing (HoldsAt s.file account reading octets b) rule
-    → HasEffect s (Stamp account reading octets) (all_fine (Ok signature)) b e → e.says ≡ Rejected rule
-rejected_where s account reading octets signature b e rule first h =
-    ap (λ x. x.says) h.2 ∙ rejected_where_found s account reading octets signature b rule first h.0 h.1
+    → IsFirstFailing (HoldsAt s.file account reading octets b) rule → (IsUnanswered o → ⊥)
+    → HasEffect s (Stamp account reading octets) o b e → e.says ≡ Rejected rule
+rejected_where s account reading octets o b e rule first answered h =
+    ap (λ x. x.says) h.2 ∙ rejected_where_found s account reading octets o b rule first answered h.0 h.1

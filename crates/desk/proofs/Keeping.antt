@@ -16,14 +16,14 @@ use Rattle.desk.specs.Command.{ListAll, Grant, Revoke, Calibrate, Hold, Answer, 
 use Rattle.desk.specs.Command.{Listed, Done, Refused}
 use Rattle.desk.specs.Texts.{octets_for, token_with}
 use Rattle.desk.specs.Effects.{has_account, Effect, only, fault_of, unless, Stamping, Unreserved, Void, Sealing}
-use Rattle.desk.specs.Effects.{no_number, no_seal, stamping_of, stamp_effect, stamp_found, begin_effect, begin_found}
+use Rattle.desk.specs.Effects.{no_number, no_seal, next_reservation, stamping_of, stamp_effect, stamp_found, begin_effect, begin_found}
 use Rattle.desk.specs.Effects.{finish_effect, deposit_row, deposit_effect, deposit_found, show_effect, token_effect}
 use Rattle.desk.specs.Effects.{reply_or_nothing, right_of_owner, right_effect, is_backwards, calibrate_effect, name_of}
 use Rattle.desk.specs.declared.fault.Fault.{Fault}
 use Rattle.desk.specs.declared.fault.Fault.TheVariants as fault
 use Rattle.desk.specs.Steps.{KeepsUnder, KeepsUnless, Keeps, HasEffect, IsMet}
 use Rattle.desk.specs.Runs.{IsProper, Told, Journey, begins, goes, stops, after, cut, IsKept, HasProperties}
-use Rattle.desk.proofs.Views.{token_stays, deposit_stays, found_under, same_octets}
+use Rattle.desk.proofs.Views.{reservation_stays, token_stays, deposit_stays, found_under, same_octets}
 use Rattle.desk.proofs.Sound.{TextLaws, AreGood, fits_along, true_along, rising_along, good_cut}
 use Rattle.desk.proofs.Stepping.{step_adds, adds_good}
 
@@ -50,7 +50,7 @@ kept_one e b fits (Revoke a n reader) (Kept number new) k = tt
 kept_one e b fits (Calibrate x) (Kept number new) k = tt
 kept_one e b fits (Hold h) (Kept number new) k = tt
 kept_one e b fits c (Rejected rule) k = tt
-kept_one e b fits c (Begun p) k = tt
+kept_one e b fits c (Begun p) k = (k.0, reservation_stays e b fits p.serial k.0 k.1, k.2)
 kept_one e b fits c (Shown octets) k = tt
 kept_one e b fits c (Listed xs) k = tt
 kept_one e b fits (Grant a n reader) Done k = stays_in e b (Granted n reader) k
@@ -101,7 +101,8 @@ begin_stands : (s : Setting) (b : History) (account : Option AccountValue) (read
     (plan : PlanValue) (refused : Option Cause)
     → StandsAfter (Begin account reading octets) b (begin_effect s (name_of account) plan octets b refused)
 begin_stands s b account reading octets plan (Some cause) = tt
-begin_stands s b account reading octets plan None = tt
+begin_stands s b account reading octets plan None =
+    let r = next_reservation s (name_of account) plan octets b in (r, rw (eq-eqb r.serial r.serial refl), refl)
 
 begin_found_stands : (s : Setting) (b : History) (account : Option AccountValue) (reading : ℤ) (octets : List ℕ)
     (o : Outcome) (f : Finding)
@@ -134,7 +135,7 @@ deposit_found_stands s b a reading reference bytes o (Allowed plan) =
     (no_number o b))
 
 -- a known deposit is the one that is asked for
-same_row : (a : AccountValue) (reference bytes : List ℕ) (d : DepositValue) → d.owner ≡ a.name → d.reference
+pub same_row : (a : AccountValue) (reference bytes : List ℕ) (d : DepositValue) → d.owner ≡ a.name → d.reference
     ≡ reference → d.bytes ≡ bytes
     → d ≡ deposit_row d.serial a.name reference bytes
 same_row a reference bytes d own under same =
@@ -188,7 +189,7 @@ abbrev IsPlain : Answer → Type 0
 IsPlain (Stamped serial octets) = ⊥
 IsPlain (Kept number new) = ⊥
 IsPlain (Rejected rule) = Unit {0}
-IsPlain (Begun p) = Unit {0}
+IsPlain (Begun p) = ⊥
 IsPlain (Shown octets) = Unit {0}
 IsPlain (Listed xs) = Unit {0}
 IsPlain Done = ⊥
@@ -198,7 +199,7 @@ plain_kept : (b : History) (c : Command) (a : Answer) → IsPlain a → IsKept b
 plain_kept b c (Stamped serial octets) h = absurd h
 plain_kept b c (Kept number new) h = absurd h
 plain_kept b c (Rejected rule) h = tt
-plain_kept b c (Begun p) h = tt
+plain_kept b c (Begun p) h = absurd h
 plain_kept b c (Shown octets) h = tt
 plain_kept b c (Listed xs) h = tt
 plain_kept b c Done h = absurd h

@@ -1,10 +1,10 @@
 pub mod Acknowledged
 pub mod Added
 pub mod Agreeing
-pub mod Alone
 pub mod Begins
 pub mod Clocks
 pub mod Entered
+pub mod Falling
 pub mod Given
 pub mod Granting
 pub mod Headline
@@ -13,8 +13,11 @@ pub mod Keeping
 pub mod KnownDeposits
 pub mod Late
 pub mod NewDeposits
+pub mod OneEffect
 pub mod Opened
 pub mod Others
+pub mod Planned
+pub mod Promised
 pub mod Replying
 pub mod Reserves
 pub mod Rows
@@ -22,6 +25,7 @@ pub mod RunsOn
 pub mod SameEffect
 pub mod Sealing
 pub mod Shows
+pub mod Sighted
 pub mod Sound
 pub mod Stamping
 pub mod Stepping

@@ -68,7 +68,7 @@ pub granted_reply : {B X : Type 0} (g : Ghosts B) (signs : X → List ℕ → Re
     → g.honest new → (b : History) → Stands g b old → (serial : ℕ) (reply : List ℕ) → says ≡ Stamped serial reply
     → IsGranted s (λ text answer. signs before text answer after) account reading octets b serial reply
 granted_reply g signs count before after s account reading octets old new says step honest b st serial reply is =
-    let done = step.1.steps honest b st tt in
+    let done = step.1.step.steps honest b st tt in
     let found = done.has in
     granted_by signs before after s account reading octets step.0 b serial reply found.0 found.1
     (sym (ap (λ x. x.says) found.2) ∙ (sym done.says ∙ is))
@@ -88,6 +88,6 @@ pub rejected_reply : {B X : Type 0} (g : Ghosts B) (signs : X → List ℕ → R
     → g.honest new → (b : History) → Stands g b old → (rule : Rule) → says ≡ Rejected rule
     → IsRejected s account reading octets b rule
 rejected_reply g signs count before after s account reading octets old new says step honest b st rule is =
-    let done = step.1.steps honest b st tt in
+    let done = step.1.step.steps honest b st tt in
     rejected_by s account reading octets step.0 b rule
     (rejected_is s account reading octets step.0 b done.effect rule done.has (sym done.says ∙ is))

@@ -6,23 +6,26 @@ use Rattle.book.specs.declared.standing.Standing.{Ghosts}
 use Rattle.cms.specs.Signer.{count_after}
 use Rattle.cms.specs.declared.signer.SignerFault.{SignerFault}
 use Rattle.book.specs.History.{History}
+use Rattle.book.specs.Sound.{IsSound}
 use Rattle.book.specs.Stands.{Stands}
 use Rattle.desk.specs.Outcome.{Outcome}
 use Rattle.desk.specs.Command.{Setting, Command, Answer}
 use Rattle.desk.specs.Effects.{Effect}
 use Rattle.desk.specs.Steps.{HasEffect, Moves}
-use Rattle.desk.specs.Runs.{IsProper, Runs, after}
-use Rattle.desk.specs.Laws.{AreMet, Concerns, StaysFor}
+use Rattle.desk.specs.Promises.{KeepsPromises}
+use Rattle.desk.specs.Runs.{IsProper, Told, Runs, after}
+use Rattle.desk.specs.Laws.{AreMet, Concerns, Continues, StaysFor}
 use Rattle.desk.specs.Obstacles.{hindered, outcome_with, told_with}
-use Rattle.desk.specs.Stepped.{StepsBy, IsStep, MayBeLeft, IsBlamed, no_signer, with_signer}
-use Rattle.desk.specs.Ran.{AreSteps, MayBeLeftBy, AreCommandsOfOthers, OneConcerns, RunsBy}
+use Rattle.desk.specs.Stepped.{StepsBy, IsBareStep, MayBeLeft, IsBlamed, no_signer, with_signer}
+use Rattle.desk.specs.Ran.{AreSteps, ArePromised, MayBeLeftBy, AreCommandsOfOthers, OneConcerns, RunsBy, told_by}
 use Rattle.desk.specs.declared.obstacle.Obstacle.{Obstacle}
 use Rattle.desk.specs.declared.obstacle.Obstacle.TheVariants as obstacle
 use Rattle.desk.proofs.Sound.{TextLaws}
 use Rattle.desk.proofs.Acknowledged.{readers_along}
-use Rattle.desk.proofs.Given.{asked_is_reserved, begun_is_reserved}
+use Rattle.desk.proofs.Falling.{given_in_order}
 use Rattle.desk.proofs.Keeping.{journeys_have_properties}
 use Rattle.desk.proofs.Others.{step_stays}
+use Rattle.desk.proofs.Promised.{keeps_promises}
 use Rattle.desk.proofs.Whole.{continued, runs_alike}
 
 -- a step that asks no signer, with a signer that stays as it is
@@ -66,7 +69,7 @@ pub obeyed_by : {A B X : Type 0} (g : Ghosts B) (signs : X → List ℕ → Resu
     (count : X → ℕ) (x : X) (s : Setting) (c d : Command) (as_answer : A → Answer) (r : Result A Obstacle)
     (old new : B) (says : Answer) → d ≡ c → says ≡ told_with as_answer r
     → StepsBy g no_signer s c (outcome_with r) old new (told_with as_answer r)
-    → IsStep g (with_signer signs count x x) s d old new says
+    → IsBareStep g (with_signer signs count x x) s d old new says
 obeyed_by g signs count x s c d as_answer r old new says same is step = (
   outcome_with r,
   subst (λ k. StepsBy g (with_signer signs count x x) s k (outcome_with r) old new says) (sym same)
@@ -76,11 +79,11 @@ obeyed_by g signs count x s c d as_answer r old new says same is step = (
 -- a part that has its own outcome
 pub obeyed_as : {B X : Type 0} (g : Ghosts B) (signs : X → List ℕ → Result (List ℕ) SignerFault → X → Type 0)
     (count : X → ℕ) (x y : X) (s : Setting) (c d : Command) (old new : B) (said says : Answer) → d ≡ c
-    → says ≡ said → IsStep g (with_signer signs count x y) s c old new said
-    → IsStep g (with_signer signs count x y) s d old new says
+    → says ≡ said → IsBareStep g (with_signer signs count x y) s c old new said
+    → IsBareStep g (with_signer signs count x y) s d old new says
 obeyed_as g signs count x y s c d old new said says same is step =
-    subst (λ k. IsStep g (with_signer signs count x y) s k old new says) (sym same)
-    (subst (IsStep g (with_signer signs count x y) s c old new) (sym is) step)
+    subst (λ k. IsBareStep g (with_signer signs count x y) s k old new says) (sym same)
+    (subst (IsBareStep g (with_signer signs count x y) s c old new) (sym is) step)
 
 -- the store was honest before, where it is after
 pub honest_before : {B X : Type 0} (g : Ghosts B) (signs : X → List ℕ → Result (List ℕ) SignerFault → X → Type 0)
@@ -186,24 +189,44 @@ record Reaches {B X : Type 0} (g : Ghosts B) (signs : X → List ℕ → Result 
   left : (left : g.Left) → g.leaves new left → MayBeLeftBy g s cs os b old history left
   undisturbed : (account : List ℕ) → AreCommandsOfOthers account cs
       → StaysFor account (λ number. OneConcerns number cs) b history
+  ends : (w : List Told) → Continues s cs os b w history (told_by cs answers w)
+  promises : ArePromised s cs os answers b
+
+-- a run that goes on by one command is told with its answer
+told_more : (s : Setting) (c : Command) (cs : List Command) (o : Outcome) (os : List Outcome) (b last : History)
+    (w : List Told) (e : Effect) (answer : Answer) (answers : List Answer) → HasEffect s c o b e → answer ≡ e.says
+    → ((told : List Told) → Continues s cs os (after e b) told last (told_by cs answers told))
+    → Continues s (c ∷ cs) (o ∷ os) b w last (told_by (c ∷ cs) (answer ∷ answers) w)
+told_more s c cs o os b last w e answer answers has says rest =
+    let first : Told = record { command = c; answer = e.says } in (
+      e,
+      has,
+      inr (subst (λ (a : Answer). Continues s cs os (after e b) (first ∷ w) last
+          (told_by cs answers (record { command = c; answer = a } ∷ w))) (sym says) (rest (first ∷ w))),
+    )
 
 reaches : {B X : Type 0} (g : Ghosts B) (signs : X → List ℕ → Result (List ℕ) SignerFault → X → Type 0)
     (count : X → ℕ) (s : Setting) (cs : List Command) (os : List Outcome) (answers : List Answer) (b : History)
     (old : B) (x : X) (new : B) (y : X) → AreSteps g signs count s cs os answers old x new y
-    → g.honest new → Stands g b old → AreMet cs → Reaches g signs s cs os answers b old x new y
-reaches g signs count s [] [] [] b old x new y h honest stands met = record {
+    → ((s : Setting) (c : Command) (o : Outcome) (b : History) (e : Effect) → IsSound b → HasEffect s c o b e
+    → KeepsPromises s c o b e)
+    → g.honest new → Stands g b old → AreMet s cs os b → Reaches g signs s cs os answers b old x new y
+reaches g signs count s [] [] [] b old x new y h promised honest stands met = record {
   history = b;
   runs = (refl, h.1);
   stands = subst (Stands g b) (sym h.0) stands;
   left = λ left k. inl (refl, subst (λ m. g.leaves m left) h.0 k);
   undisturbed = λ account others.
       record { own_stamps = refl; own_deposits = refl; seen = λ number free. refl; calibration = refl; holding = refl };
+  ends = λ w. (refl, refl);
+  promises = tt;
 }
-reaches g signs count s (c ∷ cs) (o ∷ os) (answer ∷ answers) b old x new y h honest stands met =
+reaches g signs count s (c ∷ cs) (o ∷ os) (answer ∷ answers) b old x new y h promised honest stands met =
     let middle = honest_before g signs count s cs os answers h.0 h.1 new y h.2.2 honest in
-    let step = h.2.1.steps middle b stands (met.0 b) in
+    let step = h.2.1.steps middle b stands met.0 in
     let e = step.effect in
-    let rest = reaches g signs count s cs os answers (after e b) h.0 h.1 new y h.2.2 honest step.stands met.1 in
+    let rest = reaches g signs count s cs os answers (after e b) h.0 h.1 new y h.2.2 promised honest step.stands
+    (met.1 e step.has) in
     record {
       history = rest.history;
       runs = (e, h.1, (step.has, step.moves, step.says, rest.runs));
@@ -212,11 +235,13 @@ reaches g signs count s (c ∷ cs) (o ∷ os) (answer ∷ answers) b old x new y
           (rest.left left k);
       undisturbed = λ account others. stays_on account c cs b (after e b) rest.history
           (step_stays account s c o b e stands.sound others.0 step.has) (rest.undisturbed account others.1);
+      ends = λ w. told_more s c cs o os b rest.history w e answer answers step.has step.says rest.ends;
+      promises = (e, (step.has, step.says, promised s c o b e stands.sound step.has, rest.promises));
     }
-reaches g signs count s [] [] (answer ∷ answers) b old x new y h honest stands met = absurd h
-reaches g signs count s [] (o ∷ os) answers b old x new y h honest stands met = absurd h
-reaches g signs count s (c ∷ cs) [] answers b old x new y h honest stands met = absurd h
-reaches g signs count s (c ∷ cs) (o ∷ os) [] b old x new y h honest stands met = absurd h
+reaches g signs count s [] [] (answer ∷ answers) b old x new y h promised honest stands met = absurd h
+reaches g signs count s [] (o ∷ os) answers b old x new y h promised honest stands met = absurd h
+reaches g signs count s (c ∷ cs) [] answers b old x new y h promised honest stands met = absurd h
+reaches g signs count s (c ∷ cs) (o ∷ os) [] b old x new y h promised honest stands met = absurd h
 
 -- calls one after the other are a run
 pub steps_run : {B X : Type 0} (g : Ghosts B) (signs : X → List ℕ → Result (List ℕ) SignerFault → X → Type 0)
@@ -225,22 +250,23 @@ pub steps_run : {B X : Type 0} (g : Ghosts B) (signs : X → List ℕ → Result
     → AreSteps g signs count s cs os answers old x new y → RunsBy g signs count s cs os answers old x new y
 steps_run g signs count laws s proper cs os answers old x new y h = record {
   steps = h;
-  asked = asked_is_reserved s;
-  begun = begun_is_reserved s;
   run = λ honest b stands met.
-      let r = reaches g signs count s cs os answers b old x new y h honest stands met in
+      let r = reaches g signs count s cs os answers b old x new y h (keeps_promises laws) honest stands met in
       record {
         history = r.history;
         runs = r.runs;
         stands = r.stands;
         left = r.left;
-        journeys = λ w journey outcomes b' w' on.
-            let whole = continued s cs outcomes b w b' w' proper met journey on in
+        journeys = λ w journey outcomes b' w' sees_to on.
+            let whole = continued s cs outcomes b w b' w' proper sees_to journey on in
             record {
               journey = whole;
               properties = journeys_have_properties laws b' w' whole;
-              readers = readers_along b' w' whole;
+              readers = readers_along b' w';
+              given = given_in_order laws b' w';
             };
+        ends = r.ends;
+        promises = r.promises;
         isolated = λ account own c sound agree.
             runs_alike signs laws account s cs os b c x answers r.history y proper own stands.sound sound agree r.runs;
         undisturbed = r.undisturbed;

@@ -38,7 +38,7 @@ HasReservation n b = (r : ReservationValue) × (reservation_at n b ≡ Some r)
 reservation_goes_on : (e : Entry) (b : History) → Fits e b → (n : ℕ) → HasReservation n b → HasReservation n (e ∷ b)
 reservation_goes_on e b fits n h = (h.0, reservation_stays e b fits n h.0 h.1)
 
-deposit_reserved : (b : History) → Along Fits b → (n : ℕ) (d : DepositValue) → deposit_at n b ≡ Some d
+pub deposit_reserved : (b : History) → Along Fits b → (n : ℕ) (d : DepositValue) → deposit_at n b ≡ Some d
     → HasReservation n b
 deposit_reserved [] g n d e = cc
 deposit_reserved (Reserved r ∷ b) g n d e =

@@ -50,19 +50,19 @@ continued_by s c cs o os b w b' w' e proper met j h others (inl stop) =
 continued_by s c cs o os b w b' w' e proper met j h others (inr more) = others (goes s c o e proper met h j) more
 
 pub continued : (s : Setting) (cs : List Command) (os : List Outcome) (b : History) (w : List Told) (b' : History)
-    (w' : List Told) → IsProper s → AreMet cs
+    (w' : List Told) → IsProper s → AreMet s cs os b
     → Journey b w → Continues s cs os b w b' w' → Journey b' w'
 continued s [] [] b w b' w' proper met j h = subst (λ x. Journey x w') (sym h.0) (subst (λ x. Journey b x)
     (sym h.1) j)
 continued s (c ∷ cs) [] b w b' w' proper met j h = absurd h
 continued s [] (o ∷ os) b w b' w' proper met j h = absurd h
 continued s (c ∷ cs) (o ∷ os) b w b' w' proper met j h =
-    continued_by s c cs o os b w b' w' h.0 proper (met.0 b) j h.1
+    continued_by s c cs o os b w b' w' h.0 proper met.0 j h.1
     (λ j2 more. continued s cs os (after h.0 b) (record { command = c; answer = h.0.says }
-    ∷ w) b' w' proper met.1 j2 more) h.2
+    ∷ w) b' w' proper (met.1 h.0 h.1) j2 more) h.2
 
 pub continued_properties : TextLaws → (s : Setting) (cs : List Command) (os : List Outcome) (b : History)
-    (w : List Told) (b' : History) (w' : List Told) → IsProper s → AreMet cs
+    (w : List Told) (b' : History) (w' : List Told) → IsProper s → AreMet s cs os b
     → Journey b w → Continues s cs os b w b' w' → HasProperties b' w'
 continued_properties laws s cs os b w b' w' proper met j h = journeys_have_properties laws b' w'
     (continued s cs os b w b' w' proper met j h)

@@ -1,6 +1,6 @@
 -- What is promised of the machine: of grants and rejections, of journeys that go on, and of an account's commands.
-use Rattle.std.specs.Prelude.{◌≡◌, ℕ, ◌+◌, ◌<◌, ◌≤◌, ◌⊎◌, ℤ, false, List, [], ◌∷◌, ◌++◌, filter, Option, Some, None}
-use Rattle.std.specs.Prelude.{Result, Ok}
+use Rattle.std.specs.Prelude.{◌≡◌, ℕ, ◌+◌, ◌<◌, ◌≤◌, ◌⊎◌, ℤ, true, false, List, [], ◌∷◌, ◌++◌, filter, Option, Some}
+use Rattle.std.specs.Prelude.{None, Result, Ok}
 use Rattle.std.specs.List.{Contains}
 use Rattle.std.specs.Str.{bytes_eq}
 use Rattle.policy.specs.Record.{AccountValue}
@@ -8,20 +8,23 @@ use Rattle.tsp.specs.Granted.{granted_octets}
 use Rattle.tsp.specs.Rules.{IsFirstFailing}
 use Rattle.tsp.specs.declared.rule.Rule.{Rule}
 use Rattle.tsp.specs.declared.rule.Rule.TheVariants.{System}
-use Rattle.cms.specs.SignedData.{attribute_text}
+use Rattle.cms.specs.SignedData.{attribute_text, token}
 use Rattle.cms.specs.declared.signer.SignerFault.{SignerFault}
-use Rattle.book.specs.History.{Entry, Reserved, History, ReservationValue, stamps, deposits, holds, latest_calibration}
-use Rattle.book.specs.History.{greatest_serial}
+use Rattle.book.specs.History.{Entry, Reserved, Deposited, History, ReservationValue, stamps, deposits, holds}
+use Rattle.book.specs.History.{latest_calibration, greatest_serial, deposit_at}
 use Rattle.book.specs.Sound.{greatest_number}
 use Rattle.desk.specs.Agreement.{seen_at, Agree, IsCommandOf}
 use Rattle.desk.specs.Outcome.{Outcome, Cause, cause_of, cause_of_signing}
 use Rattle.desk.specs.Findings.{PlanValue, IsAllowed, HoldsAt}
 use Rattle.desk.specs.Command.{Setting, PendingValue, Command, Stamp, Begin, Finish, Abandon, Deposit, Show, Token}
-use Rattle.desk.specs.Command.{ListAll, Grant, Revoke, Calibrate, Hold, Answer}
-use Rattle.desk.specs.Texts.{pending_of, token_with}
-use Rattle.desk.specs.Effects.{Effect, next_reservation, name_of}
+use Rattle.desk.specs.Command.{ListAll, Grant, Revoke, Calibrate, Hold, Answer, Stamped, Rejected, Begun, Kept}
+use Rattle.desk.specs.Command.{Refused}
+use Rattle.desk.specs.Texts.{tst_of, reservation_of, pending_of, token_with, gives_certificate, request_for, octets_for}
+use Rattle.desk.specs.Effects.{Effect, next_reservation, name_of, deposit_row}
+use Rattle.desk.specs.declared.fault.Fault.TheVariants as fault
 use Rattle.desk.specs.Steps.{HasEffect, IsMet}
 use Rattle.desk.specs.Runs.{Told, after, cut, Runs}
+use Rattle.desk.specs.Serials.{serials_of}
 
 -- A grant: no rule of 1 to 11 fails, the serial number is the greatest plus one, and the reply has the token over the
 -- TSTInfo of the plan under that number, with the signature that the signer answered.
@@ -51,12 +54,65 @@ abbrev pub IsRejection : Setting → Option AccountValue → ℤ → List ℕ �
 IsRejection s account reading octets o b rule = IsFirstFailing (HoldsAt s.file account reading octets b) rule
     ⊎ ((rule ≡ System) × (IsUnanswered o ⊎ (greatest_number ≤ greatest_serial b)))
 
+-- What `Begin` answers waits for the signature of its plan's text: no rule of 1 to 11 fails, the serial number is the
+-- greatest plus one, and the TSTInfo, the certificate exactly where it is asked for, identity and algorithm are those of
+-- the plan and the setting.
+pub record IsBegunOf (s : Setting) (account : Option AccountValue) (reading : ℤ) (octets : List ℕ) (b : History)
+    (p : PendingValue) : Type 0 where
+  pub plan : PlanValue
+  pub allowed : IsAllowed s.file account reading octets b plan
+  pub number : p.serial ≡ greatest_serial b + 1
+  pub tst : p.tst ≡ tst_of s.file plan p.serial
+  pub certificate : p.certificate ≡ plan.request.cert_req
+  pub identity : p.identity ≡ s.identity
+  pub algorithm : p.algorithm ≡ s.algorithm
+
+-- What `Finish` grants: the token over the TSTInfo that waited, under its serial number, with the signature that was
+-- handed in, and with the identity and algorithm with which it was begun.
+pub record IsFinished (p : PendingValue) (signature : List ℕ) (serial : ℕ) (reply : List ℕ) : Type 0 where
+  pub number : serial ≡ p.serial
+  pub text : reply ≡ granted_octets (token p.identity p.algorithm p.tst signature p.certificate)
+
+-- A new deposit: no rule of 1 to 11 fails of the one request of its octets, its number is the greatest serial number
+-- plus one, and it stands with the token over the TSTInfo of the plan and the signer's answer, which has the certificate
+-- exactly where the owner's default policy gives it out.
+pub record IsDeposited (s : Setting) (a : AccountValue) (reading : ℤ) (reference bytes : List ℕ) (o : Outcome)
+    (b : History) (e : Effect) (number : ℕ) : Type 0 where
+  pub plan : PlanValue
+  pub allowed : IsAllowed s.file (Some a) reading (octets_for s.file a bytes) b plan
+  pub request : plan.request ≡ request_for s.file a bytes
+  pub next : number ≡ greatest_serial b + 1
+  pub signature : List ℕ
+  pub signed : o.signing ≡ Ok signature
+  pub adds : e.adds ≡ Deposited (deposit_row number a.name reference bytes) (token s.identity s.algorithm
+      (tst_of s.file plan number) signature (gives_certificate s.file a))
+      ∷ Reserved (reservation_of s.file a.name plan (octets_for s.file a bytes) number) ∷ []
+
+-- Of grants, rejections and deposits: each is of its plan, or by the first rule that fails.
+abbrev pub IsOfPlan : Setting → Command → Outcome → History → Effect → Answer → Type 0
+IsOfPlan s (Stamp account reading octets) o b e (Stamped serial reply) =
+    IsGrant s account reading octets o b serial reply
+IsOfPlan s (Stamp account reading octets) o b e (Rejected rule) = IsRejection s account reading octets o b rule
+IsOfPlan s (Begin account reading octets) o b e (Begun p) = IsBegunOf s account reading octets b p
+IsOfPlan s (Begin account reading octets) o b e (Rejected rule) =
+    IsFirstFailing (HoldsAt s.file account reading octets b) rule
+IsOfPlan s (Finish p signature) o b e (Stamped serial reply) = IsFinished p signature serial reply
+IsOfPlan s (Deposit a reading reference bytes) o b e (Kept number true) =
+    IsDeposited s a reading reference bytes o b e number
+IsOfPlan s (Deposit a reading reference bytes) o b e (Kept number false) =
+    deposit_at number b ≡ Some (deposit_row number a.name reference bytes)
+IsOfPlan s (Deposit a reading reference bytes) o b e (Refused (fault.Rejected rule)) =
+    IsFirstFailing (HoldsAt s.file (Some a) reading (octets_for s.file a bytes) b) rule
+IsOfPlan s c o b e answer = Unit {0}
+
 -- What is given out to be signed is the text of the reservation that the same command adds first, under a serial number
 -- above all that were reserved before.
 pub record IsReservedText (s : Setting) (e : Effect) (b : History) (text : List ℕ) : Type 0 where
   pub reservation : ReservationValue
   pub later : List Entry
   pub adds : e.adds ≡ later ++ (Reserved reservation ∷ [])
+  -- no other is reserved by the command
+  pub alone : serials_of e.adds ≡ reservation.serial ∷ []
   pub above : greatest_serial b < reservation.serial
   pub text_is : text ≡ attribute_text s.identity reservation.tst
 
@@ -76,10 +132,11 @@ Continues s (c ∷ cs) (o ∷ os) b w b' w' =
 Continues s [] (o ∷ os) b w b' w' = ⊥
 Continues s (c ∷ cs) [] b w b' w' = ⊥
 
--- what the caller of each command sees to, whatever the history
-abbrev pub AreMet : List Command → Type 0
-AreMet [] = Unit {0}
-AreMet (c ∷ cs) = ((b : History) → IsMet c b) × AreMet cs
+-- what the caller of each command sees to, of the history at its moment
+abbrev pub AreMet : Setting → List Command → List Outcome → History → Type 0
+AreMet s (c ∷ cs) (o ∷ os) b = IsMet c b × ((e : Effect) → HasEffect s c o b e → AreMet s cs os (after e b))
+AreMet s [] os b = Unit {0}
+AreMet s (c ∷ cs) [] b = Unit {0}
 
 -- each command is the account's own
 abbrev pub AreCommandsOf : List ℕ → List Command → Type 0

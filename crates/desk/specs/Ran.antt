@@ -1,5 +1,5 @@
 -- Calls one after the other are a run of the machine: what the contract of `run` says.
-use Rattle.std.specs.Prelude.{◌≡◌, ◌⊎◌, ℕ, List, [], ◌∷◌, Some, Result}
+use Rattle.std.specs.Prelude.{◌≡◌, ◌⊎◌, ℕ, List, [], ◌∷◌, Result}
 use Rattle.book.specs.declared.standing.Standing.{Ghosts}
 use Rattle.cms.specs.declared.signer.SignerFault.{SignerFault}
 use Rattle.book.specs.History.{History}
@@ -8,13 +8,14 @@ use Rattle.book.specs.Sound.{IsSound}
 use Rattle.book.specs.Stands.{Stands}
 use Rattle.desk.specs.Agreement.{Agree}
 use Rattle.desk.specs.Outcome.{Outcome}
-use Rattle.desk.specs.Command.{Setting, PendingValue, Command, Answer, Begun}
+use Rattle.desk.specs.Command.{Setting, Command, Answer}
 use Rattle.desk.specs.Effects.{Effect}
 use Rattle.desk.specs.Steps.{HasEffect}
 use Rattle.desk.specs.Runs.{Told, Journey, HasProperties, Runs, after}
 use Rattle.desk.specs.Readers.{rights_along}
-use Rattle.desk.specs.Laws.{IsReservedText, IsPendingOf, Continues, AreMet, AreCommandsOf, RunsAlike, IsCommandOfOther}
-use Rattle.desk.specs.Laws.{Concerns, StaysFor}
+use Rattle.desk.specs.Serials.{given_along, AreInOrder}
+use Rattle.desk.specs.Promises.{KeepsPromises}
+use Rattle.desk.specs.Laws.{Continues, AreMet, AreCommandsOf, RunsAlike, IsCommandOfOther, Concerns, StaysFor}
 use Rattle.desk.specs.Stepped.{StepsBy, IsDoubted, with_signer}
 
 -- Each call is a step under its outcome, from what the one before it left of store and signer.
@@ -57,12 +58,30 @@ abbrev pub OneConcerns : ℕ → List Command → Type 0
 OneConcerns number [] = ⊥
 OneConcerns number (c ∷ cs) = Concerns number c ⊎ OneConcerns number cs
 
--- a journey, what it promises, and who reads after it
+-- Journeys lead to this history with these answers. What they promise holds, and of each of them: who reads after it
+-- is told by the rights that it acknowledged and that its stops left, and the serial numbers of the texts that it gave
+-- out fall from the newest to the oldest.
 pub record GoesOn (b : History) (w : List Told) : Type 0 where
   pub journey : Journey b w
   pub properties : HasProperties b w
-  pub readers : (number : ℕ) (account : List ℕ)
-      → is_reader number account b ≡ is_reader number account (rights_along journey)
+  pub readers : (j : Journey b w) (number : ℕ) (account : List ℕ)
+      → is_reader number account b ≡ is_reader number account (rights_along j)
+  pub given : (j : Journey b w) → AreInOrder (given_along j) b
+
+-- what was asked and answered before, and these commands with their answers, the newest first
+abbrev pub told_by : List Command → List Answer → List Told → List Told
+told_by (c ∷ cs) (answer ∷ answers) w = told_by cs answers (record { command = c; answer = answer } ∷ w)
+told_by [] answers w = w
+told_by (c ∷ cs) [] w = w
+
+-- Each command of a run, from the history before it: its effect, whose answer it is, and what is promised of it.
+abbrev pub ArePromised : Setting → List Command → List Outcome → List Answer → History → Type 0
+ArePromised s (c ∷ cs) (o ∷ os) (answer ∷ answers) b =
+    (e : Effect) × (HasEffect s c o b e × (answer ≡ e.says) × KeepsPromises s c o b e
+    × ArePromised s cs os answers (after e b))
+ArePromised s [] os answers b = Unit {0}
+ArePromised s (c ∷ cs) [] answers b = Unit {0}
+ArePromised s (c ∷ cs) (o ∷ os) [] b = Unit {0}
 
 -- What holds after a run, where the store stood for the history b.
 pub record HasRun {B X : Type 0} (g : Ghosts B) (signs : X → List ℕ → Result (List ℕ) SignerFault → X → Type 0)
@@ -74,10 +93,14 @@ pub record HasRun {B X : Type 0} (g : Ghosts B) (signs : X → List ℕ → Resu
   -- and the store stands for that history.
   pub stands : Stands g history new
   pub left : (left : g.Left) → g.leaves new left → MayBeLeftBy g s cs os b old history left
-  -- Each journey that ends in b goes on by these commands, to their end or to a stop in one of them, and keeps its
-  -- promises there; who may read a deposit is told by the rights that it acknowledged and that its stops left.
+  -- Each journey that ends in b goes on by these commands, whatever the outcomes, to their end or to a stop in one of
+  -- them, and keeps its promises there.
   pub journeys : (w : List Told) → Journey b w → (outcomes : List Outcome) (b' : History) (w' : List Told)
-      → Continues s cs outcomes b w b' w' → GoesOn b' w'
+      → AreMet s cs outcomes b → Continues s cs outcomes b w b' w' → GoesOn b' w'
+  -- The end of this run, with its answers, is one of those.
+  pub ends : (w : List Told) → Continues s cs os b w history (told_by cs answers w)
+  -- Of each command: what it has signed, grants, shows and lists, and tells of others.
+  pub promises : ArePromised s cs os answers b
   -- Where the commands are one account's, they would be answered so from each history that agrees with b for it, and
   -- the histories that follow agree again.
   pub isolated : (account : List ℕ) → AreCommandsOf account cs → (c : History) → IsSound c → Agree account b c
@@ -93,13 +116,8 @@ pub record RunsBy {B X : Type 0} (g : Ghosts B) (signs : X → List ℕ → Resu
     (count : X → ℕ) (s : Setting) (cs : List Command) (os : List Outcome) (answers : List Answer) (old : B)
     (x : X) (new : B) (y : X) : Type 0 where
   pub steps : AreSteps g signs count s cs os answers old x new y
-  -- What a signer is asked to sign, and what waits for its signature, is over the reservation that the same command
-  -- adds before all else, under a serial number above all before it.
-  pub asked : (c : Command) (o : Outcome) (b : History) (e : Effect) (text : List ℕ) → HasEffect s c o b e
-      → e.asks ≡ Some text → IsReservedText s e b text
-  pub begun : (c : Command) (o : Outcome) (b : History) (e : Effect) (p : PendingValue) → HasEffect s c o b e
-      → e.says ≡ Begun p → IsPendingOf s e b p
-  pub run : g.honest new → (b : History) → Stands g b old → AreMet cs → HasRun g signs s cs os answers b old x new y
+  pub run : g.honest new → (b : History) → Stands g b old → AreMet s cs os b
+      → HasRun g signs s cs os answers b old x new y
 
 -- the same under some outcomes
 abbrev pub IsRun : {B X : Type 0} → Ghosts B → (X → List ℕ → Result (List ℕ) SignerFault → X → Type 0) → (X → ℕ)

@@ -5,11 +5,12 @@ use Rattle.der.specs.ObjectIdentifier.{IsOid}
 use Rattle.cms.specs.declared.signer.SignerFault.{SignerFault}
 use Rattle.decide.specs.Clock.{Follows}
 use Rattle.book.specs.History.{Entry, Reserved, Sealed, Deposited, Calibrated, Held, Granted, Revoked, History}
-use Rattle.book.specs.History.{last_gen_time, token_of, deposit_at, ReservationValue}
+use Rattle.book.specs.History.{last_gen_time, token_of, reservation_at, deposit_at, ReservationValue}
 use Rattle.book.specs.Sound.{Along}
 use Rattle.desk.specs.Content.{IsForRequest, IsSoundInFull}
 use Rattle.desk.specs.Outcome.{Outcome}
-use Rattle.desk.specs.Command.{Setting, Command, Deposit, Grant, Revoke, Calibrate, Hold, Answer, Stamped, Kept, Done}
+use Rattle.desk.specs.Command.{Setting, PendingValue, Command, Deposit, Grant, Revoke, Calibrate, Hold, Answer, Stamped}
+use Rattle.desk.specs.Command.{Begun, Kept, Done}
 use Rattle.tsp.specs.Granted.{granted_octets}
 use Rattle.desk.specs.Effects.{Effect, deposit_row}
 use Rattle.desk.specs.Steps.{HasEffect, IsMet, Moves}
@@ -75,9 +76,14 @@ IsRising (Revoked number account) b = Unit {0}
 abbrev pub IsSealedWith : ℕ → List ℕ → History → Type 0
 IsSealedWith serial octets b = (token : List ℕ) × (octets ≡ granted_octets token) × (token_of serial b ≡ Some token)
 
+-- what waits for its signature is reserved, with its TSTInfo
+abbrev pub IsReservedFor : PendingValue → History → Type 0
+IsReservedFor p b = (r : ReservationValue) × (reservation_at p.serial b ≡ Some r) × (r.tst ≡ p.tst)
+
 -- what an answer acknowledged still stands
 abbrev pub IsKept : History → Command → Answer → Type 0
 IsKept b c (Stamped serial octets) = IsSealedWith serial octets b
+IsKept b c (Begun p) = IsReservedFor p b
 IsKept b (Deposit a reading reference bytes) (Kept number new) = deposit_at number b
     ≡ Some (deposit_row number a.name reference bytes)
 IsKept b (Grant a n reader) Done = Contains b (Granted n reader)

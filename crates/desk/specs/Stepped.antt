@@ -16,6 +16,7 @@ use Rattle.desk.specs.declared.fault.Fault.TheVariants as fault
 use Rattle.desk.specs.Effects.{Effect, is_backwards}
 use Rattle.desk.specs.Steps.{HasEffect, IsMet, Moves}
 use Rattle.desk.specs.Runs.{after}
+use Rattle.desk.specs.Promises.{KeepsPromises}
 
 -- a desk: with what it was opened, and its store
 pub record DeskValue (B : Type 0) : Type 0 where
@@ -133,7 +134,19 @@ pub record StepsBy {B : Type 0} (g : Ghosts B) (t : SignerStep) (s : Setting) (c
   pub blames : IsBlamed g c o old new answer
   pub steps : g.honest new → (b : History) → Stands g b old → IsMet c b → HasStepped g t s c o b old new answer
 
+-- the same under some outcome: a stepping stone of the proofs
+abbrev pub IsBareStep : {B : Type 0} → Ghosts B → SignerStep → Setting → Command → B → B → Answer
+    → Type 0
+IsBareStep g t s c old new answer = (o : Outcome) × StepsBy g t s c o old new answer
+
+-- A call is a step of the machine, and what is promised of a command holds of this step's effect.
+pub record IsStepBy {B : Type 0} (g : Ghosts B) (t : SignerStep) (s : Setting) (c : Command) (o : Outcome)
+    (old new : B) (answer : Answer) : Type 0 where
+  pub step : StepsBy g t s c o old new answer
+  pub promises : (honest : g.honest new) (b : History) (stands : Stands g b old) (met : IsMet c b)
+      → KeepsPromises s c o b (step.steps honest b stands met).effect
+
 -- the same under some outcome
 abbrev pub IsStep : {B : Type 0} → Ghosts B → SignerStep → Setting → Command → B → B → Answer
     → Type 0
-IsStep g t s c old new answer = (o : Outcome) × StepsBy g t s c o old new answer
+IsStep g t s c old new answer = (o : Outcome) × IsStepBy g t s c o old new answer

@@ -8,7 +8,7 @@ ghost use Rattle.desk.specs.Answers.{reply_as};
 ghost use Rattle.desk.specs.Calls.{opening_view};
 ghost use Rattle.desk.specs.Command.{Stamp, Rejected};
 ghost use Rattle.desk.specs.Findings.{HoldsUnasked};
-ghost use Rattle.desk.specs.Stepped.{IsStep, with_signer};
+ghost use Rattle.desk.specs.Stepped.{IsBareStep, with_signer};
 
 use crate::beginning::begin_with;
 use crate::finishing::{complete, no_answer};
@@ -33,7 +33,7 @@ pub(crate) fn answer_with<B: Book + Drop, G: Signer>(
     ensures unasked { (rule : Rule) → IsFirstFailing (HoldsUnasked (policy_view opening.entry.policy.now)
         (account_asked account.entry) query.now) rule
         → (reply_as result ≡ Rejected rule) × (store.new ≡ store.old) × (signer.new ≡ signer.old) }
-    ensures step { IsStep B.Standing (with_signer G.signs G.fault_count signer.old signer.new)
+    ensures step { IsBareStep B.Standing (with_signer G.signs G.fault_count signer.old signer.new)
         (opening_view opening.entry)
         (Stamp (account_asked account.entry) reading query.now) store.old store.new (reply_as result) }
 {

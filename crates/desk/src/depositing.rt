@@ -17,7 +17,7 @@ ghost use Rattle.desk.specs.Effects.{deposit_row};
 ghost use Rattle.desk.specs.Fault.{IsOfDeposit};
 ghost use Rattle.desk.specs.Outcome.{Outcome, faults_after};
 ghost use Rattle.desk.specs.Shown.{deposited_as};
-ghost use Rattle.desk.specs.Stepped.{IsStep, StepsBy, no_signer, with_signer};
+ghost use Rattle.desk.specs.Stepped.{IsBareStep, StepsBy, no_signer, with_signer};
 ghost use Rattle.desk.specs.Texts.{gives_certificate, octets_for, request_for};
 
 use crate::fault::Fault;
@@ -281,7 +281,7 @@ pub(crate) fn deposit_with<B: Book + Drop, X: Signer>(
     ensures large { 1048576 < length bytes.now
         → (result ≡ Err Fault.TooLarge) × (store.new ≡ store.old) × (signer.new ≡ signer.old) }
     ensures refusals { IfErr result IsOfDeposit }
-    ensures step { IsStep B.Standing (with_signer X.signs X.fault_count signer.old signer.new)
+    ensures step { IsBareStep B.Standing (with_signer X.signs X.fault_count signer.old signer.new)
         (opening_view opening.entry)
         (Deposit (account_view account.now) reading reference.now bytes.now) store.old store.new
         (answered deposited_as result) }

@@ -4,13 +4,13 @@ ghost use Rattle.policy.specs.View.{account_view};
 ghost use Rattle.desk.specs.Answers.{answered};
 ghost use Rattle.desk.specs.Command.{Deposit, Show, Token, ListAll, Grant, Revoke};
 ghost use Rattle.desk.specs.Fault.{IsOfDeposit};
-ghost use Rattle.desk.specs.Isolation.{IsIsolated};
 ghost use Rattle.desk.specs.Shown.{deposited_as, shown_as, listed_as, done_as};
 ghost use Rattle.desk.specs.Stepped.{IsStep, no_signer, with_signer};
 
 use crate::depositing::deposit_with;
 use crate::desk::Desk;
 use crate::fault::Fault;
+use crate::laws::steps_keep_their_promises;
 use crate::reply::Deposited;
 use crate::rights::{grant_by, revoke_by};
 use crate::showing::{list_to, show_to, token_to};
@@ -45,9 +45,8 @@ impl<'p, B: Book + Drop> Desk<'p, B> {
         ensures step { IsStep B.Standing (with_signer G.signs G.fault_count signer.old signer.new) self.old.setting
             (Deposit (account_view account.now) reading reference.now bytes.now) self.old.store self.new.store
             (answered deposited_as result) }
-        ensures isolated { IsIsolated self.old.setting
-            (Deposit (account_view account.now) reading reference.now bytes.now) }
     {
+        steps_keep_their_promises();
         let opening = self.opening;
         deposit_with(
             &mut self.store,
@@ -68,8 +67,8 @@ impl<'p, B: Book + Drop> Desk<'p, B> {
         ensures honest { B.honest self.new.store → B.honest self.old.store }
         ensures step { IsStep B.Standing no_signer self.old.setting (Show (account_view account.now) number)
             self.old.store self.new.store (answered shown_as result) }
-        ensures isolated { IsIsolated self.old.setting (Show (account_view account.now) number) }
     {
+        steps_keep_their_promises();
         match show_to(&mut self.store, account, number) {
             Ok(bytes) => Ok(bytes),
             Err(obstacle) => Err(Fault::from(obstacle)),
@@ -84,8 +83,8 @@ impl<'p, B: Book + Drop> Desk<'p, B> {
         ensures step { IsStep B.Standing no_signer self.old.setting (Token (account_view account.now) number)
             self.old.store
             self.new.store (answered shown_as result) }
-        ensures isolated { IsIsolated self.old.setting (Token (account_view account.now) number) }
     {
+        steps_keep_their_promises();
         match token_to(&mut self.store, self.alloc, account, number) {
             Ok(reply) => Ok(reply),
             Err(obstacle) => Err(Fault::from(obstacle)),
@@ -99,8 +98,8 @@ impl<'p, B: Book + Drop> Desk<'p, B> {
         ensures honest { B.honest self.new.store → B.honest self.old.store }
         ensures step { IsStep B.Standing no_signer self.old.setting (ListAll (account_view account.now)) self.old.store
             self.new.store (answered listed_as result) }
-        ensures isolated { IsIsolated self.old.setting (ListAll (account_view account.now)) }
     {
+        steps_keep_their_promises();
         match list_to(&mut self.store, account) {
             Ok(rows) => Ok(rows),
             Err(obstacle) => Err(Fault::from(obstacle)),
@@ -118,8 +117,8 @@ impl<'p, B: Book + Drop> Desk<'p, B> {
         ensures honest { B.honest self.new.store → B.honest self.old.store }
         ensures step { IsStep B.Standing no_signer self.old.setting (Grant (account_view account.now) number name.now)
             self.old.store self.new.store (answered done_as result) }
-        ensures isolated { IsIsolated self.old.setting (Grant (account_view account.now) number name.now) }
     {
+        steps_keep_their_promises();
         let opening = self.opening;
         match grant_by(&mut self.store, opening, account, number, name) {
             Ok(()) => Ok(()),
@@ -134,8 +133,8 @@ impl<'p, B: Book + Drop> Desk<'p, B> {
         ensures honest { B.honest self.new.store → B.honest self.old.store }
         ensures step { IsStep B.Standing no_signer self.old.setting (Revoke (account_view account.now) number name.now)
             self.old.store self.new.store (answered done_as result) }
-        ensures isolated { IsIsolated self.old.setting (Revoke (account_view account.now) number name.now) }
     {
+        steps_keep_their_promises();
         let opening = self.opening;
         match revoke_by(&mut self.store, opening, account, number, name) {
             Ok(()) => Ok(()),

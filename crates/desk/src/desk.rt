@@ -11,9 +11,9 @@ ghost use Rattle.book.specs.Stands.{Stands};
 ghost use Rattle.desk.specs.Answers.{begun_as, reply_as, answered};
 ghost use Rattle.desk.specs.Calls.{opening_view};
 ghost use Rattle.desk.specs.Command.{Begin, Finish, Abandon, Stamp, Stamped, Rejected, Done};
-ghost use Rattle.desk.specs.Isolation.{IsIsolated};
 ghost use Rattle.desk.specs.Findings.{HoldsUnasked};
 ghost use Rattle.desk.specs.Replies.{IsGranted, IsRejected};
+ghost use Rattle.desk.specs.Runs.{IsProper};
 ghost use Rattle.desk.specs.Stepped.{IsStep, no_signer, with_signer, with_store};
 ghost use Rattle.desk.specs.contracts.desk.Desk.{the_row as desk_row};
 
@@ -21,7 +21,8 @@ use crate::answering::answer_with;
 use crate::beginning::begin_with;
 use crate::fault::Fault;
 use crate::finishing::finish_with;
-use crate::opening::Opening;
+use crate::laws::steps_keep_their_promises;
+use crate::opening::{Opening, is_proper};
 use crate::pending::Pending;
 use crate::reply::{Begun, Reply};
 use book::Book;
@@ -59,6 +60,8 @@ impl<'p, B: Book + Drop> Model for Desk<'p, B> {
 impl<'p, B: Book + Drop> Desk<'p, B> {
     /// A desk over a store, by a policy file, whose tokens name the identity's certificate and the signer's algorithm.
     /// It keeps the allocator for its answers. Takes no memory.
+    ///
+    /// Its setting is proper, as what is promised of sound histories needs it; no call changes the setting.
     pub fn new(
         alloc: Global,
         policy: &'p Policy,
@@ -66,17 +69,20 @@ impl<'p, B: Book + Drop> Desk<'p, B> {
         algorithm: &'p Algorithm,
         store: B,
     ) -> Desk<'p, B>
-        ensures { result ≡ record {
+        ensures made { result ≡ record {
           setting = record { file = policy_view policy.now; identity = identity.now; algorithm = algorithm.now };
           store = store;
         } }
+        ensures proper { IsProper result.setting }
     {
+        let opening = Opening {
+            policy,
+            identity,
+            algorithm,
+        };
+        is_proper(opening);
         Desk {
-            opening: Opening {
-                policy,
-                identity,
-                algorithm,
-            },
+            opening,
             store,
             alloc,
         }
@@ -135,6 +141,7 @@ impl<'p, B: Book + Drop> Desk<'p, B> {
             query.now) rule → (answered begun_as result ≡ Rejected rule) × (self.new ≡ self.old) }
         ensures refusals { IfErr result (λ fault. (fault ≡ Fault.Memory) ⊎ (fault ≡ Fault.Store)) }
     {
+        steps_keep_their_promises();
         let opening = self.opening;
         match begin_with(
             &mut self.store,
@@ -161,6 +168,7 @@ impl<'p, B: Book + Drop> Desk<'p, B> {
         ensures step { IsStep B.Standing no_signer self.old.setting (Finish pending.entry signature.now) self.old.store
             self.new.store (answered reply_as result) }
     {
+        steps_keep_their_promises();
         match finish_with(&mut self.store, self.alloc, pending, signature) {
             Ok(reply) => Ok(reply),
             Err(refusal) => Err(Fault::from(refusal)),
@@ -173,6 +181,7 @@ impl<'p, B: Book + Drop> Desk<'p, B> {
         ensures step { IsStep B.Standing no_signer self.old.setting (Abandon pending.entry) self.old.store
             self.new.store Done }
     {
+        steps_keep_their_promises();
         pending.abandon();
     }
 
@@ -203,8 +212,8 @@ impl<'p, B: Book + Drop> Desk<'p, B> {
             → IsRejected self.old.setting (account_asked account.entry) reading query.now b rule }
         ensures step { IsStep B.Standing (with_signer G.signs G.fault_count signer.old signer.new) self.old.setting
             (Stamp (account_asked account.entry) reading query.now) self.old.store self.new.store (reply_as result) }
-        ensures isolated { IsIsolated self.old.setting (Stamp (account_asked account.entry) reading query.now) }
     {
+        steps_keep_their_promises();
         let opening = self.opening;
         answer_with(
             &mut self.store,

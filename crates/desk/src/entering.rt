@@ -8,12 +8,12 @@ ghost use Rattle.book.specs.Values.{calibration_view, hold_view};
 ghost use Rattle.desk.specs.Answers.{entered};
 ghost use Rattle.desk.specs.Calls.{IsOfStore};
 ghost use Rattle.desk.specs.Command.{Setting, Calibrate, Hold as AddHold};
-ghost use Rattle.desk.specs.Isolation.{IsIsolated};
 ghost use Rattle.desk.specs.Obstacles.{adding, outcome_with, told_with};
 ghost use Rattle.desk.specs.Shown.{done_as};
 ghost use Rattle.desk.specs.Stepped.{StepsBy, IsStep, no_signer};
 
 use crate::desk::Desk;
+use crate::laws::steps_keep_their_promises;
 use crate::obstacle::Obstacle;
 use book::{Book, Calibration, Hold, StoreFault};
 
@@ -86,13 +86,13 @@ impl<'p, B: Book + Drop> Desk<'p, B> {
         ensures honest { B.honest self.new.store → B.honest self.old.store }
         ensures step { IsStep B.Standing no_signer self.old.setting (Calibrate (calibration_view calibration.now))
             self.old.store self.new.store (entered result) }
-        ensures isolated { IsIsolated self.old.setting (Calibrate (calibration_view calibration.now)) }
         ensures backwards { B.honest self.new.store → (b : History) → Stands B.Standing b self.old.store
             → result ≡ Err StoreFault.Backwards
             → IsBackwards (calibration_view calibration.now) (latest_calibration b) }
         ensures refusals { IfErr result (λ e. (e ≡ StoreFault.Memory)
             ⊎ ((e ≡ StoreFault.Database) ⊎ (e ≡ StoreFault.Backwards))) }
     {
+        steps_keep_their_promises();
         add_calibration(&mut self.store, calibration)
     }
 
@@ -103,9 +103,9 @@ impl<'p, B: Book + Drop> Desk<'p, B> {
         ensures honest { B.honest self.new.store → B.honest self.old.store }
         ensures step { IsStep B.Standing no_signer self.old.setting (AddHold (hold_view hold.now)) self.old.store
             self.new.store (entered result) }
-        ensures isolated { IsIsolated self.old.setting (AddHold (hold_view hold.now)) }
         ensures refusals { IfErr result IsOfStore }
     {
+        steps_keep_their_promises();
         add_hold(&mut self.store, hold)
     }
 }

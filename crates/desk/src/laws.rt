@@ -1,21 +1,26 @@
 //! What holds of the machine, whatever it is asked and whatever store, signer and memory answer.
-ghost use Rattle.std.specs.Prelude.{◌≡◌, ℕ, ◌+◌, ◌<◌, ◌≤◌, ℤ, List, Option, Some, Ok};
+ghost use Rattle.std.specs.Prelude.{◌≡◌, ℕ, ◌+◌, ◌<◌, ◌≤◌, ℤ, List, Option, Some};
 ghost use Rattle.der.specs.Node.{encoding};
 ghost use Rattle.policy.specs.Record.{AccountValue};
 ghost use Rattle.tsp.specs.Rejection.{rejection};
 ghost use Rattle.tsp.specs.Rules.{IsFirstFailing};
 ghost use Rattle.tsp.specs.declared.rule.Rule.{Rule};
 ghost use Rattle.book.specs.History.{History, ReservationValue, greatest_serial, reservation_at};
+ghost use Rattle.book.specs.Rights.{is_reader};
 ghost use Rattle.book.specs.Sound.{IsSound, greatest_number};
 ghost use Rattle.desk.specs.Agreement.{Agree};
 ghost use Rattle.desk.specs.Command.{Setting, PendingValue, Command, Stamp, Answer, Stamped, Rejected, Begun};
 ghost use Rattle.desk.specs.Content.{IsSoundInFull};
 ghost use Rattle.desk.specs.Effects.{Effect};
 ghost use Rattle.desk.specs.Laws.{IsCommandOfOther, Concerns, StaysFor, IsGrant, IsRejection, IsReservedText};
-ghost use Rattle.desk.specs.Laws.{IsPendingOf, Continues, AreMet, AreCommandsOf, RunsAlike};
+ghost use Rattle.desk.specs.Laws.{IsPendingOf, IsOfPlan, IsUnanswered, Continues, AreMet, AreCommandsOf, RunsAlike};
 ghost use Rattle.desk.specs.Findings.{PlanValue, IsAllowed, HoldsAt};
-ghost use Rattle.desk.specs.Outcome.{Outcome, all_fine};
+ghost use Rattle.desk.specs.Outcome.{Outcome};
+ghost use Rattle.desk.specs.Promises.{KeepsPromises};
+ghost use Rattle.desk.specs.Readers.{rights_along};
 ghost use Rattle.desk.specs.Runs.{IsProper, Told, Journey, HasProperties, Runs, after, cut};
+ghost use Rattle.desk.specs.Serials.{given_along, AreInOrder};
+ghost use Rattle.desk.specs.Sight.{ShowsExactly};
 ghost use Rattle.desk.specs.Steps.{HasEffect, IsMet};
 
 use cms::Signer;
@@ -34,8 +39,9 @@ pub fn steps_leave_sound_histories()
 /// A stamp is granted only where no rule of 1 to 11 fails, under the greatest serial number plus one, which is above
 /// each that was reserved, with the token over the one TSTInfo of its plan and the signer's answer; and it is rejected
 /// by the first rule that fails, or by rule 12 where store, signer or memory didn't answer or no serial number is
-/// left. Where store, signer and memory answer and a serial number is left, it is granted where no
-/// rule fails, and else rejected by the first that does.
+/// left. Where the calls that it makes of them are answered and a serial number is left, it is granted where no
+/// rule fails, and else rejected by the first that does. What `begin`, `finish` and a new deposit grant is of its plan
+/// too, with its certificate and algorithm, and they are rejected by the first rule that fails (`plan`).
 pub fn grants_are_of_their_plan()
     ensures granted { (s : Setting) (account : Option AccountValue) (reading : ℤ) (octets : List ℕ) (o : Outcome)
         (b : History) (e : Effect) (serial : ℕ) (reply : List ℕ)
@@ -45,17 +51,45 @@ pub fn grants_are_of_their_plan()
         (b : History) (e : Effect) (rule : Rule)
         → HasEffect s (Stamp account reading octets) o b e → e.says ≡ Rejected rule
         → IsRejection s account reading octets o b rule }
-    ensures grants { (s : Setting) (account : Option AccountValue) (reading : ℤ) (octets signature : List ℕ)
+    ensures grants { (s : Setting) (account : Option AccountValue) (reading : ℤ) (octets : List ℕ) (o : Outcome)
         (b : History) (e : Effect) (plan : PlanValue)
-        → IsAllowed s.file account reading octets b plan → greatest_serial b < greatest_number
-        → HasEffect s (Stamp account reading octets) (all_fine (Ok signature)) b e
+        → IsAllowed s.file account reading octets b plan → greatest_serial b < greatest_number → (IsUnanswered o → ⊥)
+        → HasEffect s (Stamp account reading octets) o b e
         → (reply : List ℕ) × (e.says ≡ Stamped (greatest_serial b + 1) reply) }
-    ensures rejects { (s : Setting) (account : Option AccountValue) (reading : ℤ) (octets signature : List ℕ)
+    ensures rejects { (s : Setting) (account : Option AccountValue) (reading : ℤ) (octets : List ℕ) (o : Outcome)
         (b : History) (e : Effect) (rule : Rule) → IsFirstFailing (HoldsAt s.file account reading octets b) rule
-        → HasEffect s (Stamp account reading octets) (all_fine (Ok signature)) b e → e.says ≡ Rejected rule }
+        → (IsUnanswered o → ⊥) → HasEffect s (Stamp account reading octets) o b e → e.says ≡ Rejected rule }
+    ensures plan { (s : Setting) (c : Command) (o : Outcome) (b : History) (e : Effect) → IsSound b
+        → HasEffect s c o b e → IsOfPlan s c o b e e.says }
     ensures above { (b : History) (n : ℕ) (r : ReservationValue) → reservation_at n b ≡ Some r
         → n ≤ greatest_serial b }
+{
+    requests_have_one_reading();
+}
+
+/// Under one outcome a command has one effect on a history, and so one answer.
+pub fn commands_have_one_effect()
+    ensures { (s : Setting) (c : Command) (o : Outcome) (b : History) (e other : Effect) → HasEffect s c o b e
+        → HasEffect s c o b other → e ≡ other }
+{
+    requests_have_one_reading();
+}
+
+/// A deposit is shown or listed to exactly its owner and its current readers: what is shown is of a deposit that the
+/// account may see, and what it may see is shown where the calls are answered; a list has all that it may see, each
+/// once, by rising number, and nothing else.
+pub fn deposits_are_shown_exactly()
+    ensures { (s : Setting) (c : Command) (o : Outcome) (b : History) (e : Effect) → IsSound b
+        → HasEffect s c o b e → ShowsExactly c o b e.says }
 {}
+
+/// What is promised of each command: what the laws here say of its effect.
+pub fn steps_keep_their_promises()
+    ensures { (s : Setting) (c : Command) (o : Outcome) (b : History) (e : Effect) → IsSound b
+        → HasEffect s c o b e → KeepsPromises s c o b e }
+{
+    requests_have_one_reading();
+}
 
 /// What a signer is asked to sign, and what waits for its signature, is the text of the reservation that the same
 /// command adds before all else, under a serial number above all that were reserved before. So the serial numbers of
@@ -74,13 +108,18 @@ pub fn rejections_tell_their_rule()
 {}
 
 /// In each journey through openings, commands and stops, serial numbers rise and genTimes never fall, what was
-/// acknowledged stands, and no deposit is without a sealed stamp of its hash. So it is where a run goes on from it,
+/// acknowledged stands, and no deposit is without a sealed stamp of its hash. The serial numbers of the texts that it
+/// gave out to be signed rise, stops included, and none is above the greatest that the history has. Who reads a deposit
+/// after it is told by the rights that it acknowledged and that its stops left. So it is where a run goes on from it,
 /// to the run's end or to a stop in it.
 pub fn journeys_keep_their_promises()
     ensures journey { (b : History) (w : List Told) → Journey b w → HasProperties b w }
+    ensures given { (b : History) (w : List Told) (j : Journey b w) → AreInOrder (given_along j) b }
+    ensures readers { (b : History) (w : List Told) (j : Journey b w) (number : ℕ) (account : List ℕ)
+        → is_reader number account b ≡ is_reader number account (rights_along j) }
     ensures continued { (s : Setting) (cs : List Command) (os : List Outcome) (b : History) (w : List Told)
         (b' : History) (w' : List Told)
-        → IsProper s → AreMet cs → Journey b w → Continues s cs os b w b' w' → HasProperties b' w' }
+        → IsProper s → AreMet s cs os b → Journey b w → Continues s cs os b w b' w' → HasProperties b' w' }
 {
     requests_have_one_reading();
 }

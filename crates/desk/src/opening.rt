@@ -1,5 +1,13 @@
+//! With what a desk is opened.
+ghost use Rattle.std.specs.Prelude.{◌≤◌, map};
+ghost use Rattle.std.specs.List.{AllByRecursion};
+ghost use Rattle.der.specs.ObjectIdentifier.{IsOid};
+ghost use Rattle.policy.specs.View.{tsa_policy_view};
+ghost use Rattle.desk.specs.Calls.{opening_view};
+ghost use Rattle.desk.specs.Runs.{IsProper};
+
 use cms::{Algorithm, Identity};
-use policy::Policy;
+use policy::{Counter, Policy, TsaPolicy};
 
 /// With what a desk is opened: the policy file, whose certificate its tokens name, and under which algorithm they are
 /// signed.
@@ -8,4 +16,30 @@ pub(crate) struct Opening<'p> {
     pub(crate) policy: &'p Policy,
     pub(crate) identity: &'p Identity,
     pub(crate) algorithm: &'p Algorithm,
+}
+
+/// The accuracy of a policy file is in its range.
+fn has_accuracy(counter: &Counter)
+    ensures some { 1 ≤ counter.now.accuracy_us }
+    ensures most { counter.now.accuracy_us ≤ 1_000_000 }
+{
+    let _accuracy = counter.accuracy_us;
+}
+
+/// The object identifiers of a policy file's policies are such.
+fn has_object_identifiers(policies: &[TsaPolicy])
+    ensures { AllByRecursion (λ p. IsOid p.oid) (map tsa_policy_view policies.now) }
+{
+    for policy in policies {
+        let _content = policy.oid.content();
+    }
+}
+
+/// What the laws need of accuracy and object identifiers, the policy's own types keep.
+pub(crate) fn is_proper(opening: Opening<'_>)
+    ensures { IsProper (opening_view opening.entry) }
+{
+    let policy = opening.policy;
+    has_accuracy(&policy.counter);
+    has_object_identifiers(&policy.policies);
 }

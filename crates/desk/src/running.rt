@@ -1,8 +1,5 @@
 //! Commands one after the other.
-ghost use Rattle.std.specs.Prelude.{◌≡◌, ◌≤◌, List, map, IfOk, IfErr, OnErr};
-ghost use Rattle.std.specs.List.{AllByRecursion};
-ghost use Rattle.der.specs.ObjectIdentifier.{IsOid};
-ghost use Rattle.policy.specs.View.{tsa_policy_view};
+ghost use Rattle.std.specs.Prelude.{◌≡◌, List, IfOk, IfErr, OnErr};
 ghost use Rattle.desk.specs.Answers.{answered};
 ghost use Rattle.desk.specs.Asked.{command_view, answer_view, commands_view, answers_view};
 ghost use Rattle.desk.specs.Calls.{opening_view};
@@ -10,7 +7,7 @@ ghost use Rattle.desk.specs.Obstacles.{told_with};
 ghost use Rattle.desk.specs.Outcome.{Outcome};
 ghost use Rattle.desk.specs.Ran.{AreSteps, IsRun};
 ghost use Rattle.desk.specs.Shown.{deposited_as, shown_as, listed_as, done_as};
-ghost use Rattle.desk.specs.Stepped.{IsStep, with_signer};
+ghost use Rattle.desk.specs.Stepped.{IsBareStep, with_signer};
 
 use crate::answering::answer_with;
 use crate::commands::{Answer, Command};
@@ -19,13 +16,12 @@ use crate::desk::Desk;
 use crate::entering::{calibrate_by, hold_by};
 use crate::fault::Fault;
 use crate::obstacle::Obstacle;
-use crate::opening::Opening;
+use crate::opening::{Opening, is_proper};
 use crate::reply::Deposited;
 use crate::rights::{grant_by, revoke_by};
 use crate::showing::{list_to, show_to, token_to};
 use book::{Book, Listed};
 use cms::Signer;
-use policy::{Counter, TsaPolicy};
 use std::alloc::Global;
 use tsp::requests_have_one_reading;
 
@@ -74,7 +70,7 @@ pub(crate) fn obey<B: Book + Drop, G: Signer>(
     signer: &mut G,
 ) -> Answer
     ensures honest { B.honest store.new → B.honest store.old }
-    ensures step { IsStep B.Standing (with_signer G.signs G.fault_count signer.old signer.new)
+    ensures step { IsBareStep B.Standing (with_signer G.signs G.fault_count signer.old signer.new)
         (opening_view opening.entry) (command_view command.now) store.old store.new (answer_view result) }
 {
     match *command {
@@ -137,23 +133,6 @@ pub(crate) fn obey_each<B: Book + Drop, G: Signer>(
     Ok(answers)
 }
 
-/// The accuracy of a policy file is in its range.
-fn has_accuracy(counter: &Counter)
-    ensures some { 1 ≤ counter.now.accuracy_us }
-    ensures most { counter.now.accuracy_us ≤ 1_000_000 }
-{
-    let _accuracy = counter.accuracy_us;
-}
-
-/// The object identifiers of a policy file's policies are such.
-fn has_object_identifiers(policies: &[TsaPolicy])
-    ensures { AllByRecursion (λ p. IsOid p.oid) (map tsa_policy_view policies.now) }
-{
-    for policy in policies {
-        let _content = policy.oid.content();
-    }
-}
-
 /// A run over a store.
 fn run_with<B: Book + Drop, G: Signer>(
     store: &mut B,
@@ -169,9 +148,7 @@ fn run_with<B: Book + Drop, G: Signer>(
         (commands_view commands.now) (answers_view answers.items) store.old signer.old store.new signer.new) }
 {
     requests_have_one_reading();
-    let policy = opening.policy;
-    has_accuracy(&policy.counter);
-    has_object_identifiers(&policy.policies);
+    is_proper(opening);
     match obey_each(store, alloc, opening, commands, signer) {
         Ok(answers) => Ok(answers),
         Err(fault) => Err(fault),

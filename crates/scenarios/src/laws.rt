@@ -2,8 +2,9 @@
 use crate::bench::Place;
 use crate::printing::Printer;
 use desk::{
-    Fault, accounts_are_isolated, accounts_disturb_little, grants_are_of_their_plan,
-    journeys_keep_their_promises, rejections_tell_their_rule, steps_leave_sound_histories,
+    Fault, accounts_are_isolated, accounts_disturb_little, commands_have_one_effect,
+    deposits_are_shown_exactly, grants_are_of_their_plan, journeys_keep_their_promises,
+    rejections_tell_their_rule, steps_keep_their_promises, steps_leave_sound_histories,
     texts_are_reserved,
 };
 use store::{book_stands_in_tables, equal_tables_tell_the_same, serials_rise};
@@ -40,6 +41,9 @@ pub fn call_of_store() {
 pub fn call_of_desk() {
     steps_leave_sound_histories();
     grants_are_of_their_plan();
+    commands_have_one_effect();
+    deposits_are_shown_exactly();
+    steps_keep_their_promises();
     rejections_tell_their_rule();
     texts_are_reserved();
     journeys_keep_their_promises();

@@ -1,3 +1,5 @@
+use Rattle.desk.proofs.Acknowledged.{readers_along}
+use Rattle.desk.proofs.Falling.{given_in_order}
 use Rattle.desk.proofs.Sound.{TextLaws}
 use Rattle.desk.proofs.Keeping.{journeys_have_properties}
 use Rattle.desk.proofs.Whole.{continued_properties}
@@ -7,4 +9,9 @@ pub returns : goal.returns
 returns c =
     let law = c.requests_have_one_reading.ensures in
     let laws : TextLaws = record { one_request = law.one; lawful_answers = law.lawful } in
-    record { journey = journeys_have_properties laws; continued = continued_properties laws }
+    record {
+      journey = journeys_have_properties laws;
+      given = given_in_order laws;
+      readers = readers_along;
+      continued = continued_properties laws;
+    }

@@ -1,10 +1,5 @@
-use Rattle.std.proofs.Common.{map, subst}
-use Rattle.std.specs.List.{AllByRecursion}
-use Rattle.der.specs.ObjectIdentifier.{IsOid}
-use Rattle.policy.specs.View.{tsa_policy_view}
 use Rattle.desk.specs.Asked.{commands_view, answers_view}
 use Rattle.desk.specs.Calls.{opening_view}
-use Rattle.desk.specs.Runs.{IsProper}
 use Rattle.desk.proofs.Sound.{TextLaws}
 use Rattle.desk.proofs.RunsOn.{honest_before, steps_run}
 use Rattle.desk.proofs.running.run_with.Goals as goal
@@ -21,15 +16,9 @@ returns-in-Ok-clause-run g c =
     let s = opening_view c.args.opening in
     let law = c.requests_have_one_reading.ensures in
     let laws : TextLaws = record { one_request = law.one; lawful_answers = law.lawful } in
-    let proper : IsProper s = record {
-      some_accuracy = c.has_accuracy.ensures.some;
-      most_accuracy = c.has_accuracy.ensures.most;
-      policies = subst (λ xs. AllByRecursion (λ p. IsOid p.oid) (map tsa_policy_view xs)) c.deref.ensures.value
-          c.has_object_identifiers.ensures;
-    } in
     let steps = c.in-Ok.ensures.steps in (
       steps.0,
-      steps_run g.B.Standing g.G.Signer.signs g.G.Signer.fault_count laws s proper (commands_view c.args.commands.now)
+      steps_run g.B.Standing g.G.Signer.signs g.G.Signer.fault_count laws s c.is_proper.ensures (commands_view c.args.commands.now)
           steps.0 (answers_view c.in-Ok.answers.items) c.args.store.now c.args.signer.now c.obey_each.new.store
           c.obey_each.new.signer steps.1,
     )

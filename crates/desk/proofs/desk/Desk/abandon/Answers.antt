@@ -1,23 +1,26 @@
 use Rattle.std.proofs.Common.{[], Ok, refl, inl}
-use Rattle.desk.specs.Command.{Done}
+use Rattle.desk.specs.Command.{Abandon, Done}
 use Rattle.desk.specs.Effects.{only}
 use Rattle.desk.specs.Outcome.{all_fine}
+use Rattle.desk.specs.Stepped.{no_signer}
+use Rattle.desk.proofs.Opened.{promised}
 use Rattle.desk.proofs.desk.Desk.abandon.Goals as goal
 
 pub returns-clause-step : goal.returns-clause-step
 returns-clause-step g c = (
   all_fine (Ok []),
-  record {
-    counted = refl;
-    signer = tt;
-    blames = tt;
-    steps = λ honest b st met. record {
-      effect = only Done;
-      has = refl;
-      says = refl;
-      moves = refl;
-      stands = st;
-      left = λ left r. inl (refl, r);
-    };
-  },
+  promised g.B.Standing c.steps_keep_their_promises.ensures no_signer c.args.self.now.setting (Abandon c.args.pending)
+      (all_fine (Ok [])) c.args.self.now.store c.args.self.now.store Done (record {
+        counted = refl;
+        signer = tt;
+        blames = tt;
+        steps = λ honest b st met. record {
+          effect = only Done;
+          has = refl;
+          says = refl;
+          moves = refl;
+          stands = st;
+          left = λ left r. inl (refl, r);
+        };
+      }),
 )

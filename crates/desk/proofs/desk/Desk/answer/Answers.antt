@@ -5,14 +5,13 @@ use Rattle.desk.specs.Calls.{opening_view}
 use Rattle.desk.specs.Command.{Stamp}
 use Rattle.desk.proofs.Opened.{steps_opened}
 use Rattle.desk.proofs.Replying.{granted_reply, rejected_reply}
-use Rattle.desk.proofs.Alone.{is_isolated}
 use Rattle.desk.proofs.desk.Desk.answer.Goals as goal
 
 pub returns-clause-step : goal.returns-clause-step
 returns-clause-step g c =
     let reading : SFits w64 c.args.reading = search rules in (
       c.answer_with.ensures.step.0,
-      steps_opened g.B.Standing _
+      steps_opened g.B.Standing c.steps_keep_their_promises.ensures _
           (record { setting = opening_view c.self.inside.opening; store = c.self.inside.store }) c.args.self.now _
           (Stamp (account_asked c.args.account) c.args.reading c.args.query.now) c.answer_with.ensures.step.0
           c.answer_with.new.store (reply_as c.answer_with.result) (reply_as c.answer_with.result) c.self.view_is
@@ -31,6 +30,3 @@ returns-clause-rejected g c =
     rejected_reply g.B.Standing g.G.Signer.signs g.G.Signer.fault_count c.args.signer.now c.answer_with.new.signer
     c.args.self.now.setting (account_asked c.args.account) _ c.args.query.now c.args.self.now.store
     c.answer_with.new.store (reply_as c.answer_with.result) (returns-clause-step g c)
-
-pub returns-clause-isolated : goal.returns-clause-isolated
-returns-clause-isolated g c = is_isolated _ _

@@ -18,7 +18,7 @@ returns-clause-step g c =
           ∙ (ap Refused w.from.ensures ∙ sym (ap (told begun_as) w.in-Err.is))
     ] in (
       outcome_of c.begin_with.result,
-      steps_opened g.B.Standing no_signer
+      steps_opened g.B.Standing c.steps_keep_their_promises.ensures no_signer
           (record { setting = opening_view c.self.inside.opening; store = c.self.inside.store }) c.args.self.now _
           (Begin (account_asked c.args.account) c.args.reading c.args.query.now) (outcome_of c.begin_with.result)
           c.begin_with.new.store (told begun_as c.begin_with.result) (answered begun_as c.match-begin_with.result)

@@ -5,7 +5,6 @@ use Rattle.desk.specs.Calls.{opening_view}
 use Rattle.desk.specs.Command.{Deposit}
 use Rattle.desk.specs.Shown.{deposited_as}
 use Rattle.desk.proofs.Opened.{steps_opened}
-use Rattle.desk.proofs.Alone.{is_isolated}
 use Rattle.desk.proofs.desk.Desk.deposit.Goals as goal
 
 pub returns-clause-step : goal.returns-clause-step
@@ -14,13 +13,10 @@ returns-clause-step g c =
     let a = account_view c.args.account.now in
     let said = answered deposited_as c.deposit_with.result in (
       c.deposit_with.ensures.step.0,
-      steps_opened g.B.Standing _
+      steps_opened g.B.Standing c.steps_keep_their_promises.ensures _
           (record { setting = opening_view c.self.inside.opening; store = c.self.inside.store }) c.args.self.now _
           (Deposit a c.args.reading c.args.reference.now c.args.bytes.now) c.deposit_with.ensures.step.0
           c.deposit_with.new.store said said c.self.view_is
           (ap (λ r. Deposit a r c.args.reference.now c.args.bytes.now) (to_z-of_z reading)) refl
           c.deposit_with.ensures.step.1,
     )
-
-pub returns-clause-isolated : goal.returns-clause-isolated
-returns-clause-isolated g c = is_isolated _ _

@@ -16,7 +16,7 @@ returns-clause-step g c =
           ∙ (ap Refused w.from.ensures ∙ sym (ap (told reply_as) w.in-Err.is))
     ] in (
       outcome_of c.finish_with.result,
-      steps_opened g.B.Standing no_signer
+      steps_opened g.B.Standing c.steps_keep_their_promises.ensures no_signer
           (record { setting = opening_view c.self.inside.opening; store = c.self.inside.store }) c.args.self.now
           (Finish c.args.pending c.args.signature.now) (Finish c.args.pending c.args.signature.now)
           (outcome_of c.finish_with.result) c.finish_with.new.store (told reply_as c.finish_with.result)

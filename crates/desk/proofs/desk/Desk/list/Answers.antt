@@ -7,7 +7,6 @@ use Rattle.desk.specs.Obstacles.{outcome_with, told_with}
 use Rattle.desk.specs.Shown.{listed_as}
 use Rattle.desk.specs.Stepped.{no_signer}
 use Rattle.desk.proofs.Opened.{steps_opened}
-use Rattle.desk.proofs.Alone.{is_isolated}
 use Rattle.desk.proofs.desk.Desk.list.Goals as goal
 use Rattle.desk.proofs.desk.Desk.list.Goals.{in-Ok, in-Err}
 
@@ -21,12 +20,9 @@ returns-clause-step g c =
     ] in
     let command = (ListAll (account_view c.args.account.now)) in (
       outcome_with c.list_to.result,
-      steps_opened g.B.Standing no_signer
+      steps_opened g.B.Standing c.steps_keep_their_promises.ensures no_signer
           (record { setting = opening_view c.self.inside.opening; store = c.self.inside.store }) c.args.self.now
           command command (outcome_with c.list_to.result) c.list_to.new.store (told_with listed_as c.list_to.result)
           (answered listed_as c.match-list_to.result) c.self.view_is refl same
           (c.list_to.ensures.step (opening_view c.self.inside.opening)),
     )
-
-pub returns-clause-isolated : goal.returns-clause-isolated
-returns-clause-isolated g c = is_isolated _ _

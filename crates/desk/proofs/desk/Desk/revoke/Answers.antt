@@ -7,7 +7,6 @@ use Rattle.desk.specs.Obstacles.{outcome_with, told_with}
 use Rattle.desk.specs.Shown.{done_as}
 use Rattle.desk.specs.Stepped.{no_signer}
 use Rattle.desk.proofs.Opened.{steps_opened}
-use Rattle.desk.proofs.Alone.{is_isolated}
 use Rattle.desk.proofs.desk.Desk.revoke.Goals as goal
 use Rattle.desk.proofs.desk.Desk.revoke.Goals.{in-Ok, in-Err}
 
@@ -21,11 +20,8 @@ returns-clause-step g c =
     ] in
     let command = (Revoke (account_view c.args.account.now) c.args.number c.args.name.now) in (
       outcome_with c.revoke_by.result,
-      steps_opened g.B.Standing no_signer
+      steps_opened g.B.Standing c.steps_keep_their_promises.ensures no_signer
           (record { setting = opening_view c.self.inside.opening; store = c.self.inside.store }) c.args.self.now
           command command (outcome_with c.revoke_by.result) c.revoke_by.new.store (told_with done_as c.revoke_by.result)
           (answered done_as c.match-revoke_by.result) c.self.view_is refl same c.revoke_by.ensures.step,
     )
-
-pub returns-clause-isolated : goal.returns-clause-isolated
-returns-clause-isolated g c = is_isolated _ _

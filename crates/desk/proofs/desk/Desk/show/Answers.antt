@@ -7,7 +7,6 @@ use Rattle.desk.specs.Obstacles.{outcome_with, told_with}
 use Rattle.desk.specs.Shown.{shown_as}
 use Rattle.desk.specs.Stepped.{no_signer}
 use Rattle.desk.proofs.Opened.{steps_opened}
-use Rattle.desk.proofs.Alone.{is_isolated}
 use Rattle.desk.proofs.desk.Desk.show.Goals as goal
 use Rattle.desk.proofs.desk.Desk.show.Goals.{in-Ok, in-Err}
 
@@ -21,12 +20,9 @@ returns-clause-step g c =
     ] in
     let command = (Show (account_view c.args.account.now) c.args.number) in (
       outcome_with c.show_to.result,
-      steps_opened g.B.Standing no_signer
+      steps_opened g.B.Standing c.steps_keep_their_promises.ensures no_signer
           (record { setting = opening_view c.self.inside.opening; store = c.self.inside.store }) c.args.self.now
           command command (outcome_with c.show_to.result) c.show_to.new.store (told_with shown_as c.show_to.result)
           (answered shown_as c.match-show_to.result) c.self.view_is refl same
           (c.show_to.ensures.step (opening_view c.self.inside.opening)),
     )
-
-pub returns-clause-isolated : goal.returns-clause-isolated
-returns-clause-isolated g c = is_isolated _ _

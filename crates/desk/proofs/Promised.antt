@@ -1,0 +1,31 @@
+-- What is promised of each command is kept.
+use Rattle.desk.specs.Command.{Setting, Command}
+use Rattle.desk.specs.Effects.{Effect}
+use Rattle.desk.specs.Outcome.{Outcome}
+use Rattle.desk.specs.Promises.{KeepsPromises}
+use Rattle.desk.specs.Steps.{HasEffect}
+use Rattle.book.specs.History.{History}
+use Rattle.book.specs.Sound.{IsSound}
+use Rattle.desk.proofs.Agreeing.{step_agrees}
+use Rattle.desk.proofs.Given.{asked_is_reserved, begun_is_reserved}
+use Rattle.desk.proofs.Others.{step_stays}
+use Rattle.desk.proofs.Planned.{of_plan}
+use Rattle.desk.proofs.SameEffect.{effect_same}
+use Rattle.desk.proofs.Sighted.{shows_exactly}
+use Rattle.desk.proofs.Sound.{TextLaws}
+use Rattle.desk.proofs.Whole.{step_sound}
+
+pub keeps_promises : TextLaws → (s : Setting) (c : Command) (o : Outcome) (b : History) (e : Effect) → IsSound b
+    → HasEffect s c o b e → KeepsPromises s c o b e
+keeps_promises laws s c o b e sound h = record {
+  asked = λ text. asked_is_reserved s c o b e text h;
+  begun = λ p. begun_is_reserved s c o b e p h;
+  of_plan = of_plan laws s c o b e sound h;
+  shows = shows_exactly s c o b e sound h;
+  isolated = λ account own other fine agree. record {
+    has = effect_same account s c o b other e agree own h;
+    agree = step_agrees account s c o b other e sound fine agree own h;
+  };
+  undisturbed = λ account other. step_stays account s c o b e sound other h;
+  whole = λ proper full met. step_sound laws s c o e b proper full met h;
+}

@@ -1,0 +1,9 @@
+use Rattle.desk.proofs.Promised.{keeps_promises}
+use Rattle.desk.proofs.Sound.{TextLaws}
+use Rattle.desk.proofs.laws.steps_keep_their_promises.Goals as goal
+
+pub returns : goal.returns
+returns c =
+    let law = c.requests_have_one_reading.ensures in
+    let laws : TextLaws = record { one_request = law.one; lawful_answers = law.lawful } in
+    keeps_promises laws
