@@ -7,7 +7,6 @@ mod auditing;
 mod desk_operation;
 mod exchanging;
 mod fault;
-mod finding;
 mod opening;
 mod operation;
 mod serving;

@@ -4,7 +4,7 @@ use Rattle.sqlite_trees.specs.Tree.{Trees}
 use Rattle.sqlite_trees.specs.declared.store.Store.{Ghosts}
 use Rattle.tables.specs.Tables.{Tables}
 use Rattle.sqlite.specs.Held.{state}
-use Rattle.tables.specs.Base.{BaseValue, IsHonest, Keeps, Recovers, Holds, StandsFor}
+use Rattle.tables.specs.Base.{BaseValue, IsHonest, Keeps, Recovers, IsStored, StandsFor}
 use Rattle.tables.specs.Queries.{OnlyReads}
 use Rattle.book.specs.History.{Entry, History}
 use Rattle.book.specs.Sound.{Fits, IsSound}
@@ -33,13 +33,13 @@ looks g old new reads = record {
 pub crash_after : {S : Type 0} (g : Ghosts S) (entry : Entry) (step : Tables → Tables) (old mid new : BaseValue S)
     → OnlyReads g old mid → (IsHonest g new → IsHonest g mid)
     → (IsHonest g new → (db : Trees) → Recovers g new db → Recovers g mid db
-    ⊎ ((t : Tables) → Keeps g t mid → Holds (step t) db))
+    ⊎ ((t : Tables) → Keeps g t mid → IsStored (step t) db))
     → (IsHonest g mid → (b : History) → Stands (over_tables g) b old → step (tables_of b) ≡ tables_of (entry ∷ b))
     → LeavesOrAdds (over_tables g) entry old new
 crash_after g entry step old mid new reads honest crash same h db r =
     elim (crash h db r) [
       | inl before ↦ inl (reads.leaves (honest h) db before)
-      | inr adds ↦ inr (λ b s fits. subst (λ t. Holds t db) (same (honest h) b s)
+      | inr adds ↦ inr (λ b s fits. subst (λ t. IsStored t db) (same (honest h) b s)
           (adds (tables_of b) (reads.kept (tables_of b) s.kept)))
     ]
 
@@ -64,11 +64,11 @@ looks_now g seen old new e reads = subst (λ v. OnlyLooks (over_tables g) v new)
 pub looks_twice : {S : Type 0} (g : Ghosts S) (seen old mid new : BaseValue S) → seen ≡ old → OnlyReads g seen mid
     → OnlyReads g mid new → OnlyLooks (over_tables g) old new
 looks_twice g seen old mid new e first second =
-    looks_now g seen old new e
-    record {
-      honest = λ h. first.honest (second.honest h);
-      kept = λ t keeps. second.kept t (first.kept t keeps);
-      leaves = λ h db r. first.leaves (second.honest h) db (second.leaves h db r);
+    let one = looks_now g seen old mid e first in
+    let two = looks g mid new second in record {
+      honest = λ h. one.honest (two.honest h);
+      stands = λ b s. two.stands b (one.stands b s);
+      leaves = λ h db r. one.leaves (two.honest h) db (two.leaves h db r);
     }
 
 pub reads_now : {S : Type 0} (g : Ghosts S) (seen old new : BaseValue S) → seen ≡ old → OnlyReads g seen new
@@ -97,12 +97,12 @@ err_looked g old mid new b looks err s = stands_for g b new s.sound (err (tables
 pub crash_now : {S : Type 0} (g : Ghosts S) (entry : Entry) (step : Tables → Tables) (seen old new : BaseValue S)
     → seen ≡ old
     → (IsHonest g new → (db : Trees) → Recovers g new db → Recovers g seen db
-    ⊎ ((t : Tables) → Keeps g t seen → Holds (step t) db))
+    ⊎ ((t : Tables) → Keeps g t seen → IsStored (step t) db))
     → ((b : History) → step (tables_of b) ≡ tables_of (entry ∷ b)) → LeavesOrAdds (over_tables g) entry old new
 crash_now g entry step seen old new e crash same h db r =
     elim (crash h db r) [
       | inl before ↦ inl (subst (λ v. Recovers g v db) e before)
-      | inr adds ↦ inr (λ b s fits. subst (λ t. Holds t db) (same b) (adds (tables_of b) (kept_seen g seen old b e s)))
+      | inr adds ↦ inr (λ b s fits. subst (λ t. IsStored t db) (same b) (adds (tables_of b) (kept_seen g seen old b e s)))
     ]
 
 pub adds_now : {S : Type 0} (g : Ghosts S) (entry : Entry) (step : Tables → Tables) (seen old new : BaseValue S)
@@ -124,12 +124,12 @@ err_now g seen old new b e err s = stands_for g b new s.sound (err (tables_of b)
 pub crash_looked : {S : Type 0} (g : Ghosts S) (entry : Entry) (step : Tables → Tables) (old mid new : BaseValue S)
     → OnlyLooks (over_tables g) old mid → (IsHonest g new → IsHonest g mid)
     → (IsHonest g new → (db : Trees) → Recovers g new db → Recovers g mid db
-    ⊎ ((t : Tables) → Keeps g t mid → Holds (step t) db))
+    ⊎ ((t : Tables) → Keeps g t mid → IsStored (step t) db))
     → ((b : History) → step (tables_of b) ≡ tables_of (entry ∷ b)) → LeavesOrAdds (over_tables g) entry old new
 crash_looked g entry step old mid new looks honest crash same h db r =
     elim (crash h db r) [
       | inl before ↦ inl (looks.leaves (honest h) db before)
-      | inr adds ↦ inr (λ b s fits. subst (λ t. Holds t db) (same b) (adds (tables_of b) (looks.stands b s).kept))
+      | inr adds ↦ inr (λ b s fits. subst (λ t. IsStored t db) (same b) (adds (tables_of b) (looks.stands b s).kept))
     ]
 
 pub adds_looked : {S : Type 0} (g : Ghosts S) (entry : Entry) (step : Tables → Tables) (old mid new : BaseValue S)

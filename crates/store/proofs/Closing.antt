@@ -3,10 +3,11 @@ use Rattle.std.proofs.Common.{subst}
 use Rattle.sqlite_disk.specs.declared.Disk.{Ghosts}
 use Rattle.sqlite_disk.specs.declared.Files.{Files}
 use Rattle.sqlite_store.specs.declared.store.FileStore.{FileStore}
+use Rattle.sqlite_catalog.specs.Listing.{IsSound}
 use Rattle.sqlite.specs.Closing.{IsCopied}
 use Rattle.sqlite.specs.Effect.{Database}
 use Rattle.sqlite.specs.Files.{file_state, over_files}
-use Rattle.tables.specs.Base.{BaseValue, Holds}
+use Rattle.tables.specs.Base.{BaseValue, IsStored}
 use Rattle.book.specs.History.{History}
 use Rattle.store.specs.Opening.{LeavesFiles}
 use Rattle.store.specs.Stands.{Stands}
@@ -17,7 +18,9 @@ pub leaves_files : {D : Type 0} {g : Ghosts D} (store : BaseValue (FileStore D g
     → LeavesFiles g b files
 leaves_files store files b copied s =
     let kept = s.kept copied.was_clean copied.was_open in
-    let holds = subst (λ (d : Database). Holds (tables_of b) d.trees) kept.settled kept.holds in
+    let listed = subst (λ schema. IsSound schema (file_state store.conn).now.trees) kept.schema kept.sound in
+    let holds = subst (λ (d : Database). IsStored (tables_of b) d.trees) kept.settled
+    (record { holds = kept.holds; listed = listed }) in
     record {
       seen = ((file_state store.conn).committed.trees, holds, copied.seen);
       left = λ image may. ((file_state store.conn).committed.trees, holds, copied.left image may);

@@ -7,10 +7,13 @@ pub mod DepositAnswers
 pub mod DepositRows
 pub mod Falling
 pub mod Listing
+pub mod Making
 pub mod Members
 pub mod Numbered
 pub mod Readers
 pub mod Stamps
+pub mod Stops
 pub mod Tables
 pub mod Tallies
+pub mod Unopened
 pub mod Walk

@@ -167,9 +167,12 @@ stands_reordered : (t : Tables) (rows : List ReaderRow) (s : State) → IsPermut
 stands_reordered t rows s same stands = record {
   schema = stands.schema;
   holds = reordered t rows s.now.trees same stands.holds;
+  sound = stands.sound;
   settled = stands.settled;
   autocommit = stands.autocommit;
-  leaves = λ db left. reordered t rows db same (stands.leaves db left);
+  leaves = λ db may.
+      let left = stands.leaves db may in
+      record { holds = reordered t rows db same left.holds; listed = left.listed };
 }
 
 -- a right that is granted again leaves the tables

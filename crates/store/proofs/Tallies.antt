@@ -1,9 +1,10 @@
 -- The tallies count the reservations of an account on a day.
-use Rattle.std.proofs.Common.{◌≡◌, ℕ, ◌+◌, ◌==◌, ◌&&◌, ◌||◌, Bool, true, false, cond, List, [], ◌∷◌, map}
+use Rattle.std.proofs.Common.{◌≡◌, ℕ, ◌+◌, ◌/◌, ◌≤◌, min, ◌==◌, ◌&&◌, ◌||◌, Bool, true, false, cond, List, [], ◌∷◌, map}
 use Rattle.std.proofs.Common.{Option, Some, None, refl, sym, ap, ◌∙◌, subst, inl, inr, arith, Contains, unwrap_or}
 use Rattle.std.specs.List.{list_any}
 use Rattle.std.specs.Str.{bytes_eq}
 use Rattle.std.proofs.lemmas.Bool.{eqb-true, eq-eqb}
+use Rattle.std.proofs.lemmas.Bool.Decides.{leb_tells}
 use Rattle.std.proofs.lemmas.Slice.Eq.{bytes_eq-Decides}
 use Rattle.std.proofs.lemmas.List.Sums.{sum_by-cons}
 use Rattle.tables.specs.Tables.{TallyRow, is_tally_of, raised_row, with_one_more}
@@ -11,6 +12,7 @@ use Rattle.tables.specs.Found.{IsFoundAs}
 use Rattle.tables.specs.Queries.{ShowsCount}
 use Rattle.book.specs.History.{Reserved, Sealed, Deposited, Calibrated, Held, Granted, Revoked, History}
 use Rattle.book.specs.History.{reservations, day_of, is_of_day, count_of_day}
+use Rattle.book.specs.Sound.{IsSound, greatest_number}
 use Rattle.store.specs.TablesOf.{tables_of}
 use Rattle.store.proofs.Members.{both_true, neither_true, true_or_false, none_pass, fails_each}
 use Rattle.store.proofs.Members.{member_here, member_after, member_cases}
@@ -158,3 +160,33 @@ count_view b account day None found =
 count_view b account day (Some count) (row, m, passes, shows) =
     let k = key_is account day row.account row.day passes in
     shows ∙ (tallies_count b).each row m ∙ rw (k.0, k.1) refl
+
+-- no reservation is of so late a day
+none_late : (b : History) (account : List ℕ) (day : ℕ) → IsSound b → greatest_number ≤ day
+    → count_of_day account day b ≡ 0
+none_late [] account day sound late = refl
+none_late (Reserved r ∷ b) account day sound late =
+    elim (true_or_false (is_of_day account day r)) [
+      | inl t ↦ (let k = key_is account day r.account (day_of r.gen_time) t in
+          let moment = sound.0.moment in
+          let day_is : r.gen_time / 86_400_000_000 ≡ day = k.1 in
+          absurd (omega (arith, day_is, moment, late)))
+      | inr f ↦ sum_by-cons (λ x. cond (is_of_day account day x) 1 0) r (reservations b)
+          ∙ rw (f, none_late b account day sound.1 late) refl
+    ]
+none_late (Sealed n token ∷ b) account day sound late = none_late b account day sound.1 late
+none_late (Deposited d token ∷ b) account day sound late = none_late b account day sound.1 late
+none_late (Calibrated c ∷ b) account day sound late = none_late b account day sound.1 late
+none_late (Held h ∷ b) account day sound late = none_late b account day sound.1 late
+none_late (Granted n a ∷ b) account day sound late = none_late b account day sound.1 late
+none_late (Revoked n a ∷ b) account day sound late = none_late b account day sound.1 late
+
+-- so the last day that a column can have may be asked for in the place of any later one
+pub asked_day : (b : History) (account : List ℕ) (day asked : ℕ) → IsSound b → asked ≡ min day greatest_number
+    → count_of_day account asked b ≡ count_of_day account day b
+asked_day b account day asked sound is =
+    elim (leb_tells day greatest_number) [
+      | inl early ↦ (let same : asked ≡ day = omega (arith, is, early.1) in rw same refl)
+      | inr late ↦ none_late b account asked sound (omega (arith, is, late.1))
+          ∙ sym (none_late b account day sound (omega (arith, late.1)))
+    ]

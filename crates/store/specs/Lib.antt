@@ -2,4 +2,5 @@ pub mod Alike
 pub mod Opening
 pub mod Stands
 pub mod Steps
+pub mod Stops
 pub mod TablesOf

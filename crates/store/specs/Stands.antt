@@ -2,7 +2,7 @@
 use Rattle.std.specs.Prelude.{◌⊎◌, ◌∷◌}
 use Rattle.sqlite_trees.specs.Tree.{Trees}
 use Rattle.sqlite_trees.specs.declared.store.Store.{Ghosts}
-use Rattle.tables.specs.Base.{BaseValue, IsHonest, IsOpen, Keeps, Recovers, Holds}
+use Rattle.tables.specs.Base.{BaseValue, IsHonest, IsOpen, Keeps, Recovers, IsStored}
 use Rattle.book.specs.declared.standing.Standing.{Ghosts as Standing}
 use Rattle.book.specs.History.{Entry, History}
 use Rattle.book.specs.Sound.{Fits, IsSound}
@@ -24,7 +24,7 @@ pub record OnlyLooks {S : Type 0} (g : Ghosts S) (old new : BaseValue S) : Type 
 abbrev pub LeavesOrAdds : {S : Type 0} → Ghosts S → Entry → BaseValue S → BaseValue S → Type 0
 LeavesOrAdds g entry old new =
     IsHonest g new → (db : Trees) → Recovers g new db
-    → Recovers g old db ⊎ ((b : History) → Stands g b old → Fits entry b → Holds (tables_of (entry ∷ b)) db)
+    → Recovers g old db ⊎ ((b : History) → Stands g b old → Fits entry b → IsStored (tables_of (entry ∷ b)) db)
 
 -- what is known of the store as a book
 abbrev pub over_tables : {S : Type 0} → Ghosts S → Standing (BaseValue S)
@@ -34,6 +34,6 @@ over_tables g = record {
   keeps = λ store b. Keeps g (tables_of b) store;
   Left = Trees;
   leaves = Recovers g;
-  holds = λ db b. Holds (tables_of b) db;
+  holds = λ db b. IsStored (tables_of b) db;
   fault_count = λ store. store.faults;
 }

@@ -6,11 +6,14 @@ ghost use Rattle.book.specs.History.{Entry, History, ReservationValue, Reserved,
 ghost use Rattle.book.specs.Sound.{Fits, IsSound};
 ghost use Rattle.store.specs.Alike.{HaveSameRows, AreAlike};
 ghost use Rattle.store.specs.Stands.{Stands, OnlyLooks, LeavesOrAdds};
+ghost use Rattle.store.specs.Stops.{FindsTheSame, FindsBeforeOrAfter, FindsNothingOrEmpty, FindsTheClosed};
 ghost use Rattle.store.specs.TablesOf.{tables_of};
 
 use crate::store::Store;
 use book::Standing;
 use sqlite::Alter;
+use sqlite_disk::Disk;
+use tables::stored_tables_are_found;
 
 /// Sound histories with the same rows in their tables, in whatever order, have the same views, and in both the same
 /// account sees the same.
@@ -36,3 +39,16 @@ pub fn book_stands_in_tables<S: Alter + Drop>()
     ensures leaves { (entry : Entry) (old new : BaseValue S)
         → BookAdds ⟦<Store<S> as Standing>⟧ entry old new ↔ LeavesOrAdds S.Store entry old new }
 {}
+
+/// What a store leaves, an opening finds. After a stop at a moment when nothing is changed, the store that is opened
+/// stands for the same history; after a stop in a change, for the history before it or for that with the entry; after
+/// one while the tables are made, for the empty history, if not what was there before is left; and after a closing, for
+/// the history that was closed, also if a stop came after it.
+pub fn openings_find_what_was_left<S: Alter + Drop, C: Disk + Drop, D: Disk + Drop>()
+    ensures still { FindsTheSame S.Store D.Disk }
+    ensures changing { FindsBeforeOrAfter S.Store D.Disk }
+    ensures making { FindsNothingOrEmpty S.Store D.Disk }
+    ensures closed { FindsTheClosed C.Disk D.Disk }
+{
+    stored_tables_are_found();
+}

@@ -2,8 +2,10 @@
 #![tactic(auto)]
 
 mod deposits;
+mod finding;
 mod laws;
 mod opening;
+mod path;
 mod ranges;
 mod store;
 
@@ -11,5 +13,7 @@ pub use book::{
     Book, Calibration, Deposit, Hold, Last, Listed, Reservation, Stamp, StampedDeposit,
     StampsBetween, Standing, StoreFault,
 };
-pub use laws::{book_stands_in_tables, equal_tables_tell_the_same, serials_rise};
+pub use laws::{
+    book_stands_in_tables, equal_tables_tell_the_same, openings_find_what_was_left, serials_rise,
+};
 pub use store::Store;

@@ -2,7 +2,7 @@
 ghost use Rattle.std.specs.Prelude.{◌≡◌, ◌↔◌, ◌<◌, ◌^◌, false, IsTrue, option_map};
 ghost use Rattle.std.specs.Option.{ForSome};
 ghost use Rattle.sqlite_trees.specs.Tree.{Trees};
-ghost use Rattle.tables.specs.Base.{IsHonest, IsOpen, Keeps, Recovers, Holds};
+ghost use Rattle.tables.specs.Base.{IsHonest, IsOpen, Keeps, Recovers, IsStored};
 ghost use Rattle.book.specs.Sound.{IsBackwards};
 ghost use Rattle.book.specs.Values.{calibration_view, calibration_option};
 ghost use Rattle.store.specs.Steps.{last_from, calibration_from, next_calibration, next_number};
@@ -59,7 +59,7 @@ impl<S: Alter + Drop> Standing for Store<S> {
 
     ghost leaves = { Recovers S.Store };
 
-    ghost holds = { λ db b. Holds (tables_of b) db };
+    ghost holds = { λ db b. IsStored (tables_of b) db };
 
     ghost fault_count = { λ store. store.faults };
 }
@@ -71,7 +71,8 @@ impl<S: Alter + Drop> Book for Store<S> {
     }
 
     fn count_of_day(&mut self, account: &str, day: u64) -> Result<u64, StoreFault> {
-        let count = self.base.tally(account, day)?;
+        // No genTime is on so late a day, and no column can have a later one.
+        let count = self.base.tally(account, day.min(GREATEST))?;
         Ok(count.unwrap_or(0))
     }
 

@@ -14,7 +14,8 @@ use Rattle.sqlite.specs.State.{State, HasCleanDisk, Survives, IsRolledBack, IsUn
 use Rattle.sqlite.specs.State.{FailsToQuery, FailsToShow, IsTooLate, Shown, ShowsRows}
 use Rattle.sqlite.proofs.Callers.{reads_as, command_of}
 use Rattle.tables.specs.Schema.{the_schema}
-use Rattle.tables.specs.Asking.{IsQueryText, IsPlainIn, Answers, TellsRows, Looks}
+use Rattle.tables.specs.Asking.{IsQueryText, IsPlainIn, Answers, TellsRows, Looks, StaysUsable}
+use Rattle.tables.proofs.UsableLemmas.{survivor_usable, usable_in_turn}
 
 unchanged_keeps : (old new : State) → IsUnchanged old new → KeepsCommit old new
 unchanged_keeps old new u = record { was_open = λ o. u.0.was_open; committed = λ o. u.0.committed_is }
@@ -101,6 +102,11 @@ module _ {S R : Type 0} (g : Ghosts S) (items : R → List Row) (old mid last : 
   keeps (Err e) ok (inr late) =
       late_keeps sql params (state g (record old { in_transaction = true })) (state g mid) e late
 
+  usable : StaysUsable (state g (record old { in_transaction = true })) (state g last)
+  usable =
+      usable_in_turn _ (state g mid) (state g last) middle (survivor_usable _ (state g mid) _ first)
+      (survivor_usable (state g mid) (state g last) _ then)
+
   pub looked : Looks (state g old) (state g last)
   looked = record {
     clean = λ clean. omega (arith, then.clean, first.clean);
@@ -115,6 +121,7 @@ module _ {S R : Type 0} (g : Ghosts S) (items : R → List Row) (old mid last : 
       | inl before ↦ elim (first.crash (middle clean) db before) [ inl start ↦ start | inr none ↦ absurd none ]
       | inr none ↦ absurd none
     ];
+    usable = record { counts = usable.counts; stays = usable.stays; limit = usable.limit };
   }
 
   opens : (r : Result R Error)

@@ -4,7 +4,7 @@ use Rattle.std.proofs.Common.{inl, inr}
 use Rattle.sqlite_trees.specs.Tree.{Trees}
 use Rattle.sqlite_trees.specs.declared.store.Store.{Ghosts}
 use Rattle.sqlite.specs.declared.error.Error.{Error}
-use Rattle.sqlite.specs.Effect.{Database}
+use Rattle.sqlite.specs.Effect.{Database, IsDatabase}
 use Rattle.sqlite.specs.State.{HasCleanDisk}
 use Rattle.sqlite.specs.Held.{Held, state}
 use Rattle.tables.specs.Asking.{Looks}
@@ -12,7 +12,8 @@ use Rattle.tables.specs.Opening.{IsFound, Creates}
 use Rattle.tables.specs.Schema.{no_schema}
 use Rattle.tables.specs.Tables.{Tables, no_rows}
 use Rattle.tables.specs.Base.{StandsFor}
-use Rattle.tables.specs.Holding.{Holds, IsDatabaseOf}
+use Rattle.tables.specs.Holding.{Holds, IsStored, IsDatabaseOf}
+use Rattle.tables.proofs.CommitLemmas.{stored}
 use Rattle.tables.specs.Carrying.{Commits}
 
 -- a crash leaves the last commit of an open store
@@ -21,14 +22,15 @@ IsSettled {S} g = (s : S) (db : Trees) → IsTrue (g.view s).is_open → g.recov
 
 pub stands : {S : Type 0} (g : Ghosts S) → IsSettled g → (h : Held S) (t : Tables) → h.in_transaction ≡ false
     → IsTrue (state g h).is_open → (state g h).now ≡ (state g h).committed
-    → IsDatabaseOf t (state g h).now → StandsFor t (state g h)
-stands g settled h t closed is_open same d = record {
+    → IsDatabaseOf t (state g h).now → IsDatabase (state g h).now → StandsFor t (state g h)
+stands g settled h t closed is_open same d sound = record {
   schema = d.schema;
   holds = d.holds;
+  sound = sound;
   settled = same;
   autocommit = closed;
-  leaves = λ db may. subst (Holds t) (ap (λ (x : Database). x.trees) same ∙ sym (settled h.store db is_open may))
-      d.holds;
+  leaves = λ db may. subst (IsStored t) (ap (λ (x : Database). x.trees) same ∙ sym (settled h.store db is_open may))
+      (stored t (state g h).now d sound);
 }
 
 module _ {S X : Type 0} (g : Ghosts S) (settled : IsSettled g) (step : Tables → Tables) (old new : Held S)
@@ -40,7 +42,7 @@ module _ {S X : Type 0} (g : Ghosts S) (settled : IsSettled g) (step : Tables �
   keeps_on (Ok x) c = λ clean is_open.
       let s = keeps (c.clean clean) (c.opened clean).0 in
       let now = c.ok clean t (record { schema = s.schema; holds = s.holds }) in
-      stands g settled new (step t) closed is_open now.1 now.0
+      stands g settled new (step t) closed is_open now.1 now.0 now.2
 
   pub keeps_still : (r : Result X Error) → Commits step (state g old) (state g new) r
       → OnErr r (HasCleanDisk (state g new) → IsTrue (state g new).is_open → StandsFor t (state g new))
@@ -53,13 +55,14 @@ module _ {S X : Type 0} (g : Ghosts S) (settled : IsSettled g) (step : Tables �
         schema = ap (λ (d : Database). d.schema) now.0 ∙ s.schema;
         holds = subst (λ (d : Database). Holds t d.trees) (sym now.0) s.holds;
       })
+      (subst IsDatabase (sym now.0) s.sound)
 
 pub crash_leaves : {S X : Type 0} (g : Ghosts S) (step : Tables → Tables) (old new : Held S) (r : Result X Error)
     → Commits step (state g old) (state g new) r → HasCleanDisk (state g new)
     → (db : Trees) → (state g new).may_leave db
     → (state g old).may_leave db
     ⊎ ((t : Tables) → (HasCleanDisk (state g old) → IsTrue (state g old).is_open → StandsFor t (state g old))
-    → Holds (step t) db)
+    → IsStored (step t) db)
 crash_leaves g step old new r c clean db may = elim (c.crash clean db may) [
   | inl before ↦ inl before
   | inr now ↦ inr (λ t keeps. let s = keeps (c.clean clean) (now.0 tt) in
@@ -70,7 +73,7 @@ pub created_keeps : {S : Type 0} (g : Ghosts S) → IsSettled g → (old new : H
     → Creates (state g old) (state g new) (Ok tt) → (state g old).now.schema ≡ no_schema
     → HasCleanDisk (state g new) → IsTrue (state g new).is_open → StandsFor no_rows (state g new)
 created_keeps g settled old new closed c has clean is_open = let now = c.ok clean no_rows has in
-    stands g settled new no_rows closed is_open now.1 now.0
+    stands g settled new no_rows closed is_open now.1 now.0 now.2
 
 pub adopted_keeps : {S : Type 0} (g : Ghosts S) → IsSettled g → (old new : Held S) → new.in_transaction ≡ false
     → Looks (state g old) (state g new) → (t : Tables) → IsFound t (state g old)
@@ -78,3 +81,4 @@ pub adopted_keeps : {S : Type 0} (g : Ghosts S) → IsSettled g → (old new : H
 adopted_keeps g settled old new closed looks t found clean is_open =
     let now = looks.kept clean is_open found.1 in
     stands g settled new t closed is_open now.1 (subst (IsDatabaseOf t) (sym now.0) found.0)
+    (subst IsDatabase (sym now.0) found.2)

@@ -1,7 +1,7 @@
 -- What a query makes of a connection that keeps tables.
 use Rattle.std.proofs.Common.{◌≡◌, false, sym, ap, ◌∙◌, subst}
 use Rattle.sqlite_trees.specs.declared.store.Store.{Ghosts}
-use Rattle.sqlite.specs.Effect.{Database}
+use Rattle.sqlite.specs.Effect.{Database, IsDatabase}
 use Rattle.sqlite.specs.Held.{state}
 use Rattle.tables.specs.Asking.{Looks}
 use Rattle.tables.specs.Base.{BaseValue, IsHonest, IsOpen, Keeps}
@@ -20,11 +20,13 @@ reads_only g old new closed looks = record {
       record {
         schema = ap (λ (d : Database). d.schema) same.0 ∙ s.schema;
         holds = subst (Holds t) (sym (ap (λ (d : Database). d.trees) same.0)) s.holds;
+        sound = subst IsDatabase (sym same.0) s.sound;
         settled = same.1;
         autocommit = closed;
         leaves = λ db may. s.leaves db (looks.leaves clean db may);
       };
   leaves = looks.leaves;
+  usable = looks.usable;
 }
 
 -- the database that it reads is that of the tables

@@ -6,7 +6,7 @@ use Rattle.sqlite_value.specs.Order.{Row}
 use Rattle.sqlite_trees.specs.Tree.{Trees}
 use Rattle.sqlite_schema.specs.declared.command.Command.{Command}
 use Rattle.sqlite.specs.declared.error.Error.{Error}
-use Rattle.sqlite.specs.Effect.{Database}
+use Rattle.sqlite.specs.Effect.{Database, IsDatabase}
 use Rattle.sqlite.specs.Listing.{understood}
 use Rattle.sqlite.specs.Does.{Tally, Does}
 use Rattle.sqlite.specs.State.{State, HasCleanDisk, Survives, KeepsCommit, ExecutesInside, IsUnchanged, IsRolledBack}
@@ -46,7 +46,7 @@ module _ (sql : List ℕ) (params : Row) (command : Command) (is : command_of (u
   pub did : (old new : State) (count : ℕ) → old.now.schema ≡ the_schema → ExecutesInside 0 sql params old new (Ok count)
       → (tally : Tally) × (text : List ℕ)
       × Does old.step_limit plain_mode params (record { schema = the_schema; trees = old.now.trees }) text None command
-      (Ok (tally, new.now)) × (count ≡ unwrap_or tally.rows 0)
+      (Ok (tally, new.now)) × (count ≡ unwrap_or tally.rows 0) × IsDatabase new.now
   did old new count has h =
       let text = statement_of sql (understood the_schema sql) in
       let w = writes old new text count (runs_as sql params old new the_schema has command is plain count h.0) in (
@@ -55,6 +55,7 @@ module _ (sql : List ℕ) (params : Row) (command : Command) (is : command_of (u
         subst (λ s. Does old.step_limit plain_mode params (record { schema = s; trees = old.now.trees })
             text None command (Ok (w.tally, new.now))) has w.changed,
         w.counted,
+        w.sound,
       )
 
   pub carried : (step : Tables → Tables) → Makes command params step → (old new : State) (result : Result ℕ Error)
@@ -79,4 +80,5 @@ module _ (sql : List ℕ) (params : Row) (command : Command) (is : command_of (u
         inside = h.1.mode;
         goes = λ t d. let it = did old new count d.schema h in
             makes old.step_limit it.1 t old.now.trees (it.0, new.now) d.holds it.2;
+        sound = λ t d. (did old new count d.schema h).4;
       }

@@ -3,13 +3,20 @@ use Rattle.std.proofs.Common.{◌≡◌, [], true, false, Result, Ok, Err, OnOk,
 use Rattle.std.proofs.Common.{◌∙◌, subst, inl, inr, arith}
 use Rattle.sqlite_trees.specs.declared.store.Store.{Ghosts}
 use Rattle.sqlite.specs.declared.error.Error.{Error}
-use Rattle.sqlite.specs.Effect.{Database}
+use Rattle.sqlite_catalog.specs.Listing.{IsSound}
+use Rattle.sqlite.specs.Effect.{Database, IsDatabase}
 use Rattle.sqlite.specs.State.{State, HasCleanDisk, Survives, KeepsCommit, Shows, KeepsCounts}
 use Rattle.sqlite.specs.Steps.{FailsToCommit}
 use Rattle.sqlite.specs.Held.{Held, state}
 use Rattle.tables.specs.Tables.{Tables}
-use Rattle.tables.specs.Holding.{Holds, IsDatabaseOf}
+use Rattle.tables.specs.Holding.{IsStored, IsDatabaseOf}
+use Rattle.tables.specs.Asking.{StaysUsable}
 use Rattle.tables.specs.Carrying.{GoesFrom, CarriesFrom, CommitsFrom}
+use Rattle.tables.proofs.UsableLemmas.{survivor_usable, usable_in_turn}
+
+-- a sound database of the tables lists our schema
+pub stored : (t : Tables) (d : Database) → IsDatabaseOf t d → IsDatabase d → IsStored t d.trees
+stored t d is sound = record { holds = is.holds; listed = subst (λ s. IsSound s d.trees) is.schema sound }
 
 -- how a commit ends
 abbrev EndsWell : State → State → Result (Unit {0}) Error → Type 0
@@ -45,9 +52,13 @@ module _ {S X : Type 0} (g : Ghosts S) (Before : Tables → Database → Type 0)
 
     stepped : (r : Result (Unit {0}) Error) → HasCleanDisk (state g last) → EndsWell (state g mid) (state g last) r
         → (t : Tables) → Before t (state g old).now
-        → OnOk r (IsDatabaseOf (step t) (state g last).now × ((state g last).now ≡ (state g last).committed))
-    stepped (Ok u) clean ok t d =
-        (subst (IsDatabaseOf (step t)) (sym ok.1.now_is) ((went clean).goes t d), ok.1.now_is ∙ sym ok.1.committed_is)
+        → OnOk r (IsDatabaseOf (step t) (state g last).now × ((state g last).now ≡ (state g last).committed)
+        × IsDatabase (state g last).now)
+    stepped (Ok u) clean ok t d = (
+      subst (IsDatabaseOf (step t)) (sym ok.1.now_is) ((went clean).goes t d),
+      ok.1.now_is ∙ sym ok.1.committed_is,
+      subst IsDatabase (sym ok.1.now_is) ((went clean).sound t d),
+    )
     stepped (Err e) clean ok t d = tt
 
     undone : (r : Result (Unit {0}) Error) → HasCleanDisk (state g last)
@@ -62,6 +73,11 @@ module _ {S X : Type 0} (g : Ghosts S) (Before : Tables → Database → Type 0)
     undone (Err e) clean (inr late) is_open settled = absurd (let inside = (went clean).inside in
         let e' = sym inside ∙ late.1 in cc)
 
+    usable : StaysUsable (state g (record old { in_transaction = true })) (state g last)
+    usable =
+        usable_in_turn _ (state g mid) (state g last) middle (survivor_usable _ (state g mid) _ carries.survives)
+        (survivor_usable (state g mid) (state g last) _ survives)
+
     pub committed : (r : Result (Unit {0}) Error)
         → (HasCleanDisk (state g last) → EndsWell (state g mid) (state g last) r)
         → (HasCleanDisk (state g last) → IfErr r (FailsToCommit (state g mid) (state g last)))
@@ -75,6 +91,11 @@ module _ {S X : Type 0} (g : Ghosts S) (Before : Tables → Database → Type 0)
       crash = λ clean db leaves. elim (survives.crash clean db leaves) [
         | inl before ↦ elim (carries.survives.crash (middle clean) db before)
             [ inl first ↦ inl first | inr none ↦ absurd none ]
-        | inr now ↦ inr ((went clean).was_open, λ t d. subst (Holds (step t)) (sym now) ((went clean).goes t d).holds)
+        | inr now ↦ inr (
+          (went clean).was_open,
+          λ t d. subst (IsStored (step t)) (sym now)
+              (stored (step t) (state g mid).now ((went clean).goes t d) ((went clean).sound t d)),
+        )
       ];
+      usable = record { counts = usable.counts; stays = usable.stays; limit = usable.limit };
     }

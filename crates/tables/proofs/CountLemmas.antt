@@ -33,7 +33,12 @@ chained {X} {Y} f h a b c x result p q = record {
     both : Goes f a b → (r : Result Y Error) → OnOk r (Goes h b c) → OnOk r (Goes (λ t. h (f t)) a c)
     both one (Err e) two = tt
     both one (Ok y) two =
-        record { was_open = one.was_open; inside = two.inside; goes = λ t d. two.goes (f t) (one.goes t d) }
+        record {
+          was_open = one.was_open;
+          inside = two.inside;
+          goes = λ t d. two.goes (f t) (one.goes t d);
+          sound = λ t d. two.sound (f t) (one.goes t d);
+        }
 
 -- a refusal, whatever was to follow
 pub refused : {X Y : Type 0} (f h : Tables → Tables) (a b : State) (e : Error) → Carries {X = X} f a b (Err e)
@@ -58,6 +63,7 @@ reworded {X} f h a b result p same =
       was_open = one.was_open;
       inside = one.inside;
       goes = λ t d. subst (λ s. IsDatabaseOf s b.now) (is t d) (one.goes t d);
+      sound = one.sound;
     }
 
 unraised : (account : List ℕ) (day : ℕ) (xs : List TallyRow) → list_any (is_tally_of account day) xs ≡ false

@@ -20,7 +20,7 @@ use Rattle.sqlite_rules.specs.declared.error.Rowids.TheVariants.{Chosen}
 use Rattle.sqlite_rules.specs.Edit.{edit_of, next_rowid}
 use Rattle.sqlite_tied.specs.Compute.{everything}
 use Rattle.sqlite.specs.declared.error.Error.{Error}
-use Rattle.sqlite.specs.Effect.{Database, value_rows}
+use Rattle.sqlite.specs.Effect.{Database, IsDatabase, value_rows}
 use Rattle.sqlite.specs.Batch.{Stops, RunInTurn, ExecutesAllInside, first_len}
 use Rattle.sqlite.specs.Clock.{timed}
 use Rattle.sqlite.specs.Does.{Tally, Does, lacks_sequence}
@@ -375,7 +375,8 @@ versioned limit text db out e0 e1 e2 e3 e4 e6 e8 does =
     }
 
 pub made_all : {S : Type 0} (g : Ghosts S) (old new : Held S) → (state g old).now.schema ≡ no_schema
-    → ExecutesAllInside g 0 make_all old new (Ok tt) → IsDatabaseOf no_rows (state g new).now
+    → ExecutesAllInside g 0 make_all old new (Ok tt)
+    → IsDatabaseOf no_rows (state g new).now × IsDatabase (state g new).now
 made_all g old new has ran =
     let all = in_turn g old new ran in
     let m0 = makes_table piece_0 (state g old) (state g all.0) schema_0 meta all.8.0 has is_0.0 is_0.2 is_0.1 refl
@@ -406,9 +407,11 @@ made_all g old new has ran =
     let does = subst (λ s. Does (state g all.6).step_limit plain_mode []
     (record { schema = s; trees = (state g all.6).now.trees }) text None (Insert 0 (Values version_terms 2))
     (Ok (w.tally, (state g last).now))) m6.0 w.changed in
-    subst (λ h. IsDatabaseOf no_rows (state g h).now) (sym all.16)
-    (versioned (state g all.6).step_limit text (state g all.6).now.trees (w.tally, (state g last).now) e0 e1 e2 e3 e4 e6
-    e8 does)
+    subst (λ h. IsDatabaseOf no_rows (state g h).now × IsDatabase (state g h).now) (sym all.16) (
+      versioned (state g all.6).step_limit text (state g all.6).now.trees (w.tally, (state g last).now) e0 e1 e2 e3 e4 e6
+          e8 does,
+      w.sound,
+    )
 
 pub all_carried : {S : Type 0} (g : Ghosts S) (old new : Held S) (result : Result (Unit {0}) Error)
     → Survives (state g old) (state g new) (λ _. ⊥)
@@ -433,5 +436,6 @@ all_carried g old new result survives ran kept inside =
         record {
           was_open = λ is_open. is_open;
           inside = subst (λ b. IsTrue b) (sym same) within;
-          goes = λ t has. made_all g old new has all;
+          goes = λ t has. (made_all g old new has all).0;
+          sound = λ t has. (made_all g old new has all).1;
         }

@@ -22,8 +22,10 @@ mod ReadLemmas
 mod ReaderLookups
 mod RefusalLemmas
 mod RowLemmas
+mod SchemaLemmas
 mod SealLemmas
 mod StampLookups
 mod TestLemmas
 mod UpdateLemmas
+mod UsableLemmas
 mod WriteLemmas

@@ -32,6 +32,7 @@ use Rattle.tables.specs.Tables.{Tables}
 use Rattle.tables.specs.Holding.{IsDatabaseOf, version_cells}
 use Rattle.tables.specs.Asking.{IsQueryText, IsPlainIn, TellsRows, Looks}
 use Rattle.tables.specs.Opening.{all_columns, version_query, IsUnderstood}
+use Rattle.tables.proofs.UsableLemmas.{survivor_usable}
 use Rattle.tables.proofs.ReadLemmas.{program_of, no_limit, passes, shows, answered}
 use Rattle.tables.proofs.ChangeLemmas.{found_are}
 
@@ -47,6 +48,7 @@ prepared_looks old new s same = record {
   reopens = λ clean _. (same clean).0.was_open;
   kept = λ clean _ settled. unchanged_now old new (same clean) settled;
   leaves = λ clean db may. elim (s.crash clean db may) [ inl before ↦ before | inr none ↦ absurd none ];
+  usable = survivor_usable old new _ s;
 }
 
 pub unprepared_looks : (old new : State) (sql : List ℕ) (e : Error) → Survives old new (λ _. ⊥)
@@ -61,6 +63,7 @@ unprepared_looks old new sql e s err = record {
         (back.0 ∙ sym settled, back.0 ∙ sym back.1)
   ];
   leaves = λ clean db may. elim (s.crash clean db may) [ inl before ↦ before | inr none ↦ absurd none ];
+  usable = survivor_usable old new _ s;
 }
 
 columns_known : IsUnderstood (understood the_schema all_columns)

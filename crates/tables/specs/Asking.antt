@@ -1,6 +1,7 @@
 -- What a query tells, asked in a transaction of its own that is undone.
-use Rattle.std.specs.Prelude.{◌≡◌, ℕ, false, List, [], IsTrue, Option, None, Some, Ok}
+use Rattle.std.specs.Prelude.{◌≡◌, ◌⊎◌, ℕ, ◌≤◌, false, List, [], IsTrue, Option, None, Some, Ok}
 use Rattle.std.specs.List.{slice_get}
+use Rattle.sqlite_disk.specs.Disk.{MoreFaults}
 use Rattle.sqlite_value.specs.Order.{Row}
 use Rattle.sqlite_trees.specs.Tree.{Trees}
 use Rattle.sqlite_schema.specs.declared.schema.Schema.{Schema}
@@ -32,6 +33,13 @@ Answers sql params d rows =
     (c : Compiled) × (understood d.schema sql ≡ Ok c) × (source : Database)
     × IsSourceOf (reads_listing d.schema sql) d source × Reads c.command source params rows
 
+-- an open connection stays open, unless the disk failed or refused meanwhile, and later queries may take as many steps
+-- as before
+pub record StaysUsable (old new : State) : Type 0 where
+  pub counts : old.faults ≤ new.faults
+  pub stays : HasCleanDisk new → IsTrue old.is_open → IsTrue new.is_open ⊎ MoreFaults old.faults new.faults
+  pub limit : new.step_limit ≡ old.step_limit
+
 -- nothing changes, whatever the query answers
 pub record Looks (old new : State) : Type 0 where
   pub clean : HasCleanDisk new → HasCleanDisk old
@@ -39,6 +47,7 @@ pub record Looks (old new : State) : Type 0 where
   pub kept : HasCleanDisk new → IsTrue new.is_open → old.now ≡ old.committed
       → (new.now ≡ old.now) × (new.now ≡ new.committed)
   pub leaves : HasCleanDisk new → (db : Trees) → new.may_leave db → old.may_leave db
+  pub usable : StaysUsable old new
 
 -- the first row of an answer, where there is one
 abbrev pub TellsFirst : List ℕ → Row → Trees → Option Row → Type 0

@@ -3,12 +3,13 @@ use Rattle.std.specs.Prelude.{◌≡◌, ℕ, false, IsTrue}
 use Rattle.std.specs.Coded.{Coded, code_by, coded×, coded_ℕ}
 use Rattle.std.proofs.Common.{refl}
 use Rattle.sqlite.specs.Held.{Held, held_code, state}
+use Rattle.sqlite.specs.Effect.{IsDatabase}
 use Rattle.sqlite.specs.State.{State, HasCleanDisk}
 use Rattle.sqlite_trees.specs.Tree.{Trees}
 use Rattle.sqlite_trees.specs.declared.store.Store.{Ghosts}
 use Rattle.tables.specs.Schema.{the_schema}
 use Rattle.tables.specs.Tables.{Tables}
-pub use Rattle.tables.specs.Holding.{Holds}
+pub use Rattle.tables.specs.Holding.{Holds, IsStored}
 
 pub record BaseValue (S : Type 0) : Type 0 where
   pub conn : Held S
@@ -23,9 +24,10 @@ base_code {S} store =
 pub record StandsFor (t : Tables) (s : State) : Type 0 where
   pub schema : s.now.schema ≡ the_schema
   pub holds : Holds t s.now.trees
+  pub sound : IsDatabase s.now
   pub settled : s.now ≡ s.committed
   pub autocommit : s.in_transaction ≡ false
-  pub leaves : (db : Trees) → s.may_leave db → Holds t db
+  pub leaves : (db : Trees) → s.may_leave db → IsStored t db
 
 -- the disk has returned what was written
 abbrev pub IsHonest : {S : Type 0} → Ghosts S → BaseValue S → Type 0

@@ -2,10 +2,11 @@
 use Rattle.std.specs.Prelude.{◌≡◌, ◌⊎◌, Result, OnOk, OnErr, IsTrue}
 use Rattle.sqlite_trees.specs.Tree.{Trees}
 use Rattle.sqlite.specs.declared.error.Error.{Error}
-use Rattle.sqlite.specs.Effect.{Database}
+use Rattle.sqlite.specs.Effect.{Database, IsDatabase}
 use Rattle.sqlite.specs.State.{State, HasCleanDisk, Survives, KeepsCommit}
+use Rattle.tables.specs.Asking.{StaysUsable}
 use Rattle.tables.specs.Tables.{Tables}
-use Rattle.tables.specs.Holding.{Holds, IsDatabaseOf}
+use Rattle.tables.specs.Holding.{IsStored, IsDatabaseOf}
 
 -- by what is known of the database and of the connection before
 module _ (Before : Tables → Database → Type 0) (Known : Type 0) where
@@ -14,6 +15,7 @@ module _ (Before : Tables → Database → Type 0) (Known : Type 0) where
     pub was_open : Known → IsTrue old.is_open
     pub inside : IsTrue new.in_transaction
     pub goes : (t : Tables) → Before t old.now → IsDatabaseOf (step t) new.now
+    pub sound : (t : Tables) → Before t old.now → IsDatabase new.now
 
   -- nothing is committed, and a success takes the step
   pub record CarriesFrom {X : Type 0} (step : Tables → Tables) (old new : State) (result : Result X Error) : Type
@@ -29,12 +31,13 @@ module _ (Before : Tables → Database → Type 0) (Known : Type 0) where
     pub reopens : HasCleanDisk new → IsTrue new.is_open → IsTrue old.is_open
     pub opened : HasCleanDisk new → OnOk result (IsTrue old.is_open × IsTrue new.is_open)
     pub ok : HasCleanDisk new → (t : Tables) → Before t old.now
-        → OnOk result (IsDatabaseOf (step t) new.now × (new.now ≡ new.committed))
+        → OnOk result (IsDatabaseOf (step t) new.now × (new.now ≡ new.committed) × IsDatabase new.now)
     pub err : HasCleanDisk new → IsTrue new.is_open → old.now ≡ old.committed
         → OnErr result ((new.now ≡ old.now) × (new.now ≡ new.committed))
     -- a crash leaves what it could leave before, or the step committed
     pub crash : HasCleanDisk new → (db : Trees) → new.may_leave db
-        → old.may_leave db ⊎ ((Known → IsTrue old.is_open) × ((t : Tables) → Before t old.now → Holds (step t) db))
+        → old.may_leave db ⊎ ((Known → IsTrue old.is_open) × ((t : Tables) → Before t old.now → IsStored (step t) db))
+    pub usable : StaysUsable old new
 
 abbrev pub Goes : (Tables → Tables) → State → State → Type 0
 Goes = GoesFrom IsDatabaseOf (Unit {0})

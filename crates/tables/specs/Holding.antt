@@ -9,6 +9,7 @@ use Rattle.sqlite_value.specs.Order.{Row}
 use Rattle.sqlite_trees.specs.declared.store.Shape.TheVariants.{Table}
 use Rattle.sqlite_trees.specs.View.{IsShaped}
 use Rattle.sqlite_trees.specs.Tree.{Trees}
+use Rattle.sqlite_catalog.specs.Listing.{IsSound}
 use Rattle.sqlite.specs.Effect.{Database}
 use Rattle.tables.specs.Schema.{the_schema}
 use Rattle.tables.specs.Tables.{StampRow, CalibrationRow, HoldRow, DepositRow, ReaderRow, TallyRow, Tables}
@@ -61,6 +62,11 @@ pub record Holds (t : Tables) (db : Trees) : Type 0 where
   pub tallies : AreRows false tally_cells t.tallies (db 8)
   -- as a column of INTEGER has them
   pub counts : AllByRecursion (λ row. row.count < 2 ^ 63) t.tallies
+
+-- the tables, in trees whose catalog lists our schema: what an opening finds is known by them
+pub record IsStored (t : Tables) (db : Trees) : Type 0 where
+  pub holds : Holds t db
+  pub listed : IsSound the_schema db
 
 -- the schema is ours too
 pub record IsDatabaseOf (t : Tables) (d : Database) : Type 0 where

@@ -8,6 +8,7 @@ use Rattle.sqlite_resolve.specs.declared.error.CompileError.{CompileError}
 use Rattle.sqlite_schema.specs.declared.schema.Schema.{Schema}
 use Rattle.sqlite_catalog.specs.Change.{is_used}
 use Rattle.sqlite.specs.Does.{lacks_sequence}
+use Rattle.sqlite.specs.Effect.{IsDatabase}
 use Rattle.sqlite.specs.Listing.{understood}
 use Rattle.sqlite.specs.State.{State}
 use Rattle.sqlite.specs.declared.error.Error.{Error}
@@ -30,9 +31,9 @@ abbrev pub IsUnderstood : Result Compiled CompileError → Type 0
 IsUnderstood (Ok c) = ⊤
 IsUnderstood (Err e) = ⊥
 
--- what was found: these tables, with nothing that isn't committed
+-- what was found: these tables, in trees that list their schema, with nothing that isn't committed
 abbrev pub IsFound : Tables → State → Type 0
-IsFound t s = IsDatabaseOf t s.now × (s.now ≡ s.committed)
+IsFound t s = IsDatabaseOf t s.now × (s.now ≡ s.committed) × IsDatabase s.now
 
 -- the rows of an answer are one, with version 1
 abbrev pub IsVersionOne : List Row → Type 0

@@ -1,7 +1,9 @@
 -- What the queries show of a row.
 use Rattle.std.specs.Prelude.{◌≡◌, ◌==◌, ℕ, ℤ, ◌&&◌, Bool, List, int_le, int_lt, nat_le, nat_lt, bytes_eq, string_bytes}
+use Rattle.sqlite.specs.Held.{state}
 use Rattle.sqlite_trees.specs.Tree.{Trees}
 use Rattle.sqlite_trees.specs.declared.store.Store.{Ghosts}
+use Rattle.tables.specs.Asking.{StaysUsable}
 use Rattle.tables.specs.Tables.{Tables, StampRow, CalibrationRow, HoldRow, TallyRow, DepositRow, ReaderRow}
 use Rattle.tables.specs.Base.{BaseValue, IsHonest, Keeps, Recovers}
 use Rattle.tables.specs.declared.rows.LastStamp.{LastStamp}
@@ -12,11 +14,12 @@ pub use Rattle.book.specs.Values.{stamp_view, deposit_view}
 use Rattle.tables.specs.declared.rows.Label.{Label}
 use Rattle.tables.specs.declared.rows.Origin.{Origin}
 
--- a look-up leaves what the tables are, and what a crash may leave
+-- a look-up leaves what the tables are, what a crash may leave, and a connection that is as usable as it was
 pub record OnlyReads {S : Type 0} (g : Ghosts S) (old new : BaseValue S) : Type 0 where
   pub honest : IsHonest g new → IsHonest g old
   pub kept : (t : Tables) → Keeps g t old → Keeps g t new
   pub leaves : IsHonest g new → (db : Trees) → Recovers g new db → Recovers g old db
+  pub usable : StaysUsable (state g old.conn) (state g new.conn)
 
 abbrev pub ShowsLast : StampRow → LastStamp → Type 0
 ShowsLast row last = last ≡ record { serial = row.serial; gen_time = row.gen_time }

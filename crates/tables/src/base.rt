@@ -3,13 +3,14 @@
 ghost use Rattle.std.specs.Prelude.{◌≡◌, ◌≢◌, ◌⊎◌, true, false, Ok, Err, IfOk, IfErr, OnOk, OnErr};
 ghost use Rattle.sqlite.specs.Held.{state};
 ghost use Rattle.sqlite.specs.State.{HasCleanDisk};
-ghost use Rattle.tables.specs.Asking.{Looks};
+ghost use Rattle.tables.specs.Asking.{Looks, StaysUsable};
 ghost use Rattle.tables.specs.Opening.{IsFound, LooksOurs, LooksForeign, Creates, IsInTheWay, takes_name, tells_taken};
 ghost use Rattle.tables.specs.Schema.{no_schema};
 ghost use Rattle.sqlite_trees.specs.Tree.{Trees};
 ghost use Rattle.tables.specs.Tables.{Tables, no_rows};
-ghost use Rattle.tables.specs.Base.{IsHonest, IsOpen, Keeps, Recovers, Holds};
+ghost use Rattle.tables.specs.Base.{IsHonest, IsOpen, Keeps, Recovers, IsStored};
 ghost use Rattle.tables.specs.Changes.{applied, IsCounted};
+ghost use Rattle.tables.specs.Faults.{told, told_adopting, told_creating};
 
 mod lookups;
 mod queries;
@@ -43,7 +44,8 @@ impl<S: Alter + Drop> Model for Base<S> {
 }
 
 fn create_fault(error: Error) -> OpenFault
-    ensures { result ≡ OpenFault.NotOurs → tells_taken error ≡ true }
+    ensures value { result ≡ told_creating error }
+    ensures taken { result ≡ OpenFault.NotOurs → tells_taken error ≡ true }
 {
     match error {
         Error::SqliteFailure(ErrorCode::OutOfMemory) => OpenFault::Memory,
@@ -53,7 +55,8 @@ fn create_fault(error: Error) -> OpenFault
 }
 
 fn open_fault(error: Error) -> OpenFault
-    ensures { result ≢ OpenFault.NotOurs }
+    ensures value { result ≡ told_adopting error }
+    ensures never { result ≢ OpenFault.NotOurs }
 {
     match error {
         Error::SqliteFailure(ErrorCode::OutOfMemory) => OpenFault::Memory,
@@ -105,6 +108,7 @@ impl<S: Alter + Drop> Base<S> {
 
     /// Want of memory as it is, and any other refusal as a fault that is counted.
     fn fault(&mut self, error: Error) -> TableFault
+        ensures value { result ≡ told error }
         ensures same { self.new.conn ≡ self.old.conn }
         ensures counted { IsCounted result self.old.faults self.new.faults }
     {
@@ -126,7 +130,8 @@ impl<S: Alter + Drop> Base<S> {
         ensures err { (t : Tables) → Keeps S.Store t self.old → OnErr result (Keeps S.Store t self.new) }
         ensures crash { IsHonest S.Store self.new → (db : Trees) → Recovers S.Store self.new db
             → Recovers S.Store self.old db
-            ⊎ ((t : Tables) → Keeps S.Store t self.old → Holds (applied change.now t) db) }
+            ⊎ ((t : Tables) → Keeps S.Store t self.old → IsStored (applied change.now t) db) }
+        ensures usable { StaysUsable (state S.Store self.old.conn) (state S.Store self.new.conn) }
         ensures counted { IfErr result (λ e. IsCounted e self.old.faults self.new.faults) }
         ensures uncounted { OnOk result (self.new.faults ≡ self.old.faults) }
     {

@@ -12,3 +12,6 @@ returns-then-is_after-clause-value g c honest b s before less known =
 pub returns-clause-value : goal.returns-clause-value
 returns-clause-value g c honest b s before less known =
     readable_view b _ _ _ (c.in_ok-next.ensures.value honest _ (kept_seen g.S.Store _ _ b c.self.view_is s))
+
+pub returns-clause-looks : goal.returns-clause-looks
+returns-clause-looks g c = looks_now g.S.Store _ _ _ c.self.view_is c.in_ok-next.ensures.reads

@@ -13,3 +13,6 @@ returns-clause-value g c honest b s ahead =
     let owned = c.in_ok-owned.ensures.value honest _ kept in
     subst (λ next. IsNextSeen c.args.account.now c.args.after b next) (sym c.next_of.ensures.next)
     (later_view b _ _ _ (next_view b _ _ _ _ s.sound owned ahead))
+
+pub returns-clause-looks : goal.returns-clause-looks
+returns-clause-looks g c = looks_now g.S.Store _ _ _ c.self.view_is c.in_ok-owned.ensures.reads

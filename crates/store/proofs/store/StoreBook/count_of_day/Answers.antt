@@ -1,6 +1,6 @@
 use Rattle.std.proofs.Common.{◌∙◌}
 use Rattle.store.proofs.Calls.{looks_now, kept_seen}
-use Rattle.store.proofs.Tallies.{count_view}
+use Rattle.store.proofs.Tallies.{count_view, asked_day}
 use Rattle.store.proofs.store.StoreBook.count_of_day.Goals as goal
 
 pub returns-in_err-count-clause-looks : goal.returns-in_err-count-clause-looks
@@ -13,3 +13,4 @@ pub returns-clause-value : goal.returns-clause-value
 returns-clause-value g c honest b s =
     c.unwrap_or.ensures ∙ count_view b _ _ _
     (c.in_ok-count.ensures.value honest _ (kept_seen g.S.Store _ _ b c.self.view_is s))
+    ∙ asked_day b c.args.account.now c.args.day _ s.sound c.min.ensures

@@ -2,7 +2,7 @@ use Rattle.std.proofs.Common.{◌∙◌, rules, SFits, w64, to_z, of_z, to_z-of_
 use Rattle.tables.specs.Tables.{with_hold}
 use Rattle.book.specs.History.{Held}
 use Rattle.book.specs.Values.{hold_view}
-use Rattle.store.proofs.Calls.{reads_now, kept_seen, crash_after, adds_after, err_after, on_err}
+use Rattle.store.proofs.Calls.{reads_now, kept_seen, crash_after, adds_after, err_after, looks_now, on_err}
 use Rattle.store.proofs.Numbered.{hold_number, hold_step}
 use Rattle.store.proofs.store.StoreBook.hold.Goals as goal
 
@@ -61,3 +61,7 @@ pub returns-in_err-commit-clause-err : goal.returns-in_err-commit-clause-err
 returns-in_err-commit-clause-err g c b s =
     on_err _ _ (err_after g.S.Store _ _ _ b (reads_now g.S.Store _ _ _ c.self.view_is c.in_ok-greatest.ensures.reads)
     c.in_err-commit.ensures.err s)
+
+pub returns-in_err-greatest-clause-err : goal.returns-in_err-greatest-clause-err
+returns-in_err-greatest-clause-err g c b s =
+    on_err _ _ ((looks_now g.S.Store _ _ _ c.self.view_is c.in_err-greatest.ensures.reads).stands b s)

@@ -1,0 +1,59 @@
+-- Why an opening finds no database.
+use Rattle.std.proofs.Common.{◌≡◌, ◌⊎◌, Option, None, Some, IfSome, refl, sym, ◌∙◌, subst, inl, inr}
+use Rattle.sqlite_disk.specs.declared.Disk.{Ghosts}
+use Rattle.sqlite_disk.specs.declared.Files.{Files}
+use Rattle.sqlite_trees.specs.Tree.{Trees}
+use Rattle.sqlite_trees.specs.declared.error.StoreError.{StoreError}
+use Rattle.sqlite_trees.specs.declared.error.StoreError.TheVariants.{OutOfMemory, Io, Corrupt, Full, Broken, Unstorable}
+use Rattle.sqlite_wal.specs.Recovery.{Image}
+use Rattle.sqlite.specs.declared.error.Error.{Error}
+use Rattle.sqlite.specs.declared.error.Error.TheVariants.{SqliteFailure}
+use Rattle.sqlite.specs.declared.error.ErrorCode.TheVariants as code
+use Rattle.sqlite.specs.declared.file.Leftover.{Leftover}
+use Rattle.sqlite.specs.Files.{image_of, IsCleanLeft, FailsToOpenFiles, LeavesFiles, HoldsDatabase, IsNothing}
+use Rattle.sqlite.specs.State.{store_error}
+use Rattle.store.specs.Opening.{OpensNothing}
+
+no_fault : (cause : StoreError) → ¬ (SqliteFailure code.NotADatabase ≡ store_error cause)
+no_fault OutOfMemory e = cc
+no_fault Io e = cc
+no_fault Corrupt e = cc
+no_fault Full e = cc
+no_fault Broken e = cc
+no_fault Unstorable e = cc
+
+module _ {D : Type 0} (g : Ghosts D) (held : Image) where
+  none_held : (files : Files D) (left : Leftover D g) → FailsToOpenFiles files left (SqliteFailure code.NotADatabase)
+      → ¬ (((db : Trees) × HoldsDatabase (image_of g files) db) ⊎ IsNothing (image_of g files))
+  none_held files left (inl memory) = absurd (let apart = memory in cc)
+  none_held files left (inr (inl refused)) = refused.1
+  none_held files left (inr (inr (inl fault))) = absurd (no_fault _ fault.0)
+  none_held files left (inr (inr (inr limit))) = absurd (let apart = limit.0 in cc)
+
+  pub opens_nothing : (e : Error) (files : Files D) (left : Leftover D g) → image_of g files ≡ held
+      → e ≡ SqliteFailure code.NotADatabase
+      → (IsCleanLeft left → FailsToOpenFiles files left e)
+      → OpensNothing g held
+  opens_nothing e files left same is fails = (
+    left,
+    λ clean.
+        subst (λ i. ¬ (((db : Trees) × HoldsDatabase i db) ⊎ IsNothing i)) same
+        (none_held files left (subst (FailsToOpenFiles files left) is (fails clean))),
+  )
+
+  -- by what an opening that failed left of files that held this
+  pub left_nothing : (Log Db : D → Type 0)
+      → ((files : Files D) → Log files.log → Db files.db → image_of g files ≡ held)
+      → (e : Error) → e ≡ SqliteFailure code.NotADatabase → (left : Option (Leftover D g))
+      → (left ≡ None → (e ≡ SqliteFailure code.CannotOpen)
+      ⊎ ((e ≡ SqliteFailure code.OutOfMemory) ⊎ (e ≡ SqliteFailure code.DatabaseBusy)))
+      → IfSome left (λ it. (files : Files D) × Log files.log × Db files.db
+      × (IsCleanLeft it → FailsToOpenFiles files it e × LeavesFiles files it))
+      → OpensNothing g held
+  left_nothing Log Db same e is None early cause = elim (early refl) [
+    | inl cannot ↦ absurd (let apart = sym is ∙ cannot in cc)
+    | inr (inl memory) ↦ absurd (let apart = sym is ∙ memory in cc)
+    | inr (inr busy) ↦ absurd (let apart = sym is ∙ busy in cc)
+  ]
+  left_nothing Log Db same e is (Some it) early cause =
+      opens_nothing e cause.0 it (same cause.0 cause.1 cause.2) is (λ clean. (cause.3 clean).0)

@@ -1,0 +1,27 @@
+use Rattle.std.proofs.Common.{inr}
+use Rattle.store.proofs.path.Store+FileStore+FileFrom+T.open_files.Goals as goal
+
+pub returns-in-Ok-clause-found : goal.returns-in-Ok-clause-found
+returns-in-Ok-clause-found g c clean =
+    let looks = c.in-Ok.ensures.looks in
+    let early = looks.clean clean in record {
+      was = c.in_ok-conn.conn;
+      opened = c.in_ok-conn.ensures.opened early;
+      found = c.in_ok-conn.ensures.found early;
+      ours = c.in-Ok.ensures.ours clean;
+      looks = looks;
+      stands = c.in-Ok.ensures.stands;
+    }
+
+pub returns-in-Err-clause-foreign : goal.returns-in-Err-clause-foreign
+returns-in-Err-clause-foreign g c is = inr (record {
+  was = c.in_ok-conn.conn;
+  seems = record {
+    left = c.in-Err._conn;
+    looks = c.in-Err.ensures.unchanged;
+    foreign = c.in-Err.ensures.foreign is;
+    other = c.in-Err.ensures.not_ours is;
+  };
+  found = λ clean. let early = c.in-Err.ensures.unchanged.clean clean in
+      (c.in_ok-conn.ensures.opened early, c.in_ok-conn.ensures.found early);
+})

@@ -1,0 +1,171 @@
+//! The database at a path: how its store is opened, and how it is made.
+ghost use Rattle.std.specs.Prelude.{◌≡◌, ◌⊎◌, false, IfOk, IfErr};
+ghost use Rattle.sqlite_wal.specs.Files.{image_at};
+ghost use Rattle.sqlite.specs.Files.{file_state, IsOpened};
+ghost use Rattle.sqlite.specs.Start.{FindsIn};
+ghost use Rattle.sqlite.specs.State.{HasCleanDisk};
+ghost use Rattle.store.specs.Opening.{OpensFound, IsForeign, OpensNothing, told_opening};
+ghost use Rattle.store.specs.Opening.{fault_where, fault_where_made};
+
+use crate::finding::{Found, find};
+use crate::store::Store;
+use book::StoreFault;
+use sqlite::{Alter, Connection, Error, ErrorCode, FileFrom, FileStore, Start};
+use sqlite_disk::Disk;
+use std::alloc::Global;
+
+impl<T: Start + Drop> Store<FileStore<FileFrom<T>>> {
+    /// Opens the counter's database at a path. Refused with `Memory`; with `Database` where no file stands there, or it
+    /// can't be read or written; and with `NotOurs` where what stands there is a file of no octets, one that doesn't
+    /// begin as a database, or a database of another's, as for `adopt`. What stands there is left as it is then.
+    pub fn open(
+        rt: &HostRuntime,
+        path: &str,
+        start: T,
+    ) -> Result<Store<FileStore<FileFrom<T>>>, StoreFault>
+        ensures found { IfOk result (λ store. HasCleanDisk (file_state store.conn)
+            → OpensFound (image_at T.Start) store) }
+        ensures uncounted { IfOk result (λ store. store.faults ≡ 0) }
+        ensures refusals { IfErr result (λ e. (e ≡ StoreFault.Memory)
+            ⊎ ((e ≡ StoreFault.Database) ⊎ (e ≡ StoreFault.NotOurs))) }
+    {
+        let found = find(rt, path)?;
+        may_open(found)?;
+        Store::open_files(rt, path, start)
+    }
+
+    /// Makes the tables in a new database at a path, where no file stands, one of no octets, or a database without
+    /// tables. Refused with `Memory`; with `Database` where the file can't be made, read or written; and with `NotOurs`
+    /// where something else stands there, a database of the counter's too, which is left as it is.
+    pub fn make(
+        rt: &HostRuntime,
+        path: &str,
+        start: T,
+    ) -> Result<Store<FileStore<FileFrom<T>>>, StoreFault>
+        ensures uncounted { IfOk result (λ store. store.faults ≡ 0) }
+        ensures refusals { IfErr result (λ e. (e ≡ StoreFault.Memory)
+            ⊎ ((e ≡ StoreFault.Database) ⊎ (e ≡ StoreFault.NotOurs))) }
+    {
+        let found = find(rt, path)?;
+        may_make(found)?;
+        let conn = connect(rt, path, start)?;
+        create_or_drop(rt.alloc(), conn)
+    }
+
+    /// Opens the files at a path, where a database stands.
+    fn open_files(
+        rt: &HostRuntime,
+        path: &str,
+        start: T,
+    ) -> Result<Store<FileStore<FileFrom<T>>>, StoreFault>
+        ensures found { IfOk result (λ store. HasCleanDisk (file_state store.conn)
+            → OpensFound (image_at T.Start) store) }
+        ensures foreign { IfErr result (λ e. e ≡ StoreFault.NotOurs → IsForeign ⟦<FileFrom<T> as Disk>⟧ (image_at T.Start)) }
+        ensures uncounted { IfOk result (λ store. store.faults ≡ 0) }
+        ensures refusals { IfErr result (λ e. (e ≡ StoreFault.Memory)
+            ⊎ ((e ≡ StoreFault.Database) ⊎ (e ≡ StoreFault.NotOurs))) }
+    {
+        let conn = connect(rt, path, start)?;
+        match Store::adopt(rt.alloc(), conn) {
+            Ok(store) => Ok(store),
+            Err((fault, _conn)) => Err(fault),
+        }
+    }
+}
+
+/// Whether a store may be opened where this was found.
+fn may_open(found: Found) -> Result<(), StoreFault>
+    ensures { result ≡ fault_where found }
+{
+    match found {
+        Found::Nothing => Err(StoreFault::Database),
+        Found::Empty | Found::Other => Err(StoreFault::NotOurs),
+        Found::Database => Ok(()),
+    }
+}
+
+/// Whether tables may be made where this was found.
+fn may_make(found: Found) -> Result<(), StoreFault>
+    ensures { result ≡ fault_where_made found }
+{
+    match found {
+        Found::Nothing | Found::Empty | Found::Database => Ok(()),
+        Found::Other => Err(StoreFault::NotOurs),
+    }
+}
+
+/// A connection to the files at a path, which are made where none stand. The pages of a new file carry no sums, which
+/// `sqlite3` would spoil.
+fn connect<T: Start + Drop>(
+    rt: &HostRuntime,
+    path: &str,
+    start: T,
+) -> Result<Connection<FileStore<FileFrom<T>>>, StoreFault>
+    ensures closed { IfOk result (λ conn. conn.in_transaction ≡ false) }
+    ensures opened { IfOk result (λ conn. HasCleanDisk (file_state conn) → IsOpened conn) }
+    ensures found { IfOk result (λ conn. HasCleanDisk (file_state conn)
+        → FindsIn (image_at T.Start) (file_state conn)) }
+    ensures none { IfErr result (λ e. e ≡ StoreFault.NotOurs → OpensNothing ⟦<FileFrom<T> as Disk>⟧ (image_at T.Start)) }
+    ensures refusals { IfErr result (λ e. (e ≡ StoreFault.Memory)
+        ⊎ ((e ≡ StoreFault.Database) ⊎ (e ≡ StoreFault.NotOurs))) }
+{
+    match Connection::open_from(rt, path, false, start) {
+        Ok(conn) => Ok(conn),
+        Err((error, _left)) => Err(opening_fault(error)),
+    }
+}
+
+/// Want of memory as it is, what isn't a database as another's, and any other refusal as the database's.
+fn opening_fault(error: Error) -> StoreFault
+    ensures value { result ≡ told_opening error }
+    ensures none { result ≡ StoreFault.NotOurs → error ≡ Error.SqliteFailure ErrorCode.NotADatabase }
+    ensures refusals { (result ≡ StoreFault.Memory) ⊎ ((result ≡ StoreFault.Database)
+        ⊎ (result ≡ StoreFault.NotOurs)) }
+{
+    match error {
+        Error::SqliteFailure(ErrorCode::OutOfMemory) => StoreFault::Memory,
+        Error::SqliteFailure(ErrorCode::NotADatabase) => StoreFault::NotOurs,
+        _ => StoreFault::Database,
+    }
+}
+
+/// Makes the tables in a database that has none yet.
+fn create_or_drop<S: Alter + Drop>(
+    alloc: Global,
+    conn: Connection<S>,
+) -> Result<Store<S>, StoreFault>
+    requires { conn.in_transaction ≡ false }
+    ensures uncounted { IfOk result (λ store. store.faults ≡ 0) }
+    ensures refusals { IfErr result (λ e. (e ≡ StoreFault.Memory)
+        ⊎ ((e ≡ StoreFault.Database) ⊎ (e ≡ StoreFault.NotOurs))) }
+{
+    let mut conn = conn;
+    if !has_no_table(&mut conn)? {
+        return Err(StoreFault::NotOurs);
+    }
+    match Store::create(alloc, conn) {
+        Ok(store) => Ok(store),
+        Err((fault, _conn)) => Err(fault),
+    }
+}
+
+fn has_no_table<S: Alter>(conn: &mut Connection<S>) -> Result<bool, StoreFault>
+    requires { conn.old.in_transaction ≡ false }
+    ensures closed { conn.new.in_transaction ≡ false }
+    ensures refusals { IfErr result (λ e. (e ≡ StoreFault.Memory)
+        ⊎ ((e ≡ StoreFault.Database) ⊎ (e ≡ StoreFault.NotOurs))) }
+{
+    match count_of_objects(conn) {
+        Ok(count) => Ok(count == 0),
+        Err(error) => Err(opening_fault(error)),
+    }
+}
+
+/// How many tables, indexes and views a database has.
+fn count_of_objects<S: Alter>(conn: &mut Connection<S>) -> Result<i64, Error>
+    requires { conn.old.in_transaction ≡ false }
+    ensures { conn.new.in_transaction ≡ false }
+{
+    conn.query_row("SELECT count(*) FROM sqlite_schema", &[])?
+        .get(0)
+}
