@@ -3,41 +3,8 @@
  * reply to the SQLite database durably, and writes the answer. Prints the port, which the system picks, and goes on
  * until it is killed. */
 #include "loopback.h"
-#include <openssl/pem.h>
-#include <openssl/ts.h>
+#include "response.h"
 #include <sqlite3.h>
-
-static long serial;
-
-static ASN1_INTEGER *next_serial(TS_RESP_CTX *context, void *data)
-{
-    (void)context, (void)data;
-    ASN1_INTEGER *number = ASN1_INTEGER_new();
-    ASN1_INTEGER_set(number, ++serial);
-    return number;
-}
-
-static FILE *opened(const char *path)
-{
-    FILE *file = fopen(path, "r");
-    if (!file)
-        exit(2);
-    return file;
-}
-
-static TS_RESP_CTX *responder(const char *key, const char *certificate)
-{
-    TS_RESP_CTX *context = TS_RESP_CTX_new();
-    TS_RESP_CTX_set_signer_key(context, PEM_read_PrivateKey(opened(key), NULL, NULL, NULL));
-    TS_RESP_CTX_set_signer_cert(context, PEM_read_X509(opened(certificate), NULL, NULL, NULL));
-    TS_RESP_CTX_set_signer_digest(context, EVP_sha256());
-    TS_RESP_CTX_set_ess_cert_id_digest(context, EVP_sha256());
-    TS_RESP_CTX_set_def_policy(context, OBJ_txt2obj("2.999.1", 1));
-    TS_RESP_CTX_add_md(context, EVP_sha256());
-    TS_RESP_CTX_set_accuracy(context, 1, 0, 0);
-    TS_RESP_CTX_set_serial_cb(context, next_serial, NULL);
-    return context;
-}
 
 static sqlite3_stmt *database(const char *path)
 {
@@ -78,7 +45,7 @@ int main(int words, char **word)
 {
     if (words != 5)
         return 2;
-    TS_RESP_CTX *context = responder(word[1], word[2]);
+    TS_RESP_CTX *context = responder(key_at(word[1]), word[2]);
     sqlite3_stmt *insert = database(word[3]);
     size_t body = strtoul(word[4], NULL, 10);
     for (int listener = listening();;) {
