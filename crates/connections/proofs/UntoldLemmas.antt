@@ -8,7 +8,7 @@ use Rattle.desk.specs.Stepped.{DeskValue}
 use Rattle.service.specs.Answers.{AnswerValue}
 use Rattle.service.specs.Served.{Turn, IsIdle, IsSilent, IsLook, IsKeptBack, IsAnswer, refuses, replies, keeps_back}
 use Rattle.service.specs.Served.{wants_early, wants_idle, wants_after, wants_looking, Sends, SendsOctets, Writes}
-use Rattle.service.specs.Served.{Extracts, Serves}
+use Rattle.service.specs.Served.{turns_back, tells_status, wants_status, Extracts, Serves}
 use Rattle.service.specs.declared.served.Served.{Served}
 use Rattle.service.specs.declared.served.Served.TheVariants as served
 use Rattle.connections.specs.Turns.{untold}
@@ -62,6 +62,9 @@ module _ {W B X : Type 0} (g : Ghosts B) (signs : X → List ℕ → Result (Lis
   answer : (a : AnswerValue) → IsAnswer g signs count reading t a → IsAnswer g signs count reading (without t) a
   answer a (refuses r reads i is) = refuses r reads (idle i) is
   answer a (replies c reads reply takes is) = replies c reads reply takes is
+  answer a (turns_back x reads takes behind is) = turns_back x reads takes behind is
+  answer a (tells_status body reads l told is) = tells_status body reads (look l) told is
+  answer a (wants_status reads l is) = wants_status reads (look l) is
   answer a (keeps_back account from to reads f k is) =
       keeps_back account from to reads f (kept account from to f k) is
   answer a (wants_early early i is) = wants_early early (idle i) is

@@ -4,9 +4,9 @@ use Rattle.book.specs.declared.standing.Standing.{Ghosts}
 use Rattle.cms.specs.declared.signer.SignerFault.{SignerFault}
 use Rattle.desk.specs.Command.{Command, Stamp, Answer}
 use Rattle.service.specs.Answers.{AnswerValue}
-use Rattle.service.specs.Requests.{Step, Extract}
+use Rattle.service.specs.Requests.{Step, Extract, Status}
 use Rattle.service.specs.Served.{Turn, Takes, IsAnswer, refuses, replies, keeps_back, wants_early, wants_idle}
-use Rattle.service.specs.Served.{wants_after, wants_looking, Extracts, Serves}
+use Rattle.service.specs.Served.{wants_after, wants_looking, turns_back, tells_status, wants_status, Extracts, Serves}
 use Rattle.service.specs.declared.served.Served.{Served}
 use Rattle.service.specs.declared.served.Served.TheVariants as served
 use Rattle.operations.specs.Exchanges as known
@@ -22,6 +22,9 @@ module _ {W B X : Type 0} (g : Ghosts B) (signs : X → List ℕ → Result (Lis
       → IsAnswerFor t.desk.setting.file reading t.input t.input_after a
   explained a (refuses r reads idle is) = known.refuses r reads is
   explained a (replies c reads reply takes is) = known.replies c reads reply (judged c reply takes) is
+  explained a (turns_back x reads takes behind is) = known.turns_back x reads is
+  explained a (tells_status body reads look told is) = known.tells_status body reads is
+  explained a (wants_status reads look is) = known.wants (Ok Status) reads is
   explained a (keeps_back account from to reads f kept is) = known.keeps_back account from to reads f kept.comes is
   explained a (wants_early early idle is) = known.wants_early early is
   explained a (wants_idle r reads idle is) = known.wants (Err r) reads is

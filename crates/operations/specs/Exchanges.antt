@@ -4,13 +4,16 @@ use Rattle.std.specs.Io.KnownBytes.{Appends, Consumes, IsAtEnd}
 use Rattle.policy.specs.Record.{AccountValue, PolicyValue}
 use Rattle.audit.specs.Auditor.{IsAllowed, ComesWhere}
 use Rattle.audit.specs.declared.fault.ExtractFault.{ExtractFault}
-use Rattle.desk.specs.Command.{Command, Stamp, Answer}
+use Rattle.book.specs.History.{CalibrationValue}
+use Rattle.desk.specs.Command.{Command, Stamp, Calibrate, Answer}
 use Rattle.service.specs.Answers.{AnswerValue, answer_text, answer_to, refusal_answer, success}
 use Rattle.service.specs.Refusals.{refusal_of_extract}
-use Rattle.service.specs.Requests.{Asked, Step, Extract, IsRequest, IsPart, IsEarly}
+use Rattle.service.specs.Requests.{Asked, Step, Extract, Status, IsRequest, IsPart, IsEarly}
 use Rattle.service.specs.Served.{unavailable}
+use Rattle.service.specs.declared.answer.Media.TheVariants as media
 use Rattle.service.specs.declared.answer.Media.TheVariants.{Csv}
 use Rattle.service.specs.declared.refusal.Refusal.{Refusal}
+use Rattle.service.specs.declared.refusal.Refusal.TheVariants as refusal
 use Rattle.service.specs.declared.served.Served.{Served}
 use Rattle.service.specs.declared.served.Served.TheVariants as served
 use Rattle.operations.specs.Judged.{IsJudgedReply}
@@ -29,6 +32,12 @@ pub data IsAnswerFor (file : PolicyValue) (reading : ℤ) (old new : Option (Lis
   -- the answer tells a reply to what the request asks for
   replies : (c : Command) → IsRequest file reading old new (Ok (Step c)) → (reply : Answer) → IsJudged file c reply
       → a ≡ answer_to c reply → IsAnswerFor file reading old new a
+  -- the calibration that the request asks for is told to be before the latest
+  turns_back : (c : CalibrationValue) → IsRequest file reading old new (Ok (Step (Calibrate c)))
+      → a ≡ refusal_answer refusal.Backwards → IsAnswerFor file reading old new a
+  -- the counter's state that the request asks for is told
+  tells_status : (body : List ℕ) → IsRequest file reading old new (Ok Status) → a ≡ success 200 media.Text body
+      → IsAnswerFor file reading old new a
   -- the extract that the request asks for is refused
   keeps_back : (account : AccountValue) (from to : ℕ) → IsRequest file reading old new (Ok (Extract account from to))
       → (f : ExtractFault) → ComesWhere file account from to f → a ≡ refusal_answer (refusal_of_extract f)

@@ -1,19 +1,22 @@
 -- What is written, and why.
 use Rattle.std.proofs.Common.{◌≡◌, ◌∙◌, ℕ, ◌+◌, ℤ, List, ◌++◌, Option, Result, Ok, Err, length, take, drop}
-use Rattle.std.proofs.Common.{refl, ap, inl, inr}
+use Rattle.std.proofs.Common.{refl, ap, inl, inr, subst}
 use Rattle.std.proofs.lemmas.List.{take_at, drop_at}
 use lib.Seq.{take-add}
 use Rattle.book.specs.declared.standing.Standing.{Ghosts}
 use Rattle.cms.specs.declared.signer.SignerFault.{SignerFault}
-use Rattle.desk.specs.Command.{Command, Answer}
+use Rattle.desk.specs.Command.{Command, Answer, Calibrate}
 use Rattle.desk.specs.Stepped.{DeskValue}
 use Rattle.policy.specs.Record.{AccountValue}
-use Rattle.service.specs.Answers.{AnswerValue, answer_to, refusal_answer}
+use Rattle.service.specs.Answers.{AnswerValue, answer_to, refusal_answer, success}
 use Rattle.service.specs.Refusals.{refusal_of_extract}
 use Rattle.service.specs.Extracting.{ServesExtract, extracted, kept_back, unanswered}
-use Rattle.service.specs.Requests.{Step, Extract, IsEarly}
+use Rattle.service.specs.Requests.{Step, Extract, Status, IsEarly}
 use Rattle.service.specs.Served.{Turn, IsIdle, IsLook, Reads, Sends, SendsOrWants, SendsOctets, unavailable, Takes}
 use Rattle.service.specs.Served.{IsAnswer, refuses, replies, keeps_back, wants_early, wants_idle, wants_after}
+use Rattle.service.specs.Served.{turns_back, Tells, plainly, backwards, tells_status, wants_status}
+use Rattle.service.specs.Telling.{ServesStatus}
+use Rattle.service.specs.declared.answer.Media.TheVariants as media
 use Rattle.service.specs.Served.{wants_looking, Extracts, Serves}
 use Rattle.service.specs.declared.refusal.Refusal.{Refusal}
 use Rattle.service.specs.declared.served.Served.{Served}
@@ -55,12 +58,22 @@ module _ {W B X : Type 0} (g : Ghosts B) (signs : X → List ℕ → Result (Lis
   refusing r outcome reads idle sent =
       either (refusal_answer r) outcome (refuses r reads idle refl) (wants_idle r reads idle refl) sent
 
+  -- a reply that is told plainly, and one to a calibration that is before the latest
+  why_told : (c : Command) → Reads reading t (Ok (Step c)) → (reply : Answer) → Takes g signs count t c reply
+      → (a : AnswerValue) → Tells g signs count t.desk t.desk_after c reply a → IsAnswer g signs count reading t a
+  why_told c reads reply takes a (plainly is) = replies c reads reply takes is
+  why_told c reads reply takes a (backwards x calibrates turns behind is) =
+      let P : Command → Type 0 = λ c. Reads reading t (Ok (Step c)) × Takes g signs count t c reply in
+      let (reads, taken) = subst P calibrates (reads, takes) in
+      let Q : Answer → Type 0 = λ r. Takes g signs count t (Calibrate x) r in
+      turns_back x reads (subst Q turns taken) behind is
+
   pub replying : (c : Command) (outcome : Served) → Reads reading t (Ok (Step c)) → (reply : Answer)
       → Takes g signs count t c reply
-      → (a : AnswerValue) → a ≡ answer_to c reply → SendsOrWants contents t.writer t.writer_after a outcome
-      → Serves g signs count contents reading t outcome
-  replying c outcome reads reply takes a is sent =
-      either a outcome (replies c reads reply takes is) (wants_after c reads reply takes refl) sent
+      → (a : AnswerValue) → Tells g signs count t.desk t.desk_after c reply a
+      → SendsOrWants contents t.writer t.writer_after a outcome → Serves g signs count contents reading t outcome
+  replying c outcome reads reply takes a told sent =
+      either a outcome (why_told c reads reply takes a told) (wants_after c reads reply takes refl) sent
 
   pub wanting_early : (outcome : Served) → IsEarly t.input t.input_after → IsIdle t
       → Sends contents t.writer t.writer_after unavailable outcome → Serves g signs count contents reading t outcome
@@ -102,6 +115,15 @@ module _ {W B X : Type 0} (g : Ghosts B) (signs : X → List ℕ → Result (Lis
       sent
   answering_auditor account from to outcome reads look (unanswered sent) =
       sends unavailable outcome (wants_looking account from to reads look refl) sent
+
+  pub telling_status : (outcome : Served) → Reads reading t (Ok Status) → IsLook g signs count t
+      → ServesStatus g contents t.writer t.writer_after t.desk.store t.desk_after.store t.desk.setting.file.counter
+      reading (count t.signer_after) outcome
+      → Serves g signs count contents reading t outcome
+  telling_status outcome reads look (inl tells) =
+      either (success 200 media.Text tells.body) outcome (tells_status tells.body reads look tells.is refl)
+      (wants_status reads look refl) tells.sent
+  telling_status outcome reads look (inr sent) = sends unavailable outcome (wants_status reads look refl) sent
 
 -- a front of a text that is joined of two, longer than the first
 pub front_of_joined : (a b : List ℕ) (n : ℕ) → take (length a + n) (a ++ b) ≡ a ++ take n b

@@ -1,6 +1,6 @@
 -- The checks of a request that has a head, each a sentence that stands by itself, and their order: the first that
 -- fails refuses it.
-use Rattle.std.specs.Prelude.{ℕ, ◌==◌, nat_le, Bool, true, false, List, codes, Option, Some, None, Result, Ok, Err}
+use Rattle.std.specs.Prelude.{ℕ, ◌==◌, nat_le, Bool, true, false, ◌||◌, List, codes, Option, Some, None, Result, Ok, Err}
 use Rattle.std.specs.Prelude.{if◌then◌else◌}
 use Rattle.std.specs.List.{before_first}
 use Rattle.httparse.specs.Grammar.{trim_ows}
@@ -58,6 +58,9 @@ has_body action.Token = false
 has_body action.Grant = false
 has_body action.Revoke = false
 has_body action.Extract = false
+has_body action.Calibrate = true
+has_body action.Hold = true
+has_body action.Status = false
 
 -- the most octets of a body
 abbrev pub most_body : ℕ
@@ -94,6 +97,9 @@ is_stamp action.Token = false
 is_stamp action.Grant = false
 is_stamp action.Revoke = false
 is_stamp action.Extract = false
+is_stamp action.Calibrate = false
+is_stamp action.Hold = false
+is_stamp action.Status = false
 
 -- a type is asked of a time-stamp request alone
 abbrev pub typed : HeadValue → Action → Result (Unit {0}) Refusal
@@ -134,6 +140,20 @@ active (Some a) = if a.active then Ok a else Err refusal.NoAccount
 
 abbrev pub active_account : PolicyValue → HeadValue → Result AccountValue Refusal
 active_account file h = account_shown file h >>= active
+
+-- It is an operator's.
+abbrev pub operator_shown : PolicyValue → HeadValue → Result AccountValue Refusal
+operator_shown file h = do
+  account ← active_account file h
+  operates ← check account.operator refusal.NotOperator
+  Ok account
+
+-- It is an operator's or an auditor's.
+abbrev pub watcher_shown : PolicyValue → HeadValue → Result AccountValue Refusal
+watcher_shown file h = do
+  account ← active_account file h
+  watches ← check (account.operator || account.auditor) refusal.NotOperator
+  Ok account
 
 -- The target's number is one.
 abbrev pub number_stated : HeadValue → Result ℕ Refusal

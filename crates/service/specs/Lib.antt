@@ -2,6 +2,7 @@ pub mod Answers
 pub mod Checks
 pub mod Extracting
 pub mod Fields
+pub mod Forms
 pub mod Heads
 pub mod Numbers
 pub mod Reading
@@ -9,4 +10,6 @@ pub mod Refusals
 pub mod Requests
 pub mod Routes
 pub mod Served
+pub mod Status
+pub mod Telling
 pub mod Views

@@ -1,6 +1,6 @@
 -- Numbers and references as a request spells them.
-use Rattle.std.specs.Prelude.{ℕ, ◌-◌, ◌^◌, ◌==◌, nat_le, Bool, ◌&&◌, ◌||◌, not, List, length, codes, slice_index}
-use Rattle.std.specs.Prelude.{Option, Some, None, if◌then◌else◌}
+use Rattle.std.specs.Prelude.{ℕ, ◌-◌, ◌^◌, ◌==◌, nat_le, ℤ, pos, neg_ℤ, Bool, ◌&&◌, ◌||◌, not, List, [], ◌∷◌, length}
+use Rattle.std.specs.Prelude.{codes, slice_index, Option, Some, None, option_map, if◌then◌else◌}
 use Rattle.std.specs.Char.{is_ascii_alphanumeric, is_ascii_digit}
 use Rattle.std.specs.List.{list_all, list_any}
 use Rattle.std.specs.Str.Parse.{digits_value}
@@ -23,6 +23,17 @@ number_in octets =
     if is_digits 19 octets && not (slice_index octets 0 == 0x30) && nat_le (digits_value 10 octets) greatest
     then Some (digits_value 10 octets)
     else None
+
+-- a number of microseconds, 0 to 2^63 - 1, of at most 19 digits
+abbrev pub micros_in : List ℕ → Option ℕ
+micros_in octets =
+    if is_digits 19 octets && nat_le (digits_value 10 octets) greatest then Some (digits_value 10 octets) else None
+
+-- such a number, or minus one behind a hyphen
+abbrev pub signed_in : List ℕ → Option ℤ
+signed_in [] = None
+signed_in (first ∷ rest) =
+    if first == 0x2D then option_map (λ n. neg_ℤ (pos n)) (micros_in rest) else option_map pos (micros_in (first ∷ rest))
 
 -- a letter or a digit of ASCII, or one of . _ -
 abbrev pub is_reference_octet : ℕ → Bool

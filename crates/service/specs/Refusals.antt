@@ -33,6 +33,9 @@ status_of refusal.UnknownReader = 400
 status_of refusal.SelfGrant = 400
 status_of refusal.NotAuditor = 403
 status_of refusal.BadRange = 400
+status_of refusal.NotOperator = 403
+status_of refusal.BadField = 400
+status_of refusal.Backwards = 409
 status_of (refusal.Rule rule) = status_of_rule rule
 status_of refusal.Unavailable = 503
 
@@ -54,6 +57,9 @@ word_of refusal.UnknownReader = codes "UnknownReader"
 word_of refusal.SelfGrant = codes "SelfGrant"
 word_of refusal.NotAuditor = codes "NotAuditor"
 word_of refusal.BadRange = codes "BadRange"
+word_of refusal.NotOperator = codes "NotOperator"
+word_of refusal.BadField = codes "BadField"
+word_of refusal.Backwards = codes "Backwards"
 word_of (refusal.Rule rule) = reason (number_of rule)
 word_of refusal.Unavailable = codes "Unavailable"
 

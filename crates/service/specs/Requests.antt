@@ -1,11 +1,12 @@
--- What a request asks for: a command for the desk or an extract for an auditor, or it is refused.
+-- What a request asks for: a command for the desk, an extract for an auditor or the counter's state, or it is refused.
 use Rattle.std.specs.Prelude.{◌≡◌, ℕ, ◌<◌, ℤ, List, [], ◌++◌, length, Option, Result, Ok, Err}
 use Rattle.std.specs.Io.KnownBytes.{Consumes, IsAtEnd}
 use Rattle.httparse.specs.Grammar.{RequestHead, print_request}
 use Rattle.policy.specs.Record.{AccountValue, PolicyValue}
-use Rattle.desk.specs.Command.{Command, Stamp, Deposit, Show, Token, ListAll, Grant, Revoke}
+use Rattle.desk.specs.Command.{Command, Stamp, Deposit, Show, Token, ListAll, Grant, Revoke, Calibrate, Hold}
 use Rattle.service.specs.Checks.{◌>>=◌, WantedValue, wanted_by, account_shown, active_account, number_stated}
-use Rattle.service.specs.Checks.{reference_stated, range_stated}
+use Rattle.service.specs.Checks.{reference_stated, range_stated, operator_shown, watcher_shown}
+use Rattle.service.specs.Forms.{calibration_stated, hold_stated}
 use Rattle.service.specs.Heads.{HeadValue, head_value, IsHead, IsBegun, IsHeadless}
 use Rattle.service.specs.Routes.{name_part}
 use Rattle.service.specs.declared.refusal.Refusal.{Refusal}
@@ -13,11 +14,12 @@ use Rattle.service.specs.declared.refusal.Refusal.TheVariants as refusal
 use Rattle.service.specs.declared.routes.Action.{Action}
 use Rattle.service.specs.declared.routes.Action.TheVariants as action
 
--- What is asked for: that the desk takes a command's step; or, by an account, an extract of the stamps with serial
--- numbers from the first number on and up to the second.
+-- What is asked for: that the desk takes a command's step; by an account, an extract of the stamps with serial numbers
+-- from the first number on and up to the second; or the counter's state.
 pub data Asked : Type 0 where
   Step : Command → Asked
   Extract : AccountValue → ℕ → ℕ → Asked
+  Status : Asked
 
 -- an active account and the target's number
 abbrev pub account_and_number : PolicyValue → HeadValue → Result (AccountValue × ℕ) Refusal
@@ -60,6 +62,17 @@ asked_by file reading h body action.Revoke = do
 asked_by file reading h body action.Extract = do
   (account, from, to) ← account_and_range file h
   Ok (Extract account from to)
+asked_by file reading h body action.Calibrate = do
+  account ← operator_shown file h
+  calibration ← calibration_stated body
+  Ok (Step (Calibrate calibration))
+asked_by file reading h body action.Hold = do
+  account ← operator_shown file h
+  hold ← hold_stated body
+  Ok (Step (Hold hold))
+asked_by file reading h body action.Status = do
+  account ← watcher_shown file h
+  Ok Status
 
 -- What was read, from what a reader had left to what it has left then, and no octet behind it:
 pub data IsRequest (file : PolicyValue) (reading : ℤ) (old new : Option (List ℕ)) (asked : Result Asked Refusal)

@@ -31,7 +31,10 @@ routes =
     (with_route (codes "/deposits/{number}/token") place.Token
     (with_route (codes "/deposits/{number}") place.Deposit
     (with_route (codes "/deposits") place.Deposits
-    (with_route (codes "/tsp") place.Tsp [])))))
+    (with_route (codes "/status") place.Status
+    (with_route (codes "/holds") place.Holds
+    (with_route (codes "/calibrations") place.Calibrations
+    (with_route (codes "/tsp") place.Tsp []))))))))
 
 -- the place that a target names, as it was sent
 abbrev pub place_of : List ℕ → Option Place
@@ -45,6 +48,9 @@ methods_of place.Deposit = codes "GET"
 methods_of place.Token = codes "GET"
 methods_of place.Reader = codes "PUT, DELETE"
 methods_of place.Audit = codes "GET"
+methods_of place.Calibrations = codes "POST"
+methods_of place.Holds = codes "POST"
+methods_of place.Status = codes "GET"
 
 abbrev pub action_where : List ℕ → List ℕ → Action → Option Action → Option Action
 action_where method name a other = if bytes_eq method name then Some a else other
@@ -59,6 +65,9 @@ action_of place.Token method = action_where method (codes "GET") action.Token No
 action_of place.Reader method =
     action_where method (codes "PUT") action.Grant (action_where method (codes "DELETE") action.Revoke None)
 action_of place.Audit method = action_where method (codes "GET") action.Extract None
+action_of place.Calibrations method = action_where method (codes "POST") action.Calibrate None
+action_of place.Holds method = action_where method (codes "POST") action.Hold None
+action_of place.Status method = action_where method (codes "GET") action.Status None
 
 -- what stands behind the first slash
 abbrev pub behind_slash : List ℕ → List ℕ

@@ -6,9 +6,12 @@ use Rattle.cms.specs.declared.signer.SignerFault.{SignerFault}
 use Rattle.tsp.specs.Rules.{IsFirstFailing}
 use Rattle.tsp.specs.declared.rule.Rule.{Rule}
 use Rattle.policy.specs.Record.{AccountValue}
-use Rattle.book.specs.History.{History}
+use Rattle.book.specs.History.{History, CalibrationValue, latest_calibration}
+use Rattle.book.specs.Sound.{IsBackwards}
 use Rattle.book.specs.Stands.{Stands, OnlyLooks}
-use Rattle.desk.specs.Command.{Command, Stamp, Deposit, Answer, Rejected}
+use Rattle.desk.specs.Command.{Command, Stamp, Deposit, Calibrate, Answer, Rejected, Refused}
+use Rattle.desk.specs.declared.fault.Fault.TheVariants as fault
+use Rattle.desk.specs.Calls.{looked_at}
 use Rattle.desk.specs.Findings.{HoldsUnasked}
 use Rattle.desk.specs.Stepped.{DeskValue, IsStep, no_signer, with_signer}
 use Rattle.audit.specs.Auditor.{IsAllowed, ComesWhere, IfUnasked}
@@ -18,7 +21,8 @@ use Rattle.audit.specs.declared.fault.ExtractFault.{ExtractFault}
 use Rattle.audit.specs.declared.fault.ExtractFault.TheVariants.{Write}
 use Rattle.service.specs.Answers.{AnswerValue, answer_text, answer_to, extract_answer, refusal_answer, success}
 use Rattle.service.specs.Refusals.{refusal_of_extract}
-use Rattle.service.specs.Requests.{Asked, Step, Extract, IsRequest, IsPart, IsEarly}
+use Rattle.service.specs.Requests.{Asked, Step, Extract, Status, IsRequest, IsPart, IsEarly}
+use Rattle.service.specs.Status.{status_text}
 use Rattle.service.specs.declared.answer.Media.TheVariants as media
 use Rattle.service.specs.declared.refusal.Refusal.{Refusal}
 use Rattle.service.specs.declared.refusal.Refusal.TheVariants as refusal
@@ -80,6 +84,10 @@ SendsOctets contents old new served.ReadFailed = ⊥
 SendsOctets contents old new (served.WriteFailed told sent) =
     (told ≡ 200) × (octets : List ℕ) × (length octets ≡ sent) × Appends (contents old) (contents new) octets
 
+-- the desk's reply to a calibration that is before the latest
+abbrev pub turned_back : Answer
+turned_back = Refused fault.Store
+
 module _ {B X : Type 0} (g : Ghosts B) (signs : X → List ℕ → Result (List ℕ) SignerFault → X → Type 0) (count : X
     → ℕ) where
   -- the desk takes the command's step and no other; the signer moves by it, and stays where the step asks none
@@ -99,10 +107,29 @@ module _ {B X : Type 0} (g : Ghosts B) (signs : X → List ℕ → Result (List 
   abbrev pub Takes : {W : Type 0} → Turn W B X → Command → Answer → Type 0
   Takes t c answer = Steps t.desk t.desk_after t.signer t.signer_after c answer
 
+  -- before the latest of each history that the store stood for, as long as it returns what was written
+  abbrev pub IsBackwardsFor : DeskValue B → DeskValue B → CalibrationValue → Type 0
+  IsBackwardsFor old new c =
+      g.honest new.store → (b : History) → Stands g b old.store → IsBackwards c (latest_calibration b)
+
+  -- the answer to a command that tells the desk's reply
+  pub data Tells (old new : DeskValue B) (c : Command) (reply : Answer) (a : AnswerValue) : Type 0 where
+    plainly : a ≡ answer_to c reply → Tells old new c reply a
+    backwards : (x : CalibrationValue) → c ≡ Calibrate x → reply ≡ turned_back → IsBackwardsFor old new x
+        → a ≡ refusal_answer refusal.Backwards → Tells old new c reply a
+
   -- the desk's store is looked into and changes nowhere, and the signer isn't asked
   pub record IsLook {W : Type 0} (t : Turn W B X) : Type 0 where
     pub store : OnlyLooks g t.desk.store t.desk_after.store
     pub signer : t.signer_after ≡ t.signer
+
+  -- the counter's state at the reading
+  abbrev pub IsStatus : {W : Type 0} → ℤ → Turn W B X → List ℕ → Type 0
+  IsStatus reading t body =
+      g.honest t.desk_after.store → (b : History) → Stands g b t.desk.store
+      → body
+      ≡ status_text t.desk.setting.file.counter reading (looked_at reading b) (g.fault_count t.desk_after.store)
+      (count t.signer_after)
 
   -- An extract is refused, where that refusal comes; the store's are counted. What can't be written has 2^64 octets or
   -- more.
@@ -122,6 +149,12 @@ module _ {B X : Type 0} (g : Ghosts B) (signs : X → List ℕ → Result (List 
     -- the desk takes the step that the request asks for, and the answer tells its reply
     replies : (c : Command) → Reads reading t (Ok (Step c)) → (reply : Answer) → Takes t c reply → a ≡ answer_to c reply
         → IsAnswer reading t a
+    -- the calibration that the request asks for is before the latest; the desk's reply says that the store refused it
+    turns_back : (c : CalibrationValue) → Reads reading t (Ok (Step (Calibrate c))) → Takes t (Calibrate c) turned_back
+        → IsBackwardsFor t.desk t.desk_after c → a ≡ refusal_answer refusal.Backwards → IsAnswer reading t a
+    -- the state that the request asks for is that of each history that the store stood for
+    tells_status : (body : List ℕ) → Reads reading t (Ok Status) → IsLook t → IsStatus reading t body
+        → a ≡ success 200 media.Text body → IsAnswer reading t a
     -- the extract that the request asks for is refused
     keeps_back : (account : AccountValue) (from to : ℕ) → Reads reading t (Ok (Extract account from to))
         → (f : ExtractFault) → IsKeptBack t account from to f → a ≡ refusal_answer (refusal_of_extract f)
@@ -133,6 +166,8 @@ module _ {B X : Type 0} (g : Ghosts B) (signs : X → List ℕ → Result (List 
     -- memory is wanting for the answer, once that step is taken
     wants_after : (c : Command) → Reads reading t (Ok (Step c)) → (reply : Answer) → Takes t c reply → a ≡ unavailable
         → IsAnswer reading t a
+    -- the store can't be looked into, or memory is wanting for the state
+    wants_status : Reads reading t (Ok Status) → IsLook t → a ≡ unavailable → IsAnswer reading t a
     -- memory is wanting for the extract, or for the answer that refuses it
     wants_looking : (account : AccountValue) (from to : ℕ) → Reads reading t (Ok (Extract account from to)) → IsLook t
         → a ≡ unavailable → IsAnswer reading t a

@@ -13,7 +13,9 @@ use Rattle.std.specs.Fmt.{decimal}
 use Rattle.std.specs.List.{flat_map}
 use Rattle.der.specs.Node.{encoding}
 use Rattle.tsp.specs.Rejection.{rejection}
-use Rattle.book.specs.Values.{listed_view}
+use Rattle.book.specs.Values.{listed_view, calibration_view, hold_view}
+use Rattle.book.specs.declared.fault.StoreFault.{StoreFault}
+use Rattle.book.specs.declared.fault.StoreFault.TheVariants as store
 use Rattle.desk.specs.declared.reply.Reply.{Reply}
 use Rattle.desk.specs.declared.reply.Reply.TheVariants as reply
 use Rattle.service.specs.Answers.{AnswerValue, success, line_feed, listed_line, refusal_answer}
@@ -33,6 +35,7 @@ use Rattle.service.specs.declared.fields.Found.{Found}
 use Rattle.service.specs.declared.fields.Found.TheVariants as field
 use Rattle.service.specs.declared.head.Head.{Head}
 use Rattle.service.specs.declared.refusal.Refusal.{Refusal}
+use Rattle.service.specs.declared.refusal.Refusal.TheVariants as refusal
 use Rattle.service.specs.declared.wanted.Wanted.{Wanted}
 
 abbrev pub found_view : Found → Stated
@@ -85,7 +88,18 @@ performed_answer (performed.Shown bytes) = success 200 media.Octets bytes.items
 performed_answer (performed.Token bytes) = success 200 media.Reply bytes.items
 performed_answer (performed.Listed rows) = success 200 media.Text (flat_map listed_line (map listed_view rows.items))
 performed_answer performed.Done = success 200 media.Text []
+performed_answer performed.Added = success 201 media.Text []
+performed_answer performed.TurnedBack = refusal_answer refusal.Backwards
 performed_answer (performed.Refused fault) = refusal_answer (refusal_of fault)
+
+-- the answer where a calibration or a hold is added, or the store refuses it
+abbrev pub added_answer : Result (Unit {0}) StoreFault → AnswerValue
+added_answer (Ok done) = success 201 media.Text []
+added_answer (Err store.Memory) = refusal_answer refusal.Unavailable
+added_answer (Err store.Database) = refusal_answer refusal.Unavailable
+added_answer (Err store.NotOurs) = refusal_answer refusal.Unavailable
+added_answer (Err store.Full) = refusal_answer refusal.Unavailable
+added_answer (Err store.Backwards) = refusal_answer refusal.Backwards
 
 abbrev pub demand_view : ℤ → Demand → Command
 demand_view reading (demand.Stamp account query) = command.Stamp (account_asked account) reading query.now
@@ -96,7 +110,10 @@ demand_view reading (demand.Show account number) = command.Show (account_view ac
 demand_view reading (demand.Token account number) = command.Token (account_view account.now) number
 demand_view reading (demand.Grant account number name) = command.Grant (account_view account.now) number name.now
 demand_view reading (demand.Revoke account number name) = command.Revoke (account_view account.now) number name.now
+demand_view reading (demand.Calibrate calibration) = command.Calibrate (calibration_view calibration)
+demand_view reading (demand.Hold hold) = command.Hold (hold_view hold)
 
 abbrev pub asked_view : ℤ → Asked → requests.Asked
 asked_view reading (asked.Step demand) = requests.Step (demand_view reading demand)
 asked_view reading (asked.Extract account from to) = requests.Extract (account_view account.now) from to
+asked_view reading asked.Status = requests.Status

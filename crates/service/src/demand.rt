@@ -3,19 +3,21 @@ ghost use Rattle.std.specs.Prelude.{◌≡◌, ℤ};
 ghost use Rattle.policy.specs.View.{account_view, policy_view};
 ghost use Rattle.decide.specs.View.{account_asked};
 ghost use Rattle.service.specs.Checks.{account_shown, active, active_account, number_stated, range_stated};
-ghost use Rattle.service.specs.Checks.{reference_stated};
+ghost use Rattle.service.specs.Checks.{reference_stated, operator_shown, watcher_shown};
 ghost use Rattle.service.specs.Requests.{account_and_number, account_and_range, asked_by};
-ghost use Rattle.service.specs.declared.routes.Action.TheVariants.{Keep};
+ghost use Rattle.service.specs.declared.routes.Action.TheVariants.{Keep, Calibrate, Hold as AddHold};
 ghost use Rattle.service.specs.Routes.{behind_slash, before_slash, name_part, from_part, to_part};
 ghost use Rattle.service.specs.Views.{head_view, IsInPlace, octets_given, result_by, account_given, account_found};
 ghost use Rattle.service.specs.Views.{asked_view};
 
 use crate::fields::{Found, stated};
+use crate::form::{calibration_stated, hold_stated};
 use crate::head::Head;
 use crate::numbers::{is_reference, number_in};
 use crate::refusal::Refusal;
 use crate::routes::Action;
 use crate::wanted::once;
+use book::{Calibration, Hold};
 use policy::{Account, Policy};
 use std::str;
 
@@ -59,6 +61,10 @@ pub(crate) enum Demand<'a> {
         number: u64,
         name: &'a str,
     },
+    /// To add a calibration of the clock.
+    Calibrate(Calibration),
+    /// To add a hold.
+    Hold(Hold),
 }
 
 /// What a request asks for.
@@ -72,6 +78,8 @@ pub(crate) enum Asked<'a> {
         from: u64,
         to: u64,
     },
+    /// The counter's state.
+    Status,
 }
 
 /// What stands behind the first slash.
@@ -172,6 +180,30 @@ fn active_account<'a>(policy: &'a Policy, head: Head<'_>) -> Result<&'a Account,
     }
 }
 
+/// The active account whose key is shown, or the anonymous one, where it is an operator's.
+fn operator_shown<'a>(policy: &'a Policy, head: Head<'_>) -> Result<&'a Account, Refusal>
+    requires { IsInPlace head }
+    ensures { account_given result ≡ operator_shown (policy_view policy.now) (head_view head.entry) }
+{
+    match active_account(policy, head) {
+        Ok(account) if account.operator => Ok(account),
+        Ok(_) => Err(Refusal::NotOperator),
+        Err(refusal) => Err(refusal),
+    }
+}
+
+/// The active account whose key is shown, or the anonymous one, where it is an operator's or an auditor's.
+fn watcher_shown<'a>(policy: &'a Policy, head: Head<'_>) -> Result<&'a Account, Refusal>
+    requires { IsInPlace head }
+    ensures { account_given result ≡ watcher_shown (policy_view policy.now) (head_view head.entry) }
+{
+    match active_account(policy, head) {
+        Ok(account) if account.operator || account.auditor => Ok(account),
+        Ok(_) => Err(Refusal::NotOperator),
+        Err(refusal) => Err(refusal),
+    }
+}
+
 /// The reference, as one field tells it.
 fn reference_stated<'b>(head: Head<'b>) -> Result<&'b str, Refusal>
     requires { IsInPlace head }
@@ -243,6 +275,38 @@ fn keep<'a>(policy: &'a Policy, head: Head<'a>, bytes: &'a [u8]) -> Result<Asked
     }
 }
 
+/// To add a calibration.
+fn calibrate<'a>(policy: &Policy, head: Head<'_>, form: &[u8]) -> Result<Asked<'a>, Refusal>
+    requires { IsInPlace head }
+    ensures { (reading : ℤ) → result_by (asked_view reading) result
+        ≡ asked_by (policy_view policy.now) reading (head_view head.entry) form.now Calibrate }
+{
+    match operator_shown(policy, head) {
+        Ok(_) => {}
+        Err(refusal) => return Err(refusal),
+    }
+    match calibration_stated(form) {
+        Ok(calibration) => Ok(Asked::Step(Demand::Calibrate(calibration))),
+        Err(refusal) => Err(refusal),
+    }
+}
+
+/// To add a hold.
+fn hold<'a>(policy: &Policy, head: Head<'_>, form: &[u8]) -> Result<Asked<'a>, Refusal>
+    requires { IsInPlace head }
+    ensures { (reading : ℤ) → result_by (asked_view reading) result
+        ≡ asked_by (policy_view policy.now) reading (head_view head.entry) form.now AddHold }
+{
+    match operator_shown(policy, head) {
+        Ok(_) => {}
+        Err(refusal) => return Err(refusal),
+    }
+    match hold_stated(form) {
+        Ok(hold) => Ok(Asked::Step(Demand::Hold(hold))),
+        Err(refusal) => Err(refusal),
+    }
+}
+
 /// What a request with that head and body asks for, or the first check of it that fails.
 pub(crate) fn asked_by<'a>(
     policy: &'a Policy,
@@ -293,6 +357,12 @@ pub(crate) fn asked_by<'a>(
         },
         Action::Extract => match of_range(policy, head) {
             Ok((account, from, to)) => Ok(Asked::Extract { account, from, to }),
+            Err(refusal) => Err(refusal),
+        },
+        Action::Calibrate => calibrate(policy, head, body),
+        Action::Hold => hold(policy, head, body),
+        Action::Status => match watcher_shown(policy, head) {
+            Ok(_) => Ok(Asked::Status),
             Err(refusal) => Err(refusal),
         },
     }

@@ -5,6 +5,7 @@ mod answer;
 mod demand;
 mod extracting;
 mod fields;
+mod form;
 mod head;
 mod listing;
 mod numbers;
@@ -15,6 +16,7 @@ mod responding;
 mod routes;
 mod served;
 mod serving;
+mod status;
 mod wanted;
 mod writing;
 

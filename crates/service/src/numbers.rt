@@ -1,9 +1,10 @@
 //! Numbers and references, as a request spells them.
-ghost use Rattle.std.specs.Prelude.{◌≡◌, ◌≤◌, ◌<◌, length, IsTrue, Option};
+ghost use Rattle.std.specs.Prelude.{◌≡◌, ◌≤◌, ◌<◌, length, IsTrue, Option, IfSome};
 ghost use Rattle.std.specs.Char.{is_ascii_digit};
 ghost use Rattle.std.specs.List.{list_all};
 ghost use Rattle.std.specs.Str.Parse.{digits_value};
-ghost use Rattle.service.specs.Numbers.{is_digits, length_in, number_in, is_reference, is_reference_octet};
+ghost use Rattle.service.specs.Numbers.{is_digits, length_in, number_in, micros_in, signed_in, greatest};
+ghost use Rattle.service.specs.Numbers.{is_reference, is_reference_octet};
 
 /// The greatest number of a deposit.
 const GREATEST: u64 = (1 << 63) - 1;
@@ -66,6 +67,37 @@ pub(crate) fn number_in(octets: &[u8]) -> Option<u64>
         Some(number)
     } else {
         None
+    }
+}
+
+/// A number of microseconds, 0 to 2^63 - 1.
+pub(crate) fn micros_in(octets: &[u8]) -> Option<u64>
+    ensures value { result ≡ micros_in octets.now }
+    ensures few { IfSome result (λ n. n ≤ greatest) }
+{
+    if !is_digits(19, octets) {
+        return None;
+    }
+    match digits_value(octets) {
+        number if number <= GREATEST => Some(number),
+        _ => None,
+    }
+}
+
+/// Such a number, or minus one behind a hyphen.
+pub(crate) fn signed_in(octets: &[u8]) -> Option<i64>
+    ensures { result ≡ signed_in octets.now }
+{
+    match octets.split_first() {
+        None => None,
+        Some((b'-', digits)) => match micros_in(digits) {
+            Some(number) => Some(-(number as i64)),
+            None => None,
+        },
+        Some(_) => match micros_in(octets) {
+            Some(number) => Some(number as i64),
+            None => None,
+        },
     }
 }
 

@@ -1,12 +1,11 @@
 //! What the desk does for a request.
 ghost use Rattle.std.specs.Prelude.{◌≡◌};
 ghost use Rattle.desk.specs.Command.{Answer};
-ghost use Rattle.service.specs.Answers.{answer_to};
-ghost use Rattle.service.specs.Served.{Steps};
-ghost use Rattle.service.specs.Views.{demand_view, performed_answer};
+ghost use Rattle.service.specs.Served.{Steps, Tells};
+ghost use Rattle.service.specs.Views.{demand_view, performed_answer, added_answer};
 
 use crate::demand::Demand;
-use book::{Book, Listed};
+use book::{Book, Listed, StoreFault};
 use cms::Signer;
 use desk::{Deposited, Desk, Fault, Reply};
 
@@ -25,8 +24,24 @@ pub(crate) enum Performed {
     Listed(Vec<Listed>),
     /// A right is given or taken.
     Done,
+    /// A calibration or a hold is added.
+    Added,
+    /// The calibration is before the latest.
+    TurnedBack,
     /// A refusal.
     Refused(Fault),
+}
+
+/// What is added, or why the store refuses it.
+fn added(outcome: Result<(), StoreFault>) -> Performed
+    ensures { performed_answer result ≡ added_answer outcome }
+{
+    match outcome {
+        Ok(()) => Performed::Added,
+        Err(StoreFault::Backwards) => Performed::TurnedBack,
+        Err(StoreFault::Memory) => Performed::Refused(Fault::Memory),
+        Err(_) => Performed::Refused(Fault::Store),
+    }
 }
 
 /// Has the desk take the step that is asked for.
@@ -40,7 +55,8 @@ pub(crate) fn perform<B: Book + Drop, G: Signer>(
     ensures honest { B.honest desk.new.store → B.honest desk.old.store }
     ensures steps { (reply : Answer) × Steps B.Standing G.signs G.fault_count desk.old desk.new signer.old signer.new
         (demand_view reading demand.entry) reply
-        × (performed_answer result ≡ answer_to (demand_view reading demand.entry) reply) }
+        × Tells B.Standing G.signs G.fault_count desk.old desk.new (demand_view reading demand.entry) reply
+        (performed_answer result) }
 {
     match demand {
         Demand::Stamp { account, query } => {
@@ -82,5 +98,7 @@ pub(crate) fn perform<B: Book + Drop, G: Signer>(
             Ok(()) => Performed::Done,
             Err(fault) => Performed::Refused(fault),
         },
+        Demand::Calibrate(calibration) => added(desk.calibrate(&calibration)),
+        Demand::Hold(hold) => added(desk.hold(&hold)),
     }
 }

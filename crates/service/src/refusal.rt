@@ -49,6 +49,12 @@ pub enum Refusal {
     NotAuditor,
     /// No range of serial numbers.
     BadRange,
+    /// Only an operator may add calibrations and holds.
+    NotOperator,
+    /// The form hasn't just the fields that are asked for, or one of them is out of its range.
+    BadField,
+    /// The calibration's reading is before that of the latest.
+    Backwards,
     /// A rule refuses a deposit's stamp.
     Rule(Rule),
     /// The store, the signer or memory didn't answer.
@@ -96,11 +102,13 @@ impl Refusal {
             | Refusal::BadReference
             | Refusal::UnknownReader
             | Refusal::SelfGrant
-            | Refusal::BadRange => StatusCode::BAD_REQUEST,
-            Refusal::NoAccount | Refusal::NotOwner | Refusal::NotAuditor => StatusCode::FORBIDDEN,
+            | Refusal::BadRange
+            | Refusal::BadField => StatusCode::BAD_REQUEST,
+            Refusal::NoAccount | Refusal::NotOwner | Refusal::NotAuditor | Refusal::NotOperator =>
+                StatusCode::FORBIDDEN,
             Refusal::NoRoute | Refusal::NotHere => StatusCode::NOT_FOUND,
             Refusal::Method(_) => StatusCode::METHOD_NOT_ALLOWED,
-            Refusal::Conflict => StatusCode::CONFLICT,
+            Refusal::Conflict | Refusal::Backwards => StatusCode::CONFLICT,
             Refusal::Length => StatusCode::LENGTH_REQUIRED,
             Refusal::TooLarge => StatusCode::PAYLOAD_TOO_LARGE,
             Refusal::Type => StatusCode::UNSUPPORTED_MEDIA_TYPE,
@@ -132,6 +140,9 @@ impl Refusal {
             Refusal::SelfGrant => "SelfGrant",
             Refusal::NotAuditor => "NotAuditor",
             Refusal::BadRange => "BadRange",
+            Refusal::NotOperator => "NotOperator",
+            Refusal::BadField => "BadField",
+            Refusal::Backwards => "Backwards",
             Refusal::Rule(rule) => word_of_rule(rule),
             Refusal::Unavailable => "Unavailable",
         }

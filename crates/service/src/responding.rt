@@ -1,5 +1,5 @@
 //! Answers that are written.
-ghost use Rattle.std.specs.Prelude.{◌≡◌, ◌++◌, Option, option_map};
+ghost use Rattle.std.specs.Prelude.{◌≡◌, ◌++◌, [], Option, option_map};
 ghost use Rattle.std.specs.Fmt.{decimal};
 ghost use Rattle.service.specs.Answers.{line_feed, head_text, refusal_answer, success};
 ghost use Rattle.service.specs.Served.{SendsText, Sends, SendsOrWants, unavailable};
@@ -86,10 +86,17 @@ pub(crate) fn refuse<W: Write>(alloc: Global, writer: &mut W, refusal: Refusal) 
 }
 
 /// Writes an answer of status 200.
-fn succeed<W: Write>(alloc: Global, writer: &mut W, media: Media, body: &[u8]) -> Served
+pub(crate) fn succeed<W: Write>(alloc: Global, writer: &mut W, media: Media, body: &[u8]) -> Served
     ensures { SendsOrWants W.contents writer.old writer.new (success 200 media body.now) result }
 {
     send(alloc, writer, StatusCode::OK, media, None, body)
+}
+
+/// Writes the answer that a calibration or a hold is added.
+fn create<W: Write>(alloc: Global, writer: &mut W) -> Served
+    ensures { SendsOrWants W.contents writer.old writer.new (success 201 Text []) result }
+{
+    send(alloc, writer, StatusCode::CREATED, Media::Text, None, b"")
 }
 
 /// Writes the answer to a time-stamp request.
@@ -139,6 +146,8 @@ pub(crate) fn respond<W: Write>(alloc: Global, writer: &mut W, performed: &Perfo
             None => wanting(writer),
         },
         Performed::Done => succeed(alloc, writer, Media::Text, b""),
+        Performed::Added => create(alloc, writer),
+        Performed::TurnedBack => refuse(alloc, writer, Refusal::Backwards),
         Performed::Refused(fault) => refuse(alloc, writer, Refusal::from(*fault)),
     }
 }

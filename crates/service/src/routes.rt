@@ -21,6 +21,12 @@ pub enum Place {
     Reader,
     /// `/audit/{from}/{to}`: the stamps with serial numbers from one on and up to another.
     Audit,
+    /// `/calibrations`: the calibrations of the clock.
+    Calibrations,
+    /// `/holds`: the holds.
+    Holds,
+    /// `/status`: the counter's state.
+    Status,
 }
 
 /// What a method does at a place.
@@ -42,6 +48,12 @@ pub(crate) enum Action {
     Revoke,
     /// Writes stamps out for an auditor.
     Extract,
+    /// Adds a calibration for an operator.
+    Calibrate,
+    /// Adds a hold for an operator.
+    Hold,
+    /// Tells an operator or an auditor of the counter's state.
+    Status,
 }
 
 /// Whether a method has that name, letter by letter.
@@ -57,9 +69,9 @@ impl Place {
         ensures { result.now ≡ methods_of self }
     {
         match self {
-            Place::Tsp => "POST",
+            Place::Tsp | Place::Calibrations | Place::Holds => "POST",
             Place::Deposits => "GET, POST",
-            Place::Deposit | Place::Token | Place::Audit => "GET",
+            Place::Deposit | Place::Token | Place::Audit | Place::Status => "GET",
             Place::Reader => "PUT, DELETE",
         }
     }
@@ -77,6 +89,9 @@ impl Place {
             Place::Reader if is_named(method, "PUT") => Some(Action::Grant),
             Place::Reader if is_named(method, "DELETE") => Some(Action::Revoke),
             Place::Audit if is_named(method, "GET") => Some(Action::Extract),
+            Place::Calibrations if is_named(method, "POST") => Some(Action::Calibrate),
+            Place::Holds if is_named(method, "POST") => Some(Action::Hold),
+            Place::Status if is_named(method, "GET") => Some(Action::Status),
             _ => None,
         }
     }
@@ -98,6 +113,9 @@ fn routes(alloc: Global) -> Result<Router<Place>, InsertError>
 {
     let mut router = Router::new(alloc);
     add(&mut router, "/tsp", Place::Tsp)?;
+    add(&mut router, "/calibrations", Place::Calibrations)?;
+    add(&mut router, "/holds", Place::Holds)?;
+    add(&mut router, "/status", Place::Status)?;
     add(&mut router, "/deposits", Place::Deposits)?;
     add(&mut router, "/deposits/{number}", Place::Deposit)?;
     add(&mut router, "/deposits/{number}/token", Place::Token)?;

@@ -16,6 +16,7 @@ use crate::refusal::Refusal;
 use crate::responding::{refuse, respond, wanting};
 use crate::routes::{Action, place_of};
 use crate::served::Served;
+use crate::status::serve_status;
 use crate::wanted::check_head;
 use book::Book;
 use cms::Signer;
@@ -61,6 +62,7 @@ fn serve_whole<W: Write, B: Book + Drop, G: Signer>(
         Ok(Asked::Extract { account, from, to }) => {
             serve_extract(alloc, writer, desk, account, from, to)
         }
+        Ok(Asked::Status) => serve_status(alloc, writer, desk, reading, signer.faults()),
     }
 }
 

@@ -71,7 +71,10 @@ impl Action {
     fn has_body(self) -> bool
         ensures { result ≡ has_body self }
     {
-        matches!(self, Action::Stamp | Action::Keep)
+        matches!(
+            self,
+            Action::Stamp | Action::Keep | Action::Calibrate | Action::Hold
+        )
     }
 
     /// Whether it answers a time-stamp request.

@@ -1,8 +1,8 @@
 use Rattle.std.proofs.Common.{◌≡◌, ℕ, ℤ, List, Option, map, Bool, true, false, ◌++◌, refl, subst, rules, SFits, w64}
 use Rattle.std.proofs.Common.{to_z-of_z}
 use Rattle.policy.specs.Record.{AccountValue}
-use Rattle.book.specs.Values.{listed_view}
-use Rattle.desk.specs.Answers.{reply_as}
+use Rattle.book.specs.Values.{listed_view, calibration_view, hold_view}
+use Rattle.desk.specs.Answers.{reply_as, entered}
 use Rattle.desk.specs.Command.{Stamp, Deposit, Kept, Shown, Listed, Done, Refused}
 use Rattle.decide.specs.View.{account_asked}
 use Rattle.desk.specs.Stepped.{IsStep, with_signer}
@@ -11,7 +11,9 @@ use Rattle.desk.specs.declared.reply.Reply.TheVariants as reply
 use Rattle.service.specs.Answers.{answer_to, line_feed, success}
 use Rattle.std.specs.Fmt.{decimal}
 use Rattle.policy.specs.View.{account_view}
-use Rattle.service.specs.Views.{stamp_answer, status_kept}
+use Rattle.service.specs.Served.{plainly}
+use Rattle.service.specs.Views.{stamp_answer, status_kept, performed_answer}
+use Rattle.service.proofs.Operators.{calibration_told, hold_told}
 use Rattle.service.specs.declared.answer.Media.TheVariants as media
 use Rattle.service.proofs.performing.perform.Goals as goal
 
@@ -34,46 +36,46 @@ returns-in-Stamp-clause-steps g c =
     rw c.in-Stamp.is (
       reply_as c.answer.result,
       (step, c.answer.ensures.unasked),
-      told c.answer.result account c.args.reading c.in-Stamp.query.now,
+      plainly (told c.answer.result account c.args.reading c.in-Stamp.query.now),
     )
 
 pub returns-in-Ok-list-clause-steps : goal.returns-in-Ok-list-clause-steps
 returns-in-Ok-list-clause-steps g c =
-    rw c.in-List.is (Listed (map listed_view c.in-Ok-list.rows.items), (c.in-Ok-list.ensures.step, refl), refl)
+    rw c.in-List.is (Listed (map listed_view c.in-Ok-list.rows.items), (c.in-Ok-list.ensures.step, refl), plainly refl)
 
 pub returns-in-Err-list-clause-steps : goal.returns-in-Err-list-clause-steps
 returns-in-Err-list-clause-steps g c =
-    rw c.in-List.is (Refused c.in-Err-list.fault, (c.in-Err-list.ensures.step, refl), refl)
+    rw c.in-List.is (Refused c.in-Err-list.fault, (c.in-Err-list.ensures.step, refl), plainly refl)
 
 pub returns-in-Ok-show-clause-steps : goal.returns-in-Ok-show-clause-steps
 returns-in-Ok-show-clause-steps g c =
-    rw c.in-Show.is (Shown c.in-Ok-show.bytes.items, (c.in-Ok-show.ensures.step, refl), refl)
+    rw c.in-Show.is (Shown c.in-Ok-show.bytes.items, (c.in-Ok-show.ensures.step, refl), plainly refl)
 
 pub returns-in-Err-show-clause-steps : goal.returns-in-Err-show-clause-steps
 returns-in-Err-show-clause-steps g c =
-    rw c.in-Show.is (Refused c.in-Err-show.fault, (c.in-Err-show.ensures.step, refl), refl)
+    rw c.in-Show.is (Refused c.in-Err-show.fault, (c.in-Err-show.ensures.step, refl), plainly refl)
 
 pub returns-in-Ok-token_of-clause-steps : goal.returns-in-Ok-token_of-clause-steps
 returns-in-Ok-token_of-clause-steps g c =
-    rw c.in-Token.is (Shown c.in-Ok-token_of.bytes.items, (c.in-Ok-token_of.ensures.step, refl), refl)
+    rw c.in-Token.is (Shown c.in-Ok-token_of.bytes.items, (c.in-Ok-token_of.ensures.step, refl), plainly refl)
 
 pub returns-in-Err-token_of-clause-steps : goal.returns-in-Err-token_of-clause-steps
 returns-in-Err-token_of-clause-steps g c =
-    rw c.in-Token.is (Refused c.in-Err-token_of.fault, (c.in-Err-token_of.ensures.step, refl), refl)
+    rw c.in-Token.is (Refused c.in-Err-token_of.fault, (c.in-Err-token_of.ensures.step, refl), plainly refl)
 
 pub returns-in-Ok-grant-clause-steps : goal.returns-in-Ok-grant-clause-steps
-returns-in-Ok-grant-clause-steps g c = rw c.in-Grant.is (Done, (c.in-Ok-grant.ensures.step, refl), refl)
+returns-in-Ok-grant-clause-steps g c = rw c.in-Grant.is (Done, (c.in-Ok-grant.ensures.step, refl), plainly refl)
 
 pub returns-in-Err-grant-clause-steps : goal.returns-in-Err-grant-clause-steps
 returns-in-Err-grant-clause-steps g c =
-    rw c.in-Grant.is (Refused c.in-Err-grant.fault, (c.in-Err-grant.ensures.step, refl), refl)
+    rw c.in-Grant.is (Refused c.in-Err-grant.fault, (c.in-Err-grant.ensures.step, refl), plainly refl)
 
 pub returns-in-Ok-revoke-clause-steps : goal.returns-in-Ok-revoke-clause-steps
-returns-in-Ok-revoke-clause-steps g c = rw c.in-Revoke.is (Done, (c.in-Ok-revoke.ensures.step, refl), refl)
+returns-in-Ok-revoke-clause-steps g c = rw c.in-Revoke.is (Done, (c.in-Ok-revoke.ensures.step, refl), plainly refl)
 
 pub returns-in-Err-revoke-clause-steps : goal.returns-in-Err-revoke-clause-steps
 returns-in-Err-revoke-clause-steps g c =
-    rw c.in-Revoke.is (Refused c.in-Err-revoke.fault, (c.in-Err-revoke.ensures.step, refl), refl)
+    rw c.in-Revoke.is (Refused c.in-Err-revoke.fault, (c.in-Err-revoke.ensures.step, refl), plainly refl)
 
 -- a deposit's number is told with the status that says whether it is new
 kept : (number : ℕ) (is_new : Bool) (a : AccountValue) (reading : ℤ) (reference bytes : List ℕ)
@@ -96,7 +98,8 @@ returns-in-Ok-clause-steps g c =
     rw c.in-Keep.is (
       Kept deposited.number deposited.is_new,
       step,
-      kept deposited.number deposited.is_new account c.args.reading c.in-Keep.reference.now c.in-Keep.bytes.now,
+      plainly (kept deposited.number deposited.is_new account c.args.reading c.in-Keep.reference.now
+          c.in-Keep.bytes.now),
     )
 
 pub returns-in-Err-clause-steps : goal.returns-in-Err-clause-steps
@@ -109,4 +112,24 @@ returns-in-Err-clause-steps g c =
     c.args.desk.now.setting (Deposit account r c.in-Keep.reference.now c.in-Keep.bytes.now) c.args.desk.now.store
     c.deposit.new.self.store (Refused c.in-Err.fault) in
     let step : P c.args.reading = subst P (to_z-of_z fits) c.in-Err.ensures.step in
-    rw c.in-Keep.is (Refused c.in-Err.fault, step, refl)
+    rw c.in-Keep.is (Refused c.in-Err.fault, step, plainly refl)
+
+pub returns-in-Calibrate-clause-steps : goal.returns-in-Calibrate-clause-steps
+returns-in-Calibrate-clause-steps g c =
+    rw c.in-Calibrate.is (
+      entered c.calibrate.result,
+      (c.calibrate.ensures.step, refl),
+      calibration_told g.B.Standing g.G.Signer.signs g.G.Signer.fault_count c.args.desk.now c.calibrate.new.self
+          (performed_answer c.added.result) (calibration_view c.in-Calibrate.calibration) c.calibrate.result
+          c.calibrate.ensures.backwards c.added.ensures,
+    )
+
+pub returns-in-Hold-clause-steps : goal.returns-in-Hold-clause-steps
+returns-in-Hold-clause-steps g c =
+    rw c.in-Hold.is (
+      entered c.hold.result,
+      (c.hold.ensures.step, refl),
+      hold_told g.B.Standing g.G.Signer.signs g.G.Signer.fault_count c.args.desk.now c.hold.new.self
+          (performed_answer c.added-in-Hold.result) (hold_view c.in-Hold.hold) c.hold.result c.hold.ensures.refusals
+          c.added-in-Hold.ensures,
+    )

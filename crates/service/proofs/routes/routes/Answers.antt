@@ -5,22 +5,29 @@ use Rattle.service.specs.declared.routes.Place.TheVariants as place
 use Rattle.service.proofs.routes.routes.Goals as goal
 
 -- one route after the other
-in_turn : (a b c d e f g : Routes) → a ≡ [] → b ≡ with_route (codes "/tsp") place.Tsp a
-    → c ≡ with_route (codes "/deposits") place.Deposits b
-    → d ≡ with_route (codes "/deposits/{number}") place.Deposit c
-    → e ≡ with_route (codes "/deposits/{number}/token") place.Token d
-    → f ≡ with_route (codes "/deposits/{number}/readers/{name}") place.Reader e
-    → g ≡ with_route (codes "/audit/{from}/{to}") place.Audit f → g ≡ routes
+in_turn : (a b c d e f g h i j : Routes) → a ≡ [] → b ≡ with_route (codes "/tsp") place.Tsp a
+    → c ≡ with_route (codes "/calibrations") place.Calibrations b
+    → d ≡ with_route (codes "/holds") place.Holds c
+    → e ≡ with_route (codes "/status") place.Status d
+    → f ≡ with_route (codes "/deposits") place.Deposits e
+    → g ≡ with_route (codes "/deposits/{number}") place.Deposit f
+    → h ≡ with_route (codes "/deposits/{number}/token") place.Token g
+    → i ≡ with_route (codes "/deposits/{number}/readers/{name}") place.Reader h
+    → j ≡ with_route (codes "/audit/{from}/{to}") place.Audit i → j ≡ routes
 unfolding routes
-in_turn a b c d e f g none tsp deposits deposit token reader audit =
+in_turn a b c d e f g h i j none tsp calibrations holds status deposits deposit token reader audit =
     audit ∙ ap (with_route (codes "/audit/{from}/{to}") place.Audit)
     (reader ∙ ap (with_route (codes "/deposits/{number}/readers/{name}") place.Reader)
     (token ∙ ap (with_route (codes "/deposits/{number}/token") place.Token)
     (deposit ∙ ap (with_route (codes "/deposits/{number}") place.Deposit)
     (deposits ∙ ap (with_route (codes "/deposits") place.Deposits)
-    (tsp ∙ ap (with_route (codes "/tsp") place.Tsp) none)))))
+    (status ∙ ap (with_route (codes "/status") place.Status)
+    (holds ∙ ap (with_route (codes "/holds") place.Holds)
+    (calibrations ∙ ap (with_route (codes "/calibrations") place.Calibrations)
+    (tsp ∙ ap (with_route (codes "/tsp") place.Tsp) none))))))))
 
 pub returns : goal.returns
 returns c =
-    in_turn _ _ _ _ _ _ _ c.new-router.ensures c.in_ok-add.ensures c.in_ok-add-2.ensures c.in_ok-add-3.ensures
-    c.in_ok-add-4.ensures c.in_ok-add-5.ensures c.in_ok-add-6.ensures
+    in_turn _ _ _ _ _ _ _ _ _ _ c.new-router.ensures c.in_ok-add.ensures c.in_ok-add-2.ensures c.in_ok-add-3.ensures
+    c.in_ok-add-4.ensures c.in_ok-add-5.ensures c.in_ok-add-6.ensures c.in_ok-add-7.ensures c.in_ok-add-8.ensures
+    c.in_ok-add-9.ensures

@@ -1,0 +1,79 @@
+-- What an operator's form has, and what is answered to it.
+use Rattle.std.proofs.Common.{◌≡◌, ◌∙◌, ◌⊎◌, ℕ, ℤ, List, ◌∷◌, true, false, Option, Some, Result, Ok, Err, refl, ap, inl, inr}
+use Rattle.std.specs.Prelude.{IfErr}
+use Rattle.std.specs.Str.{bytes_eq}
+use Rattle.book.specs.declared.fault.StoreFault.{StoreFault}
+use Rattle.book.specs.declared.fault.StoreFault.TheVariants as store
+use Rattle.book.specs.declared.standing.Standing.{Ghosts}
+use Rattle.book.specs.History.{History, CalibrationValue, HoldValue, latest_calibration}
+use Rattle.book.specs.Sound.{IsBackwards}
+use Rattle.book.specs.Stands.{Stands}
+use Rattle.cms.specs.declared.signer.SignerFault.{SignerFault}
+use Rattle.desk.specs.Answers.{entered}
+use Rattle.desk.specs.Calls.{IsOfStore, looked_at}
+use Rattle.desk.specs.declared.looking.Looked.{Looked}
+use Rattle.policy.specs.Record.{CounterValue}
+use Rattle.desk.specs.Command.{Calibrate, Hold}
+use Rattle.desk.specs.Stepped.{DeskValue}
+use Rattle.service.specs.Answers.{AnswerValue, success}
+use Rattle.service.specs.Forms.{field_of}
+use Rattle.service.specs.Served.{Tells, plainly, backwards, SendsOrWants}
+use Rattle.service.specs.Status.{status_text}
+use Rattle.service.specs.Telling.{ServesStatus}
+use Rattle.service.specs.declared.answer.Media.TheVariants as media
+use Rattle.service.specs.declared.served.Served.{Served}
+use Rattle.service.specs.Views.{added_answer}
+
+-- the first field has the name, or it is looked for among the others
+pub found_first : (name : List ℕ) (field : List ℕ × List ℕ) (fields : List (List ℕ × List ℕ))
+    → bytes_eq field.0 name ≡ true → field_of name (field ∷ fields) ≡ Some field.1
+found_first name field fields is = rw is
+
+pub found_later : (name : List ℕ) (field : List ℕ × List ℕ) (fields : List (List ℕ × List ℕ))
+    → bytes_eq field.0 name ≡ false → field_of name (field ∷ fields) ≡ field_of name fields
+found_later name field fields is = rw is
+
+-- the state of the clock as it was looked at, and the store's count of faults since
+pub status_told : {B W : Type 0} (g : Ghosts B) (contents : W → Option (List ℕ)) (w w' : W) (old new : B)
+    (counter file_counter : CounterValue) (reading asked : ℤ) (looked : Looked) (store signer : ℕ) (body : List ℕ)
+    (outcome : Served) → body ≡ status_text counter asked looked store signer → counter ≡ file_counter → asked ≡ reading
+    → (g.honest new → (b : History) → Stands g b old → looked ≡ looked_at asked b) → store ≡ g.fault_count new
+    → SendsOrWants contents w w' (success 200 media.Text body) outcome
+    → ServesStatus g contents w w' old new file_counter reading signer outcome
+status_told g contents w w' old new counter file_counter reading asked looked store signer body outcome text of at finds
+    counted sent = inl (record {
+      body = body;
+      is = λ honest b stands.
+          text ∙ ap (λ x. status_text x asked looked store signer) of
+          ∙ ap (λ x. status_text file_counter x looked store signer) at
+          ∙ ap (λ x. status_text file_counter reading x store signer) (finds honest b stands)
+          ∙ ap (λ x. status_text file_counter reading (looked_at x b) store signer) at
+          ∙ ap (λ x. status_text file_counter reading (looked_at reading b) x signer) counted;
+      sent = sent;
+    })
+
+module _ {B X : Type 0} (g : Ghosts B) (signs : X → List ℕ → Result (List ℕ) SignerFault → X → Type 0) (count : X → ℕ)
+    (old new : DeskValue B) (a : AnswerValue) where
+  -- what is told of a calibration
+  pub calibration_told : (x : CalibrationValue) (outcome : Result (Unit {0}) StoreFault)
+      → (g.honest new.store → (b : History) → Stands g b old.store → outcome ≡ Err store.Backwards
+      → IsBackwards x (latest_calibration b))
+      → a ≡ added_answer outcome → Tells g signs count old new (Calibrate x) (entered outcome) a
+  calibration_told x (Ok done) behind is = plainly is
+  calibration_told x (Err store.Memory) behind is = plainly is
+  calibration_told x (Err store.Database) behind is = plainly is
+  calibration_told x (Err store.NotOurs) behind is = plainly is
+  calibration_told x (Err store.Full) behind is = plainly is
+  calibration_told x (Err store.Backwards) behind is =
+      backwards x refl refl (λ honest b stands. behind honest b stands refl) is
+
+  -- what is told of a hold
+  pub hold_told : (x : HoldValue) (outcome : Result (Unit {0}) StoreFault) → IfErr outcome IsOfStore
+      → a ≡ added_answer outcome → Tells g signs count old new (Hold x) (entered outcome) a
+  hold_told x (Ok done) of is = plainly is
+  hold_told x (Err store.Memory) of is = plainly is
+  hold_told x (Err store.Database) of is = plainly is
+  hold_told x (Err store.NotOurs) of is = plainly is
+  hold_told x (Err store.Full) of is = plainly is
+  hold_told x (Err store.Backwards) (inl other) is = absurd cc
+  hold_told x (Err store.Backwards) (inr other) is = absurd cc

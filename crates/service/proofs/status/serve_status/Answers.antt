@@ -1,0 +1,19 @@
+use Rattle.std.proofs.Common.{◌∙◌, SFits, w64, to_z-of_z, to_z, of_z, rules, sym, ap, subst}
+use Rattle.policy.specs.View.{counter_view}
+use Rattle.service.proofs.Operators.{status_told}
+use Rattle.service.proofs.status.serve_status.Goals as goal
+
+pub returns-in-Some-clause-served : goal.returns-in-Some-clause-served
+returns-in-Some-clause-served g c =
+    let fits : SFits w64 c.args.reading = search rules in
+    let same = c.store_faults-store.ensures.same in
+    status_told g.B.Standing g.W.Write.contents c.args.writer.now c.succeed.new.writer c.args.desk.now.store
+    c.store_faults-store.new.desk.store (counter_view c.policy-policy.result.now.counter)
+    c.args.desk.now.setting.file.counter c.args.reading (to_z w64 (of_z w64 c.args.reading)) c.in-Ok.looked
+    c.store_faults-store.result c.args.signer_faults c.deref.result.now c.succeed.result
+    (c.deref.ensures.value ∙ c.in-Some.ensures)
+    (ap (λ p. p.counter) c.policy-policy.ensures ∙ ap (λ d. d.setting.file.counter) same
+    ∙ ap (λ s. s.file.counter) c.look.ensures.setting)
+    (to_z-of_z fits)
+    (λ honest b stands. c.in-Ok.ensures.value (subst (λ d. g.B.Standing.honest d.store) same honest) b stands)
+    (c.store_faults-store.ensures.value ∙ ap (λ d. g.B.Standing.fault_count d.store) (sym same)) c.succeed.ensures

@@ -1,0 +1,244 @@
+//! The counter's state, for an operator or an auditor.
+ghost use Rattle.std.specs.Prelude.{◌≡◌, ◌++◌, ◌≤◌, codes, IfOk, IfSome, OnSome, option_map, string_bytes};
+ghost use Rattle.std.specs.Fmt.{decimal};
+ghost use Rattle.gentime.specs.GenTime.{text_of};
+ghost use Rattle.policy.specs.View.{counter_view};
+ghost use Rattle.decide.specs.Clock.{elapsed};
+ghost use Rattle.book.specs.Stands.{OnlyLooks};
+ghost use Rattle.service.specs.Status.{drifting, greatest_age, age_left, or_none, yes_or_no, named};
+ghost use Rattle.service.specs.Status.{calibration_lines, clock_lines, fault_lines, status_text};
+ghost use Rattle.service.specs.Telling.{ServesStatus};
+
+use crate::answer::Media;
+use crate::responding::{succeed, wanting};
+use crate::served::Served;
+use book::Book;
+use decide::Calibration;
+use desk::{Desk, Looked};
+use gentime::GenTime;
+use policy::Counter;
+use std::alloc::{AllocError, Global};
+use std::io::Write;
+
+/// How long ago the calibration was, in microseconds.
+fn age(reading: i64, calibration: &Calibration) -> u64
+    ensures { result ≡ elapsed reading calibration.now }
+{
+    match u64::try_from(i128::from(reading) - i128::from(calibration.reading)) {
+        Ok(age) => age,
+        Err(_) => 0,
+    }
+}
+
+/// How old a calibration may become until the drift has used up what is left of the accuracy.
+fn drifting(counter: &Counter, left: u64) -> u64
+    requires { left ≤ 1_000_000 }
+    ensures { result ≡ drifting (counter_view counter.now) left }
+{
+    if counter.drift_ppb == 0 {
+        return counter.max_age_us;
+    }
+    let drifted = left * 1_000_000_000 / u64::from(counter.drift_ppb);
+    drifted.min(counter.max_age_us)
+}
+
+/// How old a calibration may become until no token is given under it any more.
+#[tactic(auto, unfolding(crate::specs::Status::greatest_age))]
+fn greatest_age(counter: &Counter, calibration: &Calibration) -> u64
+    ensures { result ≡ greatest_age (counter_view counter.now) calibration.now }
+{
+    let rounding = GenTime::step(counter.fraction_digits) - 1;
+    let accuracy = u64::from(counter.accuracy_us);
+    match calibration.uncertainty.checked_add(rounding) {
+        Some(taken) if taken <= accuracy => drifting(counter, accuracy - taken),
+        _ => 0,
+    }
+}
+
+/// How long it lasts yet.
+fn age_left(counter: &Counter, reading: i64, calibration: &Calibration) -> u64
+    ensures { result ≡ age_left (counter_view counter.now) reading calibration.now }
+{
+    greatest_age(counter, calibration).saturating_sub(age(reading, calibration))
+}
+
+/// How long ago the latest calibration was, if there is one.
+fn latest_age(reading: i64, calibration: Option<Calibration>) -> Option<u64>
+    ensures { result ≡ option_map (elapsed reading) calibration }
+{
+    match calibration {
+        Some(calibration) => Some(age(reading, &calibration)),
+        None => None,
+    }
+}
+
+/// How long it lasts yet.
+fn latest_left(counter: &Counter, reading: i64, calibration: Option<Calibration>) -> Option<u64>
+    ensures { result ≡ option_map (age_left (counter_view counter.now) reading) calibration }
+{
+    match calibration {
+        Some(calibration) => Some(age_left(counter, reading, &calibration)),
+        None => None,
+    }
+}
+
+/// A number, or that there is none.
+fn number_text(alloc: Global, number: Option<u64>) -> Result<String, AllocError>
+    ensures { IfOk result (λ text. string_bytes text ≡ or_none decimal number) }
+{
+    match number {
+        Some(number) => format!(in alloc; "{number}"),
+        None => String::from_str(alloc, "none"),
+    }
+}
+
+/// A genTime with its fraction digits, or that there is none. None where memory runs out.
+fn moment_text(alloc: Global, moment: Option<GenTime>) -> Option<Vec<u8>>
+    ensures { IfSome result (λ text. text.items ≡ or_none (text_of 6) moment) }
+{
+    match moment {
+        Some(moment) => moment.write(alloc, 6).ok(),
+        None => b"none".to_vec(alloc).ok(),
+    }
+}
+
+/// Whether it is so.
+fn yes_or_no(answer: bool) -> &'static str
+    ensures { result.now ≡ yes_or_no answer }
+{
+    if answer { "yes" } else { "no" }
+}
+
+/// Appends a line with a name and a value. None where memory runs out.
+fn append_named(lines: &mut Vec<u8>, name: &str, value: &[u8]) -> Option<()>
+    ensures { OnSome result (lines.new.items ≡ lines.old.items ++ named name.now value.now) }
+{
+    lines.extend_from_slice(name.as_bytes()).ok()?;
+    lines.push(b' ').ok()?;
+    lines.extend_from_slice(value).ok()?;
+    lines.push(b'\n').ok()
+}
+
+/// Appends a line with a number, or with the word that there is none.
+fn append_number(alloc: Global, lines: &mut Vec<u8>, name: &str, number: Option<u64>) -> Option<()>
+    ensures { OnSome result (lines.new.items ≡ lines.old.items ++ named name.now (or_none decimal number)) }
+{
+    let text = number_text(alloc, number).ok()?;
+    append_named(lines, name, text.as_bytes())
+}
+
+/// Appends the line on the last genTime.
+fn append_moment(alloc: Global, lines: &mut Vec<u8>, moment: Option<GenTime>) -> Option<()>
+    ensures { OnSome result (lines.new.items
+        ≡ lines.old.items ++ named (codes "last-gen-time") (or_none (text_of 6) moment)) }
+{
+    let text = moment_text(alloc, moment)?;
+    append_named(lines, "last-gen-time", &text)
+}
+
+/// Appends the lines on the latest calibration: how long ago it was, and how long it lasts yet.
+fn append_calibration(
+    alloc: Global,
+    lines: &mut Vec<u8>,
+    age: Option<u64>,
+    left: Option<u64>,
+) -> Option<()>
+    ensures { OnSome result (lines.new.items ≡ lines.old.items ++ calibration_lines age left) }
+{
+    append_number(alloc, lines, "calibration-age-us", age)?;
+    append_number(alloc, lines, "calibration-left-us", left)
+}
+
+/// Appends the lines on the clock.
+fn append_clock(
+    alloc: Global,
+    lines: &mut Vec<u8>,
+    moment: Option<GenTime>,
+    age: Option<u64>,
+    left: Option<u64>,
+    held: bool,
+) -> Option<()>
+    ensures { OnSome result (lines.new.items ≡ lines.old.items ++ clock_lines moment age left held) }
+{
+    append_moment(alloc, lines, moment)?;
+    append_calibration(alloc, lines, age, left)?;
+    append_named(lines, "held", yes_or_no(held).as_bytes())
+}
+
+/// Appends the lines on faults of store and signer.
+fn append_faults(alloc: Global, lines: &mut Vec<u8>, store: u64, signer: u64) -> Option<()>
+    ensures { OnSome result (lines.new.items ≡ lines.old.items ++ fault_lines store signer) }
+{
+    append_number(alloc, lines, "store-faults", Some(store))?;
+    append_number(alloc, lines, "signer-faults", Some(signer))
+}
+
+/// The state at a reading of the clock; the last two numbers are the faults of store and signer. None where memory runs
+/// out.
+fn status_text(
+    alloc: Global,
+    counter: &Counter,
+    reading: i64,
+    looked: Looked,
+    store: u64,
+    signer: u64,
+) -> Option<Vec<u8>>
+    ensures { IfSome result (λ text. text.items
+        ≡ status_text (counter_view counter.now) reading looked store signer) }
+{
+    let clock = looked.clock;
+    let age = latest_age(reading, clock.calibration);
+    let left = latest_left(counter, reading, clock.calibration);
+    let mut lines = Vec::new(alloc);
+    append_number(alloc, &mut lines, "serial", Some(looked.serial))?;
+    append_clock(
+        alloc,
+        &mut lines,
+        clock.last_gen_time,
+        age,
+        left,
+        clock.held,
+    )?;
+    append_faults(alloc, &mut lines, store, signer)?;
+    Some(lines)
+}
+
+/// How often the desk's store failed.
+fn store_faults<B: Book + Drop>(desk: &mut Desk<'_, B>) -> u64
+    ensures same { desk.new ≡ desk.old }
+    ensures value { result ≡ B.fault_count desk.old.store }
+{
+    desk.store().faults()
+}
+
+/// Tells an operator or an auditor of the counter's state at a reading of the clock, where the signer has so many faults.
+pub(crate) fn serve_status<W: Write, B: Book + Drop>(
+    alloc: Global,
+    writer: &mut W,
+    desk: &mut Desk<'_, B>,
+    reading: i64,
+    signer_faults: u64,
+) -> Served
+    ensures setting { desk.new.setting ≡ desk.old.setting }
+    ensures looks { OnlyLooks B.Standing desk.old.store desk.new.store }
+    ensures served { ServesStatus B.Standing W.contents writer.old writer.new desk.old.store desk.new.store
+        desk.old.setting.file.counter reading signer_faults result }
+{
+    let Ok(looked) = desk.look(reading) else {
+        return wanting(writer);
+    };
+    let store = store_faults(desk);
+    let policy = desk.policy();
+    let told = status_text(
+        alloc,
+        &policy.counter,
+        reading,
+        looked,
+        store,
+        signer_faults,
+    );
+    match told {
+        Some(text) => succeed(alloc, writer, Media::Text, &text),
+        None => wanting(writer),
+    }
+}
