@@ -2,8 +2,8 @@
 use Rattle.std.proofs.Common.{◌≡◌, List, [], ◌∷◌, ◌++◌, Some, codes, inl, refl}
 use Rattle.std.specs.Prelude.{option_map}
 use Rattle.clap.specs.Words.{Text, fault_of, first_of, one_of, subcommand_of}
-use Rattle.clap.specs.declared.error.kind.ErrorKind.TheVariants.{ArgumentConflict, DisplayHelp, MissingRequiredArgument}
-use Rattle.clap.specs.declared.error.kind.ErrorKind.TheVariants.{MissingSubcommand, TooManyValues, UnknownArgument}
+use Rattle.clap.specs.declared.error.kind.ErrorKind.TheVariants.{ArgumentConflict, DisplayHelp, DisplayVersion}
+use Rattle.clap.specs.declared.error.kind.ErrorKind.TheVariants.{MissingRequiredArgument, MissingSubcommand, TooManyValues, UnknownArgument}
 use Rattle.clap.specs.declared.error.kind.ErrorKind.TheVariants.{ValueValidation}
 use Rattle.clap.proofs.OnLiterals.{clap_on_literals}
 use Rattle.command_line.specs.Options.{counter_command}
@@ -68,6 +68,10 @@ pub help_among_settings_is_asked : fault_of counter_command (tst_words (codes "6
     ≡ DisplayHelp ∷ []
 unfolding clap_on_literals
 help_among_settings_is_asked = refl
+
+pub version_is_asked : fault_of counter_command (codes "counter" ∷ codes "--version" ∷ []) ≡ DisplayVersion ∷ []
+unfolding clap_on_literals
+version_is_asked = refl
 
 pub check_needs_rules : fault_of counter_command (codes "counter" ∷ codes "check" ∷ []) ≡ MissingRequiredArgument ∷ []
 unfolding clap_on_literals

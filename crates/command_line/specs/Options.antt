@@ -204,9 +204,10 @@ subcommands =
     ∷ audit_command
     ∷ []
 
--- the program without its subcommands, of which one has to be there
+-- the program without its subcommands, of which one has to be there; it has a version to tell
 abbrev pub bare_command : App
-bare_command = on_top (λ top. record top { subcommand_required = true }) (new_app (codes "counter"))
+bare_command =
+    on_top (λ top. record top { has_version = true; subcommand_required = true }) (new_app (codes "counter"))
 
 abbrev pub counter_command : App
 counter_command = with_subcommands subcommands bare_command

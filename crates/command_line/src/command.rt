@@ -5,6 +5,7 @@ ghost use Rattle.command_line.specs.Options.{bare_command, counter_command};
 ghost use Rattle.command_line.specs.Table.{app_in};
 
 use crate::table::{SubcommandRow, subcommand_rows};
+use crate::version::VERSION;
 use clap::Command;
 use std::alloc::{AllocError, Global};
 
@@ -24,6 +25,7 @@ fn bare_command<'a>(alloc: Global) -> Command<'a>
 {
     Command::new(alloc, "counter")
         .about("The counter of a time-stamping authority (RFC 3161)")
+        .version(VERSION)
         .subcommand_required(true)
 }
 

@@ -7,6 +7,7 @@ mod parse;
 mod refusal;
 mod signer;
 mod table;
+mod version;
 mod words;
 
 pub use refusal::Refusal;

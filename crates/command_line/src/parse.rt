@@ -67,7 +67,7 @@ fn asked_in<'a>(alloc: Global, matches: &ArgMatches<'a>) -> Result<Word<'a>, Err
     }
 }
 
-/// What `clap` shows on standard output is help, and anything else is a mistake.
+/// What `clap` shows on standard output is help or the version, and anything else is a mistake.
 fn refusal_of(alloc: Global, error: &Error) -> Result<Refusal, AllocError>
     ensures { IfOk result (IsShown (kind_of error.now)) }
 {

@@ -6,7 +6,7 @@ use std::alloc::AllocError;
 /// Why there is nothing to do.
 #[derive(Debug, Drop)]
 pub enum Refusal {
-    /// The words ask for help, and this is its text.
+    /// The words ask for help or for the version, and this is its text.
     Help(String),
     /// The words aren't understood, and this is why.
     Mistake(String),
