@@ -1,2 +1,3 @@
 pub mod Clock
+pub mod Renewed
 pub mod Turns

@@ -4,7 +4,7 @@
 use super::exchanges::{exchanged, listening, long, short};
 use super::octets::{GRANTED_WITH, RULE_12, WITH_CERTIFICATE};
 use super::setting::{QUERY, REPLY, algorithm, answer, request};
-use cms::{FramedSigner, Signer};
+use cms::Signer;
 use connections::{SignerUnreached, connect_signer};
 use std::io::{Read, Write};
 use std::net::{TcpListener, TcpStream};
@@ -12,9 +12,13 @@ use std::test::Fail;
 use std::time::Duration;
 
 /// A signer of a key holder.
-type Session = FramedSigner<TcpStream, TcpStream>;
+type Session<'a> = connections::Session<'a, HostRuntime>;
 
-fn connect(rt: &HostRuntime, address: &str, limit: Duration) -> Result<Option<Session>, Fail> {
+fn connect<'a>(
+    rt: &'a HostRuntime,
+    address: &str,
+    limit: Duration,
+) -> Result<Option<Session<'a>>, Fail> {
     match connect_signer(rt, address, limit, algorithm(rt.alloc())?) {
         Ok(signer) => Ok(Some(signer)),
         Err(SignerUnreached) => Ok(None),
@@ -26,26 +30,30 @@ fn address_of(rt: &HostRuntime, holder: &TcpListener) -> Result<String, Fail> {
 }
 
 /// A signer whose key holder listens there.
-fn connected(rt: &HostRuntime, holder: &TcpListener, limit: Duration) -> Result<Session, Fail> {
+fn connected<'a>(
+    rt: &'a HostRuntime,
+    holder: &TcpListener,
+    limit: Duration,
+) -> Result<Session<'a>, Fail> {
     match connect(rt, &address_of(rt, holder)?, limit)? {
         Some(signer) => Ok(signer),
         None => Err(Fail::new("the signer isn't reached")),
     }
 }
 
-fn faults(signer: &Session) -> u64 {
+fn faults(signer: &Session<'_>) -> u64 {
     signer.faults()
 }
 
 /// The request is answered by a signer, once.
-fn granted(rt: &HostRuntime, signer: &mut Session) -> Result<(), Fail> {
+fn granted(rt: &HostRuntime, signer: &mut Session<'_>) -> Result<(), Fail> {
     let query = request(rt.alloc(), QUERY, WITH_CERTIFICATE)?;
     let granted = answer(rt.alloc(), "200 OK", REPLY, GRANTED_WITH)?;
     exchanged(rt, &[(&query, &granted)], long(), 1, signer)
 }
 
 /// The request is rejected for want of a signature, twice.
-fn rejected(rt: &HostRuntime, signer: &mut Session) -> Result<(), Fail> {
+fn rejected(rt: &HostRuntime, signer: &mut Session<'_>) -> Result<(), Fail> {
     let query = request(rt.alloc(), QUERY, WITH_CERTIFICATE)?;
     let rejected = answer(rt.alloc(), "200 OK", REPLY, RULE_12)?;
     let rows: [(&[u8], &[u8]); 2] = [(&query, &rejected), (&query, &rejected)];

@@ -10,7 +10,7 @@ ghost use Rattle.operations.specs.Opening.{IsStartingFault};
 
 use crate::desk_operation::{DeskOperation, perform_at_desk};
 use crate::fault::OperationFault;
-use crate::signing::Signing;
+use crate::signing::{Renewal, Signing};
 use crate::terms::Terms;
 use book::Book;
 use cms::Signer;
@@ -61,7 +61,16 @@ pub fn answer(
         (account_asked question.now.account) question.now.query.now (reply_as reply)) }
     ensures refusals { IfErr result IsStartingFault }
 {
-    perform_at_desk(rt, path, terms, signing, *question, &mut (), &mut ())
+    perform_at_desk(
+        rt,
+        path,
+        terms,
+        signing,
+        Renewal::Never,
+        *question,
+        &mut (),
+        &mut (),
+    )
 }
 
 /// Answers the request by a desk and a signer.

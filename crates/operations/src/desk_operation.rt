@@ -7,7 +7,7 @@ ghost use Rattle.operations.specs.Opening.{IsStartingFault, IsUnreached};
 use crate::fault::OperationFault;
 use crate::opening::perform_at;
 use crate::operation::Operation;
-use crate::signing::{Signing, reach};
+use crate::signing::{Renewal, Signing, reach, reach_again};
 use crate::terms::Terms;
 use book::Book;
 use cms::Signer;
@@ -39,6 +39,7 @@ pub(crate) trait DeskOperation<I, O>: Drop {
 struct AtDesk<'a, T> {
     terms: Terms<'a>,
     signing: Signing<'a>,
+    renewal: Renewal,
     operation: T,
 }
 
@@ -62,6 +63,7 @@ impl<I, O, T: DeskOperation<I, O>> Operation<I, O> for AtDesk<'_, T> {
         let AtDesk {
             terms,
             signing,
+            renewal,
             operation,
         } = self;
         let mut desk = Desk::new(
@@ -71,7 +73,7 @@ impl<I, O, T: DeskOperation<I, O>> Operation<I, O> for AtDesk<'_, T> {
             terms.algorithm,
             book,
         );
-        let answer = perform_signed(rt, &mut desk, signing, operation, input, output);
+        let answer = perform_signed(rt, &mut desk, signing, renewal, operation, input, output);
         (desk.into_store(), answer)
     }
 }
@@ -81,6 +83,7 @@ fn perform_signed<B: Book + Drop, I, O, T: DeskOperation<I, O>>(
     rt: &HostRuntime,
     desk: &mut Desk<'_, B>,
     signing: Signing<'_>,
+    renewal: Renewal,
     operation: T,
     input: &mut I,
     output: &mut O,
@@ -96,10 +99,16 @@ fn perform_signed<B: Book + Drop, I, O, T: DeskOperation<I, O>>(
             let mut signer = signer;
             Ok(operation.perform(rt, desk, &mut signer, input, output))
         }
-        Signing::Session { address, algorithm } => {
-            let mut signer = reach(rt, address, algorithm)?;
-            Ok(operation.perform(rt, desk, &mut signer, input, output))
-        }
+        Signing::Session { address, algorithm } => match renewal {
+            Renewal::Never => {
+                let mut signer = reach(rt, address, algorithm)?;
+                Ok(operation.perform(rt, desk, &mut signer, input, output))
+            }
+            Renewal::AfterLoss => {
+                let mut signer = reach_again(rt, address, algorithm)?;
+                Ok(operation.perform(rt, desk, &mut signer, input, output))
+            }
+        },
     }
 }
 
@@ -111,6 +120,7 @@ pub(crate) fn perform_at_desk<I, O, T: DeskOperation<I, O>>(
     path: &str,
     terms: Terms<'_>,
     signing: Signing<'_>,
+    renewal: Renewal,
     operation: T,
     input: &mut I,
     output: &mut O,
@@ -124,6 +134,7 @@ pub(crate) fn perform_at_desk<I, O, T: DeskOperation<I, O>>(
     let at_desk = AtDesk {
         terms,
         signing,
+        renewal,
         operation,
     };
     perform_at(rt, path, at_desk, input, output)?

@@ -7,7 +7,7 @@ ghost use Rattle.operations.specs.Opening.{IsStartingFault};
 
 use crate::desk_operation::{DeskOperation, perform_at_desk};
 use crate::fault::OperationFault;
-use crate::signing::Signing;
+use crate::signing::{Renewal, Signing};
 use crate::terms::Terms;
 use book::Book;
 use cms::Signer;
@@ -63,6 +63,7 @@ pub fn exchange<R: Read, W: Write>(
         path,
         terms,
         signing,
+        Renewal::Never,
         OneRequest { reading },
         reader,
         writer,

@@ -4,7 +4,7 @@ ghost use Rattle.operations.specs.Opening.{IsServingFault};
 
 use crate::desk_operation::{DeskOperation, perform_at_desk};
 use crate::fault::OperationFault;
-use crate::signing::Signing;
+use crate::signing::{Renewal, Signing};
 use crate::terms::Terms;
 use book::Book;
 use cms::Signer;
@@ -55,7 +55,16 @@ pub fn serve(
         address,
         connections,
     };
-    perform_at_desk(rt, path, terms, signing, serving, &mut (), &mut ())?
+    perform_at_desk(
+        rt,
+        path,
+        terms,
+        signing,
+        Renewal::AfterLoss,
+        serving,
+        &mut (),
+        &mut (),
+    )?
 }
 
 /// Listens on the address, and serves connections.

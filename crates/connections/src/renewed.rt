@@ -1,0 +1,115 @@
+//! A signer whose session is opened anew where it was lost.
+ghost use Rattle.std.specs.Prelude.{◌≡◌, ◌≤◌, IfSome, IfOk, vec_len};
+ghost use Rattle.cms.specs.Signer.{signed_by};
+ghost use Rattle.connections.specs.Renewed.{AsksSession};
+
+use cms::{Algorithm, Signer, SignerFault};
+use std::marker::Model;
+
+/// Opens sessions of signers.
+pub trait Sessions<S> {
+    /// A session that was just opened.
+    ghost fresh: { S → Type 0 };
+
+    /// Another session, of signatures of that algorithm; none where none can be opened now.
+    fn open(&mut self, algorithm: &Algorithm) -> Option<S>
+        ensures { IfSome result fresh };
+
+    /// A session was lost.
+    fn lost(&mut self);
+}
+
+/// Asks one session call after call. A call that fails loses it: that call is `Failed`, and at the next one another
+/// session is opened, once. Where none can be, that call is `Failed` too. Each such call is counted.
+#[derive(Drop)]
+pub struct RenewedSigner<S, O> {
+    sessions: O,
+    session: Option<S>,
+    algorithm: Algorithm,
+    faults: u64,
+}
+
+impl<S, O> Model for RenewedSigner<S, O> {
+    ghost use Rattle.connections.specs.Renewed.{RenewedState};
+
+    ghost Value = { RenewedState S };
+
+    ghost view = { λ s. record { session = s.session; algorithm = s.algorithm; faults = s.faults } };
+}
+
+impl<S: Signer + Drop, O: Sessions<S>> RenewedSigner<S, O> {
+    ghost use Rattle.std.specs.Prelude.{Some, None, IfNone};
+    ghost use Rattle.connections.specs.Renewed.{IsTaken};
+
+    /// A signer of that algorithm with an open session, and what opens others. Takes no memory.
+    pub fn new(sessions: O, session: S, algorithm: Algorithm) -> RenewedSigner<S, O>
+        ensures { result ≡ record { session = Some session; algorithm = algorithm; faults = 0 } }
+    {
+        RenewedSigner {
+            sessions,
+            session: Some(session),
+            algorithm,
+            faults: 0,
+        }
+    }
+
+    /// The session that is open, or, where none is, one that was just opened. None is kept.
+    fn taken(&mut self) -> Option<S>
+        ensures taken { IfSome result (IsTaken O.fresh self.old.session) }
+        ensures missing { IfNone result (self.old.session ≡ None) }
+        ensures none_kept { self.new.session ≡ None }
+        ensures same_faults { self.new.faults ≡ self.old.faults }
+        ensures same_algorithm { self.new.algorithm ≡ self.old.algorithm }
+    {
+        match self.session.take() {
+            Some(session) => Some(session),
+            None => self.sessions.open(&self.algorithm),
+        }
+    }
+}
+
+/// Asks a session: its answer, and what is left of it.
+fn ask<S: Signer + Drop>(session: S, text: &[u8]) -> (Result<Vec<u8>, SignerFault>, Option<S>)
+    ensures asks { AsksSession S.signs session text.now (signed_by result.0) result.1 }
+    ensures some { IfOk result.0 (λ signature. 1 ≤ vec_len signature) }
+    ensures few { IfOk result.0 (λ signature. vec_len signature ≤ 4096) }
+{
+    let mut session = session;
+    match session.sign(text) {
+        Ok(answer) => (Ok(answer), Some(session)),
+        Err(SignerFault::Memory) => (Err(SignerFault::Memory), Some(session)),
+        Err(SignerFault::Failed) => (Err(SignerFault::Failed), None),
+    }
+}
+
+impl<S: Signer + Drop, O: Sessions<S>> Signer for RenewedSigner<S, O> {
+    ghost use Rattle.connections.specs.Renewed.{SignsRenewed};
+
+    ghost signs = { SignsRenewed S.signs O.fresh };
+
+    ghost fault_count = { λ signer. signer.faults };
+
+    ghost algorithm_octets = { λ signer. signer.algorithm };
+
+    fn sign(&mut self, text: &[u8]) -> Result<Vec<u8>, SignerFault> {
+        let Some(session) = self.taken() else {
+            self.faults = self.faults.wrapping_add(1);
+            return Err(SignerFault::Failed);
+        };
+        let (answer, left) = ask(session, text);
+        self.session = left;
+        if let Err(SignerFault::Failed) = answer {
+            self.faults = self.faults.wrapping_add(1);
+            self.sessions.lost();
+        }
+        answer
+    }
+
+    fn algorithm(&self) -> &Algorithm {
+        &self.algorithm
+    }
+
+    fn faults(&self) -> u64 {
+        self.faults
+    }
+}

@@ -1,0 +1,70 @@
+//! The two ways of a session with a key holder.
+use std::cell::Cell;
+use std::io;
+use std::io::{ErrorKind, Read, Write};
+use std::net::TcpStream;
+use std::rc::Rc;
+use std::time::{Clock, Duration, Instant};
+
+/// How far an exchange is.
+#[derive(Clone, Copy)]
+pub(crate) struct Exchange {
+    /// When its time is up; none before the first.
+    pub(crate) end: Option<Instant>,
+    /// An answer was waited for: what is written next begins another.
+    pub(crate) is_asked: bool,
+}
+
+/// One way of a stream to a key holder. An exchange begins with the first octet that is written, and goes on until
+/// octets are written after some were read. It has so much time in all: what isn't done by then fails.
+#[derive(Drop)]
+pub struct SessionStream<'a, R> {
+    pub(crate) clock: &'a R,
+    pub(crate) stream: TcpStream,
+    pub(crate) limit: Duration,
+    pub(crate) exchange: Rc<Cell<Exchange>>,
+}
+
+impl<R: Clock> SessionStream<'_, R> {
+    /// The time that is left of an exchange, which is some.
+    fn left(&self, is_read: bool) -> io::Result<Duration> {
+        let now = Instant::now(self.clock)?;
+        let exchange = self.exchange.get();
+        let end = match exchange.end {
+            Some(end) if is_read || !exchange.is_asked => end,
+            _ => match now.checked_add(self.limit) {
+                Some(end) => end,
+                None => return Err(io::Error::from(ErrorKind::InvalidInput)),
+            },
+        };
+        self.exchange.set(Exchange {
+            end: Some(end),
+            is_asked: is_read,
+        });
+        let left = end.duration_since(now);
+        if left.is_zero() {
+            return Err(io::Error::from(ErrorKind::TimedOut));
+        }
+        Ok(left)
+    }
+}
+
+impl<R: Clock> Read for SessionStream<'_, R> {
+    fn read(&mut self, buf: &mut [u8]) -> io::Result<usize> {
+        let left = self.left(true)?;
+        self.stream.set_read_timeout(Some(left))?;
+        self.stream.read(buf)
+    }
+}
+
+impl<R: Clock> Write for SessionStream<'_, R> {
+    fn write(&mut self, buf: &[u8]) -> io::Result<usize> {
+        let left = self.left(false)?;
+        self.stream.set_write_timeout(Some(left))?;
+        self.stream.write(buf)
+    }
+
+    fn flush(&mut self) -> io::Result<()> {
+        Ok(())
+    }
+}
