@@ -1,10 +1,14 @@
 //! A stream whose writes end by a moment.
 ghost use Rattle.std.specs.Prelude.{◌≡◌, None};
+ghost use Rattle.std.specs.Io.{WritesAtMost};
 
 use std::io;
 use std::io::{ErrorKind, Write};
 use std::net::TcpStream;
 use std::time::{Clock, Duration, Instant};
+
+/// How often a write is tried again that ended before its time, as where the process was stopped and goes on.
+const MOST_INTERRUPTIONS: usize = 1_000;
 
 /// What is written to a stream that doesn't wait. From the first write on it has so much time: what isn't done by then
 /// fails. What the system has no room for yet is waited for.
@@ -54,8 +58,11 @@ impl<'a, R: Clock> Limited<'a, R> {
     }
 }
 
-impl<R: Clock> Write for Limited<'_, R> {
-    fn write(&mut self, buf: &[u8]) -> io::Result<usize> {
+impl<R: Clock> Limited<'_, R> {
+    /// Writes at once what can be, and else waits.
+    fn write_some(&mut self, buf: &[u8]) -> io::Result<usize>
+        ensures { WritesAtMost result buf.now }
+    {
         let left = self.left()?;
         let mut stream = self.stream;
         if !self.is_waiting {
@@ -69,6 +76,18 @@ impl<R: Clock> Write for Limited<'_, R> {
         }
         self.stream.set_write_timeout(Some(left))?;
         stream.write(buf)
+    }
+}
+
+impl<R: Clock> Write for Limited<'_, R> {
+    fn write(&mut self, buf: &[u8]) -> io::Result<usize> {
+        for _ in 0..MOST_INTERRUPTIONS {
+            match self.write_some(buf) {
+                Err(error) if error.kind() == ErrorKind::Interrupted => {}
+                written => return written,
+            }
+        }
+        Err(io::Error::from(ErrorKind::Interrupted))
     }
 
     fn flush(&mut self) -> io::Result<()> {

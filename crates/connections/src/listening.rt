@@ -277,7 +277,11 @@ impl<'l> Listening<'l> {
             None
         };
         let left = least_left(&self.waiting, &self.closing, now, pause);
-        self.poll.poll(&mut self.events, left)?;
+        match self.poll.poll(&mut self.events, left) {
+            // The process was stopped, and goes on.
+            Err(error) if error.kind() == ErrorKind::Interrupted => return Ok(()),
+            polled => polled?,
+        }
         for event in &self.events {
             if event.token() == LISTENER {
                 self.is_ready = true;

@@ -6,6 +6,9 @@ use std::net::TcpStream;
 use std::rc::Rc;
 use std::time::{Clock, Duration, Instant};
 
+/// How often a read or a write is tried again that ended before its time, as where the process was stopped and goes on.
+const MOST_INTERRUPTIONS: usize = 1_000;
+
 /// How far an exchange is.
 #[derive(Clone, Copy)]
 pub(crate) struct Exchange {
@@ -51,17 +54,29 @@ impl<R: Clock> SessionStream<'_, R> {
 
 impl<R: Clock> Read for SessionStream<'_, R> {
     fn read(&mut self, buf: &mut [u8]) -> io::Result<usize> {
-        let left = self.left(true)?;
-        self.stream.set_read_timeout(Some(left))?;
-        self.stream.read(buf)
+        for _ in 0..MOST_INTERRUPTIONS {
+            let left = self.left(true)?;
+            self.stream.set_read_timeout(Some(left))?;
+            match self.stream.read(buf) {
+                Err(error) if error.kind() == ErrorKind::Interrupted => {}
+                taken => return taken,
+            }
+        }
+        Err(io::Error::from(ErrorKind::Interrupted))
     }
 }
 
 impl<R: Clock> Write for SessionStream<'_, R> {
     fn write(&mut self, buf: &[u8]) -> io::Result<usize> {
-        let left = self.left(false)?;
-        self.stream.set_write_timeout(Some(left))?;
-        self.stream.write(buf)
+        for _ in 0..MOST_INTERRUPTIONS {
+            let left = self.left(false)?;
+            self.stream.set_write_timeout(Some(left))?;
+            match self.stream.write(buf) {
+                Err(error) if error.kind() == ErrorKind::Interrupted => {}
+                taken => return taken,
+            }
+        }
+        Err(io::Error::from(ErrorKind::Interrupted))
     }
 
     fn flush(&mut self) -> io::Result<()> {
