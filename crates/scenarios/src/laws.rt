@@ -7,7 +7,11 @@ use desk::{
     rejections_tell_their_rule, steps_keep_their_promises, steps_leave_sound_histories,
     texts_are_reserved,
 };
-use store::{book_stands_in_tables, equal_tables_tell_the_same, serials_rise};
+use sqlite_disk::Memory;
+use store::{
+    book_stands_in_tables, equal_tables_tell_the_same, openings_find_what_was_left,
+    rows_stand_exactly, serials_rise,
+};
 use tsp::Rule;
 
 static FAULTS: [Fault; 10] = [
@@ -34,7 +38,9 @@ pub fn number(printer: Printer<'_>) {
 pub fn call_of_store() {
     equal_tables_tell_the_same();
     serials_rise();
+    rows_stand_exactly();
     book_stands_in_tables::<Place>();
+    openings_find_what_was_left::<Place, Memory, Memory>();
 }
 
 /// Calls the laws of the desk.

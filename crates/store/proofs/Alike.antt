@@ -15,11 +15,12 @@ use Rattle.book.specs.History.{token_of, stamp_of, stamps, stamp_at}
 use Rattle.book.specs.History.{deposit_at, deposit_under, first_of}
 use Rattle.book.specs.Rights.{is_reader, seen_by, listed, listed_at}
 use Rattle.book.specs.Sound.{IsSound}
-use Rattle.store.specs.TablesOf.{tables_of, calibration_row, hold_row}
+use Rattle.store.specs.Replay.{replayed}
+use Rattle.store.specs.TablesOf.{calibration_row, hold_row, numbered}
 use Rattle.store.proofs.Members.{IsFalling, IsSingle, member_here, member_after, member_cases, no_member, all_of}
 use Rattle.store.proofs.Members.{some_pass, none_pass, fails_each, true_or_false, find_none, find_single, found_member}
 use Rattle.store.proofs.Falling.{stamps_fall}
-use Rattle.store.proofs.Numbered.{numbered, numbers_fall, calibrations_are, holds_are}
+use Rattle.store.proofs.Numbered.{numbers_fall, calibrations_are, holds_are}
 use Rattle.store.proofs.Stamps.{stamps_are}
 use Rattle.store.proofs.DepositRows.{deposits_are, single_number, single_reference}
 use Rattle.store.proofs.Readers.{readers_are}
@@ -153,7 +154,7 @@ filter_map_same {X} {Y} f h same (x ∷ xs) =
     ap (λ (o : Option Y). cons_option o (filter_map f xs)) (same x)
     ∙ ap (cons_option (h x)) (filter_map_same f h same xs)
 
-module _ (b d : History) (sound : IsSound b) (other : IsSound d) (rows : HaveSameRows (tables_of b) (tables_of d)) where
+module _ (b d : History) (sound : IsSound b) (other : IsSound d) (rows : HaveSameRows (replayed b) (replayed d)) where
   stamps_same : stamps b ≡ stamps d
   stamps_same =
       permuted_same (λ s. s.serial) (stamps b) (stamps d) (stamps_fall b sound) (stamps_fall d other)

@@ -16,7 +16,7 @@ use Rattle.book.specs.History.{reservations, stamp_of, token_of, stamps, stamps_
 use Rattle.book.specs.Sound.{IsSound, greatest_number}
 use Rattle.book.specs.Ranges.{IsNextStamp, IsWithin}
 use Rattle.store.specs.Steps.{only_within}
-use Rattle.store.specs.TablesOf.{tables_of}
+use Rattle.store.specs.Replay.{replayed}
 use Rattle.store.proofs.Falling.{stamps_fall}
 use Rattle.store.proofs.Members.{IsFalling, member_here, member_after, member_cases, no_member, all_of}
 use Rattle.store.proofs.Stamps.{stamps_are}
@@ -144,7 +144,7 @@ capped b from to cap s is =
 
 -- what a look-up of the least of a range answers is the next of a walk
 pub next_view : (b : History) (from to cap : ℕ) (found : Option Stamp) → IsSound b → cap ≡ min to greatest_number
-    → IsLeastAs ShowsStamp (λ row. row.serial) (is_within from cap) (tables_of b).stamps found
+    → IsLeastAs ShowsStamp (λ row. row.serial) (is_within from cap) (replayed b).stamps found
     → IsNextStamp from to b (only_within from cap found)
 next_view b from to cap found s is least =
     go found (subst (λ rows. IsLeastAs ShowsStamp (λ row. row.serial) (is_within from cap) rows found) (stamps_are b s)

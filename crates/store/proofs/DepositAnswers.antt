@@ -12,30 +12,30 @@ use Rattle.book.specs.History.{History, deposit_at, stamp_at}
 use Rattle.book.specs.Rights.{deposit_with_stamp}
 use Rattle.book.specs.Sound.{IsSound}
 use Rattle.store.specs.Steps.{IsAskedFor, IsOriginOf, listing_at}
-use Rattle.store.specs.TablesOf.{tables_of}
+use Rattle.store.specs.Replay.{replayed}
 use Rattle.store.proofs.DepositRows.{deposit_view_of, stamp_view_of, origin_view_of, same_deposit, same_stamp}
 use Rattle.store.proofs.DepositRows.{unreserved_listing, unlabelled_listing, labelled_listing}
 
 -- ---- a deposit with its stamp
 
 deposit_seen : (b : History) (n asked : ℕ) (found : Option Deposit) → IsSound b → IsAskedFor n asked
-    → IsFoundAs ShowsDeposit (is_deposit asked) (tables_of b).deposits found
+    → IsFoundAs ShowsDeposit (is_deposit asked) (replayed b).deposits found
     → option_map deposit_view found ≡ deposit_at n b
 deposit_seen b n asked found s is rows = deposit_view_of b asked found s rows ∙ same_deposit b n asked s is
 
 stamp_seen : (b : History) (n asked : ℕ) (found : Option Stamp) → IsSound b → IsAskedFor n asked
-    → IsFoundAs ShowsStamp (is_stamp asked) (tables_of b).stamps found → option_map stamp_view found ≡ stamp_at n b
+    → IsFoundAs ShowsStamp (is_stamp asked) (replayed b).stamps found → option_map stamp_view found ≡ stamp_at n b
 stamp_seen b n asked found s is rows = stamp_view_of b asked found s rows ∙ same_stamp b n asked s is
 
 pub without_deposit : (b : History) (n asked : ℕ) (found : Option Deposit) → IsSound b → IsAskedFor n asked
     → found ≡ None
-    → IsFoundAs ShowsDeposit (is_deposit asked) (tables_of b).deposits found → None ≡ deposit_with_stamp n b
+    → IsFoundAs ShowsDeposit (is_deposit asked) (replayed b).deposits found → None ≡ deposit_with_stamp n b
 without_deposit b n asked found s is none rows =
     let at : deposit_at n b ≡ None =
     sym (deposit_seen b n asked found s is rows) ∙ ap (option_map deposit_view) none in rw at refl
 
 pub without_stamp : (b : History) (n asked : ℕ) (found : Option Stamp) → IsSound b → IsAskedFor n asked → found ≡ None
-    → IsFoundAs ShowsStamp (is_stamp asked) (tables_of b).stamps found → None ≡ deposit_with_stamp n b
+    → IsFoundAs ShowsStamp (is_stamp asked) (replayed b).stamps found → None ≡ deposit_with_stamp n b
 without_stamp b n asked found s is none rows =
     let at : stamp_at n b ≡ None = sym (stamp_seen b n asked found s is rows) ∙ ap (option_map stamp_view) none in
     whatever at (deposit_at n b) refl where
@@ -46,8 +46,8 @@ without_stamp b n asked found s is none rows =
 pub with_both : (b : History) (n asked : ℕ) (found : Option Deposit) (stamped : Option Stamp) (deposit : Deposit)
     (stamp : Stamp) → IsSound b
     → IsAskedFor n asked → found ≡ Some deposit → stamped ≡ Some stamp
-    → IsFoundAs ShowsDeposit (is_deposit asked) (tables_of b).deposits found
-    → IsFoundAs ShowsStamp (is_stamp asked) (tables_of b).stamps stamped
+    → IsFoundAs ShowsDeposit (is_deposit asked) (replayed b).deposits found
+    → IsFoundAs ShowsStamp (is_stamp asked) (replayed b).stamps stamped
     → Some (deposit_view deposit, stamp_view stamp) ≡ deposit_with_stamp n b
 with_both b n asked found stamped deposit stamp s is first second rows stamps =
     let at : deposit_at n b ≡ Some (deposit_view deposit) =
@@ -59,27 +59,27 @@ with_both b n asked found stamped deposit stamp s is first second rows stamps =
 -- ---- what a list shows of a deposit
 
 pub without_origin : (b : History) (n : ℕ) (found : Option Origin) → IsSound b → found ≡ None
-    → IsFoundAs ShowsOrigin (is_stamp n) (tables_of b).stamps found → None ≡ listing_at n b
+    → IsFoundAs ShowsOrigin (is_stamp n) (replayed b).stamps found → None ≡ listing_at n b
 without_origin b n found s none rows =
     sym (unreserved_listing b n s (subst (λ o. IsOriginOf n b o) none (origin_view_of b n found s rows)))
 
 pub without_label : (b : History) (n : ℕ) (found : Option Origin) (origin : Origin) (account : List ℕ)
     (label : Option Label) → IsSound b
     → found ≡ Some origin → account ≡ string_bytes origin.account → label ≡ None
-    → IsFoundAs ShowsOrigin (is_stamp n) (tables_of b).stamps found
-    → IsFoundAs ShowsLabel (is_owned n account) (tables_of b).deposits label → None ≡ listing_at n b
+    → IsFoundAs ShowsOrigin (is_stamp n) (replayed b).stamps found
+    → IsFoundAs ShowsLabel (is_owned n account) (replayed b).deposits label → None ≡ listing_at n b
 without_label b n found origin account label s is named none rows labels =
     let at = subst (λ o. IsOriginOf n b o) is (origin_view_of b n found s rows) in
-    let under : IsFoundAs ShowsLabel (is_owned n (string_bytes origin.account)) (tables_of b).deposits label =
-    subst (λ a. IsFoundAs ShowsLabel (is_owned n a) (tables_of b).deposits label) named labels in
+    let under : IsFoundAs ShowsLabel (is_owned n (string_bytes origin.account)) (replayed b).deposits label =
+    subst (λ a. IsFoundAs ShowsLabel (is_owned n a) (replayed b).deposits label) named labels in
     sym (unlabelled_listing b n origin s at
-    (subst (λ l. IsFoundAs ShowsLabel (is_owned n (string_bytes origin.account)) (tables_of b).deposits l) none under))
+    (subst (λ l. IsFoundAs ShowsLabel (is_owned n (string_bytes origin.account)) (replayed b).deposits l) none under))
 
 pub with_label : (b : History) (n : ℕ) (found : Option Origin) (origin : Origin) (account : List ℕ)
     (labelled : Option Label) (label : Label) → IsSound b
     → found ≡ Some origin → account ≡ string_bytes origin.account → labelled ≡ Some label
-    → IsFoundAs ShowsOrigin (is_stamp n) (tables_of b).stamps found
-    → IsFoundAs ShowsLabel (is_owned n account) (tables_of b).deposits labelled
+    → IsFoundAs ShowsOrigin (is_stamp n) (replayed b).stamps found
+    → IsFoundAs ShowsLabel (is_owned n account) (replayed b).deposits labelled
     → Some (record {
       number = n;
       owner = string_bytes label.owner;
@@ -90,7 +90,7 @@ pub with_label : (b : History) (n : ℕ) (found : Option Origin) (origin : Origi
     ≡ listing_at n b
 with_label b n found origin account labelled label s is named some rows labels =
     let at = subst (λ o. IsOriginOf n b o) is (origin_view_of b n found s rows) in
-    let under : IsFoundAs ShowsLabel (is_owned n (string_bytes origin.account)) (tables_of b).deposits labelled =
-    subst (λ a. IsFoundAs ShowsLabel (is_owned n a) (tables_of b).deposits labelled) named labels in
+    let under : IsFoundAs ShowsLabel (is_owned n (string_bytes origin.account)) (replayed b).deposits labelled =
+    subst (λ a. IsFoundAs ShowsLabel (is_owned n a) (replayed b).deposits labelled) named labels in
     labelled_listing b n origin label s at
-    (subst (λ l. IsFoundAs ShowsLabel (is_owned n (string_bytes origin.account)) (tables_of b).deposits l) some under)
+    (subst (λ l. IsFoundAs ShowsLabel (is_owned n (string_bytes origin.account)) (replayed b).deposits l) some under)

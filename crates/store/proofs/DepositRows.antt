@@ -21,7 +21,7 @@ use Rattle.book.specs.History.{ReservationValue, reservations, reservation_at, g
 use Rattle.book.specs.History.{deposit_at, deposit_under, token_of, stamp_of, stamps, stamp_at}
 use Rattle.book.specs.Rights.{is_reader, shown_to, is_visible}
 use Rattle.book.specs.Sound.{IsSound, greatest_number}
-use Rattle.store.specs.TablesOf.{tables_of}
+use Rattle.store.specs.Replay.{replayed}
 use Rattle.store.proofs.Falling.{stamps_fall}
 use Rattle.store.proofs.Members.{IsSingle, IsSearchedAs, both_true, true_or_false, found_is_searched, found_member}
 use Rattle.store.proofs.Members.{find_single, find_none, none_pass, some_pass, falling_single, member_cases}
@@ -30,7 +30,7 @@ use Rattle.store.proofs.Readers.{key_is, readers_are}
 use Rattle.store.specs.Steps.{IsAskedFor, IsOriginOf, listing_at}
 use Rattle.store.proofs.Stamps.{stamps_are, absent_above, unreserved}
 
-pub deposits_are : (b : History) → (tables_of b).deposits ≡ deposits b
+pub deposits_are : (b : History) → (replayed b).deposits ≡ deposits b
 deposits_are [] = refl
 deposits_are (Reserved r ∷ b) = deposits_are b
 deposits_are (Sealed m token ∷ b) = deposits_are b
@@ -153,14 +153,14 @@ shown_of view test rows (Some y) single (x, m, passes, shows) =
     sym (find_single test rows x single m passes ∙ ap Some (sym shows))
 
 pub deposit_view_of : (b : History) (n : ℕ) (answer : Option Deposit) → IsSound b
-    → IsFoundAs ShowsDeposit (is_deposit n) (tables_of b).deposits answer
+    → IsFoundAs ShowsDeposit (is_deposit n) (replayed b).deposits answer
     → option_map deposit_view answer ≡ deposit_at n b
 deposit_view_of b n answer s found =
     let P : List DepositRow → Type 0 = λ rows. IsFoundAs ShowsDeposit (is_deposit n) rows answer in
     shown_of deposit_view (is_deposit n) (deposits b) answer (single_number b n s) (subst P (deposits_are b) found)
 
 pub under_view_of : (b : History) (owner reference : List ℕ) (answer : Option Deposit) → IsSound b
-    → IsFoundAs ShowsDeposit (is_deposit_of owner reference) (tables_of b).deposits answer
+    → IsFoundAs ShowsDeposit (is_deposit_of owner reference) (replayed b).deposits answer
     → option_map deposit_view answer ≡ deposit_under owner reference b
 under_view_of b owner reference answer s found =
     let P : List DepositRow → Type 0 = λ rows. IsFoundAs ShowsDeposit (is_deposit_of owner reference) rows answer in
@@ -183,7 +183,7 @@ find_stamp b n (r ∷ rs) =
     ]
 
 pub stamp_view_of : (b : History) (n : ℕ) (answer : Option Stamp) → IsSound b
-    → IsFoundAs ShowsStamp (is_stamp n) (tables_of b).stamps answer
+    → IsFoundAs ShowsStamp (is_stamp n) (replayed b).stamps answer
     → option_map stamp_view answer ≡ stamp_at n b
 stamp_view_of b n answer s found =
     let P : List StampRow → Type 0 = λ rows. IsFoundAs ShowsStamp (is_stamp n) rows answer in
@@ -192,7 +192,7 @@ stamp_view_of b n answer s found =
 
 -- whose stamp it is, and of when
 pub origin_view_of : (b : History) (n : ℕ) (answer : Option Origin) → IsSound b
-    → IsFoundAs ShowsOrigin (is_stamp n) (tables_of b).stamps answer
+    → IsFoundAs ShowsOrigin (is_stamp n) (replayed b).stamps answer
     → IsOriginOf n b answer
 origin_view_of b n answer s found =
     let P : List StampRow → Type 0 = λ rows. IsFoundAs ShowsOrigin (is_stamp n) rows answer in
@@ -316,7 +316,7 @@ visible_at b n a (Some d) s e =
 
 -- visible is what an owner's row or a reader's row has
 pub visible_view : (b : History) (n : ℕ) (a : List ℕ) → IsSound b
-    → (list_any (is_owned n a) (tables_of b).deposits || list_any (is_reader_row n a) (tables_of b).readers)
+    → (list_any (is_owned n a) (replayed b).deposits || list_any (is_reader_row n a) (replayed b).readers)
     ≡ is_visible a n b
 visible_view b n a s = rw (deposits_are b, readers_are b n a) (visible_at b n a (deposit_at n b) s refl)
 
@@ -398,7 +398,7 @@ unreserved_listing b n s none = rw (no_deposit b n s none) refl
 
 -- its label stands under the account of its stamp
 pub unlabelled_listing : (b : History) (n : ℕ) (origin : Origin) → IsSound b → IsOriginOf n b (Some origin)
-    → IsFoundAs ShowsLabel (is_owned n (string_bytes origin.account)) (tables_of b).deposits None
+    → IsFoundAs ShowsLabel (is_owned n (string_bytes origin.account)) (replayed b).deposits None
     → listing_at n b ≡ None
 unlabelled_listing b n origin s (r, at, account, gen_time) found =
     let P : List DepositRow → Type 0 =
@@ -420,7 +420,7 @@ unlabelled_listing b n origin s (r, at, account, gen_time) found =
 
 pub labelled_listing : (b : History) (n : ℕ) (origin : Origin) (label : Label) → IsSound b
     → IsOriginOf n b (Some origin)
-    → IsFoundAs ShowsLabel (is_owned n (string_bytes origin.account)) (tables_of b).deposits (Some label)
+    → IsFoundAs ShowsLabel (is_owned n (string_bytes origin.account)) (replayed b).deposits (Some label)
     → Some (record {
       number = n;
       owner = string_bytes label.owner;
@@ -441,13 +441,13 @@ labelled_listing b n origin label s (r, at, account, gen_time) (d, m, passes, sh
 
 pub seen_by_reader : (b : History) (n asked : ℕ) (a : List ℕ) (reads : Bool) → IsSound b → IsAskedFor n asked
     → reads ≡ true
-    → reads ≡ list_any (is_reader_row asked a) (tables_of b).readers → true ≡ is_visible a n b
+    → reads ≡ list_any (is_reader_row asked a) (replayed b).readers → true ≡ is_visible a n b
 seen_by_reader b n asked a reads s is true_is found =
-    let row : list_any (is_reader_row asked a) (tables_of b).readers ≡ true = sym found ∙ true_is in
-    let view : (list_any (is_owned asked a) (tables_of b).deposits || list_any (is_reader_row asked a)
-    (tables_of b).readers) ≡ is_visible a asked b =
+    let row : list_any (is_reader_row asked a) (replayed b).readers ≡ true = sym found ∙ true_is in
+    let view : (list_any (is_owned asked a) (replayed b).deposits || list_any (is_reader_row asked a)
+    (replayed b).readers) ≡ is_visible a asked b =
     visible_view b asked a s in
-    sym (rw row (or_true (list_any (is_owned asked a) (tables_of b).deposits))) ∙ view
+    sym (rw row (or_true (list_any (is_owned asked a) (replayed b).deposits))) ∙ view
     ∙ same_visible b n asked a s is where
       or_true : (v : Bool) → (v || true) ≡ true
       or_true true = refl
@@ -455,15 +455,15 @@ seen_by_reader b n asked a reads s is true_is found =
 
 pub seen_by_owner : (b : History) (n asked : ℕ) (a : List ℕ) (reads owns : Bool) → IsSound b → IsAskedFor n asked
     → reads ≡ false
-    → reads ≡ list_any (is_reader_row asked a) (tables_of b).readers
-    → owns ≡ list_any (is_owned asked a) (tables_of b).deposits
+    → reads ≡ list_any (is_reader_row asked a) (replayed b).readers
+    → owns ≡ list_any (is_owned asked a) (replayed b).deposits
     → owns ≡ is_visible a n b
 seen_by_owner b n asked a reads owns s is false_is found own =
-    let row : list_any (is_reader_row asked a) (tables_of b).readers ≡ false = sym found ∙ false_is in
-    let view : (list_any (is_owned asked a) (tables_of b).deposits || list_any (is_reader_row asked a)
-    (tables_of b).readers) ≡ is_visible a asked b =
+    let row : list_any (is_reader_row asked a) (replayed b).readers ≡ false = sym found ∙ false_is in
+    let view : (list_any (is_owned asked a) (replayed b).deposits || list_any (is_reader_row asked a)
+    (replayed b).readers) ≡ is_visible a asked b =
     visible_view b asked a s in
-    own ∙ sym (rw row (or_false (list_any (is_owned asked a) (tables_of b).deposits))) ∙ view
+    own ∙ sym (rw row (or_false (list_any (is_owned asked a) (replayed b).deposits))) ∙ view
     ∙ same_visible b n asked a s is where
       or_false : (v : Bool) → (v || false) ≡ v
       or_false true = refl

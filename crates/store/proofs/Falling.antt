@@ -11,7 +11,7 @@ use Rattle.book.specs.History.{Reserved, Sealed, Deposited, Calibrated, Held, Gr
 use Rattle.book.specs.History.{ReservationValue, reservations, greatest_of}
 use Rattle.book.specs.History.{token_of, stamp_of, stamps, first_of}
 use Rattle.book.specs.Sound.{IsSound}
-use Rattle.store.specs.TablesOf.{tables_of}
+use Rattle.store.specs.Replay.{replayed}
 use Rattle.book.specs.Values.{last_of}
 use Rattle.store.specs.Steps.{last_from}
 use Rattle.store.proofs.Members.{IsFalling, IsFirstAs, falling_map, greatest_is_first}
@@ -66,7 +66,7 @@ last_of_first b (r ∷ rs) (Some last) fall (row, is, shows) =
     rw greatest (rw shows (rw serial (rw gen_time refl)))
 
 pub last_view : (b : History) (answer : Option LastStamp) → IsSound b
-    → IsGreatestAs ShowsLast (λ row. row.serial) (tables_of b).stamps answer
+    → IsGreatestAs ShowsLast (λ row. row.serial) (replayed b).stamps answer
     → last_from answer ≡ last_of b
 last_view b answer s found =
     let P : List StampRow → Type 0 = λ rows. IsGreatestAs ShowsLast (λ row. row.serial) rows answer in

@@ -5,12 +5,14 @@ pub mod Calls
 pub mod Closing
 pub mod DepositAnswers
 pub mod DepositRows
+pub mod Exactly
 pub mod Falling
 pub mod Listing
 pub mod Making
 pub mod Members
 pub mod Numbered
 pub mod Readers
+pub mod Replayed
 pub mod Stamps
 pub mod Stops
 pub mod Tables

@@ -15,7 +15,7 @@ use Rattle.book.specs.History.{History, deposit_at, reservation_at, greatest_ser
 use Rattle.book.specs.Rights.{ListedValue, listed_as, is_reader, shown_to, seen_by, is_visible, listed_at, listed}
 use Rattle.book.specs.Sound.{IsSound}
 use Rattle.store.specs.Steps.{IsNextSeen, IsNextReadable, least_of, later_of, listing_at}
-use Rattle.store.specs.TablesOf.{tables_of}
+use Rattle.store.specs.Replay.{replayed}
 use Rattle.store.proofs.DepositRows.{visible_view, none_beyond}
 use Rattle.store.proofs.Readers.{readers_are}
 use Rattle.store.proofs.Members.{both_true, true_or_false, none_pass, some_pass}
@@ -127,13 +127,13 @@ same_readable p b account after (Some m) same next =
 
 -- the next reader's row is the next deposit that the account reads
 pub readable_view : (b : History) (account : List ℕ) (after : ℕ) (readable : Option ℕ)
-    → IsLeastAs ShowsReaderSerial (λ row. row.serial) (is_readable_after account after) (tables_of b).readers readable
+    → IsLeastAs ShowsReaderSerial (λ row. row.serial) (is_readable_after account after) (replayed b).readers readable
     → IsNextReadable account after b readable
 readable_view b account after readable found =
-    let q : ℕ → Bool = λ n. list_any (is_reader_row n account) (tables_of b).readers in
+    let q : ℕ → Bool = λ n. list_any (is_reader_row n account) (replayed b).readers in
     let read : IsNextOf q after readable =
     next_row (λ (row : ReaderRow). row.serial) (λ (row : ReaderRow). bytes_eq row.account account)
-    (tables_of b).readers after readable found in
+    (replayed b).readers after readable found in
     readable_same q b account after readable (λ n. readers_are b n account) read
 
 -- it stays so up to that deposit
@@ -146,14 +146,14 @@ still_readable b account before after (Some m) less above next =
 
 -- the lesser of the next that the account owns and the next that it reads is the next that it sees
 pub next_view : (b : History) (account : List ℕ) (after : ℕ) (owned readable : Option ℕ) → IsSound b
-    → IsLeastAs ShowsDepositSerial (λ row. row.serial) (is_owned_after account after) (tables_of b).deposits owned
+    → IsLeastAs ShowsDepositSerial (λ row. row.serial) (is_owned_after account after) (replayed b).deposits owned
     → IsNextReadable account after b readable → IsNextSeen account after b (least_of owned readable)
 next_view b account after owned readable s first second =
-    let p : ℕ → Bool = λ n. list_any (is_owned n account) (tables_of b).deposits in
-    let q : ℕ → Bool = λ n. list_any (is_reader_row n account) (tables_of b).readers in
+    let p : ℕ → Bool = λ n. list_any (is_owned n account) (replayed b).deposits in
+    let q : ℕ → Bool = λ n. list_any (is_reader_row n account) (replayed b).readers in
     let own : IsNextOf p after owned =
     next_row (λ (row : DepositRow). row.serial) (λ (row : DepositRow). bytes_eq row.owner account)
-    (tables_of b).deposits after owned first in
+    (replayed b).deposits after owned first in
     let read : IsNextOf q after readable =
     same_readable q b account after readable (λ n. readers_are b n account) second in
     seen_same (λ n. p n || q n) b account after (least_of owned readable) (λ n. visible_view b n account s)

@@ -1,5 +1,5 @@
 -- What the making of the tables leaves.
-use Rattle.std.proofs.Common.{◌≡◌, Result, Ok, Err, inl, inr}
+use Rattle.std.proofs.Common.{Result, Err, inl, inr}
 use Rattle.sqlite.specs.State.{State}
 use Rattle.sqlite.specs.declared.error.Error.{Error}
 use Rattle.tables.specs.Opening.{Creates}

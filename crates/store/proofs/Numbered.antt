@@ -9,13 +9,9 @@ use Rattle.tables.specs.declared.rows.LatestCalibration.{LatestCalibration}
 use Rattle.book.specs.History.{Reserved, Sealed, Deposited, Calibrated, Held, Granted, Revoked, History}
 use Rattle.book.specs.History.{CalibrationValue, HoldValue, calibrations, holds, latest_calibration, is_held, first_of}
 use Rattle.store.specs.Steps.{calibration_from, next_number}
-use Rattle.store.specs.TablesOf.{tables_of, calibration_row, hold_row}
+use Rattle.store.specs.TablesOf.{calibration_row, hold_row, numbered}
+use Rattle.store.specs.Replay.{replayed}
 use Rattle.store.proofs.Members.{IsFalling, IsFirstAs, greatest_is_first}
-
--- each row's number is one more than how many stand after it
-abbrev pub numbered : {X Y : Type 0} → (X → ℕ → Y) → List X → List Y
-numbered row [] = []
-numbered row (x ∷ xs) = row x (length xs + 1) ∷ numbered row xs
 
 length_numbered : {X Y : Type 0} (row : X → ℕ → Y) (xs : List X) → length (numbered row xs) ≡ length xs
 length_numbered row [] = refl
@@ -38,21 +34,21 @@ numbers_fall {X} {Y} row key is (x ∷ xs) =
       numbers_fall row key is xs,
     )
 
-pub calibrations_are : (b : History) → (tables_of b).calibrations ≡ numbered calibration_row (calibrations b)
+pub calibrations_are : (b : History) → (replayed b).calibrations ≡ numbered calibration_row (calibrations b)
 calibrations_are [] = refl
 calibrations_are (Reserved r ∷ b) = calibrations_are b
 calibrations_are (Sealed n token ∷ b) = calibrations_are b
 calibrations_are (Deposited d token ∷ b) = calibrations_are b
 calibrations_are (Calibrated c ∷ b) =
     let rest = calibrations_are b in
-    let long : length (tables_of b).calibrations ≡ length (calibrations b) =
+    let long : length (replayed b).calibrations ≡ length (calibrations b) =
     ap length rest ∙ length_numbered calibration_row (calibrations b) in
     rw (long, rest) refl
 calibrations_are (Held h ∷ b) = calibrations_are b
 calibrations_are (Granted n a ∷ b) = calibrations_are b
 calibrations_are (Revoked n a ∷ b) = calibrations_are b
 
-pub holds_are : (b : History) → (tables_of b).holds ≡ numbered hold_row (holds b)
+pub holds_are : (b : History) → (replayed b).holds ≡ numbered hold_row (holds b)
 holds_are [] = refl
 holds_are (Reserved r ∷ b) = holds_are b
 holds_are (Sealed n token ∷ b) = holds_are b
@@ -60,7 +56,7 @@ holds_are (Deposited d token ∷ b) = holds_are b
 holds_are (Calibrated c ∷ b) = holds_are b
 holds_are (Held h ∷ b) =
     let rest = holds_are b in
-    let long : length (tables_of b).holds ≡ length (holds b) = ap length rest ∙ length_numbered hold_row (holds b) in
+    let long : length (replayed b).holds ≡ length (holds b) = ap length rest ∙ length_numbered hold_row (holds b) in
     rw (long, rest) refl
 holds_are (Granted n a ∷ b) = holds_are b
 holds_are (Revoked n a ∷ b) = holds_are b
@@ -82,9 +78,9 @@ calibration_of_first (x ∷ cs) (Some c) (row, is, shows) =
     (rw (shows.1, shows.2, shows.3, ← reading, ← offset, ← uncertainty) refl, omega (arith, shows.0, n, long))
 
 pub calibration_view_of : (b : History) (answer : Option LatestCalibration)
-    → IsGreatestAs ShowsCalibration (λ row. row.n) (tables_of b).calibrations answer
+    → IsGreatestAs ShowsCalibration (λ row. row.n) (replayed b).calibrations answer
     → (option_map calibration_from answer ≡ latest_calibration b)
-    × (next_number (option_map (λ c. c.n) answer) ≡ length (tables_of b).calibrations + 1)
+    × (next_number (option_map (λ c. c.n) answer) ≡ length (replayed b).calibrations + 1)
 calibration_view_of b answer found =
     let P : List CalibrationRow → Type 0 = λ rows. IsGreatestAs ShowsCalibration (λ row. row.n) rows answer in
     let here : IsGreatestAs ShowsCalibration (λ row. row.n) (numbered calibration_row (calibrations b)) answer =
@@ -105,8 +101,8 @@ hold_of_first (x ∷ hs) (Some m) (row, is, shows) =
     let n : length hs + 1 ≡ row.n = ap (λ (v : HoldRow). v.n) row_is in
     let long = length_numbered hold_row hs in omega (arith, shows, n, long)
 
-pub hold_number : (b : History) (answer : Option ℕ) → IsGreatestAs ShowsNumber (λ row. row.n) (tables_of b).holds answer
-    → next_number answer ≡ length (tables_of b).holds + 1
+pub hold_number : (b : History) (answer : Option ℕ) → IsGreatestAs ShowsNumber (λ row. row.n) (replayed b).holds answer
+    → next_number answer ≡ length (replayed b).holds + 1
 hold_number b answer found =
     let P : List HoldRow → Type 0 = λ rows. IsGreatestAs ShowsNumber (λ row. row.n) rows answer in
     let here : IsGreatestAs ShowsNumber (λ row. row.n) (numbered hold_row (holds b)) answer =
@@ -122,24 +118,24 @@ held_by_rows : (now : ℤ) (hs : List HoldValue)
 held_by_rows now [] = refl
 held_by_rows now (h ∷ hs) = ap (λ (v : Bool). holds_at now (hold_row h 0) || v) (held_by_rows now hs)
 
-pub held_view : (b : History) (now : ℤ) → list_any (holds_at now) (tables_of b).holds ≡ is_held now b
+pub held_view : (b : History) (now : ℤ) → list_any (holds_at now) (replayed b).holds ≡ is_held now b
 held_view b now = ap (list_any (holds_at now)) (holds_are b) ∙ held_by_rows now (holds b)
 
 -- the row that is added is the entry's
 pub hold_step : (b : History) (h : HoldValue) (from to : ℤ) (n : ℕ) → from ≡ h.from → to ≡ h.to
-    → n ≡ length (tables_of b).holds + 1
-    → with_hold record { n = n; from = from; to = to } (tables_of b) ≡ tables_of (Held h ∷ b)
+    → n ≡ length (replayed b).holds + 1
+    → with_hold record { n = n; from = from; to = to } (replayed b) ≡ replayed (Held h ∷ b)
 hold_step b h from to n e f k =
     let row : HoldRow = record { n = n; from = from; to = to } in
-    let same : row ≡ hold_row h (length (tables_of b).holds + 1) = rw (e, f, k) refl in
-    ap (λ r. with_hold r (tables_of b)) same
+    let same : row ≡ hold_row h (length (replayed b).holds + 1) = rw (e, f, k) refl in
+    ap (λ r. with_hold r (replayed b)) same
 
 pub calibration_step : (b : History) (c : CalibrationValue) (reading offset : ℤ) (n : ℕ) → reading ≡ c.reading
     → offset ≡ c.offset
-    → n ≡ length (tables_of b).calibrations + 1
-    → with_calibration record { n = n; reading = reading; offset = offset; uncertainty = c.uncertainty } (tables_of b)
-    ≡ tables_of (Calibrated c ∷ b)
+    → n ≡ length (replayed b).calibrations + 1
+    → with_calibration record { n = n; reading = reading; offset = offset; uncertainty = c.uncertainty } (replayed b)
+    ≡ replayed (Calibrated c ∷ b)
 calibration_step b c reading offset n e f k =
     let row : CalibrationRow = record { n = n; reading = reading; offset = offset; uncertainty = c.uncertainty } in
-    let same : row ≡ calibration_row c (length (tables_of b).calibrations + 1) = rw (e, f, k) refl in
-    ap (λ r. with_calibration r (tables_of b)) same
+    let same : row ≡ calibration_row c (length (replayed b).calibrations + 1) = rw (e, f, k) refl in
+    ap (λ r. with_calibration r (replayed b)) same

@@ -18,7 +18,7 @@ use Rattle.tables.specs.Holding.{Holds, reader_cells}
 use Rattle.tables.specs.Tables.{Tables, ReaderRow, is_reader_row, with_reader, without_reader}
 use Rattle.book.specs.History.{Reserved, Sealed, Deposited, Calibrated, Held, Granted, Revoked, History}
 use Rattle.book.specs.Rights.{is_reader}
-use Rattle.store.specs.TablesOf.{tables_of}
+use Rattle.store.specs.Replay.{replayed}
 use Rattle.store.proofs.Members.{both_true, neither_true, true_or_false}
 
 -- a test of a key is passed by that key alone
@@ -60,7 +60,7 @@ taken_other n a m x rows e =
 
 -- a row is there where the right is
 pub readers_are : (b : History) (n : ℕ) (a : List ℕ)
-    → list_any (is_reader_row n a) (tables_of b).readers ≡ is_reader n a b
+    → list_any (is_reader_row n a) (replayed b).readers ≡ is_reader n a b
 readers_are [] n a = refl
 readers_are (Reserved r ∷ b) n a = readers_are b n a
 readers_are (Sealed m token ∷ b) n a = readers_are b n a
@@ -70,12 +70,12 @@ readers_are (Held h ∷ b) n a = readers_are b n a
 readers_are (Granted m x ∷ b) n a =
     elim (true_or_false ((m == n) && bytes_eq x a)) [
       | inl t ↦ rw t refl
-      | inr f ↦ rw f (taken_other n a m x (tables_of b).readers f ∙ readers_are b n a)
+      | inr f ↦ rw f (taken_other n a m x (replayed b).readers f ∙ readers_are b n a)
     ]
 readers_are (Revoked m x ∷ b) n a =
     elim (true_or_false ((m == n) && bytes_eq x a)) [
-      | inl t ↦ rw t (taken_same n a m x (tables_of b).readers t)
-      | inr f ↦ rw f (taken_other n a m x (tables_of b).readers f ∙ readers_are b n a)
+      | inl t ↦ rw t (taken_same n a m x (replayed b).readers t)
+      | inr f ↦ rw f (taken_other n a m x (replayed b).readers f ∙ readers_are b n a)
     ]
 
 -- no key stands twice
@@ -101,7 +101,7 @@ left_once q (row ∷ rows) once =
       | inr f ↦ rw f (left_once q rows once.1)
     ]
 
-pub readers_once : (b : History) → AreOnce (tables_of b).readers
+pub readers_once : (b : History) → AreOnce (replayed b).readers
 readers_once [] = tt
 readers_once (Reserved r ∷ b) = readers_once b
 readers_once (Sealed m token ∷ b) = readers_once b
@@ -109,9 +109,9 @@ readers_once (Deposited d token ∷ b) = readers_once b
 readers_once (Calibrated c ∷ b) = readers_once b
 readers_once (Held h ∷ b) = readers_once b
 readers_once (Granted m x ∷ b) =
-    let none = taken_same m x m x (tables_of b).readers (key_passes m x m x refl refl) in
-    (none, left_once (λ row. not (is_reader_row m x row)) (tables_of b).readers (readers_once b))
-readers_once (Revoked m x ∷ b) = left_once (λ row. not (is_reader_row m x row)) (tables_of b).readers (readers_once b)
+    let none = taken_same m x m x (replayed b).readers (key_passes m x m x refl refl) in
+    (none, left_once (λ row. not (is_reader_row m x row)) (replayed b).readers (readers_once b))
+readers_once (Revoked m x ∷ b) = left_once (λ row. not (is_reader_row m x row)) (replayed b).readers (readers_once b)
 
 -- taking what isn't there takes nothing
 none_taken : (p : ReaderRow → Bool) (rows : List ReaderRow) → list_any p rows ≡ false
@@ -177,18 +177,18 @@ stands_reordered t rows s same stands = record {
 
 -- a right that is granted again leaves the tables
 pub granted_again : {S : Type 0} (g : Ghosts S) (b : History) (n : ℕ) (a : List ℕ) (store : BaseValue S)
-    → is_reader n a b ≡ true → Keeps g (with_reader n a (tables_of b)) store → Keeps g (tables_of b) store
+    → is_reader n a b ≡ true → Keeps g (with_reader n a (replayed b)) store → Keeps g (replayed b) store
 granted_again g b n a store has kept honest is_open =
-    let same = put_again n a (tables_of b).readers (readers_once b) (readers_are b n a ∙ has) in
-    stands_reordered (tables_of b) _ _ same (kept honest is_open)
+    let same = put_again n a (replayed b).readers (readers_once b) (readers_are b n a ∙ has) in
+    stands_reordered (replayed b) _ _ same (kept honest is_open)
 
 -- as does a revocation of what wasn't granted
 pub revoked_unneeded : {S : Type 0} (g : Ghosts S) (b : History) (n : ℕ) (a : List ℕ) (store : BaseValue S)
-    → is_reader n a b ≡ false → Keeps g (without_reader n a (tables_of b)) store → Keeps g (tables_of b) store
+    → is_reader n a b ≡ false → Keeps g (without_reader n a (replayed b)) store → Keeps g (replayed b) store
 revoked_unneeded g b n a store hasnt kept =
-    let same : without_reader n a (tables_of b) ≡ tables_of b =
-    ap (λ (rows : List ReaderRow). record (tables_of b) {
+    let same : without_reader n a (replayed b) ≡ replayed b =
+    ap (λ (rows : List ReaderRow). record (replayed b) {
       readers =
           rows;
-    }) (none_taken (is_reader_row n a) (tables_of b).readers (readers_are b n a ∙ hasnt)) in
+    }) (none_taken (is_reader_row n a) (replayed b).readers (readers_are b n a ∙ hasnt)) in
     subst (λ t. Keeps g t store) same kept

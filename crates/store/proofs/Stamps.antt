@@ -9,7 +9,7 @@ use Rattle.book.specs.History.{Reserved, Sealed, Deposited, Calibrated, Held, Gr
 use Rattle.book.specs.History.{ReservationValue, reservations, reservation_at, greatest_of, token_of}
 use Rattle.book.specs.History.{stamp_of, stamps}
 use Rattle.book.specs.Sound.{FitsReserved, FitsSealed, IsSound}
-use Rattle.store.specs.TablesOf.{tables_of}
+use Rattle.store.specs.Replay.{replayed}
 
 pub eqb_comm : (a b : ℕ) → (a == b) ≡ (b == a)
 eqb_comm a b =
@@ -91,7 +91,7 @@ sealed_stamps b n token (r ∷ rs) =
     ap (λ x. x ∷ map (sealed_row n token) (map (λ r. stamp_of (token_of r.serial b) r) rs)) head
     ∙ ap (λ xs. stamp_of (cond (n == r.serial) (Some token) (token_of r.serial b)) r ∷ xs) rest
 
-pub stamps_are : (b : History) → IsSound b → (tables_of b).stamps ≡ stamps b
+pub stamps_are : (b : History) → IsSound b → (replayed b).stamps ≡ stamps b
 stamps_are [] s = refl
 stamps_are (Reserved r ∷ b) s = rw (fresh b r s.1 s.0) (ap (λ xs. stamp_of None r ∷ xs) (stamps_are b s.1))
 stamps_are (Sealed n token ∷ b) s =

@@ -1,23 +1,20 @@
 -- What an opening finds after a stop, and after a closing.
-use Rattle.std.proofs.Common.{◌≡◌, ◌⊎◌, [], ◌∷◌, inl, inr, sym, ap, ◌∙◌, subst}
+use Rattle.std.proofs.Common.{◌≡◌, [], ◌∷◌, inl, inr, sym, ap, ◌∙◌, subst}
 use Rattle.std.proofs.Math.Logic.{∥∥₁_elim}
 use Rattle.sqlite_disk.specs.declared.Disk.{Ghosts}
-use Rattle.sqlite_disk.specs.declared.Files.{Files}
 use Rattle.sqlite_trees.specs.Props.{Trees-set}
 use Rattle.sqlite_trees.specs.Tree.{Trees}
 use Rattle.sqlite_trees.specs.declared.store.Store as store
-use Rattle.sqlite_wal.specs.Files.{outcomes}
 use Rattle.sqlite_wal.specs.Recovery.{Image}
 use Rattle.sqlite_store.specs.declared.store.FileStore.{FileStore}
-use Rattle.sqlite.specs.Closing.{HoldsAlone}
 use Rattle.sqlite.specs.Effect.{Database, IsDatabase}
-use Rattle.sqlite.specs.Files.{file_state, over_files, image_of, HoldsDatabase}
+use Rattle.sqlite.specs.Files.{file_state, over_files}
 use Rattle.tables.specs.Base.{BaseValue, IsStored}
 use Rattle.tables.specs.Holding.{IsDatabaseOf}
 use Rattle.tables.specs.Tables.{Tables}
 use Rattle.book.specs.History.{History}
 use Rattle.book.specs.Sound.{IsSound}
-use Rattle.store.specs.Opening.{OpensFound, LeavesFiles, KeepsAlone}
+use Rattle.store.specs.Opening.{OpensFound, KeepsAlone}
 use Rattle.store.specs.Stands.{Stands}
 use Rattle.store.specs.Stops.{FindsTheSame, FindsBeforeOrAfter, FindsNothingOrEmpty, FindsTheClosed}
 use Rattle.store.specs.TablesOf.{tables_of}

@@ -13,17 +13,17 @@ use Rattle.tables.specs.Queries.{ShowsCount}
 use Rattle.book.specs.History.{Reserved, Sealed, Deposited, Calibrated, Held, Granted, Revoked, History}
 use Rattle.book.specs.History.{reservations, day_of, is_of_day, count_of_day}
 use Rattle.book.specs.Sound.{IsSound, greatest_number}
-use Rattle.store.specs.TablesOf.{tables_of}
+use Rattle.store.specs.Replay.{replayed}
 use Rattle.store.proofs.Members.{both_true, neither_true, true_or_false, none_pass, fails_each}
 use Rattle.store.proofs.Members.{member_here, member_after, member_cases}
 
 -- a test of a key is passed by that key alone
-key_is : (a : List ℕ) (d : ℕ) (x : List ℕ) (n : ℕ) → (bytes_eq x a && (n == d)) ≡ true → (x ≡ a) × (n ≡ d)
+pub key_is : (a : List ℕ) (d : ℕ) (x : List ℕ) (n : ℕ) → (bytes_eq x a && (n == d)) ≡ true → (x ≡ a) × (n ≡ d)
 key_is a d x n e =
     let parts = both_true (bytes_eq x a) (n == d) e in
     ((bytes_eq-Decides x a).0 parts.0, eqb-true n d parts.1)
 
-key_passes : (a : List ℕ) (d : ℕ) (x : List ℕ) (n : ℕ) → x ≡ a → n ≡ d → (bytes_eq x a && (n == d)) ≡ true
+pub key_passes : (a : List ℕ) (d : ℕ) (x : List ℕ) (n : ℕ) → x ≡ a → n ≡ d → (bytes_eq x a && (n == d)) ≡ true
 key_passes a d x n e f = rw ((bytes_eq-Decides x a).1 e) (eq-eqb n d f)
 
 -- each row's count is the history's, and a key without a row was never counted
@@ -56,7 +56,7 @@ raised_count a d row =
     elim (true_or_false (is_tally_of a d row)) [ inl t ↦ rw t (omega arith) | inr f ↦ rw f (omega arith) ]
 
 -- tests of keys are symmetric
-key_swap : (a : List ℕ) (d : ℕ) (x : List ℕ) (n : ℕ) → (bytes_eq x a && (n == d)) ≡ (bytes_eq a x && (d == n))
+pub key_swap : (a : List ℕ) (d : ℕ) (x : List ℕ) (n : ℕ) → (bytes_eq x a && (n == d)) ≡ (bytes_eq a x && (d == n))
 key_swap a d x n =
     elim (true_or_false (bytes_eq x a && (n == d))) [
       | inl t ↦ (let k = key_is a d x n t in t ∙ sym (key_passes x n a d (sym k.0) (sym k.1)))
@@ -136,7 +136,7 @@ counted_same count other rows same counted = record {
   none = λ account day e. sym (same account day) ∙ counted.none account day e;
 }
 
-pub tallies_count : (b : History) → AreCounted (λ a d. count_of_day a d b) (tables_of b).tallies
+pub tallies_count : (b : History) → AreCounted (λ a d. count_of_day a d b) (replayed b).tallies
 tallies_count [] = record { each = λ row m. absurd (no row m); none = λ account day e. refl } where
   no : (row : TallyRow) → Contains [] row → ⊥
   no row (k, below, is) = absurd (omega arith)
@@ -144,7 +144,7 @@ tallies_count (Reserved r ∷ b) =
     counted_same (one_more r.account (day_of r.gen_time) (λ a d. count_of_day a d b))
     (λ a d. count_of_day a d (Reserved r ∷ b)) _
     (λ a d. sym (sum_by-cons (λ x. cond (is_of_day a d x) 1 0) r (reservations b)))
-    (counted_more r.account (day_of r.gen_time) (λ a d. count_of_day a d b) (tables_of b).tallies (tallies_count b))
+    (counted_more r.account (day_of r.gen_time) (λ a d. count_of_day a d b) (replayed b).tallies (tallies_count b))
 tallies_count (Sealed n token ∷ b) = tallies_count b
 tallies_count (Deposited d token ∷ b) = tallies_count b
 tallies_count (Calibrated c ∷ b) = tallies_count b
@@ -153,10 +153,10 @@ tallies_count (Granted n a ∷ b) = tallies_count b
 tallies_count (Revoked n a ∷ b) = tallies_count b
 
 pub count_view : (b : History) (account : List ℕ) (day : ℕ) (answer : Option ℕ)
-    → IsFoundAs ShowsCount (is_tally_of account day) (tables_of b).tallies answer
+    → IsFoundAs ShowsCount (is_tally_of account day) (replayed b).tallies answer
     → unwrap_or answer 0 ≡ count_of_day account day b
 count_view b account day None found =
-    sym ((tallies_count b).none account day (none_pass (is_tally_of account day) (tables_of b).tallies found))
+    sym ((tallies_count b).none account day (none_pass (is_tally_of account day) (replayed b).tallies found))
 count_view b account day (Some count) (row, m, passes, shows) =
     let k = key_is account day row.account row.day passes in
     shows ∙ (tallies_count b).each row m ∙ rw (k.0, k.1) refl

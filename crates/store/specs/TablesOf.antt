@@ -1,26 +1,62 @@
--- The tables of a history: for each entry one small step.
-use Rattle.std.specs.Prelude.{ℕ, ◌+◌, [], ◌∷◌, length, None}
-use Rattle.tables.specs.Tables.{Tables, no_rows, with_stamp, with_token, with_deposit, with_calibration, with_hold}
-use Rattle.tables.specs.Tables.{with_reader, without_reader, CalibrationRow, HoldRow}
+-- The tables of a history: what each of them holds is what the history says.
+use Rattle.std.specs.Prelude.{ℕ, ◌+◌, not, List, [], ◌∷◌, length, map, filter, filter_map, Option, None, Some}
+use Rattle.std.specs.Prelude.{if◌then◌else◌}
+use Rattle.std.specs.List.{list_any}
+use Rattle.tables.specs.Tables.{Tables, CalibrationRow, HoldRow, ReaderRow, TallyRow, is_reader_row}
 use Rattle.book.specs.History.{Entry, Reserved, Sealed, Deposited, Calibrated, Held, Granted, Revoked, History}
-use Rattle.book.specs.History.{CalibrationValue, HoldValue, stamp_of}
+use Rattle.book.specs.History.{CalibrationValue, HoldValue, ReservationValue, stamps, calibrations, holds, deposits}
+use Rattle.book.specs.History.{reservations, day_of, is_of_day, count_of_day}
+use Rattle.book.specs.Rights.{is_reader}
 
--- calibrations and holds are numbered 1, 2, 3 in the order of their entries
+-- calibrations and holds are numbered 1, 2, 3 in the order of their entries, the newest of which comes first
+abbrev pub numbered : {X Y : Type 0} → (X → ℕ → Y) → List X → List Y
+numbered row [] = []
+numbered row (x ∷ xs) = row x (length xs + 1) ∷ numbered row xs
+
 abbrev pub calibration_row : CalibrationValue → ℕ → CalibrationRow
 calibration_row c n = record { n = n; reading = c.reading; offset = c.offset; uncertainty = c.uncertainty }
 
 abbrev pub hold_row : HoldValue → ℕ → HoldRow
 hold_row h n = record { n = n; from = h.from; to = h.to }
 
-abbrev pub with_entry : Entry → Tables → Tables
-with_entry (Reserved r) t = with_stamp (stamp_of None r) t
-with_entry (Sealed serial token) t = with_token serial token t
-with_entry (Deposited d token) t = with_deposit d (with_token d.serial token t)
-with_entry (Calibrated c) t = with_calibration (calibration_row c (length t.calibrations + 1)) t
-with_entry (Held h) t = with_hold (hold_row h (length t.holds + 1)) t
-with_entry (Granted number account) t = with_reader number account t
-with_entry (Revoked number account) t = without_reader number account t
+-- the rights that were ever granted, as rows
+abbrev pub granted_in : Entry → Option ReaderRow
+granted_in (Reserved r) = None
+granted_in (Sealed serial token) = None
+granted_in (Deposited d token) = None
+granted_in (Calibrated c) = None
+granted_in (Held h) = None
+granted_in (Granted number account) = Some (record { serial = number; account = account })
+granted_in (Revoked number account) = None
+
+-- each of them once
+abbrev pub once : List ReaderRow → List ReaderRow
+once [] = []
+once (row ∷ rows) = row ∷ filter (λ other. not (is_reader_row row.serial row.account other)) (once rows)
+
+-- a reader row stands where the last entry about deposit and account is a grant
+abbrev pub readers_of : History → List ReaderRow
+readers_of b = filter (λ row. is_reader row.serial row.account b) (once (filter_map granted_in b))
+
+-- the first reservation of each account and day
+abbrev pub firsts : List ReservationValue → List ReservationValue
+firsts [] = []
+firsts (r ∷ rs) = if list_any (is_of_day r.account (day_of r.gen_time)) rs then firsts rs else r ∷ firsts rs
+
+-- a tally row stands for an account and a day with reservations, and counts them
+abbrev pub tally_of : History → ReservationValue → TallyRow
+tally_of b r = record {
+  account = r.account;
+  day = day_of r.gen_time;
+  count = count_of_day r.account (day_of r.gen_time) b;
+}
 
 abbrev pub tables_of : History → Tables
-tables_of [] = no_rows
-tables_of (entry ∷ b) = with_entry entry (tables_of b)
+tables_of b = record {
+  stamps = stamps b;
+  calibrations = numbered calibration_row (calibrations b);
+  holds = numbered hold_row (holds b);
+  deposits = deposits b;
+  readers = readers_of b;
+  tallies = map (tally_of b) (firsts (reservations b));
+}

@@ -1,8 +1,11 @@
 //! What holds of each history, and of the store as a book.
-ghost use Rattle.std.specs.Prelude.{◌≤◌, ◌<◌, ◌↔◌, Contains};
+ghost use Rattle.std.specs.Prelude.{◌≡◌, ◌≤◌, ◌<◌, ◌↔◌, true, Contains};
 ghost use Rattle.tables.specs.Base.{BaseValue};
+ghost use Rattle.tables.specs.Tables.{ReaderRow, TallyRow};
 ghost use Rattle.book.specs.Stands.{Stands as BookStands, OnlyLooks as BookLooks, LeavesOrAdds as BookAdds};
-ghost use Rattle.book.specs.History.{Entry, History, ReservationValue, Reserved, greatest_serial, reservations};
+ghost use Rattle.book.specs.History.{Entry, History, ReservationValue, Reserved};
+ghost use Rattle.book.specs.History.{count_of_day, greatest_serial, reservations};
+ghost use Rattle.book.specs.Rights.{is_reader};
 ghost use Rattle.book.specs.Sound.{Fits, IsSound};
 ghost use Rattle.store.specs.Alike.{HaveSameRows, AreAlike};
 ghost use Rattle.store.specs.Stands.{Stands, OnlyLooks, LeavesOrAdds};
@@ -19,6 +22,15 @@ use tables::stored_tables_are_found;
 /// account sees the same.
 pub fn equal_tables_tell_the_same()
     ensures { (b d : History) → IsSound b → IsSound d → HaveSameRows (tables_of b) (tables_of d) → AreAlike b d }
+{}
+
+/// In the tables of a sound history a reader row stands exactly where the last entry about deposit and account is a
+/// grant, and a tally row exactly where its count is that of its account and day, and isn't 0.
+pub fn rows_stand_exactly()
+    ensures readers { (b : History) → IsSound b → (row : ReaderRow)
+        → Contains (tables_of b).readers row ↔ (is_reader row.serial row.account b ≡ true) }
+    ensures tallies { (b : History) → IsSound b → (row : TallyRow) → Contains (tables_of b).tallies row
+        ↔ ((row.count ≡ count_of_day row.account row.day b) × (0 < row.count)) }
 {}
 
 /// The greatest serial number isn't below any that is reserved, and the next that is reserved is above all of them,

@@ -14,6 +14,7 @@ pub use book::{
     StampsBetween, Standing, StoreFault,
 };
 pub use laws::{
-    book_stands_in_tables, equal_tables_tell_the_same, openings_find_what_was_left, serials_rise,
+    book_stands_in_tables, equal_tables_tell_the_same, openings_find_what_was_left,
+    rows_stand_exactly, serials_rise,
 };
 pub use store::Store;

@@ -33,3 +33,11 @@ returns-clause-ok g c b =
     c.args.self.now c.self.inside.base c.commit.new.self b
     (looked_seen g.S.Store _ _ _ c.self.view_is c.in_ok-last.ensures.looks)
     c.in_ok-commit.ensures.ok (λ b. refl)
+
+pub returns-clause-crash : goal.returns-clause-crash
+returns-clause-crash g c =
+    crash_looked g.S.Store (Reserved (reservation_view c.args.reservation.now))
+    (with_stamp (stamp_of None (reservation_view c.args.reservation.now)))
+    c.args.self.now c.self.inside.base c.commit.new.self
+    (looked_seen g.S.Store _ _ _ c.self.view_is c.in_ok-last.ensures.looks)
+    c.in_ok-commit.ensures.honest c.in_ok-commit.ensures.crash (λ b. refl)

@@ -1,7 +1,7 @@
 use Rattle.std.proofs.Common.{refl}
 use Rattle.tables.specs.Tables.{without_reader}
 use Rattle.book.specs.History.{Revoked}
-use Rattle.store.proofs.Calls.{adds_now, crash_now, err_now, kept_seen, no_success, on_err, stands_for}
+use Rattle.store.proofs.Calls.{adds_now, crash_now, err_now, kept_seen, no_success, on_err, stands_again}
 use Rattle.store.proofs.Readers.{revoked_unneeded}
 use Rattle.store.proofs.store.StoreBook.revoke.Goals as goal
 
@@ -13,7 +13,7 @@ returns-in_err-commit-clause-crash g c =
 pub returns-clause-unneeded : goal.returns-clause-unneeded
 returns-clause-unneeded g c b s has =
     let old = kept_seen g.S.Store c.self.inside.base c.args.self.now b c.self.view_is s in
-    stands_for g.S.Store b c.commit.new.self s.sound
+    stands_again g.S.Store b c.commit.new.self s.sound
     (revoked_unneeded g.S.Store b c.args.number c.args.account.now c.commit.new.self has (c.in_ok-commit.ensures.ok _ old))
 
 pub returns-clause-crash : goal.returns-clause-crash

@@ -20,3 +20,9 @@ returns-clause-ok g c b =
     adds_now g.S.Store (Sealed c.args.serial c.args.token.now) (with_token c.args.serial c.args.token.now)
     c.self.inside.base c.args.self.now c.commit.new.self b c.self.view_is
     c.in_ok-commit.ensures.ok (λ b. refl)
+
+pub returns-clause-crash : goal.returns-clause-crash
+returns-clause-crash g c =
+    crash_now g.S.Store (Sealed c.args.serial c.args.token.now) (with_token c.args.serial c.args.token.now)
+    c.self.inside.base c.args.self.now c.commit.new.self c.self.view_is
+    c.in_ok-commit.ensures.crash (λ b. refl)

@@ -25,3 +25,11 @@ returns-clause-ok g c b =
     (λ t. with_deposit row (with_token c.args.serial c.args.token.now t))
     c.self.inside.base c.args.self.now c.commit.new.self b c.self.view_is
     c.in_ok-commit.ensures.ok (λ b. refl)
+
+pub returns-clause-crash : goal.returns-clause-crash
+returns-clause-crash g c =
+    let row : DepositRow = deposit_of c.args.serial c.args.owner.now c.args.reference.now c.args.bytes.now in
+    crash_now g.S.Store (Deposited row c.args.token.now)
+    (λ t. with_deposit row (with_token c.args.serial c.args.token.now t))
+    c.self.inside.base c.args.self.now c.commit.new.self c.self.view_is
+    c.in_ok-commit.ensures.crash (λ b. refl)

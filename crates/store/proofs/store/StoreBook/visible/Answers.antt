@@ -24,3 +24,7 @@ returns-clause-value g c honest b s =
     let rows = c.in_ok-reads.ensures.value (c.in_ok-owns.ensures.reads.honest honest) _ kept in
     let deposits = c.in_ok-owns.ensures.value honest _ (looked.kept _ kept) in
     seen_by_owner b _ _ _ _ _ s.sound c.asked_for-asked.ensures c.if-reads.false rows deposits
+
+pub returns-in_err-owns-clause-looks : goal.returns-in_err-owns-clause-looks
+returns-in_err-owns-clause-looks g c =
+    looks_twice g.S.Store _ _ _ _ c.self.view_is c.in_ok-reads.ensures.reads c.in_err-owns.ensures.reads

@@ -1,0 +1,104 @@
+-- Which reader rows and tally rows stand in the tables of a history.
+use Rattle.std.proofs.Common.{◌≡◌, ℕ, ◌<◌, Bool, true, List, [], ◌∷◌, map, refl, sym, ◌∙◌, subst, inl}
+use Rattle.std.proofs.Common.{inr, arith, Contains, ◌↔◌}
+use Rattle.std.specs.List.{list_any}
+use Rattle.tables.specs.Tables.{ReaderRow, TallyRow, is_reader_row, is_tally_of, raised_row, with_one_more}
+use Rattle.book.specs.History.{Reserved, Sealed, Deposited, Calibrated, Held, Granted, Revoked, History}
+use Rattle.book.specs.History.{day_of, count_of_day}
+use Rattle.book.specs.Rights.{is_reader}
+use Rattle.book.specs.Sound.{IsSound}
+use Rattle.store.specs.Replay.{replayed}
+use Rattle.store.specs.TablesOf.{tables_of}
+use Rattle.store.proofs.Members.{true_or_false, some_pass, member_here, member_after, member_cases, no_member}
+use Rattle.store.proofs.Readers.{readers_are, row_is, key_passes}
+use Rattle.store.proofs.Replayed.{replayed_is}
+use Rattle.store.proofs.Tallies.{tallies_count}
+use Rattle.store.proofs.Tallies as tally
+
+passing : {X : Type 0} (p : X → Bool) (xs : List X) → list_any p xs ≡ true
+    → (x : X) × Contains xs x × (p x ≡ true)
+passing p [] e = cc
+passing p (x ∷ xs) e =
+    elim (true_or_false (p x)) [
+      | inl t ↦ (x, member_here x xs, t)
+      | inr f ↦ (let there : list_any p xs ≡ true = sym (rw f refl) ∙ e in
+          let rest = passing p xs there in (rest.0, member_after x rest.0 xs rest.1, rest.2))
+    ]
+
+pub reader_rows : (b : History) → IsSound b → (row : ReaderRow)
+    → Contains (tables_of b).readers row ↔ (is_reader row.serial row.account b ≡ true)
+reader_rows b sound row =
+    subst (λ t. Contains t.readers row ↔ (is_reader row.serial row.account b ≡ true)) (replayed_is b sound) (
+      λ m. sym (readers_are b row.serial row.account)
+          ∙ some_pass (is_reader_row row.serial row.account) (replayed b).readers row m
+          (key_passes row.serial row.account row.serial row.account refl refl),
+      λ reads.
+          let found = passing (is_reader_row row.serial row.account) (replayed b).readers
+          (readers_are b row.serial row.account ∙ reads) in
+          subst (λ (r : ReaderRow). Contains (replayed b).readers r)
+          (row_is row.serial row.account found.0 found.2) found.1,
+    )
+
+raised_positive : (a : List ℕ) (d : ℕ) (rows : List TallyRow)
+    → ((row : TallyRow) → Contains rows row → 0 < row.count)
+    → (row : TallyRow) → Contains (map (raised_row a d) rows) row → 0 < row.count
+raised_positive a d [] each row m = absurd (no_member row m)
+raised_positive a d (x ∷ rows) each row m =
+    elim (member_cases (raised_row a d x) row (map (raised_row a d) rows) m) [
+      | inl same ↦ (let before = each x (member_here x rows) in
+          subst (λ (r : TallyRow). 0 < r.count) same (elim (true_or_false (is_tally_of a d x)) [
+            | inl t ↦ rw t (omega arith)
+            | inr f ↦ rw f before
+          ]))
+      | inr m ↦ raised_positive a d rows (λ y n. each y (member_after x y rows n)) row m
+    ]
+
+more_positive : (a : List ℕ) (d : ℕ) (rows : List TallyRow)
+    → ((row : TallyRow) → Contains rows row → 0 < row.count)
+    → (row : TallyRow) → Contains (with_one_more a d rows) row → 0 < row.count
+more_positive a d rows each row m =
+    elim (true_or_false (list_any (is_tally_of a d) rows)) [
+      | inl there ↦ raised_positive a d rows each row (rw there at m)
+      | inr absent ↦ (let m' : Contains (record { account = a; day = d; count = 1 } ∷ rows) row = rw absent at m in
+          elim (member_cases (record { account = a; day = d; count = 1 }) row rows m') [
+            | inl same ↦ subst (λ (r : TallyRow). 0 < r.count) same (omega arith)
+            | inr n ↦ each row n
+          ])
+    ]
+
+positive : (b : History) (row : TallyRow) → Contains (replayed b).tallies row → 0 < row.count
+positive [] row m = absurd (no_member row m)
+positive (Reserved r ∷ b) row m =
+    more_positive r.account (day_of r.gen_time) (replayed b).tallies (positive b) row m
+positive (Sealed n token ∷ b) row m = positive b row m
+positive (Deposited d token ∷ b) row m = positive b row m
+positive (Calibrated c ∷ b) row m = positive b row m
+positive (Held h ∷ b) row m = positive b row m
+positive (Granted n a ∷ b) row m = positive b row m
+positive (Revoked n a ∷ b) row m = positive b row m
+
+same_row : (x y : TallyRow) → x.account ≡ y.account → x.day ≡ y.day → x.count ≡ y.count → x ≡ y
+same_row x y account day count =
+    let same : x ≡ record { account = y.account; day = y.day; count = y.count } =
+    rw (← account, ← day, ← count) refl in
+    same
+
+pub tally_rows : (b : History) → IsSound b → (row : TallyRow)
+    → Contains (tables_of b).tallies row ↔ ((row.count ≡ count_of_day row.account row.day b) × (0 < row.count))
+tally_rows b sound row =
+    subst (λ t. Contains t.tallies row ↔ ((row.count ≡ count_of_day row.account row.day b) × (0 < row.count)))
+    (replayed_is b sound) (
+      λ m. ((tallies_count b).each row m, positive b row m),
+      λ counted. elim (true_or_false (list_any (is_tally_of row.account row.day) (replayed b).tallies)) [
+        | inl there ↦
+            (let found = passing (is_tally_of row.account row.day) (replayed b).tallies there in
+            let key = tally.key_is row.account row.day found.0.account found.0.day found.2 in
+            let count : found.0.count ≡ row.count =
+            (tallies_count b).each found.0 found.1 ∙ rw (key.0, key.1) (sym counted.0) in
+            let same = same_row found.0 row key.0 key.1 count in
+            subst (λ (r : TallyRow). Contains (replayed b).tallies r) same found.1)
+        | inr absent ↦
+            (let zero = (tallies_count b).none row.account row.day absent in
+            absurd (omega (arith, counted.0, counted.1, zero)))
+      ],
+    )

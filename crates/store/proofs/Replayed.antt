@@ -1,0 +1,218 @@
+-- The tables after each entry in turn are those of the history.
+use Rattle.std.proofs.Common.{◌≡◌, ℕ, ◌+◌, ◌==◌, ◌&&◌, ◌||◌, not, Bool, true, false, cond, List, [], ◌∷◌, map, filter}
+use Rattle.std.proofs.Common.{filter_map, refl, sym, ap, ◌∙◌, subst, inl, inr, arith}
+use Rattle.std.specs.List.{list_any}
+use Rattle.std.specs.Str.{bytes_eq}
+use Rattle.std.proofs.lemmas.List.Sums.{sum_by-cons}
+use Rattle.tables.specs.Tables.{ReaderRow, TallyRow, is_reader_row, is_tally_of, raised_row}
+use Rattle.book.specs.History.{Reserved, Sealed, Deposited, Calibrated, Held, Granted, Revoked, History}
+use Rattle.book.specs.History.{ReservationValue, reservations, day_of, is_of_day, count_of_day}
+use Rattle.book.specs.Rights.{is_reader}
+use Rattle.book.specs.Sound.{IsSound}
+use Rattle.store.specs.Replay.{replayed}
+use Rattle.store.specs.TablesOf.{tables_of, granted_in, once, readers_of, firsts, tally_of}
+use Rattle.store.proofs.DepositRows.{deposits_are}
+use Rattle.store.proofs.Members.{neither_true, true_or_false}
+use Rattle.store.proofs.Numbered.{calibrations_are, holds_are}
+use Rattle.store.proofs.Readers.{key_is, key_passes}
+use Rattle.store.proofs.Stamps.{stamps_are}
+use Rattle.store.proofs.Tallies.{tallies_count}
+use Rattle.store.proofs.Tallies as tally
+
+-- ---- readers
+
+-- of what passes one test, those that pass another, or the other way round where it says the same
+filter_swap : {X : Type 0} (p p' q : X → Bool) → ((x : X) → q x ≡ true → p' x ≡ p x) → (xs : List X)
+    → filter q (filter p xs) ≡ filter p' (filter q xs)
+filter_swap p p' q same [] = refl
+filter_swap p p' q same (x ∷ xs) =
+    let rest = filter_swap p p' q same xs in
+    elim (true_or_false (q x)) [
+      | inl kept ↦ elim (true_or_false (p x)) [
+        | inl passes ↦ rw (passes, kept, same x kept, passes) (ap (λ l. x ∷ l) rest)
+        | inr fails ↦ rw (fails, kept, same x kept, fails) rest
+      ]
+      | inr dropped ↦ elim (true_or_false (p x)) [
+        | inl passes ↦ rw (passes, dropped) rest
+        | inr fails ↦ rw (fails, dropped) rest
+      ]
+    ]
+
+-- both tests as one
+filter_both : {X : Type 0} (p p' q : X → Bool) → ((x : X) → p' x ≡ (q x && p x)) → (xs : List X)
+    → filter q (filter p xs) ≡ filter p' xs
+filter_both p p' q same [] = refl
+filter_both p p' q same (x ∷ xs) =
+    let rest = filter_both p p' q same xs in
+    let here = same x in
+    elim (true_or_false (q x)) [
+      | inl kept ↦ elim (true_or_false (p x)) [
+        | inl passes ↦ (let both : p' x ≡ true = here ∙ rw (kept, passes) refl in
+            rw (passes, kept, both) (ap (λ l. x ∷ l) rest))
+        | inr fails ↦ (let both : p' x ≡ false = here ∙ rw (kept, fails) refl in rw (fails, both) rest)
+      ]
+      | inr dropped ↦ (let both : p' x ≡ false = here ∙ rw dropped refl in
+          elim (true_or_false (p x)) [
+            | inl passes ↦ rw (passes, dropped, both) rest
+            | inr fails ↦ rw (fails, both) rest
+          ])
+    ]
+
+-- the test of a right and that of its row are one
+same_right : (m : ℕ) (x : List ℕ) (row : ReaderRow)
+    → ((m == row.serial) && bytes_eq x row.account) ≡ is_reader_row m x row
+same_right m x row =
+    elim (true_or_false (is_reader_row m x row)) [
+      | inl t ↦ (let k = key_is m x row.serial row.account t in
+          key_passes row.serial row.account m x (sym k.0) (sym k.1) ∙ sym t)
+      | inr f ↦ elim (true_or_false ((m == row.serial) && bytes_eq x row.account)) [
+        | inl t ↦ (let k = key_is row.serial row.account m x t in
+            let there = key_passes m x row.serial row.account (sym k.0) (sym k.1) in cc)
+        | inr g ↦ g ∙ sym f
+      ]
+    ]
+
+abbrev reads : History → ReaderRow → Bool
+reads b row = is_reader row.serial row.account b
+
+readers_replayed : (b : History) → (replayed b).readers ≡ readers_of b
+readers_replayed [] = refl
+readers_replayed (Reserved r ∷ b) = readers_replayed b
+readers_replayed (Sealed n token ∷ b) = readers_replayed b
+readers_replayed (Deposited d token ∷ b) = readers_replayed b
+readers_replayed (Calibrated c ∷ b) = readers_replayed b
+readers_replayed (Held h ∷ b) = readers_replayed b
+readers_replayed (Granted m x ∷ b) =
+    let row : ReaderRow = record { serial = m; account = x } in
+    let others : ReaderRow → Bool = λ other. not (is_reader_row m x other) in
+    let here : reads (Granted m x ∷ b) row ≡ true = rw (key_passes m x m x refl refl) refl in
+    let rest : filter others (filter (reads b) (once (filter_map granted_in b)))
+    ≡ filter (reads (Granted m x ∷ b)) (filter others (once (filter_map granted_in b))) =
+    filter_swap (reads b) (reads (Granted m x ∷ b)) others
+    (λ other kept.
+    (let apart : is_reader_row m x other ≡ false = unturned (is_reader_row m x other) kept in
+    let key = same_right m x other ∙ apart in rw key refl))
+    (once (filter_map granted_in b)) in
+    ap (λ rows. row ∷ filter others rows) (readers_replayed b) ∙ rw here (ap (λ rows. row ∷ rows) rest)
+  where
+    unturned : (v : Bool) → not v ≡ true → v ≡ false
+    unturned true e = cc
+    unturned false e = refl
+readers_replayed (Revoked m x ∷ b) =
+    let others : ReaderRow → Bool = λ other. not (is_reader_row m x other) in
+    ap (filter others) (readers_replayed b)
+    ∙ filter_both (reads b) (reads (Revoked m x ∷ b)) others
+    (λ other. elim (true_or_false (is_reader_row m x other)) [
+      | inl t ↦ (let key = same_right m x other ∙ t in rw (key, t) refl)
+      | inr f ↦ (let key = same_right m x other ∙ f in rw (key, f) refl)
+    ])
+    (once (filter_map granted_in b))
+
+-- ---- tallies
+
+mapped_twice : {X Y : Type 0} (f : Y → Y) (g h : X → Y) → ((x : X) → f (g x) ≡ h x) → (xs : List X)
+    → map f (map g xs) ≡ map h xs
+mapped_twice f g h same [] = refl
+mapped_twice f g h same (x ∷ xs) =
+    ap (λ y. y ∷ map f (map g xs)) (same x) ∙ ap (λ ys. h x ∷ ys) (mapped_twice f g h same xs)
+
+any_mapped : {X Y : Type 0} (p : Y → Bool) (g : X → Y) (xs : List X) → list_any p (map g xs)
+    ≡ list_any (λ x. p (g x)) xs
+any_mapped p g [] = refl
+any_mapped p g (x ∷ xs) = ap (λ (v : Bool). p (g x) || v) (any_mapped p g xs)
+
+none_raised : (a : List ℕ) (d : ℕ) (rows : List TallyRow) → list_any (is_tally_of a d) rows ≡ false
+    → map (raised_row a d) rows ≡ rows
+none_raised a d [] none = refl
+none_raised a d (row ∷ rows) none =
+    let parts = neither_true (is_tally_of a d row) (list_any (is_tally_of a d) rows) none in
+    rw parts.0 (ap (λ l. row ∷ l) (none_raised a d rows parts.1))
+
+-- an account and a day have a first reservation where they have any
+firsts_any : (a : List ℕ) (d : ℕ) (rs : List ReservationValue)
+    → list_any (is_of_day a d) (firsts rs) ≡ list_any (is_of_day a d) rs
+firsts_any a d [] = refl
+firsts_any a d (r ∷ rs) =
+    elim (true_or_false (list_any (is_of_day r.account (day_of r.gen_time)) rs)) [
+      | inl before ↦ rw before (firsts_any a d rs ∙ elim (true_or_false (is_of_day a d r)) [
+        | inl t ↦ (let k = tally.key_is a d r.account (day_of r.gen_time) t in
+            let there : list_any (is_of_day a d) rs ≡ true =
+            subst (λ day. list_any (is_of_day a day) rs ≡ true) k.1
+            (subst (λ account. list_any (is_of_day account (day_of r.gen_time)) rs ≡ true) k.0 before) in
+            rw (t, there) refl)
+        | inr f ↦ rw f refl
+      ])
+      | inr first ↦ rw first (ap (λ (v : Bool). is_of_day a d r || v) (firsts_any a d rs))
+    ]
+
+-- one more reservation raises the rows of its account and day
+row_raised : (r : ReservationValue) (b : History) (x : ReservationValue)
+    → raised_row r.account (day_of r.gen_time) (tally_of b x) ≡ tally_of (Reserved r ∷ b) x
+row_raised r b x =
+    let more = sum_by-cons (λ y. cond (is_of_day x.account (day_of x.gen_time) y) 1 0) r (reservations b) in
+    let swap = tally.key_swap r.account (day_of r.gen_time) x.account (day_of x.gen_time) in
+    elim (true_or_false (is_tally_of r.account (day_of r.gen_time) (tally_of b x))) [
+      | inl t ↦ (let other : is_of_day x.account (day_of x.gen_time) r ≡ true = sym swap ∙ t in
+          let count : count_of_day x.account (day_of x.gen_time) (Reserved r ∷ b)
+          ≡ count_of_day x.account (day_of x.gen_time) b + 1 =
+          more ∙ rw other (omega arith) in
+          rw (t, count) refl)
+      | inr f ↦ (let other : is_of_day x.account (day_of x.gen_time) r ≡ false = sym swap ∙ f in
+          let count : count_of_day x.account (day_of x.gen_time) (Reserved r ∷ b)
+          ≡ count_of_day x.account (day_of x.gen_time) b =
+          more ∙ rw other (omega arith) in
+          rw (f, count) refl)
+    ]
+
+tallies_replayed : (b : History) → (replayed b).tallies ≡ map (tally_of b) (firsts (reservations b))
+tallies_replayed [] = refl
+tallies_replayed (Reserved r ∷ b) =
+    let a = r.account in
+    let d = day_of r.gen_time in
+    let rows = tallies_replayed b in
+    let known : list_any (is_tally_of a d) (replayed b).tallies ≡ list_any (is_of_day a d) (reservations b) =
+    ap (list_any (is_tally_of a d)) rows ∙ any_mapped (is_tally_of a d) (tally_of b) (firsts (reservations b))
+    ∙ firsts_any a d (reservations b) in
+    let raised : map (raised_row a d) (replayed b).tallies
+    ≡ map (tally_of (Reserved r ∷ b)) (firsts (reservations b)) =
+    ap (map (raised_row a d)) rows
+    ∙ mapped_twice (raised_row a d) (tally_of b) (tally_of (Reserved r ∷ b)) (row_raised r b)
+    (firsts (reservations b)) in
+    elim (true_or_false (list_any (is_of_day a d) (reservations b))) [
+      | inl before ↦ rw (known ∙ before, before) raised
+      | inr first ↦
+          (let absent = known ∙ first in
+          let zero : count_of_day a d b ≡ 0 = (tallies_count b).none a d absent in
+          let own : is_of_day a d r ≡ true = tally.key_passes a d a d refl refl in
+          let one : count_of_day a d (Reserved r ∷ b) ≡ 1 =
+          sum_by-cons (λ y. cond (is_of_day a d y) 1 0) r (reservations b) ∙ rw own (omega (arith, zero)) in
+          rw (absent, first) (rw one (ap (λ l. record { account = a; day = d; count = 1 } ∷ l)
+          (sym (none_raised a d (replayed b).tallies absent) ∙ raised))))
+    ]
+tallies_replayed (Sealed n token ∷ b) = tallies_replayed b
+tallies_replayed (Deposited d token ∷ b) = tallies_replayed b
+tallies_replayed (Calibrated c ∷ b) = tallies_replayed b
+tallies_replayed (Held h ∷ b) = tallies_replayed b
+tallies_replayed (Granted n a ∷ b) = tallies_replayed b
+tallies_replayed (Revoked n a ∷ b) = tallies_replayed b
+
+-- ---- all
+
+pub replayed_is : (b : History) → IsSound b → replayed b ≡ tables_of b
+replayed_is b sound =
+    let whole : replayed b ≡ record {
+      stamps = (replayed b).stamps;
+      calibrations = (replayed b).calibrations;
+      holds = (replayed b).holds;
+      deposits = (replayed b).deposits;
+      readers = (replayed b).readers;
+      tallies = (replayed b).tallies;
+    } = refl in
+    whole ∙ rw (
+      stamps_are b sound,
+      calibrations_are b,
+      holds_are b,
+      deposits_are b,
+      readers_replayed b,
+      tallies_replayed b,
+    ) refl
