@@ -9,15 +9,17 @@ use Rattle.book.specs.Sound.{Fits, IsBackwards}
 use Rattle.book.specs.Stands.{Stands, LeavesOrAdds, LeavesAsBefore}
 use Rattle.book.specs.declared.fault.StoreFault.{StoreFault}
 use Rattle.book.specs.declared.fault.StoreFault.TheVariants as store
-use Rattle.desk.specs.Outcome.{Fine, Outcome, Cause, OfMemory, OfStore, cause_of, faults_after, all_fine}
+use Rattle.desk.specs.Fit.{IsFit}
+use Rattle.desk.specs.Outcome.{Call, Fine, Wanting, Broken, Outcome, Cause, OfMemory, OfStore, cause_of, faults_after, all_fine}
 use Rattle.desk.specs.Command.{Setting, Command, Done, Refused}
 use Rattle.desk.specs.Effects.{Effect, only, unless, fault_of, is_backwards}
 use Rattle.desk.specs.Calls.{store_cause}
 use Rattle.desk.specs.Obstacles.{hindered}
 use Rattle.desk.specs.Steps.{HasEffect, IsMet}
-use Rattle.desk.specs.Stepped.{StepsBy, MayBeLeft, IsBlamed, IsExcused, no_signer, settled}
+use Rattle.desk.specs.Stepped.{StepsBy, MayBeLeft, IsBlamed, IsExcused, IsOpened, no_signer, settled}
 use Rattle.desk.specs.declared.fault.Fault.TheVariants as fault
 use Rattle.desk.specs.declared.obstacle.Obstacle.TheVariants as obstacle
+use Rattle.desk.proofs.Fitting.{unbroken}
 use Rattle.desk.proofs.Granting.{entered}
 
 -- what a command does that enters one entry, unless the history turns it back
@@ -29,6 +31,7 @@ pub record Enters (s : Setting) (c : Command) (entry : Entry) (turns : History �
   pub has : (o : Outcome) (b : History) (e : Effect) → e ≡ entering entry (cause_of o.adding) (turns b)
       → HasEffect s c o b e
   pub fits : (b : History) → IsMet c b → Fits entry b
+  pub made : (call : Call) → IsFit c (record (all_fine (Ok [])) { adding = call })
 
 -- the history doesn't turn it back
 unturned : (t : Bool) → (t ≡ true → ⊥) → t ≡ false
@@ -41,11 +44,14 @@ pub enters_as : {B : Type 0} (g : Ghosts B) (s : Setting) (c : Command) (entry :
     → (g.honest new → g.is_open old × g.is_open new)
     → ((b : History) → Stands g b old → Fits entry b → Stands g (entry ∷ b) new)
     → (g.honest new → (b : History) → Stands g b old → turns b ≡ true → ⊥)
+    → (g.is_open new → IsOpened g c Done new)
     → StepsBy g no_signer s c (all_fine (Ok [])) old new Done
-enters_as g s c entry turns old new enters same opened ok free = record {
+enters_as g s c entry turns old new enters same opened ok free opens = record {
+  fits = enters.made Fine;
   counted = same;
   signer = tt;
   blames = tt;
+  opened = λ honest. opens (opened honest).1;
   steps = λ honest b stands met.
       let now = ok b stands (enters.fits b met) in
       record {
@@ -64,51 +70,56 @@ refused_as : {B : Type 0} (g : Ghosts B) (s : Setting) (c : Command) (entry : En
     (old new : B) (o : Outcome) (cause : Cause) → Enters s c entry turns
     → cause_of o.adding ≡ Some cause → cause_of (settled o).adding ≡ None
     → (o.adding ≡ Fine → o.sealing ≡ Fine → ⊥)
-    → IsBlamed g c o old new (Refused (fault_of cause))
+    → IsFit c o → IsBlamed g c o old new (Refused (fault_of cause))
     → g.fault_count new ≡ faults_after o (g.fault_count old)
     → ((b : History) → Stands g b old → Stands g b new)
     → LeavesOrAdds g entry old new
     → (g.honest new → (b : History) → Stands g b old → turns b ≡ true → LeavesAsBefore g old new)
     → StepsBy g no_signer s c o old new (Refused (fault_of cause))
-refused_as g s c entry turns old new o cause enters why answered was_refused blamed counted err crash before = record {
-  counted = counted;
-  signer = tt;
-  blames = blamed;
-  steps = λ honest b stands met. record {
-    effect = only (Refused (fault_of cause));
-    has = enters.has o b (only (Refused (fault_of cause))) (ap (λ x. entering entry x (turns b)) (sym why));
-    says = refl;
-    moves = refl;
-    stands = err b stands;
-    left = λ left r.
-        let doubt : (t : Bool) → turns b ≡ t → MayBeLeft g s c o b old (only (Refused (fault_of cause))) left = elim [
-          | true ↦ λ e. inl (refl, before honest b stands e left r)
-          | false ↦ λ e. elim (crash honest left r) [
-            | inl left ↦ inl (refl, left)
-            | inr adds ↦ inr (inr (record {
-              refused = was_refused;
-              doubted = entered entry;
-              has = enters.has (settled o) b (entered entry)
-                  (sym (ap (λ x. entering entry x (turns b)) answered ∙ ap (λ t. entering entry None t) e));
-              holds = adds b stands (enters.fits b met);
-            }))
-          ]
-        ] in doubt (turns b) refl;
-  };
-}
+refused_as g s c entry turns old new o cause enters why answered was_refused fits blamed counted err crash before =
+    record {
+      fits = fits;
+      counted = counted;
+      signer = tt;
+      blames = blamed;
+      opened = λ honest. tt;
+      steps = λ honest b stands met. record {
+        effect = only (Refused (fault_of cause));
+        has = enters.has o b (only (Refused (fault_of cause))) (ap (λ x. entering entry x (turns b)) (sym why));
+        says = refl;
+        moves = refl;
+        stands = err b stands;
+        left = λ left r.
+            let doubt : (t : Bool) → turns b ≡ t → MayBeLeft g s c o b old (only (Refused (fault_of cause))) left = elim [
+              | true ↦ λ e. inl (refl, before honest b stands e left r)
+              | false ↦ λ e. elim (crash honest left r) [
+                | inl left ↦ inl (refl, left)
+                | inr adds ↦ inr (inr (record {
+                  refused = was_refused;
+                  doubted = entered entry;
+                  has = enters.has (settled o) b (entered entry)
+                      (sym (ap (λ x. entering entry x (turns b)) answered ∙ ap (λ t. entering entry None t) e));
+                  holds = adds b stands (enters.fits b met);
+                }))
+              ]
+            ] in doubt (turns b) refl;
+      };
+    }
 
 -- the store turns it back
 turned_back : {B : Type 0} (g : Ghosts B) (s : Setting) (c : Command) (entry : Entry) (turns : History → Bool)
     (old new : B) → Enters s c entry turns → g.fault_count new ≡ g.fault_count old
     → ((b : History) → Stands g b old → Stands g b new)
     → (g.honest new → (b : History) → Stands g b old → turns b ≡ true)
-    → ((b : History) → turns b ≡ true → IsExcused c b)
+    → IsExcused g c old new
     → (g.honest new → (b : History) → Stands g b old → turns b ≡ true → LeavesAsBefore g old new)
     → StepsBy g no_signer s c (all_fine (Ok [])) old new (Refused fault.Store)
-turned_back g s c entry turns old new enters same err turned excuses before = record {
+turned_back g s c entry turns old new enters same err turned excused before = record {
+  fits = enters.made Fine;
   counted = same;
   signer = tt;
-  blames = inr (λ honest b stands. excuses b (turned honest b stands));
+  blames = inr excused;
+  opened = λ honest. tt;
   steps = λ honest b stands met. record {
     effect = only (Refused fault.Store);
     has = enters.has (all_fine (Ok [])) b (only (Refused fault.Store))
@@ -128,18 +139,19 @@ pub refuses_by : {B : Type 0} (g : Ghosts B) (s : Setting) (c : Command) (entry 
     → ((b : History) → Stands g b old → Stands g b new)
     → LeavesOrAdds g entry old new
     → (g.honest new → (b : History) → Stands g b old → f ≡ store.Backwards → turns b ≡ true)
-    → ((b : History) → turns b ≡ true → IsExcused c b)
+    → (f ≡ store.Backwards → IsExcused g c old new)
     → (g.honest new → (b : History) → Stands g b old → turns b ≡ true → LeavesAsBefore g old new)
     → StepsBy g no_signer s c (hindered (obstacle.Adding f)) old new (Refused (fault_of (store_cause f)))
 refuses_by g s c entry turns old new store.Memory enters which counted err crash turned excuses before =
     refused_as g s c entry turns old new (hindered (obstacle.Adding store.Memory)) OfMemory enters refl refl
-    (λ a e. cc) tt counted err crash before
+    (λ a e. cc) (enters.made Wanting)
+    (unbroken _ tt tt tt tt tt tt tt tt) counted err crash before
 refuses_by g s c entry turns old new store.Database enters which counted err crash turned excuses before =
     refused_as g s c entry turns old new (hindered (obstacle.Adding store.Database)) OfStore enters refl refl
-    (λ a e. cc) (inl (inr (inr (inr (inr (inl refl)))))) counted err crash before
+    (λ a e. cc) (enters.made Broken) (inl (inr (inr (inr (inr (inl refl)))))) counted err crash before
 refuses_by g s c entry turns old new store.Backwards enters which counted err crash turned excuses before =
-    turned_back g s c entry turns old new enters counted err (λ honest b stands. turned honest b stands refl) excuses
-    before
+    turned_back g s c entry turns old new enters counted err (λ honest b stands. turned honest b stands refl)
+    (excuses refl) before
 refuses_by g s c entry turns old new store.NotOurs enters which counted err crash turned excuses before =
     absurd (elim which [ inl e ↦ cc | inr e ↦ elim e [ inl k ↦ cc | inr k ↦ cc ] ])
 refuses_by g s c entry turns old new store.Full enters which counted err crash turned excuses before =

@@ -1,6 +1,7 @@
 -- The exits of a stamp up to its reservation.
 use Rattle.std.proofs.Common.{◌≡◌, ℕ, ◌≤◌, nat_le, cond, ℤ, Bool, true, false, List, [], ◌∷◌, Option, Some, None}
 use Rattle.std.proofs.Common.{Result, Ok, Err, refl, sym, ap, ◌∙◌, subst, inl, inr, arith}
+use Rattle.std.specs.Prelude.{OnOk}
 use Rattle.std.proofs.lemmas.Bool.Decides.{nat_tests}
 use Rattle.policy.specs.Record.{AccountValue}
 use Rattle.tsp.specs.declared.rule.Rule.{Rule}
@@ -11,26 +12,32 @@ use Rattle.book.specs.Stands.{Stands, OnlyLooks}
 use Rattle.book.specs.declared.fault.StoreFault.{StoreFault}
 use Rattle.book.specs.declared.fault.StoreFault.TheVariants as store
 use Rattle.desk.specs.Calls.{store_cause, cause_with, refused, outcome_of, IsOfStore, IsOfLooks, IsOfReserving}
+use Rattle.desk.specs.Calls.{IsOfBeginning}
+use Rattle.desk.specs.Fit.{IsFit}
 use Rattle.desk.specs.Calls.{pending_as, reserving, Reserves}
 use Rattle.desk.specs.Command.{Setting, PendingValue, Command, Begin, Rejected, Refused}
 use Rattle.desk.specs.Effects.{only, fault_of, no_number, begin_effect, name_of}
 use Rattle.desk.specs.Findings.{PlanValue, Fails, Unanswered, Allowed, Finds}
 use Rattle.desk.specs.Outcome.{Call, Outcome, Fine, Wanting, Broken, Cause, OfStore, first_cause, faults_after}
 use Rattle.desk.specs.Outcome.{all_fine}
-use Rattle.desk.specs.Stepped.{no_signer, IsBlamedFor, IsBlamed, IsExcused, StepsBy, settled_by, settled}
+use Rattle.desk.specs.Stepped.{no_signer, IsBlamedFor, IsBlamed, IsExcused, IsOpened, StepsBy, settled_by, settled}
 use Rattle.desk.specs.declared.refusal.Refusal.{Refusal}
 use Rattle.desk.specs.declared.refusal.Refusal.TheVariants as refusal
+use Rattle.desk.proofs.Fitting.{unbroken}
 
 -- a rule fails
 pub rejects : {B : Type 0} (g : Ghosts B) (s : Setting) (account : Option AccountValue) (reading : ℤ) (octets : List ℕ)
     (o : Outcome) (old new : B) (rule : Rule)
+    → IsFit (Begin account reading octets) o
     → OnlyLooks g old new → g.fault_count new ≡ faults_after o (g.fault_count old)
     → (g.honest new → (b : History) → Stands g b old → Finds s.file account reading octets o b (Fails rule))
     → StepsBy g no_signer s (Begin account reading octets) o old new (Rejected rule)
-rejects g s account reading octets o old new rule looks counted finds = record {
+rejects g s account reading octets o old new rule fits looks counted finds = record {
+  fits = fits;
   counted = counted;
   signer = tt;
   blames = tt;
+  opened = λ honest. tt;
   steps = λ honest b st met. record {
     effect = only (Rejected rule);
     has = (Fails rule, finds honest b st, refl);
@@ -43,7 +50,7 @@ rejects g s account reading octets o old new rule looks counted finds = record {
 
 look_blamed : {B : Type 0} (g : Ghosts B) (c : Command) (f : StoreFault) (old new : B) → IsOfStore f
     → IsBlamedFor g c (refused (refusal.Looking f)) old new (fault_of (store_cause f))
-look_blamed g c store.Memory old new h = tt
+look_blamed g c store.Memory old new h = unbroken _ tt tt tt tt tt tt tt tt
 look_blamed g c store.Database old new h = inl (inr (inl refl))
 look_blamed g c store.NotOurs old new (inl e) = cc
 look_blamed g c store.NotOurs old new (inr e) = cc
@@ -54,7 +61,7 @@ look_blamed g c store.Backwards old new (inr e) = cc
 
 count_blamed : {B : Type 0} (g : Ghosts B) (c : Command) (f : StoreFault) (old new : B) → IsOfStore f
     → IsBlamedFor g c (refused (refusal.Counting f)) old new (fault_of (store_cause f))
-count_blamed g c store.Memory old new h = tt
+count_blamed g c store.Memory old new h = unbroken _ tt tt tt tt tt tt tt tt
 count_blamed g c store.Database old new h = inl (inr (inr (inl refl)))
 count_blamed g c store.NotOurs old new (inl e) = cc
 count_blamed g c store.NotOurs old new (inr e) = cc
@@ -65,7 +72,7 @@ count_blamed g c store.Backwards old new (inr e) = cc
 
 add_blamed : {B : Type 0} (g : Ghosts B) (c : Command) (f : StoreFault) (old new : B) → IsOfStore f
     → IsBlamedFor g c (refused (refusal.Adding f)) old new (fault_of (store_cause f))
-add_blamed g c store.Memory old new h = tt
+add_blamed g c store.Memory old new h = unbroken _ tt tt tt tt tt tt tt tt
 add_blamed g c store.Database old new h = inl (inr (inr (inr (inr (inl refl)))))
 add_blamed g c store.NotOurs old new (inl e) = cc
 add_blamed g c store.NotOurs old new (inr e) = cc
@@ -87,16 +94,28 @@ looks_blamed g c (refusal.Sealing f) old new h = absurd h
 
 -- a reservation that is refused names the store where it failed, or where no number is left
 pub reserving_blamed : {B : Type 0} (g : Ghosts B) (c : Command) (r : Refusal) (old new : B)
-    → IsOfReserving r → (r ≡ refusal.Spent → g.honest new → (b : History) → Stands g b old → IsExcused c b)
+    → IsOfReserving r → (r ≡ refusal.Spent → IsExcused g c old new)
     → IsBlamedFor g c (refused r) old new (fault_of (cause_with r))
 reserving_blamed g c (refusal.Looking f) old new h spent = absurd h
 reserving_blamed g c (refusal.Counting f) old new h spent = absurd h
 reserving_blamed g c refusal.Spent old new h spent = inr (spent refl)
-reserving_blamed g c refusal.Growing old new h spent = tt
+reserving_blamed g c refusal.Growing old new h spent = unbroken _ tt tt tt tt tt tt tt tt
 reserving_blamed g c (refusal.Adding f) old new h spent = add_blamed g c f old new h
 reserving_blamed g c (refusal.Signing f) old new h spent = absurd h
 reserving_blamed g c refusal.Wrapping old new h spent = absurd h
 reserving_blamed g c (refusal.Sealing f) old new h spent = absurd h
+
+-- the calls that a beginning makes
+pub begin_fits : (account : Option AccountValue) (reading : ℤ) (octets : List ℕ) (r : Refusal) → IsOfBeginning r
+    → IsFit (Begin account reading octets) (refused r)
+begin_fits account reading octets (refusal.Looking f) h = (refl, (tt, tt))
+begin_fits account reading octets (refusal.Counting f) h = (refl, (tt, tt))
+begin_fits account reading octets refusal.Spent h = (refl, (tt, tt))
+begin_fits account reading octets refusal.Growing h = (refl, (tt, tt))
+begin_fits account reading octets (refusal.Adding f) h = (refl, (tt, tt))
+begin_fits account reading octets (refusal.Signing f) h = absurd (elim h [ inl x ↦ x | inr x ↦ x ])
+begin_fits account reading octets refusal.Wrapping h = absurd (elim h [ inl x ↦ x | inr x ↦ x ])
+begin_fits account reading octets (refusal.Sealing f) h = absurd (elim h [ inl x ↦ x | inr x ↦ x ])
 
 -- a look-up is refused
 pub leaves_open : {B : Type 0} (g : Ghosts B) (s : Setting) (account : Option AccountValue) (reading : ℤ)
@@ -106,9 +125,11 @@ pub leaves_open : {B : Type 0} (g : Ghosts B) (s : Setting) (account : Option Ac
     → Finds s.file account reading octets (refused r) b (Unanswered (cause_with r)))
     → StepsBy g no_signer s (Begin account reading octets) (refused r) old new (Refused (fault_of (cause_with r)))
 leaves_open g s account reading octets old new r of looks counted finds = record {
+  fits = begin_fits account reading octets r (inl of);
   counted = counted;
   signer = tt;
   blames = looks_blamed g (Begin account reading octets) r old new of;
+  opened = λ honest. tt;
   steps = λ honest b st met. record {
     effect = only (Refused (fault_of (cause_with r)));
     has = (Unanswered (cause_with r), finds honest b st, refl);
@@ -159,6 +180,7 @@ is_excused n e = grind (arith, nat_tests)
 pub record Follows {B : Type 0} (g : Ghosts B) (s : Setting) (name : List ℕ) (plan : PlanValue) (octets : List ℕ)
     (last : ℕ) (mid new : B) (result : Result PendingValue Refusal) : Type 0 where
   pub honest : g.honest new → g.honest mid
+  pub opened : g.honest new → OnOk result (g.is_open new)
   pub counted : g.fault_count new ≡ faults_after (outcome_of result) (g.fault_count mid)
   pub reserves : g.honest new → (b : History) → Stands g b mid → greatest_serial b ≡ last
       → Reserves g s name plan octets b mid new result
@@ -172,9 +194,19 @@ result_looks : (result : Result PendingValue Refusal) → IsReserving result
 result_looks (Ok p) h = (refl, refl)
 result_looks (Err r) h = reserving_looks r h
 
+result_fits : (account : Option AccountValue) (reading : ℤ) (octets : List ℕ) (result : Result PendingValue Refusal)
+    → IsReserving result → IsFit (Begin account reading octets) (outcome_of result)
+result_fits account reading octets (Ok p) h = (refl, (tt, tt))
+result_fits account reading octets (Err r) h = begin_fits account reading octets r (inr h)
+
+result_opened : {B : Type 0} (g : Ghosts B) (c : Command) (new : B) (result : Result PendingValue Refusal)
+    → OnOk result (g.is_open new) → IsOpened g c (pending_as result) new
+result_opened g c new (Ok p) h = h
+result_opened g c new (Err r) h = tt
+
 result_blamed : {B : Type 0} (g : Ghosts B) (c : Command) (old new : B)
     (result : Result PendingValue Refusal) → IsReserving result
-    → (result ≡ Err refusal.Spent → g.honest new → (b : History) → Stands g b old → IsExcused c b)
+    → (result ≡ Err refusal.Spent → IsExcused g c old new)
     → IsBlamed g c (outcome_of result) old new (pending_as result)
 result_blamed g c old new (Ok p) h spent = tt
 result_blamed g c old new (Err r) h spent = reserving_blamed g c r old new h (λ e. spent (ap Err e))
@@ -197,8 +229,10 @@ reserves_after g s account reading octets old mid new plan last name result name
     λ h b st. subst (λ x. Reserves g s x plan octets b mid new result) named
     (after_it.reserves h b (looks.stands b st) (sym (is (after_it.honest h) b st))) in
     record {
+      fits = result_fits account reading octets result of;
       counted = after_it.counted ∙ ap (faults_after o) uncounted;
       signer = tt;
+      opened = λ h. result_opened g (Begin account reading octets) new result (after_it.opened h);
       blames = result_blamed g (Begin account reading octets) old new result of
           (λ e h b st. is_excused (greatest_serial b) (spent_if s (name_of account) plan octets b
           (nat_le greatest_number (greatest_serial b))

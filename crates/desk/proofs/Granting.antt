@@ -13,7 +13,8 @@ use Rattle.desk.specs.Effects.{Effect, only, unless, has_account, right_effect}
 use Rattle.desk.specs.Obstacles.{MayName}
 use Rattle.desk.specs.Outcome.{Outcome, Cause, cause_of, all_fine}
 use Rattle.desk.specs.Steps.{HasEffect}
-use Rattle.desk.specs.Stepped.{no_signer, StepsBy}
+use Rattle.desk.specs.Fit.{IsFit}
+use Rattle.desk.specs.Stepped.{no_signer, IsOpened, StepsBy}
 use Rattle.desk.specs.declared.fault.Fault.TheVariants as fault
 use Rattle.desk.proofs.Stepping.{right_seen}
 
@@ -62,24 +63,28 @@ made s account reader n b entry o m searched looked refused e =
 
 -- what the look-ups before the commit found
 pub record Allows {B : Type 0} (g : Ghosts B) (s : Setting) (c : Command) (account reader : List ℕ) (n : ℕ)
-    (entry : Entry) (old mid : B) : Type 0 where
+    (entry : Entry) (old mid new : B) : Type 0 where
   pub righting : IsRighting s c account n reader entry
   pub fits : (b : History) → FitsRight n b → Fits entry b
+  pub made : IsFit c (all_fine (Ok []))
+  pub opens : g.is_open new → IsOpened g c Done new
   pub looks : OnlyLooks g old mid
   pub uncounted : g.fault_count mid ≡ g.fault_count old
   pub may : g.honest mid → (b : History) → Stands g b old → MayName s.file account reader n b
 
 -- the right is entered
 pub right_entered : {B : Type 0} (g : Ghosts B) (s : Setting) (c : Command) (account reader : List ℕ) (n : ℕ)
-    (entry : Entry) (old mid new : B) → Allows g s c account reader n entry old mid
+    (entry : Entry) (old mid new : B) → Allows g s c account reader n entry old mid new
     → (g.honest new → g.honest mid) → g.fault_count new ≡ g.fault_count mid
     → (g.honest new → g.is_open mid × g.is_open new)
     → ((b : History) → Stands g b mid → Fits entry b → Stands g (entry ∷ b) new)
     → StepsBy g no_signer s c (all_fine (Ok [])) old new Done
 right_entered g s c account reader n entry old mid new a before same opened ok = record {
+  fits = a.made;
   counted = same ∙ a.uncounted;
   signer = tt;
   blames = tt;
+  opened = λ honest. a.opens (opened honest).1;
   steps = λ honest b st met.
       let m = a.may (before honest) b st in
       let now = ok b (a.looks.stands b st) (a.fits b (right_seen account n b m.deposit m.seen)) in

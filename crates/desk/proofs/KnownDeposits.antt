@@ -13,17 +13,20 @@ use Rattle.book.specs.Stands.{Stands, OnlyLooks}
 use Rattle.book.specs.declared.fault.StoreFault.{StoreFault}
 use Rattle.book.specs.declared.fault.StoreFault.TheVariants as store
 use Rattle.desk.specs.Calls.{call_of, store_cause, IsOfStore}
-use Rattle.desk.specs.Command.{Setting, Command, Deposit, Answer, Stamped, Rejected, Begun, Kept, Shown, Listed, Done}
+use Rattle.desk.specs.Command.{Setting, Command, Stamp, Begin, Finish, Abandon, Deposit, Show, Token, ListAll, Grant}
+use Rattle.desk.specs.Command.{Revoke, Calibrate, Hold, Answer, Stamped, Rejected, Begun, Kept, Shown, Listed, Done}
 use Rattle.desk.specs.Command.{Refused}
+use Rattle.desk.specs.Fit.{IsFit}
 use Rattle.desk.specs.Depositing.{known_in, IsUnused, StepsWhere}
 use Rattle.desk.specs.Effects.{only, fault_of, too_large}
 use Rattle.desk.specs.Outcome.{Outcome, faults_after, all_fine}
 use Rattle.desk.specs.Steps.{HasEffect, Keeps, KeepsUnless, KeepsUnder}
-use Rattle.desk.specs.Stepped.{StepsBy, IsBlamed, IsBlamedFor, SignerStep, with_signer}
+use Rattle.desk.specs.Stepped.{StepsBy, IsBlamed, IsBlamedFor, IsExcused, IsOpened, SignerStep, with_signer}
 use Rattle.desk.specs.declared.depositing.Known.{Known}
 use Rattle.desk.specs.declared.depositing.Known.TheVariants as known
 use Rattle.desk.specs.declared.fault.Fault.{Fault}
 use Rattle.desk.specs.declared.fault.Fault.TheVariants as fault
+use Rattle.desk.proofs.Fitting.{unbroken}
 use Rattle.desk.proofs.Judgement.{same_cause, same_count}
 
 is_many : (n : ℕ) → 1_048_576 < n → nat_le n 1_048_576 ≡ false
@@ -36,9 +39,11 @@ pub is_too_large : {B X : Type 0} (g : Ghosts B) (signs : X → List ℕ → Res
     → StepsBy g (with_signer signs count x x) s (Deposit a reading reference bytes) (all_fine (Ok [])) v v
     (Refused fault.TooLarge)
 is_too_large g signs count x s a reading reference bytes v many = record {
+  fits = (refl, (tt, tt));
   counted = refl;
   signer = refl;
   blames = tt;
+  opened = λ honest. tt;
   steps = λ honest b stands met. record {
     effect = only too_large;
     has = subst (λ few. Keeps s a reading reference bytes (all_fine (Ok [])) b few (only too_large))
@@ -54,13 +59,15 @@ is_too_large g signs count x s a reading reference bytes v many = record {
 looked : {B X : Type 0} (g : Ghosts B) (signs : X → List ℕ → Result (List ℕ) SignerFault → X → Type 0)
     (count : X → ℕ) (x : X) (s : Setting) (c : Command) (o : Outcome) (old new : B) (said : Answer)
     → OnlyLooks g old new → g.fault_count new ≡ faults_after o (g.fault_count old) → o.signing ≡ Ok []
-    → IsBlamed g c o old new said
+    → IsFit c o → IsOpened g c said new → IsBlamed g c o old new said
     → (g.honest new → (b : History) → Stands g b old → HasEffect s c o b (only said))
     → StepsBy g (with_signer signs count x x) s c o old new said
-looked g signs count x s c o old new said looks faults unsigned blamed has = record {
+looked g signs count x s c o old new said looks faults unsigned fits opened blamed has = record {
+  fits = fits;
   counted = faults;
   signer = sym (ap (λ r. count_after r (count x)) unsigned);
   blames = blamed;
+  opened = λ honest. opened;
   steps = λ honest b stands met. record {
     effect = only said;
     has = has honest b stands;
@@ -77,7 +84,7 @@ unsearched f = record (all_fine (Ok [])) { searching = call_of f }
 
 search_blamed : {B : Type 0} (g : Ghosts B) (c : Command) (f : StoreFault) (old new : B) → IsOfStore f
     → IsBlamedFor g c (unsearched f) old new (fault_of (store_cause f))
-search_blamed g c store.Memory old new h = tt
+search_blamed g c store.Memory old new h = unbroken _ tt tt tt tt tt tt tt tt
 search_blamed g c store.Database old new h = inl (inl refl)
 search_blamed g c store.NotOurs old new (inl e) = cc
 search_blamed g c store.NotOurs old new (inr e) = cc
@@ -96,6 +103,7 @@ is_unsearched g signs count x s a reading reference bytes old new f few of looks
     let c = Deposit a reading reference bytes in
     let said = Refused (fault_of (store_cause f)) in
     looked g signs count x s c (unsearched f) old new said looks (faults ∙ same_count f (g.fault_count old)) refl
+    (refl, (tt, tt)) tt
     (search_blamed g c f old new of)
     (λ honest b stands. subst (λ t. Keeps s a reading reference bytes (unsearched f) b t (only said)) (sym few)
     (subst (λ t. KeepsUnless s a reading reference bytes (unsearched f) b t (only said)) (sym (same_cause f of)) refl))
@@ -139,7 +147,8 @@ pub is_same : {B X : Type 0} (g : Ghosts B) (signs : X → List ℕ → Result (
     (Kept number false)
 is_same g signs count x s a reading reference bytes old new owner found number few looks faults named told is =
     let o = all_fine (Ok []) in
-    looked g signs count x s (Deposit a reading reference bytes) o old new (Kept number false) looks faults refl tt
+    looked g signs count x s (Deposit a reading reference bytes) o old new (Kept number false) looks faults refl
+    (refl, (tt, tt)) tt tt
     (λ honest b stands. subst (λ t. Keeps s a reading reference bytes o b t (only (Kept number false))) (sym few)
     (same_under s a reading reference bytes o b (deposit_under a.name reference b) number
     (under_named bytes reference b owner a.name found (known.Same number) named told (is honest b stands))))
@@ -154,7 +163,7 @@ pub is_other : {B X : Type 0} (g : Ghosts B) (signs : X → List ℕ → Result 
 is_other g signs count x s a reading reference bytes old new owner found few looks faults named told is =
     let o = all_fine (Ok []) in
     looked g signs count x s (Deposit a reading reference bytes) o old new (Refused fault.Conflict) looks faults refl
-    tt
+    (refl, (tt, tt)) tt tt
     (λ honest b stands. subst (λ t. Keeps s a reading reference bytes o b t (only (Refused fault.Conflict))) (sym few)
     (other_under s a reading reference bytes o b (deposit_under a.name reference b)
     (under_named bytes reference b owner a.name found known.Other named told (is honest b stands))))
@@ -176,6 +185,22 @@ is_unused a bytes reference b owner found named told value =
     (under_named bytes reference b owner a.name found known.Nothing named told value)
 
 -- what the store stands for after the look-up, it stood for before
+excused_before : {B : Type 0} (g : Ghosts B) (c : Command) (old mid new : B) → OnlyLooks g old mid
+    → IsExcused g c mid new → IsExcused g c old new
+excused_before g (Stamp account reading octets) old mid new looks h = λ honest b st. h honest b (looks.stands b st)
+excused_before g (Begin account reading octets) old mid new looks h = λ honest b st. h honest b (looks.stands b st)
+excused_before g (Finish p signature) old mid new looks h = h
+excused_before g (Abandon p) old mid new looks h = h
+excused_before g (Deposit a reading reference bytes) old mid new looks h =
+    λ honest b st. h honest b (looks.stands b st)
+excused_before g (Show a n) old mid new looks h = h
+excused_before g (Token a n) old mid new looks h = h
+excused_before g (ListAll a) old mid new looks h = h
+excused_before g (Grant a n reader) old mid new looks h = h
+excused_before g (Revoke a n reader) old mid new looks h = h
+excused_before g (Calibrate x) old mid new looks h = λ honest b st. h honest b (looks.stands b st)
+excused_before g (Hold x) old mid new looks h = h
+
 blamed_before : {B : Type 0} (g : Ghosts B) (c : Command) (o : Outcome) (old mid new : B) (f : Fault)
     → OnlyLooks g old mid → IsBlamedFor g c o mid new f → IsBlamedFor g c o old new f
 blamed_before g c o old mid new fault.NotHere looks h = tt
@@ -185,10 +210,9 @@ blamed_before g c o old mid new fault.UnknownReader looks h = tt
 blamed_before g c o old mid new fault.SelfGrant looks h = tt
 blamed_before g c o old mid new fault.TooLarge looks h = tt
 blamed_before g c o old mid new (fault.Rejected rule) looks h = tt
-blamed_before g c o old mid new fault.Memory looks h = tt
+blamed_before g c o old mid new fault.Memory looks h = h
 blamed_before g c o old mid new fault.Store looks (inl broken) = inl broken
-blamed_before g c o old mid new fault.Store looks (inr spent) =
-    inr (λ honest b stands. spent honest b (looks.stands b stands))
+blamed_before g c o old mid new fault.Store looks (inr excused) = inr (excused_before g c old mid new looks excused)
 blamed_before g c o old mid new fault.Signer looks h = h
 
 said_before : {B : Type 0} (g : Ghosts B) (c : Command) (o : Outcome) (old mid new : B) (said : Answer)
@@ -210,9 +234,11 @@ pub is_after : {B : Type 0} (g : Ghosts B) (t : SignerStep) (s : Setting) (c : C
     → (g.honest new → g.honest mid)
     → StepsWhere g t s c P o mid new said → StepsBy g t s c o old new said
 is_after g t s c P o old mid new said looks faults holds honest step = record {
+  fits = step.fits;
   counted = step.counted ∙ ap (faults_after o) faults;
   signer = step.signer;
   blames = said_before g c o old mid new said looks step.blames;
+  opened = step.opened;
   steps = λ kept b stands met.
       let h = step.steps kept b (looks.stands b stands) (holds (honest kept) b stands) in
       record {

@@ -5,6 +5,8 @@ pub mod Begins
 pub mod Clocks
 pub mod Entered
 pub mod Falling
+pub mod FalseVariants
+pub mod Fitting
 pub mod Given
 pub mod Granting
 pub mod Headline

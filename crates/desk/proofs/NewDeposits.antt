@@ -28,8 +28,10 @@ use Rattle.desk.specs.Effects.{signed_or_void, stamping_of, begin_effect, begin_
 use Rattle.desk.specs.Effects.{deposit_found}
 use Rattle.desk.specs.Steps.{HasEffect, Keeps, KeepsUnless, KeepsUnder, Moves}
 use Rattle.desk.specs.Runs.{after}
-use Rattle.desk.specs.Stepped.{StepsBy, IsBlamed, IsBlamedFor, IsExcused, MayBeLeft, IsDoubted, no_signer, with_signer}
-use Rattle.desk.specs.Stepped.{settled_by}
+use Rattle.desk.specs.Fit.{IsFit, IsUncounted, AreGrowths}
+use Rattle.desk.specs.Stepped.{StepsBy, IsBlamed, IsBlamedFor, IsExcused, IsOpened, MayBeLeft, IsDoubted, no_signer}
+use Rattle.desk.specs.Stepped.{settled_by, with_signer}
+use Rattle.desk.proofs.Fitting.{unbroken}
 use Rattle.desk.specs.Wholes.{joined}
 use Rattle.desk.specs.Calls.{refused, cause_with, store_cause, signer_cause, IsOfBeginning}
 use Rattle.desk.specs.Depositing.{kept_by, kept, MayStayKept, KeepsBy, SignsAndKeeps, StepsWhere, IsUnused}
@@ -54,8 +56,10 @@ pub unwrapped : {B : Type 0} (g : Ghosts B) (p : PendingValue) (d : DepositValue
     (v : B)
     → KeepsBy g p d (Ok signature) (refused refusal.Wrapping) v v (Refused fault.Memory)
 unwrapped g p d signature v = record {
+  grows = tt;
   counted = refl;
-  blames = λ c first. tt;
+  opened = λ c honest. tt;
+  blames = λ c first. unbroken _ tt tt tt tt tt tt tt tt;
   steps = λ honest b stands fits. record { says = refl; stands = stands; left = λ left r. inl (refl, r) };
 }
 
@@ -67,7 +71,9 @@ stored_as : {B : Type 0} (g : Ghosts B) (p : PendingValue) (d : DepositValue) (s
     → Stands g (Deposited d (token_with p signature) ∷ b) new)
     → KeepsBy g p d (Ok signature) (all_fine (Ok [])) old new (Kept d.serial true)
 stored_as g p d signature old new same opened ok = record {
+  grows = tt;
   counted = same;
+  opened = λ c honest. (opened honest).1;
   blames = λ c first. tt;
   steps = λ honest b stands fits.
       let now = ok b stands fits in
@@ -99,14 +105,16 @@ stored g p owner reference bytes signature serial token old new number is same o
 unstored_as : {B : Type 0} (g : Ghosts B) (p : PendingValue) (d : DepositValue) (signature : List ℕ)
     (old new : B) (o : Outcome) (cause : Cause)
     → no_seal o ≡ Some cause → no_seal (record o { sealing = Fine }) ≡ None → (o.sealing ≡ Fine → ⊥)
-    → ((c : Command) (first : B)
+    → IsUncounted o.wrapping → ((c : Command) (first : B)
     → IsBlamed g c (joined (all_fine (Ok [])) (Ok signature) o) first new (Refused (fault_of cause)))
     → g.fault_count new ≡ counted o.sealing (counted o.wrapping (g.fault_count old))
     → ((b : History) → Stands g b old → Stands g b new)
     → LeavesOrAdds g (Deposited d (token_with p signature)) old new
     → KeepsBy g p d (Ok signature) o old new (Refused (fault_of cause))
-unstored_as g p d signature old new o cause why answered was_refused blamed faults err crash = record {
+unstored_as g p d signature old new o cause why answered was_refused grows blamed faults err crash = record {
+  grows = grows;
   counted = faults;
+  opened = λ c honest. tt;
   blames = blamed;
   steps = λ honest b stands fits. record {
     says = sym (ap (λ x. (kept_by p d signature [] x).says) why);
@@ -128,10 +136,10 @@ unstored_by : {B : Type 0} (g : Ghosts B) (p : PendingValue) (d : DepositValue) 
     → LeavesOrAdds g (Deposited d (token_with p signature)) old new
     → KeepsBy g p d (Ok signature) (refused (refusal.Sealing f)) old new (Refused (fault_of (store_cause f)))
 unstored_by g p d signature old new store.Memory which faults err crash =
-    unstored_as g p d signature old new (refused (refusal.Sealing store.Memory)) _ refl refl (λ e. cc) (λ c first. tt)
-    faults err crash
+    unstored_as g p d signature old new (refused (refusal.Sealing store.Memory)) _ refl refl (λ e. cc) tt
+    (λ c first. unbroken _ tt tt tt tt tt tt tt tt) faults err crash
 unstored_by g p d signature old new store.Database which faults err crash =
-    unstored_as g p d signature old new (refused (refusal.Sealing store.Database)) _ refl refl (λ e. cc)
+    unstored_as g p d signature old new (refused (refusal.Sealing store.Database)) _ refl refl (λ e. cc) tt
     (λ c first. inl (inr (inr (inr (inr (inr (inr refl))))))) faults err crash
 unstored_by g p d signature old new store.NotOurs which faults err crash =
     absurd (elim which [ inl e ↦ cc | inr e ↦ cc ])
@@ -161,12 +169,14 @@ unsigned_blamed : {B : Type 0} (g : Ghosts B) (f : SignerFault) (c : Command) (f
     → IsBlamed g c (joined (all_fine (Ok [])) (Err f) (all_fine (Ok []))) first new
     (Refused (fault_of (signer_cause f)))
 unsigned_blamed g signer.Failed c first new = refl
-unsigned_blamed g signer.Memory c first new = tt
+unsigned_blamed g signer.Memory c first new = unbroken _ tt tt tt tt tt tt tt tt
 
 pub unsigned : {B : Type 0} (g : Ghosts B) (p : PendingValue) (d : DepositValue) (f : SignerFault) (v : B)
     → KeepsBy g p d (Err f) (all_fine (Ok [])) v v (Refused (fault_of (signer_cause f)))
 unsigned g p d f v = record {
+  grows = tt;
   counted = refl;
+  opened = λ c honest. tt;
   blames = λ c first. unsigned_blamed g f c first v;
   steps = λ honest b stands fits. record { says = refl; stands = stands; left = λ left r. inl (refl, r) };
 }
@@ -175,13 +185,14 @@ unsigned g p d f v = record {
 
 -- A command is a deposit of new octets, whose request has these octets: what it has done where a plan was found, or
 -- none. P is what is known of the history.
-pub record IsNew (s : Setting) (c : Command) (a : AccountValue) (reading : ℤ) (reference bytes octets : List ℕ)
-    (P : History → Type 0) : Type 0 where
+pub record IsNew {B : Type 0} (g : Ghosts B) (s : Setting) (c : Command) (a : AccountValue) (reading : ℤ)
+    (reference bytes octets : List ℕ) (P : History → Type 0) : Type 0 where
   pub unused : (b : History) → P b → deposit_under a.name reference b ≡ None
   pub has : (o : Outcome) (b : History) (f : Finding) → P b → o.searching ≡ Fine
       → Finds s.file (Some a) reading octets o b f
       → HasEffect s c o b (deposit_found s a.name reference bytes octets o b f)
-  pub excused : (b : History) → IsExcused (Begin (Some a) reading octets) b → IsExcused c b
+  pub fits : (o : Outcome) → AreGrowths o → IsFit c o
+  pub excused : (old new : B) → IsExcused g (Begin (Some a) reading octets) old new → IsExcused g c old new
 
 -- a plan is found as for a stamp
 under_octets : (s : Setting) (a : AccountValue) (reading : ℤ) (reference bytes : List ℕ) (o : Outcome) (b : History)
@@ -199,16 +210,17 @@ under_octets s a reading reference bytes o b f few unused spelled fine found =
 pub is_few : (n : ℕ) → n ≤ 1_048_576 → nat_le n 1_048_576 ≡ true
 is_few n h = grind (arith, nat_tests)
 
-pub new_deposit : (s : Setting) (a : AccountValue) (reading : ℤ) (reference bytes : List ℕ)
+pub new_deposit : {B : Type 0} (g : Ghosts B) (s : Setting) (a : AccountValue) (reading : ℤ) (reference bytes : List ℕ)
     → length bytes ≤ 1_048_576
     → Spells (octets_for s.file a bytes) (request_for s.file a bytes)
-    → IsNew s (Deposit a reading reference bytes) a reading reference bytes (octets_for s.file a bytes)
+    → IsNew g s (Deposit a reading reference bytes) a reading reference bytes (octets_for s.file a bytes)
     (IsUnused a reference)
-new_deposit s a reading reference bytes few spelled = record {
+new_deposit g s a reading reference bytes few spelled = record {
   unused = λ b p. p;
   has = λ o b f p fine found. under_octets s a reading reference bytes o b f (is_few (length bytes) few) p spelled fine
       found;
-  excused = λ b e. e;
+  fits = λ o grows. (refl, grows);
+  excused = λ old new e. e;
 }
 
 -- where a beginning is refused, so is the deposit
@@ -265,7 +277,7 @@ void_found s owner reference bytes octets o b (Allowed plan) e =
 -- what is in doubt after a beginning that added nothing is in doubt after its deposit
 doubted : {B : Type 0} (g : Ghosts B) (s : Setting) (c : Command) (a : AccountValue) (reading : ℤ)
     (reference bytes octets : List ℕ) (P : History → Type 0) (o : Outcome) (b : History) (old : B)
-    (answer : Answer) (left : g.Left) → IsNew s c a reading reference bytes octets P → P b → o.searching ≡ Fine
+    (answer : Answer) (left : g.Left) → IsNew g s c a reading reference bytes octets P → P b → o.searching ≡ Fine
     → o.sealing ≡ Fine → (call : Call) → o.adding ≡ call
     → IsDoubted g s (Begin (Some a) reading octets) o b left
     → MayBeLeft g s c o b old (only answer) left
@@ -298,19 +310,21 @@ doubted g s c a reading reference bytes octets P o b old answer left new p fine 
 decided : {B X : Type 0} (g : Ghosts B) (signs : X → List ℕ → Result (List ℕ) SignerFault → X → Type 0)
     (count : X → ℕ) (x : X) (s : Setting) (c : Command) (a : AccountValue) (reading : ℤ)
     (reference bytes octets : List ℕ) (P : History → Type 0) (o : Outcome) (old new : B)
-    (said answer : Answer) → IsNew s c a reading reference bytes octets P → o.searching ≡ Fine → o.sealing ≡ Fine
+    (said answer : Answer) → IsNew g s c a reading reference bytes octets P → o.searching ≡ Fine → o.sealing ≡ Fine
     → o.signing ≡ Ok []
     → StepsBy g no_signer s (Begin (Some a) reading octets) o old new said
     → ((b : History) (f : Finding) → (begin_found s a.name octets o b f).says ≡ said
     → (deposit_found s a.name reference bytes octets o b f ≡ only answer)
     × (begin_found s a.name octets o b f ≡ only said))
-    → IsBlamed g c o old new answer
+    → IsOpened g c answer new → IsBlamed g c o old new answer
     → StepsWhere g (with_signer signs count x x) s c P o old new answer
 decided g signs count x s c a reading reference bytes octets P o old new said answer is_new fine sealed unsigned begin
-    decides blamed = record {
+    decides opened blamed = record {
+      fits = is_new.fits o begin.fits.1;
       counted = begin.counted;
       signer = sym (ap (λ r. count_after r (count x)) unsigned);
       blames = blamed;
+      opened = λ honest. opened;
       steps = λ honest b stands p.
           let h = begin.steps honest b stands tt in
           let f = h.has.0 in
@@ -334,13 +348,13 @@ decided g signs count x s c a reading reference bytes octets P o old new said an
 pub is_rejected : {B X : Type 0} (g : Ghosts B) (signs : X → List ℕ → Result (List ℕ) SignerFault → X → Type 0)
     (count : X → ℕ) (x : X) (s : Setting) (c : Command) (a : AccountValue) (reading : ℤ)
     (reference bytes octets : List ℕ) (P : History → Type 0) (old new : B) (rule : Rule)
-    → IsNew s c a reading reference bytes octets P
+    → IsNew g s c a reading reference bytes octets P
     → StepsBy g no_signer s (Begin (Some a) reading octets) (all_fine (Ok [])) old new (Rejected rule)
     → StepsWhere g (with_signer signs count x x) s c P (all_fine (Ok [])) old new (Refused (fault.Rejected rule))
 is_rejected g signs count x s c a reading reference bytes octets P old new rule is_new begin =
     decided g signs count x s c a reading reference bytes octets P (all_fine (Ok [])) old new (Rejected rule)
     (Refused (fault.Rejected rule)) is_new refl refl refl begin
-    (λ b f. rejected_found s a.name reference bytes octets (all_fine (Ok [])) b rule f) tt
+    (λ b f. rejected_found s a.name reference bytes octets (all_fine (Ok [])) b rule f) tt tt
 
 -- a beginning that is refused was refused by a look-up or by its reservation
 beginning_calls : (r : Refusal) → IsOfBeginning r
@@ -356,7 +370,7 @@ beginning_calls (refusal.Sealing f) h = absurd (elim h [ inl x ↦ x | inr x ↦
 
 -- its fault names what the deposit's does
 blamed_too : {B : Type 0} (g : Ghosts B) (one other : Command) (o : Outcome) (old new : B) (f : Fault)
-    → ((b : History) → IsExcused one b → IsExcused other b)
+    → (IsExcused g one old new → IsExcused g other old new)
     → IsBlamedFor g one o old new f → IsBlamedFor g other o old new f
 blamed_too g one other o old new fault.NotHere excused h = tt
 blamed_too g one other o old new fault.NotOwner excused h = tt
@@ -365,16 +379,15 @@ blamed_too g one other o old new fault.UnknownReader excused h = tt
 blamed_too g one other o old new fault.SelfGrant excused h = tt
 blamed_too g one other o old new fault.TooLarge excused h = tt
 blamed_too g one other o old new (fault.Rejected rule) excused h = tt
-blamed_too g one other o old new fault.Memory excused h = tt
+blamed_too g one other o old new fault.Memory excused h = h
 blamed_too g one other o old new fault.Store excused (inl broken) = inl broken
-blamed_too g one other o old new fault.Store excused (inr spent) =
-    inr (λ honest b stands. excused b (spent honest b stands))
+blamed_too g one other o old new fault.Store excused (inr spent) = inr (excused spent)
 blamed_too g one other o old new fault.Signer excused h = h
 
 pub is_refused : {B X : Type 0} (g : Ghosts B) (signs : X → List ℕ → Result (List ℕ) SignerFault → X → Type 0)
     (count : X → ℕ) (x : X) (s : Setting) (c : Command) (a : AccountValue) (reading : ℤ)
     (reference bytes octets : List ℕ) (P : History → Type 0) (old new : B) (r : Refusal)
-    → IsNew s c a reading reference bytes octets P → IsOfBeginning r
+    → IsNew g s c a reading reference bytes octets P → IsOfBeginning r
     → StepsBy g no_signer s (Begin (Some a) reading octets) (refused r) old new (Refused (fault_of (cause_with r)))
     → StepsWhere g (with_signer signs count x x) s c P (refused r) old new (Refused (fault_of (cause_with r)))
 is_refused g signs count x s c a reading reference bytes octets P old new r is_new of begin =
@@ -383,7 +396,8 @@ is_refused g signs count x s c a reading reference bytes octets P old new r is_n
     decided g signs count x s c a reading reference bytes octets P (refused r) old new (Refused f) (Refused f)
     is_new calls.0 calls.1 calls.2 begin
     (λ b found. refused_found s a.name reference bytes octets (refused r) b f found)
-    (blamed_too g (Begin (Some a) reading octets) c (refused r) old new f is_new.excused begin.blames)
+    tt
+    (blamed_too g (Begin (Some a) reading octets) c (refused r) old new f (is_new.excused old new) begin.blames)
 
 -- what follows a reservation is the deposit's effect
 begun_by : (s : Setting) (owner octets : List ℕ) (b : History) (plan : PlanValue) (p : PendingValue)
@@ -493,12 +507,12 @@ pub record IsReserved (s : Setting) (c : Command) (a : AccountValue) (reading : 
       → HasEffect s c (joined (all_fine (Ok [])) signing finished) b
       (kept p (deposit_row p.serial a.name reference bytes) signing e.adds finished)
 
-reserved : (s : Setting) (c : Command) (a : AccountValue) (reading : ℤ) (reference bytes octets : List ℕ)
+reserved : {B : Type 0} (g : Ghosts B) (s : Setting) (c : Command) (a : AccountValue) (reading : ℤ) (reference bytes octets : List ℕ)
     (P : History → Type 0) (b : History) (p : PendingValue) (e : Effect)
-    → IsNew s c a reading reference bytes octets P → P b
+    → IsNew g s c a reading reference bytes octets P → P b
     → HasEffect s (Begin (Some a) reading octets) (all_fine (Ok [])) b e → e.says ≡ Begun p
     → IsReserved s c a reading reference bytes octets b p e
-reserved s c a reading reference bytes octets P b p e is_new holds h said =
+reserved g s c a reading reference bytes octets P b p e is_new holds h said =
     let o = all_fine (Ok []) in
     let d = deposit_row p.serial a.name reference bytes in
     record {
@@ -548,7 +562,7 @@ pub is_kept : {B X : Type 0} (g : Ghosts B) (signs : X → List ℕ → Result (
     (count : X → ℕ) (x y : X) (s : Setting) (c : Command) (a : AccountValue) (reading : ℤ)
     (reference bytes octets : List ℕ) (P : History → Type 0) (p : PendingValue)
     (signing : Result (List ℕ) SignerFault) (finished : Outcome) (old mid new : B) (answer : Answer)
-    → IsNew s c a reading reference bytes octets P
+    → IsNew g s c a reading reference bytes octets P
     → StepsBy g no_signer s (Begin (Some a) reading octets) (all_fine (Ok [])) old mid (Begun p)
     → (g.honest new → g.honest mid)
     → SignsAndKeeps g (with_signer signs count x y) p (deposit_row p.serial a.name reference bytes) signing finished
@@ -556,13 +570,15 @@ pub is_kept : {B X : Type 0} (g : Ghosts B) (signs : X → List ℕ → Result (
     → StepsWhere g (with_signer signs count x y) s c P (joined (all_fine (Ok [])) signing finished) old new answer
 is_kept g signs count x y s c a reading reference bytes octets P p signing finished old mid new answer is_new begin
     honest done = record {
+      fits = is_new.fits (joined (all_fine (Ok [])) signing finished) (tt, done.keeps.grows);
       counted = done.keeps.counted ∙ ap (λ n. counted finished.sealing (counted finished.wrapping n)) begin.counted;
       signer = done.signer;
       blames = done.keeps.blames c old;
+      opened = done.keeps.opened c;
       steps = λ kept_disk b stands holds.
           let d = deposit_row p.serial a.name reference bytes in
           let h = begin.steps (honest kept_disk) b stands tt in
-          let is = reserved s c a reading reference bytes octets P b p h.effect is_new holds h.has (sym h.says) in
+          let is = reserved g s c a reading reference bytes octets P b p h.effect is_new holds h.has (sym h.says) in
           let fits = fits_begun s a reading reference bytes octets b p h.effect stands.sound (is_new.unused b holds)
           is.begun in
           let after_it = done.keeps.steps kept_disk (after h.effect b) h.stands fits in

@@ -17,7 +17,7 @@ use Rattle.desk.specs.Effects.{no_number, next_reservation, stamping_of, stamp_e
 use Rattle.desk.specs.Effects.{right_effect, show_effect}
 use Rattle.desk.specs.declared.fault.Fault.TheVariants as fault
 
-abbrev alice : AccountValue
+abbrev pub alice : AccountValue
 alice = record {
   name = codes "alice";
   key_sha256 = None;
@@ -29,7 +29,7 @@ alice = record {
   daily_quota = 1000;
 }
 
-abbrev carol : AccountValue
+abbrev pub carol : AccountValue
 carol = record {
   name = codes "carol";
   key_sha256 = None;
@@ -62,7 +62,7 @@ file = record {
 abbrev setting : Setting
 setting = record { file = file; identity = record { certificate = []; issuer = []; serial = [] }; algorithm = [] }
 
-abbrev reserved : ℕ → ℕ → ReservationValue
+abbrev pub reserved : ℕ → ℕ → ReservationValue
 reserved serial moment = record {
   serial = serial;
   account = codes "carol";
@@ -75,7 +75,7 @@ reserved serial moment = record {
 }
 
 -- a clock that is set at reading 0, and two reservations of the last second of the first day
-abbrev history : History
+abbrev pub history : History
 history = Reserved (reserved 2 86399000000) ∷ Reserved (reserved 1 86399000000)
     ∷ Calibrated (record { reading = pos 0; offset = pos 0; uncertainty = 0 }) ∷ []
 
@@ -137,10 +137,10 @@ no_fault : faults_after (record (all_fine (Ok [])) { adding = Wanting }) 7 ≡ 7
 no_fault = refl
 
 -- alice's deposit, under the number of its stamp
-abbrev deposit : DepositValue
+abbrev pub deposit : DepositValue
 deposit = record { serial = 2; owner = codes "alice"; reference = codes "plan-7"; bytes = codes "abc" }
 
-abbrev deposited : History
+abbrev pub deposited : History
 deposited = Deposited deposit [] ∷ history
 
 same_again : (known_effect (codes "abc") deposit).says ≡ Kept 2 false

@@ -16,7 +16,7 @@ use Rattle.desk.specs.Promises.{KeepsPromises}
 use Rattle.desk.specs.Runs.{IsProper, Told, Runs, after}
 use Rattle.desk.specs.Laws.{AreMet, Concerns, Continues, StaysFor}
 use Rattle.desk.specs.Obstacles.{hindered, outcome_with, told_with}
-use Rattle.desk.specs.Stepped.{StepsBy, IsBareStep, MayBeLeft, IsBlamed, no_signer, with_signer}
+use Rattle.desk.specs.Stepped.{StepsBy, IsBareStep, MayBeLeft, IsBlamed, IsOpened, no_signer, with_signer}
 use Rattle.desk.specs.Ran.{AreSteps, ArePromised, MayBeLeftBy, AreCommandsOfOthers, OneConcerns, RunsBy, told_by}
 use Rattle.desk.specs.declared.obstacle.Obstacle.{Obstacle}
 use Rattle.desk.specs.declared.obstacle.Obstacle.TheVariants as obstacle
@@ -34,9 +34,11 @@ pub with_resting : {B X : Type 0} (g : Ghosts B) (signs : X → List ℕ → Res
     → o.signing ≡ Ok [] → says ≡ said → StepsBy g no_signer s c o old new said
     → StepsBy g (with_signer signs count x x) s c o old new says
 with_resting g signs count x s c o old new said says unasked same step = record {
+  fits = step.fits;
   counted = step.counted;
   signer = subst (λ a. count x ≡ count_after a (count x)) (sym unasked) refl;
   blames = subst (IsBlamed g c o old new) (sym same) step.blames;
+  opened = λ honest. subst (λ a. IsOpened g c a new) (sym same) (step.opened honest);
   steps = λ honest b stands met.
       let then = step.steps honest b stands met in
       record {

@@ -9,6 +9,7 @@ use Rattle.book.specs.Fault.{count_after}
 use Rattle.book.specs.History.{Sealed, History}
 use Rattle.book.specs.Sound.{Fits, FitsSealed}
 use Rattle.book.specs.Stands.{Stands, LeavesOrAdds}
+use Rattle.desk.specs.Fit.{IsFit}
 use Rattle.desk.specs.Outcome.{Fine, Outcome, Cause, faults_after, all_fine}
 use Rattle.desk.specs.Command.{Setting, PendingValue, Finish, Stamped, Refused}
 use Rattle.desk.specs.Texts.{token_with}
@@ -17,6 +18,7 @@ use Rattle.desk.specs.Steps.{IsWaiting}
 use Rattle.desk.specs.Stepped.{StepsBy, IsBlamed, no_signer, settled}
 use Rattle.desk.specs.Calls.{refused, store_cause}
 use Rattle.desk.specs.declared.refusal.Refusal.TheVariants as refusal
+use Rattle.desk.proofs.Fitting.{unbroken}
 
 -- what waits may be sealed
 pub waiting_fits : (p : PendingValue) (b : History) → IsWaiting p b → FitsSealed p.serial b
@@ -31,9 +33,11 @@ seals_as : {B : Type 0} (g : Ghosts B) (s : Setting) (p : PendingValue) (signatu
     → StepsBy g no_signer s (Finish p signature) (all_fine (Ok [])) old new
     (Stamped p.serial (granted_octets (token_with p signature)))
 seals_as g s p signature old new same opened ok = record {
+  fits = (refl, (tt, tt));
   counted = same;
   signer = tt;
   blames = tt;
+  opened = λ honest. (opened honest).1;
   steps = λ honest b stands met.
       let now = ok b stands (waiting_fits p b met.0) in
       record {
@@ -66,15 +70,17 @@ seals g s p signature serial token reply old new number is wrapped same opened o
 refused_as : {B : Type 0} (g : Ghosts B) (s : Setting) (p : PendingValue) (signature : List ℕ) (old new : B)
     (o : Outcome) (cause : Cause) → no_seal o ≡ Some cause → no_seal (settled o) ≡ None
     → (o.adding ≡ Fine → o.sealing ≡ Fine → ⊥)
-    → IsBlamed g (Finish p signature) o old new (Refused (fault_of cause))
+    → IsFit (Finish p signature) o → IsBlamed g (Finish p signature) o old new (Refused (fault_of cause))
     → g.fault_count new ≡ faults_after o (g.fault_count old)
     → ((b : History) → Stands g b old → Stands g b new)
     → LeavesOrAdds g (Sealed p.serial (token_with p signature)) old new
     → StepsBy g no_signer s (Finish p signature) o old new (Refused (fault_of cause))
-refused_as g s p signature old new o cause why answered was_refused blamed counted err crash = record {
+refused_as g s p signature old new o cause why answered was_refused fits blamed counted err crash = record {
+  fits = fits;
   counted = counted;
   signer = tt;
   blames = blamed;
+  opened = λ honest. tt;
   steps = λ honest b stands met. record {
     effect = only (Refused (fault_of cause));
     has = ap (λ x. unless x (finish_effect p signature)) (sym why);
@@ -101,11 +107,11 @@ refused_by : {B : Type 0} (g : Ghosts B) (s : Setting) (p : PendingValue) (signa
     → StepsBy g no_signer s (Finish p signature) (refused (refusal.Sealing fault)) old new
     (Refused (fault_of (store_cause fault)))
 refused_by g s p signature old new store.Memory which counted err crash =
-    refused_as g s p signature old new (refused (refusal.Sealing store.Memory)) _ refl refl (λ a e. cc) tt counted err
-    crash
+    refused_as g s p signature old new (refused (refusal.Sealing store.Memory)) _ refl refl (λ a e. cc)
+    (refl, (tt, tt)) (unbroken _ tt tt tt tt tt tt tt tt) counted err crash
 refused_by g s p signature old new store.Database which counted err crash =
     refused_as g s p signature old new (refused (refusal.Sealing store.Database)) _ refl refl (λ a e. cc)
-    (inl (inr (inr (inr (inr (inr (inr refl))))))) counted err crash
+    (refl, (tt, tt)) (inl (inr (inr (inr (inr (inr (inr refl))))))) counted err crash
 refused_by g s p signature old new store.NotOurs which counted err crash =
     absurd (elim which [ inl e ↦ cc | inr e ↦ cc ])
 refused_by g s p signature old new store.Full which counted err crash =

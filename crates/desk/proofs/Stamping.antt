@@ -27,7 +27,9 @@ use Rattle.desk.specs.Runs.{after}
 use Rattle.desk.specs.Answers.{reply_as}
 use Rattle.desk.specs.declared.reply.Reply.{Reply}
 use Rattle.desk.specs.declared.reply.Reply.TheVariants as reply
-use Rattle.desk.specs.Stepped.{StepsBy, IsBlamed, MayBeLeft, IsDoubted, no_signer, with_signer, settled_by}
+use Rattle.desk.specs.Fit.{IsFit, IsUncounted}
+use Rattle.desk.specs.Stepped.{StepsBy, IsBlamed, IsOpened, MayBeLeft, IsDoubted, no_signer, with_signer}
+use Rattle.desk.specs.Stepped.{settled_by}
 use Rattle.desk.specs.Wholes.{joined, sealed_by, stamped, IsOfFinish, MayStay, Completes}
 use Rattle.desk.specs.Calls.{refused, cause_with}
 use Rattle.desk.specs.declared.fault.Fault.{Fault}
@@ -294,6 +296,15 @@ left_decided g s account reading octets o b old e answer left h none Broken is d
           (ap (λ x. x.adds) has.2 ∙ sym (void_found s (name_of account) octets o2 o b has.0)) d.holds;
     }))
 
+-- the calls that a stamp makes
+stamp_fits : (account : Option AccountValue) (reading : ℤ) (octets : List ℕ) (o : Outcome)
+    (signing : Result (List ℕ) SignerFault) (finished : Outcome) → IsFit (Begin account reading octets) o
+    → IsUncounted finished.wrapping → IsFit (Stamp account reading octets) (joined o signing finished)
+stamp_fits account reading octets o signing finished fits wrapped = (
+  ap (λ x. record (joined o signing finished) { searching = x }) (ap (λ x. x.searching) fits.0),
+  (fits.1.0, wrapped),
+)
+
 -- a stamp that its beginning decides: nothing is added, and no signer is asked
 decided : {B X : Type 0} (g : Ghosts B) (signs : X → List ℕ → Result (List ℕ) SignerFault → X → Type 0)
     (count : X → ℕ) (x : X) (s : Setting) (account : Option AccountValue) (reading : ℤ) (octets : List ℕ) (o : Outcome)
@@ -301,12 +312,15 @@ decided : {B X : Type 0} (g : Ghosts B) (signs : X → List ℕ → Result (List
     → StepsBy g no_signer s (Begin account reading octets) o old new said
     → ((b : History) (e : Effect) → HasEffect s (Begin account reading octets) o b e → said ≡ e.says
     → HasEffect s (Stamp account reading octets) (joined o (Ok []) o) b (only answer) × (e.adds ≡ []))
+    → IsOpened g (Stamp account reading octets) answer new
     → IsBlamed g (Stamp account reading octets) (joined o (Ok []) o) old new answer
     → StepsBy g (with_signer signs count x x) s (Stamp account reading octets) (joined o (Ok []) o) old new answer
-decided g signs count x s account reading octets o old new said answer begin decides blamed = record {
+decided g signs count x s account reading octets o old new said answer begin decides opened blamed = record {
+  fits = stamp_fits account reading octets o (Ok []) o begin.fits begin.fits.1.1;
   counted = begin.counted;
   signer = refl;
   blames = blamed;
+  opened = λ honest. opened;
   steps = λ honest b stands met.
       let h = begin.steps honest b stands tt in
       let d = decides b h.effect h.has h.says in
@@ -336,7 +350,7 @@ pub stamp_is_refused : {B X : Type 0} (g : Ghosts B)
     (Rejected System)
 stamp_is_refused g signs count x s account reading octets o old new fault begin =
     decided g signs count x s account reading octets o old new (Refused fault) (Rejected System) begin
-    (λ b e h says. stamp_refused s account reading octets o o (Ok []) b e fault h says) tt
+    (λ b e h says. stamp_refused s account reading octets o o (Ok []) b e fault h says) tt tt
 
 pub stamp_is_rejected : {B X : Type 0} (g : Ghosts B)
     (signs : X → List ℕ → Result (List ℕ) SignerFault → X → Type 0)
@@ -347,7 +361,7 @@ pub stamp_is_rejected : {B X : Type 0} (g : Ghosts B)
     (Rejected rule)
 stamp_is_rejected g signs count x s account reading octets o old new rule begin =
     decided g signs count x s account reading octets o old new (Rejected rule) (Rejected rule) begin
-    (λ b e h says. stamp_rejected s account reading octets o o (Ok []) b e rule h says) tt
+    (λ b e h says. stamp_rejected s account reading octets o o (Ok []) b e rule h says) tt tt
 
 -- a reservation that was just added waits for its signature
 waits : (s : Setting) (plan : PlanValue) (r : ReservationValue) (b : History) → Along Fits b
@@ -467,9 +481,11 @@ pub stamp_is_completed : {B X : Type 0} (g : Ghosts B)
     (joined (all_fine (Ok [])) signing finished) old new answer
 stamp_is_completed g signs count x y s account reading octets p signing finished old mid new answer begin honest
     completes blamed = record {
+      fits = stamp_fits account reading octets (all_fine (Ok [])) signing finished begin.fits completes.grows;
       counted = completes.counted ∙ ap (λ n. counted finished.sealing (counted finished.wrapping n)) begin.counted;
       signer = completes.signer;
       blames = blamed;
+      opened = completes.opened (Stamp account reading octets);
       steps = λ kept b stands met.
           let h = begin.steps (honest kept) b stands tt in
           let begun = stamp_begun s account reading octets (all_fine (Ok [])) finished signing b h.effect p h.has
@@ -521,12 +537,15 @@ completes_by : {B X : Type 0} (g : Ghosts B) (signs : X → List ℕ → Result 
     → StepsBy g no_signer s (Finish p signature) o old new said
     → g.fault_count new ≡ counted o.sealing (counted o.wrapping (g.fault_count old)) → o.adding ≡ Fine
     → IsSignature signature → count y ≡ count x → signs x (attribute_text p.identity p.tst) (Ok signature) y
+    → ((c : Command) → g.honest new → IsOpened g c answer new)
     → (said ≡ (unless (no_seal o) (finish_effect p signature)).says
     → answer ≡ (sealed_by p signature [] (no_seal o)).says)
     → Completes g (with_signer signs count x y) p (Ok signature) o old new answer
-completes_by g signs count x y s p signature o old new said answer finish faults fine sized uncounted signed answers =
-    record {
+completes_by g signs count x y s p signature o old new said answer finish faults fine sized uncounted signed opened
+    answers = record {
+      grows = finish.fits.1.1;
       counted = faults;
+      opened = opened;
       signer = uncounted;
       moves = signed;
       steps = λ honest b stands w.
@@ -576,19 +595,25 @@ pub completes_refused : {B X : Type 0} (g : Ghosts B)
 completes_refused g signs count x y s p signature r old new of_finish finish sized uncounted signed =
     completes_by g signs count x y s p signature (refused r) old new (Refused (fault_of (cause_with r)))
     (Rejected System) finish (finish.counted ∙ refused_counted r of_finish (g.fault_count old))
-    (refused_later r of_finish) sized uncounted signed
+    (refused_later r of_finish) sized uncounted signed (λ c honest. tt)
     (refused_says p signature (fault_of (cause_with r)) (no_seal (refused r)))
+
+reply_opened : {B : Type 0} (g : Ghosts B) (one other : Command) (new : B) (r : Reply)
+    → IsOpened g one (reply_as r) new → IsOpened g other (reply_as r) new
+reply_opened g one other new (reply.Granted serial bytes) h = h
+reply_opened g one other new (reply.Rejected rejection) h = tt
 
 pub completes_sealed : {B X : Type 0} (g : Ghosts B)
     (signs : X → List ℕ → Result (List ℕ) SignerFault → X → Type 0)
     (count : X → ℕ) (x y : X) (s : Setting) (p : PendingValue) (signature : List ℕ)
-    (old new : B) (answer : Answer)
-    → StepsBy g no_signer s (Finish p signature) (all_fine (Ok [])) old new answer
+    (old new : B) (r : Reply)
+    → StepsBy g no_signer s (Finish p signature) (all_fine (Ok [])) old new (reply_as r)
     → IsSignature signature → count y ≡ count x → signs x (attribute_text p.identity p.tst) (Ok signature) y
-    → Completes g (with_signer signs count x y) p (Ok signature) (all_fine (Ok [])) old new answer
-completes_sealed g signs count x y s p signature old new answer finish sized uncounted signed =
-    completes_by g signs count x y s p signature (all_fine (Ok [])) old new answer answer finish finish.counted
-    refl sized uncounted signed (λ e. e)
+    → Completes g (with_signer signs count x y) p (Ok signature) (all_fine (Ok [])) old new (reply_as r)
+completes_sealed g signs count x y s p signature old new r finish sized uncounted signed =
+    completes_by g signs count x y s p signature (all_fine (Ok [])) old new (reply_as r) (reply_as r) finish finish.counted
+    refl sized uncounted signed (λ c honest. reply_opened g (Finish p signature) c new r (finish.opened honest))
+    (λ e. e)
 
 -- after a signer's fault: nothing more
 pub completes_unsigned : {B X : Type 0} (g : Ghosts B)
@@ -598,7 +623,9 @@ pub completes_unsigned : {B X : Type 0} (g : Ghosts B)
     → signs x (attribute_text p.identity p.tst) (Err fault) y
     → Completes g (with_signer signs count x y) p (Err fault) (all_fine (Ok [])) v v (Rejected System)
 completes_unsigned g signs count x y p fault v faulted signed = record {
+  grows = tt;
   counted = refl;
+  opened = λ c honest. tt;
   signer = faulted;
   moves = signed;
   steps = λ honest b stands w. record { says = refl; stands = stands; left = λ left r. inl (refl, r) };

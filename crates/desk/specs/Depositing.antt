@@ -13,7 +13,8 @@ use Rattle.desk.specs.Outcome.{Fine, Outcome, Cause, counted, faults_after, all_
 use Rattle.desk.specs.Command.{Setting, PendingValue, Command, Answer, Kept, Refused}
 use Rattle.desk.specs.Texts.{token_with}
 use Rattle.desk.specs.Effects.{Effect, fault_of, no_seal}
-use Rattle.desk.specs.Stepped.{SignerStep, IsBlamed, HasStepped}
+use Rattle.desk.specs.Fit.{IsFit, IsUncounted}
+use Rattle.desk.specs.Stepped.{SignerStep, IsBlamed, IsOpened, HasStepped}
 use Rattle.desk.specs.Calls.{signer_cause}
 use Rattle.desk.specs.Wholes.{joined}
 use Rattle.desk.specs.Fault.{IsLate}
@@ -67,7 +68,9 @@ pub record HasKept {B : Type 0} (g : Ghosts B) (p : PendingValue) (d : DepositVa
 -- A deposit from its signature on: token and deposit are stored in one commit.
 pub record KeepsBy {B : Type 0} (g : Ghosts B) (p : PendingValue) (d : DepositValue)
     (signing : Result (List ℕ) SignerFault) (o : Outcome) (old new : B) (answer : Answer) : Type 0 where
+  pub grows : IsUncounted o.wrapping
   pub counted : g.fault_count new ≡ counted o.sealing (counted o.wrapping (g.fault_count old))
+  pub opened : (c : Command) → g.honest new → IsOpened g c answer new
   pub blames : (c : Command) (first : B) → IsBlamed g c (joined (all_fine (Ok [])) signing o) first new answer
   pub steps : g.honest new → (b : History) → Stands g b old → FitsDeposited d b
       → HasKept g p d signing o b old new answer
@@ -91,9 +94,11 @@ IsRejectedLate (begun.Pending p) = Unit {0}
 -- A step of the machine from each history of which P holds.
 pub record StepsWhere {B : Type 0} (g : Ghosts B) (t : SignerStep) (s : Setting) (c : Command) (P : History → Type 0)
     (o : Outcome) (old new : B) (answer : Answer) : Type 0 where
+  pub fits : IsFit c o
   pub counted : g.fault_count new ≡ faults_after o (g.fault_count old)
   pub signer : t.counts o.signing
   pub blames : IsBlamed g c o old new answer
+  pub opened : g.honest new → IsOpened g c answer new
   pub steps : g.honest new → (b : History) → Stands g b old → P b → HasStepped g t s c o b old new answer
 
 -- the owner hasn't used the reference

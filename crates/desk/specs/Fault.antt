@@ -33,3 +33,29 @@ IsOfDeposit (fault.Rejected rule) = IsLate rule
 IsOfDeposit fault.Memory = Unit {0}
 IsOfDeposit fault.Store = Unit {0}
 IsOfDeposit fault.Signer = Unit {0}
+
+-- how a deposit that is asked for is refused
+abbrev pub IsOfSight : Fault → Type 0
+IsOfSight fault.NotHere = Unit {0}
+IsOfSight fault.NotOwner = ⊥
+IsOfSight fault.Conflict = ⊥
+IsOfSight fault.UnknownReader = ⊥
+IsOfSight fault.SelfGrant = ⊥
+IsOfSight fault.TooLarge = ⊥
+IsOfSight (fault.Rejected rule) = ⊥
+IsOfSight fault.Memory = Unit {0}
+IsOfSight fault.Store = Unit {0}
+IsOfSight fault.Signer = ⊥
+
+-- how the right to see one is refused, and taking it
+abbrev pub IsOfRight : Fault → Type 0
+IsOfRight fault.NotHere = Unit {0}
+IsOfRight fault.NotOwner = Unit {0}
+IsOfRight fault.Conflict = ⊥
+IsOfRight fault.UnknownReader = Unit {0}
+IsOfRight fault.SelfGrant = Unit {0}
+IsOfRight fault.TooLarge = ⊥
+IsOfRight (fault.Rejected rule) = ⊥
+IsOfRight fault.Memory = Unit {0}
+IsOfRight fault.Store = Unit {0}
+IsOfRight fault.Signer = ⊥

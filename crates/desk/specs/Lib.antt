@@ -10,6 +10,7 @@ pub mod Effects
 pub mod Facts
 pub mod Fault
 pub mod Findings
+pub mod Fit
 pub mod Laws
 pub mod Obstacles
 pub mod Outcome

@@ -11,7 +11,7 @@ pub data Call : Type 0 where
   Wanting : Call
   Broken : Call
 
--- A call that a command doesn't make is Fine.
+-- A call that a command doesn't make is Fine (`IsFit`).
 pub record Outcome : Type 0 where
   -- whether a deposit stands under the reference, or the account sees one
   pub searching : Call

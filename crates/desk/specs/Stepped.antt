@@ -7,6 +7,7 @@ use Rattle.cms.specs.declared.signer.SignerFault.TheVariants as signer
 use Rattle.book.specs.History.{History, greatest_serial, latest_calibration}
 use Rattle.book.specs.Sound.{greatest_number}
 use Rattle.book.specs.Stands.{Stands}
+use Rattle.desk.specs.Fit.{IsFit, IsUnbroken}
 use Rattle.desk.specs.Outcome.{Call, Fine, Wanting, Broken, Outcome, faults_after}
 use Rattle.desk.specs.Command.{Setting, Command, Stamp, Begin, Finish, Abandon, Deposit, Show, Token, ListAll, Grant}
 use Rattle.desk.specs.Command.{Revoke, Calibrate, Hold, Answer, Stamped, Rejected, Begun, Kept, Shown, Listed, Done}
@@ -85,22 +86,29 @@ abbrev pub IsBroken : Outcome → Type 0
 IsBroken o = (o.searching ≡ Broken) ⊎ ((o.looking ≡ Broken) ⊎ ((o.counting ≡ Broken) ⊎ ((o.growing ≡ Broken)
     ⊎ ((o.adding ≡ Broken) ⊎ ((o.wrapping ≡ Broken) ⊎ (o.sealing ≡ Broken))))))
 
--- why the store is named though it didn't fail: no serial number is left, or the calibration is before the last one
-abbrev pub IsExcused : Command → History → Type 0
-IsExcused (Stamp account reading octets) b = greatest_number ≤ greatest_serial b
-IsExcused (Begin account reading octets) b = greatest_number ≤ greatest_serial b
-IsExcused (Finish p signature) b = ⊥
-IsExcused (Abandon p) b = ⊥
-IsExcused (Deposit a reading reference bytes) b = greatest_number ≤ greatest_serial b
-IsExcused (Show a n) b = ⊥
-IsExcused (Token a n) b = ⊥
-IsExcused (ListAll a) b = ⊥
-IsExcused (Grant a n reader) b = ⊥
-IsExcused (Revoke a n reader) b = ⊥
-IsExcused (Calibrate c) b = is_backwards c (latest_calibration b) ≡ true
-IsExcused (Hold h) b = ⊥
+-- while the store returns what was written, no serial number is left
+abbrev pub IsSpentIn : {B : Type 0} → Ghosts B → B → B → Type 0
+IsSpentIn g old new = g.honest new → (b : History) → Stands g b old → greatest_number ≤ greatest_serial b
 
--- Store and signer are named only where they failed and counted it, and the store where it is excused.
+-- Why the store is named though it didn't fail: no serial number is left, or the calibration is before the last one.
+-- Nothing excuses it in any other command, whatever it returns.
+abbrev pub IsExcused : {B : Type 0} → Ghosts B → Command → B → B → Type 0
+IsExcused g (Stamp account reading octets) old new = IsSpentIn g old new
+IsExcused g (Begin account reading octets) old new = IsSpentIn g old new
+IsExcused g (Finish p signature) old new = ⊥
+IsExcused g (Abandon p) old new = ⊥
+IsExcused g (Deposit a reading reference bytes) old new = IsSpentIn g old new
+IsExcused g (Show a n) old new = ⊥
+IsExcused g (Token a n) old new = ⊥
+IsExcused g (ListAll a) old new = ⊥
+IsExcused g (Grant a n reader) old new = ⊥
+IsExcused g (Revoke a n reader) old new = ⊥
+IsExcused g (Calibrate c) old new =
+    g.honest new → (b : History) → Stands g b old → is_backwards c (latest_calibration b) ≡ true
+IsExcused g (Hold h) old new = ⊥
+
+-- Store and signer are named only where they failed and counted it, and the store where it is excused. Want of memory
+-- is named only where neither did.
 abbrev pub IsBlamedFor : {B : Type 0} → Ghosts B → Command → Outcome → B → B → Fault → Type 0
 IsBlamedFor g c o old new fault.NotHere = Unit {0}
 IsBlamedFor g c o old new fault.NotOwner = Unit {0}
@@ -109,9 +117,8 @@ IsBlamedFor g c o old new fault.UnknownReader = Unit {0}
 IsBlamedFor g c o old new fault.SelfGrant = Unit {0}
 IsBlamedFor g c o old new fault.TooLarge = Unit {0}
 IsBlamedFor g c o old new (fault.Rejected rule) = Unit {0}
-IsBlamedFor g c o old new fault.Memory = Unit {0}
-IsBlamedFor g c o old new fault.Store =
-    IsBroken o ⊎ (g.honest new → (b : History) → Stands g b old → IsExcused c b)
+IsBlamedFor g c o old new fault.Memory = IsUnbroken o
+IsBlamedFor g c o old new fault.Store = IsBroken o ⊎ IsExcused g c old new
 IsBlamedFor g c o old new fault.Signer = o.signing ≡ Err signer.Failed
 
 abbrev pub IsBlamed : {B : Type 0} → Ghosts B → Command → Outcome → B → B → Answer → Type 0
@@ -124,14 +131,29 @@ IsBlamed g c o old new (Listed rows) = Unit {0}
 IsBlamed g c o old new Done = Unit {0}
 IsBlamed g c o old new (Refused f) = IsBlamedFor g c o old new f
 
--- A call is a step of the machine under an outcome. The counts of faults of store and signer are the outcome's, and
--- they are named only where the outcome says that they failed, or the store is excused, whatever it returns. While it
--- returns what was written, what holds after it is the step's, from each history that the store stood for.
+-- After a call that acknowledges what it committed, the store is open: a store whose connection is shut stands for
+-- every history.
+abbrev pub IsOpened : {B : Type 0} → Ghosts B → Command → Answer → B → Type 0
+IsOpened g c (Stamped serial octets) new = g.is_open new
+IsOpened g c (Begun p) new = g.is_open new
+IsOpened g c (Kept number true) new = g.is_open new
+IsOpened g (Grant a n reader) Done new = g.is_open new
+IsOpened g (Revoke a n reader) Done new = g.is_open new
+IsOpened g (Calibrate calibration) Done new = g.is_open new
+IsOpened g (Hold h) Done new = g.is_open new
+IsOpened g c answer new = Unit {0}
+
+-- A call is a step of the machine under an outcome, in which the calls that the command doesn't make are fine. The
+-- counts of faults of store and signer are the outcome's, and they are named only where the outcome says that they
+-- failed, or the store is excused, whatever it returns. While it returns what was written, what holds after it is the
+-- step's, from each history that the store stood for.
 pub record StepsBy {B : Type 0} (g : Ghosts B) (t : SignerStep) (s : Setting) (c : Command) (o : Outcome)
     (old new : B) (answer : Answer) : Type 0 where
+  pub fits : IsFit c o
   pub counted : g.fault_count new ≡ faults_after o (g.fault_count old)
   pub signer : t.counts o.signing
   pub blames : IsBlamed g c o old new answer
+  pub opened : g.honest new → IsOpened g c answer new
   pub steps : g.honest new → (b : History) → Stands g b old → IsMet c b → HasStepped g t s c o b old new answer
 
 -- the same under some outcome: a stepping stone of the proofs

@@ -8,11 +8,12 @@ use Rattle.cms.specs.declared.signer.SignerFault.{SignerFault}
 use Rattle.book.specs.History.{Entry, Sealed, History}
 use Rattle.book.specs.Stands.{Stands}
 use Rattle.desk.specs.Outcome.{Fine, Outcome, Cause, counted}
-use Rattle.desk.specs.Command.{PendingValue, Answer, Stamped, Rejected}
+use Rattle.desk.specs.Fit.{IsUncounted}
+use Rattle.desk.specs.Command.{PendingValue, Command, Answer, Stamped, Rejected}
 use Rattle.desk.specs.Texts.{token_with}
 use Rattle.desk.specs.Effects.{Effect, no_seal}
 use Rattle.desk.specs.Steps.{IsWaiting}
-use Rattle.desk.specs.Stepped.{SignerStep}
+use Rattle.desk.specs.Stepped.{SignerStep, IsOpened}
 use Rattle.desk.specs.declared.refusal.Refusal.{Refusal}
 use Rattle.desk.specs.declared.refusal.Refusal.TheVariants as refusal
 
@@ -69,7 +70,9 @@ pub record HasCompleted {B : Type 0} (g : Ghosts B) (p : PendingValue) (signing 
 -- A stamp from its reservation on: the signer is asked, and the token is stored where it answers.
 pub record Completes {B : Type 0} (g : Ghosts B) (t : SignerStep) (p : PendingValue)
     (signing : Result (List ℕ) SignerFault) (o : Outcome) (old new : B) (answer : Answer) : Type 0 where
+  pub grows : IsUncounted o.wrapping
   pub counted : g.fault_count new ≡ counted o.sealing (counted o.wrapping (g.fault_count old))
+  pub opened : (c : Command) → g.honest new → IsOpened g c answer new
   pub signer : t.counts signing
   pub moves : t.moves (Some (attribute_text p.identity p.tst)) signing
   pub steps : g.honest new → (b : History) → Stands g b old → IsWaiting p b

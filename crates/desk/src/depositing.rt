@@ -1,6 +1,6 @@
 //! A deposit: its stamp, and both in one commit.
 ghost use Rattle.std.specs.Prelude.{◌≡◌, ◌⊎◌, ℕ, ◌<◌, ◌≤◌, List, Some, Ok, Err, Result, length, IfOk, IfErr};
-ghost use Rattle.std.specs.Prelude.{MatchResult};
+ghost use Rattle.std.specs.Prelude.{OnOk, MatchResult};
 ghost use Rattle.cms.specs.declared.signer.SignerFault.{SignerFault as SpecFault};
 ghost use Rattle.der.specs.Node.{encoding, IsLawful};
 ghost use Rattle.policy.specs.View.{account_view, policy_view};
@@ -113,6 +113,7 @@ fn reserve<'p, B: Book + Drop>(
         (request_view planned.request) }
     requires short { length (encoding (time_stamp_req unstated (request_view planned.request))) ≤ 65536 }
     ensures honest { B.honest store.new → B.honest store.old }
+    ensures opened { B.honest store.new → OnOk result (B.is_open store.new) }
     ensures counted { B.fault_count store.new ≡ faults_after (outcome_of result) (B.fault_count store.old) }
     ensures reserves { B.honest store.new → (b : History) → Stands B.Standing b store.old
         → greatest_serial b ≡ planned.entry.last

@@ -1,9 +1,9 @@
 //! The calls of the counter on deposits and the rights to them.
-ghost use Rattle.std.specs.Prelude.{◌≡◌, ◌<◌, length, Err, IfErr};
+ghost use Rattle.std.specs.Prelude.{◌≡◌, ◌⊎◌, ◌<◌, length, Err, IfErr};
 ghost use Rattle.policy.specs.View.{account_view};
 ghost use Rattle.desk.specs.Answers.{answered};
 ghost use Rattle.desk.specs.Command.{Deposit, Show, Token, ListAll, Grant, Revoke};
-ghost use Rattle.desk.specs.Fault.{IsOfDeposit};
+ghost use Rattle.desk.specs.Fault.{IsOfDeposit, IsOfSight, IsOfRight};
 ghost use Rattle.desk.specs.Shown.{deposited_as, shown_as, listed_as, done_as};
 ghost use Rattle.desk.specs.Stepped.{IsStep, no_signer, with_signer};
 
@@ -65,6 +65,7 @@ impl<'p, B: Book + Drop> Desk<'p, B> {
     pub fn show(&mut self, account: &Account, number: u64) -> Result<Vec<u8>, Fault>
         ensures setting { self.new.setting ≡ self.old.setting }
         ensures honest { B.honest self.new.store → B.honest self.old.store }
+        ensures refusals { IfErr result IsOfSight }
         ensures step { IsStep B.Standing no_signer self.old.setting (Show (account_view account.now) number)
             self.old.store self.new.store (answered shown_as result) }
     {
@@ -80,6 +81,7 @@ impl<'p, B: Book + Drop> Desk<'p, B> {
     pub fn token_of(&mut self, account: &Account, number: u64) -> Result<Vec<u8>, Fault>
         ensures setting { self.new.setting ≡ self.old.setting }
         ensures honest { B.honest self.new.store → B.honest self.old.store }
+        ensures refusals { IfErr result IsOfSight }
         ensures step { IsStep B.Standing no_signer self.old.setting (Token (account_view account.now) number)
             self.old.store
             self.new.store (answered shown_as result) }
@@ -96,6 +98,7 @@ impl<'p, B: Book + Drop> Desk<'p, B> {
     pub fn list(&mut self, account: &Account) -> Result<Vec<Listed>, Fault>
         ensures setting { self.new.setting ≡ self.old.setting }
         ensures honest { B.honest self.new.store → B.honest self.old.store }
+        ensures refusals { IfErr result (λ fault. (fault ≡ Fault.Memory) ⊎ (fault ≡ Fault.Store)) }
         ensures step { IsStep B.Standing no_signer self.old.setting (ListAll (account_view account.now)) self.old.store
             self.new.store (answered listed_as result) }
     {
@@ -115,6 +118,7 @@ impl<'p, B: Book + Drop> Desk<'p, B> {
     pub fn grant(&mut self, account: &Account, number: u64, name: &str) -> Result<(), Fault>
         ensures setting { self.new.setting ≡ self.old.setting }
         ensures honest { B.honest self.new.store → B.honest self.old.store }
+        ensures refusals { IfErr result IsOfRight }
         ensures step { IsStep B.Standing no_signer self.old.setting (Grant (account_view account.now) number name.now)
             self.old.store self.new.store (answered done_as result) }
     {
@@ -131,6 +135,7 @@ impl<'p, B: Book + Drop> Desk<'p, B> {
     pub fn revoke(&mut self, account: &Account, number: u64, name: &str) -> Result<(), Fault>
         ensures setting { self.new.setting ≡ self.old.setting }
         ensures honest { B.honest self.new.store → B.honest self.old.store }
+        ensures refusals { IfErr result IsOfRight }
         ensures step { IsStep B.Standing no_signer self.old.setting (Revoke (account_view account.now) number name.now)
             self.old.store self.new.store (answered done_as result) }
     {

@@ -165,6 +165,7 @@ impl<'p, B: Book + Drop> Desk<'p, B> {
         requires few { length signature.now ≤ 4096 }
         ensures setting { self.new.setting ≡ self.old.setting }
         ensures honest { B.honest self.new.store → B.honest self.old.store }
+        ensures refusals { IfErr result (λ fault. (fault ≡ Fault.Memory) ⊎ (fault ≡ Fault.Store)) }
         ensures step { IsStep B.Standing no_signer self.old.setting (Finish pending.entry signature.now) self.old.store
             self.new.store (answered reply_as result) }
     {

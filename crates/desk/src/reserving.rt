@@ -1,5 +1,5 @@
 //! How a stamp is reserved.
-ghost use Rattle.std.specs.Prelude.{◌≡◌, ◌≤◌, ◌+◌, length, Ok, IfOk, IfErr};
+ghost use Rattle.std.specs.Prelude.{◌≡◌, ◌≤◌, ◌+◌, length, Ok, IfOk, IfErr, OnOk};
 ghost use Rattle.gentime.specs.GenTime.{last_moment};
 ghost use Rattle.tsp.specs.Request.{Spells};
 ghost use Rattle.tsp.specs.View.{request_view};
@@ -121,6 +121,7 @@ pub(crate) fn reserve_next<'p, 'a, B: Book + Drop>(
     requires spelled { Spells query.now (request_view planned.request) }
     requires short { length query.now ≤ 65536 }
     ensures honest { B.honest store.new → B.honest store.old }
+    ensures opened { B.honest store.new → OnOk result (B.is_open store.new) }
     ensures counted { B.fault_count store.new ≡ faults_after (outcome_of result) (B.fault_count store.old) }
     ensures reserves { B.honest store.new → (b : History) → Stands B.Standing b store.old
         → greatest_serial b ≡ planned.entry.last

@@ -6,7 +6,8 @@ ghost use Rattle.book.specs.Stands.{Stands, OnlyLooks};
 ghost use Rattle.desk.specs.Calls.{opening_view};
 ghost use Rattle.desk.specs.Command.{Grant, Revoke};
 ghost use Rattle.desk.specs.Effects.{has_account};
-ghost use Rattle.desk.specs.Obstacles.{outcome_with, told_with, IsOfRight, MayName, MayNot};
+ghost use Rattle.desk.specs.Fault as refused;
+ghost use Rattle.desk.specs.Obstacles.{fault_with, outcome_with, told_with, IsOfRight, MayName, MayNot};
 ghost use Rattle.desk.specs.Outcome.{faults_after};
 ghost use Rattle.desk.specs.Shown.{done_as};
 ghost use Rattle.desk.specs.Stepped.{StepsBy, no_signer};
@@ -68,6 +69,7 @@ pub(crate) fn grant_by<B: Book + Drop>(
     ensures step { StepsBy B.Standing no_signer (opening_view opening.entry)
         (Grant (account_view account.now) number name.now) (outcome_with result) store.old store.new
         (told_with done_as result) }
+    ensures refusals { IfErr result (λ obstacle. refused.IsOfRight (fault_with obstacle)) }
 {
     let policy = opening.policy;
     match may_name(store, policy, account.name.as_str(), number, name) {
@@ -92,6 +94,7 @@ pub(crate) fn revoke_by<B: Book + Drop>(
     ensures step { StepsBy B.Standing no_signer (opening_view opening.entry)
         (Revoke (account_view account.now) number name.now) (outcome_with result) store.old store.new
         (told_with done_as result) }
+    ensures refusals { IfErr result (λ obstacle. refused.IsOfRight (fault_with obstacle)) }
 {
     let policy = opening.policy;
     match may_name(store, policy, account.name.as_str(), number, name) {

@@ -1,14 +1,16 @@
 //! What an account sees.
-ghost use Rattle.std.specs.Prelude.{◌≡◌, IfErr, MatchResult};
+ghost use Rattle.std.specs.Prelude.{◌≡◌, ◌⊎◌, IfErr, MatchResult};
 ghost use Rattle.policy.specs.View.{account_view};
 ghost use Rattle.book.specs.History.{History};
 ghost use Rattle.book.specs.Stands.{Stands, OnlyLooks};
 ghost use Rattle.desk.specs.Command.{Setting, Show, Token, ListAll};
-ghost use Rattle.desk.specs.Obstacles.{outcome_with, told_with, IsOfSight, Sees, IsUnseen};
+ghost use Rattle.desk.specs.Fault as sight;
+ghost use Rattle.desk.specs.Obstacles.{fault_with, outcome_with, told_with, IsOfSight, Sees, IsUnseen};
 ghost use Rattle.desk.specs.Outcome.{faults_after};
 ghost use Rattle.desk.specs.Shown.{shown_as, listed_as};
 ghost use Rattle.desk.specs.Stepped.{StepsBy, no_signer};
 
+use crate::fault::Fault;
 use crate::obstacle::Obstacle;
 use book::{Book, Listed, StampedDeposit};
 use policy::Account;
@@ -50,6 +52,7 @@ pub(crate) fn show_to<B: Book + Drop>(
     ensures looks { OnlyLooks B.Standing store.old store.new }
     ensures step { (s : Setting) → StepsBy B.Standing no_signer s (Show (account_view account.now) number)
         (outcome_with result) store.old store.new (told_with shown_as result) }
+    ensures refusals { IfErr result (λ obstacle. sight.IsOfSight (fault_with obstacle)) }
 {
     match see(store, account.name.as_str(), number) {
         Ok(found) => Ok(found.deposit.bytes),
@@ -67,6 +70,7 @@ pub(crate) fn token_to<B: Book + Drop>(
     ensures looks { OnlyLooks B.Standing store.old store.new }
     ensures step { (s : Setting) → StepsBy B.Standing no_signer s (Token (account_view account.now) number)
         (outcome_with result) store.old store.new (told_with shown_as result) }
+    ensures refusals { IfErr result (λ obstacle. sight.IsOfSight (fault_with obstacle)) }
 {
     match see(store, account.name.as_str(), number) {
         Err(obstacle) => Err(obstacle),
@@ -88,6 +92,8 @@ pub(crate) fn list_to<B: Book + Drop>(
     ensures looks { OnlyLooks B.Standing store.old store.new }
     ensures step { (s : Setting) → StepsBy B.Standing no_signer s (ListAll (account_view account.now))
         (outcome_with result) store.old store.new (told_with listed_as result) }
+    ensures refusals { IfErr result (λ obstacle. (fault_with obstacle ≡ Fault.Memory)
+        ⊎ (fault_with obstacle ≡ Fault.Store)) }
 {
     match store.list(account.name.as_str()) {
         Ok(rows) => Ok(rows),

@@ -1,4 +1,4 @@
-use Rattle.std.proofs.Common.{[], Ok, Err, sym, subst, SFits, w64, to_z-of_z, rules}
+use Rattle.std.proofs.Common.{[], Ok, Err, sym, subst, SFits, w64, to_z-of_z, rules, refl}
 use Rattle.decide.specs.View.{account_asked}
 use Rattle.book.specs.History.{greatest_serial}
 use Rattle.desk.specs.Calls.{refused, opening_view, plan_of, finding_of, HasLast}
@@ -29,7 +29,7 @@ returns-in-Ok-Fails-clause-step g c =
     subst (λ x. StepsBy g.B.Standing no_signer s (Begin account c.args.reading octets) (all_fine (Ok []))
     c.args.store.now c.find.new.store (Rejected x)) (sym c.of.ensures)
     (rejects g.B.Standing s account c.args.reading octets (all_fine (Ok [])) c.args.store.now c.find.new.store
-    c.in-Ok-Fails.rule c.in-Ok-Fails.ensures.looks c.in-Ok-Fails.ensures.counted
+    c.in-Ok-Fails.rule (refl, (tt, tt)) c.in-Ok-Fails.ensures.looks c.in-Ok-Fails.ensures.counted
     (λ honest b st. subst (λ (f : Found). Finds s.file account c.args.reading octets (all_fine (Ok [])) b
     (finding_of (Ok f))) c.in-Ok-Fails.field-0-is
     (subst (λ x. Finds s.file account x octets (all_fine (Ok [])) b (finding_of (Ok c.in-Ok-Fails.field-0)))
@@ -53,6 +53,7 @@ returns-in-Ok-clause-step g c =
     (c.in-Ok-Allows.ensures.last honest b st))
     (record {
       honest = c.in-Ok.ensures.honest;
+      opened = c.in-Ok.ensures.opened;
       counted = c.in-Ok.ensures.counted;
       reserves = c.in-Ok.ensures.reserves;
     })
@@ -76,6 +77,7 @@ returns-in-Err-reserve_next-clause-step g c =
     (c.in-Ok-Allows.ensures.last honest b st))
     (record {
       honest = c.in-Err-reserve_next.ensures.honest;
+      opened = c.in-Err-reserve_next.ensures.opened;
       counted = c.in-Err-reserve_next.ensures.counted;
       reserves = c.in-Err-reserve_next.ensures.reserves;
     })

@@ -1,4 +1,4 @@
-use Rattle.std.proofs.Common.{◌≡◌, List, ℕ, [], Some, Ok, Err, sym, ap, subst, SFits, w64, to_z-of_z, rules}
+use Rattle.std.proofs.Common.{◌≡◌, List, ℕ, [], Some, Ok, Err, sym, ap, subst, SFits, w64, to_z-of_z, rules, refl}
 use Rattle.der.specs.Node.{encoding}
 use Rattle.policy.specs.View.{account_view}
 use Rattle.tsp.specs.Request.{RequestValue, time_stamp_req, unstated}
@@ -52,7 +52,7 @@ returns-in-Ok-Fails-clause-step g c =
     (subst (λ x. StepsBy g.B.Standing no_signer s (Begin (Some a) c.args.reading (octets_of r)) (all_fine (Ok []))
     c.args.store.now c.judge.new.store (Rejected x)) (sym c.of.ensures)
     (rejects g.B.Standing s (Some a) c.args.reading (octets_of r) (all_fine (Ok [])) c.args.store.now c.judge.new.store
-    c.in-Ok-Fails.rule c.in-Ok-Fails.ensures.looks c.in-Ok-Fails.ensures.counted
+    c.in-Ok-Fails.rule (refl, (tt, tt)) c.in-Ok-Fails.ensures.looks c.in-Ok-Fails.ensures.counted
     (λ honest b st. subst (λ (f : Found). Finds s.file (Some a) c.args.reading (octets_of r) (all_fine (Ok [])) b
     (finding_of (Ok f))) c.in-Ok-Fails.field-0-is
     (subst (λ x. Finds s.file (Some a) x (octets_of r) (all_fine (Ok [])) b (finding_of (Ok c.in-Ok-Fails.field-0)))
@@ -82,6 +82,7 @@ returns-in-Ok-clause-step g c =
     (c.in-Ok-Allows.ensures.last honest b st))
     (record {
       honest = c.in-Ok.ensures.honest;
+      opened = c.in-Ok.ensures.opened;
       counted = c.in-Ok.ensures.counted;
       reserves = λ honest b st e. subst (λ x. Reserves g.B.Standing s c.as_str.result.now plan (octets_of x) b
           c.judge.new.store c.reserve.new.store (Ok c.in-Ok.pending)) same (c.in-Ok.ensures.reserves honest b st e);
@@ -113,6 +114,7 @@ returns-in-Err-reserve-clause-step g c =
     (c.in-Ok-Allows.ensures.last honest b st))
     (record {
       honest = c.in-Err-reserve.ensures.honest;
+      opened = c.in-Err-reserve.ensures.opened;
       counted = c.in-Err-reserve.ensures.counted;
       reserves = λ honest b st e. subst (λ x. Reserves g.B.Standing s c.as_str.result.now plan (octets_of x) b
           c.judge.new.store c.reserve.new.store (Err refusal)) same (c.in-Err-reserve.ensures.reserves honest b st e);

@@ -35,7 +35,7 @@ returns-in-Err-clause-step g c =
           c.begin.new.store (Refused x)) (sym c.from.ensures)
           (is_refused g.B.Standing g.X.Signer.signs g.X.Signer.fault_count c.args.signer.now s deposit a c.args.reading
           reference bytes octets (IsUnused a reference) c.args.store.now c.begin.new.store r
-          (new_deposit s a c.args.reading reference bytes c.requires.few c.begin.ensures.spelled)
+          (new_deposit g.B.Standing s a c.args.reading reference bytes c.requires.few c.begin.ensures.spelled)
           c.in-Err.ensures.refusals begin),
     )
 
@@ -55,7 +55,7 @@ returns-in-Ok-Rejected-clause-step g c =
       is_rejected g.B.Standing g.X.Signer.signs g.X.Signer.fault_count c.args.signer.now s
           (Deposit a c.args.reading reference bytes) a c.args.reading reference bytes octets (IsUnused a reference)
           c.args.store.now c.begin.new.store c.in-Ok-Rejected.rejection.rule
-          (new_deposit s a c.args.reading reference bytes c.requires.few c.begin.ensures.spelled) begin,
+          (new_deposit g.B.Standing s a c.args.reading reference bytes c.requires.few c.begin.ensures.spelled) begin,
     )
 
 pub returns-in-Ok-clause-step : goal.returns-in-Ok-clause-step
@@ -80,7 +80,7 @@ returns-in-Ok-clause-step g c =
       is_kept g.B.Standing g.X.Signer.signs g.X.Signer.fault_count c.args.signer.now c.sign_and_seal.new.signer s
           (Deposit a c.args.reading reference bytes) a c.args.reading reference bytes octets (IsUnused a reference) p
           done.0 done.1 c.args.store.now c.begin.new.store c.sign_and_seal.new.store (deposited_as c.in-Ok.deposited)
-          (new_deposit s a c.args.reading reference bytes c.requires.few c.begin.ensures.spelled) begin
+          (new_deposit g.B.Standing s a c.args.reading reference bytes c.requires.few c.begin.ensures.spelled) begin
           c.in-Ok.ensures.honest keeps,
     )
 
@@ -111,7 +111,7 @@ returns-in-Err-sign_and_seal-clause-step g c =
           (is_kept g.B.Standing g.X.Signer.signs g.X.Signer.fault_count c.args.signer.now c.sign_and_seal.new.signer s
           deposit a c.args.reading reference bytes octets (IsUnused a reference) p done.0 done.1 c.args.store.now
           c.begin.new.store c.sign_and_seal.new.store refused
-          (new_deposit s a c.args.reading reference bytes c.requires.few c.begin.ensures.spelled) begin
+          (new_deposit g.B.Standing s a c.args.reading reference bytes c.requires.few c.begin.ensures.spelled) begin
           c.in-Err-sign_and_seal.ensures.honest keeps),
     )
 

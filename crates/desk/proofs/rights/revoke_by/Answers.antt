@@ -1,4 +1,4 @@
-use Rattle.std.proofs.Common.{subst}
+use Rattle.std.proofs.Common.{refl, subst}
 use Rattle.policy.specs.View.{account_view}
 use Rattle.book.specs.History.{Revoked}
 use Rattle.desk.specs.Calls.{opening_view}
@@ -17,6 +17,8 @@ returns-in-Ok-revoke-clause-step g c =
     c.revoke.new.self (record {
       righting = λ o b e h. h;
       fits = λ b f. f;
+      made = (refl, (tt, tt));
+      opens = λ k. k;
       looks = c.in-Ok.ensures.looks;
       uncounted = c.in-Ok.ensures.counted;
       may = λ honest b st. subst (λ x. MayName s.file x name n b) c.as_str.ensures.value

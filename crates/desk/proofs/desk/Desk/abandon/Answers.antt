@@ -11,9 +11,11 @@ returns-clause-step g c = (
   all_fine (Ok []),
   promised g.B.Standing c.steps_keep_their_promises.ensures no_signer c.args.self.now.setting (Abandon c.args.pending)
       (all_fine (Ok [])) c.args.self.now.store c.args.self.now.store Done (record {
+        fits = (refl, (tt, tt));
         counted = refl;
         signer = tt;
         blames = tt;
+        opened = λ honest. tt;
         steps = λ honest b st met. record {
           effect = only Done;
           has = refl;
