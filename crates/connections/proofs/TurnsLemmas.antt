@@ -36,7 +36,7 @@ module _ {C B X : Type 0} (reads : C → Result ℤ ClockFailed → C → Type 0
   leads_setting old [] new same = ap (λ s. s.desk.setting) same
   leads_setting old (next ∷ rest) new leads = leads_setting next rest new leads.1 ∙ leads.0.setting
 
-  leads_honest : (old : State C B X) (after : List (State C B X)) (new : State C B X)
+  pub leads_honest : (old : State C B X) (after : List (State C B X)) (new : State C B X)
       → Leads reads g signs count old after new → g.honest new.desk.store → g.honest old.desk.store
   leads_honest old [] new same honest = subst (λ s. g.honest s.desk.store) same honest
   leads_honest old (next ∷ rest) new leads honest = leads.0.honest (leads_honest next rest new leads.1 honest)

@@ -1,3 +1,4 @@
 pub mod Clock
 pub mod Renewed
+pub mod Run
 pub mod Turns

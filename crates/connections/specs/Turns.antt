@@ -69,8 +69,3 @@ module _ {C B X : Type 0} (reads : C → Result ℤ ClockFailed → C → Type 0
     pub failed : (fault : ClockFailed) × reads last.clock (Err fault) new.clock
     pub desk : new.desk ≡ last.desk
     pub signer : new.signer ≡ last.signer
-
-  -- what each result says
-  abbrev pub ServesEach : ℕ → State C B X → State C B X → {A : Type 0} → Result A ClockFailed → Type 0
-  ServesEach connections old new (Ok done) = IsServedBy connections old new
-  ServesEach connections old new (Err fault) = StopsByClock connections old new

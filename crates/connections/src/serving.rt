@@ -1,6 +1,7 @@
 //! Connections whose requests are whole, one after the other.
 ghost use Rattle.std.specs.Prelude.{◌≡◌, Err, IfErr, OnOk};
-ghost use Rattle.connections.specs.Turns.{IsTurn, ServesEach};
+ghost use Rattle.connections.specs.Run.{RunsEach, ServesEach};
+ghost use Rattle.connections.specs.Turns.{IsTurn};
 
 use crate::clock::{Clock, ClockFailed};
 use crate::incoming::Incoming;
@@ -10,7 +11,7 @@ use crate::request::Request;
 use crate::waiting::Waiting;
 use book::Book;
 use cms::Signer;
-use desk::Desk;
+use desk::{Desk, accounts_are_isolated, journeys_keep_their_promises};
 use service::{Served, serve_one};
 use std::net::TcpStream;
 use std::time::{Duration, Instant};
@@ -86,6 +87,33 @@ fn serve_connection<R: AllocGlobal + std::time::Clock, C: Clock, B: Book + Drop,
     }
 }
 
+/// Serves so many connections.
+fn serve_each<R: AllocGlobal + std::time::Clock, C: Clock, B: Book + Drop, G: Signer>(
+    rt: &R,
+    listening: &mut Listening<'_>,
+    count: u32,
+    limit: Duration,
+    clock: &mut C,
+    desk: &mut Desk<'_, B>,
+    signer: &mut G,
+) -> Result<(), ClockFailed>
+    ensures setting { desk.new.setting ≡ desk.old.setting }
+    ensures honest { B.honest desk.new.store → B.honest desk.old.store }
+    ensures served { RunsEach C.reads B.Standing G.signs G.fault_count count
+        (record { clock = clock.old; desk = desk.old; signer = signer.old })
+        (record { clock = clock.new; desk = desk.new; signer = signer.new }) result }
+{
+    for done in 0..count {
+        let most = (count - done) as usize;
+        match serve_connection(rt, listening, most, limit, clock, desk, signer) {
+            Ok(()) => {}
+            Err(fault) => return Err(fault),
+        }
+    }
+    listening.finish(rt);
+    Ok(())
+}
+
 /// Serves so many connections: one request of each, by `service::serve_one`. They are served one after the other, and
 /// the next is one whose request is whole; until then up to 128 are read side by side, so that none holds up another.
 /// One that fails counts too, also where it was given up before it could be taken. Where the system has no descriptor
@@ -112,13 +140,7 @@ pub fn serve_connections<R: AllocGlobal + std::time::Clock, C: Clock, B: Book + 
         (record { clock = clock.old; desk = desk.old; signer = signer.old })
         (record { clock = clock.new; desk = desk.new; signer = signer.new }) result }
 {
-    for done in 0..count {
-        let most = (count - done) as usize;
-        match serve_connection(rt, listening, most, limit, clock, desk, signer) {
-            Ok(()) => {}
-            Err(fault) => return Err(fault),
-        }
-    }
-    listening.finish(rt);
-    Ok(())
+    journeys_keep_their_promises();
+    accounts_are_isolated::<G>();
+    serve_each(rt, listening, count, limit, clock, desk, signer)
 }

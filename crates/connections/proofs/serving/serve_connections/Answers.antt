@@ -1,30 +1,7 @@
-use Rattle.std.proofs.Common.{◌∙◌, ap, subst}
-use Rattle.connections.proofs.TurnsLemmas.{served_more, served_setting, served_honest}
+use Rattle.connections.proofs.RunLemmas.{lawful_each}
 use Rattle.connections.proofs.serving.serve_connections.Goals as goal
 
-pub returns-in-Err-clause-setting : goal.returns-in-Err-clause-setting
-returns-in-Err-clause-setting g c =
-    ap (λ d. d.setting) c.in-Err.ensures.desk_kept
-    ∙ served_setting g.C.Clock.reads g.B.Standing g.G.Signer.signs g.G.Signer.fault_count _ _ _
-    c.loop-done.invariant
-
-pub returns-in-Err-clause-honest : goal.returns-in-Err-clause-honest
-returns-in-Err-clause-honest g c = λ honest.
-    served_honest g.C.Clock.reads g.B.Standing g.G.Signer.signs g.G.Signer.fault_count _ _ _
-    c.loop-done.invariant
-    (subst (λ d. g.B.Standing.honest d.store) c.in-Err.ensures.desk_kept honest)
-
-pub loop-done-preserved : goal.loop-done-preserved
-loop-done-preserved g c =
-    served_more g.C.Clock.reads g.B.Standing g.G.Signer.signs g.G.Signer.fault_count _ _ _ _
-    c.loop-done.invariant c.in-Ok.ensures.turn
-
-pub returns-clause-setting : goal.returns-clause-setting
-returns-clause-setting g c =
-    served_setting g.C.Clock.reads g.B.Standing g.G.Signer.signs g.G.Signer.fault_count _ _ _
-    c.loop-done.invariant
-
-pub returns-clause-honest : goal.returns-clause-honest
-returns-clause-honest g c =
-    served_honest g.C.Clock.reads g.B.Standing g.G.Signer.signs g.G.Signer.fault_count _ _ _
-    c.loop-done.invariant
+pub returns-clause-served : goal.returns-clause-served
+returns-clause-served g c =
+    lawful_each g.C.Clock.reads g.B.Standing g.G.Signer.signs g.G.Signer.fault_count
+    c.journeys_keep_their_promises.ensures.continued c.accounts_are_isolated.ensures _ _ _ _ c.serve_each.ensures.served

@@ -1,6 +1,6 @@
 -- As many connections lead here as were counted.
 use Rattle.connections.specs.Turns.{IsServedBy}
-use Rattle.connections.proofs.serving.serve_connections.Given as goal
+use Rattle.connections.proofs.serving.serve_each.Given as goal
 
 abbrev pub invariant-loop-done : goal.invariant-loop-done
 invariant-loop-done g l =

@@ -1,0 +1,232 @@
+-- Connections are a run of the machine.
+use Rattle.std.proofs.Common.{◌≡◌, ℕ, ◌<◌, ℤ, List, [], ◌∷◌, ◌++◌, Option, Result, Ok, Err, refl, ap, subst}
+use Rattle.std.proofs.Common.{sym, inl, inr}
+use Rattle.book.specs.declared.standing.Standing.{Ghosts}
+use Rattle.book.specs.History.{History}
+use Rattle.book.specs.Sound.{IsSound}
+use Rattle.book.specs.Stands.{Stands}
+use Rattle.cms.specs.declared.signer.SignerFault.{SignerFault}
+use Rattle.desk.specs.Command.{Setting, Command, Stamp, Begin, Finish, Abandon, Deposit, Show, Token, ListAll, Grant}
+use Rattle.desk.specs.Command.{Revoke, Calibrate, Hold, Answer}
+use Rattle.desk.specs.Effects.{Effect}
+use Rattle.desk.specs.Agreement.{Agree}
+use Rattle.desk.specs.Laws.{AreMet, AreCommandsOf, Continues, RunsAlike}
+use Rattle.desk.specs.Outcome.{Outcome}
+use Rattle.desk.specs.Runs.{Told, Runs, Journey, HasProperties, IsProper, after}
+use Rattle.desk.specs.Steps.{HasEffect, IsMet, Moves}
+use Rattle.desk.specs.Stepped.{DeskValue, IsStep, no_signer, with_signer}
+use Rattle.service.specs.Answers.{AnswerValue}
+use Rattle.service.specs.Served.{IsAnswer, refuses, replies, keeps_back, wants_early, wants_idle, wants_after}
+use Rattle.service.specs.Served.{wants_looking, Serves, Steps}
+use Rattle.service.specs.Served.{turned_back, turns_back, tells_status, wants_status}
+use Rattle.service.specs.declared.served.Served.{Served}
+use Rattle.service.specs.declared.served.Served.TheVariants as served
+use Rattle.connections.specs.Run.{AreMetAnywhere}
+use Rattle.connections.specs.Run.{commands_of, answers_of, told, turn, told_for, told_in, told_by, told_along, IsRunOver}
+use Rattle.connections.specs.Run.{AreRun, AreLawfulRun, RunsEach, ServesEach}
+use Rattle.connections.specs.Turns.{State, untold, Does, nothing, one, Leads, IsServedBy}
+use Rattle.connections.specs.Turns.{StopsByClock}
+use Rattle.connections.specs.declared.clock.ClockFailed.{ClockFailed}
+use Rattle.connections.proofs.TurnsLemmas.{leads_honest}
+
+met_anywhere : (s : Setting) (cs : List Command) (os : List Outcome) (b : History) → AreMetAnywhere cs
+    → AreMet s cs os b
+met_anywhere s (c ∷ cs) (o ∷ os) b met = (met.0 b, λ e has. met_anywhere s cs os (after e b) met.1)
+met_anywhere s [] os b met = tt
+met_anywhere s (c ∷ cs) [] b met = tt
+
+-- a step of the desk, from a history for which the store stood
+record OneStep {B X : Type 0} (g : Ghosts B) (signs : X → List ℕ → Result (List ℕ) SignerFault → X → Type 0)
+    (s : Setting) (c : Command) (reply : Answer) (b : History) (new : B) (x x' : X) : Type 0 where
+  outcome : Outcome
+  effect : Effect
+  has : HasEffect s c outcome b effect
+  moves : Moves signs effect.asks outcome.signing x x'
+  says : reply ≡ effect.says
+  stands : Stands g (after effect b) new
+
+module _ {B X : Type 0} (g : Ghosts B) (signs : X → List ℕ → Result (List ℕ) SignerFault → X → Type 0) (count : X → ℕ)
+    (old new : DeskValue B) (x x' : X) (b : History) (reply : Answer) (honest : g.honest new.store)
+    (stood : Stands g b old.store) where
+  signed : (c : Command) → IsStep g (with_signer signs count x x') old.setting c old.store new.store reply → IsMet c b
+      → OneStep g signs old.setting c reply b new.store x x'
+  signed c step met =
+      let h = step.1.step.steps honest b stood met in
+      record {
+        outcome = step.0;
+        effect = h.effect;
+        has = h.has;
+        moves = h.moves;
+        says = h.says;
+        stands = h.stands;
+      }
+
+  unsigned : (c : Command) → IsStep g no_signer old.setting c old.store new.store reply → x' ≡ x → IsMet c b
+      → OneStep g signs old.setting c reply b new.store x x'
+  unsigned c step same met =
+      let h = step.1.step.steps honest b stood met in
+      let P : Option (List ℕ) → Type 0 = λ asked. Moves signs asked step.0.signing x x' in
+      record {
+        outcome = step.0;
+        effect = h.effect;
+        has = h.has;
+        moves = subst P (sym h.moves) same;
+        says = h.says;
+        stands = h.stands;
+      }
+
+  one_step : (c : Command) → Steps g signs count old new x x' c reply → IsMet c b
+      → OneStep g signs old.setting c reply b new.store x x'
+  one_step (Stamp account reading octets) t met = signed (Stamp account reading octets) t.0 met
+  one_step (Deposit a reading reference bytes) t met = signed (Deposit a reading reference bytes) t met
+  one_step (Begin account reading octets) t met = unsigned (Begin account reading octets) t.0 t.1 met
+  one_step (Finish p signature) t met = unsigned (Finish p signature) t.0 t.1 met
+  one_step (Abandon p) t met = unsigned (Abandon p) t.0 t.1 met
+  one_step (Show a n) t met = unsigned (Show a n) t.0 t.1 met
+  one_step (Token a n) t met = unsigned (Token a n) t.0 t.1 met
+  one_step (ListAll a) t met = unsigned (ListAll a) t.0 t.1 met
+  one_step (Grant a n reader) t met = unsigned (Grant a n reader) t.0 t.1 met
+  one_step (Revoke a n reader) t met = unsigned (Revoke a n reader) t.0 t.1 met
+  one_step (Calibrate c) t met = unsigned (Calibrate c) t.0 t.1 met
+  one_step (Hold h) t met = unsigned (Hold h) t.0 t.1 met
+
+module _ {C B X : Type 0} (reads : C → Result ℤ ClockFailed → C → Type 0) (g : Ghosts B)
+    (signs : X → List ℕ → Result (List ℕ) SignerFault → X → Type 0) (count : X → ℕ) where
+  -- what follows from where a connection led
+  abbrev Follows : List Told → State C B X → State C B X → Type 0
+  Follows later next new = (b : History) → Stands g b next.desk.store → AreMetAnywhere (commands_of later)
+      → IsRunOver reads g signs count next.desk.setting later b next new
+
+  module _ (old next new : State C B X) (setting : next.desk.setting ≡ old.desk.setting)
+      (honest : g.honest next.desk.store) (later : List Told) (follows : Follows later next new) (b : History)
+      (stood : Stands g b old.desk.store) where
+    stays : Stands g b next.desk.store → next.signer ≡ old.signer → AreMetAnywhere (commands_of later)
+        → IsRunOver reads g signs count old.desk.setting later b old new
+    stays stands same met =
+        let r = follows b stands met in
+        let P : X → Type 0 = λ x.
+        Runs signs next.desk.setting (commands_of later) r.outcomes b x (answers_of later) r.history new.signer in
+        let Q : Setting → Type 0 = λ s.
+        Runs signs s (commands_of later) r.outcomes b old.signer (answers_of later) r.history new.signer in
+        record {
+          outcomes = r.outcomes;
+          history = r.history;
+          runs = subst Q setting (subst P same r.runs);
+          stands = r.stands;
+        }
+
+    idles : next.desk ≡ old.desk → next.signer ≡ old.signer → AreMetAnywhere (commands_of later)
+        → IsRunOver reads g signs count old.desk.setting later b old new
+    idles desk same met = stays (subst (λ d. Stands g b d.store) (sym desk) stood) same met
+
+    steps : (c : Command) (reply : Answer)
+        → Steps g signs count old.desk next.desk old.signer next.signer c reply
+        → AreMetAnywhere (commands_of (told c reply ++ later))
+        → IsRunOver reads g signs count old.desk.setting (told c reply ++ later) b old new
+    steps c reply takes met =
+        let h = one_step g signs count old.desk next.desk old.signer next.signer b reply honest stood c takes
+        (met.0 b) in
+        let r = follows (after h.effect b) h.stands met.1 in
+        let Q : Setting → Type 0 = λ s.
+        Runs signs s (commands_of later) r.outcomes (after h.effect b) next.signer (answers_of later) r.history
+        new.signer in
+        record {
+          outcomes = h.outcome ∷ r.outcomes;
+          history = r.history;
+          runs = (h.effect, next.signer, (h.has, h.moves, h.says, subst Q setting r.runs));
+          stands = r.stands;
+        }
+
+    answers : (reading : ℤ) (a : AnswerValue) (is : IsAnswer g signs count reading (turn reads g signs count old next) a)
+        → AreMetAnywhere (commands_of (told_for reads g signs count is ++ later))
+        → IsRunOver reads g signs count old.desk.setting (told_for reads g signs count is ++ later) b old new
+    answers reading a (refuses r reads i is) met = idles i.desk i.signer met
+    answers reading a (replies c reads reply takes is) met = steps c reply takes met
+    answers reading a (turns_back c reads takes behind is) met = steps (Calibrate c) turned_back takes met
+    answers reading a (tells_status body reads l state is) met = stays (l.store.stands b stood) l.signer met
+    answers reading a (wants_status reads l is) met = stays (l.store.stands b stood) l.signer met
+    answers reading a (keeps_back account from to reads f k is) met =
+        stays (k.look.store.stands b stood) k.look.signer met
+    answers reading a (wants_early early i is) met = idles i.desk i.signer met
+    answers reading a (wants_idle r reads i is) met = idles i.desk i.signer met
+    answers reading a (wants_after c reads reply takes is) met = steps c reply takes met
+    answers reading a (wants_looking account from to reads l is) met = stays (l.store.stands b stood) l.signer met
+
+    serves : (reading : ℤ) (outcome : Served) (s : Serves g signs count untold reading (turn reads g signs count old next) outcome)
+        → AreMetAnywhere (commands_of (told_in reads g signs count reading (turn reads g signs count old next) outcome s ++ later))
+        → IsRunOver reads g signs count old.desk.setting (told_in reads g signs count reading (turn reads g signs count old next) outcome s ++ later) b old new
+    serves reading served.Closed s met = idles s.2.idle.desk s.2.idle.signer met
+    serves reading served.ReadFailed s met = idles s.1.idle.desk s.1.idle.signer met
+    serves reading (served.Answered status) (inl w) met = answers reading w.answer w.is met
+    serves reading (served.Answered status) (inr e) met = stays (e.look.store.stands b stood) e.look.signer met
+    serves reading (served.WriteFailed status taken) (inl w) met = answers reading w.answer w.is met
+    serves reading (served.WriteFailed status taken) (inr e) met =
+        stays (e.look.store.stands b stood) e.look.signer met
+
+    does : (d : Does reads g signs count old next)
+        → AreMetAnywhere (commands_of (told_by reads g signs count d ++ later))
+        → IsRunOver reads g signs count old.desk.setting (told_by reads g signs count d ++ later) b old new
+    does (nothing same) met = idles (ap (λ s. s.desk) same) (ap (λ s. s.signer) same) met
+    does (one served) met = serves served.reading served.outcome served.serves met
+
+  pub run_along : (old : State C B X) (later : List (State C B X)) (new : State C B X)
+      (leads : Leads reads g signs count old later new) → g.honest new.desk.store → (b : History)
+      → Stands g b old.desk.store → AreMetAnywhere (commands_of (told_along reads g signs count old later new leads))
+      → IsRunOver reads g signs count old.desk.setting (told_along reads g signs count old later new leads) b old new
+  run_along old [] new same honest b stood met = record {
+    outcomes = [];
+    history = b;
+    runs = (refl, ap (λ s. s.signer) same);
+    stands = subst (λ s. Stands g b s.desk.store) (sym same) stood;
+  }
+  run_along old (next ∷ rest) new leads honest b stood met =
+      does old next new leads.0.setting (leads_honest reads g signs count next rest new leads.1 honest)
+      (told_along reads g signs count next rest new leads.1) (run_along next rest new leads.1 honest) b stood
+      leads.0.does met
+
+  pub served_run : (n : ℕ) (old new : State C B X) → IsServedBy reads g signs count n old new
+      → (served : IsServedBy reads g signs count n old new) × AreRun reads g signs count served
+  served_run n old new served = (served, run_along old served.after new served.leads)
+
+  pub stopped_run : (n served : ℕ) (old last new : State C B X) → IsServedBy reads g signs count served old last
+      → served < n → (fault : ClockFailed) → reads last.clock (Err fault) new.clock → new.desk ≡ last.desk
+      → new.signer ≡ last.signer
+      → (stops : StopsByClock reads g signs count n old new) × AreRun reads g signs count stops.before
+  stopped_run n served old last new before fewer fault failed desk signer =
+      let stops : StopsByClock reads g signs count n old new = record {
+        served = served;
+        fewer = fewer;
+        last = last;
+        before = before;
+        failed = (fault, failed);
+        desk = desk;
+        signer = signer;
+      } in
+      (stops, run_along old before.after last before.leads)
+
+  module _ (journeys : (s : Setting) (cs : List Command) (os : List Outcome) (b : History) (w : List Told) (b' : History)
+      (w' : List Told) → IsProper s → AreMet s cs os b → Journey b w → Continues s cs os b w b' w' → HasProperties b' w')
+      (isolated : (account : List ℕ) (s : Setting) (cs : List Command) (os : List Outcome) (b c : History) (x : X)
+      (answers : List Answer) (b' : History) (x' : X) → IsProper s → AreCommandsOf account cs → IsSound b → IsSound c
+      → Agree account b c → Runs signs s cs os b x answers b' x'
+      → RunsAlike signs account s cs os c x answers b' x') where
+    lawful : (n : ℕ) (old new : State C B X) (served : IsServedBy reads g signs count n old new)
+        → AreRun reads g signs count served → AreLawfulRun reads g signs count served
+    lawful n old new served run honest b stood met =
+        let r = run honest b stood met in
+        let asked = told_along reads g signs count old served.after new served.leads in (
+          r,
+          λ proper. record {
+            journeys = λ w journey os b' w' goes.
+                journeys old.desk.setting (commands_of asked) os b w b' w' proper
+                (met_anywhere old.desk.setting (commands_of asked) os b met) journey goes;
+            isolated = λ account own c sound agree.
+                isolated account old.desk.setting (commands_of asked) r.outcomes b c old.signer (answers_of asked)
+                r.history new.signer proper own stood.sound sound agree r.runs;
+          },
+        )
+
+    pub lawful_each : {A : Type 0} (n : ℕ) (old new : State C B X) (result : Result A ClockFailed)
+        → RunsEach reads g signs count n old new result → ServesEach reads g signs count n old new result
+    lawful_each n old new (Ok done) h = (h.0, lawful n old new h.0 h.1)
+    lawful_each n old new (Err fault) h = (h.0, lawful h.0.served old h.0.last h.0.before h.1)
