@@ -1,14 +1,14 @@
-//! A desk over a database in memory, requests and answers.
+//! A desk over a book in memory, requests and answers.
 //!
 //! Calls without clauses: a test's proof needn't read the contracts of what it calls.
 use super::octets::{ALGORITHM, CERTIFICATE};
+use book::{Book, Calibration, StoreFault};
 use cms::{Algorithm, Identity};
 use desk::Desk;
+use memory_book::MemoryBook;
 use policy::{EXAMPLE, Policy};
-use sqlite::{Connection, MemStore};
 use std::alloc::Global;
 use std::test::Fail;
-use store::{Book, Calibration, Store, StoreFault};
 
 /// With what a desk is opened.
 #[derive(Drop)]
@@ -39,40 +39,29 @@ pub fn example(alloc: Global) -> Result<Setting, Fail> {
     })
 }
 
-fn empty(alloc: Global) -> Result<Store<MemStore>, Fail> {
-    let conn = Connection::open_in_memory(alloc)?;
-    if !conn.is_autocommit() {
-        return Err(Fail::new("a transaction is open"));
-    }
-    match Store::create(alloc, conn) {
-        Ok(store) => Ok(store),
-        Err((fault, _)) => Err(Fail::new(format_args!("create: {fault:?}"))),
-    }
-}
-
-fn calibrate(store: &mut Store<MemStore>) -> Result<(), StoreFault> {
-    store.calibrate(&Calibration {
+fn calibrate(book: &mut MemoryBook) -> Result<(), StoreFault> {
+    book.calibrate(&Calibration {
         reading: 0,
         offset: 0,
         uncertainty: 0,
     })
 }
 
-fn desk_of(alloc: Global, setting: &Setting, store: Store<MemStore>) -> Desk<'_, Store<MemStore>> {
+fn desk_of(alloc: Global, setting: &Setting, book: MemoryBook) -> Desk<'_, MemoryBook> {
     Desk::new(
         alloc,
         &setting.policy,
         &setting.identity,
         &setting.algorithm,
-        store,
+        book,
     )
 }
 
-/// A desk over a store with one calibration, of a clock that is right.
-pub fn calibrated(alloc: Global, setting: &Setting) -> Result<Desk<'_, Store<MemStore>>, Fail> {
-    let mut store = empty(alloc)?;
-    calibrate(&mut store)?;
-    Ok(desk_of(alloc, setting, store))
+/// A desk over a book with one calibration, of a clock that is right.
+pub fn calibrated(alloc: Global, setting: &Setting) -> Result<Desk<'_, MemoryBook>, Fail> {
+    let mut book = MemoryBook::new(alloc, Vec::new(alloc));
+    calibrate(&mut book)?;
+    Ok(desk_of(alloc, setting, book))
 }
 
 /// An empty time-stamp request.
