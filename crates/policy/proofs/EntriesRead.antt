@@ -5,11 +5,12 @@ use Rattle.toml.specs.declared.value.Value.{Value}
 use Rattle.std.proofs.lemmas.Simd.{map-map}
 use Rattle.std.proofs.Common.{string_bytes}
 use Rattle.der.specs.ObjectIdentifier.{oid_content}
-use Rattle.policy.specs.View.{algorithm_view, extension_view, tsa_policy_view, account_view}
+use Rattle.policy.specs.View.{algorithm_view, extension_view, tsa_policy_view, account_view, group_view}
 use Rattle.policy.specs.declared.entries.Algorithm.{Algorithm}
 use Rattle.policy.specs.declared.entries.Extension.{Extension}
 use Rattle.policy.specs.declared.entries.TsaPolicy.{TsaPolicy}
 use Rattle.policy.specs.declared.entries.Account.{Account}
+use Rattle.policy.specs.declared.entries.Group.{Group}
 use Rattle.policy.specs.Kinds.{count_of}
 
 -- what entries are called, seen as their values
@@ -42,6 +43,9 @@ account_names es = map-map _ _ es
 
 pub account_hashes : (es : List Account) → map (λ e. e.key_sha256) (map account_view es) ≡ map (λ e. e.key_sha256) es
 account_hashes es = map-map _ _ es
+
+pub group_names : (es : List Group) → map (λ e. e.name) (map group_view es) ≡ map (λ e. string_bytes e.name) es
+group_names es = map-map _ _ es
 
 -- how many there are
 pub count_of_view : (vs : List Value) → count_of (items_view vs) ≡ length vs

@@ -1,4 +1,5 @@
 pub mod Searches
+pub mod Kept
 pub mod HashTable
 pub mod Keys
 pub mod KindsRead

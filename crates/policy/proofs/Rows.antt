@@ -6,7 +6,7 @@ use Rattle.policy.specs.HashAlgorithms.{hash_algorithms}
 use Rattle.policy.specs.Kinds.{number_in, is_name, name_in, some_name_in, oid_in, new_name_in, new_oid_in, listed}
 use Rattle.policy.specs.Kinds.{values_in, names_in, tables_in, entry_in, array_in}
 use Rattle.policy.specs.Meaning.{counter_of, counter_in, algorithm_of, extension_of, tsa_policy_of, account_of}
-use Rattle.policy.specs.Meaning.{policy_in}
+use Rattle.policy.specs.Meaning.{group_of, policy_in}
 use Rattle.der.specs.OidText.{oid_of_text}
 use Rattle.policy.specs.Record.{PolicyValue}
 use Rattle.policy.specs.declared.fault.PolicyFault.TheVariants.{BadValue, Duplicate, Missing, UnknownName}
@@ -39,15 +39,27 @@ account name =
     (member (codes "name") (string name) (member (codes "policies")
     (array (item (string (codes "open")) no_items)) no_members)))
 
-abbrev file : Members → Items → Items → List ℕ → Members
-file counter algorithms listed name =
+-- a group with these members
+abbrev group : Items → Data
+group members = table (member (codes "members") (array members) (member (codes "name") (string (codes "staff")) no_members))
+
+abbrev file_with : Members → Items → Items → List ℕ → Items → Members
+file_with counter algorithms listed name groups =
     member (codes "account") (array (item (account name) no_items))
     (member (codes "algorithm") (array algorithms)
     (member (codes "counter") (table counter)
-    (member (codes "policy") (array (item (tsa_policy listed) no_items)) no_members)))
+    (member (codes "group") (array groups)
+    (member (codes "policy") (array (item (tsa_policy listed) no_items)) no_members))))
+
+abbrev file : Members → Items → Items → List ℕ → Members
+file counter algorithms listed name =
+    file_with counter algorithms listed name (item (group (item (string name) no_items)) no_items)
 
 abbrev sha_256 : Items
 sha_256 = item (string (codes "sha256")) no_items
+
+abbrev grouped : Items → Members
+grouped = file_with (counter 1000) (item (algorithm (codes "sha256")) no_items) sha_256 (codes "guest")
 
 abbrev meant : PolicyValue
 meant = record {
@@ -83,12 +95,13 @@ meant = record {
         daily_quota = 2;
       }
       ∷ [];
+  groups = record { name = codes "staff"; members = codes "guest" ∷ [] } ∷ [];
 }
 
 file_is_meant : policy_in (file (counter 1000) (item (algorithm (codes "sha256")) no_items) sha_256 (codes "guest"))
     ≡ Ok meant
 unfolding number_in is_name name_in some_name_in oid_in new_name_in new_oid_in listed values_in names_in tables_in
-    entry_in array_in counter_of counter_in algorithm_of extension_of tsa_policy_of account_of policy_in oid_of_text
+    entry_in array_in counter_of counter_in algorithm_of extension_of tsa_policy_of account_of group_of policy_in oid_of_text
     hash_algorithms decimal subidentifier_octets
 file_is_meant = refl
 
@@ -106,13 +119,42 @@ oid_is_a_duplicate : policy_in (file (counter 1000)
     (item (algorithm (codes "sha256")) (item (algorithm (codes "other")) no_items)) sha_256 (codes "guest"))
     ≡ Err (Duplicate field.AlgorithmOid)
 unfolding number_in is_name name_in some_name_in oid_in new_name_in new_oid_in listed values_in names_in tables_in
-    entry_in array_in counter_of counter_in algorithm_of extension_of tsa_policy_of account_of policy_in oid_of_text
+    entry_in array_in counter_of counter_in algorithm_of extension_of tsa_policy_of account_of group_of policy_in oid_of_text
     hash_algorithms decimal subidentifier_octets
 oid_is_a_duplicate = refl
 
 anonymous_is_unknown : policy_in (file (counter 1000) (item (algorithm (codes "sha256")) no_items) sha_256
     (codes "other")) ≡ Err (UnknownName field.CounterAnonymous)
 unfolding number_in is_name name_in some_name_in oid_in new_name_in new_oid_in listed values_in names_in tables_in
-    entry_in array_in counter_of counter_in algorithm_of extension_of tsa_policy_of account_of policy_in oid_of_text
+    entry_in array_in counter_of counter_in algorithm_of extension_of tsa_policy_of account_of group_of policy_in oid_of_text
     hash_algorithms decimal subidentifier_octets
 anonymous_is_unknown = refl
+
+-- a member that is no account, one that stands twice, and none; two groups of one name
+member_is_unknown : policy_in (grouped (item (group (item (string (codes "other")) no_items)) no_items))
+    ≡ Err (UnknownName field.GroupMembers)
+unfolding number_in is_name name_in some_name_in oid_in new_name_in new_oid_in listed values_in names_in tables_in
+    entry_in array_in counter_of counter_in algorithm_of extension_of tsa_policy_of account_of group_of policy_in
+    oid_of_text hash_algorithms decimal subidentifier_octets
+member_is_unknown = refl
+
+member_is_a_duplicate : policy_in (grouped
+    (item (group (item (string (codes "other")) (item (string (codes "other")) no_items))) no_items))
+    ≡ Err (Duplicate field.GroupMembers)
+unfolding number_in is_name name_in some_name_in oid_in new_name_in new_oid_in listed values_in names_in tables_in
+    entry_in array_in counter_of counter_in algorithm_of extension_of tsa_policy_of account_of group_of policy_in
+    oid_of_text hash_algorithms decimal subidentifier_octets
+member_is_a_duplicate = refl
+
+no_member_is_bad : policy_in (grouped (item (group no_items) no_items)) ≡ Err (BadValue field.GroupMembers)
+unfolding number_in is_name name_in some_name_in oid_in new_name_in new_oid_in listed values_in names_in tables_in
+    entry_in array_in counter_of counter_in algorithm_of extension_of tsa_policy_of account_of group_of policy_in
+    oid_of_text hash_algorithms decimal subidentifier_octets
+no_member_is_bad = refl
+
+group_is_a_duplicate : policy_in (grouped (item (group (item (string (codes "guest")) no_items))
+    (item (group (item (string (codes "guest")) no_items)) no_items))) ≡ Err (Duplicate field.GroupName)
+unfolding number_in is_name name_in some_name_in oid_in new_name_in new_oid_in listed values_in names_in tables_in
+    entry_in array_in counter_of counter_in algorithm_of extension_of tsa_policy_of account_of group_of policy_in
+    oid_of_text hash_algorithms decimal subidentifier_octets
+group_is_a_duplicate = refl

@@ -8,7 +8,7 @@ use Rattle.std.specs.Prelude.{nat_le, if◌then◌else◌, IfSome}
 use Rattle.std.specs.Result.{result_ok}
 use Rattle.std.proofs.lemmas.Option.{same_Some}
 use Rattle.std.proofs.lemmas.Bool.{and_parts, leb-true}
-use Rattle.std.proofs.lemmas.List.{map-append, length-append}
+use Rattle.std.proofs.lemmas.List.{map-append, length-append, length-map}
 use Rattle.der.specs.ObjectIdentifier.{IsOid, oid_content}
 use Rattle.hex.specs.Hex.{decode_pairs, decode_sized}
 use Rattle.hex.specs.declared.error.FromHexError.{FromHexError}
@@ -22,11 +22,12 @@ use Rattle.policy.specs.Kinds.{new_oid_in, new_hash_in, hash_in, names_in, liste
 use Rattle.policy.specs.Kinds.{entry_in, tables_in, are_tables, count_of, array_in, only}
 use Rattle.policy.specs.Meaning.{lengths_of, is_none_or_among, counter_of, counter_in, algorithm_of, algorithm_in}
 use Rattle.policy.specs.Meaning.{extension_of, extension_in, tsa_policy_of, tsa_policy_in, account_of, account_in}
-use Rattle.policy.specs.Meaning.{policy_in, document_in, meaning_of}
+use Rattle.policy.specs.Meaning.{group_of, group_in, policy_in, document_in, meaning_of}
 use Rattle.der.specs.OidText.{oid_of_text}
-use Rattle.policy.specs.Record.{AlgorithmValue, ExtensionValue, TsaPolicyValue, AccountValue, CounterValue, PolicyValue}
+use Rattle.policy.specs.Record.{AlgorithmValue, ExtensionValue, TsaPolicyValue, AccountValue, GroupValue}
+use Rattle.policy.specs.Record.{CounterValue, PolicyValue}
 use Rattle.policy.specs.Sound.{are_apart, same_hash, AreListed, IsCounter, IsAlgorithm, IsExtension, IsTsaPolicy}
-use Rattle.policy.specs.Sound.{IsAccount, AreEntries, AreAccounts, IsSound}
+use Rattle.policy.specs.Sound.{IsAccount, IsGroup, AreEntries, AreAccounts, AreGroups, IsSound}
 use Rattle.policy.specs.declared.fault.PolicyFault.{PolicyFault}
 use Rattle.policy.specs.declared.fault.PolicyFault.TheVariants.{BadValue, Duplicate, UnknownName, TooMany}
 use Rattle.policy.specs.declared.field.Field.{Field}
@@ -241,6 +242,13 @@ few_in name most read o entries e =
     (few_tables name most) o a.value a.is in
     omega (arith, n, m)
 
+-- the same of the entries that an answer has
+pub few_answered : {A E : Type 0} (see : E → A) (name : Field) (most : ℕ)
+    (read : List A → Members → Result A PolicyFault) (o : Option Data) (entries : List E)
+    → array_in name most read o ≡ Ok (map see entries) → length entries ≤ most
+few_answered see name most read o entries e =
+    subst (λ n. n ≤ most) (length-map entries see) (few_in name most read o (map see entries) e)
+
 or_false : (a b : Bool) → (a || b) ≡ false → (a ≡ false) × (b ≡ false)
 or_false true b e = absurd (cc e)
 or_false false b e = (refl, e)
@@ -436,6 +444,27 @@ accounts_more policy_names earlier ms entry e are =
       });
     })
 
+groups_more : (account_names : List (List ℕ)) (earlier : List GroupValue) (ms : Members) (entry : GroupValue)
+    → group_in account_names earlier ms ≡ Ok entry → AreGroups account_names earlier
+    → AreGroups account_names (earlier ++ entry ∷ [])
+unfolding group_of
+groups_more account_names earlier ms entry e are =
+    let a = bound (only (codes "name" ∷ codes "members" ∷ []) ms) _ entry e in
+    let name = bound (new_name_in field.GroupName (map (λ e. e.name) earlier) ms) _ entry a.after in
+    let members = bound (wanted field.GroupMembers (names_in field.GroupMembers 1 account_names)
+    (get_member (codes "members") ms)) _ entry name.after in
+    let new = new_named field.GroupName (map (λ e. e.name) earlier) ms name.value name.is in
+    let group : GroupValue = record { name = name.value; members = members.value } in
+    subst (λ k. AreGroups account_names (earlier ++ k ∷ [])) (same_Ok group entry members.after) (record {
+      names = apart_with bytes_eq (λ e. e.name) earlier group are.names new.fresh_one;
+      each = all_more (IsGroup account_names) earlier group are.each (record {
+        name = new.name;
+        members = from_wanted (AreListed 1 account_names) field.GroupMembers
+            (names_in field.GroupMembers 1 account_names) (are_listed field.GroupMembers 1 account_names)
+            (get_member (codes "members") ms) members.value members.is;
+      });
+    })
+
 is_counter : (d : Data) (counter : CounterValue) → counter_in d ≡ Ok counter → IsCounter counter
 unfolding counter_in counter_of
 is_counter d counter e =
@@ -488,7 +517,7 @@ sound_table : (ms : Members) (p : PolicyValue) → policy_in ms ≡ Ok p → IsS
 unfolding policy_in
 sound_table ms p e =
     let a = bound (only (codes "counter" ∷ codes "algorithm" ∷ codes "extension" ∷ codes "policy" ∷ codes "account"
-    ∷ []) ms) _ p e in
+    ∷ codes "group" ∷ []) ms) _ p e in
     let counter = bound (wanted field.Counter counter_in (get_member (codes "counter") ms)) _ p a.after in
     let algorithms = bound (array_in field.Algorithm 8 algorithm_in (get_member (codes "algorithm") ms)) _ p
     counter.after in
@@ -499,6 +528,8 @@ sound_table ms p e =
     (get_member (codes "policy") ms)) _ p extensions.after in
     let accounts = bound (array_in field.Account 64 (account_in (map (λ e. e.name) policies.value))
     (get_member (codes "account") ms)) _ p policies.after in
+    let groups = bound (array_in field.Group 16 (group_in (map (λ e. e.name) accounts.value))
+    (get_member (codes "group") ms)) _ p accounts.after in
     let t = tested (is_none_or_among (map (λ e. e.name) accounts.value) counter.value.anonymous)
     (UnknownName field.CounterAnonymous) (record {
       counter = counter.value;
@@ -507,7 +538,8 @@ sound_table ms p e =
       policies =
           policies.value;
       accounts = accounts.value;
-    }) p accounts.after in
+      groups = groups.value;
+    }) p groups.after in
     subst IsSound t.1 (record {
       few = record {
         algorithms = few_in field.Algorithm 8 algorithm_in (get_member (codes "algorithm") ms) algorithms.value
@@ -518,6 +550,8 @@ sound_table ms p e =
             (map (λ e. e.name) extensions.value)) (get_member (codes "policy") ms) policies.value policies.is;
         accounts = few_in field.Account 64 (account_in (map (λ e. e.name) policies.value))
             (get_member (codes "account") ms) accounts.value accounts.is;
+        groups = few_in field.Group 16 (group_in (map (λ e. e.name) accounts.value))
+            (get_member (codes "group") ms) groups.value groups.is;
       };
       counter = from_wanted IsCounter field.Counter counter_in is_counter (get_member (codes "counter") ms)
           counter.value counter.is;
@@ -538,6 +572,9 @@ sound_table ms p e =
           (AreAccounts (map (λ e. e.name) policies.value)) (accounts_more (map (λ e. e.name) policies.value))
           (record { names = refl; hashes = refl; each = tt })
           (get_member (codes "account") ms) accounts.value accounts.is;
+      groups = in_array field.Group 16 (group_in (map (λ e. e.name) accounts.value))
+          (AreGroups (map (λ e. e.name) accounts.value)) (groups_more (map (λ e. e.name) accounts.value))
+          (record { names = refl; each = tt }) (get_member (codes "group") ms) groups.value groups.is;
       anonymous = t.0;
     })
 

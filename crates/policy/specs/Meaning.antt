@@ -8,7 +8,8 @@ use Rattle.toml.specs.Parse.{parse_document}
 use Rattle.policy.specs.HashAlgorithms.{HashAlgorithmValue, hash_algorithms}
 use Rattle.policy.specs.Kinds.{◌>>=◌, test, given, wanted, optional, is_among, only, truth_in, number_in, new_name_in}
 use Rattle.policy.specs.Kinds.{new_oid_in, new_hash_in, some_name_in, names_in, array_in}
-use Rattle.policy.specs.Record.{AlgorithmValue, ExtensionValue, TsaPolicyValue, AccountValue, CounterValue, PolicyValue}
+use Rattle.policy.specs.Record.{AlgorithmValue, ExtensionValue, TsaPolicyValue, AccountValue, GroupValue}
+use Rattle.policy.specs.Record.{CounterValue, PolicyValue}
 use Rattle.policy.specs.declared.fault.PolicyFault.{PolicyFault}
 use Rattle.policy.specs.declared.fault.PolicyFault.TheVariants.{Toml, UnknownName}
 use Rattle.policy.specs.declared.field.Field.TheVariants as field
@@ -119,6 +120,17 @@ account_of policy_names names hashes ms = do
 abbrev pub account_in : List (List ℕ) → List AccountValue → Members → Result AccountValue PolicyFault
 account_in policy_names earlier = account_of policy_names (map (λ e. e.name) earlier) (map (λ e. e.key_sha256) earlier)
 
+-- with the names of the accounts that there are
+unfoldable pub group_of : List (List ℕ) → List (List ℕ) → Members → Result GroupValue PolicyFault
+group_of account_names names ms = do
+  known ← only (codes "name" ∷ codes "members" ∷ []) ms
+  name ← new_name_in field.GroupName names ms
+  members ← wanted field.GroupMembers (names_in field.GroupMembers 1 account_names) (get_member (codes "members") ms)
+  Ok (record { name = name; members = members })
+
+abbrev pub group_in : List (List ℕ) → List GroupValue → Members → Result GroupValue PolicyFault
+group_in account_names earlier = group_of account_names (map (λ e. e.name) earlier)
+
 -- none, or one of the names
 abbrev pub is_none_or_among : List (List ℕ) → Option (List ℕ) → Bool
 is_none_or_among names None = true
@@ -127,13 +139,15 @@ is_none_or_among names (Some name) = is_among names name
 -- a table's meaning
 unfoldable pub policy_in : Members → Result PolicyValue PolicyFault
 policy_in ms = do
-  known ← only (codes "counter" ∷ codes "algorithm" ∷ codes "extension" ∷ codes "policy" ∷ codes "account" ∷ []) ms
+  known ← only (codes "counter" ∷ codes "algorithm" ∷ codes "extension" ∷ codes "policy" ∷ codes "account"
+      ∷ codes "group" ∷ []) ms
   counter ← wanted field.Counter counter_in (get_member (codes "counter") ms)
   algorithms ← array_in field.Algorithm 8 algorithm_in (get_member (codes "algorithm") ms)
   extensions ← array_in field.Extension 32 extension_in (get_member (codes "extension") ms)
   policies ← array_in field.Policy 16 (tsa_policy_in (map (λ e. e.name) algorithms) (map (λ e. e.name) extensions))
       (get_member (codes "policy") ms)
   accounts ← array_in field.Account 64 (account_in (map (λ e. e.name) policies)) (get_member (codes "account") ms)
+  groups ← array_in field.Group 16 (group_in (map (λ e. e.name) accounts)) (get_member (codes "group") ms)
   test (is_none_or_among (map (λ e. e.name) accounts) counter.anonymous) (UnknownName field.CounterAnonymous)
       (record {
         counter = counter;
@@ -141,6 +155,7 @@ policy_in ms = do
         extensions = extensions;
         policies = policies;
         accounts = accounts;
+        groups = groups;
       })
 
 -- a text's meaning

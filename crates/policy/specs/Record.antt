@@ -28,6 +28,11 @@ pub record AccountValue : Type 0 where
   pub policies : List (List ℕ)
   pub daily_quota : ℕ
 
+-- accounts with whom a deposit can be shared under one name
+pub record GroupValue : Type 0 where
+  pub name : List ℕ
+  pub members : List (List ℕ)
+
 pub record CounterValue : Type 0 where
   pub accuracy_us : ℕ
   pub fraction_digits : ℕ
@@ -42,3 +47,4 @@ pub record PolicyValue : Type 0 where
   pub extensions : List ExtensionValue
   pub policies : List TsaPolicyValue
   pub accounts : List AccountValue
+  pub groups : List GroupValue

@@ -6,7 +6,8 @@ use Rattle.std.specs.Str.{bytes_eq}
 use Rattle.der.specs.ObjectIdentifier.{IsOid, oid_content}
 use Rattle.policy.specs.Kinds.{is_among, is_hash, is_name, are_distinct}
 use Rattle.policy.specs.Meaning.{lengths_of, is_none_or_among}
-use Rattle.policy.specs.Record.{AlgorithmValue, ExtensionValue, TsaPolicyValue, AccountValue, CounterValue, PolicyValue}
+use Rattle.policy.specs.Record.{AlgorithmValue, ExtensionValue, TsaPolicyValue, AccountValue, GroupValue}
+use Rattle.policy.specs.Record.{CounterValue, PolicyValue}
 
 -- no two are the same
 abbrev pub are_apart : {A : Type 0} → (A → A → Bool) → List A → Bool
@@ -56,6 +57,10 @@ pub record IsAccount (policy_names : List (List ℕ)) (account : AccountValue) :
   pub policies : AreListed 1 policy_names account.policies
   pub daily_quota : account.daily_quota ≤ 1000000000
 
+pub record IsGroup (account_names : List (List ℕ)) (group : GroupValue) : Type 0 where
+  pub name : is_name group.name ≡ true
+  pub members : AreListed 1 account_names group.members
+
 -- entries whose names and object identifiers differ
 pub record AreEntries {A : Type 0} (name oid : A → List ℕ) (IsEntry : A → Type 0) (entries : List A) : Type 0 where
   pub names : are_apart bytes_eq (map name entries) ≡ true
@@ -68,12 +73,18 @@ pub record AreAccounts (policy_names : List (List ℕ)) (accounts : List Account
   pub hashes : are_apart same_hash (map (λ e. e.key_sha256) accounts) ≡ true
   pub each : AllByRecursion (IsAccount policy_names) accounts
 
+-- groups whose names differ
+pub record AreGroups (account_names : List (List ℕ)) (groups : List GroupValue) : Type 0 where
+  pub names : are_apart bytes_eq (map (λ e. e.name) groups) ≡ true
+  pub each : AllByRecursion (IsGroup account_names) groups
+
 -- no array has more entries than it may
 pub record HasFewEntries (p : PolicyValue) : Type 0 where
   pub algorithms : length p.algorithms ≤ 8
   pub extensions : length p.extensions ≤ 32
   pub policies : length p.policies ≤ 16
   pub accounts : length p.accounts ≤ 64
+  pub groups : length p.groups ≤ 16
 
 pub record IsSound (p : PolicyValue) : Type 0 where
   pub few : HasFewEntries p
@@ -83,4 +94,5 @@ pub record IsSound (p : PolicyValue) : Type 0 where
   pub policies : AreEntries (λ e. e.name) (λ e. oid_content e.oid)
       (IsTsaPolicy (map (λ e. e.name) p.algorithms) (map (λ e. e.name) p.extensions)) p.policies
   pub accounts : AreAccounts (map (λ e. e.name) p.policies) p.accounts
+  pub groups : AreGroups (map (λ e. e.name) p.accounts) p.groups
   pub anonymous : is_none_or_among (map (λ e. e.name) p.accounts) p.counter.anonymous ≡ true

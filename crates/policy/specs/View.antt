@@ -1,11 +1,13 @@
 -- What the types stand for.
 use Rattle.std.specs.Prelude.{ℕ, List, option_map, map, String, Vec, string_bytes}
 use Rattle.std.specs.declared.alloc.Global.{Global}
-use Rattle.policy.specs.Record.{AlgorithmValue, ExtensionValue, TsaPolicyValue, AccountValue, CounterValue, PolicyValue}
+use Rattle.policy.specs.Record.{AlgorithmValue, ExtensionValue, TsaPolicyValue, AccountValue, GroupValue}
+use Rattle.policy.specs.Record.{CounterValue, PolicyValue}
 use Rattle.policy.specs.declared.entries.Algorithm.{Algorithm}
 use Rattle.policy.specs.declared.entries.Extension.{Extension}
 use Rattle.policy.specs.declared.entries.TsaPolicy.{TsaPolicy}
 use Rattle.policy.specs.declared.entries.Account.{Account}
+use Rattle.policy.specs.declared.entries.Group.{Group}
 use Rattle.policy.specs.declared.entries.Counter.{Counter}
 use Rattle.policy.specs.declared.policy.Policy.{Policy}
 
@@ -52,6 +54,9 @@ account_view account = record {
   daily_quota = account.daily_quota;
 }
 
+abbrev pub group_view : Group → GroupValue
+group_view group = record { name = string_bytes group.name; members = names_view group.members }
+
 abbrev pub policy_view : Policy → PolicyValue
 policy_view policy = record {
   counter = counter_view policy.counter;
@@ -59,4 +64,5 @@ policy_view policy = record {
   extensions = map extension_view policy.extensions.items;
   policies = map tsa_policy_view policy.policies.items;
   accounts = map account_view policy.accounts.items;
+  groups = map group_view policy.groups.items;
 }

@@ -1,4 +1,4 @@
-//! The tables of a policy file: `counter`, and the entries of the four arrays.
+//! The tables of a policy file: `counter`, and the entries of the five arrays.
 ghost use Rattle.std.specs.Prelude.{◌≡◌, ◌≤◌, [], None, map, codes, string_bytes, length};
 ghost use Rattle.der.specs.ObjectIdentifier.{oid_content};
 ghost use Rattle.toml.specs.Data.{get_member, as_table};
@@ -7,10 +7,12 @@ ghost use Rattle.policy.specs.Answers.{AnswersMeaning};
 ghost use Rattle.policy.specs.Kinds.{given, optional, new_hash_in, are_tables, tables_in, entry_in, entries_after};
 ghost use Rattle.policy.specs.Kinds.{array_in};
 ghost use Rattle.policy.specs.Meaning.{lengths_of, counter_of, counter_in, algorithm_of, algorithm_in, extension_of};
-ghost use Rattle.policy.specs.Meaning.{extension_in, tsa_policy_of, tsa_policy_in, account_of, account_in};
+ghost use Rattle.policy.specs.Meaning.{extension_in, tsa_policy_of, tsa_policy_in, account_of, account_in, group_of};
+ghost use Rattle.policy.specs.Meaning.{group_in};
 ghost use Rattle.policy.specs.View.{counter_view, algorithm_view, extension_view, tsa_policy_view, account_view};
+ghost use Rattle.policy.specs.View.{group_view};
 
-use crate::entries::{Account, Algorithm, Counter, Extension, TsaPolicy};
+use crate::entries::{Account, Algorithm, Counter, Extension, Group, TsaPolicy};
 use crate::fault::PolicyFault;
 use crate::field::Field;
 use crate::find::has_hash;
@@ -228,6 +230,23 @@ fn account(
     })
 }
 
+#[tactic(auto, unfolding(crate::specs::Meaning::group_of))]
+fn group(
+    alloc: Global,
+    accounts: &[Account],
+    earlier: &[Group],
+    table: &Table,
+) -> Result<Group, PolicyFault>
+    ensures { AnswersMeaning group_view result
+        (group_of (map (λ e. string_bytes e.name) accounts.now) (map (λ e. string_bytes e.name) earlier.now)
+        (table_view table.now)) }
+{
+    only(table, &["name", "members"])?;
+    let name = new_name(alloc, table, Field::GroupName, earlier)?;
+    let members = some_names(alloc, table, "members", Field::GroupMembers, accounts)?;
+    Ok(Group { name, members })
+}
+
 /// Whether each value is a table.
 fn are_tables(values: &[Value]) -> bool
     ensures { result ≡ are_tables (items_view values.now) }
@@ -323,6 +342,21 @@ fn account_entry(
     account(alloc, policies, earlier, table)
 }
 
+#[tactic(auto, unfolding(crate::specs::Kinds::entry_in), using(crate::proofs::EntriesRead::group_names))]
+fn group_entry(
+    alloc: Global,
+    accounts: &[Account],
+    earlier: &[Group],
+    value: &Value,
+) -> Result<Group, PolicyFault>
+    ensures { AnswersMeaning group_view result
+        (entry_in Field.Group (group_in (map (λ e. string_bytes e.name) accounts.now))
+        (map group_view earlier.now) (view value.now)) }
+{
+    let table = table_of(Field::Group, value)?;
+    group(alloc, accounts, earlier, table)
+}
+
 fn algorithm_entries(alloc: Global, values: &[Value]) -> Result<Vec<Algorithm>, PolicyFault>
     ensures { AnswersMeaning (λ es. map algorithm_view es.items) result
         (entries_after (entry_in Field.Algorithm algorithm_in) [] (items_view values.now)) }
@@ -378,6 +412,23 @@ fn account_entries(
     let mut entries = Vec::new(alloc);
     for value in values {
         let entry = account_entry(alloc, policies, &entries, value)?;
+        entries.push(entry)?;
+    }
+    Ok(entries)
+}
+
+fn group_entries(
+    alloc: Global,
+    accounts: &[Account],
+    values: &[Value],
+) -> Result<Vec<Group>, PolicyFault>
+    ensures { AnswersMeaning (λ es. map group_view es.items) result
+        (entries_after (entry_in Field.Group (group_in (map (λ e. string_bytes e.name) accounts.now))) []
+        (items_view values.now)) }
+{
+    let mut entries = Vec::new(alloc);
+    for value in values {
+        let entry = group_entry(alloc, accounts, &entries, value)?;
         entries.push(entry)?;
     }
     Ok(entries)
@@ -445,4 +496,22 @@ pub(crate) fn accounts(
     };
     let values = tables(Field::Account, 64, value)?;
     account_entries(alloc, policies, values)
+}
+
+/// The array `group`, empty where it is absent.
+#[tactic(auto, unfolding(crate::specs::Kinds::array_in))]
+pub(crate) fn groups(
+    alloc: Global,
+    accounts: &[Account],
+    document: &Table,
+) -> Result<Vec<Group>, PolicyFault>
+    ensures { AnswersMeaning (λ es. map group_view es.items) result
+        (array_in Field.Group 16 (group_in (map (λ e. string_bytes e.name) accounts.now))
+        (get_member (codes "group") (table_view document.now))) }
+{
+    let Some(value) = member(document, "group") else {
+        return Ok(Vec::new(alloc));
+    };
+    let values = tables(Field::Group, 16, value)?;
+    group_entries(alloc, accounts, values)
 }

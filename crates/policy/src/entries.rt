@@ -78,3 +78,12 @@ pub struct Account {
     /// How many reservations it may have on one UTC day of genTime, void ones too, 0 to 1,000,000,000.
     pub daily_quota: u32,
 }
+
+/// Accounts with whom a deposit can be shared under one name (the array `group`).
+#[derive(Debug, Drop)]
+pub struct Group {
+    /// The name, which no other group has.
+    pub name: String,
+    /// The names of the accounts that are its members, at least one.
+    pub members: Vec<String>,
+}

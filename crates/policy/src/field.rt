@@ -63,6 +63,12 @@ pub enum Field {
     AccountPolicies,
     /// `daily_quota` of an account.
     AccountDailyQuota,
+    /// The array `group`.
+    Group,
+    /// `name` of a group.
+    GroupName,
+    /// `members` of a group.
+    GroupMembers,
 }
 
 impl Field {
@@ -99,6 +105,9 @@ impl Field {
             Field::AccountOperator => "account.operator",
             Field::AccountPolicies => "account.policies",
             Field::AccountDailyQuota => "account.daily_quota",
+            Field::Group => "group",
+            Field::GroupName => "group.name",
+            Field::GroupMembers => "group.members",
         }
     }
 }

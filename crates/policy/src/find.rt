@@ -5,7 +5,7 @@ ghost use Rattle.std.specs.Str.{bytes_eq};
 ghost use Rattle.der.specs.ObjectIdentifier.{oid_content};
 ghost use Rattle.policy.specs.Kinds.{is_among, are_distinct, is_hash};
 
-use crate::entries::{Account, Algorithm, Extension, TsaPolicy};
+use crate::entries::{Account, Algorithm, Extension, Group, TsaPolicy};
 use der::Oid;
 
 /// An entry with a name.
@@ -73,6 +73,16 @@ impl Named for TsaPolicy {
 }
 
 impl Named for Account {
+    ghost use Rattle.std.specs.Prelude.{string_bytes};
+
+    ghost name_of = { λ e. string_bytes e.name };
+
+    fn name(&self) -> &str {
+        self.name.as_str()
+    }
+}
+
+impl Named for Group {
     ghost use Rattle.std.specs.Prelude.{string_bytes};
 
     ghost name_of = { λ e. string_bytes e.name };

@@ -1,20 +1,12 @@
-ghost use Rattle.std.specs.Prelude.{◌≡◌, Option, option_map, map, string_bytes};
-ghost use Rattle.toml.specs.View.{table_view};
-ghost use Rattle.policy.specs.Answers.{AnswersMeaning};
-ghost use Rattle.policy.specs.Meaning.{meaning_of, policy_in, is_none_or_among};
-ghost use Rattle.policy.specs.View.{algorithm_view, extension_view, tsa_policy_view, account_view, policy_view};
-ghost use Rattle.policy.specs.LookUp.{account_named, account_of_key, anonymous_account, policy_named, policy_of_oid};
-ghost use Rattle.policy.specs.LookUp.{default_policy, algorithm_of_oid, extension_of_oid};
+ghost use Rattle.std.specs.Prelude.{◌≤◌, length};
 
-use crate::arrays::{accounts, algorithms, counter, extensions, tsa_policies};
-use crate::entries::{Account, Algorithm, Counter, Extension, TsaPolicy};
+use crate::document::from_table;
+use crate::entries::{Account, Algorithm, Counter, Extension, Group, TsaPolicy};
 use crate::fault::PolicyFault;
-use crate::field::Field;
-use crate::find::{find_by_hash, find_by_name, find_by_oid, has_name};
-use crate::reading::{member, only};
+use crate::find::{find_by_hash, find_by_name, find_by_oid};
+use crate::groups::GroupNames;
 use sha2::{Digest, Sha256};
 use std::alloc::Global;
-use toml::Table;
 
 /// What a policy file says.
 #[derive(Debug, Drop)]
@@ -29,9 +21,20 @@ pub struct Policy {
     pub policies: Vec<TsaPolicy>,
     /// The accounts, at most 64, in the file's order.
     pub accounts: Vec<Account>,
+    /// The groups, at most 16, in the file's order.
+    pub groups: Vec<Group>,
+    ghost few_groups: { length groups.items ≤ 16 },
 }
 
 impl Policy {
+    ghost use Rattle.std.specs.Prelude.{◌≡◌, Option, option_map};
+    ghost use Rattle.policy.specs.Answers.{AnswersMeaning};
+    ghost use Rattle.policy.specs.Meaning.{meaning_of};
+    ghost use Rattle.policy.specs.View.{algorithm_view, extension_view, tsa_policy_view, account_view, group_view};
+    ghost use Rattle.policy.specs.View.{policy_view};
+    ghost use Rattle.policy.specs.LookUp.{account_named, account_of_key, anonymous_account, policy_named, policy_of_oid};
+    ghost use Rattle.policy.specs.LookUp.{default_policy, algorithm_of_oid, extension_of_oid, group_named, groups_of};
+
     /// What the text of a policy file says, or its first fault: `Toml` where it is no TOML document, then the first of
     /// `Missing`, `BadValue`, `Duplicate`, `UnknownName` and `TooMany` in the order of the tables and of their keys.
     /// `Memory` where memory runs out.
@@ -117,43 +120,19 @@ impl Policy {
     {
         find_by_oid(&self.extensions, content)
     }
-}
 
-/// Whether the anonymous account exists, where one is named.
-fn anonymous_exists(counter: &Counter, accounts: &[Account]) -> bool
-    ensures { result ≡ is_none_or_among (map (λ e. string_bytes e.name) accounts.now)
-        (option_map string_bytes counter.now.anonymous) }
-{
-    match &counter.anonymous {
-        Some(name) => has_name(accounts, name.as_str()),
-        None => true,
+    /// The group of that name. None where no group has it. Takes no memory.
+    pub fn group_named(&self, name: &str) -> Option<&Group>
+        ensures { option_map (λ g. group_view g.now) result ≡ group_named (policy_view self.now) name.now }
+    {
+        find_by_name(&self.groups, name)
     }
-}
 
-#[tactic(auto, unfolding(crate::specs::Meaning::policy_in))]
-fn from_table(alloc: Global, document: &Table) -> Result<Policy, PolicyFault>
-    ensures { AnswersMeaning policy_view result (policy_in (table_view document.now)) }
-{
-    only(
-        document,
-        &["counter", "algorithm", "extension", "policy", "account"],
-    )?;
-    let Some(value) = member(document, "counter") else {
-        return Err(PolicyFault::Missing(Field::Counter));
-    };
-    let counter = counter(alloc, value)?;
-    let algorithms = algorithms(alloc, document)?;
-    let extensions = extensions(alloc, document)?;
-    let policies = tsa_policies(alloc, &algorithms, &extensions, document)?;
-    let accounts = accounts(alloc, &policies, document)?;
-    if !anonymous_exists(&counter, &accounts) {
-        return Err(PolicyFault::UnknownName(Field::CounterAnonymous));
+    /// The names of the groups that the account of that name is a member of, in the file's order. There are none where
+    /// no account has the name. Takes no memory.
+    pub fn groups_of(&self, account: &str) -> GroupNames<'_>
+        ensures { result ≡ groups_of (policy_view self.now) account.now }
+    {
+        GroupNames::of(&self.groups, account)
     }
-    Ok(Policy {
-        counter,
-        algorithms,
-        extensions,
-        policies,
-        accounts,
-    })
 }
