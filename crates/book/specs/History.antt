@@ -1,11 +1,12 @@
 -- The history of what the counter accepted, newest entry first, and what it says: views are filters and searches of
 -- this one list.
-use Rattle.std.specs.Prelude.{ℕ, ◌/◌, ◌==◌, ◌&&◌, max, nat_le, ℤ, int_le, int_lt, Bool, List, []}
+use Rattle.std.specs.Prelude.{ℕ, ◌/◌, ◌==◌, ◌&&◌, max, nat_le, ℤ, int_le, int_lt, Bool, true, false, List, []}
 use Rattle.std.specs.Prelude.{◌∷◌, map, filter, filter_map, find, count_by, reverse, Option, Some, None, option_map}
 use Rattle.std.specs.Prelude.{if◌then◌else◌}
 use Rattle.std.specs.List.{list_any}
 use Rattle.std.specs.Str.{bytes_eq}
 use Rattle.book.specs.Rows.{StampRow, DepositRow}
+use Rattle.book.specs.Readers.{Reader}
 
 -- What is reserved for a stamp before it is signed (RFC 3161 2.4.2): genTime in microseconds since
 -- 1970-01-01T00:00:00Z; policy and algorithm are the contents octets of object identifiers (X.690 8.19), as the tables
@@ -43,50 +44,42 @@ pub data Entry : Type 0 where
   Deposited : DepositRow → List ℕ → Entry
   Calibrated : CalibrationValue → Entry
   Held : HoldValue → Entry
-  -- an account may read the deposit with that number
-  Granted : ℕ → List ℕ → Entry
+  -- the reader may read the deposit with that number
+  Granted : ℕ → Reader → Entry
   -- it may not any more
-  Revoked : ℕ → List ℕ → Entry
+  Revoked : ℕ → Reader → Entry
 
 abbrev pub History : Type 0
 History = List Entry
 
--- What an entry adds to each kind of list.
+-- what an entry says of a right
+pub record RightValue : Type 0 where
+  pub number : ℕ
+  pub reader : Reader
+  pub is_given : Bool
+
+-- What an entry adds to each kind of list, if anything.
 abbrev pub reservation_in : Entry → Option ReservationValue
 reservation_in (Reserved r) = Some r
-reservation_in (Sealed serial token) = None
-reservation_in (Deposited d token) = None
-reservation_in (Calibrated c) = None
-reservation_in (Held h) = None
-reservation_in (Granted number account) = None
-reservation_in (Revoked number account) = None
+reservation_in _ = None
 
 abbrev pub calibration_in : Entry → Option CalibrationValue
-calibration_in (Reserved r) = None
-calibration_in (Sealed serial token) = None
-calibration_in (Deposited d token) = None
 calibration_in (Calibrated c) = Some c
-calibration_in (Held h) = None
-calibration_in (Granted number account) = None
-calibration_in (Revoked number account) = None
+calibration_in _ = None
 
 abbrev pub hold_in : Entry → Option HoldValue
-hold_in (Reserved r) = None
-hold_in (Sealed serial token) = None
-hold_in (Deposited d token) = None
-hold_in (Calibrated c) = None
 hold_in (Held h) = Some h
-hold_in (Granted number account) = None
-hold_in (Revoked number account) = None
+hold_in _ = None
 
 abbrev pub deposit_in : Entry → Option DepositRow
-deposit_in (Reserved r) = None
-deposit_in (Sealed serial token) = None
 deposit_in (Deposited d token) = Some d
-deposit_in (Calibrated c) = None
-deposit_in (Held h) = None
-deposit_in (Granted number account) = None
-deposit_in (Revoked number account) = None
+deposit_in _ = None
+
+-- a right to a deposit, given or taken
+abbrev pub right_in : Entry → Option RightValue
+right_in (Granted number reader) = Some record { number = number; reader = reader; is_given = true }
+right_in (Revoked number reader) = Some record { number = number; reader = reader; is_given = false }
+right_in _ = None
 
 -- the newest of each kind first
 abbrev pub reservations : History → List ReservationValue
@@ -100,6 +93,9 @@ holds b = filter_map hold_in b
 
 abbrev pub deposits : History → List DepositRow
 deposits b = filter_map deposit_in b
+
+abbrev pub rights : History → List RightValue
+rights b = filter_map right_in b
 
 -- the greatest serial number, 0 where none is reserved
 abbrev pub greatest_of : List ReservationValue → ℕ
@@ -139,13 +135,9 @@ is_held now b = list_any (λ h. int_le h.from now && int_lt now h.to) (holds b)
 -- the token of a serial number, where it is sealed
 abbrev pub token_of : ℕ → History → Option (List ℕ)
 token_of serial [] = None
-token_of serial (Reserved r ∷ b) = token_of serial b
 token_of serial (Sealed n token ∷ b) = if n == serial then Some token else token_of serial b
 token_of serial (Deposited d token ∷ b) = if d.serial == serial then Some token else token_of serial b
-token_of serial (Calibrated c ∷ b) = token_of serial b
-token_of serial (Held h ∷ b) = token_of serial b
-token_of serial (Granted number account ∷ b) = token_of serial b
-token_of serial (Revoked number account ∷ b) = token_of serial b
+token_of serial (_ ∷ b) = token_of serial b
 
 abbrev pub reservation_at : ℕ → History → Option ReservationValue
 reservation_at serial b = find (λ r. r.serial == serial) (reservations b)

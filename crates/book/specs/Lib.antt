@@ -1,6 +1,7 @@
 pub mod Fault
 pub mod History
 pub mod Ranges
+pub mod Readers
 pub mod Rights
 pub mod Rows
 pub mod Sound

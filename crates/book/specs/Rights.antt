@@ -1,37 +1,40 @@
--- Who sees which deposit: its owner, and its current readers, which are the accounts whose last entry about it is a
--- grant.
-use Rattle.std.specs.Prelude.{ℕ, ◌==◌, ◌&&◌, ◌||◌, Bool, true, false, List, [], ◌∷◌, filter_map, Option, Some, None}
+-- Who sees which deposit: its owner, and its current readers, which are those whose last entry about it is a grant.
+use Rattle.std.specs.Prelude.{ℕ, ◌==◌, ◌&&◌, ◌||◌, Bool, false, List, filter_map, find, Option, Some, None}
 use Rattle.std.specs.Prelude.{option_map, option_and_then, if◌then◌else◌}
 use Rattle.std.specs.Option.{is_some}
-use Rattle.std.specs.List.{range_with_len}
+use Rattle.std.specs.List.{list_any, range_with_len}
 use Rattle.std.specs.Str.{bytes_eq}
 use Rattle.book.specs.Rows.{DepositRow, StampRow}
-use Rattle.book.specs.History.{Reserved, Sealed, Deposited, Calibrated, Held, Granted, Revoked, History}
-use Rattle.book.specs.History.{ReservationValue, greatest_serial, reservation_at, deposit_at, stamp_at}
+use Rattle.book.specs.Readers.{Reader, is_same, Viewer, readers_as}
+use Rattle.book.specs.History.{History, RightValue, rights, ReservationValue, greatest_serial, reservation_at}
+use Rattle.book.specs.History.{deposit_at, stamp_at}
 
--- whether the last entry about the deposit and the account is a grant
-abbrev pub is_reader : ℕ → List ℕ → History → Bool
-is_reader number account [] = false
-is_reader number account (Reserved r ∷ b) = is_reader number account b
-is_reader number account (Sealed serial token ∷ b) = is_reader number account b
-is_reader number account (Deposited d token ∷ b) = is_reader number account b
-is_reader number account (Calibrated c ∷ b) = is_reader number account b
-is_reader number account (Held h ∷ b) = is_reader number account b
-is_reader number account (Granted n a ∷ b) =
-    if (n == number) && bytes_eq a account then true else is_reader number account b
-is_reader number account (Revoked n a ∷ b) =
-    if (n == number) && bytes_eq a account then false else is_reader number account b
+-- the right is this reader's to this deposit
+abbrev pub is_about : ℕ → Reader → RightValue → Bool
+is_about number reader right = (right.number == number) && is_same right.reader reader
 
--- a deposit, for an account that is a reader of it or isn't
-abbrev pub shown_to : List ℕ → Bool → DepositRow → Option DepositRow
-shown_to account reader d = if bytes_eq d.owner account || reader then Some d else None
+abbrev pub gives : Option RightValue → Bool
+gives None = false
+gives (Some right) = right.is_given
 
--- the one word for who sees what: the deposit with that number, where it is visible to the account, and else nothing
-abbrev pub seen_by : List ℕ → ℕ → History → Option DepositRow
-seen_by account number b = option_and_then (shown_to account (is_reader number account b)) (deposit_at number b)
+-- whether the last entry about the deposit and the reader is a grant
+abbrev pub is_reader : ℕ → Reader → History → Bool
+is_reader number reader b = gives (find (is_about number reader) (rights b))
 
-abbrev pub is_visible : List ℕ → ℕ → History → Bool
-is_visible account number b = is_some (seen_by account number b)
+-- whether who asks reads the deposit, as one of its current readers
+abbrev pub may_read : Viewer → ℕ → History → Bool
+may_read viewer number b = list_any (λ reader. is_reader number reader b) (readers_as viewer)
+
+-- a deposit, for who reads it or doesn't
+abbrev pub shown_to : Viewer → Bool → DepositRow → Option DepositRow
+shown_to viewer reads d = if bytes_eq d.owner viewer.name || reads then Some d else None
+
+-- the one word for who sees what: the deposit with that number, where it is visible to who asks, and else nothing
+abbrev pub seen_by : Viewer → ℕ → History → Option DepositRow
+seen_by viewer number b = option_and_then (shown_to viewer (may_read viewer number b)) (deposit_at number b)
+
+abbrev pub is_visible : Viewer → ℕ → History → Bool
+is_visible viewer number b = is_some (seen_by viewer number b)
 
 -- what a list shows of a deposit
 pub record ListedValue : Type 0 where
@@ -43,14 +46,14 @@ pub record ListedValue : Type 0 where
 abbrev pub listed_as : DepositRow → ReservationValue → ListedValue
 listed_as d r = record { number = d.serial; owner = d.owner; reference = d.reference; gen_time = r.gen_time }
 
--- a deposit that the account sees, with the genTime of its stamp
-abbrev pub listed_at : List ℕ → History → ℕ → Option ListedValue
-listed_at account b number =
-    option_and_then (λ d. option_map (listed_as d) (reservation_at number b)) (seen_by account number b)
+-- a deposit that who asks sees, with the genTime of its stamp
+abbrev pub listed_at : Viewer → History → ℕ → Option ListedValue
+listed_at viewer b number =
+    option_and_then (λ d. option_map (listed_as d) (reservation_at number b)) (seen_by viewer number b)
 
--- all that an account sees, by number
-abbrev pub listed : List ℕ → History → List ListedValue
-listed account b = filter_map (listed_at account b) (range_with_len 1 (greatest_serial b))
+-- all that who asks sees, by number
+abbrev pub listed : Viewer → History → List ListedValue
+listed viewer b = filter_map (listed_at viewer b) (range_with_len 1 (greatest_serial b))
 
 -- a deposit with its stamp
 abbrev pub deposit_with_stamp : ℕ → History → Option (DepositRow × StampRow)

@@ -47,8 +47,8 @@ Fits (Sealed serial token) b = FitsSealed serial b
 Fits (Deposited d token) b = FitsDeposited d b
 Fits (Calibrated c) b = c.uncertainty ≤ 1_000_000_000_000
 Fits (Held h) b = h.from <ℤ h.to
-Fits (Granted number account) b = FitsRight number b
-Fits (Revoked number account) b = FitsRight number b
+Fits (Granted number reader) b = FitsRight number b
+Fits (Revoked number reader) b = FitsRight number b
 
 abbrev pub IsSound : History → Type 0
 IsSound b = Along Fits b

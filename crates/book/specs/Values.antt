@@ -10,6 +10,7 @@ use Rattle.book.specs.declared.values.Hold.{Hold}
 use Rattle.book.specs.declared.values.Last.{Last}
 use Rattle.book.specs.declared.values.Listed.{Listed}
 use Rattle.book.specs.declared.values.StampedDeposit.{StampedDeposit}
+use Rattle.book.specs.Readers.{Viewer}
 use Rattle.book.specs.Rights.{ListedValue}
 
 abbrev pub reservation_view : Reservation → ReservationValue
@@ -29,6 +30,10 @@ calibration_view c = record { reading = c.reading; offset = c.offset; uncertaint
 
 abbrev pub hold_view : Hold → HoldValue
 hold_view h = record { from = h.from; to = h.to }
+
+-- an account that asks, and its groups
+abbrev pub viewer_of : List ℕ → List (List ℕ) → Viewer
+viewer_of name groups = record { name = name; groups = groups }
 
 abbrev pub last_of : History → Last
 last_of b = record { serial = greatest_serial b; gen_time = last_gen_time b }

@@ -3,12 +3,13 @@ ghost use Rattle.std.specs.Prelude.{◌≡◌, ◌⊎◌, ◌∷◌, ◌<◌, �
 ghost use Rattle.std.specs.Prelude.{IsErr, OnOk, OnErr, MatchResult};
 ghost use Rattle.book.specs.History.{History, Reserved, Sealed, Deposited, Calibrated, Held, Granted, Revoked};
 ghost use Rattle.book.specs.History.{count_of_day, latest_calibration, is_held, deposit_under};
+ghost use Rattle.book.specs.Readers.{Account, Group};
 ghost use Rattle.book.specs.Rights.{is_reader, is_visible, listed, deposit_with_stamp};
 ghost use Rattle.book.specs.Sound.{Fits, IsSpent, IsBackwards};
 ghost use Rattle.book.specs.Stands.{Stands, OnlyLooks, LeavesOrAdds, LeavesAsBefore};
 ghost use Rattle.book.specs.Fault.{count_after};
 ghost use Rattle.book.specs.Values.{reservation_view, calibration_view, hold_view, last_of, calibration_option};
-ghost use Rattle.book.specs.Values.{deposit_of, stamped_view, listed_view, deposit_view};
+ghost use Rattle.book.specs.Values.{deposit_of, stamped_view, listed_view, deposit_view, viewer_of};
 ghost use Rattle.book.specs.Ranges.{IsNextStamp, IsWithin};
 
 use crate::fault::StoreFault;
@@ -129,13 +130,14 @@ pub trait Book: Standing {
         ensures faults { MatchResult result (λ _. Self.fault_count self.new ≡ Self.fault_count self.old)
             (λ e. Self.fault_count self.new ≡ count_after e (Self.fault_count self.old)) };
 
-    /// Whether there is a deposit with a number that the account sees, as its owner or as a reader. No deposit's bytes
-    /// are read.
-    fn visible(&mut self, number: u64, account: &str) -> Result<bool, StoreFault>
+    /// Whether there is a deposit with a number that the account sees, as its owner, or as a reader, by its own name or
+    /// in one of the groups that are named. No deposit's bytes are read.
+    fn visible(&mut self, number: u64, account: &str, groups: &[&str]) -> Result<bool, StoreFault>
         ensures looks { OnlyLooks Self.Standing self.old self.new }
         ensures opened { Self.honest self.new → OnOk result (Self.is_open self.old) }
         ensures value { Self.honest self.new → (b : History) → Stands Self.Standing b self.old
-            → IfOk result (λ visible. visible ≡ is_visible account.now number b) }
+            → IfOk result (λ visible.
+            visible ≡ is_visible (viewer_of account.now (map (λ name. name.now) groups.now)) number b) }
         ensures refusals { IfErr result (λ e. (e ≡ StoreFault.Memory) ⊎ (e ≡ StoreFault.Database)) }
         ensures faults { MatchResult result (λ _. Self.fault_count self.new ≡ Self.fault_count self.old)
             (λ e. Self.fault_count self.new ≡ count_after e (Self.fault_count self.old)) };
@@ -150,13 +152,14 @@ pub trait Book: Standing {
         ensures faults { MatchResult result (λ _. Self.fault_count self.new ≡ Self.fault_count self.old)
             (λ e. Self.fault_count self.new ≡ count_after e (Self.fault_count self.old)) };
 
-    /// The deposits that an account sees, as their owner or as a reader, by number, each once. No deposit's bytes are
-    /// read.
-    fn list(&mut self, account: &str) -> Result<Vec<Listed>, StoreFault>
+    /// The deposits that an account sees, as their owner, or as a reader, by its own name or in one of the groups that
+    /// are named; by number, each once. No deposit's bytes are read.
+    fn list(&mut self, account: &str, groups: &[&str]) -> Result<Vec<Listed>, StoreFault>
         ensures looks { OnlyLooks Self.Standing self.old self.new }
         ensures opened { Self.honest self.new → OnOk result (Self.is_open self.old) }
         ensures value { Self.honest self.new → (b : History) → Stands Self.Standing b self.old
-            → IfOk result (λ rows. map listed_view rows.items ≡ listed account.now b) }
+            → IfOk result (λ rows. map listed_view rows.items
+            ≡ listed (viewer_of account.now (map (λ name. name.now) groups.now)) b) }
         ensures refusals { IfErr result (λ e. (e ≡ StoreFault.Memory) ⊎ (e ≡ StoreFault.Database)) }
         ensures faults { MatchResult result (λ _. Self.fault_count self.new ≡ Self.fault_count self.old)
             (λ e. Self.fault_count self.new ≡ count_after e (Self.fault_count self.old)) };
@@ -166,12 +169,12 @@ pub trait Book: Standing {
     fn grant(&mut self, number: u64, account: &str) -> Result<(), StoreFault>
         ensures honest { Self.honest self.new → Self.honest self.old }
         ensures opened { Self.honest self.new → OnOk result (Self.is_open self.old × Self.is_open self.new) }
-        ensures ok { (b : History) → Stands Self.Standing b self.old → Fits (Granted number account.now) b
-            → OnOk result (Stands Self.Standing (Granted number account.now ∷ b) self.new) }
+        ensures ok { (b : History) → Stands Self.Standing b self.old → Fits (Granted number (Account account.now)) b
+            → OnOk result (Stands Self.Standing (Granted number (Account account.now) ∷ b) self.new) }
         ensures err { (b : History) → Stands Self.Standing b self.old → OnErr result (Stands Self.Standing b self.new) }
-        ensures crash { LeavesOrAdds Self.Standing (Granted number account.now) self.old self.new }
-        ensures repeated { (b : History) → Stands Self.Standing b self.old → is_reader number account.now b ≡ true
-            → OnOk result (Stands Self.Standing b self.new) }
+        ensures crash { LeavesOrAdds Self.Standing (Granted number (Account account.now)) self.old self.new }
+        ensures repeated { (b : History) → Stands Self.Standing b self.old
+            → is_reader number (Account account.now) b ≡ true → OnOk result (Stands Self.Standing b self.new) }
         ensures refusals { IfErr result (λ e. (e ≡ StoreFault.Memory) ⊎ (e ≡ StoreFault.Database)) }
         ensures faults { MatchResult result (λ _. Self.fault_count self.new ≡ Self.fault_count self.old)
             (λ e. Self.fault_count self.new ≡ count_after e (Self.fault_count self.old)) };
@@ -181,12 +184,42 @@ pub trait Book: Standing {
     fn revoke(&mut self, number: u64, account: &str) -> Result<(), StoreFault>
         ensures honest { Self.honest self.new → Self.honest self.old }
         ensures opened { Self.honest self.new → OnOk result (Self.is_open self.old × Self.is_open self.new) }
-        ensures ok { (b : History) → Stands Self.Standing b self.old → Fits (Revoked number account.now) b
-            → OnOk result (Stands Self.Standing (Revoked number account.now ∷ b) self.new) }
+        ensures ok { (b : History) → Stands Self.Standing b self.old → Fits (Revoked number (Account account.now)) b
+            → OnOk result (Stands Self.Standing (Revoked number (Account account.now) ∷ b) self.new) }
         ensures err { (b : History) → Stands Self.Standing b self.old → OnErr result (Stands Self.Standing b self.new) }
-        ensures crash { LeavesOrAdds Self.Standing (Revoked number account.now) self.old self.new }
-        ensures unneeded { (b : History) → Stands Self.Standing b self.old → is_reader number account.now b ≡ false
-            → OnOk result (Stands Self.Standing b self.new) }
+        ensures crash { LeavesOrAdds Self.Standing (Revoked number (Account account.now)) self.old self.new }
+        ensures unneeded { (b : History) → Stands Self.Standing b self.old
+            → is_reader number (Account account.now) b ≡ false → OnOk result (Stands Self.Standing b self.new) }
+        ensures refusals { IfErr result (λ e. (e ≡ StoreFault.Memory) ⊎ (e ≡ StoreFault.Database)) }
+        ensures faults { MatchResult result (λ _. Self.fault_count self.new ≡ Self.fault_count self.old)
+            (λ e. Self.fault_count self.new ≡ count_after e (Self.fault_count self.old)) };
+
+    /// Lets each member of a group read a deposit, from now on. The caller's condition is that the number is a
+    /// deposit's. A right that the group has already is accepted again, and nothing changes.
+    fn grant_group(&mut self, number: u64, name: &str) -> Result<(), StoreFault>
+        ensures honest { Self.honest self.new → Self.honest self.old }
+        ensures opened { Self.honest self.new → OnOk result (Self.is_open self.old × Self.is_open self.new) }
+        ensures ok { (b : History) → Stands Self.Standing b self.old → Fits (Granted number (Group name.now)) b
+            → OnOk result (Stands Self.Standing (Granted number (Group name.now) ∷ b) self.new) }
+        ensures err { (b : History) → Stands Self.Standing b self.old → OnErr result (Stands Self.Standing b self.new) }
+        ensures crash { LeavesOrAdds Self.Standing (Granted number (Group name.now)) self.old self.new }
+        ensures repeated { (b : History) → Stands Self.Standing b self.old
+            → is_reader number (Group name.now) b ≡ true → OnOk result (Stands Self.Standing b self.new) }
+        ensures refusals { IfErr result (λ e. (e ≡ StoreFault.Memory) ⊎ (e ≡ StoreFault.Database)) }
+        ensures faults { MatchResult result (λ _. Self.fault_count self.new ≡ Self.fault_count self.old)
+            (λ e. Self.fault_count self.new ≡ count_after e (Self.fault_count self.old)) };
+
+    /// Takes the right to read a deposit from a group, from now on. The caller's condition is that the number is a
+    /// deposit's. A right that the group doesn't have may be taken all the same, and nothing changes.
+    fn revoke_group(&mut self, number: u64, name: &str) -> Result<(), StoreFault>
+        ensures honest { Self.honest self.new → Self.honest self.old }
+        ensures opened { Self.honest self.new → OnOk result (Self.is_open self.old × Self.is_open self.new) }
+        ensures ok { (b : History) → Stands Self.Standing b self.old → Fits (Revoked number (Group name.now)) b
+            → OnOk result (Stands Self.Standing (Revoked number (Group name.now) ∷ b) self.new) }
+        ensures err { (b : History) → Stands Self.Standing b self.old → OnErr result (Stands Self.Standing b self.new) }
+        ensures crash { LeavesOrAdds Self.Standing (Revoked number (Group name.now)) self.old self.new }
+        ensures unneeded { (b : History) → Stands Self.Standing b self.old
+            → is_reader number (Group name.now) b ≡ false → OnOk result (Stands Self.Standing b self.new) }
         ensures refusals { IfErr result (λ e. (e ≡ StoreFault.Memory) ⊎ (e ≡ StoreFault.Database)) }
         ensures faults { MatchResult result (λ _. Self.fault_count self.new ≡ Self.fault_count self.old)
             (λ e. Self.fault_count self.new ≡ count_after e (Self.fault_count self.old)) };
