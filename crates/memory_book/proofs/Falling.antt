@@ -3,7 +3,7 @@ use Rattle.std.proofs.Common.{◌≡◌, ℕ, ◌==◌, ◌<◌, ◌≤◌, max,
 use Rattle.std.proofs.Common.{refl, arith, inl, inr}
 use Rattle.std.proofs.Math.Nat.{le-max_left, le-max_right}
 use Rattle.std.proofs.lemmas.Bool.Decides.{eqb_tells}
-use Rattle.book.specs.History.{Reserved, Sealed, Deposited, Calibrated, Held, Granted, Revoked, History}
+use Rattle.book.specs.History.{Reserved, History}
 use Rattle.book.specs.History.{ReservationValue, reservations, greatest_of}
 use Rattle.book.specs.Sound.{IsSound, greatest_number}
 
@@ -14,12 +14,7 @@ Falls (r ∷ rs) = (greatest_of rs < r.serial) × (r.serial ≤ greatest_number)
 pub reservations_fall : (b : History) → IsSound b → Falls (reservations b)
 reservations_fall [] s = tt
 reservations_fall (Reserved r ∷ b) s = (s.0.rises, s.0.within, reservations_fall b s.1)
-reservations_fall (Sealed n token ∷ b) s = reservations_fall b s.1
-reservations_fall (Deposited d token ∷ b) s = reservations_fall b s.1
-reservations_fall (Calibrated c ∷ b) s = reservations_fall b s.1
-reservations_fall (Held h ∷ b) s = reservations_fall b s.1
-reservations_fall (Granted n a ∷ b) s = reservations_fall b s.1
-reservations_fall (Revoked n a ∷ b) s = reservations_fall b s.1
+reservations_fall (_ ∷ b) s = reservations_fall b s.1
 
 pub first_is_greatest : (r : ReservationValue) (rs : List ReservationValue) → greatest_of rs < r.serial
     → greatest_of (r ∷ rs) ≡ r.serial

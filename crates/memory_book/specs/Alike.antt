@@ -1,6 +1,7 @@
 -- Histories that say the same.
-use Rattle.std.specs.Prelude.{◌≡◌, ℕ, List}
+use Rattle.std.specs.Prelude.{◌≡◌, ℕ}
 use Rattle.book.specs.History.{History, reservations, calibrations, holds, deposits, token_of}
+use Rattle.book.specs.Readers.{Reader}
 use Rattle.book.specs.Rights.{is_reader}
 
 -- All that a book is asked is said by these.
@@ -10,4 +11,4 @@ pub record SayTheSame (b d : History) : Type 0 where
   pub holds : holds b ≡ holds d
   pub deposits : deposits b ≡ deposits d
   pub tokens : (serial : ℕ) → token_of serial b ≡ token_of serial d
-  pub readers : (number : ℕ) (account : List ℕ) → is_reader number account b ≡ is_reader number account d
+  pub readers : (number : ℕ) (reader : Reader) → is_reader number reader b ≡ is_reader number reader d

@@ -1,9 +1,10 @@
--- What a list shows an account, by way of the reservations.
-use Rattle.std.specs.Prelude.{ℕ, List, [], ◌∷◌, ◌++◌, option_to_list}
+-- What a list shows who asks, by way of the reservations.
+use Rattle.std.specs.Prelude.{List, [], ◌∷◌, ◌++◌, option_to_list}
 use Rattle.book.specs.History.{History, ReservationValue}
+use Rattle.book.specs.Readers.{Viewer}
 use Rattle.book.specs.Rights.{ListedValue, listed_at}
 
--- what of the reservations, the newest first, the account sees of a history, the oldest first
-abbrev pub listed_along : List ℕ → History → List ReservationValue → List ListedValue
-listed_along account b [] = []
-listed_along account b (r ∷ rs) = listed_along account b rs ++ option_to_list (listed_at account b r.serial)
+-- what of the reservations, the newest first, who asks sees of a history, the oldest first
+abbrev pub listed_along : Viewer → History → List ReservationValue → List ListedValue
+listed_along viewer b [] = []
+listed_along viewer b (r ∷ rs) = listed_along viewer b rs ++ option_to_list (listed_at viewer b r.serial)

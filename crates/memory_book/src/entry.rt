@@ -2,7 +2,9 @@
 ghost use Rattle.std.specs.Prelude.{◌≡◌, option_map};
 ghost use Rattle.book.specs.History.{reservation_in, calibration_in, hold_in, deposit_in};
 ghost use Rattle.book.specs.Values.{calibration_view, hold_view, deposit_view};
-ghost use Rattle.memory_book.specs.Entries.{reservation_value, entry_view, token_in, right_in};
+ghost use Rattle.book.specs.Readers.{is_same};
+ghost use Rattle.memory_book.specs.Entries.{reservation_value, reader_view, reader_named, entry_view, token_in};
+ghost use Rattle.memory_book.specs.Entries.{right_about};
 
 use book::{Calibration, Deposit, Hold};
 
@@ -19,6 +21,33 @@ pub(crate) struct OwnedReservation {
     pub tst: Vec<u8>,
 }
 
+/// Whom a right names: an account or a group.
+#[derive(Debug, Drop)]
+pub(crate) enum OwnedReader {
+    Account(String),
+    Group(String),
+}
+
+/// An account or a group, by its name.
+#[derive(Clone, Copy, Debug)]
+pub(crate) enum ReaderName<'a> {
+    Account(&'a str),
+    Group(&'a str),
+}
+
+impl OwnedReader {
+    /// Whether both are accounts or both are groups, and of one name.
+    pub(crate) fn is_named(&self, reader: ReaderName<'_>) -> bool
+        ensures { result ≡ is_same (reader_view self.now) (reader_named reader.entry) }
+    {
+        match (self, reader) {
+            (OwnedReader::Account(name), ReaderName::Account(other)) => name.as_str() == other,
+            (OwnedReader::Group(name), ReaderName::Group(other)) => name.as_str() == other,
+            _ => false,
+        }
+    }
+}
+
 /// An entry of a history.
 #[derive(Debug, Drop)]
 pub(crate) enum OwnedEntry {
@@ -29,10 +58,10 @@ pub(crate) enum OwnedEntry {
     Deposit(Deposit, Vec<u8>),
     Calibration(Calibration),
     Hold(Hold),
-    /// A deposit's number, and the account that may read it.
-    Grant(u64, String),
-    /// A deposit's number, and the account that may not read it any more.
-    Revocation(u64, String),
+    /// A deposit's number, and who may read it.
+    Grant(u64, OwnedReader),
+    /// A deposit's number, and who may not read it any more.
+    Revocation(u64, OwnedReader),
 }
 
 impl OwnedEntry {
@@ -85,17 +114,13 @@ impl OwnedEntry {
         }
     }
 
-    /// Whether the entry lets the account read the deposit, if it is about both.
-    pub(crate) fn right_of(&self, number: u64, account: &str) -> Option<bool>
-        ensures { result ≡ right_in number account.now (entry_view self.now) }
+    /// Whether the entry lets the reader read the deposit, if it is about both.
+    pub(crate) fn right_of(&self, number: u64, reader: ReaderName<'_>) -> Option<bool>
+        ensures { result ≡ right_about number (reader_named reader.entry) (entry_view self.now) }
     {
         match self {
-            OwnedEntry::Grant(n, reader) if *n == number && reader.as_str() == account => Some(
-                true,
-            ),
-            OwnedEntry::Revocation(n, reader) if *n == number && reader.as_str() == account => Some(
-                false,
-            ),
+            OwnedEntry::Grant(n, to) if *n == number && to.is_named(reader) => Some(true),
+            OwnedEntry::Revocation(n, from) if *n == number && from.is_named(reader) => Some(false),
             _ => None,
         }
     }

@@ -7,6 +7,7 @@ mod entry;
 mod laws;
 mod listing;
 mod memory_book;
+mod rights;
 mod views;
 
 pub use laws::one_history_is_kept;

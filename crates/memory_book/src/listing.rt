@@ -4,21 +4,29 @@ ghost use Rattle.book.specs.History.{reservations, deposit_under};
 ghost use Rattle.book.specs.Rights.{seen_by, is_visible, listed_at, deposit_with_stamp};
 ghost use Rattle.book.specs.Sound.{IsBackwards};
 ghost use Rattle.book.specs.Values.{calibration_view, calibration_option, deposit_view, listed_view, stamped_view};
+ghost use Rattle.book.specs.Values.{viewer_of};
 ghost use Rattle.memory_book.specs.Entries.{history_of};
 ghost use Rattle.memory_book.specs.Listing.{listed_along};
 
 use crate::copies::{deposit_of, stamp_of, text_of};
 use crate::entry::OwnedEntry;
-use crate::views::{deposit_at, deposit_under, is_reader, reservation_at, token_of};
+use crate::rights::may_read;
+use crate::views::{deposit_at, deposit_under, reservation_at, token_of};
 use book::{Calibration, Deposit, Listed, StampedDeposit, StoreFault};
 use std::alloc::Global;
 
 /// The deposit with a number, if the account sees it.
-fn seen_by<'a>(entries: &'a [OwnedEntry], number: u64, account: &str) -> Option<&'a Deposit>
-    ensures { option_map (λ d. deposit_view d.now) result ≡ seen_by account.now number (history_of entries.now) }
+fn seen_by<'a>(
+    entries: &'a [OwnedEntry],
+    number: u64,
+    account: &str,
+    groups: &[&str],
+) -> Option<&'a Deposit>
+    ensures { option_map (λ d. deposit_view d.now) result
+        ≡ seen_by (viewer_of account.now (map (λ name. name.now) groups.now)) number (history_of entries.now) }
 {
     let deposit = deposit_at(entries, number)?;
-    if deposit.owner.as_str() == account || is_reader(entries, number, account) {
+    if deposit.owner.as_str() == account || may_read(entries, number, account, groups) {
         Some(deposit)
     } else {
         None
@@ -26,10 +34,16 @@ fn seen_by<'a>(entries: &'a [OwnedEntry], number: u64, account: &str) -> Option<
 }
 
 /// Whether there is a deposit with a number that the account sees.
-pub(crate) fn is_visible(entries: &[OwnedEntry], number: u64, account: &str) -> bool
-    ensures { result ≡ is_visible account.now number (history_of entries.now) }
+pub(crate) fn is_visible(
+    entries: &[OwnedEntry],
+    number: u64,
+    account: &str,
+    groups: &[&str],
+) -> bool
+    ensures { result
+        ≡ is_visible (viewer_of account.now (map (λ name. name.now) groups.now)) number (history_of entries.now) }
 {
-    seen_by(entries, number, account).is_some()
+    seen_by(entries, number, account, groups).is_some()
 }
 
 /// The deposit of an owner under a reference.
@@ -55,12 +69,14 @@ fn listed_at(
     entries: &[OwnedEntry],
     number: u64,
     account: &str,
+    groups: &[&str],
 ) -> Result<Option<Listed>, StoreFault>
     ensures { MatchResult result
-        (λ found. option_map listed_view found ≡ listed_at account.now (history_of entries.now) number)
+        (λ found. option_map listed_view found
+        ≡ listed_at (viewer_of account.now (map (λ name. name.now) groups.now)) (history_of entries.now) number)
         (λ e. e ≡ StoreFault.Memory) }
 {
-    let Some(deposit) = seen_by(entries, number, account) else {
+    let Some(deposit) = seen_by(entries, number, account, groups) else {
         return Ok(None);
     };
     let Some(reservation) = reservation_at(entries, number) else {
@@ -79,16 +95,18 @@ pub(crate) fn listed(
     alloc: Global,
     entries: &[OwnedEntry],
     account: &str,
+    groups: &[&str],
 ) -> Result<Vec<Listed>, StoreFault>
     ensures { MatchResult result
         (λ rows. map listed_view rows.items
-        ≡ listed_along account.now (history_of entries.now) (reservations (history_of entries.now)))
+        ≡ listed_along (viewer_of account.now (map (λ name. name.now) groups.now)) (history_of entries.now)
+        (reservations (history_of entries.now)))
         (λ e. e ≡ StoreFault.Memory) }
 {
     let mut rows = Vec::new(alloc);
     for entry in entries {
         if let Some(reservation) = entry.reservation() {
-            if let Some(row) = listed_at(alloc, entries, reservation.serial, account)? {
+            if let Some(row) = listed_at(alloc, entries, reservation.serial, account, groups)? {
                 add_first(&mut rows, row)?;
             }
         }

@@ -5,11 +5,11 @@ ghost use Rattle.book.specs.Stands.{Stands};
 
 use crate::calls::Calls;
 use crate::copies::{add, octets_of, reservation_of, stamp_of, text_of};
-use crate::entry::OwnedEntry;
+use crate::entry::{OwnedEntry, ReaderName};
 use crate::listing::{by_reference, is_backwards, is_visible, listed, stamped_deposit};
+use crate::rights::{grant, revoke};
 use crate::views::{
-    count_of_day, greatest_serial, is_held, is_reader, last_of, latest_calibration, oldest_within,
-    token_of,
+    count_of_day, greatest_serial, is_held, last_of, latest_calibration, oldest_within, token_of,
 };
 use book::{
     Book, Calibration, Deposit, Hold, Last, Listed, Reservation, Stamp, StampedDeposit, Standing,
@@ -127,9 +127,9 @@ impl Book for MemoryBook {
         stamped_deposit(self.alloc, self.entries.as_slice(), number)
     }
 
-    fn visible(&mut self, number: u64, account: &str) -> Result<bool, StoreFault> {
+    fn visible(&mut self, number: u64, account: &str, groups: &[&str]) -> Result<bool, StoreFault> {
         self.calls.begin()?;
-        Ok(is_visible(self.entries.as_slice(), number, account))
+        Ok(is_visible(self.entries.as_slice(), number, account, groups))
     }
 
     fn by_reference(
@@ -141,27 +141,33 @@ impl Book for MemoryBook {
         by_reference(self.alloc, self.entries.as_slice(), owner, reference)
     }
 
-    fn list(&mut self, account: &str) -> Result<Vec<Listed>, StoreFault> {
+    fn list(&mut self, account: &str, groups: &[&str]) -> Result<Vec<Listed>, StoreFault> {
         self.calls.begin()?;
-        listed(self.alloc, self.entries.as_slice(), account)
+        listed(self.alloc, self.entries.as_slice(), account, groups)
     }
 
     fn grant(&mut self, number: u64, account: &str) -> Result<(), StoreFault> {
         self.calls.begin()?;
-        if is_reader(self.entries.as_slice(), number, account) {
-            return Ok(());
-        }
-        let account = text_of(self.alloc, account)?;
-        add(&mut self.entries, OwnedEntry::Grant(number, account))
+        let to = ReaderName::Account(account);
+        grant(self.alloc, &mut self.entries, number, to)
     }
 
     fn revoke(&mut self, number: u64, account: &str) -> Result<(), StoreFault> {
         self.calls.begin()?;
-        if !is_reader(self.entries.as_slice(), number, account) {
-            return Ok(());
-        }
-        let account = text_of(self.alloc, account)?;
-        add(&mut self.entries, OwnedEntry::Revocation(number, account))
+        let from = ReaderName::Account(account);
+        revoke(self.alloc, &mut self.entries, number, from)
+    }
+
+    fn grant_group(&mut self, number: u64, name: &str) -> Result<(), StoreFault> {
+        self.calls.begin()?;
+        let to = ReaderName::Group(name);
+        grant(self.alloc, &mut self.entries, number, to)
+    }
+
+    fn revoke_group(&mut self, number: u64, name: &str) -> Result<(), StoreFault> {
+        self.calls.begin()?;
+        let from = ReaderName::Group(name);
+        revoke(self.alloc, &mut self.entries, number, from)
     }
 
     fn calibrate(&mut self, calibration: &Calibration) -> Result<(), StoreFault> {

@@ -3,7 +3,6 @@ ghost use Rattle.std.specs.Prelude.{◌≡◌, option_map, IfSome};
 ghost use Rattle.book.specs.History.{reservations, reservation_at, token_of, deposit_at, deposit_under, first_of};
 ghost use Rattle.book.specs.History.{latest_calibration, is_held, count_of_day, greatest_serial};
 ghost use Rattle.book.specs.Ranges.{IsWithin};
-ghost use Rattle.book.specs.Rights.{is_reader};
 ghost use Rattle.book.specs.Values.{calibration_option, deposit_view, last_of};
 ghost use Rattle.memory_book.specs.Entries.{history_of, reservation_value};
 ghost use Rattle.memory_book.specs.Ranges.{oldest_within};
@@ -108,18 +107,6 @@ pub(crate) fn deposit_under<'a>(
         }
     }
     None
-}
-
-/// Whether the last entry about the deposit and the account is a grant.
-pub(crate) fn is_reader(entries: &[OwnedEntry], number: u64, account: &str) -> bool
-    ensures { result ≡ is_reader number account.now (history_of entries.now) }
-{
-    for entry in entries {
-        if let Some(reads) = entry.right_of(number, account) {
-            return reads;
-        }
-    }
-    false
 }
 
 /// The latest calibration.

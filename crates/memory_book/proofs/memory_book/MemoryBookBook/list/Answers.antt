@@ -1,5 +1,6 @@
-use Rattle.std.proofs.Common.{ap, ◌∙◌}
+use Rattle.std.proofs.Common.{map, ap, ◌∙◌}
 use Rattle.book.specs.History.{History, reservations}
+use Rattle.book.specs.Values.{viewer_of}
 use Rattle.memory_book.specs.Entries.{history_of}
 use Rattle.memory_book.specs.Listing.{listed_along}
 use Rattle.memory_book.proofs.Changes.{if_ok}
@@ -9,8 +10,9 @@ use Rattle.memory_book.proofs.memory_book.MemoryBookBook.list.Goals as goal
 
 pub returns-clause-value : goal.returns-clause-value
 returns-clause-value c honest b s =
+    let viewer = viewer_of c.args.account.now (map (λ name. name.now) c.args.groups.now) in
     if_ok _ _ _ c.listed.result c.listed.ensures
     (λ rows is. is
-    ∙ ap (λ (d : History). listed_along c.args.account.now d (reservations d))
+    ∙ ap (λ (d : History). listed_along viewer d (reservations d))
     (ap history_of c.as_slice.ensures.value ∙ s.kept)
-    ∙ same_listed c.args.account.now b ∙ listed_is c.args.account.now b s.sound)
+    ∙ same_listed viewer b ∙ listed_is viewer b s.sound)

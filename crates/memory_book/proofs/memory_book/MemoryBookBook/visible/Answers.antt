@@ -1,11 +1,13 @@
-use Rattle.std.proofs.Common.{ap, ◌∙◌}
+use Rattle.std.proofs.Common.{map, ap, ◌∙◌}
 use Rattle.book.specs.Rights.{is_visible}
+use Rattle.book.specs.Values.{viewer_of}
 use Rattle.memory_book.specs.Entries.{history_of}
 use Rattle.memory_book.proofs.SameViews.{told, same_visible}
 use Rattle.memory_book.proofs.memory_book.MemoryBookBook.visible.Goals as goal
 
 pub returns-clause-value : goal.returns-clause-value
 returns-clause-value c honest b s =
+    let viewer = viewer_of c.args.account.now (map (λ name. name.now) c.args.groups.now) in
     c.is_visible.ensures
-    ∙ told (is_visible c.args.account.now c.args.number) _ b (ap history_of c.as_slice.ensures.value ∙ s.kept)
-    (same_visible c.args.account.now c.args.number b)
+    ∙ told (is_visible viewer c.args.number) _ b (ap history_of c.as_slice.ensures.value ∙ s.kept)
+    (same_visible viewer c.args.number b)
