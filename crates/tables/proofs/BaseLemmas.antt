@@ -12,7 +12,7 @@ use Rattle.tables.specs.Opening.{IsFound, Creates}
 use Rattle.tables.specs.Schema.{no_schema}
 use Rattle.tables.specs.Tables.{Tables, no_rows}
 use Rattle.tables.specs.Base.{StandsFor}
-use Rattle.tables.specs.Holding.{Holds, IsStored, IsDatabaseOf}
+use Rattle.tables.specs.Holding.{IsStored, IsDatabaseOf}
 use Rattle.tables.proofs.CommitLemmas.{stored}
 use Rattle.tables.specs.Carrying.{Commits}
 
@@ -24,8 +24,7 @@ pub stands : {S : Type 0} (g : Ghosts S) → IsSettled g → (h : Held S) (t : T
     → IsTrue (state g h).is_open → (state g h).now ≡ (state g h).committed
     → IsDatabaseOf t (state g h).now → IsDatabase (state g h).now → StandsFor t (state g h)
 stands g settled h t closed is_open same d sound = record {
-  schema = d.schema;
-  holds = d.holds;
+  database = d;
   sound = sound;
   settled = same;
   autocommit = closed;
@@ -41,7 +40,7 @@ module _ {S X : Type 0} (g : Ghosts S) (settled : IsSettled g) (step : Tables �
   keeps_on (Err e) c = tt
   keeps_on (Ok x) c = λ clean is_open.
       let s = keeps (c.clean clean) (c.opened clean).0 in
-      let now = c.ok clean t (record { schema = s.schema; holds = s.holds }) in
+      let now = c.ok clean t s.database in
       stands g settled new (step t) closed is_open now.1 now.0 now.2
 
   pub keeps_still : (r : Result X Error) → Commits step (state g old) (state g new) r
@@ -50,11 +49,7 @@ module _ {S X : Type 0} (g : Ghosts S) (settled : IsSettled g) (step : Tables �
   keeps_still (Err e) c = λ clean is_open.
       let s = keeps (c.clean clean) (c.reopens clean is_open) in
       let now = c.err clean is_open s.settled in
-      stands g settled new t closed is_open now.1
-      (record {
-        schema = ap (λ (d : Database). d.schema) now.0 ∙ s.schema;
-        holds = subst (λ (d : Database). Holds t d.trees) (sym now.0) s.holds;
-      })
+      stands g settled new t closed is_open now.1 (subst (IsDatabaseOf t) (sym now.0) s.database)
       (subst IsDatabase (sym now.0) s.sound)
 
 pub crash_leaves : {S X : Type 0} (g : Ghosts S) (step : Tables → Tables) (old new : Held S) (r : Result X Error)
@@ -66,7 +61,7 @@ pub crash_leaves : {S X : Type 0} (g : Ghosts S) (step : Tables → Tables) (old
 crash_leaves g step old new r c clean db may = elim (c.crash clean db may) [
   | inl before ↦ inl before
   | inr now ↦ inr (λ t keeps. let s = keeps (c.clean clean) (now.0 tt) in
-      now.1 t (record { schema = s.schema; holds = s.holds }))
+      now.1 t s.database)
 ]
 
 pub created_keeps : {S : Type 0} (g : Ghosts S) → IsSettled g → (old new : Held S) → new.in_transaction ≡ false

@@ -5,7 +5,7 @@ use Rattle.sqlite.specs.Effect.{Database, IsDatabase}
 use Rattle.sqlite.specs.Held.{state}
 use Rattle.tables.specs.Asking.{Looks}
 use Rattle.tables.specs.Base.{BaseValue, IsHonest, IsOpen, Keeps}
-use Rattle.tables.specs.Holding.{Holds, IsDatabaseOf}
+use Rattle.tables.specs.Holding.{IsDatabaseOf}
 use Rattle.tables.specs.Queries.{OnlyReads}
 use Rattle.tables.specs.Tables.{Tables}
 
@@ -18,8 +18,7 @@ reads_only g old new closed looks = record {
       let s = keeps (looks.clean clean) (looks.reopens clean is_open) in
       let same = looks.kept clean is_open s.settled in
       record {
-        schema = ap (λ (d : Database). d.schema) same.0 ∙ s.schema;
-        holds = subst (Holds t) (sym (ap (λ (d : Database). d.trees) same.0)) s.holds;
+        database = subst (IsDatabaseOf t) (sym same.0) s.database;
         sound = subst IsDatabase (sym same.0) s.sound;
         settled = same.1;
         autocommit = closed;
@@ -30,6 +29,8 @@ reads_only g old new closed looks = record {
 }
 
 -- the database that it reads is that of the tables
-pub database_of : {S : Type 0} (g : Ghosts S) (old : BaseValue S) (t : Tables) → Keeps g t old → IsHonest g old
-    → IsOpen g old → IsDatabaseOf t (state g old.conn).now
-database_of g old t keeps honest is_open = let s = keeps honest is_open in record { schema = s.schema; holds = s.holds }
+pub database_of : {S : Type 0} (g : Ghosts S) (view old : BaseValue S) → view ≡ old → (t : Tables) → Keeps g t old
+    → IsHonest g view → IsOpen g view → IsDatabaseOf t (state g view.conn).now
+database_of g view old same t keeps honest is_open =
+    let s : Keeps g t view = subst (Keeps g t) (sym same) keeps in
+    (s honest is_open).database

@@ -15,6 +15,7 @@ use Rattle.sqlite.proofs.Callers.{command_of}
 use Rattle.tables.specs.Asking.{IsQueryText, TellsFirst}
 use Rattle.tables.specs.Found.{IsFoundAs, IsLeastAs}
 use Rattle.tables.specs.Holding.{Holds, deposit_cells}
+use Rattle.tables.specs.Names as name
 use Rattle.tables.specs.Queries.{is_owned, is_owned_after}
 use Rattle.tables.specs.Schema.{the_schema}
 use Rattle.tables.specs.Shown.{deposit_shown, label_shown, number_shown}
@@ -61,7 +62,7 @@ pub deposit_found : (t : Tables) (db : Trees) (serial : ℕ) (given : Row) (row 
     → IsFoundAs (λ x r. r ≡ deposit_shown x) (is_deposit serial) t.deposits row
 deposit_found t db serial given row h same told =
     found_by deposit_cells (λ x e. cc) 4 true t.deposits (deposit_params serial) deposit_tests deposit_project
-    (is_deposit serial) deposit_shown (deposit_test serial) (λ y. refl) db h.deposits
+    (is_deposit serial) deposit_shown (deposit_test serial) (λ y. refl) db (h.rows name.Deposit refl)
     deposit_sql deposit_names deposit_is given row same told
 
 -- ---- its owner and reference
@@ -99,7 +100,7 @@ pub label_found : (t : Tables) (db : Trees) (serial : ℕ) (owner : List ℕ) (g
     → IsFoundAs (λ x r. r ≡ label_shown x) (is_owned serial owner) t.deposits row
 label_found t db serial owner given row h same told =
     found_by deposit_cells (λ x e. cc) 4 true t.deposits (label_params serial owner) label_tests label_project
-    (is_owned serial owner) label_shown (label_test serial owner) (λ y. refl) db h.deposits
+    (is_owned serial owner) label_shown (label_test serial owner) (λ y. refl) db (h.rows name.Deposit refl)
     label_sql label_names label_is given row same told
 
 -- ---- a deposit by its owner and reference
@@ -140,7 +141,7 @@ pub deposit_under_found : (t : Tables) (db : Trees) (owner reference : List ℕ)
 deposit_under_found t db owner reference given row h same told =
     found_by deposit_cells (λ x e. cc) 4 true t.deposits (deposit_under_params owner reference) deposit_under_tests
     deposit_under_project (is_deposit_of owner reference) deposit_shown (deposit_under_test owner reference)
-    (λ y. refl) db h.deposits
+    (λ y. refl) db (h.rows name.Deposit refl)
     deposit_under_sql deposit_under_names deposit_under_is given row same told
 
 -- ---- whether an account owns it
@@ -179,7 +180,7 @@ pub is_owner_found : (t : Tables) (db : Trees) (serial : ℕ) (owner : List ℕ)
     → IsFoundAs (λ x r. r ≡ number_shown x) (is_owned serial owner) t.deposits row
 is_owner_found t db serial owner given row h same told =
     found_by deposit_cells (λ x e. cc) 4 true t.deposits (is_owner_params serial owner) is_owner_tests is_owner_project
-    (is_owned serial owner) number_shown (is_owner_test serial owner) (λ y. refl) db h.deposits
+    (is_owned serial owner) number_shown (is_owner_test serial owner) (λ y. refl) db (h.rows name.Deposit refl)
     is_owner_sql is_owner_names is_owner_is given row same told
 
 -- ---- the next deposit of an owner
@@ -219,5 +220,5 @@ pub next_owned_found : (t : Tables) (db : Trees) (owner : List ℕ) (after : ℕ
 next_owned_found t db owner after given row h same told =
     least_by deposit_cells (λ x e. cc) 4 true t.deposits (next_owned_params owner after) next_owned_tests
     next_owned_project (is_owned_after owner after) number_shown (next_owned_test owner after) (λ y. refl) db
-    h.deposits (col 1 0) (λ x. x.serial) (λ y. refl)
+    (h.rows name.Deposit refl) (col 1 0) (λ x. x.serial) (λ y. refl)
     next_owned_sql next_owned_names next_owned_is given row same told

@@ -25,7 +25,8 @@ use Rattle.sqlite_resolve.specs.Compile.{first, compiled, on_table, new_rows, fo
 use Rattle.sqlite_tied.specs.Compute.{everything}
 use Rattle.sqlite.specs.Listing.{understood, listing_schema, misses_table, if_select}
 use Rattle.tables.specs.Schema.{the_schema, placed, meta}
-use Rattle.tables.proofs.CreateLemmas.{piece_7, version_terms}
+use Rattle.tables.specs.Making.{insert_version}
+use Rattle.tables.proofs.CreateLemmas.{version_terms}
 
 abbrev rows_in : Statement → Rows → Rows
 rows_in (written.Insert how name columns rows clauses shown) other = rows
@@ -46,27 +47,27 @@ spread formats command =
     and_then (command (small [] + small formats)) (λ c. Ok (c, None)) in
     let planned : Checked (List (List ℕ) × (Command × Option Returning)) =
     and_then meaning (λ found. Ok (formats, found)) in
-    and_then planned (λ plan. and_then (understood the_schema piece_7)
+    and_then planned (λ plan. and_then (understood the_schema insert_version)
     (λ c. Ok (record c { command = plan.1.0; returning = plan.1.1; formats = plan.0 })))
 
 abbrev heard : Checked Compiled → Checked Compiled
-heard r = if misses_table r then if_select (compiled listing_schema piece_7) else r
+heard r = if misses_table r then if_select (compiled listing_schema insert_version) else r
 
-depends_7 : (s : Schema) (other : Rows) (none : Statement)
-    → understood s piece_7
+depends_version : (s : Schema) (other : Rows) (none : Statement)
+    → understood s insert_version
     ≡ heard (spread (formats_of s (codes "meta"))
-    (λ base. filled s base (rows_in (statement_in (first piece_7) none) other)))
+    (λ base. filled s base (rows_in (statement_in (first insert_version) none) other)))
 unfolding understood everything
-depends_7 s other none = refl
+depends_version s other none = refl
 
 row_of_meta : (s : Schema) (tree : ℕ) (other : Rows) (none : Statement)
-    → new_rows s (placed tree meta) 0 (codes "version" ∷ []) (rows_in (statement_in (first piece_7) none) other)
+    → new_rows s (placed tree meta) 0 (codes "version" ∷ []) (rows_in (statement_in (first insert_version) none) other)
     ≡ Ok (Values version_terms 2)
 unfolding everything
 row_of_meta s tree other none = refl
 
 abbrev meta_rows : Rows
-meta_rows = rows_in (statement_in (first piece_7) written.Empty) rows.Defaults
+meta_rows = rows_in (statement_in (first insert_version) written.Empty) rows.Defaults
 
 filled_as : (s : Schema) (has : HasMeta s) → filled s 0 meta_rows ≡ Ok (Insert has.at (Values version_terms 2))
 filled_as s has =
@@ -85,9 +86,9 @@ no_formats s has =
     ∙ ap (λ table. unwrap_or (option_map (λ (t : Table). t.stamps.formats) table) []) has.there
 
 pub fills : (s : Schema) (has : HasMeta s)
-    → understood s piece_7 ≡ heard (spread [] (λ _. Ok (Insert has.at (Values version_terms 2))))
+    → understood s insert_version ≡ heard (spread [] (λ _. Ok (Insert has.at (Values version_terms 2))))
 fills s has =
-    depends_7 s rows.Defaults written.Empty
+    depends_version s rows.Defaults written.Empty
     ∙ ap (λ formats. heard (spread formats (λ base. filled s base meta_rows))) (no_formats s has)
     ∙ ap (λ (c : Checked Command). heard (spread [] (λ _. c))) (filled_as s has)
 

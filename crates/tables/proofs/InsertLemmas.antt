@@ -28,6 +28,7 @@ use Rattle.tables.specs.Tables.{Tables, StampRow, CalibrationRow, HoldRow, Depos
 use Rattle.tables.specs.Tables.{with_calibration, with_hold, with_deposit}
 use Rattle.tables.specs.Holding.{stamp_cells, calibration_cells, hold_cells}
 use Rattle.tables.specs.Holding.{deposit_cells, reader_cells, tally_cells}
+use Rattle.tables.specs.Names as name
 use Rattle.tables.proofs.CarryLemmas.{carried, Makes}
 use Rattle.tables.proofs.FrameLemmas.{with_stamps, with_calibrations, with_holds, with_deposits, with_readers}
 use Rattle.tables.proofs.FrameLemmas.{with_tallies}
@@ -47,7 +48,7 @@ unfolding unary
 cast_int n = either _ (Int n)
 
 pub idle : IsIdle the_schema
-idle = (tt, (tt, (tt, (tt, (((refl, refl), tt), (((refl, refl), tt), (tt, tt)))))))
+idle = (tt, (tt, (tt, (tt, (((refl, refl), tt), (((refl, refl), tt), (tt, (((refl, refl), tt), tt))))))))
 
 -- ---- calibration
 
@@ -73,7 +74,7 @@ calibration_makes r limit text t db out h does =
       schema = made.1;
       holds = with_calibrations db out.1.trees t h (r ∷ t.calibrations) made.0.tables
           (inserted calibration_cells (λ x e. cc) true t.calibrations r (db 2) (out.1.trees 2) _ (calibration_cells r)
-          h.calibrations made.0.keyed made.0.fresh made.0.rows (calibration_news r db) refl);
+          (h.rows name.Calibration refl) made.0.keyed made.0.fresh made.0.rows (calibration_news r db) refl);
     }
 
 calibration_is : command_of (understood the_schema insert_calibration) ≡ calibration_insert
@@ -113,7 +114,7 @@ hold_makes r limit text t db out h does =
     record {
       schema = made.1;
       holds = with_holds db out.1.trees t h (r ∷ t.holds) made.0.tables
-          (inserted hold_cells (λ x e. cc) true t.holds r (db 3) (out.1.trees 3) _ (hold_cells r) h.holds made.0.keyed
+          (inserted hold_cells (λ x e. cc) true t.holds r (db 3) (out.1.trees 3) _ (hold_cells r) (h.rows name.Hold refl) made.0.keyed
           made.0.fresh made.0.rows (hold_news r db) refl);
     }
 
@@ -155,7 +156,7 @@ deposit_makes r limit text t db out h does =
     record {
       schema = made.1;
       holds = with_deposits db out.1.trees t h (r ∷ t.deposits) made.0.tables
-          (inserted deposit_cells (λ x e. cc) true t.deposits r (db 4) (out.1.trees 4) _ (deposit_cells r) h.deposits
+          (inserted deposit_cells (λ x e. cc) true t.deposits r (db 4) (out.1.trees 4) _ (deposit_cells r) (h.rows name.Deposit refl)
           made.0.keyed made.0.fresh made.0.rows (deposit_news r db) refl);
     }
 
@@ -173,48 +174,6 @@ pub deposit_carried : (r : DepositRow) (old new : State) (result : Result ℕ Er
     → Carries (with_deposit r) old new result
 deposit_carried r = carried insert_deposit (deposit_params r) deposit_insert deposit_is deposit_plain
     (λ old new text count w. w) (with_deposit r) (deposit_makes r)
-
--- ---- reader
-
-abbrev pub reader_params : ReaderRow → Row
-reader_params r = Int (pos r.serial) ∷ Text r.account ∷ []
-
-abbrev pub reader_terms : List Term
-reader_terms = lit Null ∷ col 0 0 ∷ col 0 1 ∷ []
-
-reader_news : (r : ReaderRow) (db : Trees)
-    → (edit_of db (placed 6 reader) [] Chosen 0 (value_rows (reader_params r) 3 1 reader_terms)).news
-    ≡ (Int (next_rowid (db 6)) ∷ reader_cells r) ∷ []
-reader_news r db = simp (cast_int, cast_null)
-
-abbrev pub reader_insert : Command
-reader_insert = Insert 5 (Values reader_terms 3)
-
-pub reader_makes : (r : ReaderRow)
-    → Makes reader_insert (reader_params r) (λ (t : Tables). record t { readers = r ∷ t.readers })
-reader_makes r limit text t db out h does =
-    let made = inserts limit (reader_params r) the_schema db text 5 idle _ _ _ _ _ _ _ 6 refl out reader_terms 3 does in
-    record {
-      schema = made.1;
-      holds = with_readers db out.1.trees t h (r ∷ t.readers) made.0.tables
-          (inserted reader_cells (λ x e. cc) false t.readers r (db 6) (out.1.trees 6) _ (Int (next_rowid (db 6))
-          ∷ reader_cells r) h.readers made.0.keyed made.0.fresh made.0.rows (reader_news r db) refl);
-    }
-
-reader_is : command_of (understood the_schema insert_reader) ≡ reader_insert
-unfolding understood everything
-reader_is = refl
-
-reader_plain : IsPlain (understood the_schema insert_reader)
-unfolding understood everything
-reader_plain = (refl, refl)
-
-pub reader_carried : (r : ReaderRow) (old new : State) (result : Result ℕ Error) → Survives old new (λ _. ⊥)
-    → (given : Row) → given ≡ reader_params r
-    → (HasCleanDisk new → IsTrue old.in_transaction → ExecutesInside 0 insert_reader given old new result)
-    → Carries (λ (t : Tables). record t { readers = r ∷ t.readers }) old new result
-reader_carried r = carried insert_reader (reader_params r) reader_insert reader_is reader_plain
-    (λ old new text count w. w) (λ (t : Tables). record t { readers = r ∷ t.readers }) (reader_makes r)
 
 -- ---- stamp
 
@@ -245,7 +204,7 @@ stamp_makes r limit text t db out h does =
       schema = made.1;
       holds = with_stamps db out.1.trees t h ((unsealed r) ∷ t.stamps) made.0.tables
           (inserted stamp_cells (λ x e. cc) true t.stamps (unsealed r) (db 1) (out.1.trees 1) _
-          (stamp_cells (unsealed r)) h.stamps made.0.keyed made.0.fresh made.0.rows (stamp_news r db) refl);
+          (stamp_cells (unsealed r)) (h.rows name.Stamp refl) made.0.keyed made.0.fresh made.0.rows (stamp_news r db) refl);
     }
 
 stamp_is : command_of (understood the_schema insert_stamp) ≡ stamp_insert
@@ -290,7 +249,7 @@ tally_makes r limit text t db out h does =
       schema = made.1;
       holds = with_tallies db out.1.trees t h ((first_of r) ∷ t.tallies) made.0.tables
           (inserted tally_cells (λ x e. cc) false t.tallies (first_of r) (db 8) (out.1.trees 8) _
-          (Int (next_rowid (db 8)) ∷ tally_cells (first_of r)) h.tallies made.0.keyed made.0.fresh made.0.rows
+          (Int (next_rowid (db 8)) ∷ tally_cells (first_of r)) (h.rows name.Tally refl) made.0.keyed made.0.fresh made.0.rows
           (tally_news r db) refl) (omega arith, h.counts);
     }
 

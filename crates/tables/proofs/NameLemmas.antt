@@ -1,9 +1,10 @@
--- The names that a database uses, before our tables are made and after.
+-- The names that a database uses, before tables are made and after.
 use Rattle.std.proofs.Common.{◌≡◌, ◌⊎◌, ℕ, ◌+◌, Bool, true, false, ◌||◌, if◌then◌else◌, List, [], ◌∷◌, ◌++◌}
-use Rattle.std.proofs.Common.{codes, None, Some, Option, Result, Ok, Err, IfOk, refl, sym, ap, ◌∙◌, subst, inl, inr}
+use Rattle.std.proofs.Common.{None, Some, Option, Result, Ok, Err, refl, sym, ap, ◌∙◌, subst, inl, inr}
 use Rattle.std.specs.Prelude.{is_some}
 use Rattle.std.specs.Option.{option_or}
-use Rattle.std.specs.List.{position_from}
+use Rattle.std.specs.List.{AllByRecursion, position_from}
+use Rattle.sqlite_trees.proofs.ListLemmas.{all_weaker}
 use Rattle.std.proofs.lemmas.Bool.{cases_Bool}
 use Rattle.sqlite_schema.specs.declared.schema.Table.{Table}
 use Rattle.sqlite_catalog.specs.Change.{created, is_used}
@@ -22,18 +23,14 @@ use Rattle.sqlite_resolve.specs.declared.error.CompileError.{CompileError}
 use Rattle.sqlite_resolve.specs.declared.error.CompileError.TheVariants.{Exists, Unsupported}
 use Rattle.sqlite_resolve.specs.Lowering.{Checked, and_then}
 use Rattle.sqlite_resolve.specs.Compile.{is_attached, compiled}
-use Rattle.sqlite_tied.specs.Compute.{everything}
 use Rattle.sqlite.specs.Listing.{understood, listing_schema, misses_table, if_select}
 use Rattle.sqlite.specs.Given.{IsPlain}
-use Rattle.tables.specs.Opening.{IsUnderstood, takes_name}
-use Rattle.tables.specs.Schema.{no_schema, meta, stamp, calibration, hold, deposit, reader, tally}
-use Rattle.tables.specs.Statements.{make_all}
+use Rattle.tables.specs.Making.{Making}
+use Rattle.tables.specs.Opening.{IsUnderstood}
+use Rattle.tables.specs.Schema.{no_schema}
 use Rattle.sqlite_trees.specs.declared.store.Store.{Ghosts}
-use Rattle.sqlite.specs.declared.error.Error.{Error}
-use Rattle.sqlite.specs.Batch.{ExecutesAllInside}
 use Rattle.sqlite.specs.Held.{Held, state}
-use Rattle.tables.proofs.CreateLemmas.{ran_as, went, same_ok, in_turn, piece_0, piece_1, piece_2, piece_3, piece_4}
-use Rattle.tables.proofs.CreateLemmas.{piece_5, piece_6}
+use Rattle.tables.proofs.BatchLemmas.{ran_as, went, same_ok, InTurn}
 
 -- what is made of a text that makes a table, by whether a trigger is in the way, and whether an index, or a table or a
 -- view, has its name; what an empty schema makes of it comes last
@@ -56,34 +53,6 @@ Depends sql name =
     (s : Schema) → understood s sql
     ≡ heard sql (made_of (is_attached s name) (index_named s name)
     (option_or (table_named s name) (view_named s name)) (understood no_schema sql))
-
-pub depends_0 : Depends piece_0 (codes "meta")
-unfolding understood everything
-depends_0 s = refl
-
-pub depends_1 : Depends piece_1 (codes "stamp")
-unfolding understood everything
-depends_1 s = refl
-
-pub depends_2 : Depends piece_2 (codes "calibration")
-unfolding understood everything
-depends_2 s = refl
-
-pub depends_3 : Depends piece_3 (codes "hold")
-unfolding understood everything
-depends_3 s = refl
-
-pub depends_4 : Depends piece_4 (codes "deposit")
-unfolding understood everything
-depends_4 s = refl
-
-pub depends_5 : Depends piece_5 (codes "reader")
-unfolding understood everything
-depends_5 s = refl
-
-pub depends_6 : Depends piece_6 (codes "tally")
-unfolding understood everything
-depends_6 s = refl
 
 made_free : (sql : List ℕ) (r : Checked Compiled) → command_of r ≡ CreateTable → IsPlain r
     → heard sql (made_of false None None r) ≡ r
@@ -220,33 +189,12 @@ module _ (sql : List ℕ) (table : Table) (depends : Depends sql table.name)
             (sequence_stays first.0 all.0 first.2 name (made_stays _ old.now first.0 first.1 name used)),
       )
 
-pub alone_0 : Alone piece_0 meta
-unfolding understood everything
-alone_0 = (refl, refl, (refl, refl))
-
-pub alone_1 : Alone piece_1 stamp
-unfolding understood everything
-alone_1 = (refl, refl, (refl, refl))
-
-pub alone_2 : Alone piece_2 calibration
-unfolding understood everything
-alone_2 = (refl, refl, (refl, refl))
-
-pub alone_3 : Alone piece_3 hold
-unfolding understood everything
-alone_3 = (refl, refl, (refl, refl))
-
-pub alone_4 : Alone piece_4 deposit
-unfolding understood everything
-alone_4 = (refl, refl, (refl, refl))
-
-pub alone_5 : Alone piece_5 reader
-unfolding understood everything
-alone_5 = (refl, refl, (refl, refl))
-
-pub alone_6 : Alone piece_6 tally
-unfolding understood everything
-alone_6 = (refl, refl, (refl, refl))
+-- a text that makes a table in any schema that doesn't use its name
+pub record IsMaking (making : Making) : Type 0 where
+  pub depends : Depends making.text making.table.name
+  pub alone : Alone making.text making.table
+  -- the table doesn't count its rows
+  pub uncounted : making.table.is_counted ≡ false
 
 -- a name that isn't used later isn't before
 unused : (s after : Schema) (name : List ℕ) → StaysUsed s after → is_used after name ≡ false → is_used s name ≡ false
@@ -256,37 +204,15 @@ unused s after name stays free = elim (cases_Bool (is_used s name)) [
   | inr none ↦ none
 ]
 
-names_free : {S : Type 0} (g : Ghosts S) (old new : Held S) → ExecutesAllInside g 0 make_all old new (Ok tt)
-    → takes_name (state g old).now.schema ≡ false
-names_free g old new ran =
-    let all = in_turn g old new ran in
-    let n0 = named piece_0 meta depends_0 alone_0 (state g old) (state g all.0) all.8.0 all.8.1 in
-    let n1 = named piece_1 stamp depends_1 alone_1 (state g all.0) (state g all.1) all.9.0 all.9.1 in
-    let n2 = named piece_2 calibration depends_2 alone_2 (state g all.1) (state g all.2) all.10.0 all.10.1 in
-    let n3 = named piece_3 hold depends_3 alone_3 (state g all.2) (state g all.3) all.11.0 all.11.1 in
-    let n4 = named piece_4 deposit depends_4 alone_4 (state g all.3) (state g all.4) all.12.0 all.12.1 in
-    let n5 = named piece_5 reader depends_5 alone_5 (state g all.4) (state g all.5) all.13.0 all.13.1 in
-    let n6 = named piece_6 tally depends_6 alone_6 (state g all.5) (state g all.6) all.14.0 all.14.1 in
-    let f1 = unused _ _ stamp.name n0.1 n1.0 in
-    let f2 = unused _ _ calibration.name n0.1 (unused _ _ calibration.name n1.1 n2.0) in
-    let f3 = unused _ _ hold.name n0.1 (unused _ _ hold.name n1.1 (unused _ _ hold.name n2.1 n3.0)) in
-    let f4 = unused _ _ deposit.name n0.1
-    (unused _ _ deposit.name n1.1 (unused _ _ deposit.name n2.1 (unused _ _ deposit.name n3.1 n4.0))) in
-    let f5 = unused _ _ reader.name n0.1
-    (unused _ _ reader.name n1.1
-    (unused _ _ reader.name n2.1 (unused _ _ reader.name n3.1 (unused _ _ reader.name n4.1 n5.0)))) in
-    let f6 = unused _ _ tally.name n0.1
-    (unused _ _ tally.name n1.1
-    (unused _ _ tally.name n2.1
-    (unused _ _ tally.name n3.1 (unused _ _ tally.name n4.1 (unused _ _ tally.name n5.1 n6.0))))) in
-    none_used (state g old).now.schema (n0.0, f1, f2, f3, f4, f5, f6)
-  where
-    none_used : (s : Schema) → (is_used s meta.name ≡ false) × (is_used s stamp.name ≡ false)
-        × (is_used s calibration.name ≡ false) × (is_used s hold.name ≡ false) × (is_used s deposit.name ≡ false)
-        × (is_used s reader.name ≡ false) × (is_used s tally.name ≡ false) → takes_name s ≡ false
-    none_used s h = rw (h.0, h.1, h.2, h.3, h.4, h.5, h.6) refl
-
-pub names_free_if : {S : Type 0} (g : Ghosts S) (old new : Held S) (r : Result (Unit {0}) Error)
-    → ExecutesAllInside g 0 make_all old new r → IfOk r (λ _. takes_name (state g old).now.schema ≡ false)
-names_free_if g old new (Ok u) ran = names_free g old new ran
-names_free_if g old new (Err e) ran = tt
+-- where texts were run in turn, each name was free
+pub names_free : {S : Type 0} (g : Ghosts S) (makings : List Making) → AllByRecursion IsMaking makings
+    → (last : List ℕ) (old new : Held S) → InTurn g makings last old new
+    → AllByRecursion (λ (m : Making). is_used (state g old).now.schema m.table.name ≡ false) makings
+names_free g [] are last old new ran = tt
+names_free g (m ∷ more) are last old new (mid, ran, rest) =
+    let it = named m.text m.table are.0.depends are.0.alone (state g old) (state g mid) ran.0 ran.1 in (
+      it.0,
+      all_weaker (λ (m : Making). is_used (state g mid).now.schema m.table.name ≡ false)
+          (λ (m : Making). is_used (state g old).now.schema m.table.name ≡ false)
+          (λ (m : Making). unused _ _ m.table.name it.1) more (names_free g more are.1 last mid new rest),
+    )

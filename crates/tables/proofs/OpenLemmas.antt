@@ -1,6 +1,6 @@
--- Whether tables are ours.
-use Rattle.std.proofs.Common.{◌≡◌, codes, ℕ, ◌+◌, None, Option, pos, true, false, List, [], ◌∷◌}
-use Rattle.std.proofs.Common.{Result, Ok, Err, IfErr, IfOk, refl, sym, ◌∙◌, subst, inl, inr}
+-- Whether tables are ours, and of which version.
+use Rattle.std.proofs.Common.{◌≡◌, ◌↔◌, Bool, codes, ℕ, ◌+◌, None, Option, pos, true, false, List, [], ◌∷◌}
+use Rattle.std.proofs.Common.{Result, Ok, Err, IfErr, IfOk, IsTrue, refl, sym, ap, ◌∙◌, subst, inl, inr}
 use Rattle.std.proofs.Common.{arith}
 use Rattle.sqlite_value.specs.declared.value.Value.TheVariants.{Int}
 use Rattle.sqlite_value.specs.Order.{Row}
@@ -17,7 +17,7 @@ use Rattle.sqlite.specs.declared.error.Error.TheVariants.{SqlInputError}
 use Rattle.sqlite.specs.Outline.{Outline}
 use Rattle.sqlite.specs.Steps.{Outlines}
 use Rattle.sqlite.specs.Effect.{Database, Reads}
-use Rattle.sqlite.specs.Listing.{understood, reads_listing, listing_schema, if_select}
+use Rattle.sqlite.specs.Listing.{understood, reads_listing, listing_schema, if_select, IsSourceOf}
 use Rattle.sqlite_syntax.specs.declared.statement.Parsed.{Parsed}
 use Rattle.sqlite_schema.specs.declared.schema.Schema.{Schema}
 use Rattle.sqlite_schema.specs.declared.command.Returning.{Returning}
@@ -27,11 +27,12 @@ use Rattle.sqlite_resolve.specs.Compile.{first, compiled, planned, meaning, retu
 use Rattle.std.proofs.lemmas.Bool.{cases_Bool}
 use Rattle.sqlite.specs.State.{State, HasCleanDisk, Survives, IsUnchanged, IsNotRun, store_error}
 use Rattle.sqlite.proofs.Callers.{command_of, one_permutation}
-use Rattle.tables.specs.Schema.{the_schema}
+use Rattle.tables.specs.Schema.{schema_of, the_schema}
 use Rattle.tables.specs.Tables.{Tables}
-use Rattle.tables.specs.Holding.{IsDatabaseOf, version_cells}
-use Rattle.tables.specs.Asking.{IsQueryText, IsPlainIn, TellsRows, Looks}
-use Rattle.tables.specs.Opening.{all_columns, version_query, IsUnderstood}
+use Rattle.tables.specs.Holding.{AreRows, IsDatabaseOf, IsDatabaseIn, version_cells}
+use Rattle.tables.specs.Names as name
+use Rattle.tables.specs.Asking.{IsQueryText, IsPlainIn, Answers, Looks}
+use Rattle.tables.specs.Opening.{all_columns, first_columns, version_query, IsUnderstood, IsVersion, LooksFirst}
 use Rattle.tables.proofs.UsableLemmas.{survivor_usable}
 use Rattle.tables.proofs.ReadLemmas.{program_of, no_limit, passes, shows, answered}
 use Rattle.tables.proofs.ChangeLemmas.{found_are}
@@ -66,9 +67,18 @@ unprepared_looks old new sql e s err = record {
   usable = survivor_usable old new _ s;
 }
 
-columns_known : IsUnderstood (understood the_schema all_columns)
+pub columns_known : IsUnderstood (understood the_schema all_columns)
 unfolding understood everything
 columns_known = tt
+
+pub first_columns_known : IsUnderstood (understood (schema_of 1) first_columns)
+unfolding understood everything
+first_columns_known = tt
+
+-- a database of the first version hasn't each table of now
+pub columns_unknown : ¬ IsUnderstood (understood (schema_of 1) all_columns)
+unfolding understood everything listing_schema
+columns_unknown known = known
 
 no_input_error : (cause : StoreError) (f : CompileError) → ¬ (SqlInputError f ≡ store_error cause)
 no_input_error OutOfMemory f e = cc
@@ -79,47 +89,118 @@ no_input_error Broken f e = cc
 no_input_error Unstorable f e = cc
 
 -- a text that is refused so isn't understood
-pub never_known : (old new : State) (f : CompileError) → IsNotRun old new all_columns [] (SqlInputError f)
-    → ¬ IsUnderstood (understood old.now.schema all_columns)
+pub never_known : (old new : State) (sql : List ℕ) (f : CompileError) → IsNotRun old new sql [] (SqlInputError f)
+    → ¬ IsUnderstood (understood old.now.schema sql)
 unfolding IsNotRun
-never_known old new f (inl (inl fault, same)) known = subst IsUnderstood fault.1 known
-never_known old new f (inl (inr (c, is, inl many), same)) known = cc
-never_known old new f (inl (inr (c, is, inr (inl count)), same)) known = cc
-never_known old new f (inl (inr (c, is, inr (inr clock)), same)) known = cc
-never_known old new f (inr fails) known = no_input_error fails.0 f fails.1
+never_known old new sql f (inl (inl fault, same)) known = subst IsUnderstood fault.1 known
+never_known old new sql f (inl (inr (c, is, inl many), same)) known = cc
+never_known old new sql f (inl (inr (c, is, inr (inl count)), same)) known = cc
+never_known old new sql f (inl (inr (c, is, inr (inr clock)), same)) known = cc
+never_known old new sql f (inr fails) known = no_input_error fails.0 f fails.1
 
--- nor is anything changed then
-pub unknown_same : (old new : State) (f : CompileError) → IsNotRun old new all_columns [] (SqlInputError f)
-    → new.now ≡ old.now
+-- nor is anything changed then, on a connection that is open
+pub unknown_same : (old new : State) (sql : List ℕ) (f : CompileError) → IsNotRun old new sql [] (SqlInputError f)
+    → (new.now ≡ old.now) × IsTrue old.is_open
 unfolding IsNotRun
-unknown_same old new f (inl none) = none.1.0.now_is
-unknown_same old new f (inr fails) = absurd (no_input_error fails.0 f fails.1)
+unknown_same old new sql f (inl none) = (none.1.0.now_is, none.1.0.was_open)
+unknown_same old new sql f (inr fails) = absurd (no_input_error fails.0 f fails.1)
 
--- a text isn't understood only where the schema isn't ours
-pub never_unknown : (old new : State) (f : CompileError) → IsNotRun old new all_columns [] (SqlInputError f)
-    → ¬ (old.now.schema ≡ the_schema)
-never_unknown old new f h has =
-    never_known old new f h (subst (λ s. IsUnderstood (understood s all_columns)) (sym has) columns_known)
+-- ---- the row of `meta`
 
-version_command : command_of (understood the_schema version_query)
-    ≡ Select (program_of 0 [] (col 1 1 ∷ []) [] no_limit) (codes "version" ∷ [])
+abbrev version_select : Command
+version_select = Select (program_of 0 [] (col 1 1 ∷ []) [] no_limit) (codes "version" ∷ [])
+
+version_command : command_of (understood the_schema version_query) ≡ version_select
 unfolding understood everything
 version_command = refl
+
+first_command : command_of (understood (schema_of 1) version_query) ≡ version_select
+unfolding understood everything
+first_command = refl
 
 pub version_text : IsQueryText version_query
 unfolding understood everything
 version_text = record { plain = (refl, refl); unlisted = refl }
 
--- the rows of `meta` are its one row
-pub version_row : (t : Tables) (d : Database) (params : Row) (rows : List Row) → IsDatabaseOf t d
-    → TellsRows version_query params d.trees rows → rows ≡ (Int (pos 1) ∷ []) ∷ []
-version_row t d params rows is told =
-    let answer = subst (λ k. Reads k (record { schema = the_schema; trees = d.trees }) params rows) version_command
-    told in
-    let shown = answered the_schema d.trees params 0 [] (col 1 1 ∷ []) rows answer in
-    one_permutation (Int (pos 1) ∷ []) rows
-    (found_are version_cells (λ x e. cc) false (1 ∷ []) (d.trees 0) is.holds.version (passes [] params) (λ _. true)
-    (λ y. refl) (shows (col 1 1 ∷ []) params) version_cells (λ y. refl) rows shown)
+first_unlisted : reads_listing (schema_of 1) version_query ≡ false
+unfolding understood everything
+first_unlisted = refl
+
+-- its rows are the one row that it holds
+version_row : (s : Schema) → command_of (understood s version_query) ≡ version_select
+    → reads_listing s version_query ≡ false → (version : ℕ) (d : Database) → d.schema ≡ s
+    → AreRows false version_cells (version ∷ []) (d.trees 0) → (rows : List Row) → Answers version_query [] d rows
+    → IsVersion version rows
+version_row s is unlisted version d has held rows (c, known, source, from, reads) =
+    let command : c.command ≡ version_select =
+    ap command_of (sym known) ∙ ap (λ s. command_of (understood s version_query)) has ∙ is in
+    let same : source ≡ d =
+    subst (λ b. IsSourceOf b d source) (ap (λ s. reads_listing s version_query) has ∙ unlisted) from in
+    let answer = subst (λ k. Reads k d [] rows) command
+    (subst (λ (x : Database). Reads c.command x [] rows) same reads) in
+    let shown = answered d.schema d.trees [] 0 [] (col 1 1 ∷ []) rows answer in
+    let one = one_permutation (Int (pos version) ∷ []) rows
+    (found_are version_cells (λ x e. cc) false (version ∷ []) (d.trees 0) held (passes [] []) (λ _. true)
+    (λ y. refl) (shows (col 1 1 ∷ []) []) version_cells (λ y. refl) rows shown) in
+    (Int (pos version) ∷ [], one, refl)
+
+pub version_now : (t : Tables) (d : Database) → IsDatabaseOf t d → (rows : List Row) → Answers version_query [] d rows
+    → IsVersion 2 rows
+version_now t d is = version_row the_schema version_command version_text.unlisted 2 d is.schema
+    (is.holds.rows name.Meta refl)
+
+pub version_first : (t : Tables) (d : Database) → IsDatabaseIn 1 t d → (rows : List Row)
+    → Answers version_query [] d rows → IsVersion 1 rows
+version_first t d is = version_row (schema_of 1) first_command first_unlisted 1 d is.schema
+    (is.holds.rows name.Meta refl)
+
+-- ---- what was told
+
+abbrev pub TellsColumns : List ℕ → Database → Bool → Type 0
+TellsColumns asked d found = IsTrue found ↔ IsUnderstood (understood d.schema asked)
+
+abbrev pub TellsNumber : ℕ → Database → Bool → Type 0
+TellsNumber number d found = (rows : List Row) × Answers version_query [] d rows × (IsTrue found ↔ IsVersion number rows)
+
+pub unknown_if : (asked : List ℕ) (d : Database) (found : Bool) → TellsColumns asked d found → found ≡ false
+    → ¬ IsUnderstood (understood d.schema asked)
+unknown_if asked d found told isnt known = let y = told.1 known in cc
+
+pub not_now : (d : Database) (found : Bool) → TellsColumns all_columns d found → found ≡ false → (t : Tables)
+    → ¬ IsDatabaseOf t d
+not_now d found told isnt t is =
+    unknown_if all_columns d found told isnt (subst (λ s. IsUnderstood (understood s all_columns)) (sym is.schema)
+    columns_known)
+
+pub not_first : (d : Database) (found : Bool) → TellsColumns all_columns d found → found ≡ true → (t : Tables)
+    → ¬ IsDatabaseIn 1 t d
+not_first d found told y t is =
+    columns_unknown (subst (λ s. IsUnderstood (understood s all_columns)) is.schema (told.0 y))
+
+-- what was told of the database as it was before
+module _ (old mid : Database) (same : mid ≡ old) (found : Bool) where
+  pub first_unknown : TellsColumns first_columns mid found → found ≡ false → (t : Tables) → ¬ IsDatabaseIn 1 t old
+  first_unknown told isnt t is =
+      unknown_if first_columns mid found told isnt
+      (subst (λ s. IsUnderstood (understood s first_columns)) (sym (ap (λ (d : Database). d.schema) same ∙ is.schema))
+      first_columns_known)
+
+  pub number_now : TellsNumber 2 mid found → found ≡ false → (t : Tables) → ¬ IsDatabaseOf t old
+  number_now (rows, answer, told) isnt t is =
+      let y = told.1 (version_now t mid (subst (IsDatabaseOf t) (sym same) is) rows answer) in cc
+
+  pub number_first : TellsNumber 1 mid found → found ≡ false → (t : Tables) → ¬ IsDatabaseIn 1 t old
+  number_first (rows, answer, told) isnt t is =
+      let y = told.1 (version_first t mid (subst (IsDatabaseIn 1 t) (sym same) is) rows answer) in cc
+
+-- both told of the first version
+pub looks_first : (old mid last : State) → mid.now ≡ old.now → last.now ≡ mid.now → (known found : Bool)
+    → TellsColumns first_columns mid.now known → known ≡ true → TellsNumber 1 last.now found → found ≡ true
+    → LooksFirst old
+looks_first old mid last same later known found told k (rows, answer, number) y = record {
+  columns = subst (λ (d : Database). IsUnderstood (understood d.schema first_columns)) same (told.0 k);
+  version = (rows, subst (λ d. Answers version_query [] d rows) (later ∙ same) answer, number.0 y);
+}
 
 pub outlined : (r : Result Compiled CompileError) (s : Outline) → Outlines r s → IsUnderstood r
 outlined (Ok c) s h = tt

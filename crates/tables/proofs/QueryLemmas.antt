@@ -32,6 +32,7 @@ use Rattle.sqlite.proofs.Callers.{command_of}
 use Rattle.tables.specs.Asking.{IsQueryText, TellsFirst}
 use Rattle.tables.specs.Found.{IsFoundAs, IsGreatestAs}
 use Rattle.tables.specs.Holding.{AreRows, Holds, stamp_cells, calibration_cells, hold_cells, tally_cells, token_cell}
+use Rattle.tables.specs.Names as name
 use Rattle.tables.specs.Queries.{holds_at}
 use Rattle.tables.specs.Schema.{the_schema}
 use Rattle.tables.specs.Tables.{Tables, CalibrationRow, HoldRow, TallyRow, is_tally_of}
@@ -94,7 +95,7 @@ tally_found t db account day params row h given told =
     let here = subst (λ p. Reads tally_query (record { schema = the_schema; trees = db }) p told.0) given reads in
     let answer = answered the_schema db (Text account ∷ Int (pos day) ∷ []) 8 (equals 1 0 ∷ equals 2 1 ∷ [])
     (col 1 3 ∷ []) told.0 here in
-    let typed = found_are tally_cells (λ x e. cc) false t.tallies (db 8) h.tallies
+    let typed = found_are tally_cells (λ x e. cc) false t.tallies (db 8) (h.rows name.Tally refl)
     (passes (equals 1 0 ∷ equals 2 1 ∷ []) (Text account ∷ Int (pos day) ∷ []))
     (is_tally_of account day) (tally_test account day) (shows (col 1 3 ∷ []) (Text account ∷ Int (pos day) ∷ []))
     (λ x. Int (pos x.count) ∷ []) (λ y. refl) told.0 answer in
@@ -200,7 +201,7 @@ last_stamp_found t db params row h given told =
     let order = ordered_by the_schema db [] 1 [] (col 1 0 ∷ col 1 4 ∷ []) ((col 1 0, falling_key) ∷ []) one told.0
     here in
     subst (IsGreatestAs (λ x r. r ≡ Int (pos x.serial) ∷ Int (pos x.gen_time) ∷ []) (λ x. x.serial) t.stamps) told.2
-    (first_greatest stamp_cells (λ x e. cc) db 1 true t.stamps h.stamps (col 1 0 ∷ col 1 4 ∷ [])
+    (first_greatest stamp_cells (λ x e. cc) db 1 true t.stamps (h.rows name.Stamp refl) (col 1 0 ∷ col 1 4 ∷ [])
     (λ x. Int (pos x.serial) ∷ Int (pos x.gen_time) ∷ []) (λ x. x.serial)
     (λ y. refl) (λ y. refl) told.0 order)
 
@@ -236,7 +237,7 @@ latest_calibration_found t db params row h given told =
     let order = ordered_by the_schema db [] 2 [] (col 1 0 ∷ col 1 2 ∷ col 1 3 ∷ col 1 4 ∷ []) ((col 1 0, falling_key)
     ∷ []) one told.0 here in
     subst (IsGreatestAs (λ x r. r ≡ calibration_shown x) (λ x. x.n) t.calibrations) told.2
-    (first_greatest calibration_cells (λ x e. cc) db 2 true t.calibrations h.calibrations (col 1 0 ∷ col 1 2 ∷ col 1 3
+    (first_greatest calibration_cells (λ x e. cc) db 2 true t.calibrations (h.rows name.Calibration refl) (col 1 0 ∷ col 1 2 ∷ col 1 3
     ∷ col 1 4 ∷ []) calibration_shown (λ x. x.n)
     (λ y. refl) (λ y. refl) told.0 order)
 
@@ -266,7 +267,7 @@ greatest_hold_found t db params row h given told =
     reads in
     let order = ordered_by the_schema db [] 3 [] (col 1 0 ∷ []) ((col 1 0, falling_key) ∷ []) one told.0 here in
     subst (IsGreatestAs (λ x r. r ≡ Int (pos x.n) ∷ []) (λ x. x.n) t.holds) told.2
-    (first_greatest hold_cells (λ x e. cc) db 3 true t.holds h.holds (col 1 0 ∷ []) (λ x. Int (pos x.n) ∷ []) (λ x. x.n)
+    (first_greatest hold_cells (λ x e. cc) db 3 true t.holds (h.rows name.Hold refl) (col 1 0 ∷ []) (λ x. Int (pos x.n) ∷ []) (λ x. x.n)
     (λ y. refl) (λ y. refl) told.0 order)
 
 -- ---- a hold of a moment
@@ -299,7 +300,7 @@ hold_at_found t db now params row h given told =
     let reads = subst (λ k. Reads k (record { schema = the_schema; trees = db }) params told.0) hold_at_is told.1 in
     let here = subst (λ p. Reads hold_at_query (record { schema = the_schema; trees = db }) p told.0) given reads in
     let answer = answered the_schema db (Int now ∷ []) 3 hold_at_tests (col 1 0 ∷ []) told.0 here in
-    let typed = found_are hold_cells (λ x e. cc) true t.holds (db 3) h.holds (passes hold_at_tests (Int now ∷ []))
+    let typed = found_are hold_cells (λ x e. cc) true t.holds (db 3) (h.rows name.Hold refl) (passes hold_at_tests (Int now ∷ []))
     (holds_at now) (hold_at_test now)
     (shows (col 1 0 ∷ []) (Int now ∷ [])) (λ x. Int (pos x.n) ∷ []) (λ y. refl) told.0 answer in
     subst (IsFoundAs (λ x r. r ≡ Int (pos x.n) ∷ []) (holds_at now) t.holds) told.2

@@ -1,6 +1,6 @@
--- The making of our tables is refused for a name only where one of theirs is used.
-use Rattle.std.proofs.Common.{◌≡◌, ◌⊎◌, ℕ, Bool, true, false, List, [], ◌∷◌, None, Some, Option, codes}
-use Rattle.std.proofs.Common.{slice_get, Result, Ok, Err, IfErr, refl, sym, ap, ◌∙◌, subst, subst₂, inl, inr}
+-- The making of tables is refused for a name only where one of theirs is used.
+use Rattle.std.proofs.Common.{◌≡◌, ◌⊎◌, ℕ, Bool, true, false, List, [], ◌∷◌, ◌++◌, map, None, Some, Option}
+use Rattle.std.proofs.Common.{slice_get, Result, Ok, Err, IfErr, IfOk, refl, sym, ap, ◌∙◌, subst, subst₂, inl, inr}
 use Rattle.std.proofs.lemmas.Bool.{cases_Bool}
 use Rattle.std.specs.List.{AllByRecursion, list_any}
 use Rattle.sqlite_trees.specs.Tree.{Trees}
@@ -11,7 +11,8 @@ use Rattle.sqlite_schema.specs.declared.schema.Table.{Table}
 use Rattle.sqlite_schema.specs.declared.schema.Index.{Index}
 use Rattle.sqlite_schema.specs.declared.schema.Schema.{Schema}
 use Rattle.sqlite_schema.specs.declared.command.Command.{Command}
-use Rattle.sqlite_schema.specs.declared.command.Command.TheVariants.{CreateTable, Insert}
+use Rattle.sqlite_schema.specs.declared.command.Command.TheVariants.{CreateTable, Insert, Update}
+use Rattle.sqlite_schema.specs.declared.program.Program.{Program}
 use Rattle.sqlite_schema.specs.declared.command.Source.TheVariants.{Values}
 use Rattle.sqlite_rules.specs.declared.error.Refusal.{Refusal}
 use Rattle.sqlite_rules.specs.declared.error.Refusal.TheVariants.{Violates, Mismatch, BadReference, NoRowid, TooDeep}
@@ -27,26 +28,24 @@ use Rattle.sqlite_catalog.specs.Calls.{RefusesTable}
 use Rattle.sqlite_tied.specs.Compute.{everything}
 use Rattle.sqlite.specs.declared.error.Error.{Error}
 use Rattle.sqlite.specs.declared.run.Mode.{Mode}
-use Rattle.sqlite.specs.Batch.{Stops, RunInTurn, ExecutesAllInside}
+use Rattle.sqlite.specs.Batch.{Stops, ExecutesAllInside}
 use Rattle.sqlite.specs.Clock.{timed}
 use Rattle.sqlite.specs.Does.{Does, OnRows, MakesTable, MakesSequence, Concludes, lacks_sequence}
 use Rattle.sqlite.specs.Effect.{Database, edit_error, alter_error}
 use Rattle.sqlite.specs.Held.{Held, state}
 use Rattle.sqlite.specs.Listing.{understood}
-use Rattle.sqlite.specs.Rows.{Part, Then, Gives, Task, Written, Sourced, Edited, Inserts, stamped}
+use Rattle.sqlite.specs.Rows.{Part, Then, Gives, Task, Written, Queried, Sourced, Edited, Updates, Inserts, stamped}
 use Rattle.sqlite.specs.State.{State, RunsAlone, IsStatement, ExecutesIn, IsNotRun}
 use Rattle.sqlite.specs.State.{shows_rows, mode_of, store_error}
 use Rattle.sqlite.proofs.Callers.{IsPlain, command_of, statement_of}
-use Rattle.tables.specs.Statements.{make_all}
-use Rattle.tables.specs.Schema.{the_schema, placed, meta, stamp, calibration, hold, deposit, reader, tally}
+use Rattle.tables.specs.Making.{Making, makings, later_makings, joined, insert_version, make_all}
+use Rattle.tables.specs.Schema.{the_schema, placed, meta}
 use Rattle.tables.specs.Opening.{IsUnderstood, IsInTheWay, takes_name, takes_index, tells_taken}
 use Rattle.tables.proofs.WriteLemmas.{plain_mode}
-use Rattle.tables.proofs.CreateLemmas.{rest_1, rest_2, rest_3, rest_4, rest_5, rest_6, rest_7, piece_0, piece_1}
-use Rattle.tables.proofs.CreateLemmas.{piece_2, piece_3, piece_4, piece_5, piece_6, piece_7, version_terms, makes_table}
-use Rattle.tables.proofs.CreateLemmas.{Turns, turn_0, turn_1, turn_2, turn_3, turn_4, turn_5, turn_6, turn_7, begun}
-use Rattle.tables.proofs.NameLemmas.{Depends, Alone, free_as_alone, depends_0, depends_1, depends_2, depends_3}
-use Rattle.tables.proofs.NameLemmas.{depends_4, depends_5, depends_6, alone_0, alone_1, alone_2, alone_3, alone_4}
-use Rattle.tables.proofs.NameLemmas.{alone_5, alone_6}
+use Rattle.tables.proofs.BatchLemmas.{AreCut, Goes, Turns, cut_last, turn, ended, in_turn}
+use Rattle.tables.proofs.CreateLemmas.{MakesIn, makes_in, makes_table, schema_with, version_terms, begun}
+use Rattle.tables.proofs.MakingLemmas.{are_makings, are_cut}
+use Rattle.tables.proofs.NameLemmas.{IsMaking, names_free}
 use Rattle.tables.proofs.FreeLemmas.{clashes, AreFree, stay_free, lacks_still, HasMeta, made_meta, still_meta}
 use Rattle.tables.proofs.FillLemmas.{fills, fill_facts}
 
@@ -87,7 +86,7 @@ edit_never TooDeep = refl
 -- a text that is understood is refused for a name only by its command
 module _ (sql : List ℕ) (old new : State) (schema : Schema) (has : old.now.schema ≡ schema) (command : Command)
     (is : command_of (understood schema sql) ≡ command) (plain : IsPlain (understood schema sql))
-    (known : IsUnderstood (understood schema sql)) where
+    (known : IsUnderstood (understood schema sql)) (in_batch : Bool) where
   module _ (e : Error) (spared : Does old.step_limit (mode_of old) [] old.now (statement_of sql (understood schema sql))
       None command (Err (Some e)) → tells_taken e ≡ false) where
     not_run : IsNotRun old new sql [] e → tells_taken e ≡ false
@@ -100,11 +99,11 @@ module _ (sql : List ℕ) (old new : State) (schema : Schema) (has : old.now.sch
     not_run (inr fails) = ap tells_taken fails.1 ∙ store_never fails.0
 
     alone : (c : Compiled) (it : IsStatement old sql [] c)
-        → RunsAlone true old new sql c (timed [] c.formats it.now) (Err e) → tells_taken e ≡ false
+        → RunsAlone in_batch old new sql c (timed [] c.formats it.now) (Err e) → tells_taken e ≡ false
     alone c it h =
         let same = sym it.is ∙ ap (λ s. understood s sql) has in
         let bare = subst IsPlain (sym same) plain in
-        elim (cases_Bool (shows_rows true c)) [
+        elim (cases_Bool (shows_rows in_batch c)) [
           | inl shows ↦ (let e' = (rw shows at h).0 in ap tells_taken (same_err e'))
           | inr runs ↦ elim (rw runs at h) [
             | inl (inl misplaced, same_state) ↦ elim misplaced [
@@ -119,7 +118,7 @@ module _ (sql : List ℕ) (old new : State) (schema : Schema) (has : old.now.sch
           ]
         ]
 
-    pub failed_as : ExecutesIn true sql [] old new (Err e) → tells_taken e ≡ false
+    pub failed_as : ExecutesIn in_batch sql [] old new (Err e) → tells_taken e ≡ false
     unfolding ExecutesIn
     failed_as (inl not_it) = not_run not_it
     failed_as (inr (c, it, h)) = alone c it h
@@ -219,6 +218,31 @@ module _ (limit : Option ℕ) (db : Trees) (text : List ℕ) (schema : Schema) (
       (Err (Some e)) → tells_taken e ≡ false
   inserted_never at there e does = on_meta_never e (rw there at does)
 
+-- nor is a change of it
+module _ (limit : Option ℕ) (db : Trees) (text : List ℕ) (schema : Schema) (tree at : ℕ) (q : Program)
+    (there : slice_get schema.tables at ≡ Some (placed tree meta)) where
+  queried_never : NeverTaken (Queried limit (record { schema = schema; trees = db }) q [])
+  queried_never None h = tt
+  queried_never (Some e) (inl mismatch) = ap tells_taken mismatch.0
+  queried_never (Some e) (inr (inl high)) = ap tells_taken high.0
+  queried_never (Some e) (inr (inr stopped)) = ap tells_taken stopped.0
+
+  updates_never : NeverTaken (Updates (task limit db text schema tree) q [] db)
+  updates_never stop (inl (s, queried, is)) = subst IsSpared (sym (same_err is)) (queried_never s queried)
+  updates_never stop (inr (rows, asked, inl (s, edited, is))) =
+      subst IsSpared (sym (same_err is)) (edited_never limit db text schema tree db _ s edited)
+  updates_never stop (inr (rows, asked, inr (next, edited, is))) = absurd (let apart = is in cc)
+
+  on_rows_never : (e : Error) → OnRows (task limit db text schema tree) plain_mode None (Update at q) db (Err (Some e))
+      → tells_taken e ≡ false
+  on_rows_never e (inl (s, updates, is)) = subst IsSpared (sym (same_err is)) (updates_never s updates)
+  on_rows_never e (inr (w, updates, concludes)) = concluded_never limit db text schema tree w (Some e) concludes
+
+  pub updated_never : (e : Error)
+      → Does limit plain_mode [] (record { schema = schema; trees = db }) text None (Update at q) (Err (Some e))
+      → tells_taken e ≡ false
+  updated_never e does = on_rows_never e (rw there at does)
+
 module _ {S : Type 0} (g : Ghosts S) (new : Held S) where
   -- what stops a statement of the batch
   stopped_never : (sql : List ℕ) (old : Held S) (r : Result (Unit {0}) Error)
@@ -229,215 +253,49 @@ module _ {S : Type 0} (g : Ghosts S) (new : Held S) where
   stopped_never sql old r spared (e, is, inr barred) =
       subst (λ (x : Result (Unit {0}) Error). IfErr x (λ e. tells_taken e ≡ false)) (sym is) (ap tells_taken barred.0)
 
-  table_turn : (sql : List ℕ) (schema : Schema) (table : Table) (most : ℕ) (rest : List ℕ) (old : Held S)
-      (r : Result (Unit {0}) Error) → (state g old).now.schema ≡ schema
-      → (command_of (understood schema sql) ≡ CreateTable)
-      × (table_defined_by (statement_of sql (understood schema sql)) ≡ Ok table) × IsPlain (understood schema sql)
+  -- one that makes a table, where nothing has its name
+  table_turn : (sql : List ℕ) (schema : Schema) (table : Table) (rest : List ℕ) (old : Held S)
+      (r : Result (Unit {0}) Error) → (state g old).now.schema ≡ schema → MakesIn schema sql table
       → IsUnderstood (understood schema sql) → is_used schema table.name ≡ false
       → ((index : Index) → Has (automatics table 0 0 table.uniques) index → is_used schema index.name ≡ false)
       → lacks_sequence (created schema table) ≡ false
-      → ((mid : Held S) → (state g mid).now.schema ≡ created schema table → RunInTurn g (Some 0) most rest mid new r
+      → ((mid : Held S) → (state g mid).now.schema ≡ created schema table → Goes g rest mid new r
       → IfErr r (λ e. tells_taken e ≡ false))
-      → Turns g most sql rest old new r → IfErr r (λ e. tells_taken e ≡ false)
-  table_turn sql schema table most rest old r has is known free indexes_free counted next (inl stops) =
+      → Turns g sql rest old new r → IfErr r (λ e. tells_taken e ≡ false)
+  table_turn sql schema table rest old r has is known free indexes_free counted next (inl stops) =
       stopped_never sql old r
-      (λ e runs. failed_as sql (state g old) (state g new) schema has CreateTable is.0 is.2 known e
+      (λ e runs. failed_as sql (state g old) (state g new) schema has CreateTable is.0 is.2 known true e
       (λ does. created_never (state g old).now schema _ table has is.1 free indexes_free counted
       (state g old).step_limit (mode_of (state g old)) e does) runs) stops
-  table_turn sql schema table most rest old r has is known free indexes_free counted next (inr (mid, ran, others)) =
-      next mid (makes_table sql (state g old) (state g mid) schema table ran.0 has is.0 is.2 is.1 counted ran.1).0
-      others
+  table_turn sql schema table rest old r has is known free indexes_free counted next (inr (mid, ran, others)) =
+      next mid (makes_table sql (state g old) (state g mid) schema table ran.0 has is counted ran.1).0 others
 
-each_free : (schema : Schema) (indexes : List Index)
-    → AllByRecursion (λ (i : Index). is_used schema i.name ≡ false) indexes → (index : Index) → Has indexes index
-    → is_used schema index.name ≡ false
-each_free schema [] all index there = absurd there
-each_free schema (i ∷ indexes) all index (inl same) =
-    subst (λ (x : Index). is_used schema x.name ≡ false) (sym same) all.0
-each_free schema (i ∷ indexes) all index (inr there) = each_free schema indexes all.1 index there
+-- ---- the names, in the order in which a batch takes them
 
--- ---- the names, in the order in which the batch takes them
+abbrev indexes_of : Table → List Index
+indexes_of table = automatics table 0 0 table.uniques
 
-abbrev deposit_index : List ℕ
-deposit_index = codes "sqlite_autoindex_deposit_1"
+abbrev names_of : List Making → List (List ℕ)
+names_of [] = []
+names_of (m ∷ more) = m.table.name ∷ (map (λ (i : Index). i.name) (indexes_of m.table) ++ names_of more)
 
-abbrev reader_index : List ℕ
-reader_index = codes "sqlite_autoindex_reader_1"
+-- no table takes a name of a later one
+abbrev AreApart : List Making → Type 0
+AreApart [] = Unit {0}
+AreApart (m ∷ more) = ((tree : ℕ) → list_any (clashes m.table tree) (names_of more) ≡ false) × AreApart more
 
-abbrev tally_index : List ℕ
-tally_index = codes "sqlite_autoindex_tally_1"
-
-abbrev names_6 : List (List ℕ)
-names_6 = tally.name ∷ tally_index ∷ []
-
-abbrev names_5 : List (List ℕ)
-names_5 = reader.name ∷ reader_index ∷ names_6
-
-abbrev names_4 : List (List ℕ)
-names_4 = deposit.name ∷ deposit_index ∷ names_5
-
-abbrev names_3 : List (List ℕ)
-names_3 = hold.name ∷ names_4
-
-abbrev names_2 : List (List ℕ)
-names_2 = calibration.name ∷ names_3
-
-abbrev names_1 : List (List ℕ)
-names_1 = stamp.name ∷ names_2
-
-abbrev names_0 : List (List ℕ)
-names_0 = meta.name ∷ names_1
-
-abbrev Apart : Table → List (List ℕ) → Type 0
-Apart table names = (tree : ℕ) → AllByRecursion (λ name. clashes table tree name ≡ false) names
-
-apart_0 : Apart meta names_1
+ours_apart : AreApart makings
 unfolding everything
-apart_0 tree = (refl, (refl, (refl, (refl, (refl, (refl, (refl, (refl, (refl, tt)))))))))
-
-apart_1 : Apart stamp names_2
-unfolding everything
-apart_1 tree = (refl, (refl, (refl, (refl, (refl, (refl, (refl, (refl, tt))))))))
-
-apart_2 : Apart calibration names_3
-unfolding everything
-apart_2 tree = (refl, (refl, (refl, (refl, (refl, (refl, (refl, tt)))))))
-
-apart_3 : Apart hold names_4
-unfolding everything
-apart_3 tree = (refl, (refl, (refl, (refl, (refl, (refl, tt))))))
-
-apart_4 : Apart deposit names_5
-unfolding everything
-apart_4 tree = (refl, (refl, (refl, (refl, tt))))
-
-apart_5 : Apart reader names_6
-unfolding everything
-apart_5 tree = (refl, (refl, tt))
-
-deposit_index_free : (s : Schema) → is_used s deposit_index ≡ false
-    → AllByRecursion (λ (i : Index). is_used s i.name ≡ false) (automatics deposit 0 0 deposit.uniques)
-unfolding everything
-deposit_index_free s free = (free, tt)
-
-reader_index_free : (s : Schema) → is_used s reader_index ≡ false
-    → AllByRecursion (λ (i : Index). is_used s i.name ≡ false) (automatics reader 0 0 reader.uniques)
-unfolding everything
-reader_index_free s free = (free, tt)
-
-tally_index_free : (s : Schema) → is_used s tally_index ≡ false
-    → AllByRecursion (λ (i : Index). is_used s i.name ≡ false) (automatics tally 0 0 tally.uniques)
-unfolding everything
-tally_index_free s free = (free, tt)
-
--- ---- the batch, over a database in which none of them is used
-
--- a schema before a table is made, with names that are free
-record Before (s : Schema) (names : List (List ℕ)) : Type 0 where
-  free : AreFree s names
-  counted : lacks_sequence s ≡ false
-
-next_before : (s : Schema) (table : Table) (names : List (List ℕ)) → table.is_counted ≡ false → Apart table names
-    → lacks_sequence s ≡ false → AreFree s names → Before (created s table) names
-next_before s table names uncounted apart counted free = record {
-  free = stay_free s table names free (apart (next_tree s));
-  counted = lacks_still s table uncounted counted;
-}
-
-plain_known : (r : Result Compiled CompileError) → IsPlain r → IsUnderstood r
-plain_known (Ok c) plain = tt
-plain_known (Err e) plain = absurd plain
-
-module _ {S : Type 0} (g : Ghosts S) (new : Held S) (r : Result (Unit {0}) Error) where
-  abbrev Spared : Type 0
-  Spared = IfErr r (λ e. tells_taken e ≡ false)
-
-  make_turn : (sql : List ℕ) (table : Table) (most : ℕ) (rest : List ℕ) → Depends sql table.name → Alone sql table
-      → (s : Schema) (old : Held S) → (state g old).now.schema ≡ s
-      → is_used s table.name ≡ false
-      → AllByRecursion (λ (i : Index). is_used s i.name ≡ false) (automatics table 0 0 table.uniques)
-      → lacks_sequence (created s table) ≡ false
-      → ((mid : Held S) → (state g mid).now.schema ≡ created s table → RunInTurn g (Some 0) most rest mid new r
-      → Spared) → Turns g most sql rest old new r → Spared
-  make_turn sql table most rest depends alone s old has free indexes_free counted next turns =
-      let same = free_as_alone sql table depends alone s free in
-      table_turn g new sql s table most rest old r has
-      (subst (λ r. (command_of r ≡ CreateTable) × (table_defined_by (statement_of sql r) ≡ Ok table) × IsPlain r)
-      (sym same) alone)
-      (plain_known (understood s sql) (subst IsPlain (sym same) alone.2)) free
-      (each_free s (automatics table 0 0 table.uniques) indexes_free) counted next turns
-
-  from_7 : (s : Schema) → HasMeta s → (old : Held S) → (state g old).now.schema ≡ s → Turns g 1008 piece_7 [] old new r
-      → Spared
-  from_7 s made old has (inl stops) =
-      let facts = fill_facts made.at in
-      let same = fills s made in
-      let text = statement_of piece_7 (understood s piece_7) in
-      stopped_never g new piece_7 old r
-      (λ e runs. failed_as piece_7 (state g old) (state g new) s has (Insert made.at (Values version_terms 2))
-      (ap command_of same ∙ facts.0) (subst IsPlain (sym same) facts.1)
-      (subst IsUnderstood (sym same) facts.2) e
-      (λ does. inserted_never (state g old).step_limit (state g old).now.trees text s made.tree made.at made.there e
-      (subst (λ (s : Schema). Does (state g old).step_limit plain_mode []
-      (record { schema = s; trees = (state g old).now.trees }) text None (Insert made.at (Values version_terms 2))
-      (Err (Some e))) has does)) runs) stops
-  from_7 s made old has (inr (mid, ran, others)) =
-      subst (λ (x : Result (Unit {0}) Error). IfErr x (λ e. tells_taken e ≡ false)) (sym others.0) tt
-
-  from_6 : (s : Schema) → HasMeta s → Before s names_6 → (old : Held S) → (state g old).now.schema ≡ s
-      → Turns g 1009 piece_6 rest_7 old new r → Spared
-  from_6 s made b old has turns =
-      make_turn piece_6 tally 1009 rest_7 depends_6 alone_6 s old has b.free.0 (tally_index_free s b.free.1.0)
-      (lacks_still s tally refl b.counted)
-      (λ mid is others. from_7 (created s tally) (still_meta s tally made) mid is (turn_7 g mid new r others)) turns
-
-  from_5 : (s : Schema) → HasMeta s → Before s names_5 → (old : Held S) → (state g old).now.schema ≡ s
-      → Turns g 1010 piece_5 rest_6 old new r → Spared
-  from_5 s made b old has turns =
-      let after = next_before s reader names_6 refl apart_5 b.counted b.free.1.1 in
-      make_turn piece_5 reader 1010 rest_6 depends_5 alone_5 s old has b.free.0 (reader_index_free s b.free.1.0)
-      after.counted
-      (λ mid is others. from_6 (created s reader) (still_meta s reader made) after mid is (turn_6 g mid new r others))
-      turns
-
-  from_4 : (s : Schema) → HasMeta s → Before s names_4 → (old : Held S) → (state g old).now.schema ≡ s
-      → Turns g 1011 piece_4 rest_5 old new r → Spared
-  from_4 s made b old has turns =
-      let after = next_before s deposit names_5 refl apart_4 b.counted b.free.1.1 in
-      make_turn piece_4 deposit 1011 rest_5 depends_4 alone_4 s old has b.free.0 (deposit_index_free s b.free.1.0)
-      after.counted
-      (λ mid is others. from_5 (created s deposit) (still_meta s deposit made) after mid is (turn_5 g mid new r others))
-      turns
-
-  from_3 : (s : Schema) → HasMeta s → Before s names_3 → (old : Held S) → (state g old).now.schema ≡ s
-      → Turns g 1012 piece_3 rest_4 old new r → Spared
-  from_3 s made b old has turns =
-      let after = next_before s hold names_4 refl apart_3 b.counted b.free.1 in
-      make_turn piece_3 hold 1012 rest_4 depends_3 alone_3 s old has b.free.0 tt after.counted
-      (λ mid is others. from_4 (created s hold) (still_meta s hold made) after mid is (turn_4 g mid new r others)) turns
-
-  from_2 : (s : Schema) → HasMeta s → Before s names_2 → (old : Held S) → (state g old).now.schema ≡ s
-      → Turns g 1013 piece_2 rest_3 old new r → Spared
-  from_2 s made b old has turns =
-      let after = next_before s calibration names_3 refl apart_2 b.counted b.free.1 in
-      make_turn piece_2 calibration 1013 rest_3 depends_2 alone_2 s old has b.free.0 tt after.counted
-      (λ mid is others. from_3 (created s calibration) (still_meta s calibration made) after mid is
-      (turn_3 g mid new r others)) turns
-
-  from_1 : (s : Schema) → HasMeta s → Before s names_1 → (old : Held S) → (state g old).now.schema ≡ s
-      → Turns g 1014 piece_1 rest_2 old new r → Spared
-  from_1 s made b old has turns =
-      let after = next_before s stamp names_2 refl apart_1 b.counted b.free.1 in
-      make_turn piece_1 stamp 1014 rest_2 depends_1 alone_1 s old has b.free.0 tt after.counted
-      (λ mid is others. from_2 (created s stamp) (still_meta s stamp made) after mid is (turn_2 g mid new r others))
-      turns
-
-  from_0 : (s : Schema) → Before s names_0 → (old : Held S) → (state g old).now.schema ≡ s
-      → Turns g 1015 piece_0 rest_1 old new r → Spared
-  from_0 s b old has turns =
-      let after = next_before s meta names_1 refl apart_0 b.counted b.free.1 in
-      make_turn piece_0 meta 1015 rest_1 depends_0 alone_0 s old has b.free.0 tt after.counted
-      (λ mid is others. from_1 (created s meta) (made_meta s b.free.0) after mid is (turn_1 g mid new r others)) turns
+ours_apart = (
+  (λ tree. refl),
+  (
+    (λ tree. refl),
+    (
+      (λ tree. refl),
+      ((λ tree. refl), ((λ tree. refl), ((λ tree. refl), ((λ tree. refl), ((λ tree. refl), tt))))),
+    ),
+  ),
+)
 
 none_any : {X : Type 0} (p : X → Bool) (xs : List X) → list_any p xs ≡ false → AllByRecursion (λ x. p x ≡ false) xs
 none_any p [] none = tt
@@ -446,7 +304,89 @@ none_any p (x ∷ xs) none = elim (cases_Bool (p x)) [
   | inr later ↦ (later, none_any p xs (rw later at none))
 ]
 
-all_free : (s : Schema) → takes_name s ≡ false → takes_index s ≡ false → AreFree s names_0
+each_free : (schema : Schema) (indexes : List Index) (later : List (List ℕ))
+    → AreFree schema (map (λ (i : Index). i.name) indexes ++ later) → (index : Index) → Has indexes index
+    → is_used schema index.name ≡ false
+each_free schema [] later all index there = absurd there
+each_free schema (i ∷ indexes) later all index (inl same) =
+    subst (λ (x : Index). is_used schema x.name ≡ false) (sym same) all.0
+each_free schema (i ∷ indexes) later all index (inr there) = each_free schema indexes later all.1 index there
+
+later_free : (schema : Schema) (names later : List (List ℕ)) → AreFree schema (names ++ later) → AreFree schema later
+later_free schema [] later all = all
+later_free schema (name ∷ names) later all = later_free schema names later all.1
+
+-- ---- the batch, over a database in which none of them is used
+
+-- a schema before a table is made, with names that are free
+record Before (s : Schema) (names : List (List ℕ)) : Type 0 where
+  free : AreFree s names
+  counted : lacks_sequence s ≡ false
+
+pub plain_known : (r : Result Compiled CompileError) → IsPlain r → IsUnderstood r
+plain_known (Ok c) plain = tt
+plain_known (Err e) plain = absurd plain
+
+module _ {S : Type 0} (g : Ghosts S) (new : Held S) (r : Result (Unit {0}) Error) where
+  abbrev Spared : Type 0
+  Spared = IfErr r (λ e. tells_taken e ≡ false)
+
+  -- those that make tables, up to the last text
+  tables_turn : (makings : List Making) → AllByRecursion IsMaking makings → AreApart makings → (last : List ℕ)
+      → AreCut makings last → (s : Schema) → Before s (names_of makings) → (old : Held S)
+      → (state g old).now.schema ≡ s
+      → ((mid : Held S) → (state g mid).now.schema ≡ schema_with s makings → Goes g last mid new r → Spared)
+      → Goes g (joined makings last) old new r → Spared
+  tables_turn [] are apart last cut s b old has next ran = next old has ran
+  tables_turn (m ∷ more) are apart last cut s b old has next ran =
+      let free = b.free.0 in
+      let is = makes_in m are.0 s free in
+      let counted = lacks_still s m.table are.0.uncounted b.counted in
+      let rest_free = later_free s (map (λ (i : Index). i.name) (indexes_of m.table)) (names_of more) b.free.1 in
+      let after : Before (created s m.table) (names_of more) = record {
+        free = stay_free s m.table (names_of more) rest_free
+            (none_any (clashes m.table (next_tree s)) (names_of more) (apart.0 (next_tree s)));
+        counted = counted;
+      } in
+      table_turn g new m.text s m.table (joined more last) old r has is (plain_known (understood s m.text) is.2) free
+      (each_free s (indexes_of m.table) (names_of more) b.free.1) counted
+      (λ mid made others. tables_turn more are.1 apart.1 last cut.1 (created s m.table) after mid made next others)
+      (turn g (joined (m ∷ more) last) m.text (joined more last) cut.0 old new r ran)
+
+  -- the row of `meta`
+  version_turn : (s : Schema) → HasMeta s → (old : Held S) → (state g old).now.schema ≡ s
+      → Turns g insert_version [] old new r → Spared
+  version_turn s made old has (inl stops) =
+      let facts = fill_facts made.at in
+      let same = fills s made in
+      let text = statement_of insert_version (understood s insert_version) in
+      stopped_never g new insert_version old r
+      (λ e runs. failed_as insert_version (state g old) (state g new) s has
+      (Insert made.at (Values version_terms 2))
+      (ap command_of same ∙ facts.0) (subst IsPlain (sym same) facts.1)
+      (subst IsUnderstood (sym same) facts.2) true e
+      (λ does. inserted_never (state g old).step_limit (state g old).now.trees text s made.tree made.at made.there e
+      (subst (λ (s : Schema). Does (state g old).step_limit plain_mode []
+      (record { schema = s; trees = (state g old).now.trees }) text None (Insert made.at (Values version_terms 2))
+      (Err (Some e))) has does)) runs) stops
+  version_turn s made old has (inr (mid, ran, others)) =
+      subst (λ (x : Result (Unit {0}) Error). IfErr x (λ e. tells_taken e ≡ false)) (sym (ended g mid new r others).0)
+      tt
+
+still_has_meta : (makings : List Making) (s : Schema) → HasMeta s → HasMeta (schema_with s makings)
+still_has_meta [] s has = has
+still_has_meta (m ∷ more) s has = still_has_meta more (created s m.table) (still_meta s m.table has)
+
+all_turn : {S : Type 0} (g : Ghosts S) (old new : Held S) (r : Result (Unit {0}) Error) (s : Schema)
+    → Before s (names_of makings) → (state g old).now.schema ≡ s → Goes g make_all old new r
+    → IfErr r (λ e. tells_taken e ≡ false)
+all_turn g old new r s b has ran =
+    tables_turn g new r makings are_makings ours_apart insert_version are_cut s b old has
+    (λ mid made others. version_turn g new r (schema_with s makings)
+    (still_has_meta later_makings (created s meta) (made_meta s b.free.0)) mid made
+    (turn g insert_version insert_version [] (cut_last makings insert_version are_cut) mid new r others)) ran
+
+all_free : (s : Schema) → takes_name s ≡ false → takes_index s ≡ false → AreFree s (names_of makings)
 unfolding everything
 all_free s names indexes =
     let t = none_any (λ (table : Table). is_used s table.name) the_schema.tables names in
@@ -456,7 +396,19 @@ all_free s names indexes =
         t.1.0,
         (
           t.1.1.0,
-          (t.1.1.1.0, (t.1.1.1.1.0, (i.0, (t.1.1.1.1.1.0, (i.1.0, (t.1.1.1.1.1.1.0, (i.1.1.0, tt))))))),
+          (
+            t.1.1.1.0,
+            (
+              t.1.1.1.1.0,
+              (
+                i.0,
+                (
+                  t.1.1.1.1.1.0,
+                  (i.1.0, (t.1.1.1.1.1.1.0, (i.1.1.0, (t.1.1.1.1.1.1.1.0, (i.1.1.1.0, tt))))),
+                ),
+              ),
+            ),
+          ),
         ),
       ),
     )
@@ -474,9 +426,23 @@ in_the_way g old new (Err e) ran = λ taken.
         | inl index ↦ inr (inl index)
         | inr indexes ↦ elim (cases_Bool (lacks_sequence s)) [
           | inl lacks ↦ inr (inr lacks)
-          | inr counted ↦ absurd (let free = from_0 g new (Err e) s
-              (record { free = all_free s names indexes; counted = counted }) old refl
-              (turn_0 g old new (Err e) (begun g old new (Err e) ran)) in cc)
+          | inr counted ↦ absurd (let free = all_turn g old new (Err e) s
+              (record { free = all_free s names indexes; counted = counted }) refl (begun g old new (Err e) ran) in cc)
         ]
       ]
     ]
+
+-- and it succeeds only where none of their names is used
+pub names_free_if : {S : Type 0} (g : Ghosts S) (old new : Held S) (r : Result (Unit {0}) Error)
+    → ExecutesAllInside g 0 make_all old new r → IfOk r (λ _. takes_name (state g old).now.schema ≡ false)
+names_free_if g old new (Err e) ran = tt
+names_free_if g old new (Ok u) ran =
+    none_used (state g old).now.schema makings
+    (names_free g makings are_makings insert_version old new
+    (in_turn g makings insert_version are_cut old new (begun g old new (Ok tt) ran)))
+  where
+    none_used : (s : Schema) (ms : List Making)
+        → AllByRecursion (λ (m : Making). is_used s m.table.name ≡ false) ms
+        → list_any (λ (m : Making). is_used s m.table.name) ms ≡ false
+    none_used s [] all = refl
+    none_used s (m ∷ ms) all = rw (all.0) (none_used s ms all.1)

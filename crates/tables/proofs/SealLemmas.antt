@@ -39,6 +39,7 @@ use Rattle.tables.specs.Tables.{Tables, StampRow, ReaderRow, TallyRow, is_stamp,
 use Rattle.tables.specs.Tables.{raised_row, with_token, without_reader}
 use Rattle.tables.specs.Steps.{with_raised}
 use Rattle.tables.specs.Holding.{Holds, IsDatabaseOf, stamp_cells, reader_cells, tally_cells}
+use Rattle.tables.specs.Names as name
 use Rattle.tables.proofs.CarryLemmas.{carried, did, Makes}
 use Rattle.tables.proofs.FrameLemmas.{with_stamps, with_readers, with_tallies}
 use Rattle.tables.proofs.InsertLemmas.{cast_int, cast_null, idle}
@@ -71,7 +72,7 @@ pub seal_makes : (serial : ℕ) (token : List ℕ) → Makes seal_update (seal_p
 seal_makes serial token limit text t db out h does =
     let agree = λ (y : Value × StampRow). and_true _ ∙ test_number y.1.serial serial in
     let it = updates_rows stamp_cells (λ x e. cc) limit (seal_params serial token) the_schema db text 1 idle _ _ _ _ _ _
-    _ 1 refl out true t.stamps h.stamps (equals 0 0 ∷ []) (is_stamp serial) agree
+    _ 1 refl out true t.stamps (h.rows name.Stamp refl) (equals 0 0 ∷ []) (is_stamp serial) agree
     seal_rest does (λ row. record row { token = Some token }) (λ y own ok typed. simp (cast_int, cast_null)) in
     record {
       schema = it.1.1;
@@ -94,47 +95,6 @@ pub seal_carried : (serial : ℕ) (token : List ℕ) (old new : State) (result :
 seal_carried serial token =
     carried set_token (seal_params serial token) seal_update seal_is seal_plain (λ old new text count w. w)
     (with_token serial token) (seal_makes serial token)
-
--- ---- a right taken back
-
-abbrev pub revoke_params : ℕ → List ℕ → Row
-revoke_params serial account = Int (pos serial) ∷ Text account ∷ []
-
-abbrev pub revoke_delete : Command
-revoke_delete = Delete 5 (program_of 6 (equals 1 0 ∷ equals 2 1 ∷ []) (col 1 0 ∷ []) [] no_limit)
-
-reader_test : (serial : ℕ) (account : List ℕ) (y : Value × ReaderRow)
-    → passes (equals 1 0 ∷ equals 2 1 ∷ []) (revoke_params serial account) (raw reader_cells (λ x e. cc) false y)
-    ≡ is_reader_row serial account y.1
-reader_test serial account y = ap₂ ◌&&◌ (test_number y.1.serial serial) (and_true _ ∙ test_text y.1.account account)
-
-pub revoke_makes : (serial : ℕ) (account : List ℕ)
-    → Makes revoke_delete (revoke_params serial account) (without_reader serial account)
-revoke_makes serial account limit text t db out h does =
-    let it = deletes_rows reader_cells (λ x e. cc) limit (revoke_params serial account) the_schema db text 5 idle _ _ _
-    _ _ _ _ 6 refl out false t.readers h.readers (equals 1 0 ∷ equals 2 1 ∷ [])
-    (is_reader_row serial account) (reader_test serial account) does in
-    record {
-      schema = it.1.1;
-      holds = with_readers db out.1.trees t h (filter (λ row. not (is_reader_row serial account row)) t.readers)
-          it.1.0 it.0;
-    }
-
-revoke_is : command_of (understood the_schema delete_reader) ≡ revoke_delete
-unfolding understood everything
-revoke_is = refl
-
-revoke_plain : IsPlain (understood the_schema delete_reader)
-unfolding understood everything
-revoke_plain = (refl, refl)
-
-pub revoke_carried : (serial : ℕ) (account : List ℕ) (old new : State) (result : Result ℕ Error)
-    → Survives old new (λ _. ⊥) → (given : Row) → given ≡ revoke_params serial account
-    → (HasCleanDisk new → IsTrue old.in_transaction → ExecutesInside 0 delete_reader given old new result)
-    → Carries (without_reader serial account) old new result
-revoke_carried serial account =
-    carried delete_reader (revoke_params serial account) revoke_delete revoke_is revoke_plain
-    (λ old new text count w. w) (without_reader serial account) (revoke_makes serial account)
 
 -- ---- a count raised
 
@@ -215,13 +175,13 @@ module _ (account : List ℕ) (day : ℕ) (limit : Option ℕ) (text : List ℕ)
   raise_does =
       let low : (x : TallyRow) → Has t.tallies x → x.count < 2 ^ 63 = λ x known. all_has _ t.tallies x h.counts known in
       let it = updates_rows tally_cells (λ x e. cc) limit (raise_params account day) the_schema db text 6 idle _ _ _ _ _
-      _ _ 8 refl out false t.tallies h.tallies raise_tests (is_tally_of account day)
+      _ _ 8 refl out false t.tallies (h.rows name.Tally refl) raise_tests (is_tally_of account day)
       (tally_test account day) raise_rest does one_more
       (λ y own ok typed. (raise_each account day y (low y.1 own) typed).0) in
       let next : (x : TallyRow) → Has t.tallies x → is_tally_of account day x ≡ true → x.count + 1 < 2 ^ 63 =
       λ x known ok.
       let there = updates_typed tally_cells (λ x e. cc) limit (raise_params account day) the_schema db text 6 idle _ _ _
-      _ _ _ _ 8 refl out false t.tallies h.tallies raise_tests (is_tally_of account day)
+      _ _ _ _ 8 refl out false t.tallies (h.rows name.Tally refl) raise_tests (is_tally_of account day)
       (tally_test account day) raise_rest does x known ok in
       subst (λ (z : TallyRow). z.count + 1 < 2 ^ 63) (sym there.1)
       (raise_each account day there.0 (subst (λ (z : TallyRow). z.count < 2 ^ 63) there.1 (low x known))
@@ -234,7 +194,7 @@ module _ (account : List ℕ) (day : ℕ) (limit : Option ℕ) (text : List ℕ)
 
   pub raise_count : out.0.rows ≡ Some (length (filter (is_tally_of account day) t.tallies))
   raise_count = updates_count tally_cells (λ x e. cc) limit (raise_params account day) the_schema db text 6 idle _ _ _ _
-      _ _ _ 8 refl out false t.tallies h.tallies raise_tests (is_tally_of account day)
+      _ _ _ 8 refl out false t.tallies (h.rows name.Tally refl) raise_tests (is_tally_of account day)
       (tally_test account day) raise_rest does
 
 raise_is : command_of (understood the_schema raise_tally) ≡ raise_update

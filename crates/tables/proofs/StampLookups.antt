@@ -15,6 +15,7 @@ use Rattle.sqlite.proofs.Callers.{command_of}
 use Rattle.tables.specs.Asking.{IsQueryText, TellsFirst}
 use Rattle.tables.specs.Found.{IsFoundAs, IsLeastAs}
 use Rattle.tables.specs.Holding.{Holds, stamp_cells}
+use Rattle.tables.specs.Names as name
 use Rattle.tables.specs.Queries.{is_within}
 use Rattle.tables.specs.Schema.{the_schema}
 use Rattle.tables.specs.Shown.{stamp_shown, origin_shown}
@@ -62,7 +63,7 @@ pub stamp_found : (t : Tables) (db : Trees) (serial : ℕ) (given : Row) (row : 
     → IsFoundAs (λ x r. r ≡ stamp_shown x) (is_stamp serial) t.stamps row
 stamp_found t db serial given row h same told =
     found_by stamp_cells (λ x e. cc) 1 true t.stamps (stamp_params serial) stamp_tests stamp_project (is_stamp serial)
-    stamp_shown (stamp_test serial) (λ y. refl) db h.stamps
+    stamp_shown (stamp_test serial) (λ y. refl) db (h.rows name.Stamp refl)
     stamp_sql stamp_names stamp_is given row same told
 
 -- ---- whose it is, and of when
@@ -100,7 +101,7 @@ pub origin_found : (t : Tables) (db : Trees) (serial : ℕ) (given : Row) (row :
     → IsFoundAs (λ x r. r ≡ origin_shown x) (is_stamp serial) t.stamps row
 origin_found t db serial given row h same told =
     found_by stamp_cells (λ x e. cc) 1 true t.stamps (origin_params serial) origin_tests origin_project
-    (is_stamp serial) origin_shown (origin_test serial) (λ y. refl) db h.stamps
+    (is_stamp serial) origin_shown (origin_test serial) (λ y. refl) db (h.rows name.Stamp refl)
     origin_sql origin_names origin_is given row same told
 
 -- ---- the next stamp of a range
@@ -141,6 +142,6 @@ pub next_stamp_found : (t : Tables) (db : Trees) (from to : ℕ) (given : Row) (
     → IsLeastAs (λ x r. r ≡ stamp_shown x) (λ x. x.serial) (is_within from to) t.stamps row
 next_stamp_found t db from to given row h same told =
     least_by stamp_cells (λ x e. cc) 1 true t.stamps (next_stamp_params from to) next_stamp_tests next_stamp_project
-    (is_within from to) stamp_shown (next_stamp_test from to) (λ y. refl) db h.stamps (col 1 0) (λ x. x.serial)
+    (is_within from to) stamp_shown (next_stamp_test from to) (λ y. refl) db (h.rows name.Stamp refl) (col 1 0) (λ x. x.serial)
     (λ y. refl)
     next_stamp_sql next_stamp_names next_stamp_is given row same told

@@ -1,5 +1,5 @@
 -- A call leaves a connection as usable as it was.
-use Rattle.std.proofs.Common.{◌⊎◌, ℕ, ◌≤◌, refl, ◌∙◌, inl, inr, arith}
+use Rattle.std.proofs.Common.{◌∙◌, inl, inr, arith}
 use Rattle.sqlite_trees.specs.Tree.{Trees}
 use Rattle.sqlite.specs.State.{State, HasCleanDisk, Survives}
 use Rattle.tables.specs.Asking.{StaysUsable, Looks}

@@ -7,9 +7,8 @@ use Rattle.sqlite.specs.Effect.{IsDatabase}
 use Rattle.sqlite.specs.State.{State, HasCleanDisk}
 use Rattle.sqlite_trees.specs.Tree.{Trees}
 use Rattle.sqlite_trees.specs.declared.store.Store.{Ghosts}
-use Rattle.tables.specs.Schema.{the_schema}
 use Rattle.tables.specs.Tables.{Tables}
-pub use Rattle.tables.specs.Holding.{Holds, IsStored}
+pub use Rattle.tables.specs.Holding.{IsStored, IsDatabaseOf}
 
 pub record BaseValue (S : Type 0) : Type 0 where
   pub conn : Held S
@@ -22,8 +21,7 @@ base_code {S} store =
 
 -- what is seen and what was committed are these tables, and a crash leaves nothing else
 pub record StandsFor (t : Tables) (s : State) : Type 0 where
-  pub schema : s.now.schema ≡ the_schema
-  pub holds : Holds t s.now.trees
+  pub database : IsDatabaseOf t s.now
   pub sound : IsDatabase s.now
   pub settled : s.now ≡ s.committed
   pub autocommit : s.in_transaction ≡ false

@@ -1,7 +1,7 @@
 -- When a database holds the tables. A row of a database is its own number, the rowid, and then its columns. An INTEGER
 -- PRIMARY KEY is the rowid itself, and its column is kept as NULL. Other tables have a rowid that says nothing.
 use Rattle.std.specs.Prelude.{◌≡◌, ◌<◌, ◌^◌, ℕ, pos, Bool, true, false, List, [], ◌∷◌, map, drop, Option, Some, None}
-use Rattle.std.specs.Prelude.{IsPermutation}
+use Rattle.std.specs.Prelude.{IsPermutation, IsTrue, nat_le, nat_lt}
 use Rattle.std.specs.List.{AllByRecursion}
 use Rattle.sqlite_value.specs.declared.value.Value.{Value}
 use Rattle.sqlite_value.specs.declared.value.Value.TheVariants.{Null, Int, Text, Blob}
@@ -11,7 +11,9 @@ use Rattle.sqlite_trees.specs.View.{IsShaped}
 use Rattle.sqlite_trees.specs.Tree.{Trees}
 use Rattle.sqlite_catalog.specs.Listing.{IsSound}
 use Rattle.sqlite.specs.Effect.{Database}
-use Rattle.tables.specs.Schema.{the_schema}
+use Rattle.tables.specs.Names.{Name}
+use Rattle.tables.specs.Names as name
+use Rattle.tables.specs.Schema.{schema_of, the_schema, the_version}
 use Rattle.tables.specs.Tables.{StampRow, CalibrationRow, HoldRow, DepositRow, ReaderRow, TallyRow, Tables}
 
 abbrev pub token_cell : Option (List ℕ) → Value
@@ -37,7 +39,7 @@ abbrev pub deposit_cells : DepositRow → Row
 deposit_cells d = Int (pos d.serial) ∷ Null ∷ Text d.owner ∷ Text d.reference ∷ Blob d.bytes ∷ []
 
 abbrev pub reader_cells : ReaderRow → Row
-reader_cells r = Int (pos r.serial) ∷ Text r.account ∷ []
+reader_cells r = Int (pos r.serial) ∷ Text r.name ∷ []
 
 abbrev pub tally_cells : TallyRow → Row
 tally_cells t = Text t.account ∷ Int (pos t.day) ∷ Int (pos t.count) ∷ []
@@ -52,16 +54,90 @@ pub record AreRows {X : Type 0} (keyed : Bool) (cells : X → Row) (xs : List X)
   pub shaped : IsShaped Table rows
   pub same : IsPermutation (map cells xs) (map (said keyed) rows)
 
-pub record Holds (t : Tables) (db : Trees) : Type 0 where
-  pub version : AreRows false version_cells (1 ∷ []) (db 0)
-  pub stamps : AreRows true stamp_cells t.stamps (db 1)
-  pub calibrations : AreRows true calibration_cells t.calibrations (db 2)
-  pub holds : AreRows true hold_cells t.holds (db 3)
-  pub deposits : AreRows true deposit_cells t.deposits (db 4)
-  pub readers : AreRows false reader_cells t.readers (db 6)
-  pub tallies : AreRows false tally_cells t.tallies (db 8)
+-- ---- each table by its name
+
+-- a row of it
+abbrev pub RowOf : Name → Type 0
+RowOf name.Meta = ℕ
+RowOf name.Stamp = StampRow
+RowOf name.Calibration = CalibrationRow
+RowOf name.Hold = HoldRow
+RowOf name.Deposit = DepositRow
+RowOf name.Reader = ReaderRow
+RowOf name.Tally = TallyRow
+RowOf name.GroupReader = ReaderRow
+
+-- what such a row says
+abbrev pub cells_of : (n : Name) → RowOf n → Row
+cells_of name.Meta = version_cells
+cells_of name.Stamp = stamp_cells
+cells_of name.Calibration = calibration_cells
+cells_of name.Hold = hold_cells
+cells_of name.Deposit = deposit_cells
+cells_of name.Reader = reader_cells
+cells_of name.Tally = tally_cells
+cells_of name.GroupReader = reader_cells
+
+-- whether its rowid is its key
+abbrev pub is_keyed : Name → Bool
+is_keyed name.Meta = false
+is_keyed name.Stamp = true
+is_keyed name.Calibration = true
+is_keyed name.Hold = true
+is_keyed name.Deposit = true
+is_keyed name.Reader = false
+is_keyed name.Tally = false
+is_keyed name.GroupReader = false
+
+-- the tree of its rows: 5, 7, 9 and 11 are of the indexes of the tables before them
+abbrev pub tree_of : Name → ℕ
+tree_of name.Meta = 0
+tree_of name.Stamp = 1
+tree_of name.Calibration = 2
+tree_of name.Hold = 3
+tree_of name.Deposit = 4
+tree_of name.Reader = 6
+tree_of name.Tally = 8
+tree_of name.GroupReader = 10
+
+-- the version of the schema that has it first
+abbrev pub first_version : Name → ℕ
+first_version name.Meta = 1
+first_version name.Stamp = 1
+first_version name.Calibration = 1
+first_version name.Hold = 1
+first_version name.Deposit = 1
+first_version name.Reader = 1
+first_version name.Tally = 1
+first_version name.GroupReader = 2
+
+-- its rows where the schema has this version
+abbrev pub rows_of : ℕ → (n : Name) → Tables → List (RowOf n)
+rows_of version name.Meta t = version ∷ []
+rows_of version name.Stamp t = t.stamps
+rows_of version name.Calibration t = t.calibrations
+rows_of version name.Hold t = t.holds
+rows_of version name.Deposit t = t.deposits
+rows_of version name.Reader t = t.readers
+rows_of version name.Tally t = t.tallies
+rows_of version name.GroupReader t = t.group_readers
+
+-- the table of a name holds its rows
+abbrev pub HoldsAt : ℕ → Name → Tables → Trees → Type 0
+HoldsAt version n t db = AreRows (is_keyed n) (cells_of n) (rows_of version n t) (db (tree_of n))
+
+-- each table that a version of the schema has holds its rows
+pub record HoldsIn (version : ℕ) (t : Tables) (db : Trees) : Type 0 where
+  pub rows : (n : Name) → IsTrue (nat_le (first_version n) version) → HoldsAt version n t db
   -- as a column of INTEGER has them
   pub counts : AllByRecursion (λ row. row.count < 2 ^ 63) t.tallies
+
+abbrev pub Holds : Tables → Trees → Type 0
+Holds = HoldsIn the_version
+
+-- no table that a later version has first holds a row
+abbrev pub HoldsNoLater : ℕ → Tables → Type 0
+HoldsNoLater version t = (n : Name) → IsTrue (nat_lt version (first_version n)) → rows_of version n t ≡ []
 
 -- the tables, in trees whose catalog lists our schema: what an opening finds is known by them
 pub record IsStored (t : Tables) (db : Trees) : Type 0 where
@@ -72,3 +148,14 @@ pub record IsStored (t : Tables) (db : Trees) : Type 0 where
 pub record IsDatabaseOf (t : Tables) (d : Database) : Type 0 where
   pub schema : d.schema ≡ the_schema
   pub holds : Holds t d.trees
+
+-- the same of an earlier version of the schema
+pub record IsStoredIn (version : ℕ) (t : Tables) (db : Trees) : Type 0 where
+  pub holds : HoldsIn version t db
+  pub later : HoldsNoLater version t
+  pub listed : IsSound (schema_of version) db
+
+pub record IsDatabaseIn (version : ℕ) (t : Tables) (d : Database) : Type 0 where
+  pub schema : d.schema ≡ schema_of version
+  pub holds : HoldsIn version t d.trees
+  pub later : HoldsNoLater version t

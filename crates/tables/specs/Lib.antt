@@ -5,6 +5,9 @@ pub mod Changes
 pub mod Faults
 pub mod Found
 pub mod Holding
+pub mod Making
+pub mod Migrating
+pub mod Names
 pub mod Opening
 pub mod Queries
 pub mod Schema

@@ -1,5 +1,6 @@
 -- When a connection's tables are taken for ours.
 use Rattle.std.specs.Prelude.{◌≡◌, ◌⊎◌, ℕ, pos, Bool, true, false, List, [], ◌∷◌, codes, Result, Ok, Err, ⊤, IsTrue}
+use Rattle.std.specs.Prelude.{Option, None, Some}
 use Rattle.std.specs.List.{list_any}
 use Rattle.sqlite_value.specs.declared.value.Value.TheVariants.{Int}
 use Rattle.sqlite_value.specs.Order.{Row, column}
@@ -16,14 +17,21 @@ use Rattle.sqlite.specs.declared.error.Error.TheVariants.{SqliteFailure, SqlInpu
 use Rattle.sqlite.specs.declared.error.ErrorCode.TheVariants.{NameTaken}
 use Rattle.tables.specs.Asking.{Answers}
 use Rattle.tables.specs.Carrying.{CommitsFrom}
-use Rattle.tables.specs.Schema.{no_schema, the_schema}
+use Rattle.tables.specs.Schema.{no_schema, the_schema, the_version}
 use Rattle.tables.specs.Tables.{Tables, no_rows}
-use Rattle.tables.specs.Holding.{IsDatabaseOf}
+use Rattle.tables.specs.Holding.{IsDatabaseOf, IsDatabaseIn}
+use Rattle.tables.specs.declared.opening.Version.{Version}
+use Rattle.tables.specs.declared.opening.Version.TheVariants as version
 
--- a query over each table and each column, and the rows of `meta`
+-- a query over each table and each column
 abbrev pub all_columns : List ℕ
-all_columns = codes "SELECT meta.version, stamp.serial, stamp.account, stamp.day, stamp.gen, stamp.policy, stamp.algorithm, stamp.digest, stamp.request, stamp.tst, stamp.token, calibration.n, calibration.reading, calibration.offset_us, calibration.uncertainty, hold.n, hold.from_us, hold.to_us, deposit.serial, deposit.owner, deposit.reference, deposit.bytes, reader.serial, reader.account, tally.account, tally.day, tally.count FROM meta, stamp, calibration, hold, deposit, reader, tally"
+all_columns = codes "SELECT meta.version, stamp.serial, stamp.account, stamp.day, stamp.gen, stamp.policy, stamp.algorithm, stamp.digest, stamp.request, stamp.tst, stamp.token, calibration.n, calibration.reading, calibration.offset_us, calibration.uncertainty, hold.n, hold.from_us, hold.to_us, deposit.serial, deposit.owner, deposit.reference, deposit.bytes, reader.serial, reader.account, tally.account, tally.day, tally.count, group_reader.serial, group_reader.name FROM meta, stamp, calibration, hold, deposit, reader, tally, group_reader"
 
+-- the same of the first version
+abbrev pub first_columns : List ℕ
+first_columns = codes "SELECT meta.version, stamp.serial, stamp.account, stamp.day, stamp.gen, stamp.policy, stamp.algorithm, stamp.digest, stamp.request, stamp.tst, stamp.token, calibration.n, calibration.reading, calibration.offset_us, calibration.uncertainty, hold.n, hold.from_us, hold.to_us, deposit.serial, deposit.owner, deposit.reference, deposit.bytes, reader.serial, reader.account, tally.account, tally.day, tally.count FROM meta, stamp, calibration, hold, deposit, reader, tally"
+
+-- the one row of `meta` is asked for
 abbrev pub version_query : List ℕ
 version_query = codes "SELECT version FROM meta"
 
@@ -35,20 +43,43 @@ IsUnderstood (Err e) = ⊥
 abbrev pub IsFound : Tables → State → Type 0
 IsFound t s = IsDatabaseOf t s.now × (s.now ≡ s.committed) × IsDatabase s.now
 
--- the rows of an answer are one, with version 1
-abbrev pub IsVersionOne : List Row → Type 0
-IsVersionOne rows = (row : Row) × (rows ≡ row ∷ []) × (column row 0 ≡ Int (pos 1))
+-- the same of an earlier version
+abbrev pub IsFoundIn : ℕ → Tables → State → Type 0
+IsFoundIn version t s = IsDatabaseIn version t s.now × (s.now ≡ s.committed) × IsDatabase s.now
 
--- a connection to be taken: all tables and columns are known, and `meta` answers version 1 alone
-pub record LooksOurs (s : State) : Type 0 where
-  pub columns : IsUnderstood (understood s.now.schema all_columns)
-  pub version : (rows : List Row) × Answers version_query [] s.now rows × IsVersionOne rows
+-- the rows of an answer are one, with this version
+abbrev pub IsVersion : ℕ → List Row → Type 0
+IsVersion version rows = (row : Row) × (rows ≡ row ∷ []) × (column row 0 ≡ Int (pos version))
 
--- a connection not to be taken: a table or a column isn't known, or `meta` answers something else
+-- the tables of a connection are of a version: all its tables and columns are known, and `meta` answers its number
+-- alone
+pub record LooksIn (asked : List ℕ) (number : ℕ) (s : State) : Type 0 where
+  pub columns : IsUnderstood (understood s.now.schema asked)
+  pub version : (rows : List Row) × Answers version_query [] s.now rows × IsVersion number rows
+
+-- they aren't: a table or a column isn't known, or `meta` answers something else
+abbrev pub LooksOtherThan : List ℕ → ℕ → State → Type 0
+LooksOtherThan asked number s =
+    (¬ IsUnderstood (understood s.now.schema asked))
+    ⊎ ((rows : List Row) × Answers version_query [] s.now rows × (¬ IsVersion number rows))
+
+-- a connection to be taken
+abbrev pub LooksOurs : State → Type 0
+LooksOurs = LooksIn all_columns the_version
+
+-- a connection not to be taken
 abbrev pub LooksForeign : State → Type 0
-LooksForeign s =
-    (¬ IsUnderstood (understood s.now.schema all_columns))
-    ⊎ ((rows : List Row) × Answers version_query [] s.now rows × (¬ IsVersionOne rows))
+LooksForeign = LooksOtherThan all_columns the_version
+
+-- one whose tables are of the first version
+abbrev pub LooksFirst : State → Type 0
+LooksFirst = LooksIn first_columns 1
+
+-- what is told of a connection's tables
+abbrev pub TellsVersion : Option Version → State → Type 0
+TellsVersion None s = LooksForeign s
+TellsVersion (Some version.First) s = LooksFirst s × LooksForeign s
+TellsVersion (Some version.Current) s = LooksOurs s
 
 -- a table, an index or a view has the name of one of our tables
 abbrev pub takes_name : Schema → Bool

@@ -64,7 +64,7 @@ abbrev pub is_owned_after : List ℕ → ℕ → DepositRow → Bool
 is_owned_after owner after row = bytes_eq row.owner owner && nat_lt after row.serial
 
 abbrev pub is_readable_after : List ℕ → ℕ → ReaderRow → Bool
-is_readable_after account after row = bytes_eq row.account account && nat_lt after row.serial
+is_readable_after name after row = bytes_eq row.name name && nat_lt after row.serial
 
 abbrev pub is_owned : ℕ → List ℕ → DepositRow → Bool
 is_owned serial owner row = (row.serial == serial) && bytes_eq row.owner owner

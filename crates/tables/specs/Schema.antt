@@ -1,5 +1,5 @@
--- The schema, version 1: each table as the text that makes it (Statements.antt) defines it.
-use Rattle.std.specs.Prelude.{true, false, ℕ, List, [], ◌∷◌, codes, Option, Some, None}
+-- The schema: each table as the text that makes it (Making.antt) defines it.
+use Rattle.std.specs.Prelude.{true, false, ℕ, List, [], ◌∷◌, map, filter, nat_le, codes, Option, Some, None}
 use Rattle.sqlite_value.specs.declared.value.Value.TheVariants.{Null}
 use Rattle.sqlite_value.specs.declared.keys.Collation.TheVariants.{Binary}
 use Rattle.sqlite_value.specs.declared.keys.Order.{Order}
@@ -89,14 +89,22 @@ deposit = table_of (codes "deposit")
     ∷ required (codes "bytes") Blob ∷ [])
     (Some 0) (0 ∷ []) ((2 ∷ 3 ∷ []) ∷ []) (plain ∷ []) (reference_to (codes "stamp") 0 (codes "serial") ∷ [])
 
-abbrev pub reader : Table
-reader = table_of (codes "reader") (required (codes "serial") Integer ∷ required (codes "account") Text ∷ [])
+-- a right is to read a deposit, of somebody by name, and stands there once
+abbrev pub right_table : List ℕ → List ℕ → Table
+right_table name whom = table_of name (required (codes "serial") Integer ∷ required whom Text ∷ [])
     None (1 ∷ 2 ∷ []) ((1 ∷ 2 ∷ []) ∷ []) (plain ∷ []) (reference_to (codes "deposit") 1 (codes "serial") ∷ [])
+
+abbrev pub reader : Table
+reader = right_table (codes "reader") (codes "account")
 
 abbrev pub tally : Table
 tally = table_of (codes "tally") (required (codes "account") Text ∷ required (codes "day") Integer
     ∷ required (codes "count") Integer ∷ [])
     None (1 ∷ 2 ∷ []) ((1 ∷ 2 ∷ []) ∷ []) (plain ∷ []) []
+
+-- since the second version
+abbrev pub group_reader : Table
+group_reader = right_table (codes "group_reader") (codes "name")
 
 -- the schema, as it is after each of these tables is made
 
@@ -107,5 +115,18 @@ abbrev pub schema_after : List Table → Schema → Schema
 schema_after [] before = before
 schema_after (table ∷ more) before = schema_after more (created before table)
 
+-- each table, with the version of the schema that has it first
+abbrev pub tables_by_version : List (ℕ × Table)
+tables_by_version =
+    (1, meta) ∷ (1, stamp) ∷ (1, calibration) ∷ (1, hold) ∷ (1, deposit) ∷ (1, reader) ∷ (1, tally) ∷ (2, group_reader)
+    ∷ []
+
+abbrev pub schema_of : ℕ → Schema
+schema_of version = schema_after (map (λ p. p.1) (filter (λ p. nat_le p.0 version) tables_by_version)) no_schema
+
+-- the version of now, as the one row of `meta` says it
+abbrev pub the_version : ℕ
+the_version = 2
+
 abbrev pub the_schema : Schema
-the_schema = schema_after (meta ∷ stamp ∷ calibration ∷ hold ∷ deposit ∷ reader ∷ tally ∷ []) no_schema
+the_schema = schema_of the_version

@@ -29,6 +29,8 @@ insert_reader = codes "INSERT INTO reader (serial, account) VALUES (?1, ?2)"
 abbrev pub delete_reader : List ℕ
 delete_reader = codes "DELETE FROM reader WHERE serial = ?1 AND account = ?2"
 
--- all tables, and the one row of `meta`
-abbrev pub make_all : List ℕ
-make_all = codes "CREATE TABLE meta (version INTEGER NOT NULL) STRICT; CREATE TABLE stamp (serial INTEGER PRIMARY KEY, account TEXT NOT NULL, day INTEGER NOT NULL, gen INTEGER NOT NULL, policy BLOB NOT NULL, algorithm BLOB NOT NULL, digest BLOB NOT NULL, request BLOB NOT NULL, tst BLOB NOT NULL, token BLOB) STRICT; CREATE TABLE calibration (n INTEGER PRIMARY KEY, reading INTEGER NOT NULL, offset_us INTEGER NOT NULL, uncertainty INTEGER NOT NULL) STRICT; CREATE TABLE hold (n INTEGER PRIMARY KEY, from_us INTEGER NOT NULL, to_us INTEGER NOT NULL) STRICT; CREATE TABLE deposit (serial INTEGER PRIMARY KEY REFERENCES stamp (serial), owner TEXT NOT NULL, reference TEXT NOT NULL, bytes BLOB NOT NULL, UNIQUE (owner, reference)) STRICT; CREATE TABLE reader (serial INTEGER NOT NULL REFERENCES deposit (serial), account TEXT NOT NULL, PRIMARY KEY (serial, account)) STRICT; CREATE TABLE tally (account TEXT NOT NULL, day INTEGER NOT NULL, count INTEGER NOT NULL, PRIMARY KEY (account, day)) STRICT; INSERT INTO meta (version) VALUES (1)"
+abbrev pub insert_group_reader : List ℕ
+insert_group_reader = codes "INSERT INTO group_reader (serial, name) VALUES (?1, ?2)"
+
+abbrev pub delete_group_reader : List ℕ
+delete_group_reader = codes "DELETE FROM group_reader WHERE serial = ?1 AND name = ?2"

@@ -15,4 +15,8 @@ abbrev pub with_count : List ℕ → ℕ → Tables → Tables
 with_count account day t = record t { tallies = with_one_more account day t.tallies }
 
 abbrev pub with_reader_alone : ℕ → List ℕ → Tables → Tables
-with_reader_alone serial account t = record t { readers = record { serial = serial; account = account } ∷ t.readers }
+with_reader_alone serial account t = record t { readers = record { serial = serial; name = account } ∷ t.readers }
+
+abbrev pub with_group_reader_alone : ℕ → List ℕ → Tables → Tables
+with_group_reader_alone serial name t =
+    record t { group_readers = record { serial = serial; name = name } ∷ t.group_readers }

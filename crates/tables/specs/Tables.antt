@@ -18,10 +18,10 @@ pub record HoldRow : Type 0 where
   pub from : ℤ
   pub to : ℤ
 
--- an account that may read a deposit
+-- who may read a deposit, by name
 pub record ReaderRow : Type 0 where
   pub serial : ℕ
-  pub account : List ℕ
+  pub name : List ℕ
 
 -- how many stamps an account has reserved on a day
 pub record TallyRow : Type 0 where
@@ -29,17 +29,28 @@ pub record TallyRow : Type 0 where
   pub day : ℕ
   pub count : ℕ
 
--- `meta` is left out: it has one row, with version 1
+-- `meta` is left out: it has one row, with the schema's version
 pub record Tables : Type 0 where
   pub stamps : List StampRow
   pub calibrations : List CalibrationRow
   pub holds : List HoldRow
   pub deposits : List DepositRow
+  -- accounts
   pub readers : List ReaderRow
   pub tallies : List TallyRow
+  -- groups, whose members read
+  pub group_readers : List ReaderRow
 
 abbrev pub no_rows : Tables
-no_rows = record { stamps = []; calibrations = []; holds = []; deposits = []; readers = []; tallies = [] }
+no_rows = record {
+  stamps = [];
+  calibrations = [];
+  holds = [];
+  deposits = [];
+  readers = [];
+  tallies = [];
+  group_readers = [];
+}
 
 -- ---- which row
 
@@ -50,7 +61,7 @@ abbrev pub is_tally_of : List ℕ → ℕ → TallyRow → Bool
 is_tally_of account day row = bytes_eq row.account account && (row.day == day)
 
 abbrev pub is_reader_row : ℕ → List ℕ → ReaderRow → Bool
-is_reader_row serial account row = (row.serial == serial) && bytes_eq row.account account
+is_reader_row serial name row = (row.serial == serial) && bytes_eq row.name name
 
 abbrev pub is_deposit : ℕ → DepositRow → Bool
 is_deposit serial row = row.serial == serial
@@ -96,4 +107,13 @@ without_reader serial account t =
 abbrev pub with_reader : ℕ → List ℕ → Tables → Tables
 with_reader serial account t =
     let others = without_reader serial account t in
-    record others { readers = record { serial = serial; account = account } ∷ others.readers }
+    record others { readers = record { serial = serial; name = account } ∷ others.readers }
+
+abbrev pub without_group_reader : ℕ → List ℕ → Tables → Tables
+without_group_reader serial name t =
+    record t { group_readers = filter (λ row. not (is_reader_row serial name row)) t.group_readers }
+
+abbrev pub with_group_reader : ℕ → List ℕ → Tables → Tables
+with_group_reader serial name t =
+    let others = without_group_reader serial name t in
+    record others { group_readers = record { serial = serial; name = name } ∷ others.group_readers }

@@ -12,13 +12,14 @@ ghost use Rattle.tables.specs.Base.{IsHonest, IsOpen, Keeps, Recovers, IsStored}
 ghost use Rattle.tables.specs.Changes.{applied, IsCounted};
 ghost use Rattle.tables.specs.Faults.{told, told_adopting, told_creating};
 
+mod groups;
 mod lookups;
 mod queries;
 
 use crate::change::Change;
 use crate::creating::make_tables;
 use crate::fault::{OpenFault, TableFault};
-use crate::opening::is_ours;
+use crate::opening::{Version, found_version};
 use crate::writing::commit_change;
 use sqlite::{Alter, Connection, Error, ErrorCode};
 use std::marker::Model;
@@ -43,7 +44,7 @@ impl<S: Alter + Drop> Model for Base<S> {
     ghost invariant = { λ b. b.conn.in_transaction ≡ false };
 }
 
-fn create_fault(error: Error) -> OpenFault
+pub(crate) fn create_fault(error: Error) -> OpenFault
     ensures value { result ≡ told_creating error }
     ensures taken { result ≡ OpenFault.NotOurs → tells_taken error ≡ true }
 {
@@ -54,7 +55,7 @@ fn create_fault(error: Error) -> OpenFault
     }
 }
 
-fn open_fault(error: Error) -> OpenFault
+pub(crate) fn open_fault(error: Error) -> OpenFault
     ensures value { result ≡ told_adopting error }
     ensures never { result ≢ OpenFault.NotOurs }
 {
@@ -99,9 +100,11 @@ impl<S: Alter + Drop> Base<S> {
             → LooksForeign (state S.Store conn)) }
         ensures closed { IfErr result (λ e. e.1.in_transaction ≡ false) }
     {
-        match is_ours(&mut conn) {
-            Ok(true) => Ok(Base { conn, faults: 0 }),
-            Ok(false) => Err((OpenFault::NotOurs, conn)),
+        match found_version(&mut conn) {
+            Ok(Some(Version::Current)) => Ok(Base { conn, faults: 0 }),
+            // `migrate` takes these to the version of now
+            Ok(Some(Version::First)) => Err((OpenFault::NotOurs, conn)),
+            Ok(None) => Err((OpenFault::NotOurs, conn)),
             Err(error) => Err((open_fault(error), conn)),
         }
     }

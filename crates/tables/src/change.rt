@@ -49,4 +49,14 @@ pub enum Change<'a> {
         serial: u64,
         account: &'a str,
     },
+    /// A right of a group.
+    GrantGroup {
+        serial: u64,
+        name: &'a str,
+    },
+    /// A right of a group taken back.
+    RevokeGroup {
+        serial: u64,
+        name: &'a str,
+    },
 }

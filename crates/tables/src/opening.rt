@@ -1,15 +1,12 @@
-//! Whether the tables of a connection are ours.
+//! Whether the tables of a connection are ours, and of which version of the schema.
 
-ghost use Rattle.std.specs.Prelude.{◌≡◌, ◌↔◌, [], ◌∷◌, pos, false, IsTrue, IfOk, OnOk};
-ghost use Rattle.sqlite_value.specs.declared.value.Value.TheVariants.{Int};
+ghost use Rattle.std.specs.Prelude.{◌≡◌, ◌↔◌, [], Some, false, IsTrue, IfOk, OnOk};
 ghost use Rattle.sqlite.specs.Held.{state};
 ghost use Rattle.sqlite.specs.Listing.{understood};
 ghost use Rattle.sqlite.specs.State.{HasCleanDisk};
 ghost use Rattle.tables.specs.Asking.{Answers, Looks};
-ghost use Rattle.tables.specs.Holding.{IsDatabaseOf};
-ghost use Rattle.tables.specs.Opening.{all_columns, version_query, IsUnderstood, IsFound, IsVersionOne, LooksOurs};
-ghost use Rattle.tables.specs.Opening.{LooksForeign};
-ghost use Rattle.tables.specs.Schema.{the_schema};
+ghost use Rattle.tables.specs.Holding.{IsDatabaseOf, IsDatabaseIn};
+ghost use Rattle.tables.specs.Opening.{version_query, IsUnderstood, IsVersion, TellsVersion};
 ghost use Rattle.tables.specs.Tables.{Tables};
 
 use crate::asking::rows_of;
@@ -20,71 +17,95 @@ const ALL_COLUMNS: &str =
     "SELECT meta.version, stamp.serial, stamp.account, stamp.day, stamp.gen, stamp.policy, stamp.algorithm, \
     stamp.digest, stamp.request, stamp.tst, stamp.token, calibration.n, calibration.reading, calibration.offset_us, \
     calibration.uncertainty, hold.n, hold.from_us, hold.to_us, deposit.serial, deposit.owner, deposit.reference, \
+    deposit.bytes, reader.serial, reader.account, tally.account, tally.day, tally.count, group_reader.serial, \
+    group_reader.name FROM meta, stamp, calibration, hold, deposit, reader, tally, group_reader";
+
+const FIRST_COLUMNS: &str =
+    "SELECT meta.version, stamp.serial, stamp.account, stamp.day, stamp.gen, stamp.policy, stamp.algorithm, \
+    stamp.digest, stamp.request, stamp.tst, stamp.token, calibration.n, calibration.reading, calibration.offset_us, \
+    calibration.uncertainty, hold.n, hold.from_us, hold.to_us, deposit.serial, deposit.owner, deposit.reference, \
     deposit.bytes, reader.serial, reader.account, tally.account, tally.day, tally.count FROM meta, stamp, calibration, \
     hold, deposit, reader, tally";
 
 const VERSION: &str = "SELECT version FROM meta";
 
-/// Whether a query over each table and each column is understood. It is never run.
-fn understands_tables<S: Alter>(conn: &mut Connection<S>) -> Result<bool, Error>
+/// A version of the schema.
+#[derive(Clone, Copy, Debug, PartialEq, Eq)]
+pub enum Version {
+    /// 1, without the rights of groups.
+    First,
+    /// 2, that of now.
+    Current,
+}
+
+/// Whether a query is understood. It is never run.
+fn understands<S: Alter>(conn: &mut Connection<S>, sql: &str) -> Result<bool, Error>
     requires { conn.old.in_transaction ≡ false }
     ensures closed { conn.new.in_transaction ≡ false }
     ensures looks { Looks (state S.Store conn.old) (state S.Store conn.new) }
-    ensures ours { HasCleanDisk (state S.Store conn.new) → (state S.Store conn.old).now.schema ≡ the_schema
-        → IfOk result IsTrue }
+    ensures opened { HasCleanDisk (state S.Store conn.new) → OnOk result (IsTrue (state S.Store conn.old).is_open) }
     ensures same { HasCleanDisk (state S.Store conn.new)
         → OnOk result ((state S.Store conn.new).now ≡ (state S.Store conn.old).now) }
-    ensures tables { HasCleanDisk (state S.Store conn.new)
-        → IfOk result (λ yes. IsTrue yes ↔ IsUnderstood (understood (state S.Store conn.old).now.schema all_columns)) }
+    ensures told { HasCleanDisk (state S.Store conn.new)
+        → IfOk result (λ yes. IsTrue yes ↔ IsUnderstood (understood (state S.Store conn.old).now.schema sql.now)) }
 {
-    match conn.prepare(ALL_COLUMNS) {
+    match conn.prepare(sql) {
         Ok(_) => Ok(true),
         Err(Error::SqlInputError(_)) => Ok(false),
         Err(error) => Err(error),
     }
 }
 
-fn is_version_one(rows: &[Row]) -> bool
-    ensures ours { rows.now ≡ (Int (pos 1) ∷ []) ∷ [] → IsTrue result }
-    ensures one { IsTrue result ↔ IsVersionOne rows.now }
+fn is_version(rows: &[Row], number: u8) -> bool
+    ensures { IsTrue result ↔ IsVersion number rows.now }
 {
     if rows.len() != 1 {
         return false;
     }
     match rows[0].get_ref(0) {
-        Ok(ValueRef::Int(version)) => version == 1,
+        Ok(ValueRef::Int(version)) => version == i64::from(number),
         _ => false,
     }
 }
 
-fn has_version_one<S: Alter>(conn: &mut Connection<S>) -> Result<bool, Error>
+/// Whether `meta` has one row, with this number.
+fn has_version<S: Alter>(conn: &mut Connection<S>, number: u8) -> Result<bool, Error>
     requires { conn.old.in_transaction ≡ false }
     ensures closed { conn.new.in_transaction ≡ false }
     ensures looks { Looks (state S.Store conn.old) (state S.Store conn.new) }
     ensures opened { HasCleanDisk (state S.Store conn.new) → OnOk result (IsTrue (state S.Store conn.old).is_open) }
-    ensures ours { HasCleanDisk (state S.Store conn.new) → (t : Tables) → IsDatabaseOf t (state S.Store conn.old).now
-        → IfOk result IsTrue }
-    ensures one { HasCleanDisk (state S.Store conn.new) → IfOk result (λ yes.
-        (rows : _) × Answers version_query [] (state S.Store conn.old).now rows × (IsTrue yes ↔ IsVersionOne rows)) }
+    ensures told { HasCleanDisk (state S.Store conn.new) → IfOk result (λ yes. (rows : _)
+        × Answers version_query [] (state S.Store conn.old).now rows × (IsTrue yes ↔ IsVersion number rows)) }
 {
     let rows = rows_of(conn, VERSION, &[])?;
-    Ok(is_version_one(rows.as_slice()))
+    Ok(is_version(rows.as_slice(), number))
 }
 
-/// Whether the tables and columns are there, and `meta` has its one row.
-pub(crate) fn is_ours<S: Alter>(conn: &mut Connection<S>) -> Result<bool, Error>
+/// The version that a connection's tables are of: that whose tables and columns are there, and which the one row of
+/// `meta` says.
+pub(crate) fn found_version<S: Alter>(conn: &mut Connection<S>) -> Result<Option<Version>, Error>
     requires { conn.old.in_transaction ≡ false }
     ensures closed { conn.new.in_transaction ≡ false }
     ensures looks { Looks (state S.Store conn.old) (state S.Store conn.new) }
-    ensures ours { HasCleanDisk (state S.Store conn.new) → (t : Tables) → IsFound t (state S.Store conn.old)
-        → IfOk result IsTrue }
+    ensures opened { HasCleanDisk (state S.Store conn.new) → OnOk result (IsTrue (state S.Store conn.old).is_open) }
+    ensures current { HasCleanDisk (state S.Store conn.new) → (t : Tables) → IsDatabaseOf t (state S.Store conn.old).now
+        → IfOk result (λ found. found ≡ Some Version.Current) }
+    ensures first { HasCleanDisk (state S.Store conn.new) → (t : Tables)
+        → IsDatabaseIn 1 t (state S.Store conn.old).now → IfOk result (λ found. found ≡ Some Version.First) }
     ensures shown { HasCleanDisk (state S.Store conn.new)
-        → IfOk result (λ yes. IsTrue yes → LooksOurs (state S.Store conn.old)) }
-    ensures foreign { HasCleanDisk (state S.Store conn.new)
-        → IfOk result (λ yes. yes ≡ false → LooksForeign (state S.Store conn.old)) }
+        → IfOk result (λ found. TellsVersion found (state S.Store conn.old)) }
 {
-    if !understands_tables(conn)? {
-        return Ok(false);
+    if understands(conn, ALL_COLUMNS)? {
+        if has_version(conn, 2)? {
+            return Ok(Some(Version::Current));
+        }
+        return Ok(None);
     }
-    has_version_one(conn)
+    if !understands(conn, FIRST_COLUMNS)? {
+        return Ok(None);
+    }
+    if has_version(conn, 1)? {
+        return Ok(Some(Version::First));
+    }
+    Ok(None)
 }

@@ -11,6 +11,7 @@ ghost use Rattle.tables.specs.Tables.{with_token, without_reader};
 ghost use Rattle.tables.specs.Steps.{with_stamp_alone, with_raised, with_first_tally, with_count, with_reader_alone};
 
 use crate::change::Change;
+use crate::group_readers::{drop_group_reader, put_group_reader};
 use sqlite::types::{ToSql, ValueRef};
 use sqlite::{Alter, Connection, Error, Transaction};
 
@@ -312,6 +313,11 @@ fn make<S: Alter>(tx: &mut Transaction<'_, S>, change: &Change<'_>) -> Result<us
             put_reader(tx, *serial, account)
         }
         Change::Revoke { serial, account } => drop_reader(tx, *serial, account),
+        Change::GrantGroup { serial, name } => {
+            drop_group_reader(tx, *serial, name)?;
+            put_group_reader(tx, *serial, name)
+        }
+        Change::RevokeGroup { serial, name } => drop_group_reader(tx, *serial, name),
     }
 }
 
@@ -330,7 +336,9 @@ fn fits(change: &Change<'_>) -> bool
         Change::Seal { serial, .. }
         | Change::Deposit { serial, .. }
         | Change::Grant { serial, .. }
-        | Change::Revoke { serial, .. } => serial <= greatest,
+        | Change::Revoke { serial, .. }
+        | Change::GrantGroup { serial, .. }
+        | Change::RevokeGroup { serial, .. } => serial <= greatest,
         Change::Calibrate { n, uncertainty, .. } => n <= greatest && uncertainty <= greatest,
         Change::Hold { n, .. } => n <= greatest,
     }

@@ -1,6 +1,5 @@
 use Rattle.tables.proofs.CreateLemmas.{all_carried}
-use Rattle.tables.proofs.RefusalLemmas.{in_the_way}
-use Rattle.tables.proofs.NameLemmas.{names_free_if}
+use Rattle.tables.proofs.RefusalLemmas.{in_the_way, names_free_if}
 use Rattle.tables.proofs.creating.make_all.Goals as goal
 
 pub returns-clause-carries : goal.returns-clause-carries

@@ -2,7 +2,7 @@ use Rattle.std.proofs.Common.{◌<◌, ◌^◌, arith, ◌∙◌, refl, w64}
 use Rattle.std.proofs.Math.Facts.{to_z_pos}
 use Rattle.tables.proofs.CellLemmas.{int_more, text_more}
 use Rattle.tables.proofs.QueryLemmas.{found_any}
-use Rattle.tables.proofs.ReaderLookups.{is_reader_found, is_reader_text}
+use Rattle.tables.proofs.ReaderLemmas.{is_reader_found, is_reader_text}
 use Rattle.tables.proofs.lookups.is_reader.Goals as goal
 
 pub first_row-requires-clause-text : goal.first_row-requires-clause-text

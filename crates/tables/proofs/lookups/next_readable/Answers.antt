@@ -1,7 +1,7 @@
 use Rattle.std.proofs.Common.{◌<◌, ◌^◌, arith, refl, w64}
 use Rattle.std.proofs.Math.Facts.{to_z_pos}
 use Rattle.tables.proofs.CellLemmas.{int_more, text_more}
-use Rattle.tables.proofs.ReaderLookups.{next_readable_found, next_readable_text}
+use Rattle.tables.proofs.ReaderLemmas.{next_readable_found, next_readable_text}
 use Rattle.tables.proofs.FoundLemmas.{least_as}
 use Rattle.tables.proofs.QueryLemmas.{number_of}
 use Rattle.tables.proofs.lookups.next_readable.Goals as goal

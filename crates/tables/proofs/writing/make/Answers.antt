@@ -29,3 +29,13 @@ returns-in_ok-drop_reader-in-Grant-clause-carries g c =
 
 pub returns-in-Revoke-clause-carries : goal.returns-in-Revoke-clause-carries
 returns-in-Revoke-clause-carries g c = rw c.in-Revoke.is c.drop_reader-in-Revoke.ensures.carries
+
+pub returns-in_ok-drop_group_reader-in-GrantGroup-clause-carries :
+    goal.returns-in_ok-drop_group_reader-in-GrantGroup-clause-carries
+returns-in_ok-drop_group_reader-in-GrantGroup-clause-carries g c =
+    rw c.in-GrantGroup.is (chained _ _ _ _ _ _ _ c.in_ok-drop_group_reader-in-GrantGroup.ensures.carries
+    c.put_group_reader.ensures.carries)
+
+pub returns-in-RevokeGroup-clause-carries : goal.returns-in-RevokeGroup-clause-carries
+returns-in-RevokeGroup-clause-carries g c =
+    rw c.in-RevokeGroup.is c.drop_group_reader-in-RevokeGroup.ensures.carries

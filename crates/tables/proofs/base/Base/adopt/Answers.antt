@@ -1,10 +1,28 @@
+use Rattle.std.proofs.Common.{subst}
+use Rattle.sqlite.specs.Held.{state}
+use Rattle.tables.specs.Opening.{TellsVersion}
 use Rattle.tables.proofs.BaseLemmas.{adopted_keeps}
 use Rattle.tables.proofs.base.Base.adopt.Goals as goal
 
-pub returns-in-Ok-true-clause-keeps : goal.returns-in-Ok-true-clause-keeps
-returns-in-Ok-true-clause-keeps g c t found =
-    adopted_keeps g.S.Store g.met.S.Store.settled c.args.conn c.is_ours.new.conn c.is_ours.ensures.closed
-    c.is_ours.ensures.looks t found
+pub returns-in-Ok-Some-Current-clause-keeps : goal.returns-in-Ok-Some-Current-clause-keeps
+returns-in-Ok-Some-Current-clause-keeps g c t found =
+    adopted_keeps g.S.Store g.met.S.Store.settled c.args.conn c.found_version.new.conn c.found_version.ensures.closed
+    c.found_version.ensures.looks t found
 
-pub returns-in-Ok-false-clause-foreign : goal.returns-in-Ok-false-clause-foreign
-returns-in-Ok-false-clause-foreign g c told clean = c.in-Ok-false.ensures.foreign clean c.in-Ok-false.field-0-test
+pub returns-in-Ok-Some-First-clause-not_ours : goal.returns-in-Ok-Some-First-clause-not_ours
+returns-in-Ok-Some-First-clause-not_ours g c told clean t found =
+    let current = c.in-Ok-Some-First.ensures.current clean t found.0 in
+    let is = c.in-Ok-Some-First.field-0-is in
+    let first = c.in-Ok-Some-First.field-0-0-is in
+    cc
+
+pub returns-in-Ok-None-clause-not_ours : goal.returns-in-Ok-None-clause-not_ours
+returns-in-Ok-None-clause-not_ours g c told clean t found =
+    let current = c.in-Ok-None.ensures.current clean t found.0 in
+    let none = c.in-Ok-None.field-0-is in
+    cc
+
+pub returns-in-Ok-None-clause-foreign : goal.returns-in-Ok-None-clause-foreign
+returns-in-Ok-None-clause-foreign g c told clean =
+    subst (λ found. TellsVersion found (state g.S.Store c.args.conn)) c.in-Ok-None.field-0-is
+    (c.in-Ok-None.ensures.shown clean)

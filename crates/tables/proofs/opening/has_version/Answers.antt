@@ -1,0 +1,16 @@
+use Rattle.std.proofs.Common.{◌↔◌, subst, IsTrue}
+use Rattle.sqlite.specs.Held.{state}
+use Rattle.tables.specs.Opening.{IsVersion}
+use Rattle.tables.proofs.OpenLemmas.{version_text, version_plain}
+use Rattle.tables.proofs.opening.has_version.Goals as goal
+
+pub rows_of-requires-clause-text : goal.rows_of-requires-clause-text
+rows_of-requires-clause-text g c = version_text
+
+pub returns-clause-told : goal.returns-clause-told
+returns-clause-told g c clean = (
+  c.in_ok-rows.rows.items,
+  c.in_ok-rows.ensures.answered clean (version_plain (state g.S.Store c.args.conn.now).now.schema),
+  subst (λ rows. IsTrue c.is_version.result ↔ IsVersion c.args.number rows) c.as_slice.ensures.value
+      c.is_version.ensures,
+)
