@@ -13,7 +13,8 @@ use Rattle.book.specs.History.{History, ReservationValue, reservations, calibrat
 use Rattle.book.specs.History.{holds, deposits, greatest_of, greatest_serial}
 use Rattle.book.specs.History.{token_of, stamp_of, stamps, stamp_at}
 use Rattle.book.specs.History.{deposit_at, deposit_under, first_of}
-use Rattle.book.specs.Rights.{is_reader, seen_by, listed, listed_at}
+use Rattle.book.specs.Readers.{Reader, Account, Group, Viewer, readers_as}
+use Rattle.book.specs.Rights.{is_reader, may_read, seen_by, listed, listed_at}
 use Rattle.book.specs.Sound.{IsSound}
 use Rattle.store.specs.Replay.{replayed}
 use Rattle.store.specs.TablesOf.{calibration_row, hold_row, numbered}
@@ -23,7 +24,7 @@ use Rattle.store.proofs.Falling.{stamps_fall}
 use Rattle.store.proofs.Numbered.{numbers_fall, calibrations_are, holds_are}
 use Rattle.store.proofs.Stamps.{stamps_are}
 use Rattle.store.proofs.DepositRows.{deposits_are, single_number, single_reference}
-use Rattle.store.proofs.Readers.{readers_are}
+use Rattle.store.proofs.Readers.{readers_are, group_readers_are}
 
 -- the members of each are those of the other
 abbrev Within : {X : Type 0} → List X → List X → Type 0
@@ -195,19 +196,31 @@ module _ (b d : History) (sound : IsSound b) (other : IsSound d) (rows : HaveSam
       find_same (is_deposit_of owner reference) (deposits b) (deposits d) (single_reference d owner reference other)
       deposits_permuted
 
-  reader_same : (n : ℕ) (a : List ℕ) → is_reader n a b ≡ is_reader n a d
-  reader_same n a = sym (readers_are b n a) ∙ any_same (is_reader_row n a) _ _ rows.readers ∙ readers_are d n a
+  reader_same : (n : ℕ) (reader : Reader) → is_reader n reader b ≡ is_reader n reader d
+  reader_same n (Account a) =
+      sym (readers_are b n a) ∙ any_same (is_reader_row n a) _ _ rows.readers ∙ readers_are d n a
+  reader_same n (Group a) =
+      sym (group_readers_are b n a) ∙ any_same (is_reader_row n a) _ _ rows.group_readers ∙ group_readers_are d n a
 
-  seen_same : (a : List ℕ) (n : ℕ) → seen_by a n b ≡ seen_by a n d
-  seen_same a n = rw (deposit_same n, reader_same n a) refl
+  any_reads_same : (n : ℕ) (readers : List Reader)
+      → list_any (λ reader. is_reader n reader b) readers ≡ list_any (λ reader. is_reader n reader d) readers
+  any_reads_same n [] = refl
+  any_reads_same n (reader ∷ readers) = rw (reader_same n reader, any_reads_same n readers) refl
 
-  listed_at_same : (a : List ℕ) (n : ℕ) → listed_at a b n ≡ listed_at a d n
-  listed_at_same a n = rw (seen_same a n, reservations_same) refl
+  reads_same : (viewer : Viewer) (n : ℕ) → may_read viewer n b ≡ may_read viewer n d
+  reads_same viewer n = any_reads_same n (readers_as viewer)
 
-  listed_same : (a : List ℕ) → listed a b ≡ listed a d
-  listed_same a =
-      ap (λ rs. filter_map (listed_at a b) (range_with_len 1 (greatest_of rs))) reservations_same
-      ∙ filter_map_same (listed_at a b) (listed_at a d) (listed_at_same a) (range_with_len 1 (greatest_serial d))
+  seen_same : (viewer : Viewer) (n : ℕ) → seen_by viewer n b ≡ seen_by viewer n d
+  seen_same viewer n = rw (deposit_same n, reads_same viewer n) refl
+
+  listed_at_same : (viewer : Viewer) (n : ℕ) → listed_at viewer b n ≡ listed_at viewer d n
+  listed_at_same viewer n = rw (seen_same viewer n, reservations_same) refl
+
+  listed_same : (viewer : Viewer) → listed viewer b ≡ listed viewer d
+  listed_same viewer =
+      ap (λ rs. filter_map (listed_at viewer b) (range_with_len 1 (greatest_of rs))) reservations_same
+      ∙ filter_map_same (listed_at viewer b) (listed_at viewer d) (listed_at_same viewer)
+      (range_with_len 1 (greatest_serial d))
 
   pub alike : AreAlike b d
   alike = record {

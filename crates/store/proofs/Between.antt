@@ -11,7 +11,7 @@ use Rattle.book.specs.Rows.{StampRow}
 use Rattle.tables.specs.Found.{IsLeastAs}
 use Rattle.tables.specs.Queries.{ShowsStamp, is_within, stamp_view}
 use Rattle.book.specs.declared.rows.Stamp.{Stamp}
-use Rattle.book.specs.History.{History, Reserved, Sealed, Deposited, Calibrated, Held, Granted, Revoked}
+use Rattle.book.specs.History.{History, Reserved}
 use Rattle.book.specs.History.{reservations, stamp_of, token_of, stamps, stamps_between}
 use Rattle.book.specs.Sound.{IsSound, greatest_number}
 use Rattle.book.specs.Ranges.{IsNextStamp, IsWithin}
@@ -116,12 +116,7 @@ small_rows : (b c : History) → IsSound b → AllByRecursion (λ (s : StampRow)
     (map (λ r. stamp_of (token_of r.serial c) r) (reservations b))
 small_rows [] c s = tt
 small_rows (Reserved r ∷ b) c s = (s.0.within, small_rows b c s.1)
-small_rows (Sealed n token ∷ b) c s = small_rows b c s.1
-small_rows (Deposited d token ∷ b) c s = small_rows b c s.1
-small_rows (Calibrated k ∷ b) c s = small_rows b c s.1
-small_rows (Held h ∷ b) c s = small_rows b c s.1
-small_rows (Granted n a ∷ b) c s = small_rows b c s.1
-small_rows (Revoked n a ∷ b) c s = small_rows b c s.1
+small_rows (_ ∷ b) c s = small_rows b c s.1
 
 -- no serial number is above the greatest that there can be
 pub capped : (b : History) (from to cap : ℕ) → IsSound b → cap ≡ min to greatest_number

@@ -11,7 +11,7 @@ use Rattle.book.specs.Sound.{Fits, IsSound}
 use Rattle.store.specs.Replay.{replayed}
 use Rattle.store.specs.TablesOf.{tables_of}
 use Rattle.store.proofs.Replayed.{replayed_is}
-use Rattle.book.specs.Stands.{Stands, OnlyLooks, LeavesOrAdds, LeavesAsBefore}
+use Rattle.book.specs.Stands.{Stands, OnlyLooks, LeavesOrAdds}
 use Rattle.store.specs.Stands.{over_tables}
 
 -- a step from the tables of one history leads to those of the next

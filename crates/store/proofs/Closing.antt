@@ -18,9 +18,9 @@ pub leaves_files : {D : Type 0} {g : Ghosts D} (store : BaseValue (FileStore D g
     → LeavesFiles g b files
 leaves_files store files b copied s =
     let kept = s.kept copied.was_clean copied.was_open in
-    let listed = subst (λ schema. IsSound schema (file_state store.conn).now.trees) kept.schema kept.sound in
+    let listed = subst (λ schema. IsSound schema (file_state store.conn).now.trees) kept.database.schema kept.sound in
     let holds = subst (λ (d : Database). IsStored (tables_of b) d.trees) kept.settled
-    (record { holds = kept.holds; listed = listed }) in
+    (record { holds = kept.database.holds; listed = listed }) in
     record {
       seen = ((file_state store.conn).committed.trees, holds, copied.seen);
       left = λ image may. ((file_state store.conn).committed.trees, holds, copied.left image may);

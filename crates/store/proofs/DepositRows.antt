@@ -10,35 +10,29 @@ use Rattle.std.proofs.lemmas.Bool.Decides.{eqb_tells}
 use Rattle.std.proofs.lemmas.Slice.Eq.{bytes_eq-Decides}
 use Rattle.tables.specs.Found.{IsFoundAs}
 use Rattle.tables.specs.Tables.{StampRow, DepositRow, is_stamp, is_deposit, is_deposit_of}
-use Rattle.tables.specs.Tables.{is_reader_row}
 use Rattle.tables.specs.Queries.{ShowsStamp, ShowsDeposit, ShowsLabel, ShowsOrigin, stamp_view, deposit_view, is_owned}
 use Rattle.book.specs.declared.rows.Stamp.{Stamp}
 use Rattle.book.specs.declared.rows.Deposit.{Deposit}
 use Rattle.tables.specs.declared.rows.Label.{Label}
 use Rattle.tables.specs.declared.rows.Origin.{Origin}
-use Rattle.book.specs.History.{Reserved, Sealed, Deposited, Calibrated, Held, Granted, Revoked, History}
+use Rattle.book.specs.History.{Reserved, Sealed, Deposited, Granted, Revoked, History}
 use Rattle.book.specs.History.{ReservationValue, reservations, reservation_at, greatest_serial, deposits}
 use Rattle.book.specs.History.{deposit_at, deposit_under, token_of, stamp_of, stamps, stamp_at}
-use Rattle.book.specs.Rights.{is_reader, shown_to, is_visible}
+use Rattle.book.specs.Readers.{Reader, is_same, Viewer, readers_as}
+use Rattle.book.specs.Rights.{is_reader, may_read, shown_to, is_visible}
 use Rattle.book.specs.Sound.{IsSound, greatest_number}
 use Rattle.store.specs.Replay.{replayed}
 use Rattle.store.proofs.Falling.{stamps_fall}
 use Rattle.store.proofs.Members.{IsSingle, IsSearchedAs, both_true, true_or_false, found_is_searched, found_member}
 use Rattle.store.proofs.Members.{find_single, find_none, none_pass, some_pass, falling_single, member_cases}
 use Rattle.store.proofs.Members.{no_member}
-use Rattle.store.proofs.Readers.{key_is, readers_are}
 use Rattle.store.specs.Steps.{IsAskedFor, IsOriginOf, listing_at}
 use Rattle.store.proofs.Stamps.{stamps_are, absent_above, unreserved}
 
 pub deposits_are : (b : History) → (replayed b).deposits ≡ deposits b
 deposits_are [] = refl
-deposits_are (Reserved r ∷ b) = deposits_are b
-deposits_are (Sealed m token ∷ b) = deposits_are b
 deposits_are (Deposited d token ∷ b) = ap (λ (ds : List DepositRow). d ∷ ds) (deposits_are b)
-deposits_are (Calibrated c ∷ b) = deposits_are b
-deposits_are (Held h ∷ b) = deposits_are b
-deposits_are (Granted m a ∷ b) = deposits_are b
-deposits_are (Revoked m a ∷ b) = deposits_are b
+deposits_are (_ ∷ b) = deposits_are b
 
 -- ---- each number once
 
@@ -53,7 +47,6 @@ token_before b m n token e =
 
 pub deposit_sealed : (b : History) (d : DepositRow) → Contains (deposits b) d → token_of d.serial b ≡ None → ⊥
 deposit_sealed [] d m e = no_member d m
-deposit_sealed (Reserved r ∷ b) d m e = deposit_sealed b d m e
 deposit_sealed (Sealed n token ∷ b) d m e = deposit_sealed b d m (token_before b n d.serial token e)
 deposit_sealed (Deposited x token ∷ b) d m e =
     elim (member_cases x d (deposits b) m) [
@@ -62,10 +55,7 @@ deposit_sealed (Deposited x token ∷ b) d m e =
           let here : Some token ≡ None = sym (rw t refl) ∙ e in cc)
       | inr m ↦ deposit_sealed b d m (token_before b x.serial d.serial token e)
     ]
-deposit_sealed (Calibrated c ∷ b) d m e = deposit_sealed b d m e
-deposit_sealed (Held h ∷ b) d m e = deposit_sealed b d m e
-deposit_sealed (Granted n a ∷ b) d m e = deposit_sealed b d m e
-deposit_sealed (Revoked n a ∷ b) d m e = deposit_sealed b d m e
+deposit_sealed (_ ∷ b) d m e = deposit_sealed b d m e
 
 single_cons : {X : Type 0} (p : X → Bool) (x : X) (xs : List X)
     → (p x ≡ true → (y : X) → Contains xs y → p y ≡ true → ⊥) → IsSingle p xs → IsSingle p (x ∷ xs)
@@ -86,8 +76,6 @@ single_none p x y m k e f = absurd (no_member x m)
 
 pub single_number : (b : History) (n : ℕ) → IsSound b → IsSingle (is_deposit n) (deposits b)
 single_number [] n s = single_none (is_deposit n)
-single_number (Reserved r ∷ b) n s = single_number b n s.1
-single_number (Sealed m token ∷ b) n s = single_number b n s.1
 single_number (Deposited d token ∷ b) n s =
     single_cons (is_deposit n) d (deposits b)
     (λ here y m there.
@@ -95,10 +83,7 @@ single_number (Deposited d token ∷ b) n s =
     let P : ℕ → Type 0 = λ k. token_of k b ≡ None in
     deposit_sealed b y m (subst P (sym same) s.0.sealed.open_yet)))
     (single_number b n s.1)
-single_number (Calibrated c ∷ b) n s = single_number b n s.1
-single_number (Held h ∷ b) n s = single_number b n s.1
-single_number (Granted m a ∷ b) n s = single_number b n s.1
-single_number (Revoked m a ∷ b) n s = single_number b n s.1
+single_number (_ ∷ b) n s = single_number b n s.1
 
 -- ---- each reference of an owner once
 
@@ -129,8 +114,6 @@ reference_passes owner reference d e f =
 pub single_reference : (b : History) (owner reference : List ℕ) → IsSound b
     → IsSingle (is_deposit_of owner reference) (deposits b)
 single_reference [] owner reference s = single_none (is_deposit_of owner reference)
-single_reference (Reserved r ∷ b) owner reference s = single_reference b owner reference s.1
-single_reference (Sealed m token ∷ b) owner reference s = single_reference b owner reference s.1
 single_reference (Deposited d token ∷ b) owner reference s =
     single_cons (is_deposit_of owner reference) d (deposits b)
     (λ here y m there.
@@ -139,10 +122,7 @@ single_reference (Deposited d token ∷ b) owner reference s =
     fails_where_none (is_deposit_of d.owner d.reference) (deposits b) s.0.unused y m
     (reference_passes d.owner d.reference y (old.0 ∙ sym new.0) (old.1 ∙ sym new.1))))
     (single_reference b owner reference s.1)
-single_reference (Calibrated c ∷ b) owner reference s = single_reference b owner reference s.1
-single_reference (Held h ∷ b) owner reference s = single_reference b owner reference s.1
-single_reference (Granted m a ∷ b) owner reference s = single_reference b owner reference s.1
-single_reference (Revoked m a ∷ b) owner reference s = single_reference b owner reference s.1
+single_reference (_ ∷ b) owner reference s = single_reference b owner reference s.1
 
 -- ---- what the look-ups show
 
@@ -229,7 +209,6 @@ owner_reserved (Reserved x ∷ b) d s m =
           let some : reservation_at d.serial b ≡ Some rest.0 = rest.1 in cc)
       | inr f ↦ (rest.0, rw f.0 rest.1, rest.2)
     ]
-owner_reserved (Sealed n token ∷ b) d s m = owner_reserved b d s.1 m
 owner_reserved (Deposited x token ∷ b) d s m =
     elim (member_cases x d (deposits b) m) [
       | inl same ↦ (let P : DepositRow → Type 0 =
@@ -237,10 +216,7 @@ owner_reserved (Deposited x token ∷ b) d s m =
           subst P same (s.0.sealed.reservation, s.0.sealed.reserved, s.0.owner))
       | inr m ↦ owner_reserved b d s.1 m
     ]
-owner_reserved (Calibrated c ∷ b) d s m = owner_reserved b d s.1 m
-owner_reserved (Held h ∷ b) d s m = owner_reserved b d s.1 m
-owner_reserved (Granted n a ∷ b) d s m = owner_reserved b d s.1 m
-owner_reserved (Revoked n a ∷ b) d s m = owner_reserved b d s.1 m
+owner_reserved (_ ∷ b) d s m = owner_reserved b d s.1 m
 
 -- the deposit that is found has the number, and its owner is its reservation's account
 pub deposit_origin : (b : History) (n : ℕ) (d : DepositRow) (r : ReservationValue) → IsSound b → deposit_at n b ≡ Some d
@@ -257,26 +233,34 @@ deposit_origin b n d r s at reserved =
 -- ---- who sees a deposit
 
 -- without a deposit no right
-no_reader : (b : History) (n : ℕ) (a : List ℕ) → IsSound b → deposit_at n b ≡ None → is_reader n a b ≡ false
-no_reader [] n a s none = refl
-no_reader (Reserved r ∷ b) n a s none = no_reader b n a s.1 none
-no_reader (Sealed m token ∷ b) n a s none = no_reader b n a s.1 none
-no_reader (Deposited d token ∷ b) n a s none =
+no_reader : (b : History) (n : ℕ) (reader : Reader) → IsSound b → deposit_at n b ≡ None
+    → is_reader n reader b ≡ false
+no_reader [] n reader s none = refl
+no_reader (Deposited d token ∷ b) n reader s none =
     elim (true_or_false (d.serial == n)) [
       | inl t ↦ (let here : Some d ≡ None = sym (rw t refl) ∙ none in cc)
-      | inr f ↦ no_reader b n a s.1 (sym (rw f refl) ∙ none)
+      | inr f ↦ no_reader b n reader s.1 (sym (rw f refl) ∙ none)
     ]
-no_reader (Calibrated c ∷ b) n a s none = no_reader b n a s.1 none
-no_reader (Held h ∷ b) n a s none = no_reader b n a s.1 none
-no_reader (Granted m x ∷ b) n a s none =
-    elim (true_or_false ((m == n) && bytes_eq x a)) [
-      | inl t ↦ (let k = key_is n a m x t in
+no_reader (Granted m r ∷ b) n reader s none =
+    elim (true_or_false ((m == n) && is_same r reader)) [
+      | inl t ↦ (let here : m ≡ n = eqb-true m n (both_true (m == n) (is_same r reader) t).0 in
           let P : ℕ → Type 0 = λ k. deposit_at k b ≡ Some s.0.deposit in
-          let there : deposit_at n b ≡ Some s.0.deposit = subst P k.0 s.0.deposited in cc)
-      | inr f ↦ rw f (no_reader b n a s.1 none)
+          let there : deposit_at n b ≡ Some s.0.deposit = subst P here s.0.deposited in cc)
+      | inr f ↦ rw f (no_reader b n reader s.1 none)
     ]
-no_reader (Revoked m x ∷ b) n a s none =
-    elim (true_or_false ((m == n) && bytes_eq x a)) [ inl t ↦ rw t refl | inr f ↦ rw f (no_reader b n a s.1 none) ]
+no_reader (Revoked m r ∷ b) n reader s none =
+    elim (true_or_false ((m == n) && is_same r reader)) [
+      | inl t ↦ rw t refl
+      | inr f ↦ rw f (no_reader b n reader s.1 none)
+    ]
+no_reader (_ ∷ b) n reader s none = no_reader b n reader s.1 none
+
+no_right : (b : History) (n : ℕ) (viewer : Viewer) → IsSound b → deposit_at n b ≡ None
+    → may_read viewer n b ≡ false
+no_right b n viewer s none = none_reads (readers_as viewer) where
+  none_reads : (readers : List Reader) → list_any (λ reader. is_reader n reader b) readers ≡ false
+  none_reads [] = refl
+  none_reads (reader ∷ readers) = rw (no_reader b n reader s none) (none_reads readers)
 
 owned_is : (ds : List DepositRow) (n : ℕ) (a : List ℕ) (d : DepositRow) → IsSingle (is_deposit n) ds
     → find (is_deposit n) ds ≡ Some d
@@ -304,21 +288,21 @@ owned_none ds n a none =
       | inr not ↦ not
     ]))
 
-visible_at : (b : History) (n : ℕ) (a : List ℕ) (o : Option DepositRow) → IsSound b → deposit_at n b ≡ o
-    → (list_any (is_owned n a) (deposits b) || is_reader n a b)
-    ≡ is_some (option_and_then (shown_to a (is_reader n a b)) o)
-visible_at b n a None s e = rw (owned_none (deposits b) n a e, no_reader b n a s e) refl
-visible_at b n a (Some d) s e =
-    rw (owned_is (deposits b) n a d (single_number b n s) e) (choose (bytes_eq d.owner a || is_reader n a b)) where
+visible_at : (b : History) (n : ℕ) (viewer : Viewer) (o : Option DepositRow) → IsSound b → deposit_at n b ≡ o
+    → (list_any (is_owned n viewer.name) (deposits b) || may_read viewer n b)
+    ≡ is_some (option_and_then (shown_to viewer (may_read viewer n b)) o)
+visible_at b n viewer None s e = rw (owned_none (deposits b) n viewer.name e, no_right b n viewer s e) refl
+visible_at b n viewer (Some d) s e =
+    rw (owned_is (deposits b) n viewer.name d (single_number b n s) e)
+    (choose (bytes_eq d.owner viewer.name || may_read viewer n b)) where
       choose : (v : Bool) → v ≡ is_some (cond v (Some d) None)
       choose true = refl
       choose false = refl
 
--- visible is what an owner's row or a reader's row has
-pub visible_view : (b : History) (n : ℕ) (a : List ℕ) → IsSound b
-    → (list_any (is_owned n a) (replayed b).deposits || list_any (is_reader_row n a) (replayed b).readers)
-    ≡ is_visible a n b
-visible_view b n a s = rw (deposits_are b, readers_are b n a) (visible_at b n a (deposit_at n b) s refl)
+-- visible is what has an owner's row, or what who asks may read
+pub visible_view : (b : History) (n : ℕ) (viewer : Viewer) → IsSound b
+    → (list_any (is_owned n viewer.name) (replayed b).deposits || may_read viewer n b) ≡ is_visible viewer n b
+visible_view b n viewer s = rw (deposits_are b) (visible_at b n viewer (deposit_at n b) s refl)
 
 -- ---- numbers
 
@@ -343,24 +327,14 @@ zero_unreserved (Reserved r ∷ b) s =
     let rises : greatest_serial b < r.serial = s.0.rises in
     let differs : (r.serial == 0) ≡ false = ne_eqb r.serial 0 (λ e. absurd (omega (arith, rises, e))) in
     rw differs (zero_unreserved b s.1)
-zero_unreserved (Sealed m token ∷ b) s = zero_unreserved b s.1
-zero_unreserved (Deposited d token ∷ b) s = zero_unreserved b s.1
-zero_unreserved (Calibrated c ∷ b) s = zero_unreserved b s.1
-zero_unreserved (Held h ∷ b) s = zero_unreserved b s.1
-zero_unreserved (Granted m a ∷ b) s = zero_unreserved b s.1
-zero_unreserved (Revoked m a ∷ b) s = zero_unreserved b s.1
+zero_unreserved (_ ∷ b) s = zero_unreserved b s.1
 
 pub serials_within : (b : History) → IsSound b → greatest_serial b ≤ greatest_number
 serials_within [] s = omega arith
 serials_within (Reserved r ∷ b) s =
     let rises : greatest_serial b < r.serial = s.0.rises in
     let within : r.serial ≤ greatest_number = s.0.within in omega (arith, rises, within)
-serials_within (Sealed m token ∷ b) s = serials_within b s.1
-serials_within (Deposited d token ∷ b) s = serials_within b s.1
-serials_within (Calibrated c ∷ b) s = serials_within b s.1
-serials_within (Held h ∷ b) s = serials_within b s.1
-serials_within (Granted m a ∷ b) s = serials_within b s.1
-serials_within (Revoked m a ∷ b) s = serials_within b s.1
+serials_within (_ ∷ b) s = serials_within b s.1
 
 -- the number that is asked for in the place of another finds the same
 pub same_deposit : (b : History) (n asked : ℕ) → IsSound b → IsAskedFor n asked → deposit_at asked b ≡ deposit_at n b
@@ -381,10 +355,10 @@ same_stamp b n asked s (inr (zero_is, beyond)) =
     let at_number : reservation_at n b ≡ None = absent_above (reservations b) n (omega (arith, within, beyond)) in
     subst P (sym zero_is) at_zero ∙ rw at_number refl
 
-pub same_visible : (b : History) (n asked : ℕ) (a : List ℕ) → IsSound b → IsAskedFor n asked
-    → is_visible a asked b ≡ is_visible a n b
-same_visible b n asked a s (inl same) = ap (λ k. is_visible a k b) same
-same_visible b n asked a s (inr (zero_is, beyond)) =
+pub same_visible : (b : History) (n asked : ℕ) (viewer : Viewer) → IsSound b → IsAskedFor n asked
+    → is_visible viewer asked b ≡ is_visible viewer n b
+same_visible b n asked viewer s (inl same) = ap (λ k. is_visible viewer k b) same
+same_visible b n asked viewer s (inr (zero_is, beyond)) =
     let within = serials_within b s in
     let at_asked : deposit_at asked b ≡ None =
     same_deposit b n asked s (inr (zero_is, beyond)) ∙ none_beyond b n s (omega (arith, within, beyond)) in
@@ -439,32 +413,24 @@ labelled_listing b n origin label s (r, at, account, gen_time) (d, m, passes, sh
 
 -- ---- who sees a number that is asked for
 
-pub seen_by_reader : (b : History) (n asked : ℕ) (a : List ℕ) (reads : Bool) → IsSound b → IsAskedFor n asked
-    → reads ≡ true
-    → reads ≡ list_any (is_reader_row asked a) (replayed b).readers → true ≡ is_visible a n b
-seen_by_reader b n asked a reads s is true_is found =
-    let row : list_any (is_reader_row asked a) (replayed b).readers ≡ true = sym found ∙ true_is in
-    let view : (list_any (is_owned asked a) (replayed b).deposits || list_any (is_reader_row asked a)
-    (replayed b).readers) ≡ is_visible a asked b =
-    visible_view b asked a s in
-    sym (rw row (or_true (list_any (is_owned asked a) (replayed b).deposits))) ∙ view
-    ∙ same_visible b n asked a s is where
+pub seen_by_reader : (b : History) (n asked : ℕ) (viewer : Viewer) (reads : Bool) → IsSound b → IsAskedFor n asked
+    → reads ≡ true → reads ≡ may_read viewer asked b → true ≡ is_visible viewer n b
+seen_by_reader b n asked viewer reads s is true_is found =
+    let read : may_read viewer asked b ≡ true = sym found ∙ true_is in
+    sym (rw read (or_true (list_any (is_owned asked viewer.name) (replayed b).deposits)))
+    ∙ visible_view b asked viewer s ∙ same_visible b n asked viewer s is where
       or_true : (v : Bool) → (v || true) ≡ true
       or_true true = refl
       or_true false = refl
 
-pub seen_by_owner : (b : History) (n asked : ℕ) (a : List ℕ) (reads owns : Bool) → IsSound b → IsAskedFor n asked
-    → reads ≡ false
-    → reads ≡ list_any (is_reader_row asked a) (replayed b).readers
-    → owns ≡ list_any (is_owned asked a) (replayed b).deposits
-    → owns ≡ is_visible a n b
-seen_by_owner b n asked a reads owns s is false_is found own =
-    let row : list_any (is_reader_row asked a) (replayed b).readers ≡ false = sym found ∙ false_is in
-    let view : (list_any (is_owned asked a) (replayed b).deposits || list_any (is_reader_row asked a)
-    (replayed b).readers) ≡ is_visible a asked b =
-    visible_view b asked a s in
-    own ∙ sym (rw row (or_false (list_any (is_owned asked a) (replayed b).deposits))) ∙ view
-    ∙ same_visible b n asked a s is where
+pub seen_by_owner : (b : History) (n asked : ℕ) (viewer : Viewer) (reads owns : Bool) → IsSound b → IsAskedFor n asked
+    → reads ≡ false → reads ≡ may_read viewer asked b
+    → owns ≡ list_any (is_owned asked viewer.name) (replayed b).deposits
+    → owns ≡ is_visible viewer n b
+seen_by_owner b n asked viewer reads owns s is false_is found own =
+    let read : may_read viewer asked b ≡ false = sym found ∙ false_is in
+    own ∙ sym (rw read (or_false (list_any (is_owned asked viewer.name) (replayed b).deposits)))
+    ∙ visible_view b asked viewer s ∙ same_visible b n asked viewer s is where
       or_false : (v : Bool) → (v || false) ≡ v
       or_false true = refl
       or_false false = refl

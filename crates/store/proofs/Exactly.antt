@@ -3,14 +3,15 @@ use Rattle.std.proofs.Common.{◌≡◌, ℕ, ◌<◌, Bool, true, List, [], ◌
 use Rattle.std.proofs.Common.{inr, arith, Contains, ◌↔◌}
 use Rattle.std.specs.List.{list_any}
 use Rattle.tables.specs.Tables.{ReaderRow, TallyRow, is_reader_row, is_tally_of, raised_row, with_one_more}
-use Rattle.book.specs.History.{Reserved, Sealed, Deposited, Calibrated, Held, Granted, Revoked, History}
+use Rattle.book.specs.History.{Reserved, History}
 use Rattle.book.specs.History.{day_of, count_of_day}
+use Rattle.book.specs.Readers.{Account, Group}
 use Rattle.book.specs.Rights.{is_reader}
 use Rattle.book.specs.Sound.{IsSound}
 use Rattle.store.specs.Replay.{replayed}
 use Rattle.store.specs.TablesOf.{tables_of}
 use Rattle.store.proofs.Members.{true_or_false, some_pass, member_here, member_after, member_cases, no_member}
-use Rattle.store.proofs.Readers.{readers_are, row_is, key_passes}
+use Rattle.store.proofs.Readers.{readers_are, group_readers_are, row_is, key_passes}
 use Rattle.store.proofs.Replayed.{replayed_is}
 use Rattle.store.proofs.Tallies.{tallies_count}
 use Rattle.store.proofs.Tallies as tally
@@ -26,17 +27,31 @@ passing p (x ∷ xs) e =
     ]
 
 pub reader_rows : (b : History) → IsSound b → (row : ReaderRow)
-    → Contains (tables_of b).readers row ↔ (is_reader row.serial row.account b ≡ true)
+    → Contains (tables_of b).readers row ↔ (is_reader row.serial (Account row.name) b ≡ true)
 reader_rows b sound row =
-    subst (λ t. Contains t.readers row ↔ (is_reader row.serial row.account b ≡ true)) (replayed_is b sound) (
-      λ m. sym (readers_are b row.serial row.account)
-          ∙ some_pass (is_reader_row row.serial row.account) (replayed b).readers row m
-          (key_passes row.serial row.account row.serial row.account refl refl),
+    subst (λ t. Contains t.readers row ↔ (is_reader row.serial (Account row.name) b ≡ true)) (replayed_is b sound) (
+      λ m. sym (readers_are b row.serial row.name)
+          ∙ some_pass (is_reader_row row.serial row.name) (replayed b).readers row m
+          (key_passes row.serial row.name row.serial row.name refl refl),
       λ reads.
-          let found = passing (is_reader_row row.serial row.account) (replayed b).readers
-          (readers_are b row.serial row.account ∙ reads) in
+          let found = passing (is_reader_row row.serial row.name) (replayed b).readers
+          (readers_are b row.serial row.name ∙ reads) in
           subst (λ (r : ReaderRow). Contains (replayed b).readers r)
-          (row_is row.serial row.account found.0 found.2) found.1,
+          (row_is row.serial row.name found.0 found.2) found.1,
+    )
+
+pub group_reader_rows : (b : History) → IsSound b → (row : ReaderRow)
+    → Contains (tables_of b).group_readers row ↔ (is_reader row.serial (Group row.name) b ≡ true)
+group_reader_rows b sound row =
+    subst (λ t. Contains t.group_readers row ↔ (is_reader row.serial (Group row.name) b ≡ true)) (replayed_is b sound) (
+      λ m. sym (group_readers_are b row.serial row.name)
+          ∙ some_pass (is_reader_row row.serial row.name) (replayed b).group_readers row m
+          (key_passes row.serial row.name row.serial row.name refl refl),
+      λ reads.
+          let found = passing (is_reader_row row.serial row.name) (replayed b).group_readers
+          (group_readers_are b row.serial row.name ∙ reads) in
+          subst (λ (r : ReaderRow). Contains (replayed b).group_readers r)
+          (row_is row.serial row.name found.0 found.2) found.1,
     )
 
 raised_positive : (a : List ℕ) (d : ℕ) (rows : List TallyRow)
@@ -70,12 +85,7 @@ positive : (b : History) (row : TallyRow) → Contains (replayed b).tallies row 
 positive [] row m = absurd (no_member row m)
 positive (Reserved r ∷ b) row m =
     more_positive r.account (day_of r.gen_time) (replayed b).tallies (positive b) row m
-positive (Sealed n token ∷ b) row m = positive b row m
-positive (Deposited d token ∷ b) row m = positive b row m
-positive (Calibrated c ∷ b) row m = positive b row m
-positive (Held h ∷ b) row m = positive b row m
-positive (Granted n a ∷ b) row m = positive b row m
-positive (Revoked n a ∷ b) row m = positive b row m
+positive (_ ∷ b) row m = positive b row m
 
 same_row : (x y : TallyRow) → x.account ≡ y.account → x.day ≡ y.day → x.count ≡ y.count → x ≡ y
 same_row x y account day count =

@@ -7,7 +7,7 @@ use Rattle.book.specs.Rows.{StampRow}
 use Rattle.tables.specs.Found.{IsGreatestAs}
 use Rattle.tables.specs.Queries.{ShowsLast}
 use Rattle.tables.specs.declared.rows.LastStamp.{LastStamp}
-use Rattle.book.specs.History.{Reserved, Sealed, Deposited, Calibrated, Held, Granted, Revoked, History}
+use Rattle.book.specs.History.{Reserved, History}
 use Rattle.book.specs.History.{ReservationValue, reservations, greatest_of}
 use Rattle.book.specs.History.{token_of, stamp_of, stamps, first_of}
 use Rattle.book.specs.Sound.{IsSound}
@@ -28,12 +28,7 @@ none_above (r ∷ rs) n l =
 pub reservations_fall : (b : History) → IsSound b → IsFalling (λ r. r.serial) (reservations b)
 reservations_fall [] s = tt
 reservations_fall (Reserved r ∷ b) s = (none_above (reservations b) r.serial s.0.rises, reservations_fall b s.1)
-reservations_fall (Sealed n token ∷ b) s = reservations_fall b s.1
-reservations_fall (Deposited d token ∷ b) s = reservations_fall b s.1
-reservations_fall (Calibrated c ∷ b) s = reservations_fall b s.1
-reservations_fall (Held h ∷ b) s = reservations_fall b s.1
-reservations_fall (Granted n a ∷ b) s = reservations_fall b s.1
-reservations_fall (Revoked n a ∷ b) s = reservations_fall b s.1
+reservations_fall (_ ∷ b) s = reservations_fall b s.1
 
 pub stamps_fall : (b : History) → IsSound b → IsFalling (λ s. s.serial) (stamps b)
 stamps_fall b s = falling_map (λ s. s.serial) (λ r. stamp_of (token_of r.serial b) r) (reservations b)

@@ -1,5 +1,6 @@
 mod Rows
 pub mod Alike
+pub mod Asked
 pub mod Between
 pub mod Calls
 pub mod Closing
@@ -10,6 +11,8 @@ pub mod Falling
 pub mod Listing
 pub mod Making
 pub mod Members
+pub mod Migrating
+pub mod Moving
 pub mod Numbered
 pub mod Readers
 pub mod Replayed

@@ -2,31 +2,29 @@
 use Rattle.std.proofs.Common.{◌≡◌, ℕ, zero, suc, ◌<◌, ◌≤◌, ◌+◌, ◌-◌, ◌==◌, ◌&&◌, ◌||◌, min, nat_lt, Bool, true, false}
 use Rattle.std.proofs.Common.{cond, List, [], ◌∷◌, ◌++◌, filter_map, Option, Some, None, option_map}
 use Rattle.std.proofs.Common.{option_and_then, option_to_list, refl, sym, ap, ◌∙◌, subst, inl, inr, ◌⊎◌, arith}
-use Rattle.std.proofs.Common.{Contains, IfSome}
+use Rattle.std.proofs.Common.{Contains, IfSome, length, map, get_or}
 use Rattle.std.specs.Option.{is_some}
 use Rattle.std.specs.List.{list_any, range_with_len}
 use Rattle.std.specs.Str.{bytes_eq}
-use Rattle.std.proofs.lemmas.Bool.{eqb-true, eq-eqb, ltb-true, ltb-false, lt-ltb}
+use Rattle.std.proofs.lemmas.Bool.{eqb-true, eq-eqb, ltb-true, ltb-false, lt-ltb, le-leb}
 use Rattle.std.proofs.lemmas.List.Elements.{filter_map-append}
 use Rattle.tables.specs.Found.{IsLeastAs}
 use Rattle.tables.specs.Tables.{DepositRow, ReaderRow, is_reader_row}
-use Rattle.tables.specs.Queries.{ShowsDepositSerial, ShowsReaderSerial, is_owned, is_owned_after, is_readable_after}
+use Rattle.tables.specs.Queries.{ShowsDepositSerial, ShowsReaderSerial, is_owned}
+use Rattle.tables.specs.Queries.{is_owned_after, is_readable_after}
 use Rattle.book.specs.History.{History, deposit_at, reservation_at, greatest_serial}
-use Rattle.book.specs.Rights.{ListedValue, listed_as, is_reader, shown_to, seen_by, is_visible, listed_at, listed}
-use Rattle.book.specs.Sound.{IsSound}
-use Rattle.store.specs.Steps.{IsNextSeen, IsNextReadable, least_of, later_of, listing_at}
+use Rattle.book.specs.Readers.{Account, Group, Viewer}
+use Rattle.book.specs.Rights.{ListedValue, listed_as, is_reader, may_read, shown_to, seen_by, is_visible}
+use Rattle.book.specs.Rights.{listed_at, listed}
+use Rattle.book.specs.Sound.{IsSound, greatest_number}
+use Rattle.store.specs.Steps.{IsNextOf, IsNextSeen, IsNextReadable, AreCursors, AreNextReadable, least_of, least_in}
+use Rattle.store.specs.Steps.{later_of, listing_at}
 use Rattle.store.specs.Replay.{replayed}
-use Rattle.store.proofs.DepositRows.{visible_view, none_beyond}
-use Rattle.store.proofs.Readers.{readers_are}
+use Rattle.store.proofs.DepositRows.{visible_view, none_beyond, serials_within}
+use Rattle.store.proofs.Readers.{readers_are, group_readers_are}
 use Rattle.store.proofs.Members.{both_true, true_or_false, none_pass, some_pass}
 
 -- ---- the next row
-
--- the least number after one that passes
-abbrev IsNextOf : (ℕ → Bool) → ℕ → Option ℕ → Type 0
-IsNextOf test after None = (n : ℕ) → after < n → test n ≡ false
-IsNextOf test after (Some next) = (after < next) × (test next ≡ true) × ((n : ℕ) → after < n → n < next
-    → test n ≡ false)
 
 passes_later : {X : Type 0} (key : X → ℕ) (mine : X → Bool) (x : X) (n after : ℕ) → after < n
     → ((key x == n) && mine x) ≡ true
@@ -104,74 +102,123 @@ least_next p q after (Some n) (Some m) f g =
       or_true true = refl
       or_true false = refl
 
-seen_same : (p : ℕ → Bool) (b : History) (account : List ℕ) (after : ℕ) (answer : Option ℕ)
-    → ((n : ℕ) → p n ≡ is_visible account n b) → IsNextOf p after answer
-    → IsNextSeen account after b answer
-seen_same p b account after None same next = λ n later. sym (same n) ∙ next n later
-seen_same p b account after (Some m) same next =
+-- tests that say the same have the same next number
+next_same : (p q : ℕ → Bool) (after : ℕ) (answer : Option ℕ) → ((n : ℕ) → p n ≡ q n) → IsNextOf p after answer
+    → IsNextOf q after answer
+next_same p q after None same next = λ n later. sym (same n) ∙ next n later
+next_same p q after (Some m) same next =
     (next.0, sym (same m) ∙ next.1, λ n later before. sym (same n) ∙ next.2 n later before)
-
-readable_same : (p : ℕ → Bool) (b : History) (account : List ℕ) (after : ℕ) (answer : Option ℕ)
-    → ((n : ℕ) → p n ≡ is_reader n account b)
-    → IsNextOf p after answer → IsNextReadable account after b answer
-readable_same p b account after None same next = λ n later. sym (same n) ∙ next n later
-readable_same p b account after (Some m) same next =
-    (next.0, sym (same m) ∙ next.1, λ n later before. sym (same n) ∙ next.2 n later before)
-
-same_readable : (p : ℕ → Bool) (b : History) (account : List ℕ) (after : ℕ) (answer : Option ℕ)
-    → ((n : ℕ) → p n ≡ is_reader n account b)
-    → IsNextReadable account after b answer → IsNextOf p after answer
-same_readable p b account after None same next = λ n later. same n ∙ next n later
-same_readable p b account after (Some m) same next =
-    (next.0, same m ∙ next.1, λ n later before. same n ∙ next.2 n later before)
 
 -- the next reader's row is the next deposit that the account reads
 pub readable_view : (b : History) (account : List ℕ) (after : ℕ) (readable : Option ℕ)
     → IsLeastAs ShowsReaderSerial (λ row. row.serial) (is_readable_after account after) (replayed b).readers readable
-    → IsNextReadable account after b readable
+    → IsNextReadable (Account account) after b readable
 readable_view b account after readable found =
-    let q : ℕ → Bool = λ n. list_any (is_reader_row n account) (replayed b).readers in
-    let read : IsNextOf q after readable =
-    next_row (λ (row : ReaderRow). row.serial) (λ (row : ReaderRow). bytes_eq row.account account)
-    (replayed b).readers after readable found in
-    readable_same q b account after readable (λ n. readers_are b n account) read
+    let rows : ℕ → Bool = λ n. list_any (is_reader_row n account) (replayed b).readers in
+    next_same rows (λ n. is_reader n (Account account) b) after readable (λ n. readers_are b n account)
+    (next_row (λ (row : ReaderRow). row.serial) (λ (row : ReaderRow). bytes_eq row.name account)
+    (replayed b).readers after readable found)
 
--- it stays so up to that deposit
-pub still_readable : (b : History) (account : List ℕ) (before after : ℕ) (readable : Option ℕ) → before < after
-    → IfSome readable (λ n. after < n)
-    → IsNextReadable account before b readable → IsNextReadable account after b readable
-still_readable b account before after None less above next = λ n later. next n (omega (arith, less, later))
-still_readable b account before after (Some m) less above next =
+-- and a group's row that of one that it reads
+pub group_readable_view : (b : History) (name : List ℕ) (after : ℕ) (readable : Option ℕ)
+    → IsLeastAs ShowsReaderSerial (λ row. row.serial) (is_readable_after name after)
+    (replayed b).group_readers readable
+    → IsNextReadable (Group name) after b readable
+group_readable_view b name after readable found =
+    let rows : ℕ → Bool = λ n. list_any (is_reader_row n name) (replayed b).group_readers in
+    next_same rows (λ n. is_reader n (Group name) b) after readable (λ n. group_readers_are b n name)
+    (next_row (λ (row : ReaderRow). row.serial) (λ (row : ReaderRow). bytes_eq row.name name)
+    (replayed b).group_readers after readable found)
+
+-- what is beyond all serial numbers isn't seen
+unseen_beyond : (b : History) (viewer : Viewer) (n : ℕ) → IsSound b → greatest_serial b < n
+    → is_visible viewer n b ≡ false
+unseen_beyond b viewer n s later = rw (none_beyond b n s later) refl
+
+seen_within : (b : History) (viewer : Viewer) (n : ℕ) → IsSound b → is_visible viewer n b ≡ true
+    → n ≤ greatest_number
+seen_within b viewer n s seen =
+    elim (nat_cases n (greatest_serial b)) [
+      | inl below ↦ (let within = serials_within b s in omega (arith, below, within))
+      | inr beyond ↦ (let unseen = unseen_beyond b viewer n s beyond in cc)
+    ]
+
+-- a next number stays so up to itself
+pub still_next : (test : ℕ → Bool) (before after : ℕ) (next : Option ℕ) → before < after
+    → IfSome next (λ n. after < n) → IsNextOf test before next → IsNextOf test after next
+still_next test before after None less above next = λ n later. next n (omega (arith, less, later))
+still_next test before after (Some m) less above next =
     (above, next.1, λ n later within. next.2 n (omega (arith, less, later)) within)
 
--- the lesser of the next that the account owns and the next that it reads is the next that it sees
-pub next_view : (b : History) (account : List ℕ) (after : ℕ) (owned readable : Option ℕ) → IsSound b
-    → IsLeastAs ShowsDepositSerial (λ row. row.serial) (is_owned_after account after) (replayed b).deposits owned
-    → IsNextReadable account after b readable → IsNextSeen account after b (least_of owned readable)
-next_view b account after owned readable s first second =
-    let p : ℕ → Bool = λ n. list_any (is_owned n account) (replayed b).deposits in
-    let q : ℕ → Bool = λ n. list_any (is_reader_row n account) (replayed b).readers in
-    let own : IsNextOf p after owned =
-    next_row (λ (row : DepositRow). row.serial) (λ (row : DepositRow). bytes_eq row.owner account)
-    (replayed b).deposits after owned first in
-    let read : IsNextOf q after readable =
-    same_readable q b account after readable (λ n. readers_are b n account) second in
-    seen_same (λ n. p n || q n) b account after (least_of owned readable) (λ n. visible_view b n account s)
-    (least_next p q after owned readable own read)
+-- so do cursors
+pub still_cursors : (b : History) (viewer : Viewer) (before after : ℕ) (own : Option ℕ) (shared : List (Option ℕ))
+    → before < after → AreNextReadable viewer before b own shared → AreCursors viewer after b own shared
+still_cursors b viewer before after own shared less next = (
+  λ above. still_next (λ n. is_reader n (Account viewer.name) b) before after own less above next.0,
+  λ k within above.
+      still_next (λ n. is_reader n (Group (get_or viewer.groups k [])) b) before after (get_or shared k None) less above
+      (next.1 k within),
+)
 
--- the next is after the last
-pub later_view : (b : History) (account : List ℕ) (after : ℕ) (next : Option ℕ) → IsNextSeen account after b next
-    → IsNextSeen account after b (later_of after next)
-later_view b account after None next = next
-later_view b account after (Some n) next =
-    let same : later_of after (Some n) ≡ Some n = rw (lt-ltb after n next.0) refl in
-    subst (λ o. IsNextSeen account after b o) (sym same) next
+or_false : (v : Bool) → v ≡ (v || false)
+or_false true = refl
+or_false false = refl
+
+or_first : (u v w : Bool) → ((u || v) || w) ≡ (u || (v || w))
+or_first true v w = refl
+or_first false v w = refl
+
+-- the least of many is the next of all of them
+least_all : (b : History) (names : List (List ℕ)) (test : ℕ → Bool) (after : ℕ) (own : Option ℕ)
+    (shared : List (Option ℕ)) → length shared ≡ length names → IsNextOf test after own
+    → ((k : ℕ) → k < length names → IsNextReadable (Group (get_or names k [])) after b (get_or shared k None))
+    → IsNextOf (λ n. test n || list_any (λ reader. is_reader n reader b) (map Group names)) after (least_in own shared)
+least_all b [] test after own [] same first each =
+    next_same test (λ n. test n || false) after own (λ n. or_false (test n)) first
+least_all b [] test after own (next ∷ shared) same first each = absurd (omega (arith, same))
+least_all b (name ∷ names) test after own [] same first each = absurd (omega (arith, same))
+least_all b (name ∷ names) test after own (next ∷ shared) same first each =
+    let more : ℕ → Bool = λ n. test n || is_reader n (Group name) b in
+    let others : ℕ → Bool = λ n. list_any (λ reader. is_reader n reader b) (map Group names) in
+    next_same (λ n. more n || others n) (λ n. test n || (is_reader n (Group name) b || others n)) after
+    (least_in (least_of own next) shared)
+    (λ n. or_first (test n) (is_reader n (Group name) b) (others n))
+    (least_all b names more after (least_of own next) shared (omega (arith, same))
+    (least_next test (λ n. is_reader n (Group name) b) after own next first (each 0 (omega arith)))
+    (λ k within. each (suc k) (omega (arith, within))))
+
+-- the least of the next that an account owns and of those that it reads is the next that it sees
+pub next_view : (b : History) (viewer : Viewer) (after : ℕ) (owned own : Option ℕ) (shared : List (Option ℕ))
+    → IsSound b → length shared ≡ length viewer.groups
+    → IsLeastAs ShowsDepositSerial (λ row. row.serial) (is_owned_after viewer.name after) (replayed b).deposits owned
+    → AreNextReadable viewer after b own shared
+    → IsNextSeen viewer after b (least_of owned (least_in own shared))
+next_view b viewer after owned own shared s same first next =
+    let owns : ℕ → Bool = λ n. list_any (is_owned n viewer.name) (replayed b).deposits in
+    let mine : IsNextOf owns after owned =
+    next_row (λ (row : DepositRow). row.serial) (λ (row : DepositRow). bytes_eq row.owner viewer.name)
+    (replayed b).deposits after owned first in
+    let read : IsNextOf (λ n. may_read viewer n b) after (least_in own shared) =
+    least_all b viewer.groups (λ n. is_reader n (Account viewer.name) b) after own shared same next.0 next.1 in
+    next_same (λ n. owns n || may_read viewer n b) (λ n. is_visible viewer n b) after
+    (least_of owned (least_in own shared))
+    (λ n. visible_view b n viewer s)
+    (least_next owns (λ n. may_read viewer n b) after owned (least_in own shared) mine read)
+
+-- the next is after the last, and a serial number
+pub later_view : (b : History) (viewer : Viewer) (after : ℕ) (next : Option ℕ) → IsSound b
+    → IsNextSeen viewer after b next → IsNextSeen viewer after b (later_of after next)
+later_view b viewer after None s next = next
+later_view b viewer after (Some n) s next =
+    let small : n ≤ greatest_number = seen_within b viewer n s next.1 in
+    let same : later_of after (Some n) ≡ Some n = rw (lt-ltb after n next.0, le-leb n greatest_number small) refl in
+    subst (λ o. IsNextSeen viewer after b o) (sym same) next
 
 -- ---- the walk
 
 -- what is listed of the numbers up to one
-abbrev pub listed_up_to : List ℕ → History → ℕ → List ListedValue
-listed_up_to account b n = filter_map (listed_at account b) (range_with_len 1 n)
+abbrev pub listed_up_to : Viewer → History → ℕ → List ListedValue
+listed_up_to viewer b n = filter_map (listed_at viewer b) (range_with_len 1 n)
 
 range_more : (a n : ℕ) → range_with_len a (suc n) ≡ range_with_len a n ++ (a + n) ∷ []
 range_more a zero = let same : a ≡ a + 0 = omega arith in ap (λ k. k ∷ []) same
@@ -180,49 +227,49 @@ range_more a (suc n) =
     let same : a + 1 + n ≡ a + suc n = omega arith in
     ap (λ l. a ∷ l) rest ∙ ap (λ k. a ∷ (range_with_len (a + 1) n ++ k ∷ [])) same
 
-one_more : (account : List ℕ) (b : History) (n : ℕ)
-    → listed_up_to account b (suc n) ≡ listed_up_to account b n ++ option_to_list (listed_at account b (suc n))
-one_more account b n =
+one_more : (viewer : Viewer) (b : History) (n : ℕ)
+    → listed_up_to viewer b (suc n) ≡ listed_up_to viewer b n ++ option_to_list (listed_at viewer b (suc n))
+one_more viewer b n =
     let same : 1 + n ≡ suc n = omega arith in
-    ap (filter_map (listed_at account b)) (range_more 1 n ∙ ap (λ k. range_with_len 1 n ++ k ∷ []) same)
-    ∙ filter_map-append (listed_at account b) (range_with_len 1 n) (suc n ∷ [])
-    ∙ ap (λ l. listed_up_to account b n ++ l) (of_one (listed_at account b (suc n)) refl) where
-      of_one : (o : Option ListedValue) → listed_at account b (suc n) ≡ o
-          → filter_map (listed_at account b) (suc n ∷ []) ≡ option_to_list o
+    ap (filter_map (listed_at viewer b)) (range_more 1 n ∙ ap (λ k. range_with_len 1 n ++ k ∷ []) same)
+    ∙ filter_map-append (listed_at viewer b) (range_with_len 1 n) (suc n ∷ [])
+    ∙ ap (λ l. listed_up_to viewer b n ++ l) (of_one (listed_at viewer b (suc n)) refl) where
+      of_one : (o : Option ListedValue) → listed_at viewer b (suc n) ≡ o
+          → filter_map (listed_at viewer b) (suc n ∷ []) ≡ option_to_list o
       of_one None e = rw e refl
       of_one (Some v) e = rw e refl
 
-hidden : (account : List ℕ) (b : History) (n : ℕ) → is_visible account n b ≡ false → listed_at account b n ≡ None
-hidden account b n e = go (seen_by account n b) e where
+hidden : (viewer : Viewer) (b : History) (n : ℕ) → is_visible viewer n b ≡ false → listed_at viewer b n ≡ None
+hidden viewer b n e = go (seen_by viewer n b) e where
   go : (o : Option DepositRow) → is_some o ≡ false
       → option_and_then (λ d. option_map (listed_as d) (reservation_at n b)) o ≡ None
   go None e = refl
   go (Some d) e = cc
 
--- numbers that the account doesn't see add nothing
-passed_over : (account : List ℕ) (b : History) (from k : ℕ)
-    → ((n : ℕ) → from < n → n ≤ from + k → is_visible account n b ≡ false)
-    → listed_up_to account b (from + k) ≡ listed_up_to account b from
-passed_over account b from zero none = let same : from + 0 ≡ from = omega arith in ap (listed_up_to account b) same
-passed_over account b from (suc k) none =
+-- numbers that who asks doesn't see add nothing
+passed_over : (viewer : Viewer) (b : History) (from k : ℕ)
+    → ((n : ℕ) → from < n → n ≤ from + k → is_visible viewer n b ≡ false)
+    → listed_up_to viewer b (from + k) ≡ listed_up_to viewer b from
+passed_over viewer b from zero none = let same : from + 0 ≡ from = omega arith in ap (listed_up_to viewer b) same
+passed_over viewer b from (suc k) none =
     let same : from + suc k ≡ suc (from + k) = omega arith in
-    let last = hidden account b (suc (from + k)) (none (suc (from + k)) (omega arith) (omega arith)) in
-    ap (listed_up_to account b) same ∙ one_more account b (from + k)
-    ∙ rw last (append_nothing (listed_up_to account b (from + k)))
-    ∙ passed_over account b from k (λ n later within. none n later (omega (arith, within))) where
+    let last = hidden viewer b (suc (from + k)) (none (suc (from + k)) (omega arith) (omega arith)) in
+    ap (listed_up_to viewer b) same ∙ one_more viewer b (from + k)
+    ∙ rw last (append_nothing (listed_up_to viewer b (from + k)))
+    ∙ passed_over viewer b from k (λ n later within. none n later (omega (arith, within))) where
       append_nothing : (xs : List ListedValue) → xs ++ [] ≡ xs
       append_nothing [] = refl
       append_nothing (x ∷ xs) = ap (λ l. x ∷ l) (append_nothing xs)
 
-shown_whole : (account : List ℕ) (b : History) (n : ℕ) → is_visible account n b ≡ true
-    → listed_at account b n ≡ listing_at n b
-shown_whole account b n e = go (deposit_at n b) e where
-  go : (o : Option DepositRow) → is_some (option_and_then (shown_to account (is_reader n account b)) o) ≡ true
+shown_whole : (viewer : Viewer) (b : History) (n : ℕ) → is_visible viewer n b ≡ true
+    → listed_at viewer b n ≡ listing_at n b
+shown_whole viewer b n e = go (deposit_at n b) e where
+  go : (o : Option DepositRow) → is_some (option_and_then (shown_to viewer (may_read viewer n b)) o) ≡ true
       → option_and_then (λ d. option_map (listed_as d) (reservation_at n b))
-      (option_and_then (shown_to account (is_reader n account b)) o)
+      (option_and_then (shown_to viewer (may_read viewer n b)) o)
       ≡ option_and_then (λ d. option_map (listed_as d) (reservation_at n b)) o
   go None e = refl
-  go (Some d) e = of_test (bytes_eq d.owner account || is_reader n account b) e where
+  go (Some d) e = of_test (bytes_eq d.owner viewer.name || may_read viewer n b) e where
     of_test : (v : Bool) → is_some (cond v (Some d) None) ≡ true
         → option_and_then (λ d. option_map (listed_as d) (reservation_at n b)) (cond v (Some d) None)
         ≡ option_map (listed_as d) (reservation_at n b)
@@ -230,31 +277,31 @@ shown_whole account b n e = go (deposit_at n b) e where
     of_test false e = cc
 
 -- one step: the next that is seen adds what a list shows of it
-pub next_listed : (account : List ℕ) (b : History) (after next : ℕ) → IsNextSeen account after b (Some next)
-    → listed_up_to account b next ≡ listed_up_to account b after ++ option_to_list (listing_at next b)
-next_listed account b after next is =
+pub next_listed : (viewer : Viewer) (b : History) (after next : ℕ) → IsNextSeen viewer after b (Some next)
+    → listed_up_to viewer b next ≡ listed_up_to viewer b after ++ option_to_list (listing_at next b)
+next_listed viewer b after next is =
     let lt = is.0 in
     let k : ℕ = next - suc after in
     let at : next ≡ suc (after + k) = omega (arith, lt) in
-    let P : ℕ → Type 0 = λ n. is_visible account n b ≡ true in
-    let skipped = passed_over account b after k (λ n later within. is.2 n later (omega (arith, within, lt))) in
-    ap (listed_up_to account b) at ∙ one_more account b (after + k)
-    ∙ ap (λ l. l ++ option_to_list (listed_at account b (suc (after + k)))) skipped
-    ∙ ap (λ n. listed_up_to account b after ++ option_to_list (listed_at account b n)) (sym at)
-    ∙ ap (λ o. listed_up_to account b after ++ option_to_list o) (shown_whole account b next is.1)
+    let P : ℕ → Type 0 = λ n. is_visible viewer n b ≡ true in
+    let skipped = passed_over viewer b after k (λ n later within. is.2 n later (omega (arith, within, lt))) in
+    ap (listed_up_to viewer b) at ∙ one_more viewer b (after + k)
+    ∙ ap (λ l. l ++ option_to_list (listed_at viewer b (suc (after + k)))) skipped
+    ∙ ap (λ n. listed_up_to viewer b after ++ option_to_list (listed_at viewer b n)) (sym at)
+    ∙ ap (λ o. listed_up_to viewer b after ++ option_to_list o) (shown_whole viewer b next is.1)
 
 -- the end: all is listed
-pub all_listed : (account : List ℕ) (b : History) (after : ℕ) → IsSound b → IsNextSeen account after b None
-    → listed_up_to account b after ≡ listed account b
-all_listed account b after s none =
+pub all_listed : (viewer : Viewer) (b : History) (after : ℕ) → IsSound b → IsNextSeen viewer after b None
+    → listed_up_to viewer b after ≡ listed viewer b
+all_listed viewer b after s none =
     elim (nat_cases after (greatest_serial b)) [
       | inl before ↦ (let k : ℕ = greatest_serial b - after in
           let at : after + k ≡ greatest_serial b = omega (arith, before) in
-          sym (sym (ap (listed_up_to account b) at) ∙ passed_over account b after k (λ n later within. none n later)))
+          sym (sym (ap (listed_up_to viewer b) at) ∙ passed_over viewer b after k (λ n later within. none n later)))
       | inr beyond ↦ (let k : ℕ = after - greatest_serial b in
           let at : greatest_serial b + k ≡ after = omega (arith, beyond) in
-          sym (ap (listed_up_to account b) at)
-          ∙ passed_over account b (greatest_serial b) k (λ n later within. unseen n later))
+          sym (ap (listed_up_to viewer b) at)
+          ∙ passed_over viewer b (greatest_serial b) k (λ n later within. unseen n later))
     ] where
-      unseen : (n : ℕ) → greatest_serial b < n → is_visible account n b ≡ false
-      unseen n later = rw (none_beyond b n s later) refl
+      unseen : (n : ℕ) → greatest_serial b < n → is_visible viewer n b ≡ false
+      unseen n later = unseen_beyond b viewer n s later

@@ -6,7 +6,7 @@ use Rattle.tables.specs.Tables.{CalibrationRow, HoldRow, with_hold, with_calibra
 use Rattle.tables.specs.Found.{IsGreatestAs}
 use Rattle.tables.specs.Queries.{ShowsCalibration, ShowsNumber, holds_at}
 use Rattle.tables.specs.declared.rows.LatestCalibration.{LatestCalibration}
-use Rattle.book.specs.History.{Reserved, Sealed, Deposited, Calibrated, Held, Granted, Revoked, History}
+use Rattle.book.specs.History.{Calibrated, Held, History}
 use Rattle.book.specs.History.{CalibrationValue, HoldValue, calibrations, holds, latest_calibration, is_held, first_of}
 use Rattle.store.specs.Steps.{calibration_from, next_number}
 use Rattle.store.specs.TablesOf.{calibration_row, hold_row, numbered}
@@ -36,30 +36,20 @@ numbers_fall {X} {Y} row key is (x ∷ xs) =
 
 pub calibrations_are : (b : History) → (replayed b).calibrations ≡ numbered calibration_row (calibrations b)
 calibrations_are [] = refl
-calibrations_are (Reserved r ∷ b) = calibrations_are b
-calibrations_are (Sealed n token ∷ b) = calibrations_are b
-calibrations_are (Deposited d token ∷ b) = calibrations_are b
 calibrations_are (Calibrated c ∷ b) =
     let rest = calibrations_are b in
     let long : length (replayed b).calibrations ≡ length (calibrations b) =
     ap length rest ∙ length_numbered calibration_row (calibrations b) in
     rw (long, rest) refl
-calibrations_are (Held h ∷ b) = calibrations_are b
-calibrations_are (Granted n a ∷ b) = calibrations_are b
-calibrations_are (Revoked n a ∷ b) = calibrations_are b
+calibrations_are (_ ∷ b) = calibrations_are b
 
 pub holds_are : (b : History) → (replayed b).holds ≡ numbered hold_row (holds b)
 holds_are [] = refl
-holds_are (Reserved r ∷ b) = holds_are b
-holds_are (Sealed n token ∷ b) = holds_are b
-holds_are (Deposited d token ∷ b) = holds_are b
-holds_are (Calibrated c ∷ b) = holds_are b
 holds_are (Held h ∷ b) =
     let rest = holds_are b in
     let long : length (replayed b).holds ≡ length (holds b) = ap length rest ∙ length_numbered hold_row (holds b) in
     rw (long, rest) refl
-holds_are (Granted n a ∷ b) = holds_are b
-holds_are (Revoked n a ∷ b) = holds_are b
+holds_are (_ ∷ b) = holds_are b
 
 calibration_of_first : (cs : List CalibrationValue) (answer : Option LatestCalibration)
     → IsFirstAs ShowsCalibration (numbered calibration_row cs) answer

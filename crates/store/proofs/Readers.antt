@@ -1,8 +1,8 @@
 -- The reader rows of the tables are the current readers, each once.
-use Rattle.std.proofs.Common.{◌≡◌, ℕ, ◌==◌, ◌&&◌, not, Bool, true, false, List, [], ◌∷◌, filter}
+use Rattle.std.proofs.Common.{◌≡◌, ℕ, ◌<◌, ◌^◌, ◌==◌, ◌&&◌, not, Bool, true, false, cond, List, [], ◌∷◌, filter}
 use Rattle.std.proofs.Common.{refl, sym, ap, ◌∙◌, subst, inl, inr}
 use Rattle.std.proofs.Common.{IsPermutation}
-use Rattle.std.specs.List.{list_any}
+use Rattle.std.specs.List.{AllByRecursion, list_any}
 use Rattle.std.specs.Str.{bytes_eq}
 use Rattle.std.proofs.lemmas.Bool.{eqb-true, eq-eqb}
 use Rattle.std.proofs.lemmas.Slice.Eq.{bytes_eq-Decides}
@@ -14,10 +14,16 @@ use Rattle.sqlite_trees.specs.Tree.{Trees}
 use Rattle.sqlite_trees.specs.declared.store.Store.{Ghosts}
 use Rattle.sqlite.specs.State.{State}
 use Rattle.tables.specs.Base.{BaseValue, Keeps, StandsFor}
-use Rattle.tables.specs.Holding.{Holds, reader_cells}
-use Rattle.tables.specs.Tables.{Tables, ReaderRow, is_reader_row, with_reader, without_reader}
-use Rattle.book.specs.History.{Reserved, Sealed, Deposited, Calibrated, Held, Granted, Revoked, History}
+use Rattle.tables.specs.Holding.{Holds, cells_of, rows_of}
+use Rattle.tables.specs.Names.{Name}
+use Rattle.tables.specs.Names as name
+use Rattle.tables.specs.Schema.{the_version}
+use Rattle.tables.specs.Tables.{Tables, ReaderRow, is_reader_row, with_reader, without_reader, with_group_reader}
+use Rattle.tables.specs.Tables.{without_group_reader}
+use Rattle.book.specs.History.{Granted, Revoked, History}
+use Rattle.book.specs.Readers.{Account, Group}
 use Rattle.book.specs.Rights.{is_reader}
+use Rattle.book.proofs.Rights.{reader_after_grant, reader_after_revocation}
 use Rattle.store.specs.Replay.{replayed}
 use Rattle.store.proofs.Members.{both_true, neither_true, true_or_false}
 
@@ -31,8 +37,8 @@ pub key_passes : (n : ℕ) (a : List ℕ) (m : ℕ) (x : List ℕ) → m ≡ n �
 key_passes n a m x e f = rw (eq-eqb m n e, (bytes_eq-Decides x a).1 f) refl
 
 pub row_is : (n : ℕ) (a : List ℕ) (row : ReaderRow) → is_reader_row n a row ≡ true
-    → row ≡ record { serial = n; account = a }
-row_is n a row e = let k = key_is n a row.serial row.account e in rw (k.0, k.1) refl
+    → row ≡ record { serial = n; name = a }
+row_is n a row e = let k = key_is n a row.serial row.name e in rw (k.0, k.1) refl
 
 -- whether rows have a key, after the rows of one were taken
 taken_same : (n : ℕ) (a : List ℕ) (m : ℕ) (x : List ℕ) (rows : List ReaderRow) → ((m == n) && bytes_eq x a) ≡ true
@@ -40,9 +46,9 @@ taken_same : (n : ℕ) (a : List ℕ) (m : ℕ) (x : List ℕ) (rows : List Read
 taken_same n a m x rows e =
     any-filter_same (is_reader_row n a) (λ row. not (is_reader_row m x row)) false
     (λ row passes.
-    (let k = key_is n a row.serial row.account passes in
+    (let k = key_is n a row.serial row.name passes in
     let l = key_is n a m x e in
-    let there : is_reader_row m x row ≡ true = key_passes m x row.serial row.account (k.0 ∙ sym l.0) (k.1 ∙ sym l.1) in
+    let there : is_reader_row m x row ≡ true = key_passes m x row.serial row.name (k.0 ∙ sym l.0) (k.1 ∙ sym l.1) in
     rw there refl)) rows
 
 taken_other : (n : ℕ) (a : List ℕ) (m : ℕ) (x : List ℕ) (rows : List ReaderRow) → ((m == n) && bytes_eq x a) ≡ false
@@ -51,37 +57,80 @@ taken_other : (n : ℕ) (a : List ℕ) (m : ℕ) (x : List ℕ) (rows : List Rea
 taken_other n a m x rows e =
     any-filter_same (is_reader_row n a) (λ row. not (is_reader_row m x row)) true
     (λ row passes.
-    (let k = key_is n a row.serial row.account passes in
+    (let k = key_is n a row.serial row.name passes in
     elim (true_or_false (is_reader_row m x row)) [
-      | inl t ↦ (let l = key_is m x row.serial row.account t in
+      | inl t ↦ (let l = key_is m x row.serial row.name t in
           let same : ((m == n) && bytes_eq x a) ≡ true = key_passes n a m x (sym l.0 ∙ k.0) (sym l.1 ∙ k.1) in cc)
       | inr f ↦ rw f refl
     ])) rows
 
--- a row is there where the right is
-pub readers_are : (b : History) (n : ℕ) (a : List ℕ)
-    → list_any (is_reader_row n a) (replayed b).readers ≡ is_reader n a b
-readers_are [] n a = refl
-readers_are (Reserved r ∷ b) n a = readers_are b n a
-readers_are (Sealed m token ∷ b) n a = readers_are b n a
-readers_are (Deposited d token ∷ b) n a = readers_are b n a
-readers_are (Calibrated c ∷ b) n a = readers_are b n a
-readers_are (Held h ∷ b) n a = readers_are b n a
-readers_are (Granted m x ∷ b) n a =
+-- rows of one reader more, and of one less
+given_rows : (m n : ℕ) (x a : List ℕ) (rows : List ReaderRow) (v : Bool) → list_any (is_reader_row n a) rows ≡ v
+    → list_any (is_reader_row n a)
+    (record { serial = m; name = x } ∷ filter (λ row. not (is_reader_row m x row)) rows)
+    ≡ cond ((m == n) && bytes_eq x a) true v
+given_rows m n x a rows v are =
     elim (true_or_false ((m == n) && bytes_eq x a)) [
       | inl t ↦ rw t refl
-      | inr f ↦ rw f (taken_other n a m x (replayed b).readers f ∙ readers_are b n a)
+      | inr f ↦ rw f (taken_other n a m x rows f ∙ are)
     ]
-readers_are (Revoked m x ∷ b) n a =
+
+taken_rows : (m n : ℕ) (x a : List ℕ) (rows : List ReaderRow) (v : Bool) → list_any (is_reader_row n a) rows ≡ v
+    → list_any (is_reader_row n a) (filter (λ row. not (is_reader_row m x row)) rows)
+    ≡ cond ((m == n) && bytes_eq x a) false v
+taken_rows m n x a rows v are =
     elim (true_or_false ((m == n) && bytes_eq x a)) [
-      | inl t ↦ rw t (taken_same n a m x (replayed b).readers t)
-      | inr f ↦ rw f (taken_other n a m x (replayed b).readers f ∙ readers_are b n a)
+      | inl t ↦ rw t (taken_same n a m x rows t)
+      | inr f ↦ rw f (taken_other n a m x rows f ∙ are)
     ]
+
+and_false : (v : Bool) → (v && false) ≡ false
+and_false true = refl
+and_false false = refl
+
+-- a right of another kind says nothing
+pub other_kind : (m n : ℕ) (w v : Bool) → cond ((m == n) && false) w v ≡ v
+other_kind m n w v = rw (and_false (m == n)) refl
+
+-- a row is there where the right is
+pub readers_are : (b : History) (n : ℕ) (a : List ℕ)
+    → list_any (is_reader_row n a) (replayed b).readers ≡ is_reader n (Account a) b
+readers_are [] n a = refl
+readers_are (Granted m (Account x) ∷ b) n a =
+    given_rows m n x a (replayed b).readers (is_reader n (Account a) b) (readers_are b n a)
+    ∙ sym (reader_after_grant n (Account a) m (Account x) b)
+readers_are (Granted m (Group x) ∷ b) n a =
+    readers_are b n a ∙ sym (other_kind m n true (is_reader n (Account a) b))
+    ∙ sym (reader_after_grant n (Account a) m (Group x) b)
+readers_are (Revoked m (Account x) ∷ b) n a =
+    taken_rows m n x a (replayed b).readers (is_reader n (Account a) b) (readers_are b n a)
+    ∙ sym (reader_after_revocation n (Account a) m (Account x) b)
+readers_are (Revoked m (Group x) ∷ b) n a =
+    readers_are b n a ∙ sym (other_kind m n false (is_reader n (Account a) b))
+    ∙ sym (reader_after_revocation n (Account a) m (Group x) b)
+readers_are (_ ∷ b) n a = readers_are b n a
+
+pub group_readers_are : (b : History) (n : ℕ) (a : List ℕ)
+    → list_any (is_reader_row n a) (replayed b).group_readers ≡ is_reader n (Group a) b
+group_readers_are [] n a = refl
+group_readers_are (Granted m (Group x) ∷ b) n a =
+    given_rows m n x a (replayed b).group_readers (is_reader n (Group a) b) (group_readers_are b n a)
+    ∙ sym (reader_after_grant n (Group a) m (Group x) b)
+group_readers_are (Granted m (Account x) ∷ b) n a =
+    group_readers_are b n a ∙ sym (other_kind m n true (is_reader n (Group a) b))
+    ∙ sym (reader_after_grant n (Group a) m (Account x) b)
+group_readers_are (Revoked m (Group x) ∷ b) n a =
+    taken_rows m n x a (replayed b).group_readers (is_reader n (Group a) b) (group_readers_are b n a)
+    ∙ sym (reader_after_revocation n (Group a) m (Group x) b)
+group_readers_are (Revoked m (Account x) ∷ b) n a =
+    group_readers_are b n a ∙ sym (other_kind m n false (is_reader n (Group a) b))
+    ∙ sym (reader_after_revocation n (Group a) m (Account x) b)
+group_readers_are (_ ∷ b) n a = group_readers_are b n a
 
 -- no key stands twice
 abbrev pub AreOnce : List ReaderRow → Type 0
 AreOnce [] = Unit {0}
-AreOnce (row ∷ rows) = (list_any (is_reader_row row.serial row.account) rows ≡ false) × AreOnce rows
+AreOnce (row ∷ rows) = (list_any (is_reader_row row.serial row.name) rows ≡ false) × AreOnce rows
 
 none_left : (p q : ReaderRow → Bool) (rows : List ReaderRow) → list_any p rows ≡ false
     → list_any p (filter q rows) ≡ false
@@ -97,21 +146,33 @@ left_once : (q : ReaderRow → Bool) (rows : List ReaderRow) → AreOnce rows �
 left_once q [] once = tt
 left_once q (row ∷ rows) once =
     elim (true_or_false (q row)) [
-      | inl t ↦ rw t (none_left (is_reader_row row.serial row.account) q rows once.0, left_once q rows once.1)
+      | inl t ↦ rw t (none_left (is_reader_row row.serial row.name) q rows once.0, left_once q rows once.1)
       | inr f ↦ rw f (left_once q rows once.1)
     ]
 
+given_once : (m : ℕ) (x : List ℕ) (rows : List ReaderRow) → AreOnce rows
+    → AreOnce (record { serial = m; name = x } ∷ filter (λ row. not (is_reader_row m x row)) rows)
+given_once m x rows once =
+    let none = taken_same m x m x rows (key_passes m x m x refl refl) in
+    (none, left_once (λ row. not (is_reader_row m x row)) rows once)
+
 pub readers_once : (b : History) → AreOnce (replayed b).readers
 readers_once [] = tt
-readers_once (Reserved r ∷ b) = readers_once b
-readers_once (Sealed m token ∷ b) = readers_once b
-readers_once (Deposited d token ∷ b) = readers_once b
-readers_once (Calibrated c ∷ b) = readers_once b
-readers_once (Held h ∷ b) = readers_once b
-readers_once (Granted m x ∷ b) =
-    let none = taken_same m x m x (replayed b).readers (key_passes m x m x refl refl) in
-    (none, left_once (λ row. not (is_reader_row m x row)) (replayed b).readers (readers_once b))
-readers_once (Revoked m x ∷ b) = left_once (λ row. not (is_reader_row m x row)) (replayed b).readers (readers_once b)
+readers_once (Granted m (Account x) ∷ b) = given_once m x (replayed b).readers (readers_once b)
+readers_once (Granted m (Group x) ∷ b) = readers_once b
+readers_once (Revoked m (Account x) ∷ b) =
+    left_once (λ row. not (is_reader_row m x row)) (replayed b).readers (readers_once b)
+readers_once (Revoked m (Group x) ∷ b) = readers_once b
+readers_once (_ ∷ b) = readers_once b
+
+pub group_readers_once : (b : History) → AreOnce (replayed b).group_readers
+group_readers_once [] = tt
+group_readers_once (Granted m (Group x) ∷ b) = given_once m x (replayed b).group_readers (group_readers_once b)
+group_readers_once (Granted m (Account x) ∷ b) = group_readers_once b
+group_readers_once (Revoked m (Group x) ∷ b) =
+    left_once (λ row. not (is_reader_row m x row)) (replayed b).group_readers (group_readers_once b)
+group_readers_once (Revoked m (Account x) ∷ b) = group_readers_once b
+group_readers_once (_ ∷ b) = group_readers_once b
 
 -- taking what isn't there takes nothing
 none_taken : (p : ReaderRow → Bool) (rows : List ReaderRow) → list_any p rows ≡ false
@@ -125,19 +186,18 @@ swapped x y xs = IsPermutation-append_left xs (x ∷ y ∷ []) (y ∷ x ∷ []) 
 
 -- taking a row and adding it again leaves the rows, up to their order
 pub put_again : (n : ℕ) (a : List ℕ) (rows : List ReaderRow) → AreOnce rows → list_any (is_reader_row n a) rows ≡ true
-    → IsPermutation (record { serial = n; account = a } ∷ filter (λ row. not (is_reader_row n a row)) rows) rows
+    → IsPermutation (record { serial = n; name = a } ∷ filter (λ row. not (is_reader_row n a row)) rows) rows
 put_again n a [] once e = cc
 put_again n a (row ∷ rows) once e =
     elim (true_or_false (is_reader_row n a row)) [
       | inl t ↦ (let is = row_is n a row t in
-          let P : ReaderRow → Type 0 = λ r. list_any (is_reader_row r.serial r.account) rows ≡ false in
+          let P : ReaderRow → Type 0 = λ r. list_any (is_reader_row r.serial r.name) rows ≡ false in
           let none : list_any (is_reader_row n a) rows ≡ false = subst P is once.0 in
-          let same : (record { serial = n; account = a } ∷ filter (λ row. not (is_reader_row n a row)) (row ∷ rows))
+          let same : (record { serial = n; name = a } ∷ filter (λ row. not (is_reader_row n a row)) (row ∷ rows))
           ≡ row ∷ rows =
           rw (t, is) (ap (λ (l : List ReaderRow). record {
             serial = n;
-            account =
-                a;
+            name = a;
           } ∷ l) (none_taken (is_reader_row n a) rows none)) in
           subst (λ l. IsPermutation l (row ∷ rows)) (sym same) (IsPermutation-refl (row ∷ rows)))
       | inr f ↦ (let there : list_any (is_reader_row n a) rows ≡ true = sym (rw f refl) ∙ e in
@@ -146,49 +206,73 @@ put_again n a (row ∷ rows) once e =
     ]
 
 -- a database that holds the rows holds them in another order too
-reordered : (t : Tables) (rows : List ReaderRow) (db : Trees) → IsPermutation rows t.readers
-    → Holds (record t { readers = rows }) db → Holds t db
-reordered t rows db same h = record {
-  version = h.version;
-  stamps = h.stamps;
-  calibrations = h.calibrations;
-  holds = h.holds;
-  deposits = h.deposits;
-  readers = record {
-    shaped = h.readers.shaped;
-    same = IsPermutation-trans _ _ _ (IsPermutation-map reader_cells _ _ (IsPermutation-sym _ _ same)) h.readers.same;
+reordered : (t others : Tables) (db : Trees)
+    → ((n : Name) → IsPermutation (rows_of the_version n t) (rows_of the_version n others)) → others.tallies ≡ t.tallies
+    → Holds others db → Holds t db
+reordered t others db same tallies h = record {
+  rows = λ n since. record {
+    shaped = (h.rows n since).shaped;
+    same = IsPermutation-trans _ _ _ (IsPermutation-map (cells_of n) _ _ (same n)) (h.rows n since).same;
   };
-  tallies = h.tallies;
-  counts = h.counts;
+  counts = subst (AllByRecursion (λ row. row.count < 2 ^ 63)) tallies h.counts;
 }
 
-stands_reordered : (t : Tables) (rows : List ReaderRow) (s : State) → IsPermutation rows t.readers
-    → StandsFor (record t { readers = rows }) s → StandsFor t s
-stands_reordered t rows s same stands = record {
-  schema = stands.schema;
-  holds = reordered t rows s.now.trees same stands.holds;
+stands_reordered : (t others : Tables) (s : State)
+    → ((n : Name) → IsPermutation (rows_of the_version n t) (rows_of the_version n others)) → others.tallies ≡ t.tallies
+    → StandsFor others s → StandsFor t s
+stands_reordered t others s same tallies stands = record {
+  database = record {
+    schema = stands.database.schema;
+    holds = reordered t others s.now.trees same tallies stands.database.holds;
+  };
   sound = stands.sound;
   settled = stands.settled;
   autocommit = stands.autocommit;
   leaves = λ db may.
       let left = stands.leaves db may in
-      record { holds = reordered t rows db same left.holds; listed = left.listed };
+      record { holds = reordered t others db same tallies left.holds; listed = left.listed };
 }
+
+-- readers in another order
+readers_reordered : (t : Tables) (rows : List ReaderRow) → IsPermutation rows t.readers → (n : Name)
+    → IsPermutation (rows_of the_version n t) (rows_of the_version n (record t { readers = rows }))
+readers_reordered t rows same name.Reader = IsPermutation-sym _ _ same
+readers_reordered t rows same n = IsPermutation-refl _
+
+groups_reordered : (t : Tables) (rows : List ReaderRow) → IsPermutation rows t.group_readers → (n : Name)
+    → IsPermutation (rows_of the_version n t) (rows_of the_version n (record t { group_readers = rows }))
+groups_reordered t rows same name.GroupReader = IsPermutation-sym _ _ same
+groups_reordered t rows same n = IsPermutation-refl _
 
 -- a right that is granted again leaves the tables
 pub granted_again : {S : Type 0} (g : Ghosts S) (b : History) (n : ℕ) (a : List ℕ) (store : BaseValue S)
-    → is_reader n a b ≡ true → Keeps g (with_reader n a (replayed b)) store → Keeps g (replayed b) store
+    → is_reader n (Account a) b ≡ true → Keeps g (with_reader n a (replayed b)) store → Keeps g (replayed b) store
 granted_again g b n a store has kept honest is_open =
     let same = put_again n a (replayed b).readers (readers_once b) (readers_are b n a ∙ has) in
-    stands_reordered (replayed b) _ _ same (kept honest is_open)
+    stands_reordered (replayed b) (with_reader n a (replayed b)) _ (readers_reordered (replayed b) _ same) refl
+    (kept honest is_open)
+
+pub group_granted_again : {S : Type 0} (g : Ghosts S) (b : History) (n : ℕ) (a : List ℕ) (store : BaseValue S)
+    → is_reader n (Group a) b ≡ true → Keeps g (with_group_reader n a (replayed b)) store → Keeps g (replayed b) store
+group_granted_again g b n a store has kept honest is_open =
+    let same = put_again n a (replayed b).group_readers (group_readers_once b) (group_readers_are b n a ∙ has) in
+    stands_reordered (replayed b) (with_group_reader n a (replayed b)) _ (groups_reordered (replayed b) _ same) refl
+    (kept honest is_open)
 
 -- as does a revocation of what wasn't granted
 pub revoked_unneeded : {S : Type 0} (g : Ghosts S) (b : History) (n : ℕ) (a : List ℕ) (store : BaseValue S)
-    → is_reader n a b ≡ false → Keeps g (without_reader n a (replayed b)) store → Keeps g (replayed b) store
+    → is_reader n (Account a) b ≡ false → Keeps g (without_reader n a (replayed b)) store → Keeps g (replayed b) store
 revoked_unneeded g b n a store hasnt kept =
     let same : without_reader n a (replayed b) ≡ replayed b =
-    ap (λ (rows : List ReaderRow). record (replayed b) {
-      readers =
-          rows;
-    }) (none_taken (is_reader_row n a) (replayed b).readers (readers_are b n a ∙ hasnt)) in
+    ap (λ (rows : List ReaderRow). record (replayed b) { readers = rows })
+    (none_taken (is_reader_row n a) (replayed b).readers (readers_are b n a ∙ hasnt)) in
+    subst (λ t. Keeps g t store) same kept
+
+pub group_revoked_unneeded : {S : Type 0} (g : Ghosts S) (b : History) (n : ℕ) (a : List ℕ) (store : BaseValue S)
+    → is_reader n (Group a) b ≡ false → Keeps g (without_group_reader n a (replayed b)) store
+    → Keeps g (replayed b) store
+group_revoked_unneeded g b n a store hasnt kept =
+    let same : without_group_reader n a (replayed b) ≡ replayed b =
+    ap (λ (rows : List ReaderRow). record (replayed b) { group_readers = rows })
+    (none_taken (is_reader_row n a) (replayed b).group_readers (group_readers_are b n a ∙ hasnt)) in
     subst (λ t. Keeps g t store) same kept

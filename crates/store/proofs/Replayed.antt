@@ -5,16 +5,19 @@ use Rattle.std.specs.List.{list_any}
 use Rattle.std.specs.Str.{bytes_eq}
 use Rattle.std.proofs.lemmas.List.Sums.{sum_by-cons}
 use Rattle.tables.specs.Tables.{ReaderRow, TallyRow, is_reader_row, is_tally_of, raised_row}
-use Rattle.book.specs.History.{Reserved, Sealed, Deposited, Calibrated, Held, Granted, Revoked, History}
+use Rattle.book.specs.History.{Reserved, Granted, Revoked, History}
 use Rattle.book.specs.History.{ReservationValue, reservations, day_of, is_of_day, count_of_day}
+use Rattle.book.specs.Readers.{Reader, Account, Group}
+use Rattle.book.proofs.Rights.{reader_after_grant, reader_after_revocation}
 use Rattle.book.specs.Rights.{is_reader}
 use Rattle.book.specs.Sound.{IsSound}
 use Rattle.store.specs.Replay.{replayed}
-use Rattle.store.specs.TablesOf.{tables_of, granted_in, once, readers_of, firsts, tally_of}
+use Rattle.store.specs.TablesOf.{tables_of, granted_in, group_granted_in, once, readers_of, group_readers_of}
+use Rattle.store.specs.TablesOf.{firsts, tally_of}
 use Rattle.store.proofs.DepositRows.{deposits_are}
 use Rattle.store.proofs.Members.{neither_true, true_or_false}
 use Rattle.store.proofs.Numbered.{calibrations_are, holds_are}
-use Rattle.store.proofs.Readers.{key_is, key_passes}
+use Rattle.store.proofs.Readers.{key_is, key_passes, other_kind}
 use Rattle.store.proofs.Stamps.{stamps_are}
 use Rattle.store.proofs.Tallies.{tallies_count}
 use Rattle.store.proofs.Tallies as tally
@@ -60,53 +63,116 @@ filter_both p p' q same (x ∷ xs) =
 
 -- the test of a right and that of its row are one
 same_right : (m : ℕ) (x : List ℕ) (row : ReaderRow)
-    → ((m == row.serial) && bytes_eq x row.account) ≡ is_reader_row m x row
+    → ((m == row.serial) && bytes_eq x row.name) ≡ is_reader_row m x row
 same_right m x row =
     elim (true_or_false (is_reader_row m x row)) [
-      | inl t ↦ (let k = key_is m x row.serial row.account t in
-          key_passes row.serial row.account m x (sym k.0) (sym k.1) ∙ sym t)
-      | inr f ↦ elim (true_or_false ((m == row.serial) && bytes_eq x row.account)) [
-        | inl t ↦ (let k = key_is row.serial row.account m x t in
-            let there = key_passes m x row.serial row.account (sym k.0) (sym k.1) in cc)
+      | inl t ↦ (let k = key_is m x row.serial row.name t in
+          key_passes row.serial row.name m x (sym k.0) (sym k.1) ∙ sym t)
+      | inr f ↦ elim (true_or_false ((m == row.serial) && bytes_eq x row.name)) [
+        | inl t ↦ (let k = key_is row.serial row.name m x t in
+            let there = key_passes m x row.serial row.name (sym k.0) (sym k.1) in cc)
         | inr g ↦ g ∙ sym f
       ]
     ]
 
-abbrev reads : History → ReaderRow → Bool
-reads b row = is_reader row.serial row.account b
+abbrev reads : (List ℕ → Reader) → History → ReaderRow → Bool
+reads whom b row = is_reader row.serial (whom row.name) b
+
+unturned : (v : Bool) → not v ≡ true → v ≡ false
+unturned true e = cc
+unturned false e = refl
+
+-- one reader more, among rows of which some stand
+given_row : (m : ℕ) (x : List ℕ) (before after : ReaderRow → Bool) (rows : List ReaderRow)
+    → ((row : ReaderRow) → after row ≡ cond (is_reader_row m x row) true (before row))
+    → (let row : ReaderRow = record { serial = m; name = x } in row)
+    ∷ filter (λ other. not (is_reader_row m x other)) (filter before rows)
+    ≡ filter after ((let row : ReaderRow = record { serial = m; name = x } in row)
+    ∷ filter (λ other. not (is_reader_row m x other)) rows)
+given_row m x before after rows same =
+    let row : ReaderRow = record { serial = m; name = x } in
+    let others : ReaderRow → Bool = λ other. not (is_reader_row m x other) in
+    let here : after row ≡ true = same row ∙ rw (key_passes m x m x refl refl) refl in
+    let rest : filter others (filter before rows) ≡ filter after (filter others rows) =
+    filter_swap before after others
+    (λ other kept. same other ∙ rw (unturned (is_reader_row m x other) kept) refl) rows in
+    rw here (ap (λ rows. row ∷ rows) rest)
+
+-- and one less
+taken_row : (m : ℕ) (x : List ℕ) (before after : ReaderRow → Bool) (rows : List ReaderRow)
+    → ((row : ReaderRow) → after row ≡ cond (is_reader_row m x row) false (before row))
+    → filter (λ other. not (is_reader_row m x other)) (filter before rows) ≡ filter after rows
+taken_row m x before after rows same =
+    filter_both before after (λ other. not (is_reader_row m x other))
+    (λ other. same other ∙ elim (true_or_false (is_reader_row m x other)) [
+      | inl t ↦ rw t refl
+      | inr f ↦ rw f refl
+    ]) rows
+
+-- tests that say the same
+filter_same : {X : Type 0} (p q : X → Bool) → ((x : X) → p x ≡ q x) → (xs : List X) → filter p xs ≡ filter q xs
+filter_same p q same [] = refl
+filter_same {X} p q same (x ∷ xs) =
+    ap (λ (v : Bool). cond v (x ∷ filter p xs) (filter p xs)) (same x)
+    ∙ ap (λ (rest : List X). cond (q x) (x ∷ rest) rest) (filter_same p q same xs)
 
 readers_replayed : (b : History) → (replayed b).readers ≡ readers_of b
 readers_replayed [] = refl
-readers_replayed (Reserved r ∷ b) = readers_replayed b
-readers_replayed (Sealed n token ∷ b) = readers_replayed b
-readers_replayed (Deposited d token ∷ b) = readers_replayed b
-readers_replayed (Calibrated c ∷ b) = readers_replayed b
-readers_replayed (Held h ∷ b) = readers_replayed b
-readers_replayed (Granted m x ∷ b) =
-    let row : ReaderRow = record { serial = m; account = x } in
-    let others : ReaderRow → Bool = λ other. not (is_reader_row m x other) in
-    let here : reads (Granted m x ∷ b) row ≡ true = rw (key_passes m x m x refl refl) refl in
-    let rest : filter others (filter (reads b) (once (filter_map granted_in b)))
-    ≡ filter (reads (Granted m x ∷ b)) (filter others (once (filter_map granted_in b))) =
-    filter_swap (reads b) (reads (Granted m x ∷ b)) others
-    (λ other kept.
-    (let apart : is_reader_row m x other ≡ false = unturned (is_reader_row m x other) kept in
-    let key = same_right m x other ∙ apart in rw key refl))
-    (once (filter_map granted_in b)) in
-    ap (λ rows. row ∷ filter others rows) (readers_replayed b) ∙ rw here (ap (λ rows. row ∷ rows) rest)
-  where
-    unturned : (v : Bool) → not v ≡ true → v ≡ false
-    unturned true e = cc
-    unturned false e = refl
-readers_replayed (Revoked m x ∷ b) =
-    let others : ReaderRow → Bool = λ other. not (is_reader_row m x other) in
-    ap (filter others) (readers_replayed b)
-    ∙ filter_both (reads b) (reads (Revoked m x ∷ b)) others
-    (λ other. elim (true_or_false (is_reader_row m x other)) [
-      | inl t ↦ (let key = same_right m x other ∙ t in rw (key, t) refl)
-      | inr f ↦ (let key = same_right m x other ∙ f in rw (key, f) refl)
-    ])
-    (once (filter_map granted_in b))
+readers_replayed (Granted m (Account x) ∷ b) =
+    let entry = Granted m (Account x) in
+    ap (λ rows. record { serial = m; name = x } ∷ filter (λ other. not (is_reader_row m x other)) rows)
+    (readers_replayed b)
+    ∙ given_row m x (reads Account b) (reads Account (entry ∷ b)) (once (filter_map granted_in b))
+    (λ row. reader_after_grant row.serial (Account row.name) m (Account x) b
+    ∙ ap (λ v. cond v true (reads Account b row)) (same_right m x row))
+readers_replayed (Granted m (Group x) ∷ b) =
+    let entry = Granted m (Group x) in
+    readers_replayed b
+    ∙ filter_same (reads Account b) (reads Account (entry ∷ b))
+    (λ row. sym (reader_after_grant row.serial (Account row.name) m (Group x) b
+    ∙ other_kind m row.serial true (reads Account b row))) (once (filter_map granted_in b))
+readers_replayed (Revoked m (Account x) ∷ b) =
+    let entry = Revoked m (Account x) in
+    ap (filter (λ other. not (is_reader_row m x other))) (readers_replayed b)
+    ∙ taken_row m x (reads Account b) (reads Account (entry ∷ b)) (once (filter_map granted_in b))
+    (λ row. reader_after_revocation row.serial (Account row.name) m (Account x) b
+    ∙ ap (λ v. cond v false (reads Account b row)) (same_right m x row))
+readers_replayed (Revoked m (Group x) ∷ b) =
+    let entry = Revoked m (Group x) in
+    readers_replayed b
+    ∙ filter_same (reads Account b) (reads Account (entry ∷ b))
+    (λ row. sym (reader_after_revocation row.serial (Account row.name) m (Group x) b
+    ∙ other_kind m row.serial false (reads Account b row))) (once (filter_map granted_in b))
+readers_replayed (_ ∷ b) = readers_replayed b
+
+group_readers_replayed : (b : History) → (replayed b).group_readers ≡ group_readers_of b
+group_readers_replayed [] = refl
+group_readers_replayed (Granted m (Group x) ∷ b) =
+    let entry = Granted m (Group x) in
+    ap (λ rows. record { serial = m; name = x } ∷ filter (λ other. not (is_reader_row m x other)) rows)
+    (group_readers_replayed b)
+    ∙ given_row m x (reads Group b) (reads Group (entry ∷ b)) (once (filter_map group_granted_in b))
+    (λ row. reader_after_grant row.serial (Group row.name) m (Group x) b
+    ∙ ap (λ v. cond v true (reads Group b row)) (same_right m x row))
+group_readers_replayed (Granted m (Account x) ∷ b) =
+    let entry = Granted m (Account x) in
+    group_readers_replayed b
+    ∙ filter_same (reads Group b) (reads Group (entry ∷ b))
+    (λ row. sym (reader_after_grant row.serial (Group row.name) m (Account x) b
+    ∙ other_kind m row.serial true (reads Group b row))) (once (filter_map group_granted_in b))
+group_readers_replayed (Revoked m (Group x) ∷ b) =
+    let entry = Revoked m (Group x) in
+    ap (filter (λ other. not (is_reader_row m x other))) (group_readers_replayed b)
+    ∙ taken_row m x (reads Group b) (reads Group (entry ∷ b)) (once (filter_map group_granted_in b))
+    (λ row. reader_after_revocation row.serial (Group row.name) m (Group x) b
+    ∙ ap (λ v. cond v false (reads Group b row)) (same_right m x row))
+group_readers_replayed (Revoked m (Account x) ∷ b) =
+    let entry = Revoked m (Account x) in
+    group_readers_replayed b
+    ∙ filter_same (reads Group b) (reads Group (entry ∷ b))
+    (λ row. sym (reader_after_revocation row.serial (Group row.name) m (Account x) b
+    ∙ other_kind m row.serial false (reads Group b row))) (once (filter_map group_granted_in b))
+group_readers_replayed (_ ∷ b) = group_readers_replayed b
 
 -- ---- tallies
 
@@ -189,12 +255,7 @@ tallies_replayed (Reserved r ∷ b) =
           rw (absent, first) (rw one (ap (λ l. record { account = a; day = d; count = 1 } ∷ l)
           (sym (none_raised a d (replayed b).tallies absent) ∙ raised))))
     ]
-tallies_replayed (Sealed n token ∷ b) = tallies_replayed b
-tallies_replayed (Deposited d token ∷ b) = tallies_replayed b
-tallies_replayed (Calibrated c ∷ b) = tallies_replayed b
-tallies_replayed (Held h ∷ b) = tallies_replayed b
-tallies_replayed (Granted n a ∷ b) = tallies_replayed b
-tallies_replayed (Revoked n a ∷ b) = tallies_replayed b
+tallies_replayed (_ ∷ b) = tallies_replayed b
 
 -- ---- all
 
@@ -207,6 +268,7 @@ replayed_is b sound =
       deposits = (replayed b).deposits;
       readers = (replayed b).readers;
       tallies = (replayed b).tallies;
+      group_readers = (replayed b).group_readers;
     } = refl in
     whole ∙ rw (
       stamps_are b sound,
@@ -215,4 +277,5 @@ replayed_is b sound =
       deposits_are b,
       readers_replayed b,
       tallies_replayed b,
+      group_readers_replayed b,
     ) refl

@@ -4,7 +4,9 @@ use Rattle.book.specs.Rows.{DepositRow}
 use Rattle.book.specs.History.{Reserved, Sealed, Deposited, Calibrated, Held, Granted, Revoked, History}
 use Rattle.book.specs.History.{ReservationValue, greatest_serial, last_gen_time, count_of_day, latest_calibration}
 use Rattle.book.specs.History.{is_held, token_of, deposit_under}
+use Rattle.book.specs.Readers.{Account}
 use Rattle.book.specs.Rights.{seen_by, is_visible, listed}
+use Rattle.book.specs.Values.{viewer_of}
 use Rattle.store.specs.TablesOf.{tables_of}
 
 abbrev alice : List ℕ
@@ -32,7 +34,8 @@ first_deposit = record { serial = 3; owner = alice; reference = codes "plan-7"; 
 -- granted again
 abbrev worked : History
 worked =
-    Granted 3 bob ∷ Revoked 3 bob ∷ Revoked 3 alice ∷ Granted 3 bob ∷ Deposited first_deposit (9 ∷ [])
+    Granted 3 (Account bob) ∷ Revoked 3 (Account bob) ∷ Revoked 3 (Account alice) ∷ Granted 3 (Account bob)
+    ∷ Deposited first_deposit (9 ∷ [])
     ∷ Reserved (reserved 3 86400000000)
     ∷ Held record { from = pos 7; to = pos 9 } ∷ Reserved (reserved 2 86399999999) ∷ Sealed 1 (8 ∷ [])
     ∷ Reserved (reserved 1 5)
@@ -63,13 +66,13 @@ held_end = refl
 token_worked : token_of 2 worked ≡ None
 token_worked = refl
 
-seen_worked : seen_by bob 3 worked ≡ Some first_deposit
+seen_worked : seen_by (viewer_of bob []) 3 worked ≡ Some first_deposit
 seen_worked = refl
 
-hidden_worked : is_visible bob 1 worked ≡ false
+hidden_worked : is_visible (viewer_of bob []) 1 worked ≡ false
 hidden_worked = refl
 
-listed_worked : listed bob worked
+listed_worked : listed (viewer_of bob []) worked
     ≡ record { number = 3; owner = alice; reference = codes "plan-7"; gen_time = 86400000000 } ∷ []
 listed_worked = refl
 
@@ -80,7 +83,7 @@ tallies_worked : (tables_of worked).tallies
     ≡ record { account = alice; day = 1; count = 1 } ∷ record { account = alice; day = 0; count = 2 } ∷ []
 tallies_worked = refl
 
-readers_worked : (tables_of worked).readers ≡ record { serial = 3; account = bob } ∷ []
+readers_worked : (tables_of worked).readers ≡ record { serial = 3; name = bob } ∷ []
 readers_worked = refl
 
 numbers_worked : (tables_of worked).calibrations

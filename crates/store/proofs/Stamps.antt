@@ -5,7 +5,7 @@ use Rattle.std.proofs.lemmas.Bool.{eq-eqb, ne_eqb}
 use Rattle.std.proofs.lemmas.Bool.Decides.{eqb_tells}
 use Rattle.std.proofs.Math.Nat.{le-max_left, le-max_right}
 use Rattle.tables.specs.Tables.{sealed_row}
-use Rattle.book.specs.History.{Reserved, Sealed, Deposited, Calibrated, Held, Granted, Revoked, History}
+use Rattle.book.specs.History.{Reserved, Sealed, Deposited, History}
 use Rattle.book.specs.History.{ReservationValue, reservations, reservation_at, greatest_of, token_of}
 use Rattle.book.specs.History.{stamp_of, stamps}
 use Rattle.book.specs.Sound.{FitsReserved, FitsSealed, IsSound}
@@ -64,10 +64,7 @@ unreserved (Deposited d token ∷ b) n s e =
       | inr f ↦ rw f.0
           (unreserved b n s.1 e)
     ]
-unreserved (Calibrated c ∷ b) n s e = unreserved b n s.1 e
-unreserved (Held h ∷ b) n s e = unreserved b n s.1 e
-unreserved (Granted m a ∷ b) n s e = unreserved b n s.1 e
-unreserved (Revoked m a ∷ b) n s e = unreserved b n s.1 e
+unreserved (_ ∷ b) n s e = unreserved b n s.1 e
 
 -- a new serial number has no token
 pub fresh : (b : History) (r : ReservationValue) → IsSound b → FitsReserved r b → token_of r.serial b ≡ None
@@ -98,7 +95,4 @@ stamps_are (Sealed n token ∷ b) s =
     ap (map (sealed_row n token)) (stamps_are b s.1) ∙ sealed_stamps b n token (reservations b)
 stamps_are (Deposited d token ∷ b) s =
     ap (map (sealed_row d.serial token)) (stamps_are b s.1) ∙ sealed_stamps b d.serial token (reservations b)
-stamps_are (Calibrated c ∷ b) s = stamps_are b s.1
-stamps_are (Held h ∷ b) s = stamps_are b s.1
-stamps_are (Granted m a ∷ b) s = stamps_are b s.1
-stamps_are (Revoked m a ∷ b) s = stamps_are b s.1
+stamps_are (_ ∷ b) s = stamps_are b s.1

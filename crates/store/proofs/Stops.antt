@@ -16,7 +16,7 @@ use Rattle.book.specs.History.{History}
 use Rattle.book.specs.Sound.{IsSound}
 use Rattle.store.specs.Opening.{OpensFound, KeepsAlone}
 use Rattle.store.specs.Stands.{Stands}
-use Rattle.store.specs.Stops.{FindsTheSame, FindsBeforeOrAfter, FindsNothingOrEmpty, FindsTheClosed}
+use Rattle.store.specs.Stops.{FindsTheSame, FindsBeforeOrAfter, FindsNothingOrEmpty, FindsOldOrMigrated, FindsTheClosed}
 use Rattle.store.specs.TablesOf.{tables_of}
 
 module _ (found : (t : Tables) (d : Database) → IsDatabase d → IsStored t d.trees → IsDatabaseOf t d) where
@@ -51,6 +51,14 @@ module _ (found : (t : Tables) (d : Database) → IsDatabase d → IsStored t d.
       elim (leaves clean left may) [
         | inl before ↦ inl before
         | inr made ↦ inr (opened_over [] held left opened opens tt (made empty) (opens.found.holds left holds))
+      ]
+
+  pub old_or_migrated : {S D : Type 0} (g : store.Ghosts S) (files : Ghosts D) → FindsOldOrMigrated g files
+  old_or_migrated g files b sound old stopped was leaves clean left may held holds opened opens =
+      elim (leaves clean left may) [
+        | inl before ↦ inl before
+        | inr migrated ↦
+            inr (opened_over b held left opened opens sound (migrated b was) (opens.found.holds left holds))
       ]
 
   alone_found : {D : Type 0} {g : Ghosts D} (b : History) (held : Image) (opened : BaseValue (FileStore D g))

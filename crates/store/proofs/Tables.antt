@@ -1,5 +1,5 @@
 -- A store's words as a book's, and as those of its tables.
-use Rattle.std.proofs.Common.{◌↔◌, ◌⊎◌, inl, inr}
+use Rattle.std.proofs.Common.{◌↔◌, inl, inr}
 use Rattle.sqlite_trees.specs.declared.store.Store.{Ghosts}
 use Rattle.tables.specs.Base.{BaseValue}
 use Rattle.book.specs.History.{Entry, History}

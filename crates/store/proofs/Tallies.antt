@@ -10,7 +10,7 @@ use Rattle.std.proofs.lemmas.List.Sums.{sum_by-cons}
 use Rattle.tables.specs.Tables.{TallyRow, is_tally_of, raised_row, with_one_more}
 use Rattle.tables.specs.Found.{IsFoundAs}
 use Rattle.tables.specs.Queries.{ShowsCount}
-use Rattle.book.specs.History.{Reserved, Sealed, Deposited, Calibrated, Held, Granted, Revoked, History}
+use Rattle.book.specs.History.{Reserved, History}
 use Rattle.book.specs.History.{reservations, day_of, is_of_day, count_of_day}
 use Rattle.book.specs.Sound.{IsSound, greatest_number}
 use Rattle.store.specs.Replay.{replayed}
@@ -145,12 +145,7 @@ tallies_count (Reserved r ∷ b) =
     (λ a d. count_of_day a d (Reserved r ∷ b)) _
     (λ a d. sym (sum_by-cons (λ x. cond (is_of_day a d x) 1 0) r (reservations b)))
     (counted_more r.account (day_of r.gen_time) (λ a d. count_of_day a d b) (replayed b).tallies (tallies_count b))
-tallies_count (Sealed n token ∷ b) = tallies_count b
-tallies_count (Deposited d token ∷ b) = tallies_count b
-tallies_count (Calibrated c ∷ b) = tallies_count b
-tallies_count (Held h ∷ b) = tallies_count b
-tallies_count (Granted n a ∷ b) = tallies_count b
-tallies_count (Revoked n a ∷ b) = tallies_count b
+tallies_count (_ ∷ b) = tallies_count b
 
 pub count_view : (b : History) (account : List ℕ) (day : ℕ) (answer : Option ℕ)
     → IsFoundAs ShowsCount (is_tally_of account day) (replayed b).tallies answer
@@ -174,12 +169,7 @@ none_late (Reserved r ∷ b) account day sound late =
       | inr f ↦ sum_by-cons (λ x. cond (is_of_day account day x) 1 0) r (reservations b)
           ∙ rw (f, none_late b account day sound.1 late) refl
     ]
-none_late (Sealed n token ∷ b) account day sound late = none_late b account day sound.1 late
-none_late (Deposited d token ∷ b) account day sound late = none_late b account day sound.1 late
-none_late (Calibrated c ∷ b) account day sound late = none_late b account day sound.1 late
-none_late (Held h ∷ b) account day sound late = none_late b account day sound.1 late
-none_late (Granted n a ∷ b) account day sound late = none_late b account day sound.1 late
-none_late (Revoked n a ∷ b) account day sound late = none_late b account day sound.1 late
+none_late (_ ∷ b) account day sound late = none_late b account day sound.1 late
 
 -- so the last day that a column can have may be asked for in the place of any later one
 pub asked_day : (b : History) (account : List ℕ) (day asked : ℕ) → IsSound b → asked ≡ min day greatest_number

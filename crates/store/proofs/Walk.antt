@@ -1,16 +1,20 @@
 -- The walk of a list, one visible deposit after the other.
-use Rattle.std.proofs.Common.{◌≡◌, ℕ, ◌<◌, ◌^◌, IfSome, List, [], ◌++◌, Option, Some, None, option_map}
+use Rattle.std.proofs.Common.{◌≡◌, ℕ, ◌<◌, List, [], ◌++◌, length, replicate, get_or, Option, Some, None}
+use Rattle.std.proofs.Common.{option_map, unwrap_or, arith}
 use Rattle.std.proofs.Common.{option_to_list, refl, sym, ap, ◌∙◌}
+use Rattle.std.proofs.lemmas.List.{length-replicate, get_or-replicate}
 use Rattle.sqlite_trees.specs.declared.store.Store.{Ghosts}
 use Rattle.tables.specs.Base.{BaseValue, IsHonest, IsOpen}
 use Rattle.book.specs.History.{History}
+use Rattle.book.specs.Readers.{Reader, Account, Group, Viewer}
 use Rattle.book.specs.Rights.{ListedValue, listed}
 use Rattle.book.specs.Stands.{Stands, OnlyLooks}
 use Rattle.store.specs.Stands.{over_tables}
-use Rattle.store.specs.Steps.{IsNextSeen, IsNextReadable, listing_at}
+use Rattle.store.specs.Steps.{IsNextSeen, IsCursor, AreCursors, AreNextReadable, listing_at}
+use Rattle.store.specs.declared.cursors.Cursors.{Cursors}
 use Rattle.book.specs.Values.{listed_view}
 use Rattle.book.specs.declared.values.Listed.{Listed}
-use Rattle.store.proofs.Listing.{listed_up_to, next_listed, all_listed}
+use Rattle.store.proofs.Listing.{listed_up_to, next_listed, all_listed, still_cursors}
 
 pub looks_after : {S : Type 0} (g : Ghosts S) (old mid new : BaseValue S) → OnlyLooks (over_tables g) old mid
     → OnlyLooks (over_tables g) mid new
@@ -21,82 +25,97 @@ looks_after g old mid new first second = record {
   leaves = λ h db r. first.leaves (second.honest h) db (second.leaves h db r);
 }
 
--- the rows are what is listed up to a number, the next that is readable is known, and nothing has changed
-pub record HasListed {S : Type 0} (g : Ghosts S) (old now : BaseValue S) (account : List ℕ) (rows : List ListedValue)
-    (last : ℕ) (readable : Option ℕ)
+-- the rows are what is listed up to a number, the cursors are known, and nothing has changed
+pub record HasListed {S : Type 0} (g : Ghosts S) (old now : BaseValue S) (viewer : Viewer) (rows : List ListedValue)
+    (last : ℕ) (cursors : Cursors)
     : Type 0 where
   pub looks : OnlyLooks (over_tables g) old now
   pub faults : now.faults ≡ old.faults
   pub opened : IsHonest g now → IsOpen g now → IsOpen g old
-  pub listed : IsHonest g now → (b : History) → Stands (over_tables g) b old → rows ≡ listed_up_to account b last
-  pub ahead : IsHonest g now → (b : History) → Stands (over_tables g) b old → IsNextReadable account last b readable
-  pub small : IfSome readable (λ n. n < 2 ^ 63)
+  pub sized : length cursors.shared.items ≡ length viewer.groups
+  pub listed : IsHonest g now → (b : History) → Stands (over_tables g) b old → rows ≡ listed_up_to viewer b last
+  pub ahead : IsHonest g now → (b : History) → Stands (over_tables g) b old
+      → AreCursors viewer last b cursors.own cursors.shared.items
 
-pub nothing_listed : {S : Type 0} (g : Ghosts S) (old now : BaseValue S) (account : List ℕ) (readable : Option ℕ)
-    → OnlyLooks (over_tables g) old now
-    → now.faults ≡ old.faults → (IsHonest g now → IsOpen g old)
-    → (IsHonest g now → (b : History) → Stands (over_tables g) b old → IsNextReadable account 0 b readable)
-    → IfSome readable (λ n. n < 2 ^ 63)
-    → HasListed g old now account [] 0 readable
-nothing_listed g old now account readable looks same is_open ahead small = record {
-  looks = looks;
-  faults = same;
-  opened = λ h o. is_open h;
+-- at the beginning no cursor is after 0
+abbrev pub at_first : Option ℕ
+at_first = Some 0
+
+not_after : (reader : Reader) (b : History) (found : Option ℕ) → found ≡ at_first → IsCursor reader 0 b found
+not_after reader b None same above = absurd cc
+not_after reader b (Some n) same above =
+    let zero_is : n ≡ 0 = ap (λ o. unwrap_or o 0) same in absurd (omega (arith, above, zero_is))
+
+pub sized_at_first : (viewer : Viewer) (cursors : Cursors)
+    → cursors.shared.items ≡ replicate (length viewer.groups) at_first
+    → length cursors.shared.items ≡ length viewer.groups
+sized_at_first viewer cursors shared = ap length shared ∙ length-replicate (length viewer.groups) at_first
+
+pub ahead_at_first : (viewer : Viewer) (cursors : Cursors) → cursors.own ≡ at_first
+    → cursors.shared.items ≡ replicate (length viewer.groups) at_first
+    → (b : History) → AreCursors viewer 0 b cursors.own cursors.shared.items
+ahead_at_first viewer cursors own shared b = (
+  not_after (Account viewer.name) b cursors.own own,
+  λ k within. not_after (Group (get_or viewer.groups k [])) b (get_or cursors.shared.items k None)
+      (ap (λ l. get_or l k None) shared ∙ get_or-replicate (length viewer.groups) k at_first None within),
+)
+
+pub nothing_listed : {S : Type 0} (g : Ghosts S) (old : BaseValue S) (viewer : Viewer) (cursors : Cursors)
+    → length cursors.shared.items ≡ length viewer.groups
+    → ((b : History) → AreCursors viewer 0 b cursors.own cursors.shared.items)
+    → HasListed g old old viewer [] 0 cursors
+nothing_listed g old viewer cursors sized ahead = record {
+  looks = record { honest = λ h. h; stands = λ b s. s; leaves = λ h db r. r };
+  faults = refl;
+  opened = λ h o. o;
+  sized = sized;
   listed = λ h b s. refl;
-  ahead = ahead;
-  small = small;
+  ahead = λ h b s. ahead b;
 }
 
 -- what one deposit adds
-pub row_listed : {S : Type 0} (g : Ghosts S) (old now seen shown new : BaseValue S) (account : List ℕ)
-    (rows : List ListedValue) (last number : ℕ)
-    (readable next : Option ℕ) (row : Option Listed)
-    → HasListed g old now account rows last readable → OnlyLooks (over_tables g) now seen
-    → OnlyLooks (over_tables g) seen shown
-    → OnlyLooks (over_tables g) shown new
-    → seen.faults ≡ now.faults → shown.faults ≡ seen.faults → new.faults ≡ shown.faults
+pub row_listed : {S : Type 0} (g : Ghosts S) (old now seen new : BaseValue S) (viewer : Viewer)
+    (rows : List ListedValue) (last number : ℕ) (before after : Cursors) (row : Option Listed)
+    → HasListed g old now viewer rows last before
+    → OnlyLooks (over_tables g) now seen → OnlyLooks (over_tables g) seen new
+    → seen.faults ≡ now.faults → new.faults ≡ seen.faults
     → (IsHonest g seen → IsOpen g now)
-    → (last < number)
-    → (IsHonest g seen → (b : History) → Stands (over_tables g) b now → IsNextReadable account last b readable
-    → IsNextSeen account last b (Some number))
-    → (IsHonest g shown → (b : History) → Stands (over_tables g) b seen
+    → last < number → length after.shared.items ≡ length before.shared.items
+    → (IsHonest g seen → (b : History) → Stands (over_tables g) b now
+    → AreCursors viewer last b before.own before.shared.items
+    → IsNextSeen viewer last b (Some number) × AreNextReadable viewer last b after.own after.shared.items)
+    → (IsHonest g new → (b : History) → Stands (over_tables g) b seen
     → option_map listed_view row ≡ listing_at number b)
-    → (IsHonest g new → (b : History) → Stands (over_tables g) b shown → (before : ℕ) → before < number
-    → IsNextReadable account before b readable
-    → IsNextReadable account number b next)
-    → IfSome next (λ n. n < 2 ^ 63)
-    → HasListed g old new account (rows ++ option_to_list (option_map listed_view row)) number next
-row_listed g old now seen shown new account rows last number readable next row before first second third same still
-    again is_open rises found shows ahead small = record {
-      looks = looks_after g old shown new
-          (looks_after g old seen shown (looks_after g old now seen before.looks first) second) third;
-      faults = again ∙ still ∙ same ∙ before.faults;
-      opened = λ h o. before.opened (first.honest (second.honest (third.honest h)))
-          (is_open (second.honest (third.honest h)));
+    → HasListed g old new viewer (rows ++ option_to_list (option_map listed_view row)) number after
+row_listed g old now seen new viewer rows last number before after row listed first second same still is_open rises
+    sized found shows = record {
+      looks = looks_after g old seen new (looks_after g old now seen listed.looks first) second;
+      faults = still ∙ same ∙ listed.faults;
+      opened = λ h o. listed.opened (first.honest (second.honest h)) (is_open (second.honest h));
+      sized = sized ∙ listed.sized;
       listed = λ h b s.
-          (let at_shown = third.honest h in
-          let at_seen = second.honest at_shown in
+          (let at_seen = second.honest h in
           let at_now = first.honest at_seen in
-          let stood = before.looks.stands b s in
-          let here = shows at_shown b (first.stands b stood) in
-          let step = next_listed account b last number (found at_seen b stood (before.ahead at_now b s)) in
-          ap (λ l. l ++ option_to_list (option_map listed_view row)) (before.listed at_now b s)
-          ∙ ap (λ o. listed_up_to account b last ++ option_to_list o) here ∙ sym step);
+          let stood = listed.looks.stands b s in
+          let here = shows h b (first.stands b stood) in
+          let step = next_listed viewer b last number (found at_seen b stood (listed.ahead at_now b s)).0 in
+          ap (λ l. l ++ option_to_list (option_map listed_view row)) (listed.listed at_now b s)
+          ∙ ap (λ o. listed_up_to viewer b last ++ option_to_list o) here ∙ sym step);
       ahead = λ h b s.
-          (let at_now = first.honest (second.honest (third.honest h)) in
-          let stood = before.looks.stands b s in
-          ahead h b (second.stands b (first.stands b stood)) last rises (before.ahead at_now b s));
-      small = small;
+          (let at_seen = second.honest h in
+          let stood = listed.looks.stands b s in
+          still_cursors b viewer last number after.own after.shared.items rises
+          (found at_seen b stood (listed.ahead (first.honest at_seen) b s)).1);
     }
 
 -- where none is seen any more, all is listed
-pub whole_listed : {S : Type 0} (g : Ghosts S) (old now seen : BaseValue S) (account : List ℕ)
-    (rows : List ListedValue) (last : ℕ) (readable : Option ℕ)
-    → HasListed g old now account rows last readable → OnlyLooks (over_tables g) now seen
-    → (IsHonest g seen → (b : History) → Stands (over_tables g) b now → IsNextReadable account last b readable
-    → IsNextSeen account last b None)
-    → IsHonest g seen → (b : History) → Stands (over_tables g) b old → rows ≡ listed account b
-whole_listed g old now seen account rows last readable before first none h b s =
+pub whole_listed : {S : Type 0} (g : Ghosts S) (old now seen : BaseValue S) (viewer : Viewer)
+    (rows : List ListedValue) (last : ℕ) (cursors : Cursors)
+    → HasListed g old now viewer rows last cursors → OnlyLooks (over_tables g) now seen
+    → (IsHonest g seen → (b : History) → Stands (over_tables g) b now
+    → AreCursors viewer last b cursors.own cursors.shared.items → IsNextSeen viewer last b None)
+    → IsHonest g seen → (b : History) → Stands (over_tables g) b old → rows ≡ listed viewer b
+whole_listed g old now seen viewer rows last cursors before first none h b s =
     let at_now = first.honest h in
-    before.listed at_now b s ∙ all_listed account b last s.sound
+    before.listed at_now b s ∙ all_listed viewer b last s.sound
     (none h b (before.looks.stands b s) (before.ahead at_now b s))

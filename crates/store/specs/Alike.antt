@@ -3,6 +3,7 @@ use Rattle.std.specs.Prelude.{◌≡◌, ℕ, ℤ, List, IsPermutation}
 use Rattle.tables.specs.Tables.{Tables}
 use Rattle.book.specs.History.{History, greatest_serial, last_gen_time, count_of_day, latest_calibration, is_held}
 use Rattle.book.specs.History.{stamp_at, stamps_between, deposit_at, deposit_under}
+use Rattle.book.specs.Readers.{Reader, Viewer}
 use Rattle.book.specs.Rights.{is_reader, seen_by, listed, deposit_with_stamp}
 
 -- the same rows in each table, in any order
@@ -13,6 +14,7 @@ pub record HaveSameRows (t u : Tables) : Type 0 where
   pub deposits : IsPermutation t.deposits u.deposits
   pub readers : IsPermutation t.readers u.readers
   pub tallies : IsPermutation t.tallies u.tallies
+  pub group_readers : IsPermutation t.group_readers u.group_readers
 
 -- all that is looked up in one history is the same in the other
 pub record AreAlike (b d : History) : Type 0 where
@@ -26,6 +28,6 @@ pub record AreAlike (b d : History) : Type 0 where
   pub deposit : (number : ℕ) → deposit_at number b ≡ deposit_at number d
   pub under : (owner reference : List ℕ) → deposit_under owner reference b ≡ deposit_under owner reference d
   pub stamped : (number : ℕ) → deposit_with_stamp number b ≡ deposit_with_stamp number d
-  pub reader : (number : ℕ) (account : List ℕ) → is_reader number account b ≡ is_reader number account d
-  pub seen : (account : List ℕ) (number : ℕ) → seen_by account number b ≡ seen_by account number d
-  pub list : (account : List ℕ) → listed account b ≡ listed account d
+  pub reader : (number : ℕ) (reader : Reader) → is_reader number reader b ≡ is_reader number reader d
+  pub seen : (viewer : Viewer) (number : ℕ) → seen_by viewer number b ≡ seen_by viewer number d
+  pub list : (viewer : Viewer) → listed viewer b ≡ listed viewer d

@@ -24,7 +24,8 @@ use Rattle.sqlite.specs.Start.{FindsIn}
 use Rattle.sqlite.specs.State.{State, HasCleanDisk}
 use Rattle.tables.specs.Asking.{Looks, StaysUsable}
 use Rattle.tables.specs.Base.{BaseValue, IsStored}
-use Rattle.tables.specs.Opening.{IsFound, LooksOurs, LooksForeign}
+use Rattle.tables.specs.Migrating.{Migrates}
+use Rattle.tables.specs.Opening.{IsFound, IsFoundIn, LooksOurs, LooksForeign}
 use Rattle.tables.specs.Schema.{no_schema}
 use Rattle.book.specs.History.{History}
 use Rattle.book.specs.Sound.{IsSound}
@@ -46,6 +47,13 @@ LeavesOrMakes old new =
     HasCleanDisk new → (db : Trees) → new.may_leave db
     → old.may_leave db ⊎ (old.now.schema ≡ no_schema → IsStored (tables_of []) db)
 
+-- what a crash in a migration, or at its end, may leave: what it could leave before or, of a history's tables in the
+-- first version, its tables of now
+abbrev pub LeavesOrMigrates : State → State → Type 0
+LeavesOrMigrates old new =
+    HasCleanDisk new → (db : Trees) → new.may_leave db
+    → old.may_leave db ⊎ ((b : History) → IsFoundIn 1 (tables_of b) old → IsStored (tables_of b) db)
+
 -- a connection was opened over what the files held, and the store stands for each sound history whose tables it found
 -- there
 pub record OpensFound {D : Type 0} {g : Ghosts D} (held : Image) (store : BaseValue (FileStore D g)) : Type 0 where
@@ -64,6 +72,17 @@ KeepsAlone b image = (db : Trees) × IsStored (tables_of b) db × HoldsAlone ima
 pub record LeavesFiles {D : Type 0} (g : Ghosts D) (b : History) (files : Files D) : Type 0 where
   pub seen : KeepsAlone b (image_of g files)
   pub left : (image : Image) → outcomes g files.log files.db image → KeepsAlone b image
+
+-- the tables of a connection were taken to the schema of now
+pub record IsMigrated {D : Type 0} {g : Ghosts D} (was : Held (FileStore D g)) : Type 0 where
+  pub left : Held (FileStore D g)
+  pub migrates : Migrates {E = StoreFault} (file_state was) (file_state left) (Ok tt)
+
+-- those of one that was opened over what the files held
+pub record MigratesFound {D : Type 0} (g : Ghosts D) (held : Image) : Type 0 where
+  pub was : Held (FileStore D g)
+  pub found : HasCleanDisk (file_state was) → IsOpened was × FindsIn held (file_state was)
+  pub migrated : IsMigrated was
 
 -- a store was opened so, and this came of it
 abbrev pub OpensThen : {D : Type 0} (g : Ghosts D) → Image → (BaseValue (FileStore D g) → Type 0) → Type 0

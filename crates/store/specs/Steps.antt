@@ -1,12 +1,13 @@
 -- What the calls make of a look-up's answer: stepping stones, no definitions.
-use Rattle.std.specs.Prelude.{◌≡◌, ◌⊎◌, ℕ, ◌+◌, ◌<◌, ◌≤◌, ◌&&◌, min, nat_lt, nat_le, if◌then◌else◌, true, false}
-use Rattle.std.specs.Prelude.{List, [], ◌∷◌, Option, Some, None, option_map, option_and_then, string_bytes}
+use Rattle.std.specs.Prelude.{◌≡◌, ◌⊎◌, ℕ, ◌+◌, ◌<◌, ◌&&◌, min, nat_lt, nat_le, if◌then◌else◌, Bool, true, false}
+use Rattle.std.specs.Prelude.{List, [], ◌∷◌, length, get_or, IfSome, Option, Some, None, option_map, option_and_then}
+use Rattle.std.specs.Prelude.{string_bytes}
 use Rattle.tables.specs.declared.rows.LastStamp.{LastStamp}
 use Rattle.tables.specs.declared.rows.LatestCalibration.{LatestCalibration}
 use Rattle.tables.specs.declared.rows.Origin.{Origin}
 use Rattle.book.specs.declared.rows.Stamp.{Stamp}
-use Rattle.book.specs.Values.{stamp_view}
-use Rattle.book.specs.History.{CalibrationValue, ReservationValue, History, deposit_at, reservation_at, stamps_between}
+use Rattle.book.specs.History.{CalibrationValue, ReservationValue, History, deposit_at, reservation_at}
+use Rattle.book.specs.Readers.{Reader, Account, Group, Viewer}
 use Rattle.book.specs.Rights.{ListedValue, listed_as, is_reader, is_visible}
 use Rattle.book.specs.Sound.{greatest_number}
 use Rattle.book.specs.declared.values.Last.{Last}
@@ -30,19 +31,38 @@ next_calibration latest = next_number (option_map (λ c. c.n) latest)
 abbrev pub IsAskedFor : ℕ → ℕ → Type 0
 IsAskedFor number asked = (asked ≡ number) ⊎ ((asked ≡ 0) × (greatest_number < number))
 
--- the first deposit after a number that the account sees, if there is one
-abbrev pub IsNextSeen : List ℕ → ℕ → History → Option ℕ → Type 0
-IsNextSeen account after b None = (number : ℕ) → after < number → is_visible account number b ≡ false
-IsNextSeen account after b (Some next) =
-    (after < next) × (is_visible account next b ≡ true)
-    × ((number : ℕ) → after < number → number < next → is_visible account number b ≡ false)
+-- the least number after another that passes a test, if there is one
+abbrev pub IsNextOf : (ℕ → Bool) → ℕ → Option ℕ → Type 0
+IsNextOf test after None = (number : ℕ) → after < number → test number ≡ false
+IsNextOf test after (Some next) =
+    (after < next) × (test next ≡ true)
+    × ((number : ℕ) → after < number → number < next → test number ≡ false)
 
--- the first deposit after a number that the account reads, if there is one
-abbrev pub IsNextReadable : List ℕ → ℕ → History → Option ℕ → Type 0
-IsNextReadable account after b None = (number : ℕ) → after < number → is_reader number account b ≡ false
-IsNextReadable account after b (Some next) =
-    (after < next) × (is_reader next account b ≡ true)
-    × ((number : ℕ) → after < number → number < next → is_reader number account b ≡ false)
+-- the first deposit after a number that who asks sees
+abbrev pub IsNextSeen : Viewer → ℕ → History → Option ℕ → Type 0
+IsNextSeen viewer after b next = IsNextOf (λ number. is_visible viewer number b) after next
+
+-- the first deposit after a number that a reader reads
+abbrev pub IsNextReadable : Reader → ℕ → History → Option ℕ → Type 0
+IsNextReadable reader after b next = IsNextOf (λ number. is_reader number reader b) after next
+
+-- What is known of a cursor, which is what was found of a reader's deposits: where there is none, or it is after a
+-- number, it is the first of them after that number.
+abbrev pub IsCursor : Reader → ℕ → History → Option ℕ → Type 0
+IsCursor reader after b found = IfSome found (λ number. after < number) → IsNextReadable reader after b found
+
+-- of an account its own, and of each of its groups one
+abbrev pub AreCursors : Viewer → ℕ → History → Option ℕ → List (Option ℕ) → Type 0
+AreCursors viewer after b own shared =
+    IsCursor (Account viewer.name) after b own
+    × ((k : ℕ) → k < length viewer.groups
+    → IsCursor (Group (get_or viewer.groups k [])) after b (get_or shared k None))
+
+abbrev pub AreNextReadable : Viewer → ℕ → History → Option ℕ → List (Option ℕ) → Type 0
+AreNextReadable viewer after b own shared =
+    IsNextReadable (Account viewer.name) after b own
+    × ((k : ℕ) → k < length viewer.groups
+    → IsNextReadable (Group (get_or viewer.groups k [])) after b (get_or shared k None))
 
 -- the lesser of what is there
 abbrev pub least_of : Option ℕ → Option ℕ → Option ℕ
@@ -50,10 +70,14 @@ least_of None other = other
 least_of (Some n) None = Some n
 least_of (Some n) (Some m) = Some (min n m)
 
--- a number, where it is after another
+abbrev pub least_in : Option ℕ → List (Option ℕ) → Option ℕ
+least_in least [] = least
+least_in least (number ∷ numbers) = least_in (least_of least number) numbers
+
+-- a number, where it is after another and may be a serial number
 abbrev pub later_of : ℕ → Option ℕ → Option ℕ
 later_of after None = None
-later_of after (Some n) = if nat_lt after n then Some n else None
+later_of after (Some n) = if nat_lt after n && nat_le n greatest_number then Some n else None
 
 -- what a list shows of a deposit, whoever asks
 abbrev pub listing_at : ℕ → History → Option ListedValue

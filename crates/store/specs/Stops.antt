@@ -11,11 +11,13 @@ use Rattle.sqlite.specs.Files.{over_files, image_of, HoldsDatabase}
 use Rattle.sqlite.specs.Held.{Held, state}
 use Rattle.sqlite.specs.State.{HasCleanDisk}
 use Rattle.tables.specs.Base.{BaseValue, IsHonest, IsOpen, Recovers}
+use Rattle.tables.specs.Opening.{IsFoundIn}
 use Rattle.tables.specs.Schema.{no_schema}
 use Rattle.book.specs.History.{Entry, History}
 use Rattle.book.specs.Sound.{Fits, IsSound}
-use Rattle.store.specs.Opening.{OpensFound, LeavesFiles, LeavesOrMakes}
+use Rattle.store.specs.Opening.{OpensFound, LeavesFiles, LeavesOrMakes, LeavesOrMigrates}
 use Rattle.store.specs.Stands.{Stands, LeavesOrAdds}
+use Rattle.store.specs.TablesOf.{tables_of}
 
 -- A stop when nothing is changed, then an opening over files that hold what the stop left: the store that is opened
 -- stands for the history for which the first one stood.
@@ -45,6 +47,16 @@ FindsNothingOrEmpty {S} {D} g files =
     → (left : Trees) → (state g stopped).may_leave left
     → (held : Image) → HoldsDatabase held left → (opened : BaseValue (FileStore D files)) → OpensFound held opened
     → (state g old).may_leave left ⊎ Stands over_files [] opened
+
+-- A stop in a migration of a history's tables, then such an opening: what could be left before was left, or the store
+-- that is opened stands for the history.
+abbrev pub FindsOldOrMigrated : {S D : Type 0} → store.Ghosts S → Ghosts D → Type 0
+FindsOldOrMigrated {S} {D} g files =
+    (b : History) → IsSound b → (old stopped : Held S) → IsFoundIn 1 (tables_of b) (state g old)
+    → LeavesOrMigrates (state g old) (state g stopped) → HasCleanDisk (state g stopped)
+    → (left : Trees) → (state g stopped).may_leave left
+    → (held : Image) → HoldsDatabase held left → (opened : BaseValue (FileStore D files)) → OpensFound held opened
+    → (state g old).may_leave left ⊎ Stands over_files b opened
 
 -- A closing, then an opening over its files as they read, or as a stop after it may leave them: the store that is
 -- opened stands for the history that was closed.

@@ -3,9 +3,10 @@ use Rattle.std.specs.Prelude.{ℕ, ◌+◌, not, List, [], ◌∷◌, length, ma
 use Rattle.std.specs.Prelude.{if◌then◌else◌}
 use Rattle.std.specs.List.{list_any}
 use Rattle.tables.specs.Tables.{Tables, CalibrationRow, HoldRow, ReaderRow, TallyRow, is_reader_row}
-use Rattle.book.specs.History.{Entry, Reserved, Sealed, Deposited, Calibrated, Held, Granted, Revoked, History}
+use Rattle.book.specs.History.{Entry, Granted, History}
 use Rattle.book.specs.History.{CalibrationValue, HoldValue, ReservationValue, stamps, calibrations, holds, deposits}
 use Rattle.book.specs.History.{reservations, day_of, is_of_day, count_of_day}
+use Rattle.book.specs.Readers.{Account, Group}
 use Rattle.book.specs.Rights.{is_reader}
 
 -- calibrations and holds are numbered 1, 2, 3 in the order of their entries, the newest of which comes first
@@ -19,24 +20,27 @@ calibration_row c n = record { n = n; reading = c.reading; offset = c.offset; un
 abbrev pub hold_row : HoldValue → ℕ → HoldRow
 hold_row h n = record { n = n; from = h.from; to = h.to }
 
--- the rights that were ever granted, as rows
+-- the rights of accounts that were ever granted, as rows, and those of groups
 abbrev pub granted_in : Entry → Option ReaderRow
-granted_in (Reserved r) = None
-granted_in (Sealed serial token) = None
-granted_in (Deposited d token) = None
-granted_in (Calibrated c) = None
-granted_in (Held h) = None
-granted_in (Granted number account) = Some (record { serial = number; account = account })
-granted_in (Revoked number account) = None
+granted_in (Granted number (Account name)) = Some (record { serial = number; name = name })
+granted_in _ = None
+
+abbrev pub group_granted_in : Entry → Option ReaderRow
+group_granted_in (Granted number (Group name)) = Some (record { serial = number; name = name })
+group_granted_in _ = None
 
 -- each of them once
 abbrev pub once : List ReaderRow → List ReaderRow
 once [] = []
-once (row ∷ rows) = row ∷ filter (λ other. not (is_reader_row row.serial row.account other)) (once rows)
+once (row ∷ rows) = row ∷ filter (λ other. not (is_reader_row row.serial row.name other)) (once rows)
 
 -- a reader row stands where the last entry about deposit and account is a grant
 abbrev pub readers_of : History → List ReaderRow
-readers_of b = filter (λ row. is_reader row.serial row.account b) (once (filter_map granted_in b))
+readers_of b = filter (λ row. is_reader row.serial (Account row.name) b) (once (filter_map granted_in b))
+
+-- and one of a group where the last entry about deposit and group is
+abbrev pub group_readers_of : History → List ReaderRow
+group_readers_of b = filter (λ row. is_reader row.serial (Group row.name) b) (once (filter_map group_granted_in b))
 
 -- the first reservation of each account and day
 abbrev pub firsts : List ReservationValue → List ReservationValue
@@ -59,4 +63,5 @@ tables_of b = record {
   deposits = deposits b;
   readers = readers_of b;
   tallies = map (tally_of b) (firsts (reservations b));
+  group_readers = group_readers_of b;
 }

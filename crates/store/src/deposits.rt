@@ -1,65 +1,76 @@
-//! Deposits and rights: what an account sees, number by number.
+//! Deposits and rights: who reads a deposit, and what a list shows of one.
 ghost use Rattle.std.specs.Prelude.{◌≡◌, ◌⊎◌, ◌<◌, ◌^◌, map, option_map, IfOk, IfErr, IfSome, OnOk};
 ghost use Rattle.std.specs.Prelude.{MatchResult, IsTrue, ℕ, ◌++◌, option_to_list};
 ghost use Rattle.tables.specs.Base.{IsHonest, IsOpen};
 ghost use Rattle.book.specs.History.{History};
 ghost use Rattle.book.specs.Fault.{count_after};
-ghost use Rattle.book.specs.Values.{listed_view};
+ghost use Rattle.book.specs.Readers.{Account, Group};
+ghost use Rattle.book.specs.Rights.{is_reader, may_read};
+ghost use Rattle.book.specs.Values.{listed_view, viewer_of};
 ghost use Rattle.book.specs.Stands.{Stands, OnlyLooks};
 ghost use Rattle.store.specs.Stands.{over_tables};
-ghost use Rattle.store.specs.Steps.{IsAskedFor, IsNextSeen, IsNextReadable, least_of, later_of, listing_at};
+ghost use Rattle.store.specs.Steps.{IsAskedFor, listing_at};
 
 use crate::store::{GREATEST, Store};
 use book::{Listed, StoreFault};
 use sqlite::Alter;
 
 impl<S: Alter + Drop> Store<S> {
-    /// The first deposit after a number that the account sees, where the first one that it reads is known.
-    pub(crate) fn next_seen(
+    /// Whether the account reads the deposit with a number, by its own name or in one of the groups.
+    pub(crate) fn may_read(
         &mut self,
+        number: u64,
         account: &str,
-        after: u64,
-        readable: Option<u64>,
-    ) -> Result<Option<u64>, StoreFault>
-        requires { IfSome readable (λ n. n < 2 ^ 63) }
+        groups: &[&str],
+    ) -> Result<bool, StoreFault>
         ensures looks { OnlyLooks (over_tables S.Store) self.old self.new }
         ensures opened { IsHonest S.Store self.new → OnOk result (IsOpen S.Store self.old) }
         ensures value { IsHonest S.Store self.new → (b : History) → Stands (over_tables S.Store) b self.old
-            → IsNextReadable account.now after b readable
-            → IfOk result (λ next. IsNextSeen account.now after b next) }
-        ensures rises { IfOk result (λ next. IfSome next (λ number. (after < number) × (number < 2 ^ 63))) }
+            → IfOk result (λ reads.
+            reads ≡ may_read (viewer_of account.now (map (λ name. name.now) groups.now)) number b) }
         ensures refusals { IfErr result (λ e. (e ≡ StoreFault.Memory) ⊎ (e ≡ StoreFault.Database)) }
         ensures faults { MatchResult result (λ _. self.new.faults ≡ self.old.faults)
             (λ e. self.new.faults ≡ count_after e self.old.faults) }
     {
-        let owned = self.base.next_owned(account, after)?;
-        Ok(next_of(owned, readable, after))
+        let reads = self.is_reader(number, account)?;
+        if reads {
+            return Ok(true);
+        }
+        for name in groups {
+            let reads = self.is_group_reader(number, name)?;
+            if reads {
+                return Ok(true);
+            }
+        }
+        Ok(false)
     }
 
-    /// The first deposit after a number that the account reads. The one that was found before is still the first where
-    /// it is after the number, so that a list goes through the rights once.
-    pub(crate) fn next_readable(
-        &mut self,
-        account: &str,
-        after: u64,
-        found: Option<u64>,
-    ) -> Result<Option<u64>, StoreFault>
-        requires { IfSome found (λ n. n < 2 ^ 63) }
+    /// Whether the account reads the deposit with a number by its own name.
+    fn is_reader(&mut self, number: u64, account: &str) -> Result<bool, StoreFault>
         ensures looks { OnlyLooks (over_tables S.Store) self.old self.new }
+        ensures opened { IsHonest S.Store self.new → OnOk result (IsOpen S.Store self.old) }
         ensures value { IsHonest S.Store self.new → (b : History) → Stands (over_tables S.Store) b self.old
-            → (before : ℕ) → before < after
-            → IsNextReadable account.now before b found
-            → IfOk result (λ next. IsNextReadable account.now after b next) }
-        ensures small { IfOk result (λ next. IfSome next (λ n. n < 2 ^ 63)) }
+            → IfOk result (λ reads. reads ≡ is_reader number (Account account.now) b) }
         ensures refusals { IfErr result (λ e. (e ≡ StoreFault.Memory) ⊎ (e ≡ StoreFault.Database)) }
         ensures faults { MatchResult result (λ _. self.new.faults ≡ self.old.faults)
             (λ e. self.new.faults ≡ count_after e self.old.faults) }
     {
-        if is_after(found, after) {
-            return Ok(found);
-        }
-        let next = self.base.next_readable(account, after)?;
-        Ok(next)
+        let reads = self.base.is_reader(number, account)?;
+        Ok(reads)
+    }
+
+    /// Whether the group reads the deposit with a number.
+    fn is_group_reader(&mut self, number: u64, name: &str) -> Result<bool, StoreFault>
+        ensures looks { OnlyLooks (over_tables S.Store) self.old self.new }
+        ensures opened { IsHonest S.Store self.new → OnOk result (IsOpen S.Store self.old) }
+        ensures value { IsHonest S.Store self.new → (b : History) → Stands (over_tables S.Store) b self.old
+            → IfOk result (λ reads. reads ≡ is_reader number (Group name.now) b) }
+        ensures refusals { IfErr result (λ e. (e ≡ StoreFault.Memory) ⊎ (e ≡ StoreFault.Database)) }
+        ensures faults { MatchResult result (λ _. self.new.faults ≡ self.old.faults)
+            (λ e. self.new.faults ≡ count_after e self.old.faults) }
+    {
+        let reads = self.base.is_group_reader(number, name)?;
+        Ok(reads)
     }
 
     /// What a list shows of a deposit.
@@ -92,35 +103,6 @@ pub(crate) fn asked_for(number: u64) -> u64
     ensures { IsAskedFor number result }
 {
     if number > GREATEST { 0 } else { number }
-}
-
-/// The lesser of two numbers, where it is after a third. What a database tells is taken for the next number only where
-/// it is one, so that a walk ends whatever it tells.
-fn next_of(owned: Option<u64>, readable: Option<u64>, after: u64) -> Option<u64>
-    requires owned { IfSome owned (λ n. n < 2 ^ 63) }
-    requires readable { IfSome readable (λ n. n < 2 ^ 63) }
-    ensures next { result ≡ later_of after (least_of owned readable) }
-    ensures rises { IfSome result (λ number. (after < number) × (number < 2 ^ 63)) }
-{
-    let least = match (owned, readable) {
-        (Some(n), Some(m)) => Some(n.min(m)),
-        (Some(n), None) => Some(n),
-        (None, other) => other,
-    };
-    match least {
-        Some(n) if n > after => Some(n),
-        _ => None,
-    }
-}
-
-/// Whether there is none, or it is after a number.
-fn is_after(found: Option<u64>, after: u64) -> bool
-    ensures { IsTrue result → IfSome found (λ n. after < n) }
-{
-    match found {
-        Some(number) => number > after,
-        None => true,
-    }
 }
 
 /// Adds a row, if there is one.

@@ -5,11 +5,13 @@ ghost use Rattle.tables.specs.Tables.{ReaderRow, TallyRow};
 ghost use Rattle.book.specs.Stands.{Stands as BookStands, OnlyLooks as BookLooks, LeavesOrAdds as BookAdds};
 ghost use Rattle.book.specs.History.{Entry, History, ReservationValue, Reserved};
 ghost use Rattle.book.specs.History.{count_of_day, greatest_serial, reservations};
+ghost use Rattle.book.specs.Readers.{Account, Group};
 ghost use Rattle.book.specs.Rights.{is_reader};
 ghost use Rattle.book.specs.Sound.{Fits, IsSound};
 ghost use Rattle.store.specs.Alike.{HaveSameRows, AreAlike};
 ghost use Rattle.store.specs.Stands.{Stands, OnlyLooks, LeavesOrAdds};
-ghost use Rattle.store.specs.Stops.{FindsTheSame, FindsBeforeOrAfter, FindsNothingOrEmpty, FindsTheClosed};
+ghost use Rattle.store.specs.Stops.{FindsTheSame, FindsBeforeOrAfter, FindsNothingOrEmpty, FindsOldOrMigrated};
+ghost use Rattle.store.specs.Stops.{FindsTheClosed};
 ghost use Rattle.store.specs.TablesOf.{tables_of};
 
 use crate::store::Store;
@@ -25,10 +27,13 @@ pub fn equal_tables_tell_the_same()
 {}
 
 /// In the tables of a sound history a reader row stands exactly where the last entry about deposit and account is a
-/// grant, and a tally row exactly where its count is that of its account and day, and isn't 0.
+/// grant, one of a group exactly where the last about deposit and group is, and a tally row exactly where its count is
+/// that of its account and day, and isn't 0.
 pub fn rows_stand_exactly()
     ensures readers { (b : History) → IsSound b → (row : ReaderRow)
-        → Contains (tables_of b).readers row ↔ (is_reader row.serial row.account b ≡ true) }
+        → Contains (tables_of b).readers row ↔ (is_reader row.serial (Account row.name) b ≡ true) }
+    ensures group_readers { (b : History) → IsSound b → (row : ReaderRow)
+        → Contains (tables_of b).group_readers row ↔ (is_reader row.serial (Group row.name) b ≡ true) }
     ensures tallies { (b : History) → IsSound b → (row : TallyRow) → Contains (tables_of b).tallies row
         ↔ ((row.count ≡ count_of_day row.account row.day b) × (0 < row.count)) }
 {}
@@ -54,12 +59,14 @@ pub fn book_stands_in_tables<S: Alter + Drop>()
 
 /// What a store leaves, an opening finds. After a stop at a moment when nothing is changed, the store that is opened
 /// stands for the same history; after a stop in a change, for the history before it or for that with the entry; after
-/// one while the tables are made, for the empty history, if not what was there before is left; and after a closing, for
-/// the history that was closed, also if a stop came after it.
+/// one while the tables are made, for the empty history, if not what was there before is left; after one in a migration,
+/// for the history whose tables are migrated, if not they are left as they were; and after a closing, for the history
+/// that was closed, also if a stop came after it.
 pub fn openings_find_what_was_left<S: Alter + Drop, C: Disk + Drop, D: Disk + Drop>()
     ensures still { FindsTheSame S.Store D.Disk }
     ensures changing { FindsBeforeOrAfter S.Store D.Disk }
     ensures making { FindsNothingOrEmpty S.Store D.Disk }
+    ensures migrating { FindsOldOrMigrated S.Store D.Disk }
     ensures closed { FindsTheClosed C.Disk D.Disk }
 {
     stored_tables_are_found();

@@ -1,6 +1,7 @@
 //! The history of what the counter accepted, kept in tables.
 #![tactic(auto)]
 
+mod cursors;
 mod deposits;
 mod finding;
 mod laws;

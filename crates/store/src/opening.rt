@@ -1,14 +1,16 @@
 //! How a store is made over a connection, and closed.
-ghost use Rattle.std.specs.Prelude.{◌≡◌, ◌⊎◌, [], false, IfOk, IfErr, MatchResult};
+ghost use Rattle.std.specs.Prelude.{◌≡◌, ◌⊎◌, [], false, IfOk, IfErr, OnOk, IsTrue, MatchResult};
 ghost use Rattle.sqlite_wal.specs.Reads.{AreClean};
 ghost use Rattle.sqlite.specs.Files.{over_files};
 ghost use Rattle.sqlite.specs.Held.{state};
 ghost use Rattle.sqlite.specs.State.{HasCleanDisk};
 ghost use Rattle.tables.specs.Asking.{Looks};
-ghost use Rattle.tables.specs.Opening.{IsFound, LooksOurs, LooksForeign, IsInTheWay, takes_name};
+ghost use Rattle.tables.specs.Migrating.{Migrates};
+ghost use Rattle.tables.specs.Opening.{IsFound, IsFoundIn, LooksOurs, LooksFirst, LooksForeign, IsInTheWay};
+ghost use Rattle.tables.specs.Opening.{takes_name};
 ghost use Rattle.tables.specs.Schema.{no_schema};
 ghost use Rattle.book.specs.History.{History};
-ghost use Rattle.store.specs.Opening.{LeavesFiles, LeavesAsItWas, LeavesOrMakes, told_closing};
+ghost use Rattle.store.specs.Opening.{LeavesFiles, LeavesAsItWas, LeavesOrMakes, LeavesOrMigrates, told_closing};
 ghost use Rattle.book.specs.Sound.{IsSound};
 ghost use Rattle.store.specs.Stands.{Stands};
 ghost use Rattle.store.specs.TablesOf.{tables_of};
@@ -18,7 +20,7 @@ use book::StoreFault;
 use sqlite::{Alter, Connection, Error, ErrorCode, FileStore};
 use sqlite_disk::{Disk, Files};
 use std::alloc::Global;
-use tables::Base;
+use tables::{Base, migrate};
 
 impl<S: Alter + Drop> Store<S> {
     /// Makes all tables in an empty database, in one commit. The caller's condition is a connection outside any
@@ -72,6 +74,31 @@ impl<S: Alter + Drop> Store<S> {
         match Base::adopt(conn) {
             Ok(base) => Ok(Store { base, alloc }),
             Err((fault, conn)) => Err((StoreFault::from(fault), conn)),
+        }
+    }
+}
+
+impl<S: Alter + Drop> Store<S> {
+    /// Takes tables of an earlier version to those of now, in one commit, and keeps each row; tables of now stay as they
+    /// are. The caller's condition is a connection outside any transaction. Refused with `Memory`, `Database`, or
+    /// `NotOurs` where the tables are of no version of the counter's; all is as it was then.
+    pub fn migrate(conn: &mut Connection<S>) -> Result<(), StoreFault>
+        requires { conn.old.in_transaction ≡ false }
+        ensures closed { conn.new.in_transaction ≡ false }
+        ensures migrates { Migrates (state S.Store conn.old) (state S.Store conn.new) result }
+        ensures crash { LeavesOrMigrates (state S.Store conn.old) (state S.Store conn.new) }
+        ensures ours { HasCleanDisk (state S.Store conn.new)
+            → OnOk result (LooksOurs (state S.Store conn.old) ⊎ LooksFirst (state S.Store conn.old)) }
+        ensures not_ours { IfErr result (λ e. e ≡ StoreFault.NotOurs → HasCleanDisk (state S.Store conn.new)
+            → IsTrue (state S.Store conn.new).is_open → (b : History)
+            → (¬ IsFound (tables_of b) (state S.Store conn.old))
+            × (¬ IsFoundIn 1 (tables_of b) (state S.Store conn.old))) }
+        ensures refusals { IfErr result (λ e. (e ≡ StoreFault.Memory)
+            ⊎ ((e ≡ StoreFault.Database) ⊎ (e ≡ StoreFault.NotOurs))) }
+    {
+        match migrate(conn) {
+            Ok(()) => Ok(()),
+            Err(fault) => Err(StoreFault::from(fault)),
         }
     }
 }

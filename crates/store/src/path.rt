@@ -4,7 +4,8 @@ ghost use Rattle.sqlite_wal.specs.Files.{image_at};
 ghost use Rattle.sqlite.specs.Files.{file_state, IsOpened};
 ghost use Rattle.sqlite.specs.Start.{FindsIn};
 ghost use Rattle.sqlite.specs.State.{HasCleanDisk};
-ghost use Rattle.store.specs.Opening.{OpensFound, IsForeign, OpensNothing, told_opening};
+ghost use Rattle.store.specs.Opening.{OpensFound, IsForeign, OpensNothing, IsMigrated, MigratesFound};
+ghost use Rattle.store.specs.Opening.{told_opening};
 ghost use Rattle.store.specs.Opening.{fault_where, fault_where_made};
 
 use crate::finding::{Found, find};
@@ -52,6 +53,23 @@ impl<T: Start + Drop> Store<FileStore<FileFrom<T>>> {
         create_or_drop(rt.alloc(), conn)
     }
 
+    /// Takes the counter's database at a path to the schema of now, in one commit, and keeps each row; one of that
+    /// schema stays as it is. Refused as `open` is: a database of an earlier schema is the counter's here. What stands
+    /// there is left as it is then.
+    pub fn migrate_at(rt: &HostRuntime, path: &str, start: T) -> Result<(), StoreFault>
+        ensures migrated { IfOk result (λ _. MigratesFound ⟦<FileFrom<T> as Disk>⟧ (image_at T.Start)) }
+        ensures refusals { IfErr result (λ e. (e ≡ StoreFault.Memory)
+            ⊎ ((e ≡ StoreFault.Database) ⊎ (e ≡ StoreFault.NotOurs))) }
+    {
+        let found = find(rt, path)?;
+        may_open(found)?;
+        let conn = connect(rt, path, start)?;
+        match migrate_files(conn) {
+            Ok(()) => Ok(()),
+            Err(fault) => Err(fault),
+        }
+    }
+
     /// Opens the files at a path, where a database stands.
     fn open_files(
         rt: &HostRuntime,
@@ -70,6 +88,21 @@ impl<T: Start + Drop> Store<FileStore<FileFrom<T>>> {
             Ok(store) => Ok(store),
             Err((fault, _conn)) => Err(fault),
         }
+    }
+}
+
+/// Takes the tables in the files of a connection to the schema of now, and closes it.
+fn migrate_files<D: Disk + Drop>(mut conn: Connection<FileStore<D>>) -> Result<(), StoreFault>
+    requires { conn.in_transaction ≡ false }
+    ensures migrated { IfOk result (λ _. IsMigrated conn) }
+    ensures refusals { IfErr result (λ e. (e ≡ StoreFault.Memory)
+        ⊎ ((e ≡ StoreFault.Database) ⊎ (e ≡ StoreFault.NotOurs))) }
+{
+    Store::migrate(&mut conn)?;
+    // What was committed stays in the log where it can't be copied into the file.
+    match conn.close_files() {
+        Ok(_files) => Ok(()),
+        Err((_error, _left)) => Ok(()),
     }
 }
 

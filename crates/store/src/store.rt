@@ -8,6 +8,7 @@ ghost use Rattle.book.specs.Values.{calibration_view, calibration_option};
 ghost use Rattle.store.specs.Steps.{last_from, calibration_from, next_calibration, next_number};
 ghost use Rattle.store.specs.TablesOf.{tables_of};
 
+use crate::cursors::Cursors;
 use crate::deposits::{add_listed, asked_for};
 use crate::ranges::only_within;
 use book::{
@@ -139,9 +140,9 @@ impl<S: Alter + Drop> Book for Store<S> {
         Ok(Some(StampedDeposit { deposit, stamp }))
     }
 
-    fn visible(&mut self, number: u64, account: &str) -> Result<bool, StoreFault> {
+    fn visible(&mut self, number: u64, account: &str, groups: &[&str]) -> Result<bool, StoreFault> {
         let asked = asked_for(number);
-        let reads = self.base.is_reader(asked, account)?;
+        let reads = self.may_read(asked, account, groups)?;
         if reads {
             return Ok(true);
         }
@@ -158,14 +159,13 @@ impl<S: Alter + Drop> Book for Store<S> {
         Ok(found)
     }
 
-    fn list(&mut self, account: &str) -> Result<Vec<Listed>, StoreFault> {
+    fn list(&mut self, account: &str, groups: &[&str]) -> Result<Vec<Listed>, StoreFault> {
         let mut rows = Vec::new(self.alloc);
+        let mut cursors = Cursors::new(self.alloc, groups.len())?;
         let mut last = 0;
-        let mut readable = self.base.next_readable(account, 0)?;
-        while let Some(number) = self.next_seen(account, last, readable)? {
+        while let Some(number) = self.next_seen(account, groups, last, &mut cursors)? {
             let row = self.listing(number)?;
             add_listed(&mut rows, row)?;
-            readable = self.next_readable(account, number, readable)?;
             last = number;
         }
         Ok(rows)
@@ -183,6 +183,22 @@ impl<S: Alter + Drop> Book for Store<S> {
         self.base.commit(&Change::Revoke {
             serial: number,
             account,
+        })?;
+        Ok(())
+    }
+
+    fn grant_group(&mut self, number: u64, name: &str) -> Result<(), StoreFault> {
+        self.base.commit(&Change::GrantGroup {
+            serial: number,
+            name,
+        })?;
+        Ok(())
+    }
+
+    fn revoke_group(&mut self, number: u64, name: &str) -> Result<(), StoreFault> {
+        self.base.commit(&Change::RevokeGroup {
+            serial: number,
+            name,
         })?;
         Ok(())
     }

@@ -1,13 +1,15 @@
 use Rattle.std.proofs.Common.{refl}
 use Rattle.tables.specs.Tables.{with_reader}
 use Rattle.book.specs.History.{Granted}
+use Rattle.book.specs.Readers.{Account}
 use Rattle.store.proofs.Calls.{adds_now, crash_now, err_now, kept_seen, no_success, on_err, stands_again}
 use Rattle.store.proofs.Readers.{granted_again}
 use Rattle.store.proofs.store.StoreBook.grant.Goals as goal
 
 pub returns-in_err-commit-clause-crash : goal.returns-in_err-commit-clause-crash
 returns-in_err-commit-clause-crash g c =
-    crash_now g.S.Store (Granted c.args.number c.args.account.now) (with_reader c.args.number c.args.account.now)
+    crash_now g.S.Store (Granted c.args.number (Account c.args.account.now))
+    (with_reader c.args.number c.args.account.now)
     c.self.inside.base c.args.self.now c.commit.new.self c.self.view_is c.in_err-commit.ensures.crash (λ b. refl)
 
 pub returns-clause-repeated : goal.returns-clause-repeated
@@ -18,12 +20,14 @@ returns-clause-repeated g c b s has =
 
 pub returns-clause-crash : goal.returns-clause-crash
 returns-clause-crash g c =
-    crash_now g.S.Store (Granted c.args.number c.args.account.now) (with_reader c.args.number c.args.account.now)
+    crash_now g.S.Store (Granted c.args.number (Account c.args.account.now))
+    (with_reader c.args.number c.args.account.now)
     c.self.inside.base c.args.self.now c.commit.new.self c.self.view_is c.in_ok-commit.ensures.crash (λ b. refl)
 
 pub returns-clause-ok : goal.returns-clause-ok
 returns-clause-ok g c b =
-    adds_now g.S.Store (Granted c.args.number c.args.account.now) (with_reader c.args.number c.args.account.now)
+    adds_now g.S.Store (Granted c.args.number (Account c.args.account.now))
+    (with_reader c.args.number c.args.account.now)
     c.self.inside.base c.args.self.now c.commit.new.self b c.self.view_is c.in_ok-commit.ensures.ok (λ b. refl)
 
 pub returns-in_err-commit-clause-repeated : goal.returns-in_err-commit-clause-repeated

@@ -1,12 +1,13 @@
--- The rows are what is listed up to the last number, and the next deposit that the account reads is known.
+-- The rows are what is listed up to the last number, and how far the cursors have gone is known.
 use Rattle.std.proofs.Common.{◌-◌, ◌^◌, map}
-use Rattle.book.specs.Values.{listed_view}
+use Rattle.book.specs.Values.{listed_view, viewer_of}
 use Rattle.store.proofs.Walk.{HasListed}
 use Rattle.store.proofs.store.StoreBook.list.Given as goal
 
-abbrev pub invariant-loop-rows : goal.invariant-loop-rows
-invariant-loop-rows g l =
-    HasListed g.S.Store l.fn.self l.self l.account (map listed_view l.rows.items) l.last l.readable
+abbrev pub invariant-loop-cursors : goal.invariant-loop-cursors
+invariant-loop-cursors g l =
+    HasListed g.S.Store l.fn.self l.self (viewer_of l.account (map (λ name. name.now) l.groups))
+    (map listed_view l.rows.items) l.last l.cursors
 
-abbrev pub decreases-loop-rows : goal.decreases-loop-rows
-decreases-loop-rows g l = 2 ^ 63 - l.last
+abbrev pub decreases-loop-cursors : goal.decreases-loop-cursors
+decreases-loop-cursors g l = 2 ^ 63 - l.last

@@ -1,0 +1,10 @@
+-- The cursors of the account and of the groups so far have moved.
+use Rattle.std.proofs.Common.{map}
+use Rattle.book.specs.Values.{viewer_of}
+use Rattle.store.proofs.Moving.{HasMoved}
+use Rattle.store.proofs.store.Store.advance.Given as goal
+
+abbrev pub invariant-loop-i : goal.invariant-loop-i
+invariant-loop-i g l =
+    HasMoved g.S.Store l.fn.self l.self (viewer_of l.account (map (λ name. name.now) l.groups)) l.after
+    l.fn.cursors.own l.fn.cursors.shared.items l.cursors.own l.cursors.shared.items l.i

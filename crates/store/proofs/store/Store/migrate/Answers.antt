@@ -1,0 +1,20 @@
+use Rattle.std.proofs.Common.{◌∙◌, sym}
+use Rattle.store.specs.TablesOf.{tables_of}
+use Rattle.store.proofs.Migrating.{migrated_as, refused_as, histories_left, told_not_ours}
+use Rattle.store.proofs.store.Store.migrate.Goals as goal
+
+pub returns-in-Ok-clause-migrates : goal.returns-in-Ok-clause-migrates
+returns-in-Ok-clause-migrates g c = migrated_as _ _ c.in-Ok.ensures.migrates
+
+pub returns-in-Err-clause-migrates : goal.returns-in-Err-clause-migrates
+returns-in-Err-clause-migrates g c = refused_as _ _ _ _ c.in-Err.ensures.migrates
+
+pub returns-in-Ok-clause-crash : goal.returns-in-Ok-clause-crash
+returns-in-Ok-clause-crash g c = histories_left _ _ _ c.in-Ok.ensures.migrates
+
+pub returns-in-Err-clause-crash : goal.returns-in-Err-clause-crash
+returns-in-Err-clause-crash g c = histories_left _ _ _ c.in-Err.ensures.migrates
+
+pub returns-in-Err-clause-not_ours : goal.returns-in-Err-clause-not_ours
+returns-in-Err-clause-not_ours g c told clean is_open b =
+    c.in-Err.ensures.not_ours (told_not_ours c.in-Err.fault (sym c.from.ensures ∙ told)) clean is_open (tables_of b)

@@ -1,0 +1,16 @@
+use Rattle.store.proofs.Calls.{looks_now, kept_seen}
+use Rattle.store.proofs.Listing.{group_readable_view}
+use Rattle.store.proofs.store.Store.next_shared.Goals as goal
+
+pub returns-in_err-next-clause-looks : goal.returns-in_err-next-clause-looks
+returns-in_err-next-clause-looks g c = looks_now g.S.Store _ _ _ c.self.view_is c.in_err-next.ensures.reads
+
+pub returns-then-is_after-clause-value : goal.returns-then-is_after-clause-value
+returns-then-is_after-clause-value g c honest b s known = known (c.is_after.ensures c.if-is_after.true)
+
+pub returns-clause-value : goal.returns-clause-value
+returns-clause-value g c honest b s known =
+    group_readable_view b _ _ _ (c.in_ok-next.ensures.value honest _ (kept_seen g.S.Store _ _ b c.self.view_is s))
+
+pub returns-clause-looks : goal.returns-clause-looks
+returns-clause-looks g c = looks_now g.S.Store _ _ _ c.self.view_is c.in_ok-next.ensures.reads
