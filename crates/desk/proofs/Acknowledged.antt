@@ -1,11 +1,12 @@
 -- The readers after a journey are those by the rights that it acknowledged and that its stops left.
 use Rattle.std.proofs.Common.{◌≡◌, ℕ, ◌==◌, ◌&&◌, nat_le, cond, ℤ, Bool, true, false, List, [], ◌∷◌, ◌++◌, drop, length}
 use Rattle.std.proofs.Common.{Option, Some, None, refl, sym, ◌∙◌, ap, subst}
-use Rattle.std.specs.Str.{bytes_eq}
 use Rattle.policy.specs.Record.{AccountValue}
 use Rattle.book.specs.History.{Entry, Reserved, Sealed, Deposited, Calibrated, Held, Granted, Revoked, History}
 use Rattle.book.specs.History.{DepositValue, latest_calibration, token_of, deposit_under}
+use Rattle.book.specs.Readers.{Reader, is_same}
 use Rattle.book.specs.Rights.{is_reader, seen_by}
+use Rattle.book.proofs.Rights.{reader_after_grant, reader_after_revocation}
 use Rattle.desk.specs.Outcome.{Outcome, Cause, cause_of}
 use Rattle.desk.specs.Findings.{PlanValue, Finding, Fails, Unanswered, Allowed}
 use Rattle.desk.specs.Command.{Setting, Command, Stamp, Begin, Finish, Abandon, Deposit, Show, Token, ListAll, Grant}
@@ -14,32 +15,36 @@ use Rattle.desk.specs.Texts.{octets_for}
 use Rattle.desk.specs.Effects.{Effect, only, unless, Stamping, Unreserved, Void, Sealing, no_number, no_seal}
 use Rattle.desk.specs.Effects.{stamping_of, stamp_effect, stamp_found, begin_effect, begin_found, finish_effect}
 use Rattle.desk.specs.Effects.{deposit_effect, deposit_found, right_effect}
-use Rattle.desk.specs.Effects.{is_backwards, calibrate_effect, name_of}
+use Rattle.desk.specs.Effects.{accepted, is_backwards, calibrate_effect, name_of}
 use Rattle.desk.specs.declared.fault.Fault.{Fault}
 use Rattle.desk.specs.declared.fault.Fault.TheVariants as fault
-use Rattle.desk.specs.Steps.{KeepsUnder, KeepsUnless, Keeps, HasEffect}
+use Rattle.desk.specs.Steps.{KeepsByReference, KeepsOnceSearched, KeepsWithinSize, HasEffect}
 use Rattle.desk.specs.Runs.{Told, Journey, begins, goes, stops}
 use Rattle.desk.specs.Readers.{where_done, rights_by, rights_along}
-use Rattle.desk.proofs.Granting.{entered}
-use Rattle.desk.proofs.Keeping.{if_has, unless_has, right_has}
+use Rattle.desk.specs.Viewers.{viewer_in}
+use Rattle.desk.proofs.Branches.{if_has, unless_has, right_has}
 use Rattle.desk.proofs.Stepping.{shows_none, tokens_none, answers_none}
 
 -- entries that are the same to each reader of each deposit
 abbrev SameRights : List Entry → List Entry → Type 0
-SameRights xs ys = (b h : History) (n : ℕ) (account : List ℕ) → is_reader n account b ≡ is_reader n account h
-    → is_reader n account (xs ++ b) ≡ is_reader n account (ys ++ h)
+SameRights xs ys = (b h : History) (n : ℕ) (reader : Reader) → is_reader n reader b ≡ is_reader n reader h
+    → is_reader n reader (xs ++ b) ≡ is_reader n reader (ys ++ h)
 
 same_rights : (xs : List Entry) → SameRights xs xs
-same_rights [] b h n account e = e
-same_rights (Reserved r ∷ xs) b h n account e = same_rights xs b h n account e
-same_rights (Sealed serial token ∷ xs) b h n account e = same_rights xs b h n account e
-same_rights (Deposited d token ∷ xs) b h n account e = same_rights xs b h n account e
-same_rights (Calibrated c ∷ xs) b h n account e = same_rights xs b h n account e
-same_rights (Held k ∷ xs) b h n account e = same_rights xs b h n account e
-same_rights (Granted m a ∷ xs) b h n account e =
-    ap (λ t. cond ((m == n) && bytes_eq a account) true t) (same_rights xs b h n account e)
-same_rights (Revoked m a ∷ xs) b h n account e =
-    ap (λ t. cond ((m == n) && bytes_eq a account) false t) (same_rights xs b h n account e)
+same_rights [] b h n reader e = e
+same_rights (Reserved r ∷ xs) b h n reader e = same_rights xs b h n reader e
+same_rights (Sealed serial token ∷ xs) b h n reader e = same_rights xs b h n reader e
+same_rights (Deposited d token ∷ xs) b h n reader e = same_rights xs b h n reader e
+same_rights (Calibrated c ∷ xs) b h n reader e = same_rights xs b h n reader e
+same_rights (Held k ∷ xs) b h n reader e = same_rights xs b h n reader e
+same_rights (Granted m x ∷ xs) b h n reader e =
+    reader_after_grant n reader m x (xs ++ b)
+    ∙ (ap (cond ((m == n) && is_same x reader) true) (same_rights xs b h n reader e)
+    ∙ sym (reader_after_grant n reader m x (xs ++ h)))
+same_rights (Revoked m x ∷ xs) b h n reader e =
+    reader_after_revocation n reader m x (xs ++ b)
+    ∙ (ap (cond ((m == n) && is_same x reader) false) (same_rights xs b h n reader e)
+    ∙ sym (reader_after_revocation n reader m x (xs ++ h)))
 
 -- an effect that changes no right
 abbrev IsSilent : Effect → Type 0
@@ -85,21 +90,21 @@ deposit_found_silent s owner reference bytes octets o b (Allowed plan) =
     deposit_silent s owner reference bytes (stamping_of s owner plan octets o b (no_number o b))
 
 under_silent : (s : Setting) (a : AccountValue) (reading : ℤ) (reference bytes : List ℕ) (o : Outcome) (b : History)
-    (under : Option DepositValue) (e : Effect) → KeepsUnder s a reading reference bytes o b under e → IsSilent e
+    (under : Option DepositValue) (e : Effect) → KeepsByReference s a reading reference bytes o b under e → IsSilent e
 under_silent s a reading reference bytes o b (Some d) e is =
     subst IsSilent (sym is) (λ c h n reader same. same)
 under_silent s a reading reference bytes o b None e is =
     subst IsSilent (sym is.1.2) (deposit_found_silent s a.name reference bytes (octets_for s.file a bytes) o b is.1.0)
 
 unless_silent : (s : Setting) (a : AccountValue) (reading : ℤ) (reference bytes : List ℕ) (o : Outcome) (b : History)
-    (refused : Option Cause) (e : Effect) → KeepsUnless s a reading reference bytes o b refused e → IsSilent e
+    (refused : Option Cause) (e : Effect) → KeepsOnceSearched s a reading reference bytes o b refused e → IsSilent e
 unless_silent s a reading reference bytes o b (Some cause) e is =
     subst IsSilent (sym is) (λ c h n reader same. same)
 unless_silent s a reading reference bytes o b None e is =
     under_silent s a reading reference bytes o b (deposit_under a.name reference b) e is
 
 keeps_silent : (s : Setting) (a : AccountValue) (reading : ℤ) (reference bytes : List ℕ) (o : Outcome) (b : History)
-    (short : Bool) (e : Effect) → Keeps s a reading reference bytes o b short e → IsSilent e
+    (short : Bool) (e : Effect) → KeepsWithinSize s a reading reference bytes o b short e → IsSilent e
 keeps_silent s a reading reference bytes o b true e is =
     unless_silent s a reading reference bytes o b (cause_of o.searching) e is
 keeps_silent s a reading reference bytes o b false e is =
@@ -132,36 +137,38 @@ step_rights s (Abandon p) o b e h = subst IsSilent (sym h) (λ c k n account sam
 step_rights s (Deposit a reading reference bytes) o b e h =
     keeps_silent s a reading reference bytes o b (nat_le (length bytes) 1_048_576) e h
 step_rights s (Show a n) o b e h =
-    none_silent e (ap (λ x. x.adds) h ∙ shows_none (cause_of o.searching) _ (seen_by a.name n b))
+    none_silent e (ap (λ x. x.adds) h ∙ shows_none (cause_of o.searching) _ (seen_by (viewer_in s.file a.name) n b))
 step_rights s (Token a n) o b e h =
-    none_silent e (ap (λ x. x.adds) h ∙ tokens_none (cause_of o.searching) _ (token_of n b) (seen_by a.name n b))
+    none_silent e (ap (λ x. x.adds) h ∙ tokens_none (cause_of o.searching) _ (token_of n b) (seen_by (viewer_in s.file a.name) n b))
 step_rights s (ListAll a) o b e h = none_silent e (ap (λ x. x.adds) h ∙ answers_none (cause_of o.looking) _)
 step_rights s (Grant a n reader) o b e h =
     let entry = Granted n reader in
-    let d = right_effect s.file a.name reader o entry (seen_by a.name n b) in
+    let d = right_effect s.file a.name reader o entry (seen_by (viewer_in s.file a.name) n b) in
     right_of entry (Grant a n reader) e (unless (cause_of o.searching) d) (λ k. refl) h
     (unless_has (IsRightOf entry) (λ f. refl) (cause_of o.searching) d
-    (right_has (IsRightOf entry) (λ f. refl) s a reader o entry (seen_by a.name n b) refl))
+    (right_has (IsRightOf entry) (λ f. refl) s.file a.name reader o entry (seen_by (viewer_in s.file a.name) n b)
+    (λ x is owns. refl)))
 step_rights s (Revoke a n reader) o b e h =
     let entry = Revoked n reader in
-    let d = right_effect s.file a.name reader o entry (seen_by a.name n b) in
+    let d = right_effect s.file a.name reader o entry (seen_by (viewer_in s.file a.name) n b) in
     right_of entry (Revoke a n reader) e (unless (cause_of o.searching) d) (λ k. refl) h
     (unless_has (IsRightOf entry) (λ f. refl) (cause_of o.searching) d
-    (right_has (IsRightOf entry) (λ f. refl) s a reader o entry (seen_by a.name n b) refl))
+    (right_has (IsRightOf entry) (λ f. refl) s.file a.name reader o entry (seen_by (viewer_in s.file a.name) n b)
+    (λ x is owns. refl)))
 step_rights s (Calibrate c) o b e h =
     let backwards : Effect = only (Refused fault.Store) in
     subst IsSilent (sym h)
     (unless_has IsSilent refused_silent (cause_of o.adding) (calibrate_effect c b)
-    (if_has IsSilent (is_backwards c (latest_calibration b)) backwards (entered (Calibrated c))
+    (if_has IsSilent (is_backwards c (latest_calibration b)) backwards (accepted (Calibrated c))
     (refused_silent fault.Store) (λ k l n account same. same)))
 step_rights s (Hold k) o b e h =
     subst IsSilent (sym h)
-    (unless_has IsSilent refused_silent (cause_of o.adding) (entered (Held k)) (λ c l n account same. same))
+    (unless_has IsSilent refused_silent (cause_of o.adding) (accepted (Held k)) (λ c l n account same. same))
 
-pub readers_along : (b : History) (w : List Told) (j : Journey b w) (n : ℕ) (account : List ℕ)
-    → is_reader n account b ≡ is_reader n account (rights_along j)
-readers_along b w begins n account = refl
-readers_along b w (goes {b = b0} {w = w0} s c o e proper met h j) n account =
-    step_rights s c o b0 e h b0 (rights_along j) n account (readers_along b0 w0 j n account)
-readers_along b w (stops {b = b0} {w = w0} s c o e k proper met h j) n account =
-    same_rights (drop k e.adds) b0 (rights_along j) n account (readers_along b0 w0 j n account)
+pub readers_along : (b : History) (w : List Told) (j : Journey b w) (n : ℕ) (reader : Reader)
+    → is_reader n reader b ≡ is_reader n reader (rights_along j)
+readers_along b w begins n reader = refl
+readers_along b w (goes {b = b0} {w = w0} s c o e proper met h j) n reader =
+    step_rights s c o b0 e h b0 (rights_along j) n reader (readers_along b0 w0 j n reader)
+readers_along b w (stops {b = b0} {w = w0} s c o e k proper met h j) n reader =
+    same_rights (drop k e.adds) b0 (rights_along j) n reader (readers_along b0 w0 j n reader)

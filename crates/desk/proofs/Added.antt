@@ -1,5 +1,5 @@
 -- A calibration and a hold are steps of the machine.
-use Rattle.std.proofs.Common.{◌≡◌, ◌⊎◌, cond, T, Bool, true, false, [], ◌∷◌, Option, Some, None, Ok, refl, sym}
+use Rattle.std.proofs.Common.{◌≡◌, ◌⊎◌, cond, T, Bool, true, false, [], ◌∷◌, ◌++◌, Option, Some, None, Ok, refl, sym}
 use Rattle.std.proofs.Common.{ap, ◌∙◌, subst, inl, inr}
 use Rattle.std.specs.Prelude.{int_lt}
 use Rattle.book.specs.declared.standing.Standing.{Ghosts}
@@ -12,19 +12,19 @@ use Rattle.book.specs.declared.fault.StoreFault.TheVariants as store
 use Rattle.desk.specs.Fit.{IsFit}
 use Rattle.desk.specs.Outcome.{Call, Fine, Wanting, Broken, Outcome, Cause, OfMemory, OfStore, cause_of, faults_after, all_fine}
 use Rattle.desk.specs.Command.{Setting, Command, Done, Refused}
-use Rattle.desk.specs.Effects.{Effect, only, unless, fault_of, is_backwards}
+use Rattle.desk.specs.Effects.{Effect, only, unless, fault_of, accepted, is_backwards}
 use Rattle.desk.specs.Calls.{store_cause}
 use Rattle.desk.specs.Obstacles.{hindered}
 use Rattle.desk.specs.Steps.{HasEffect, IsMet}
-use Rattle.desk.specs.Stepped.{StepsBy, MayBeLeft, IsBlamed, IsExcused, IsOpened, no_signer, settled}
+use Rattle.desk.specs.Stepped.{StepsBy, MayBeLeft, IsBlamed, IsExcused, IsOpened, no_signer, committed}
 use Rattle.desk.specs.declared.fault.Fault.TheVariants as fault
 use Rattle.desk.specs.declared.obstacle.Obstacle.TheVariants as obstacle
 use Rattle.desk.proofs.Fitting.{unbroken}
-use Rattle.desk.proofs.Granting.{entered}
+use Rattle.desk.proofs.Sealing.{one_in_doubt}
 
 -- what a command does that enters one entry, unless the history turns it back
 abbrev pub entering : Entry → Option Cause → Bool → Effect
-entering entry refused turned = unless refused (cond turned (only (Refused fault.Store)) (entered entry))
+entering entry refused turned = unless refused (cond turned (only (Refused fault.Store)) (accepted entry))
 
 -- the command is such a one
 pub record Enters (s : Setting) (c : Command) (entry : Entry) (turns : History → Bool) : Type 0 where
@@ -55,8 +55,8 @@ enters_as g s c entry turns old new enters same opened ok free opens = record {
   steps = λ honest b stands met.
       let now = ok b stands (enters.fits b met) in
       record {
-        effect = entered entry;
-        has = enters.has (all_fine (Ok [])) b (entered entry)
+        effect = accepted entry;
+        has = enters.has (all_fine (Ok [])) b (accepted entry)
             (sym (ap (λ t. entering entry None t) (unturned (turns b) (free honest b stands))));
         says = refl;
         moves = refl;
@@ -68,7 +68,7 @@ enters_as g s c entry turns old new enters same opened ok free opens = record {
 -- the commit is refused by this cause
 refused_as : {B : Type 0} (g : Ghosts B) (s : Setting) (c : Command) (entry : Entry) (turns : History → Bool)
     (old new : B) (o : Outcome) (cause : Cause) → Enters s c entry turns
-    → cause_of o.adding ≡ Some cause → cause_of (settled o).adding ≡ None
+    → cause_of o.adding ≡ Some cause → cause_of (committed o).adding ≡ None
     → (o.adding ≡ Fine → o.sealing ≡ Fine → ⊥)
     → IsFit c o → IsBlamed g c o old new (Refused (fault_of cause))
     → g.fault_count new ≡ faults_after o (g.fault_count old)
@@ -96,10 +96,11 @@ refused_as g s c entry turns old new o cause enters why answered was_refused fit
                 | inl left ↦ inl (refl, left)
                 | inr adds ↦ inr (inr (record {
                   refused = was_refused;
-                  doubted = entered entry;
-                  has = enters.has (settled o) b (entered entry)
+                  doubted = accepted entry;
+                  has = enters.has (committed o) b (accepted entry)
                       (sym (ap (λ x. entering entry x (turns b)) answered ∙ ap (λ t. entering entry None t) e));
-                  holds = adds b stands (enters.fits b met);
+                  holds = subst (λ es. g.holds left (es ++ b)) (sym (one_in_doubt o.adding entry))
+                      (adds b stands (enters.fits b met));
                 }))
               ]
             ] in doubt (turns b) refl;

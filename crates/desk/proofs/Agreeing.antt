@@ -1,5 +1,5 @@
 -- Histories that agree for an account agree again after its commands.
-use Rattle.std.proofs.Common.{◌≡◌, ℕ, ◌<◌, ◌==◌, ◌&&◌, ◌||◌, ◌⊎◌, max, nat_le, cond, ℤ, Bool, true, false, List, []}
+use Rattle.std.proofs.Common.{◌≡◌, ℕ, ◌<◌, ◌==◌, ◌||◌, ◌⊎◌, max, nat_le, cond, ℤ, Bool, true, false, List, []}
 use Rattle.std.proofs.Common.{◌∷◌, ◌++◌, length, Option, Some, None, Result, Ok, Err, refl, sym, ◌∙◌, ap, subst, inl}
 use Rattle.std.proofs.Common.{inr, arith}
 use Rattle.std.specs.Prelude.{filter, map, option_map}
@@ -14,20 +14,26 @@ use Rattle.book.specs.Rows.{StampRow, DepositRow}
 use Rattle.book.specs.History.{Entry, Reserved, Sealed, Deposited, Granted, Revoked, History, ReservationValue}
 use Rattle.book.specs.History.{reservations, stamps, stamp_of, greatest_serial, token_of, reservation_at, deposit_at}
 use Rattle.book.specs.History.{deposit_under}
-use Rattle.book.specs.Rights.{seen_by, shown_to, is_reader, listed}
+use Rattle.book.specs.Readers.{Reader, Viewer}
+use Rattle.book.specs.Rights.{seen_by, shown_to, may_read, listed}
 use Rattle.book.specs.Sound.{Along, Fits}
+use Rattle.book.specs.Values.{deposit_of}
 use Rattle.desk.specs.Agreement.{SeenValue, seen_as, Agree, IsCommandOf}
-use Rattle.desk.specs.Outcome.{Outcome, Cause, cause_of, first_cause}
+use Rattle.desk.specs.Outcome.{Outcome, Cause, cause_of}
 use Rattle.desk.specs.Findings.{PlanValue, Finding, Fails, Unanswered, Allowed}
 use Rattle.desk.specs.Command.{Setting, PendingValue, Command, Stamp, Begin, Finish, Abandon, Deposit, Show, Token}
-use Rattle.desk.specs.Command.{ListAll, Grant, Revoke, Calibrate, Hold, Listed, Done, Refused}
+use Rattle.desk.specs.Command.{ListAll, Grant, Revoke, Calibrate, Hold, Listed}
 use Rattle.desk.specs.Texts.{octets_for, pending_of, token_with}
-use Rattle.desk.specs.Effects.{Effect, only, unless, Stamping, Unreserved, Void, Sealing, no_number, no_seal}
+use Rattle.desk.specs.Effects.{Effect, unless, Stamping, Unreserved, Void, Sealing, no_number, no_seal}
 use Rattle.desk.specs.Effects.{next_reservation, sealed_or_void, signed_or_void, stamping_of, stamp_effect, stamp_found}
-use Rattle.desk.specs.Effects.{deposit_row, deposit_effect, deposit_found, has_account, right_of_owner, right_effect}
-use Rattle.desk.specs.declared.fault.Fault.TheVariants as fault
-use Rattle.desk.specs.Steps.{KeepsUnder, KeepsUnless, Keeps, HasEffect}
+use Rattle.desk.specs.Effects.{deposit_effect, deposit_found, right_effect, no_sight}
+use Rattle.desk.specs.Steps.{KeepsByReference, KeepsOnceSearched, KeepsWithinSize, HasEffect}
 use Rattle.desk.proofs.Views.{unsealed_above, sealed_below, deposit_sealed}
+use Rattle.desk.specs.Viewers.{viewer_in}
+use Rattle.desk.proofs.Branches.{unless_has, right_has}
+use Rattle.desk.proofs.Reading.{IsOwn, owner_sees, seen_after_grant, seen_after_revocation}
+use Rattle.desk.proofs.SameEffect.{seen_same}
+use Rattle.desk.proofs.Sighted.{may_see}
 use Rattle.desk.proofs.Stepping.{right_seen, shows_none, tokens_none, answers_none}
 
 differ_by : (m n : ℕ) (same : Bool) → (m == n) ≡ same → n < m → same ≡ false
@@ -39,13 +45,13 @@ pub differ : (m n : ℕ) → n < m → (m == n) ≡ false
 differ m n h = differ_by m n (m == n) refl h
 
 -- a reservation under a new serial number is of no deposit that is seen
-pub seen_beside : (account : List ℕ) (n : ℕ) (b : History) (r : ReservationValue) → Along Fits b
+pub seen_beside : (viewer : Viewer) (n : ℕ) (b : History) (r : ReservationValue) → Along Fits b
     → greatest_serial b < r.serial
-    → (seen : Option DepositRow) → seen_by account n b ≡ seen
+    → (seen : Option DepositRow) → seen_by viewer n b ≡ seen
     → option_map (seen_as n (Reserved r ∷ b)) seen ≡ option_map (seen_as n b) seen
-seen_beside account n b r sound above None is = refl
-seen_beside account n b r sound above (Some d) is =
-    let fits = right_seen account n b d is in
+seen_beside viewer n b r sound above None is = refl
+seen_beside viewer n b r sound above (Some d) is =
+    let fits = right_seen viewer n b d is in
     let token = deposit_sealed b n fits.deposit fits.deposited in
     let low = sealed_below b sound n token.0 token.1 in
     let other : (r.serial == n) ≡ false = differ r.serial n (omega arith) in
@@ -56,26 +62,29 @@ seen_beside account n b r sound above (Some d) is =
       token = token_of n b;
     })) other
 
-agree_reserved : (account : List ℕ) (b c : History) (r : ReservationValue) → Along Fits b → Along Fits c
-    → Agree account b c → greatest_serial b < r.serial
-    → Agree account (Reserved r ∷ b) (Reserved r ∷ c)
-agree_reserved account b c r one other agree above =
-    let above_too : greatest_serial c < r.serial = rw (← agree.greatest) above in
+agree_reserved : (viewer : Viewer) (b c : History) (r : ReservationValue) → Along Fits b → Along Fits c
+    → Agree viewer b c → greatest_serial b < r.serial
+    → Agree viewer (Reserved r ∷ b) (Reserved r ∷ c)
+agree_reserved viewer b c r one other agree above =
+    let number : greatest_serial b ≡ greatest_serial c = ap (λ x. x.greatest) agree.shared in
+    let above_too : greatest_serial c < r.serial = rw (← number) above in
     let tokens : token_of r.serial b ≡ token_of r.serial c = unsealed_above b one r.serial above
     ∙ sym (unsealed_above c other r.serial above_too) in
     record {
       own_stamps =
-          ap (λ t. cond (bytes_eq r.account account) (stamp_of t r
-          ∷ filter (λ s. bytes_eq s.account account) (stamps b)) (filter (λ s. bytes_eq s.account account)
+          ap (λ t. cond (bytes_eq r.account viewer.name) (stamp_of t r
+          ∷ filter (λ s. bytes_eq s.account viewer.name) (stamps b)) (filter (λ s. bytes_eq s.account viewer.name)
           (stamps b))) tokens
-          ∙ ap (λ xs. cond (bytes_eq r.account account) (stamp_of (token_of r.serial c) r ∷ xs) xs) agree.own_stamps;
+          ∙ ap (λ xs. cond (bytes_eq r.account viewer.name) (stamp_of (token_of r.serial c) r ∷ xs) xs) agree.own_stamps;
       own_deposits = agree.own_deposits;
-      seen = λ n. seen_beside account n b r one above (seen_by account n b) refl
-          ∙ (agree.seen n ∙ sym (seen_beside account n c r other above_too (seen_by account n c) refl));
-      calibration = agree.calibration;
-      holding = agree.holding;
-      last = refl;
-      greatest = ap (max r.serial) agree.greatest;
+      seen = λ n. seen_beside viewer n b r one above (seen_by viewer n b) refl
+          ∙ (agree.seen n ∙ sym (seen_beside viewer n c r other above_too (seen_by viewer n c) refl));
+      shared = ap (λ x. record {
+        calibration = x.calibration;
+        holding = x.holding;
+        last = Some r.gen_time;
+        greatest = max r.serial x.greatest;
+      }) agree.shared;
     }
 
 -- a token for a serial number
@@ -107,12 +116,12 @@ own_sealed account n t token [] = refl
 own_sealed account n t token (r ∷ rs) = own_sealed_step account n t token r rs (bytes_eq r.account account)
     (own_sealed account n t token rs)
 
-own_stamps_sealed : (account : List ℕ) (n : ℕ) (t : List ℕ) (b c : History) → Agree account b c
-    → own account (rows (with_token n t (λ m. token_of m b)) (reservations b))
-    ≡ own account (rows (with_token n t (λ m. token_of m c)) (reservations c))
-own_stamps_sealed account n t b c agree =
-    own_sealed account n t (λ m. token_of m b) (reservations b)
-    ∙ (ap (map (seal n t)) agree.own_stamps ∙ sym (own_sealed account n t (λ m. token_of m c) (reservations c)))
+own_stamps_sealed : (viewer : Viewer) (n : ℕ) (t : List ℕ) (b c : History) → Agree viewer b c
+    → own viewer.name (rows (with_token n t (λ m. token_of m b)) (reservations b))
+    ≡ own viewer.name (rows (with_token n t (λ m. token_of m c)) (reservations c))
+own_stamps_sealed viewer n t b c agree =
+    own_sealed viewer.name n t (λ m. token_of m b) (reservations b)
+    ∙ (ap (map (seal n t)) agree.own_stamps ∙ sym (own_sealed viewer.name n t (λ m. token_of m c) (reservations c)))
 
 abbrev reseal : ℕ → List ℕ → ℕ → SeenValue → SeenValue
 reseal n t m v = record v { token = cond (n == m) (Some t) v.token }
@@ -122,116 +131,97 @@ seen_sealed : (n : ℕ) (t : List ℕ) (m : ℕ) (b : History) (seen : Option De
 seen_sealed n t m b None = refl
 seen_sealed n t m b (Some d) = refl
 
-agree_sealed : (account : List ℕ) (b c : History) (n : ℕ) (t : List ℕ) → Agree account b c
-    → Agree account (Sealed n t ∷ b) (Sealed n t ∷ c)
-agree_sealed account b c n t agree = record {
-  own_stamps = own_stamps_sealed account n t b c agree;
+agree_sealed : (viewer : Viewer) (b c : History) (n : ℕ) (t : List ℕ) → Agree viewer b c
+    → Agree viewer (Sealed n t ∷ b) (Sealed n t ∷ c)
+agree_sealed viewer b c n t agree = record {
+  own_stamps = own_stamps_sealed viewer n t b c agree;
   own_deposits = agree.own_deposits;
-  seen = λ m. seen_sealed n t m b (seen_by account m b) ∙ (ap (option_map (reseal n t m)) (agree.seen m)
-      ∙ sym (seen_sealed n t m c (seen_by account m c)));
-  calibration = agree.calibration;
-  holding = agree.holding;
-  last = agree.last;
-  greatest = agree.greatest;
+  seen = λ m. seen_sealed n t m b (seen_by viewer m b) ∙ (ap (option_map (reseal n t m)) (agree.seen m)
+      ∙ sym (seen_sealed n t m c (seen_by viewer m c)));
+  shared = agree.shared;
 }
 
--- a new deposit of the account's own
-abbrev seen_new : List ℕ → ℕ → DepositRow → List ℕ → History → Bool → Option SeenValue
-seen_new account m d t b same =
+-- a new deposit of the viewer's own
+abbrev seen_new : Viewer → ℕ → DepositRow → List ℕ → History → Bool → Option SeenValue
+seen_new viewer m d t b same =
     option_map (λ x. record {
       deposit = x;
       gen_time = option_map (λ r. r.gen_time)
           (reservation_at m b);
       token = cond same (Some t) (token_of m b);
     })
-    (option_and_then (shown_to account (is_reader m account b)) (cond same (Some d) (deposit_at m b)))
+    (option_and_then (shown_to viewer (may_read viewer m b)) (cond same (Some d) (deposit_at m b)))
 
-seen_own : (account : List ℕ) (m : ℕ) (d : DepositRow) (t : List ℕ) (b : History) → bytes_eq d.owner account ≡ true
-    → seen_new account m d t b true ≡ Some (record {
+seen_own : (viewer : Viewer) (m : ℕ) (d : DepositRow) (t : List ℕ) (b : History) → bytes_eq d.owner viewer.name ≡ true
+    → seen_new viewer m d t b true ≡ Some (record {
       deposit = d;
       gen_time = option_map (λ r. r.gen_time)
           (reservation_at m b);
       token = Some t;
     })
-seen_own account m d t b mine =
+seen_own viewer m d t b mine =
     ap (λ o. option_map (λ x. record {
       deposit = x;
       gen_time = option_map (λ r. r.gen_time)
           (reservation_at m b);
       token = Some t;
     })
-    (cond (o || is_reader m account b) (Some d) None)) mine
+    (cond (o || may_read viewer m b) (Some d) None)) mine
 
-seen_deposited : (account : List ℕ) (m : ℕ) (d : DepositRow) (t : List ℕ) (b c : History) → bytes_eq d.owner account
+seen_deposited : (viewer : Viewer) (m : ℕ) (d : DepositRow) (t : List ℕ) (b c : History) → bytes_eq d.owner viewer.name
     ≡ true
-    → reservation_at d.serial b ≡ reservation_at d.serial c → Agree account b c → (same : Bool) → (d.serial == m)
+    → reservation_at d.serial b ≡ reservation_at d.serial c → Agree viewer b c → (same : Bool) → (d.serial == m)
     ≡ same
-    → seen_new account m d t b same ≡ seen_new account m d t c same
-seen_deposited account m d t b c mine stamped agree true is =
+    → seen_new viewer m d t b same ≡ seen_new viewer m d t c same
+seen_deposited viewer m d t b c mine stamped agree true is =
     let number : d.serial ≡ m = eqb-true d.serial m is in
     let at : reservation_at m b ≡ reservation_at m c = subst (λ k. reservation_at k b
     ≡ reservation_at k c) number stamped in
-    seen_own account m d t b mine
+    seen_own viewer m d t b mine
     ∙ (ap (λ r. Some (record { deposit = d; gen_time = option_map (λ x. x.gen_time) r; token = Some t })) at
-    ∙ sym (seen_own account m d t c mine))
-seen_deposited account m d t b c mine stamped agree false is = agree.seen m
+    ∙ sym (seen_own viewer m d t c mine))
+seen_deposited viewer m d t b c mine stamped agree false is = agree.seen m
 
-agree_deposited : (account : List ℕ) (b c : History) (d : DepositRow) (t : List ℕ) → bytes_eq d.owner account ≡ true
-    → reservation_at d.serial b ≡ reservation_at d.serial c → Agree account b c → Agree account (Deposited d t
+agree_deposited : (viewer : Viewer) (b c : History) (d : DepositRow) (t : List ℕ) → bytes_eq d.owner viewer.name ≡ true
+    → reservation_at d.serial b ≡ reservation_at d.serial c → Agree viewer b c → Agree viewer (Deposited d t
     ∷ b) (Deposited d t ∷ c)
-agree_deposited account b c d t mine stamped agree = record {
-  own_stamps = own_stamps_sealed account d.serial t b c agree;
-  own_deposits = ap (λ xs. cond (bytes_eq d.owner account) (d ∷ xs) xs) agree.own_deposits;
-  seen = λ m. seen_deposited account m d t b c mine stamped agree (d.serial == m) refl;
-  calibration = agree.calibration;
-  holding = agree.holding;
-  last = agree.last;
-  greatest = agree.greatest;
+agree_deposited viewer b c d t mine stamped agree = record {
+  own_stamps = own_stamps_sealed viewer d.serial t b c agree;
+  own_deposits = ap (λ xs. cond (bytes_eq d.owner viewer.name) (d ∷ xs) xs) agree.own_deposits;
+  seen = λ m. seen_deposited viewer m d t b c mine stamped agree (d.serial == m) refl;
+  shared = agree.shared;
 }
 
--- a right of another account
-and_false : (t : Bool) → (t && false) ≡ false
-and_false true = refl
-and_false false = refl
+-- a right to a deposit of its own
+own_too : (viewer : Viewer) (n : ℕ) (b c : History) → Agree viewer b c → IsOwn viewer n b → IsOwn viewer n c
+own_too viewer n b c agree own =
+    let seen = sym (seen_same viewer n b c agree) ∙ owner_sees viewer n b own (may_read viewer n b) in
+    record {
+      deposit = own.deposit;
+      deposited = (may_see viewer n c own.deposit seen).deposited;
+      owns = own.owns;
+    }
 
-other_reader : (account x : List ℕ) (n m : ℕ) → bytes_eq x account ≡ false → ((n == m) && bytes_eq x account) ≡ false
-other_reader account x n m e = ap (λ t. (n == m) && t) e ∙ and_false (n == m)
-
-agree_right : (account : List ℕ) (b c : History) (n : ℕ) (x : List ℕ) (given : Bool) → bytes_eq x account ≡ false
-    → Agree account b c
-    → (m : ℕ) → option_map (seen_as m b) (option_and_then (shown_to account
-    (cond ((n == m) && bytes_eq x account) given (is_reader m account b))) (deposit_at m b))
-    ≡ option_map (seen_as m c) (option_and_then (shown_to account (cond ((n == m) && bytes_eq x account) given
-    (is_reader m account c))) (deposit_at m c))
-agree_right account b c n x given e agree m =
-    let one = ap (λ t. option_map (seen_as m b) (option_and_then (shown_to account
-    (cond t given (is_reader m account b))) (deposit_at m b))) (other_reader account x n m e) in
-    let two = ap (λ t. option_map (seen_as m c) (option_and_then (shown_to account
-    (cond t given (is_reader m account c))) (deposit_at m c))) (other_reader account x n m e) in
-    one ∙ (agree.seen m ∙ sym two)
-
-agree_granted : (account : List ℕ) (b c : History) (n : ℕ) (x : List ℕ) → bytes_eq x account ≡ false
-    → Agree account b c → Agree account (Granted n x ∷ b) (Granted n x ∷ c)
-agree_granted account b c n x e agree = record {
+agree_granted : (viewer : Viewer) (b c : History) (n : ℕ) (x : Reader) → IsOwn viewer n b → Agree viewer b c
+    → Agree viewer (Granted n x ∷ b) (Granted n x ∷ c)
+agree_granted viewer b c n x own agree = record {
   own_stamps = agree.own_stamps;
   own_deposits = agree.own_deposits;
-  seen = agree_right account b c n x true e agree;
-  calibration = agree.calibration;
-  holding = agree.holding;
-  last = agree.last;
-  greatest = agree.greatest;
+  seen = λ m. ap (option_map (seen_as m b)) (seen_after_grant viewer n x m b own)
+      ∙ (agree.seen m
+      ∙ sym (ap (option_map (seen_as m c)) (seen_after_grant viewer n x m c (own_too viewer n b c agree own))));
+  shared = agree.shared;
 }
 
-agree_revoked : (account : List ℕ) (b c : History) (n : ℕ) (x : List ℕ) → bytes_eq x account ≡ false
-    → Agree account b c → Agree account (Revoked n x ∷ b) (Revoked n x ∷ c)
-agree_revoked account b c n x e agree = record {
+agree_revoked : (viewer : Viewer) (b c : History) (n : ℕ) (x : Reader) → IsOwn viewer n b → Agree viewer b c
+    → Agree viewer (Revoked n x ∷ b) (Revoked n x ∷ c)
+agree_revoked viewer b c n x own agree = record {
   own_stamps = agree.own_stamps;
   own_deposits = agree.own_deposits;
-  seen = agree_right account b c n x false e agree;
-  calibration = agree.calibration;
-  holding = agree.holding;
-  last = agree.last;
-  greatest = agree.greatest;
+  seen = λ m. ap (option_map (seen_as m b)) (seen_after_revocation viewer n x m b own)
+      ∙ (agree.seen m
+      ∙ sym (ap (option_map (seen_as m c)) (seen_after_revocation viewer n x m c (own_too viewer n b c agree own))));
+  shared = agree.shared;
 }
 
 -- what a stamping reserves is the next reservation
@@ -261,189 +251,167 @@ next_stamping s account plan octets o b None =
 above_of : (r next : ReservationValue) (n : ℕ) → r ≡ next → n < next.serial → n < r.serial
 above_of r next n e h = subst (λ x. n < x.serial) (sym e) h
 
-stamp_agrees : (account : List ℕ) (s : Setting) (b c : History) → Along Fits b → Along Fits c → Agree account b c
+stamp_agrees : (viewer : Viewer) (s : Setting) (b c : History) → Along Fits b → Along Fits c → Agree viewer b c
     → (next : ReservationValue) → greatest_serial b < next.serial
-    → (st : Stamping) → IsNext next st → Agree account ((stamp_effect s st).adds ++ b) ((stamp_effect s st).adds ++ c)
-stamp_agrees account s b c one other agree next above (Unreserved cause) h = agree
-stamp_agrees account s b c one other agree next above (Void r cause) h =
-    agree_reserved account b c r one other agree (above_of r next (greatest_serial b) h above)
-stamp_agrees account s b c one other agree next above (Sealing r token) h =
-    agree_sealed account (Reserved r ∷ b) (Reserved r ∷ c) r.serial token
-    (agree_reserved account b c r one other agree (above_of r next (greatest_serial b) h above))
+    → (st : Stamping) → IsNext next st → Agree viewer ((stamp_effect s st).adds ++ b) ((stamp_effect s st).adds ++ c)
+stamp_agrees viewer s b c one other agree next above (Unreserved cause) h = agree
+stamp_agrees viewer s b c one other agree next above (Void r cause) h =
+    agree_reserved viewer b c r one other agree (above_of r next (greatest_serial b) h above)
+stamp_agrees viewer s b c one other agree next above (Sealing r token) h =
+    agree_sealed viewer (Reserved r ∷ b) (Reserved r ∷ c) r.serial token
+    (agree_reserved viewer b c r one other agree (above_of r next (greatest_serial b) h above))
 
 just_reserved : (r : ReservationValue) (b c : History) → reservation_at r.serial (Reserved r ∷ b)
     ≡ reservation_at r.serial (Reserved r ∷ c)
 just_reserved r b c = rw (eq-eqb r.serial r.serial refl)
 
-deposit_agrees : (account : List ℕ) (s : Setting) (owner reference bytes : List ℕ) (b c : History) → owner ≡ account
-    → Along Fits b → Along Fits c → Agree account b c
+deposit_agrees : (viewer : Viewer) (s : Setting) (owner reference bytes : List ℕ) (b c : History) → owner ≡ viewer.name
+    → Along Fits b → Along Fits c → Agree viewer b c
     → (next : ReservationValue) → greatest_serial b < next.serial → (st : Stamping) → IsNext next st
-    → Agree account ((deposit_effect s owner reference bytes st).adds ++ b)
+    → Agree viewer ((deposit_effect s owner reference bytes st).adds ++ b)
     ((deposit_effect s owner reference bytes st).adds ++ c)
-deposit_agrees account s owner reference bytes b c mine one other agree next above (Unreserved cause) h = agree
-deposit_agrees account s owner reference bytes b c mine one other agree next above (Void r cause) h =
-    agree_reserved account b c r one other agree (above_of r next (greatest_serial b) h above)
-deposit_agrees account s owner reference bytes b c mine one other agree next above (Sealing r token) h =
-    agree_deposited account (Reserved r ∷ b) (Reserved r ∷ c) (deposit_row r.serial owner reference bytes) token
-    ((bytes_eq-Decides owner account).1 mine) (just_reserved r b c)
-    (agree_reserved account b c r one other agree (above_of r next (greatest_serial b) h above))
+deposit_agrees viewer s owner reference bytes b c mine one other agree next above (Unreserved cause) h = agree
+deposit_agrees viewer s owner reference bytes b c mine one other agree next above (Void r cause) h =
+    agree_reserved viewer b c r one other agree (above_of r next (greatest_serial b) h above)
+deposit_agrees viewer s owner reference bytes b c mine one other agree next above (Sealing r token) h =
+    agree_deposited viewer (Reserved r ∷ b) (Reserved r ∷ c) (deposit_of r.serial owner reference bytes) token
+    ((bytes_eq-Decides owner viewer.name).1 mine) (just_reserved r b c)
+    (agree_reserved viewer b c r one other agree (above_of r next (greatest_serial b) h above))
 
 pub next_above : (s : Setting) (account : List ℕ) (plan : PlanValue) (octets : List ℕ) (b : History)
     → greatest_serial b < (next_reservation s account plan octets b).serial
 next_above s account plan octets b = omega arith
 
-stamp_found_agrees : (account : List ℕ) (s : Setting) (name octets : List ℕ) (o : Outcome) (b c : History)
-    → Along Fits b → Along Fits c → Agree account b c → (f : Finding)
-    → Agree account ((stamp_found s name octets o b f).adds ++ b) ((stamp_found s name octets o b f).adds ++ c)
-stamp_found_agrees account s name octets o b c one other agree (Fails rule) = agree
-stamp_found_agrees account s name octets o b c one other agree (Unanswered cause) = agree
-stamp_found_agrees account s name octets o b c one other agree (Allowed plan) =
-    stamp_agrees account s b c one other agree (next_reservation s name plan octets b)
+stamp_found_agrees : (viewer : Viewer) (s : Setting) (name octets : List ℕ) (o : Outcome) (b c : History)
+    → Along Fits b → Along Fits c → Agree viewer b c → (f : Finding)
+    → Agree viewer ((stamp_found s name octets o b f).adds ++ b) ((stamp_found s name octets o b f).adds ++ c)
+stamp_found_agrees viewer s name octets o b c one other agree (Fails rule) = agree
+stamp_found_agrees viewer s name octets o b c one other agree (Unanswered cause) = agree
+stamp_found_agrees viewer s name octets o b c one other agree (Allowed plan) =
+    stamp_agrees viewer s b c one other agree (next_reservation s name plan octets b)
     (next_above s name plan octets b)
     (stamping_of s name plan octets o b (no_number o b)) (next_stamping s name plan octets o b (no_number o b))
 
-deposit_found_agrees : (account : List ℕ) (s : Setting) (owner reference bytes octets : List ℕ) (o : Outcome)
-    (b c : History) → owner ≡ account → Along Fits b → Along Fits c
-    → Agree account b c → (f : Finding)
-    → Agree account ((deposit_found s owner reference bytes octets o b f).adds ++ b)
+deposit_found_agrees : (viewer : Viewer) (s : Setting) (owner reference bytes octets : List ℕ) (o : Outcome)
+    (b c : History) → owner ≡ viewer.name → Along Fits b → Along Fits c
+    → Agree viewer b c → (f : Finding)
+    → Agree viewer ((deposit_found s owner reference bytes octets o b f).adds ++ b)
     ((deposit_found s owner reference bytes octets o b f).adds ++ c)
-deposit_found_agrees account s owner reference bytes octets o b c mine one other agree (Fails rule) = agree
-deposit_found_agrees account s owner reference bytes octets o b c mine one other agree (Unanswered cause) = agree
-deposit_found_agrees account s owner reference bytes octets o b c mine one other agree (Allowed plan) =
-    deposit_agrees account s owner reference bytes b c mine one other agree (next_reservation s owner plan octets b)
+deposit_found_agrees viewer s owner reference bytes octets o b c mine one other agree (Fails rule) = agree
+deposit_found_agrees viewer s owner reference bytes octets o b c mine one other agree (Unanswered cause) = agree
+deposit_found_agrees viewer s owner reference bytes octets o b c mine one other agree (Allowed plan) =
+    deposit_agrees viewer s owner reference bytes b c mine one other agree (next_reservation s owner plan octets b)
     (next_above s owner plan octets b)
     (stamping_of s owner plan octets o b (no_number o b)) (next_stamping s owner plan octets o b (no_number o b))
 
-none_agrees : (account : List ℕ) (e : Effect) (b c : History) → Agree account b c → e.adds ≡ []
-    → Agree account (e.adds ++ b) (e.adds ++ c)
-none_agrees account e b c agree h = subst (λ es. Agree account (es ++ b) (es ++ c)) (sym h) agree
+none_agrees : (viewer : Viewer) (e : Effect) (b c : History) → Agree viewer b c → e.adds ≡ []
+    → Agree viewer (e.adds ++ b) (e.adds ++ c)
+none_agrees viewer e b c agree h = subst (λ es. Agree viewer (es ++ b) (es ++ c)) (sym h) agree
 
-keeps_under_agrees : (account : List ℕ) (s : Setting) (a : AccountValue) (reading : ℤ) (reference bytes : List ℕ)
+keeps_under_agrees : (viewer : Viewer) (s : Setting) (a : AccountValue) (reading : ℤ) (reference bytes : List ℕ)
     (o : Outcome) (b c : History) (e : Effect)
-    → a.name ≡ account → Along Fits b → Along Fits c → Agree account b c → (known : Option DepositRow)
-    → KeepsUnder s a reading reference bytes o b known e
-    → Agree account (e.adds ++ b) (e.adds ++ c)
-keeps_under_agrees account s a reading reference bytes o b c e mine one other agree
-    (Some d) h = none_agrees account e b c agree (ap (λ x. x.adds) h)
-keeps_under_agrees account s a reading reference bytes o b c e mine one other agree None h =
-    subst (λ x. Agree account (x.adds ++ b) (x.adds ++ c)) (sym h.1.2)
-    (deposit_found_agrees account s a.name reference bytes
+    → a.name ≡ viewer.name → Along Fits b → Along Fits c → Agree viewer b c → (known : Option DepositRow)
+    → KeepsByReference s a reading reference bytes o b known e
+    → Agree viewer (e.adds ++ b) (e.adds ++ c)
+keeps_under_agrees viewer s a reading reference bytes o b c e mine one other agree
+    (Some d) h = none_agrees viewer e b c agree (ap (λ x. x.adds) h)
+keeps_under_agrees viewer s a reading reference bytes o b c e mine one other agree None h =
+    subst (λ x. Agree viewer (x.adds ++ b) (x.adds ++ c)) (sym h.1.2)
+    (deposit_found_agrees viewer s a.name reference bytes
     (octets_for s.file a bytes) o b c mine one other agree h.1.0)
 
-keeps_unless_agrees : (account : List ℕ) (s : Setting) (a : AccountValue) (reading : ℤ) (reference bytes : List ℕ)
+keeps_unless_agrees : (viewer : Viewer) (s : Setting) (a : AccountValue) (reading : ℤ) (reference bytes : List ℕ)
     (o : Outcome) (b c : History) (e : Effect)
-    → a.name ≡ account → Along Fits b → Along Fits c → Agree account b c → (refused : Option Cause)
-    → KeepsUnless s a reading reference bytes o b refused e
-    → Agree account (e.adds ++ b) (e.adds ++ c)
-keeps_unless_agrees account s a reading reference bytes o b c e mine one other agree
-    (Some cause) h = none_agrees account e b c agree (ap (λ x. x.adds) h)
-keeps_unless_agrees account s a reading reference bytes o b c e mine one other agree None h =
-    keeps_under_agrees account s a reading reference bytes o b c e mine one other agree
+    → a.name ≡ viewer.name → Along Fits b → Along Fits c → Agree viewer b c → (refused : Option Cause)
+    → KeepsOnceSearched s a reading reference bytes o b refused e
+    → Agree viewer (e.adds ++ b) (e.adds ++ c)
+keeps_unless_agrees viewer s a reading reference bytes o b c e mine one other agree
+    (Some cause) h = none_agrees viewer e b c agree (ap (λ x. x.adds) h)
+keeps_unless_agrees viewer s a reading reference bytes o b c e mine one other agree None h =
+    keeps_under_agrees viewer s a reading reference bytes o b c e mine one other agree
     (deposit_under a.name reference b) h
 
-keeps_agrees : (account : List ℕ) (s : Setting) (a : AccountValue) (reading : ℤ) (reference bytes : List ℕ)
+keeps_agrees : (viewer : Viewer) (s : Setting) (a : AccountValue) (reading : ℤ) (reference bytes : List ℕ)
     (o : Outcome) (b c : History) (e : Effect)
-    → a.name ≡ account → Along Fits b → Along Fits c → Agree account b c → (short : Bool)
-    → Keeps s a reading reference bytes o b short e
-    → Agree account (e.adds ++ b) (e.adds ++ c)
-keeps_agrees account s a reading reference bytes o b c e mine one other agree true h =
-    keeps_unless_agrees account s a reading reference bytes o b c e mine one other agree (cause_of o.searching) h
-keeps_agrees account s a reading reference bytes o b c e mine one other agree false h = none_agrees account e b c
+    → a.name ≡ viewer.name → Along Fits b → Along Fits c → Agree viewer b c → (short : Bool)
+    → KeepsWithinSize s a reading reference bytes o b short e
+    → Agree viewer (e.adds ++ b) (e.adds ++ c)
+keeps_agrees viewer s a reading reference bytes o b c e mine one other agree true h =
+    keeps_unless_agrees viewer s a reading reference bytes o b c e mine one other agree (cause_of o.searching) h
+keeps_agrees viewer s a reading reference bytes o b c e mine one other agree false h = none_agrees viewer e b c
     agree (ap (λ x. x.adds) h)
 
--- what a right's command adds: nothing, or the right of another account
-abbrev AddsRight : List ℕ → List ℕ → Entry → Effect → Type 0
-AddsRight account reader entry e = (e.adds ≡ []) ⊎ ((e.adds ≡ entry ∷ []) × (bytes_eq reader account ≡ false))
+-- what a right's command adds: nothing, or the right to a deposit of its own
+abbrev AddsRight : Viewer → ℕ → History → Entry → Effect → Type 0
+AddsRight viewer n b entry e = (e.adds ≡ []) ⊎ ((e.adds ≡ entry ∷ []) × IsOwn viewer n b)
 
-right_unless : (account reader : List ℕ) (entry : Entry) (refused : Option Cause) (e : Effect)
-    → AddsRight account reader entry e → AddsRight account reader entry (unless refused e)
-right_unless account reader entry None e h = h
-right_unless account reader entry (Some cause) e h = inl refl
+right_adds : (file : PolicyValue) (account : List ℕ) (reader : Reader) (n : ℕ) (b : History) (o : Outcome)
+    (entry : Entry) → AddsRight (viewer_in file account) n b entry (unless (cause_of o.searching)
+    (right_effect file account reader o entry (seen_by (viewer_in file account) n b)))
+right_adds file account reader n b o entry =
+    let viewer = viewer_in file account in
+    let P : Effect → Type 0 = AddsRight viewer n b entry in
+    let seen = seen_by viewer n b in
+    unless_has P (λ f. inl refl) (cause_of o.searching) (right_effect file account reader o entry seen)
+    (right_has P (λ f. inl refl) file account reader o entry seen
+    (λ d is owns. inr (
+      refl,
+      record { deposit = d; deposited = (may_see viewer n b d is).deposited; owns = owns },
+    )))
 
-right_if : (account reader : List ℕ) (entry : Entry) (t : Bool) (d e : Effect) → AddsRight account reader entry d
-    → AddsRight account reader entry e
-    → AddsRight account reader entry (cond t d e)
-right_if account reader entry true d e h k = h
-right_if account reader entry false d e h k = k
+granted_agrees : (viewer : Viewer) (b c : History) (n : ℕ) (x : Reader) (e : Effect) → Agree viewer b c
+    → AddsRight viewer n b (Granted n x) e → Agree viewer (e.adds ++ b) (e.adds ++ c)
+granted_agrees viewer b c n x e agree (inl h) = none_agrees viewer e b c agree h
+granted_agrees viewer b c n x e agree (inr h) = subst (λ es. Agree viewer (es ++ b) (es ++ c)) (sym h.0)
+    (agree_granted viewer b c n x h.1 agree)
 
-right_of_other : (account reader : List ℕ) (entry : Entry) (same : Bool) (d e : Effect) → bytes_eq reader account
-    ≡ same → d.adds ≡ [] → (same ≡ false → AddsRight account reader entry e)
-    → AddsRight account reader entry (cond same d e)
-right_of_other account reader entry true d e is h k = inl h
-right_of_other account reader entry false d e is h k = k refl
+revoked_agrees : (viewer : Viewer) (b c : History) (n : ℕ) (x : Reader) (e : Effect) → Agree viewer b c
+    → AddsRight viewer n b (Revoked n x) e → Agree viewer (e.adds ++ b) (e.adds ++ c)
+revoked_agrees viewer b c n x e agree (inl h) = none_agrees viewer e b c agree h
+revoked_agrees viewer b c n x e agree (inr h) = subst (λ es. Agree viewer (es ++ b) (es ++ c)) (sym h.0)
+    (agree_revoked viewer b c n x h.1 agree)
 
-right_adds : (file : PolicyValue) (account reader : List ℕ) (o : Outcome) (entry : Entry) (seen : Option DepositRow)
-    → AddsRight account reader entry (right_effect file account reader o entry seen)
-right_adds file account reader o entry None = inl refl
-right_adds file account reader o entry (Some d) =
-    let added : Effect = record { adds = entry ∷ []; asks = None; says = Done } in
-    let mine : Effect = only (Refused fault.SelfGrant) in
-    let given : Effect = unless (cause_of o.adding) added in
-    let unknown : Effect = only (Refused fault.UnknownReader) in
-    let other : Effect = only (Refused fault.NotOwner) in
-    let owned = right_of_owner file account reader (cause_of o.adding) entry in
-    right_unless account reader entry (cause_of o.looking) (cond (bytes_eq d.owner account) owned other)
-    (right_if account reader entry (bytes_eq d.owner account) owned other
-    (right_if account reader entry (has_account file reader)
-    (cond (bytes_eq reader account) mine given) unknown
-    (right_of_other account reader entry (bytes_eq reader account) mine given refl refl
-    (λ e. right_unless account reader entry (cause_of o.adding) added (inr (refl, e))))
-    (inl refl))
-    (inl refl))
+abbrev righted : Setting → AccountValue → ℕ → Reader → Outcome → Entry → History → Effect
+righted s a n reader o entry b =
+    unless (cause_of o.searching) (right_effect s.file a.name reader o entry (seen_by (viewer_in s.file a.name) n b))
 
-granted_agrees : (account : List ℕ) (b c : History) (n : ℕ) (x : List ℕ) (e : Effect) → Agree account b c
-    → AddsRight account x (Granted n x) e → Agree account (e.adds ++ b) (e.adds ++ c)
-granted_agrees account b c n x e agree (inl h) = none_agrees account e b c agree h
-granted_agrees account b c n x e agree (inr h) = subst (λ es. Agree account (es ++ b) (es ++ c)) (sym h.0)
-    (agree_granted account b c n x h.1 agree)
-
-revoked_agrees : (account : List ℕ) (b c : History) (n : ℕ) (x : List ℕ) (e : Effect) → Agree account b c
-    → AddsRight account x (Revoked n x) e → Agree account (e.adds ++ b) (e.adds ++ c)
-revoked_agrees account b c n x e agree (inl h) = none_agrees account e b c agree h
-revoked_agrees account b c n x e agree (inr h) = subst (λ es. Agree account (es ++ b) (es ++ c)) (sym h.0)
-    (agree_revoked account b c n x h.1 agree)
-
-right_for : (account : List ℕ) (a : AccountValue) (reader : List ℕ) (entry : Entry) (e d : Effect) → a.name
-    ≡ account → e ≡ d → AddsRight a.name reader entry d
-    → AddsRight account reader entry e
-right_for account a reader entry e d mine is h = subst (λ x. AddsRight x reader entry e) mine
-    (subst (AddsRight a.name reader entry) (sym is) h)
+right_for : (file : PolicyValue) (name account : List ℕ) (n : ℕ) (b : History) (entry : Entry) (e d : Effect)
+    → name ≡ account → e ≡ d → AddsRight (viewer_in file name) n b entry d
+    → AddsRight (viewer_in file account) n b entry e
+right_for file name account n b entry e d mine is h =
+    subst (λ x. AddsRight (viewer_in file x) n b entry e) mine
+    (subst (AddsRight (viewer_in file name) n b entry) (sym is) h)
 
 -- after an account's command the histories agree for it again
 pub step_agrees : (account : List ℕ) (s : Setting) (x : Command) (o : Outcome) (b c : History) (e : Effect)
-    → Along Fits b → Along Fits c → Agree account b c
-    → IsCommandOf account x → HasEffect s x o b e → Agree account (e.adds ++ b) (e.adds ++ c)
+    → Along Fits b → Along Fits c → Agree (viewer_in s.file account) b c
+    → IsCommandOf account x → HasEffect s x o b e → Agree (viewer_in s.file account) (e.adds ++ b) (e.adds ++ c)
 step_agrees account s (Stamp None reading octets) o b c e one other agree mine h = absurd mine
 step_agrees account s (Stamp (Some a) reading octets) o b c e one other agree mine h =
-    subst (λ x. Agree account (x.adds ++ b) (x.adds ++ c)) (sym h.2)
-    (stamp_found_agrees account s a.name octets o b c one other agree h.0)
+    subst (λ x. Agree (viewer_in s.file account) (x.adds ++ b) (x.adds ++ c)) (sym h.2)
+    (stamp_found_agrees (viewer_in s.file account) s a.name octets o b c one other agree h.0)
 step_agrees account s (Begin by reading octets) o b c e one other agree mine h = absurd mine
 step_agrees account s (Finish p signature) o b c e one other agree mine h = absurd mine
 step_agrees account s (Abandon p) o b c e one other agree mine h = absurd mine
 step_agrees account s (Deposit a reading reference bytes) o b c e one other agree mine h =
-    keeps_agrees account s a reading reference bytes o b c e mine one other agree (nat_le (length bytes) 1_048_576) h
+    keeps_agrees (viewer_in s.file account) s a reading reference bytes o b c e mine one other agree
+    (nat_le (length bytes) 1_048_576) h
 step_agrees account s (Show a n) o b c e one other agree mine h =
-    none_agrees account e b c agree (ap (λ x. x.adds) h
-    ∙ shows_none (cause_of o.searching) (first_cause (cause_of o.looking ∷ cause_of o.growing
-    ∷ [])) (seen_by a.name n b))
+    none_agrees (viewer_in s.file account) e b c agree (ap (λ x. x.adds) h
+    ∙ shows_none (cause_of o.searching) (no_sight o) (seen_by (viewer_in s.file a.name) n b))
 step_agrees account s (Token a n) o b c e one other agree mine h =
-    none_agrees account e b c agree
-    (ap (λ x. x.adds) h ∙ tokens_none (cause_of o.searching) (first_cause (cause_of o.looking
-    ∷ cause_of o.growing ∷ [])) (token_of n b) (seen_by a.name n b))
+    none_agrees (viewer_in s.file account) e b c agree (ap (λ x. x.adds) h
+    ∙ tokens_none (cause_of o.searching) (no_sight o) (token_of n b) (seen_by (viewer_in s.file a.name) n b))
 step_agrees account s (ListAll a) o b c e one other agree mine h =
-    none_agrees account e b c agree (ap (λ x. x.adds) h
-    ∙ answers_none (cause_of o.looking) (Listed (listed a.name b)))
+    none_agrees (viewer_in s.file account) e b c agree (ap (λ x. x.adds) h
+    ∙ answers_none (cause_of o.looking) (Listed (listed (viewer_in s.file a.name) b)))
 step_agrees account s (Grant a n reader) o b c e one other agree mine h =
-    let d = right_effect s.file a.name reader o (Granted n reader) (seen_by a.name n b) in
-    granted_agrees account b c n reader e agree
-    (right_for account a reader (Granted n reader) e (unless (cause_of o.searching) d) mine h
-    (right_unless a.name reader (Granted n reader) (cause_of o.searching) d
-    (right_adds s.file a.name reader o (Granted n reader) (seen_by a.name n b))))
+    granted_agrees (viewer_in s.file account) b c n reader e agree
+    (right_for s.file a.name account n b (Granted n reader) e (righted s a n reader o (Granted n reader) b) mine h
+    (right_adds s.file a.name reader n b o (Granted n reader)))
 step_agrees account s (Revoke a n reader) o b c e one other agree mine h =
-    let d = right_effect s.file a.name reader o (Revoked n reader) (seen_by a.name n b) in
-    revoked_agrees account b c n reader e agree
-    (right_for account a reader (Revoked n reader) e (unless (cause_of o.searching) d) mine h
-    (right_unless a.name reader (Revoked n reader) (cause_of o.searching) d
-    (right_adds s.file a.name reader o (Revoked n reader) (seen_by a.name n b))))
+    revoked_agrees (viewer_in s.file account) b c n reader e agree
+    (right_for s.file a.name account n b (Revoked n reader) e (righted s a n reader o (Revoked n reader) b) mine h
+    (right_adds s.file a.name reader n b o (Revoked n reader)))
 step_agrees account s (Calibrate x) o b c e one other agree mine h = absurd mine
 step_agrees account s (Hold x) o b c e one other agree mine h = absurd mine

@@ -1,5 +1,5 @@
 -- The exits of a stamp up to its reservation.
-use Rattle.std.proofs.Common.{◌≡◌, ℕ, ◌≤◌, nat_le, cond, ℤ, Bool, true, false, List, [], ◌∷◌, Option, Some, None}
+use Rattle.std.proofs.Common.{◌≡◌, ℕ, ◌≤◌, nat_le, cond, ℤ, Bool, true, false, List, [], ◌++◌, ◌∷◌, Option, Some, None}
 use Rattle.std.proofs.Common.{Result, Ok, Err, refl, sym, ap, ◌∙◌, subst, inl, inr, arith}
 use Rattle.std.specs.Prelude.{OnOk}
 use Rattle.std.proofs.lemmas.Bool.Decides.{nat_tests}
@@ -20,7 +20,7 @@ use Rattle.desk.specs.Effects.{only, fault_of, no_number, begin_effect, name_of}
 use Rattle.desk.specs.Findings.{PlanValue, Fails, Unanswered, Allowed, Finds}
 use Rattle.desk.specs.Outcome.{Call, Outcome, Fine, Wanting, Broken, Cause, OfStore, first_cause, faults_after}
 use Rattle.desk.specs.Outcome.{all_fine}
-use Rattle.desk.specs.Stepped.{no_signer, IsBlamedFor, IsBlamed, IsExcused, IsOpened, StepsBy, settled_by, settled}
+use Rattle.desk.specs.Stepped.{no_signer, IsBlamedFor, IsBlamed, IsExcused, IsOpened, StepsBy, committed, in_doubt}
 use Rattle.desk.specs.declared.refusal.Refusal.{Refusal}
 use Rattle.desk.specs.declared.refusal.Refusal.TheVariants as refusal
 use Rattle.desk.proofs.Fitting.{unbroken}
@@ -156,15 +156,15 @@ reserving_looks (refusal.Signing f) h = absurd h
 reserving_looks refusal.Wrapping h = absurd h
 reserving_looks (refusal.Sealing f) h = absurd h
 
-settled_looking : (c : Call) (o : Outcome) → (settled_by c o).looking ≡ o.looking
-settled_looking Fine o = refl
-settled_looking Wanting o = refl
-settled_looking Broken o = refl
-
-settled_counting : (c : Call) (o : Outcome) → (settled_by c o).counting ≡ o.counting
-settled_counting Fine o = refl
-settled_counting Wanting o = refl
-settled_counting Broken o = refl
+-- of a reservation all is in doubt
+begun_in_doubt : (call : Call) (s : Setting) (account : List ℕ) (plan : PlanValue) (octets : List ℕ) (b : History)
+    (why : Option Cause) → in_doubt call (begin_effect s account plan octets b why).adds
+    ≡ (begin_effect s account plan octets b why).adds
+begun_in_doubt Fine s account plan octets b why = refl
+begun_in_doubt Wanting s account plan octets b None = refl
+begun_in_doubt Wanting s account plan octets b (Some cause) = refl
+begun_in_doubt Broken s account plan octets b None = refl
+begun_in_doubt Broken s account plan octets b (Some cause) = refl
 
 -- no number is left where that is said
 spent_if : (s : Setting) (account : List ℕ) (plan : PlanValue) (octets : List ℕ) (b : History) (spent : Bool)
@@ -252,17 +252,11 @@ reserves_after g s account reading octets old mid new plan last name result name
               | inr (inl holds) ↦ inr (inl holds)
               | inr (inr doubt) ↦ inr (inr (record {
                 refused = λ adding sealing. doubt.0 adding;
-                doubted = reserving s (name_of account) plan octets (settled o) b;
-                has = (
-                  Allowed plan,
-                  (
-                    found.0,
-                    settled_looking o.adding o ∙ fine.0,
-                    settled_counting o.adding o ∙ fine.1,
-                  ),
-                  refl,
-                );
-                holds = doubt.1;
+                doubted = reserving s (name_of account) plan octets (committed o) b;
+                has = (Allowed plan, (found.0, fine.0, fine.1), refl);
+                holds = subst (λ es. g.holds left (es ++ b))
+                    (sym (begun_in_doubt o.adding s (name_of account) plan octets b (no_number (committed o) b)))
+                    doubt.1;
               }))
             ];
           };

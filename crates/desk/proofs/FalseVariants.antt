@@ -1,22 +1,30 @@
--- What the promises refuse: false variants of what a journey gave out, of what an account is shown and listed, and of an
--- outcome, each computed on the rows.
-use Rattle.std.proofs.Common.{◌≡◌, ◌⊎◌, ℕ, ◌<◌, true, false, List, [], ◌∷◌, Some, Ok, Err, refl, inl, inr}
+-- What the promises refuse: false variants of what a journey gave out and acknowledged, of what an account is shown and
+-- listed and may know of others, and of outcomes, effects and grants, each computed on the rows.
+use Rattle.std.proofs.Common.{◌≡◌, ◌⊎◌, ℕ, ◌+◌, ◌<◌, true, false, List, [], ◌∷◌, Some, None, Ok, Err, refl, inl, inr}
 use Rattle.std.proofs.Common.{arith, sym, ◌∙◌, ap}
 use Rattle.std.specs.Prelude.{codes}
 use Rattle.std.specs.Str.{bytes_eq}
 use Rattle.book.specs.declared.standing.Standing.{Ghosts}
 use Rattle.book.specs.History.{Reserved, Granted, Revoked, History, DepositValue}
+use Rattle.book.specs.Readers.{Account, Group}
 use Rattle.book.specs.Rights.{ListedValue}
 use Rattle.cms.specs.declared.signer.SignerFault.TheVariants as signer
-use Rattle.desk.specs.Command.{Rejected, Refused, Shown, Show, ListAll}
+use Rattle.desk.specs.Agreement.{seen_as, Agree}
+use Rattle.desk.specs.Command.{Setting, PendingValue, Rejected, Refused, Shown, Show, ListAll, Grant, Revoke, Done}
+use Rattle.desk.specs.Effects.{only}
 use Rattle.desk.specs.Fit.{IsFit}
+use Rattle.desk.specs.Laws.{IsFinished}
 use Rattle.desk.specs.Outcome.{Wanting, Broken, all_fine}
+use Rattle.desk.specs.Readers.{rights_by}
+use Rattle.desk.specs.Runs.{IsProper}
 use Rattle.desk.specs.Serials.{given_by, Falls, AreInOrder}
 use Rattle.desk.specs.Sight.{ShowsExactly, IsExactList}
-use Rattle.desk.specs.Stepped.{IsBlamedFor}
+use Rattle.desk.specs.Stepped.{IsBlamedFor, IsOpened}
+use Rattle.desk.specs.Steps.{HasEffect}
+use Rattle.desk.specs.Viewers.{viewer_in}
 use Rattle.desk.specs.declared.fault.Fault.TheVariants as fault
 use Rattle.tsp.specs.declared.rule.Rule.TheVariants.{System}
-use Rattle.desk.proofs.Rows.{alice, carol, reserved, history, deposit, deposited}
+use Rattle.desk.proofs.Rows.{alice, carol, file, grouped, setting, reserved, history, deposit, deposited}
 
 -- the text of a void stamp was given out, under its number
 void_given : given_by (Some []) (Rejected System) (Reserved (reserved 3 0) ∷ []) ≡ 3 ∷ []
@@ -38,13 +46,13 @@ unreserved order = let within = order.within.0 in absurd (omega arith)
 
 -- carol, to whom a right was given, is told that none is here
 abbrev shared : History
-shared = Granted 2 (codes "carol") ∷ deposited
+shared = Granted 2 (Account (codes "carol")) ∷ deposited
 
-denied : ShowsExactly (Show carol 2) (all_fine (Ok [])) shared (Refused fault.NotHere) → ⊥
+denied : ShowsExactly file (Show carol 2) (all_fine (Ok [])) shared (Refused fault.NotHere) → ⊥
 denied h = h deposit (record { deposited = refl; may = inr refl })
 
 -- and is told so though the calls were answered, by want of memory
-wanting : ShowsExactly (Show carol 2) (all_fine (Ok [])) shared (Refused fault.Memory) → ⊥
+wanting : ShowsExactly file (Show carol 2) (all_fine (Ok [])) shared (Refused fault.Memory) → ⊥
 wanting h = cc
 
 -- octets that differ
@@ -62,17 +70,45 @@ taken_at : (d : DepositValue) → deposit ≡ d → (d.owner ≡ codes "carol") 
 taken_at d e (inl own) = differ (codes "alice") (codes "carol") refl refl (ap (λ x. x.owner) e ∙ own)
 taken_at d e (inr reads) = apart (sym reads)
 
-taken : ShowsExactly (Show carol 2) (all_fine (Ok [])) (Revoked 2 (codes "carol") ∷ shared) (Shown (codes "abc")) → ⊥
+taken : ShowsExactly file (Show carol 2) (all_fine (Ok [])) (Revoked 2 (Account (codes "carol")) ∷ shared) (Shown (codes "abc")) → ⊥
 taken h = taken_at h.0 (the_deposit h.0 h.1.deposited) h.1.may
 
+-- a member is denied what is shared with its group, and is shown it after the group's right was taken
+abbrev shared_with_group : History
+shared_with_group = Granted 2 (Group (codes "staff")) ∷ deposited
+
+denied_to_member : ShowsExactly grouped (Show carol 2) (all_fine (Ok [])) shared_with_group (Refused fault.NotHere) → ⊥
+denied_to_member h = h deposit (record { deposited = refl; may = inr refl })
+
+taken_from_group : ShowsExactly grouped (Show carol 2) (all_fine (Ok []))
+    (Revoked 2 (Group (codes "staff")) ∷ shared_with_group) (Shown (codes "abc")) → ⊥
+taken_from_group h = taken_at h.0 (the_deposit h.0 h.1.deposited) h.1.may
+
+-- the right of an account is dropped with that of its group
+dropped : ShowsExactly grouped (Show carol 2) (all_fine (Ok []))
+    (Revoked 2 (Group (codes "staff")) ∷ Granted 2 (Account (codes "carol")) ∷ shared_with_group)
+    (Refused fault.NotHere) → ⊥
+dropped h = h deposit (record { deposited = refl; may = inr refl })
+
+-- who has left the group is shown it
+left_group : ShowsExactly file (Show carol 2) (all_fine (Ok [])) shared_with_group (Shown (codes "abc")) → ⊥
+left_group h = taken_at h.0 (the_deposit h.0 h.1.deposited) h.1.may
+
+-- a list leaves out what is shared with a group
+empty_for_member : IsExactList (viewer_in grouped (codes "carol")) shared_with_group [] → ⊥
+empty_for_member h =
+    let row = (h.all 2 deposit (record { deposited = refl; may = inr refl })).1 in
+    let below = row.1 in
+    absurd (omega arith)
+
 -- other octets are shown
-others : ShowsExactly (Show alice 2) (all_fine (Ok [])) deposited (Shown (codes "abd")) → ⊥
+others : ShowsExactly file (Show alice 2) (all_fine (Ok [])) deposited (Shown (codes "abd")) → ⊥
 others h =
     differ (codes "abc") (codes "abd") refl refl
     (ap (λ x. x.bytes) (the_deposit h.0 h.1.deposited) ∙ sym h.2)
 
 -- a list leaves a deposit out, and has it twice
-empty : IsExactList (codes "carol") shared [] → ⊥
+empty : IsExactList (viewer_in file (codes "carol")) shared [] → ⊥
 empty h =
     let row = (h.all 2 deposit (record { deposited = refl; may = inr refl })).1 in
     let below = row.1 in
@@ -81,7 +117,7 @@ empty h =
 abbrev row : ListedValue
 row = record { number = 2; owner = codes "alice"; reference = codes "plan-7"; gen_time = 86399000000 }
 
-repeated : IsExactList (codes "carol") shared (row ∷ row ∷ []) → ⊥
+repeated : IsExactList (viewer_in file (codes "carol")) shared (row ∷ row ∷ []) → ⊥
 repeated h = let below : 2 < 2 = h.rising.0.0 in absurd (omega arith)
 
 -- a list that the database refused, and counted, is told as want of memory: by a call that it doesn't make, or though
@@ -114,3 +150,32 @@ unfailed g old new (inr excused) = excused
 -- a sight has no signer
 unsigned : IsFit (Show alice 2) (all_fine (Err signer.Failed)) → ⊥
 unsigned fits = let same = ap (λ o. o.signing) fits.0 in cc
+
+-- a right that was acknowledged is forgotten, and one that was refused counts
+forgotten : rights_by (Revoke alice 2 (Account (codes "carol"))) Done ≡ [] → ⊥
+forgotten e = cc
+
+refused_counts : rights_by (Grant carol 2 (Account (codes "alice"))) (Refused fault.NotOwner)
+    ≡ Granted 2 (Account (codes "alice")) ∷ [] → ⊥
+refused_counts e = cc
+
+-- histories agree for her that differ in a deposit that she sees
+agreeing : Agree (viewer_in file (codes "carol")) shared deposited → ⊥
+agreeing agree = let seen : Some (seen_as 2 shared deposit) ≡ None = agree.seen 2 in cc
+
+-- a command has a second effect
+second_effect : HasEffect setting (Show alice 2) (all_fine (Ok [])) deposited (only (Refused fault.NotHere)) → ⊥
+second_effect h = let says : Refused fault.NotHere ≡ Shown (codes "abc") = ap (λ e. e.says) h in cc
+
+-- a right is acknowledged over a store that is shut
+shut : {B : Type 0} (g : Ghosts B) (new : B) → (g.is_open new → ⊥)
+    → IsOpened g (Grant alice 2 (Account (codes "carol"))) Done new → ⊥
+shut g new closed opened = closed opened
+
+-- a finish grants another number than that of what waited
+another_number : (p : PendingValue) (reply : List ℕ) → IsFinished p [] (p.serial + 1) reply → ⊥
+another_number p reply h = let same = h.number in absurd (omega arith)
+
+-- a policy file without an accuracy is proper
+improper : (s : Setting) → s.file.counter.accuracy_us ≡ 0 → IsProper s → ⊥
+improper s none proper = let some = proper.some_accuracy in absurd (omega arith)

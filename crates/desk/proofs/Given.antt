@@ -8,6 +8,7 @@ use Rattle.book.specs.History.{Entry, Reserved, Sealed, Deposited, Calibrated, H
 use Rattle.book.specs.History.{ReservationValue, DepositValue, greatest_serial, latest_calibration, token_of}
 use Rattle.book.specs.History.{deposit_under}
 use Rattle.book.specs.Rights.{seen_by, listed}
+use Rattle.book.specs.Values.{deposit_of}
 use Rattle.desk.specs.Outcome.{Outcome, Cause, cause_of}
 use Rattle.desk.specs.Findings.{PlanValue, Finding, Fails, Unanswered, Allowed}
 use Rattle.desk.specs.Command.{Setting, PendingValue, Command, Stamp, Begin, Finish, Abandon, Deposit, Show, Token}
@@ -16,15 +17,16 @@ use Rattle.desk.specs.Command.{Refused}
 use Rattle.desk.specs.Texts.{octets_for, pending_of}
 use Rattle.desk.specs.Effects.{Effect, only, Stamping, Unreserved, Void, Sealing, no_number, no_seal, no_sight}
 use Rattle.desk.specs.Effects.{next_reservation, stamping_of, stamp_effect, stamp_found, begin_effect, begin_found}
-use Rattle.desk.specs.Effects.{finish_effect, deposit_effect, deposit_found, deposit_row, fault_of, show_effect}
+use Rattle.desk.specs.Effects.{finish_effect, deposit_effect, deposit_found, fault_of, show_effect}
 use Rattle.desk.specs.Effects.{token_effect, reply_or_nothing, right_effect, is_backwards, calibrate_effect, name_of}
 use Rattle.desk.specs.declared.fault.Fault.{Fault}
 use Rattle.desk.specs.declared.fault.Fault.TheVariants as fault
-use Rattle.desk.specs.Steps.{KeepsUnder, KeepsUnless, Keeps, HasEffect}
+use Rattle.desk.specs.Steps.{KeepsByReference, KeepsOnceSearched, KeepsWithinSize, HasEffect}
 use Rattle.desk.specs.Laws.{IsReservedText, IsPendingOf}
 use Rattle.desk.specs.Serials.{serials_of}
 use Rattle.desk.proofs.Headline.{SealedBy, stamping_by}
-use Rattle.desk.proofs.Keeping.{if_has, unless_has, right_has}
+use Rattle.desk.specs.Viewers.{viewer_in}
+use Rattle.desk.proofs.Branches.{if_has, unless_has, right_has}
 
 -- what an effect gives out
 record IsGivenOut (s : Setting) (b : History) (e : Effect) : Type 0 where
@@ -139,7 +141,7 @@ deposit_given s b owner reference bytes plan octets o (Void r cause) by =
 deposit_given s b owner reference bytes plan octets o (Sealing r token) by =
     let e = deposit_effect s owner reference bytes (Sealing r token) in record {
       asked = λ text h. asked_of s b e (attribute_text s.identity r.tst) text
-          (text_of s b owner plan octets (Deposited (deposit_row r.serial owner reference bytes) token ∷ []) r e by.1
+          (text_of s b owner plan octets (Deposited (deposit_of r.serial owner reference bytes) token ∷ []) r e by.1
           refl refl) h;
       begun = λ p h. absurd cc;
     }
@@ -161,7 +163,7 @@ known_by s b number false = refusal_given s b fault.Conflict
 
 under_given : (s : Setting) (b : History) (a : AccountValue) (reading : ℤ) (reference bytes : List ℕ) (o : Outcome)
     (e : Effect) (under : Option DepositValue)
-    → KeepsUnder s a reading reference bytes o b under e → IsGivenOut s b e
+    → KeepsByReference s a reading reference bytes o b under e → IsGivenOut s b e
 under_given s b a reading reference bytes o e (Some d) h = subst (IsGivenOut s b) (sym h)
     (known_by s b d.serial (bytes_eq d.bytes bytes))
 under_given s b a reading reference bytes o e None h = subst (IsGivenOut s b) (sym h.1.2)
@@ -169,7 +171,7 @@ under_given s b a reading reference bytes o e None h = subst (IsGivenOut s b) (s
 
 unless_given : (s : Setting) (b : History) (a : AccountValue) (reading : ℤ) (reference bytes : List ℕ) (o : Outcome)
     (e : Effect) (refused : Option Cause)
-    → KeepsUnless s a reading reference bytes o b refused e → IsGivenOut s b e
+    → KeepsOnceSearched s a reading reference bytes o b refused e → IsGivenOut s b e
 unless_given s b a reading reference bytes o e (Some cause) h = subst (IsGivenOut s b) (sym h)
     (refusal_given s b (fault_of cause))
 unless_given s b a reading reference bytes o e None h =
@@ -177,7 +179,7 @@ unless_given s b a reading reference bytes o e None h =
 
 keeps_given : (s : Setting) (b : History) (a : AccountValue) (reading : ℤ) (reference bytes : List ℕ) (o : Outcome)
     (e : Effect) (short : Bool)
-    → Keeps s a reading reference bytes o b short e → IsGivenOut s b e
+    → KeepsWithinSize s a reading reference bytes o b short e → IsGivenOut s b e
 keeps_given s b a reading reference bytes o e true h =
     unless_given s b a reading reference bytes o e (cause_of o.searching) h
 keeps_given s b a reading reference bytes o e false h = subst (IsGivenOut s b) (sym h)
@@ -219,27 +221,29 @@ given_out s (Abandon p) o b e h = subst (IsGivenOut s b) (sym h) (answer_given s
 given_out s (Deposit a reading reference bytes) o b e h = keeps_given s b a reading reference bytes o e
     (nat_le (length bytes) 1_048_576) h
 given_out s (Show a n) o b e h =
-    let d = show_effect (no_sight o) (seen_by a.name n b) in
+    let d = show_effect (no_sight o) (seen_by (viewer_in s.file a.name) n b) in
     subst (IsGivenOut s b) (sym h) (unless_has (IsGivenOut s b) (refusal_given s b) (cause_of o.searching) d
-    (show_given s b (no_sight o) (seen_by a.name n b)))
+    (show_given s b (no_sight o) (seen_by (viewer_in s.file a.name) n b)))
 given_out s (Token a n) o b e h =
-    let d = token_effect (no_sight o) (token_of n b) (seen_by a.name n b) in
+    let d = token_effect (no_sight o) (token_of n b) (seen_by (viewer_in s.file a.name) n b) in
     subst (IsGivenOut s b) (sym h) (unless_has (IsGivenOut s b) (refusal_given s b) (cause_of o.searching) d
-    (token_given s b (no_sight o) (token_of n b) (seen_by a.name n b)))
+    (token_given s b (no_sight o) (token_of n b) (seen_by (viewer_in s.file a.name) n b)))
 given_out s (ListAll a) o b e h =
-    let d : Effect = only (Listed (listed a.name b)) in
+    let d : Effect = only (Listed (listed (viewer_in s.file a.name) b)) in
     subst (IsGivenOut s b) (sym h) (unless_has (IsGivenOut s b) (refusal_given s b) (cause_of o.looking) d
-    (answer_given s b [] (Listed (listed a.name b)) (λ p k. cc)))
+    (answer_given s b [] (Listed (listed (viewer_in s.file a.name) b)) (λ p k. cc)))
 given_out s (Grant a n reader) o b e h =
     let entry = Granted n reader in
-    let d = right_effect s.file a.name reader o entry (seen_by a.name n b) in
+    let d = right_effect s.file a.name reader o entry (seen_by (viewer_in s.file a.name) n b) in
     subst (IsGivenOut s b) (sym h) (unless_has (IsGivenOut s b) (refusal_given s b) (cause_of o.searching) d
-    (right_has (IsGivenOut s b) (refusal_given s b) s a reader o entry (seen_by a.name n b) (added_given s b entry)))
+    (right_has (IsGivenOut s b) (refusal_given s b) s.file a.name reader o entry
+    (seen_by (viewer_in s.file a.name) n b) (λ x is owns. added_given s b entry)))
 given_out s (Revoke a n reader) o b e h =
     let entry = Revoked n reader in
-    let d = right_effect s.file a.name reader o entry (seen_by a.name n b) in
+    let d = right_effect s.file a.name reader o entry (seen_by (viewer_in s.file a.name) n b) in
     subst (IsGivenOut s b) (sym h) (unless_has (IsGivenOut s b) (refusal_given s b) (cause_of o.searching) d
-    (right_has (IsGivenOut s b) (refusal_given s b) s a reader o entry (seen_by a.name n b) (added_given s b entry)))
+    (right_has (IsGivenOut s b) (refusal_given s b) s.file a.name reader o entry
+    (seen_by (viewer_in s.file a.name) n b) (λ x is owns. added_given s b entry)))
 given_out s (Calibrate c) o b e h =
     let entry = Calibrated c in
     let added : Effect = record { adds = entry ∷ []; asks = None; says = Done } in

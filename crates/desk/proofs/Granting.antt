@@ -1,69 +1,74 @@
--- A right is entered.
-use Rattle.std.proofs.Common.{◌≡◌, ℕ, cond, Bool, true, false, List, [], ◌∷◌, Option, Some, None, Ok, refl, sym, ap}
-use Rattle.std.proofs.Common.{◌∙◌, inl, inr}
+-- A right is entered, or refused.
+use Rattle.std.proofs.Common.{◌≡◌, ℕ, cond, Bool, true, false, List, [], ◌∷◌, ◌++◌, Option, Some, None, Ok, refl}
+use Rattle.std.proofs.Common.{sym, ap, ◌∙◌, subst, inl, inr}
 use Rattle.std.specs.Str.{bytes_eq}
 use Rattle.policy.specs.Record.{PolicyValue}
+use Rattle.book.specs.declared.fault.StoreFault.{StoreFault}
+use Rattle.book.specs.declared.fault.StoreFault.TheVariants as store
 use Rattle.book.specs.declared.standing.Standing.{Ghosts}
+use Rattle.book.specs.Fault.{next_count, count_after}
 use Rattle.book.specs.History.{Entry, History, DepositValue}
+use Rattle.book.specs.Readers.{Reader}
 use Rattle.book.specs.Rights.{seen_by}
 use Rattle.book.specs.Sound.{Fits, FitsRight}
-use Rattle.book.specs.Stands.{Stands, OnlyLooks}
+use Rattle.book.specs.Stands.{Stands, OnlyLooks, LeavesOrAdds}
+use Rattle.desk.specs.Calls.{IsOfStore}
 use Rattle.desk.specs.Command.{Setting, Command, Done, Refused}
-use Rattle.desk.specs.Effects.{Effect, only, unless, has_account, right_effect}
-use Rattle.desk.specs.Obstacles.{MayName}
-use Rattle.desk.specs.Outcome.{Outcome, Cause, cause_of, all_fine}
+use Rattle.desk.specs.Effects.{Effect, only, unless, fault_of, objection, accepted, unless_against, right_effect}
+use Rattle.desk.specs.Obstacles.{fault_with, hindered, IsOfRight, MayName, MayNot}
+use Rattle.desk.specs.Outcome.{Call, Fine, Wanting, Broken, Outcome, Cause, OfMemory, OfStore, cause_of, faults_after}
+use Rattle.desk.specs.Outcome.{all_fine}
 use Rattle.desk.specs.Steps.{HasEffect}
 use Rattle.desk.specs.Fit.{IsFit}
-use Rattle.desk.specs.Stepped.{no_signer, IsOpened, StepsBy}
+use Rattle.desk.specs.Stepped.{no_signer, IsBlamed, IsOpened, StepsBy, committed}
+use Rattle.desk.specs.Viewers.{viewer_in}
+use Rattle.desk.specs.declared.fault.Fault.{Fault}
 use Rattle.desk.specs.declared.fault.Fault.TheVariants as fault
+use Rattle.desk.specs.declared.obstacle.Obstacle.{Obstacle}
+use Rattle.desk.specs.declared.obstacle.Obstacle.TheVariants as obstacle
+use Rattle.desk.proofs.Denied.{looked_up, denied}
+use Rattle.desk.proofs.Fitting.{unbroken}
+use Rattle.desk.proofs.Sealing.{one_in_doubt}
 use Rattle.desk.proofs.Stepping.{right_seen}
 
 -- the effect of a right on a history
-abbrev pub righted : Setting → List ℕ → ℕ → List ℕ → Entry → Outcome → History → Effect
-righted s account n reader entry o b =
-    unless (cause_of o.searching) (right_effect s.file account reader o entry (seen_by account n b))
+abbrev pub righted : Setting → List ℕ → ℕ → Reader → Entry → Outcome → History → Effect
+righted s account n reader entry o b = unless (cause_of o.searching)
+    (right_effect s.file account reader o entry (seen_by (viewer_in s.file account) n b))
 
 -- a command that gives or takes a right
-abbrev pub IsRighting : Setting → Command → List ℕ → ℕ → List ℕ → Entry → Type 0
+abbrev pub IsRighting : Setting → Command → List ℕ → ℕ → Reader → Entry → Type 0
 IsRighting s c account n reader entry = (o : Outcome) (b : History) (e : Effect)
     → e ≡ righted s account n reader entry o b → HasEffect s c o b e
 
-abbrev pub entered : Entry → Effect
-entered entry = record { adds = entry ∷ []; asks = None; says = Done }
+abbrev named : Option Cause → Entry → Bool → Option Fault → Effect
+named refused entry owns against =
+    cond owns (unless_against against (unless refused (accepted entry))) (only (Refused fault.NotOwner))
 
-abbrev named : Option Cause → Entry → Bool → Bool → Bool → Effect
-named refused entry owns known itself =
-    cond owns (cond known (cond itself (only (Refused fault.SelfGrant)) (unless refused (entered entry)))
-    (only (Refused fault.UnknownReader))) (only (Refused fault.NotOwner))
-
-right_is : (file : PolicyValue) (account reader : List ℕ) (o : Outcome) (entry : Entry) (d : DepositValue)
-    (seen : Option DepositValue) (owns known itself : Bool) → cause_of o.looking ≡ None → seen ≡ Some d
-    → bytes_eq d.owner account ≡ owns → has_account file reader ≡ known → bytes_eq reader account ≡ itself
-    → right_effect file account reader o entry seen
-    ≡ named (cause_of o.adding) entry owns known itself
-right_is file account reader o entry d seen owns known itself looked is e f h =
+right_is : (file : PolicyValue) (account : List ℕ) (reader : Reader) (o : Outcome) (entry : Entry) (d : DepositValue)
+    (seen : Option DepositValue) (owns : Bool) (against : Option Fault) → cause_of o.looking ≡ None → seen ≡ Some d
+    → bytes_eq d.owner account ≡ owns → objection file account reader ≡ against
+    → right_effect file account reader o entry seen ≡ named (cause_of o.adding) entry owns against
+right_is file account reader o entry d seen owns against looked is e f =
     let r = cause_of o.adding in
     ap (right_effect file account reader o entry) is
-    ∙ (ap (λ x. unless x (named r entry (bytes_eq d.owner account) (has_account file reader)
-    (bytes_eq reader account))) looked
-    ∙ (ap (λ x. named r entry x (has_account file reader) (bytes_eq reader account)) e
-    ∙ (ap (λ x. named r entry owns x (bytes_eq reader account)) f
-    ∙ ap (λ x. named r entry owns known x) h)))
+    ∙ (ap (λ x. unless x (named r entry (bytes_eq d.owner account) (objection file account reader))) looked
+    ∙ (ap (λ x. named r entry x (objection file account reader)) e ∙ ap (λ x. named r entry owns x) f))
 
 -- the account may, and so the entry stands where the commit is answered
-made : (s : Setting) (account reader : List ℕ) (n : ℕ) (b : History) (entry : Entry) (o : Outcome)
+made : (s : Setting) (account : List ℕ) (reader : Reader) (n : ℕ) (b : History) (entry : Entry) (o : Outcome)
     → MayName s.file account reader n b → cause_of o.searching ≡ None → cause_of o.looking ≡ None
     → (refused : Option Cause) → cause_of o.adding ≡ refused
-    → righted s account n reader entry o b ≡ unless refused (entered entry)
+    → righted s account n reader entry o b ≡ unless refused (accepted entry)
 made s account reader n b entry o m searched looked refused e =
-    ap (λ x. unless x (right_effect s.file account reader o entry (seen_by account n b))) searched
-    ∙ (right_is s.file account reader o entry m.deposit (seen_by account n b) true true false looked m.seen m.owns
-    m.known m.another
-    ∙ ap (λ x. unless x (entered entry)) e)
+    let seen = seen_by (viewer_in s.file account) n b in
+    ap (λ x. unless x (right_effect s.file account reader o entry seen)) searched
+    ∙ (right_is s.file account reader o entry m.deposit seen true None looked m.own.seen m.own.owns m.unopposed
+    ∙ ap (λ x. unless x (accepted entry)) e)
 
 -- what the look-ups before the commit found
-pub record Allows {B : Type 0} (g : Ghosts B) (s : Setting) (c : Command) (account reader : List ℕ) (n : ℕ)
-    (entry : Entry) (old mid new : B) : Type 0 where
+pub record Allows {B : Type 0} (g : Ghosts B) (s : Setting) (c : Command) (account : List ℕ) (reader : Reader)
+    (n : ℕ) (entry : Entry) (old mid new : B) : Type 0 where
   pub righting : IsRighting s c account n reader entry
   pub fits : (b : History) → FitsRight n b → Fits entry b
   pub made : IsFit c (all_fine (Ok []))
@@ -73,8 +78,8 @@ pub record Allows {B : Type 0} (g : Ghosts B) (s : Setting) (c : Command) (accou
   pub may : g.honest mid → (b : History) → Stands g b old → MayName s.file account reader n b
 
 -- the right is entered
-pub right_entered : {B : Type 0} (g : Ghosts B) (s : Setting) (c : Command) (account reader : List ℕ) (n : ℕ)
-    (entry : Entry) (old mid new : B) → Allows g s c account reader n entry old mid new
+pub right_entered : {B : Type 0} (g : Ghosts B) (s : Setting) (c : Command) (account : List ℕ) (reader : Reader)
+    (n : ℕ) (entry : Entry) (old mid new : B) → Allows g s c account reader n entry old mid new
     → (g.honest new → g.honest mid) → g.fault_count new ≡ g.fault_count mid
     → (g.honest new → g.is_open mid × g.is_open new)
     → ((b : History) → Stands g b mid → Fits entry b → Stands g (entry ∷ b) new)
@@ -87,10 +92,10 @@ right_entered g s c account reader n entry old mid new a before same opened ok =
   opened = λ honest. a.opens (opened honest).1;
   steps = λ honest b st met.
       let m = a.may (before honest) b st in
-      let now = ok b (a.looks.stands b st) (a.fits b (right_seen account n b m.deposit m.seen)) in
+      let now = ok b (a.looks.stands b st) (a.fits b (right_seen (viewer_in s.file account) n b m.deposit m.own.seen)) in
       record {
-        effect = entered entry;
-        has = a.righting (all_fine (Ok [])) b (entered entry)
+        effect = accepted entry;
+        has = a.righting (all_fine (Ok [])) b (accepted entry)
             (sym (made s account reader n b entry (all_fine (Ok [])) m refl refl None refl));
         says = refl;
         moves = refl;
@@ -98,3 +103,119 @@ right_entered g s c account reader n entry old mid new a before same opened ok =
         left = λ left r. inr (inl (now.settled honest (opened honest).1 left r));
       };
 }
+
+-- The effect of a right that isn't entered.
+turned : (file : PolicyValue) (account : List ℕ) (reader : Reader) (o : Outcome) (entry : Entry) (d : DepositValue)
+    (seen : Option DepositValue) (f : Fault) → cause_of o.looking ≡ None → seen ≡ Some d
+    → bytes_eq d.owner account ≡ true → objection file account reader ≡ Some f
+    → right_effect file account reader o entry seen ≡ only (Refused f)
+turned file account reader o entry d seen f looked is owns against =
+    right_is file account reader o entry d seen true (Some f) looked is owns against
+
+hidden : (s : Setting) (account : List ℕ) (n : ℕ) (reader : Reader) (entry : Entry) (b : History) (x : Obstacle)
+    → IsOfRight reader x → MayNot s.file account reader n b x
+    → righted s account n reader entry (hindered x) b ≡ only (Refused (fault_with x))
+hidden s account n reader entry b obstacle.NotHere of may =
+    ap (right_effect s.file account reader (all_fine (Ok [])) entry) may
+hidden s account n reader entry b obstacle.NotOwner of may =
+    right_is s.file account reader (all_fine (Ok [])) entry may.0 (seen_by (viewer_in s.file account) n b) false
+    (objection s.file account reader) refl may.1.0 may.1.1 refl
+hidden s account n reader entry b obstacle.UnknownReader of may =
+    turned s.file account reader (all_fine (Ok [])) entry may.0 (seen_by (viewer_in s.file account) n b)
+    fault.UnknownReader refl may.1.0.seen may.1.0.owns may.1.1
+hidden s account n reader entry b obstacle.UnknownGroup of may =
+    turned s.file account reader (all_fine (Ok [])) entry may.0 (seen_by (viewer_in s.file account) n b)
+    fault.UnknownGroup refl may.1.0.seen may.1.0.owns may.1.1
+hidden s account n reader entry b obstacle.SelfGrant of may =
+    turned s.file account reader (all_fine (Ok [])) entry may.0 (seen_by (viewer_in s.file account) n b)
+    fault.SelfGrant refl may.1.0.seen may.1.0.owns may.1.1
+hidden s account n reader entry b (obstacle.Searching store.Memory) of may = refl
+hidden s account n reader entry b (obstacle.Searching store.Database) of may = refl
+hidden s account n reader entry b (obstacle.Searching store.NotOurs) of may = absurd (elim of [ inl e ↦ cc | inr e ↦ cc ])
+hidden s account n reader entry b (obstacle.Searching store.Full) of may = absurd (elim of [ inl e ↦ cc | inr e ↦ cc ])
+hidden s account n reader entry b (obstacle.Searching store.Backwards) of may = absurd (elim of [ inl e ↦ cc | inr e ↦ cc ])
+hidden s account n reader entry b (obstacle.Looking store.Memory) of may =
+    ap (right_effect s.file account reader (hindered (obstacle.Looking store.Memory)) entry) may.1
+hidden s account n reader entry b (obstacle.Looking store.Database) of may =
+    ap (right_effect s.file account reader (hindered (obstacle.Looking store.Database)) entry) may.1
+hidden s account n reader entry b (obstacle.Looking store.NotOurs) of may = absurd (elim of [ inl e ↦ cc | inr e ↦ cc ])
+hidden s account n reader entry b (obstacle.Looking store.Full) of may = absurd (elim of [ inl e ↦ cc | inr e ↦ cc ])
+hidden s account n reader entry b (obstacle.Looking store.Backwards) of may = absurd (elim of [ inl e ↦ cc | inr e ↦ cc ])
+hidden s account n reader entry b obstacle.Growing of may = absurd of
+hidden s account n reader entry b (obstacle.Adding f) of may = absurd of
+
+-- the look-ups tell why it isn't
+pub right_denied : {B : Type 0} (g : Ghosts B) (s : Setting) (c : Command) (account : List ℕ) (reader : Reader)
+    (n : ℕ) (entry : Entry) (old new : B) (x : Obstacle) → IsRighting s c account n reader entry
+    → ((searching looking : Call) → IsFit c (looked_up searching looking)) → ((f : Fault) → IsOpened g c (Refused f) new)
+    → IsOfRight reader x → OnlyLooks g old new
+    → g.fault_count new ≡ faults_after (hindered x) (g.fault_count old)
+    → (g.honest new → (b : History) → Stands g b old → MayNot s.file account reader n b x)
+    → StepsBy g no_signer s c (hindered x) old new (Refused (fault_with x))
+right_denied g s c account reader n entry old new x righting fits opened of looks counted may =
+    denied reader g s c old new x fits opened of looks counted
+    (λ honest b st. righting (hindered x) b (only (Refused (fault_with x)))
+    (sym (hidden s account n reader entry b x of (may honest b st))))
+
+-- the store refuses to add it by this fault
+refused_as : {B : Type 0} (g : Ghosts B) (s : Setting) (c : Command) (account : List ℕ) (reader : Reader) (n : ℕ)
+    (entry : Entry) (old mid new : B) (o : Outcome) (cause : Cause) → Allows g s c account reader n entry old mid new
+    → cause_of o.searching ≡ None → cause_of o.looking ≡ None → cause_of o.adding ≡ Some cause
+    → cause_of (committed o).searching ≡ None → cause_of (committed o).looking ≡ None
+    → cause_of (committed o).adding ≡ None → (o.adding ≡ Fine → o.sealing ≡ Fine → ⊥) → IsFit c o
+    → ((f : Fault) → IsOpened g c (Refused f) new) → IsBlamed g c o old new (Refused (fault_of cause))
+    → g.fault_count new ≡ faults_after o (g.fault_count old) → (g.honest new → g.honest mid)
+    → ((b : History) → Stands g b mid → Stands g b new) → LeavesOrAdds g entry mid new
+    → StepsBy g no_signer s c o old new (Refused (fault_of cause))
+refused_as g s c account reader n entry old mid new o cause a searched looked why also_searched also_looked answered
+    was_refused fits opened blames counted before err crash = record {
+      fits = fits;
+      counted = counted;
+      signer = tt;
+      blames = blames;
+      opened = λ honest. opened (fault_of cause);
+      steps = λ honest b st met.
+          let m = a.may (before honest) b st in
+          let stood = a.looks.stands b st in
+          record {
+            effect = only (Refused (fault_of cause));
+            has = a.righting o b (only (Refused (fault_of cause)))
+                (sym (made s account reader n b entry o m searched looked (Some cause) why));
+            says = refl;
+            moves = refl;
+            stands = err b stood;
+            left = λ left r. elim (crash honest left r) [
+              | inl same ↦ inl (refl, a.looks.leaves (before honest) left same)
+              | inr adds ↦ inr (inr (record {
+                refused = was_refused;
+                doubted = accepted entry;
+                has = a.righting (committed o) b (accepted entry)
+                    (sym (made s account reader n b entry (committed o) m also_searched also_looked None answered));
+                holds = subst (λ es. g.holds left (es ++ b)) (sym (one_in_doubt o.adding entry))
+                    (adds b stood (a.fits b (right_seen (viewer_in s.file account) n b m.deposit m.own.seen)));
+              }))
+            ];
+          };
+    }
+
+pub right_refused : {B : Type 0} (g : Ghosts B) (s : Setting) (c : Command) (account : List ℕ) (reader : Reader)
+    (n : ℕ) (entry : Entry) (old mid new : B) (f : StoreFault) → Allows g s c account reader n entry old mid new
+    → ((call : Call) → IsFit c (record (all_fine (Ok [])) { adding = call }))
+    → ((f : Fault) → IsOpened g c (Refused f) new) → IsOfStore f
+    → g.fault_count new ≡ count_after f (g.fault_count mid) → (g.honest new → g.honest mid)
+    → ((b : History) → Stands g b mid → Stands g b new) → LeavesOrAdds g entry mid new
+    → StepsBy g no_signer s c (hindered (obstacle.Adding f)) old new (Refused (fault_with (obstacle.Adding f)))
+right_refused g s c account reader n entry old mid new store.Memory a fits opened of counted before err crash =
+    refused_as g s c account reader n entry old mid new (hindered (obstacle.Adding store.Memory)) OfMemory a refl refl
+    refl refl refl refl (λ fine sealed. cc) (fits Wanting) opened (unbroken _ tt tt tt tt tt tt tt tt)
+    (counted ∙ a.uncounted) before err crash
+right_refused g s c account reader n entry old mid new store.Database a fits opened of counted before err crash =
+    refused_as g s c account reader n entry old mid new (hindered (obstacle.Adding store.Database)) OfStore a refl refl
+    refl refl refl refl (λ fine sealed. cc) (fits Broken) opened (inl (inr (inr (inr (inr (inl refl))))))
+    (counted ∙ ap next_count a.uncounted) before err crash
+right_refused g s c account reader n entry old mid new store.NotOurs a fits opened of counted before err crash =
+    absurd (elim of [ inl e ↦ cc | inr e ↦ cc ])
+right_refused g s c account reader n entry old mid new store.Full a fits opened of counted before err crash =
+    absurd (elim of [ inl e ↦ cc | inr e ↦ cc ])
+right_refused g s c account reader n entry old mid new store.Backwards a fits opened of counted before err crash =
+    absurd (elim of [ inl e ↦ cc | inr e ↦ cc ])

@@ -9,20 +9,22 @@ use Rattle.book.specs.History.{Entry, Calibrated, Held, Granted, Revoked, Histor
 use Rattle.book.specs.History.{deposit_under, latest_calibration}
 use Rattle.book.specs.Rights.{seen_by, listed}
 use Rattle.book.specs.Sound.{Fits}
+use Rattle.book.specs.Values.{deposit_of}
 use Rattle.desk.specs.Outcome.{Outcome, Cause, cause_of, first_cause}
 use Rattle.desk.specs.Findings.{PlanValue, Finding, Fails, Unanswered, Allowed}
 use Rattle.desk.specs.Command.{Setting, PendingValue, Command, Stamp, Begin, Finish, Abandon, Deposit, Show, Token}
 use Rattle.desk.specs.Command.{ListAll, Grant, Revoke, Calibrate, Hold, Answer, Stamped, Rejected, Begun, Kept, Shown}
 use Rattle.desk.specs.Command.{Listed, Done, Refused}
 use Rattle.desk.specs.Texts.{octets_for, token_with}
-use Rattle.desk.specs.Effects.{has_account, Effect, only, fault_of, unless, Stamping, Unreserved, Void, Sealing}
+use Rattle.desk.specs.Effects.{Effect, only, unless, Stamping, Unreserved, Void, Sealing}
 use Rattle.desk.specs.Effects.{no_number, no_seal, next_reservation, stamping_of, stamp_effect, stamp_found, begin_effect, begin_found}
-use Rattle.desk.specs.Effects.{finish_effect, deposit_row, deposit_effect, deposit_found, show_effect, token_effect}
-use Rattle.desk.specs.Effects.{reply_or_nothing, right_of_owner, right_effect, is_backwards, calibrate_effect, name_of}
-use Rattle.desk.specs.declared.fault.Fault.{Fault}
+use Rattle.desk.specs.Effects.{finish_effect, deposit_effect, deposit_found, show_effect, token_effect}
+use Rattle.desk.specs.Effects.{reply_or_nothing, accepted, right_effect, is_backwards, calibrate_effect, name_of}
 use Rattle.desk.specs.declared.fault.Fault.TheVariants as fault
-use Rattle.desk.specs.Steps.{KeepsUnder, KeepsUnless, Keeps, HasEffect, IsMet}
+use Rattle.desk.specs.Steps.{KeepsByReference, KeepsOnceSearched, KeepsWithinSize, HasEffect, IsMet}
 use Rattle.desk.specs.Runs.{IsProper, Told, Journey, begins, goes, stops, after, cut, IsKept, HasProperties}
+use Rattle.desk.specs.Viewers.{viewer_in}
+use Rattle.desk.proofs.Branches.{if_has, unless_has, right_has}
 use Rattle.desk.proofs.Views.{reservation_stays, token_stays, deposit_stays, found_under, same_octets}
 use Rattle.desk.proofs.Sound.{TextLaws, AreGood, fits_along, true_along, rising_along, good_cut}
 use Rattle.desk.proofs.Stepping.{step_adds, adds_good}
@@ -37,7 +39,7 @@ stays_in e b x (n, below, is) = (suc n, omega arith, is)
 kept_one : (e : Entry) (b : History) → Fits e b → (c : Command) (a : Answer) → IsKept b c a → IsKept (e ∷ b) c a
 kept_one e b fits c (Stamped serial octets) k = (k.0, k.1, token_stays e b fits serial k.0 k.2)
 kept_one e b fits (Deposit a reading reference bytes) (Kept number new) k = deposit_stays e b fits number
-    (deposit_row number a.name reference bytes) k
+    (deposit_of number a.name reference bytes) k
 kept_one e b fits (Stamp account reading octets) (Kept number new) k = tt
 kept_one e b fits (Begin account reading octets) (Kept number new) k = tt
 kept_one e b fits (Finish p signature) (Kept number new) k = tt
@@ -137,13 +139,13 @@ deposit_found_stands s b a reading reference bytes o (Allowed plan) =
 -- a known deposit is the one that is asked for
 pub same_row : (a : AccountValue) (reference bytes : List ℕ) (d : DepositValue) → d.owner ≡ a.name → d.reference
     ≡ reference → d.bytes ≡ bytes
-    → d ≡ deposit_row d.serial a.name reference bytes
+    → d ≡ deposit_of d.serial a.name reference bytes
 same_row a reference bytes d own under same =
-    let one : d ≡ deposit_row d.serial a.name d.reference d.bytes = ap
-    (λ x. deposit_row d.serial x d.reference d.bytes) own in
-    let two : d ≡ deposit_row d.serial a.name reference d.bytes = one
-    ∙ ap (λ x. deposit_row d.serial a.name x d.bytes) under in
-    two ∙ ap (λ x. deposit_row d.serial a.name reference x) same
+    let one : d ≡ deposit_of d.serial a.name d.reference d.bytes = ap
+    (λ x. deposit_of d.serial x d.reference d.bytes) own in
+    let two : d ≡ deposit_of d.serial a.name reference d.bytes = one
+    ∙ ap (λ x. deposit_of d.serial a.name x d.bytes) under in
+    two ∙ ap (λ x. deposit_of d.serial a.name reference x) same
 
 known_if : (b : History) (a : AccountValue) (reading : ℤ) (reference bytes : List ℕ) (d : DepositValue)
     (same : Bool) → bytes_eq d.bytes bytes ≡ same
@@ -156,7 +158,7 @@ known_if b a reading reference bytes d false e at own under = tt
 keeps_under_stands : (s : Setting) (b : History) → AreGood b
     → (a : AccountValue) (reading : ℤ) (reference bytes : List ℕ) (o : Outcome) (e : Effect)
     → (under : Option DepositValue) → deposit_under a.name reference b ≡ under
-    → KeepsUnder s a reading reference bytes o b under e
+    → KeepsByReference s a reading reference bytes o b under e
     → StandsAfter (Deposit a reading reference bytes) b e
 keeps_under_stands s b g a reading reference bytes o e (Some d) is h =
     let u = found_under b (fits_along b g) a.name reference d is in
@@ -168,7 +170,7 @@ keeps_under_stands s b g a reading reference bytes o e None is h =
 
 keeps_unless_stands : (s : Setting) (b : History) → AreGood b
     → (a : AccountValue) (reading : ℤ) (reference bytes : List ℕ) (o : Outcome) (e : Effect)
-    → (refused : Option Cause) → KeepsUnless s a reading reference bytes o b refused e
+    → (refused : Option Cause) → KeepsOnceSearched s a reading reference bytes o b refused e
     → StandsAfter (Deposit a reading reference bytes) b e
 keeps_unless_stands s b g a reading reference bytes o e (Some cause) h = subst
     (StandsAfter (Deposit a reading reference bytes) b) (sym h) tt
@@ -177,7 +179,7 @@ keeps_unless_stands s b g a reading reference bytes o e None h =
 
 keeps_stands : (s : Setting) (b : History) → AreGood b
     → (a : AccountValue) (reading : ℤ) (reference bytes : List ℕ) (o : Outcome) (e : Effect)
-    → (short : Bool) → Keeps s a reading reference bytes o b short e
+    → (short : Bool) → KeepsWithinSize s a reading reference bytes o b short e
     → StandsAfter (Deposit a reading reference bytes) b e
 keeps_stands s b g a reading reference bytes o e true h = keeps_unless_stands s b g a reading reference bytes o e
     (cause_of o.searching) h
@@ -209,16 +211,6 @@ plain_unless : (refused : Option Cause) (e : Effect) → IsPlain e.says → IsPl
 plain_unless None e h = h
 plain_unless (Some cause) e h = tt
 
--- what holds of both branches, and of a refusal, holds of the effect
-pub if_has : (P : Effect → Type 0) (t : Bool) (d e : Effect) → P d → P e → P (cond t d e)
-if_has P true d e h k = h
-if_has P false d e h k = k
-
-pub unless_has : (P : Effect → Type 0) → ((f : Fault) → P (only (Refused f))) → (refused : Option Cause) (e : Effect)
-    → P e → P (unless refused e)
-unless_has P refusal None e h = h
-unless_has P refusal (Some cause) e h = refusal (fault_of cause)
-
 show_plain : (refused : Option Cause) (seen : Option DepositValue) → IsPlain (show_effect refused seen).says
 show_plain refused None = tt
 show_plain refused (Some d) = plain_unless refused (only (Shown d.bytes)) tt
@@ -231,32 +223,6 @@ token_plain : (refused : Option Cause) (token : Option (List ℕ)) (seen : Optio
     → IsPlain (token_effect refused token seen).says
 token_plain refused token None = tt
 token_plain refused token (Some d) = plain_unless refused (only (reply_or_nothing token)) (reply_plain token)
-
--- an entry that is added
-abbrev added : Entry → Effect
-added entry = record { adds = entry ∷ []; asks = None; says = Done }
-
-owner_has : (P : Effect → Type 0) → ((f : Fault) → P (only (Refused f)))
-    → (s : Setting) (a : AccountValue) (reader : List ℕ) (o : Outcome) (entry : Entry)
-    → P (added entry) → P (right_of_owner s.file a.name reader (cause_of o.adding) entry)
-owner_has P refusal s a reader o entry h =
-    let own : Effect = only (Refused fault.SelfGrant) in
-    let given : Effect = unless (cause_of o.adding) (added entry) in
-    if_has P (has_account s.file reader) (cond (bytes_eq reader a.name) own given)
-    (only (Refused fault.UnknownReader))
-    (if_has P (bytes_eq reader a.name) own given (refusal fault.SelfGrant)
-    (unless_has P refusal (cause_of o.adding) (added entry) h)) (refusal fault.UnknownReader)
-
-pub right_has : (P : Effect → Type 0) → ((f : Fault) → P (only (Refused f)))
-    → (s : Setting) (a : AccountValue) (reader : List ℕ) (o : Outcome) (entry : Entry) (seen : Option DepositValue)
-    → P (added entry) → P (right_effect s.file a.name reader o entry seen)
-right_has P refusal s a reader o entry None h = refusal fault.NotHere
-right_has P refusal s a reader o entry (Some d) h =
-    let owned = right_of_owner s.file a.name reader (cause_of o.adding) entry in
-    let other : Effect = only (Refused fault.NotOwner) in
-    unless_has P refusal (cause_of o.looking) (cond (bytes_eq d.owner a.name) owned other)
-    (if_has P (bytes_eq d.owner a.name) owned other (owner_has P refusal s a reader o entry h)
-    (refusal fault.NotOwner))
 
 -- what is answered plainly stands
 plain_stands : (c : Command) (b : History) (e d : Effect) → e ≡ d → IsPlain d.says → StandsAfter c b e
@@ -277,38 +243,38 @@ step_stands s (Deposit a reading reference bytes) o b e g h = keeps_stands s b g
     (nat_le (length bytes) 1_048_576) h
 step_stands s (Show a n) o b e g h =
     let refused = first_cause (cause_of o.looking ∷ cause_of o.growing ∷ []) in
-    let d = show_effect refused (seen_by a.name n b) in
+    let d = show_effect refused (seen_by (viewer_in s.file a.name) n b) in
     plain_stands (Show a n) b e (unless (cause_of o.searching) d) h (plain_unless (cause_of o.searching) d
-    (show_plain refused (seen_by a.name n b)))
+    (show_plain refused (seen_by (viewer_in s.file a.name) n b)))
 step_stands s (Token a n) o b e g h =
     let refused = first_cause (cause_of o.looking ∷ cause_of o.growing ∷ []) in
-    let d = token_effect refused (token_of n b) (seen_by a.name n b) in
+    let d = token_effect refused (token_of n b) (seen_by (viewer_in s.file a.name) n b) in
     plain_stands (Token a n) b e (unless (cause_of o.searching) d) h (plain_unless (cause_of o.searching) d
-    (token_plain refused (token_of n b) (seen_by a.name n b)))
+    (token_plain refused (token_of n b) (seen_by (viewer_in s.file a.name) n b)))
 step_stands s (ListAll a) o b e g h =
-    let d : Effect = only (Listed (listed a.name b)) in
+    let d : Effect = only (Listed (listed (viewer_in s.file a.name) b)) in
     plain_stands (ListAll a) b e (unless (cause_of o.looking) d) h (plain_unless (cause_of o.looking) d tt)
 step_stands s (Grant a n reader) o b e g h =
     let P : Effect → Type 0 = λ x. StandsAfter (Grant a n reader) b x in
     let entry = Granted n reader in
-    let d = right_effect s.file a.name reader o entry (seen_by a.name n b) in
-    subst P (sym h) (unless_has P (λ f. tt) (cause_of o.searching) d (right_has P (λ f. tt) s a reader o entry
-    (seen_by a.name n b) (first_in entry b)))
+    let d = right_effect s.file a.name reader o entry (seen_by (viewer_in s.file a.name) n b) in
+    subst P (sym h) (unless_has P (λ f. tt) (cause_of o.searching) d (right_has P (λ f. tt) s.file a.name
+    reader o entry (seen_by (viewer_in s.file a.name) n b) (λ x is owns. first_in entry b)))
 step_stands s (Revoke a n reader) o b e g h =
     let P : Effect → Type 0 = λ x. StandsAfter (Revoke a n reader) b x in
     let entry = Revoked n reader in
-    let d = right_effect s.file a.name reader o entry (seen_by a.name n b) in
-    subst P (sym h) (unless_has P (λ f. tt) (cause_of o.searching) d (right_has P (λ f. tt) s a reader o entry
-    (seen_by a.name n b) (first_in entry b)))
+    let d = right_effect s.file a.name reader o entry (seen_by (viewer_in s.file a.name) n b) in
+    subst P (sym h) (unless_has P (λ f. tt) (cause_of o.searching) d (right_has P (λ f. tt) s.file a.name
+    reader o entry (seen_by (viewer_in s.file a.name) n b) (λ x is owns. first_in entry b)))
 step_stands s (Calibrate c) o b e g h =
     let P : Effect → Type 0 = λ x. StandsAfter (Calibrate c) b x in
     let backwards : Effect = only (Refused fault.Store) in
     subst P (sym h) (unless_has P (λ f. tt) (cause_of o.adding) (calibrate_effect c b)
-    (if_has P (is_backwards c (latest_calibration b)) backwards (added (Calibrated c)) tt
+    (if_has P (is_backwards c (latest_calibration b)) backwards (accepted (Calibrated c)) tt
     (first_in (Calibrated c) b)))
 step_stands s (Hold k) o b e g h =
     let P : Effect → Type 0 = λ x. StandsAfter (Hold k) b x in
-    subst P (sym h) (unless_has P (λ f. tt) (cause_of o.adding) (added (Held k)) (first_in (Held k) b))
+    subst P (sym h) (unless_has P (λ f. tt) (cause_of o.adding) (accepted (Held k)) (first_in (Held k) b))
 
 -- journeys leave good histories in which all stands that was acknowledged
 record Holds (b : History) (w : List Told) : Type 0 where

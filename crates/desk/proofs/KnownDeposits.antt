@@ -20,7 +20,7 @@ use Rattle.desk.specs.Fit.{IsFit}
 use Rattle.desk.specs.Depositing.{known_in, IsUnused, StepsWhere}
 use Rattle.desk.specs.Effects.{only, fault_of, too_large}
 use Rattle.desk.specs.Outcome.{Outcome, faults_after, all_fine}
-use Rattle.desk.specs.Steps.{HasEffect, Keeps, KeepsUnless, KeepsUnder}
+use Rattle.desk.specs.Steps.{HasEffect, KeepsWithinSize, KeepsOnceSearched, KeepsByReference}
 use Rattle.desk.specs.Stepped.{StepsBy, IsBlamed, IsBlamedFor, IsExcused, IsOpened, SignerStep, with_signer}
 use Rattle.desk.specs.declared.depositing.Known.{Known}
 use Rattle.desk.specs.declared.depositing.Known.TheVariants as known
@@ -46,7 +46,7 @@ is_too_large g signs count x s a reading reference bytes v many = record {
   opened = λ honest. tt;
   steps = λ honest b stands met. record {
     effect = only too_large;
-    has = subst (λ few. Keeps s a reading reference bytes (all_fine (Ok [])) b few (only too_large))
+    has = subst (λ few. KeepsWithinSize s a reading reference bytes (all_fine (Ok [])) b few (only too_large))
         (sym (is_many (length bytes) many)) refl;
     says = refl;
     moves = refl;
@@ -105,8 +105,8 @@ is_unsearched g signs count x s a reading reference bytes old new f few of looks
     looked g signs count x s c (unsearched f) old new said looks (faults ∙ same_count f (g.fault_count old)) refl
     (refl, (tt, tt)) tt
     (search_blamed g c f old new of)
-    (λ honest b stands. subst (λ t. Keeps s a reading reference bytes (unsearched f) b t (only said)) (sym few)
-    (subst (λ t. KeepsUnless s a reading reference bytes (unsearched f) b t (only said)) (sym (same_cause f of)) refl))
+    (λ honest b stands. subst (λ t. KeepsWithinSize s a reading reference bytes (unsearched f) b t (only said)) (sym few)
+    (subst (λ t. KeepsOnceSearched s a reading reference bytes (unsearched f) b t (only said)) (sym (same_cause f of)) refl))
 
 -- what is found is what the owner has used the reference for
 under_named : (bytes reference : List ℕ) (b : History) (owner name : List ℕ) (found is : Known) → owner ≡ name
@@ -123,7 +123,7 @@ same_at false serial number e = cc
 
 same_under : (s : Setting) (a : AccountValue) (reading : ℤ) (reference bytes : List ℕ) (o : Outcome) (b : History)
     (under : Option DepositValue) (number : ℕ) → known.Same number ≡ known_in bytes under
-    → KeepsUnder s a reading reference bytes o b under (only (Kept number false))
+    → KeepsByReference s a reading reference bytes o b under (only (Kept number false))
 same_under s a reading reference bytes o b None number e = cc
 same_under s a reading reference bytes o b (Some d) number e = same_at (bytes_eq d.bytes bytes) d.serial number e
 
@@ -134,7 +134,7 @@ other_at false serial e = refl
 
 other_under : (s : Setting) (a : AccountValue) (reading : ℤ) (reference bytes : List ℕ) (o : Outcome) (b : History)
     (under : Option DepositValue) → known.Other ≡ known_in bytes under
-    → KeepsUnder s a reading reference bytes o b under (only (Refused fault.Conflict))
+    → KeepsByReference s a reading reference bytes o b under (only (Refused fault.Conflict))
 other_under s a reading reference bytes o b None e = cc
 other_under s a reading reference bytes o b (Some d) e = other_at (bytes_eq d.bytes bytes) d.serial e
 
@@ -149,7 +149,7 @@ is_same g signs count x s a reading reference bytes old new owner found number f
     let o = all_fine (Ok []) in
     looked g signs count x s (Deposit a reading reference bytes) o old new (Kept number false) looks faults refl
     (refl, (tt, tt)) tt tt
-    (λ honest b stands. subst (λ t. Keeps s a reading reference bytes o b t (only (Kept number false))) (sym few)
+    (λ honest b stands. subst (λ t. KeepsWithinSize s a reading reference bytes o b t (only (Kept number false))) (sym few)
     (same_under s a reading reference bytes o b (deposit_under a.name reference b) number
     (under_named bytes reference b owner a.name found (known.Same number) named told (is honest b stands))))
 
@@ -164,7 +164,7 @@ is_other g signs count x s a reading reference bytes old new owner found few loo
     let o = all_fine (Ok []) in
     looked g signs count x s (Deposit a reading reference bytes) o old new (Refused fault.Conflict) looks faults refl
     (refl, (tt, tt)) tt tt
-    (λ honest b stands. subst (λ t. Keeps s a reading reference bytes o b t (only (Refused fault.Conflict))) (sym few)
+    (λ honest b stands. subst (λ t. KeepsWithinSize s a reading reference bytes o b t (only (Refused fault.Conflict))) (sym few)
     (other_under s a reading reference bytes o b (deposit_under a.name reference b)
     (under_named bytes reference b owner a.name found known.Other named told (is honest b stands))))
 
@@ -208,6 +208,7 @@ blamed_before g c o old mid new fault.NotOwner looks h = tt
 blamed_before g c o old mid new fault.Conflict looks h = tt
 blamed_before g c o old mid new fault.UnknownReader looks h = tt
 blamed_before g c o old mid new fault.SelfGrant looks h = tt
+blamed_before g c o old mid new fault.UnknownGroup looks h = tt
 blamed_before g c o old mid new fault.TooLarge looks h = tt
 blamed_before g c o old mid new (fault.Rejected rule) looks h = tt
 blamed_before g c o old mid new fault.Memory looks h = h

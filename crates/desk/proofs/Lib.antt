@@ -2,7 +2,9 @@ pub mod Acknowledged
 pub mod Added
 pub mod Agreeing
 pub mod Begins
+pub mod Branches
 pub mod Clocks
+pub mod Denied
 pub mod Entered
 pub mod Falling
 pub mod FalseVariants
@@ -20,6 +22,7 @@ pub mod Opened
 pub mod Others
 pub mod Planned
 pub mod Promised
+pub mod Reading
 pub mod Replying
 pub mod Reserves
 pub mod Rows

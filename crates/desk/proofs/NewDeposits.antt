@@ -19,18 +19,19 @@ use Rattle.book.specs.Stands.{Stands, LeavesOrAdds}
 use Rattle.book.specs.Fault.{count_after as count_with}
 use Rattle.book.specs.declared.fault.StoreFault.{StoreFault}
 use Rattle.book.specs.declared.fault.StoreFault.TheVariants as store
+use Rattle.book.specs.Values.{deposit_of}
 use Rattle.desk.specs.Outcome.{Call, Fine, Wanting, Broken, Outcome, Cause, cause_of, counted, all_fine}
 use Rattle.desk.specs.Findings.{PlanValue, Finding, Fails, Unanswered, Allowed, Finds}
 use Rattle.desk.specs.Command.{Setting, PendingValue, Command, Begin, Deposit, Answer, Rejected, Begun, Kept, Refused}
 use Rattle.desk.specs.Texts.{gives_certificate, pending_of, token_with, request_for, octets_for}
 use Rattle.desk.specs.Effects.{Effect, only, fault_of, no_number, no_seal, next_reservation, sealed_or_void}
-use Rattle.desk.specs.Effects.{signed_or_void, stamping_of, begin_effect, begin_found, deposit_row, deposit_effect}
+use Rattle.desk.specs.Effects.{signed_or_void, stamping_of, begin_effect, begin_found, deposit_effect}
 use Rattle.desk.specs.Effects.{deposit_found}
-use Rattle.desk.specs.Steps.{HasEffect, Keeps, KeepsUnless, KeepsUnder, Moves}
+use Rattle.desk.specs.Steps.{HasEffect, KeepsWithinSize, KeepsOnceSearched, KeepsByReference, Moves}
 use Rattle.desk.specs.Runs.{after}
 use Rattle.desk.specs.Fit.{IsFit, IsUncounted, AreGrowths}
 use Rattle.desk.specs.Stepped.{StepsBy, IsBlamed, IsBlamedFor, IsExcused, IsOpened, MayBeLeft, IsDoubted, no_signer}
-use Rattle.desk.specs.Stepped.{settled_by, with_signer}
+use Rattle.desk.specs.Stepped.{with_signer, committed, oldest, in_doubt}
 use Rattle.desk.proofs.Fitting.{unbroken}
 use Rattle.desk.specs.Wholes.{joined}
 use Rattle.desk.specs.Calls.{refused, cause_with, store_cause, signer_cause, IsOfBeginning}
@@ -88,12 +89,12 @@ pub stored : {B : Type 0} (g : Ghosts B) (p : PendingValue) (owner reference byt
     (token : List ℕ) (old new : B) → serial ≡ p.serial → token ≡ token_with p signature
     → g.fault_count new ≡ g.fault_count old
     → (g.honest new → g.is_open old × g.is_open new)
-    → ((b : History) → Stands g b old → Fits (Deposited (deposit_row serial owner reference bytes) token) b
-    → Stands g (Deposited (deposit_row serial owner reference bytes) token ∷ b) new)
-    → KeepsBy g p (deposit_row p.serial owner reference bytes) (Ok signature) (all_fine (Ok [])) old new
+    → ((b : History) → Stands g b old → Fits (Deposited (deposit_of serial owner reference bytes) token) b
+    → Stands g (Deposited (deposit_of serial owner reference bytes) token ∷ b) new)
+    → KeepsBy g p (deposit_of p.serial owner reference bytes) (Ok signature) (all_fine (Ok [])) old new
     (Kept serial true)
 stored g p owner reference bytes signature serial token old new number is same opened ok =
-    let row = λ (n : ℕ). deposit_row n owner reference bytes in
+    let row = λ (n : ℕ). deposit_of n owner reference bytes in
     subst (λ n. KeepsBy g p (row p.serial) (Ok signature) (all_fine (Ok [])) old new (Kept n true)) (sym number)
     (stored_as g p (row p.serial) signature old new same opened
     (subst (λ x. (b : History) → Stands g b old → Fits (Deposited (row p.serial) x) b
@@ -153,11 +154,11 @@ pub unstored : {B : Type 0} (g : Ghosts B) (p : PendingValue) (owner reference b
     → (f ≡ store.Memory) ⊎ (f ≡ store.Database)
     → g.fault_count new ≡ count_with f (g.fault_count old)
     → ((b : History) → Stands g b old → Stands g b new)
-    → LeavesOrAdds g (Deposited (deposit_row serial owner reference bytes) token) old new
-    → KeepsBy g p (deposit_row p.serial owner reference bytes) (Ok signature) (refused (refusal.Sealing f)) old new
+    → LeavesOrAdds g (Deposited (deposit_of serial owner reference bytes) token) old new
+    → KeepsBy g p (deposit_of p.serial owner reference bytes) (Ok signature) (refused (refusal.Sealing f)) old new
     (Refused (fault_of (store_cause f)))
 unstored g p owner reference bytes signature serial token old new f number is which faults err crash =
-    let row = λ (n : ℕ). deposit_row n owner reference bytes in
+    let row = λ (n : ℕ). deposit_of n owner reference bytes in
     unstored_by g p (row p.serial) signature old new f which faults err
     (subst (λ x. LeavesOrAdds g (Deposited (row p.serial) x) old new) is
     (subst (λ n. LeavesOrAdds g (Deposited (row n) token) old new) number crash))
@@ -203,9 +204,9 @@ under_octets : (s : Setting) (a : AccountValue) (reading : ℤ) (reference bytes
     (deposit_found s a.name reference bytes (octets_for s.file a bytes) o b f)
 under_octets s a reading reference bytes o b f few unused spelled fine found =
     let e = deposit_found s a.name reference bytes (octets_for s.file a bytes) o b f in
-    subst (λ x. Keeps s a reading reference bytes o b x e) (sym few)
-    (subst (λ x. KeepsUnless s a reading reference bytes o b (cause_of x) e) (sym fine)
-    (subst (λ x. KeepsUnder s a reading reference bytes o b x e) (sym unused) (spelled, (f, found, refl))))
+    subst (λ x. KeepsWithinSize s a reading reference bytes o b x e) (sym few)
+    (subst (λ x. KeepsOnceSearched s a reading reference bytes o b (cause_of x) e) (sym fine)
+    (subst (λ x. KeepsByReference s a reading reference bytes o b x e) (sym unused) (spelled, (f, found, refl))))
 
 pub is_few : (n : ℕ) → n ≤ 1_048_576 → nat_le n 1_048_576 ≡ true
 is_few n h = grind (arith, nat_tests)
@@ -256,25 +257,61 @@ rejected_found s owner reference bytes octets o b rule (Unanswered cause) e = cc
 rejected_found s owner reference bytes octets o b rule (Allowed plan) e =
     absurd (rejected_by s owner octets b plan rule (no_number o b) e)
 
--- where the signer fails, a deposit adds what a beginning adds
-void_planned : (s : Setting) (owner reference bytes : List ℕ) (plan : PlanValue) (octets : List ℕ) (o : Outcome)
-    (b : History) (why : Option Cause) → o.signing ≡ Err signer.Failed
-    → (deposit_effect s owner reference bytes (stamping_of s owner plan octets o b why)).adds
-    ≡ (begin_effect s owner plan octets b why).adds
-void_planned s owner reference bytes plan octets o b (Some cause) e = refl
-void_planned s owner reference bytes plan octets o b None e =
-    let r = next_reservation s owner plan octets b in
-    ap (λ signing. (deposit_effect s owner reference bytes (signed_or_void (pending_of s plan r) r signing o)).adds) e
+-- the first that a deposit adds is its reservation, as of its beginning
+oldest_sealed : (s : Setting) (owner reference bytes : List ℕ) (r : ReservationValue) (token : List ℕ)
+    (why : Option Cause)
+    → oldest (deposit_effect s owner reference bytes (sealed_or_void r token why)).adds ≡ Reserved r ∷ []
+oldest_sealed s owner reference bytes r token None = refl
+oldest_sealed s owner reference bytes r token (Some cause) = refl
 
-void_found : (s : Setting) (owner reference bytes octets : List ℕ) (o : Outcome) (b : History) (found : Finding)
-    → o.signing ≡ Err signer.Failed
-    → (deposit_found s owner reference bytes octets o b found).adds ≡ (begin_found s owner octets o b found).adds
-void_found s owner reference bytes octets o b (Fails rule) e = refl
-void_found s owner reference bytes octets o b (Unanswered cause) e = refl
-void_found s owner reference bytes octets o b (Allowed plan) e =
-    void_planned s owner reference bytes plan octets o b (no_number o b) e
+oldest_signed : (s : Setting) (owner reference bytes : List ℕ) (p : PendingValue) (r : ReservationValue) (o : Outcome)
+    (signing : Result (List ℕ) SignerFault)
+    → oldest (deposit_effect s owner reference bytes (signed_or_void p r signing o)).adds ≡ Reserved r ∷ []
+oldest_signed s owner reference bytes p r o (Ok signature) =
+    oldest_sealed s owner reference bytes r (token_with p signature) (no_seal o)
+oldest_signed s owner reference bytes p r o (Err signer.Failed) = refl
+oldest_signed s owner reference bytes p r o (Err signer.Memory) = refl
+
+oldest_planned : (s : Setting) (owner reference bytes : List ℕ) (plan : PlanValue) (octets : List ℕ) (o : Outcome)
+    (b : History) (why : Option Cause)
+    → oldest (deposit_effect s owner reference bytes (stamping_of s owner plan octets o b why)).adds
+    ≡ oldest (begin_effect s owner plan octets b why).adds
+oldest_planned s owner reference bytes plan octets o b (Some cause) = refl
+oldest_planned s owner reference bytes plan octets o b None =
+    let r = next_reservation s owner plan octets b in
+    oldest_signed s owner reference bytes (pending_of s plan r) r o o.signing
+
+oldest_found : (s : Setting) (owner reference bytes octets : List ℕ) (o : Outcome) (b : History) (found : Finding)
+    → oldest (deposit_found s owner reference bytes octets o b found).adds
+    ≡ oldest (begin_found s owner octets o b found).adds
+oldest_found s owner reference bytes octets o b (Fails rule) = refl
+oldest_found s owner reference bytes octets o b (Unanswered cause) = refl
+oldest_found s owner reference bytes octets o b (Allowed plan) =
+    oldest_planned s owner reference bytes plan octets o b (no_number o b)
 
 -- what is in doubt after a beginning that added nothing is in doubt after its deposit
+doubted_first : {B : Type 0} (g : Ghosts B) (s : Setting) (c : Command) (a : AccountValue) (reading : ℤ)
+    (reference bytes octets : List ℕ) (P : History → Type 0) (o : Outcome) (b : History) (old : B)
+    (answer : Answer) (left : g.Left) → IsNew g s c a reading reference bytes octets P → P b → o.searching ≡ Fine
+    → (call : Call) → o.adding ≡ call → ((entries : List Entry) → in_doubt call entries ≡ oldest entries)
+    → IsDoubted g s (Begin (Some a) reading octets) o b left
+    → MayBeLeft g s c o b old (only answer) left
+doubted_first g s c a reading reference bytes octets P o b old answer left new p fine call is first d =
+    let has = d.has in
+    let doubted = deposit_found s a.name reference bytes octets (committed o) b has.0 in
+    let same : in_doubt call d.doubted.adds ≡ in_doubt call doubted.adds =
+    ap (λ x. in_doubt call x.adds) has.2
+    ∙ (first (begin_found s a.name octets (committed o) b has.0).adds
+    ∙ (sym (oldest_found s a.name reference bytes octets (committed o) b has.0) ∙ sym (first doubted.adds))) in
+    inr (inr (record {
+      refused = d.refused;
+      doubted = doubted;
+      has = new.has (committed o) b has.0 p fine has.1;
+      holds = subst (λ x. g.holds left (in_doubt x doubted.adds ++ b)) (sym is)
+          (subst (λ es. g.holds left (es ++ b)) same
+          (subst (λ x. g.holds left (in_doubt x d.doubted.adds ++ b)) is d.holds));
+    }))
+
 doubted : {B : Type 0} (g : Ghosts B) (s : Setting) (c : Command) (a : AccountValue) (reading : ℤ)
     (reference bytes octets : List ℕ) (P : History → Type 0) (o : Outcome) (b : History) (old : B)
     (answer : Answer) (left : g.Left) → IsNew g s c a reading reference bytes octets P → P b → o.searching ≡ Fine
@@ -284,27 +321,11 @@ doubted : {B : Type 0} (g : Ghosts B) (s : Setting) (c : Command) (a : AccountVa
 doubted g s c a reading reference bytes octets P o b old answer left new p fine sealed Fine is d =
     absurd (d.refused is sealed)
 doubted g s c a reading reference bytes octets P o b old answer left new p fine sealed Wanting is d =
-    let has = subst (λ x. HasEffect s (Begin (Some a) reading octets) (settled_by x o) b d.doubted) is d.has in
-    let o2 = record o { adding = Fine; signing = Err signer.Failed } in
-    let e = deposit_found s a.name reference bytes octets o2 b has.0 in
-    inr (inr (record {
-      refused = d.refused;
-      doubted = e;
-      has = subst (λ x. HasEffect s c (settled_by x o) b e) (sym is) (new.has o2 b has.0 p fine has.1);
-      holds = subst (λ es. g.holds left (es ++ b))
-          (ap (λ x. x.adds) has.2 ∙ sym (void_found s a.name reference bytes octets o2 b has.0 refl)) d.holds;
-    }))
+    doubted_first g s c a reading reference bytes octets P o b old answer left new p fine Wanting is
+    (λ entries. refl) d
 doubted g s c a reading reference bytes octets P o b old answer left new p fine sealed Broken is d =
-    let has = subst (λ x. HasEffect s (Begin (Some a) reading octets) (settled_by x o) b d.doubted) is d.has in
-    let o2 = record o { adding = Fine; signing = Err signer.Failed } in
-    let e = deposit_found s a.name reference bytes octets o2 b has.0 in
-    inr (inr (record {
-      refused = d.refused;
-      doubted = e;
-      has = subst (λ x. HasEffect s c (settled_by x o) b e) (sym is) (new.has o2 b has.0 p fine has.1);
-      holds = subst (λ es. g.holds left (es ++ b))
-          (ap (λ x. x.adds) has.2 ∙ sym (void_found s a.name reference bytes octets o2 b has.0 refl)) d.holds;
-    }))
+    doubted_first g s c a reading reference bytes octets P o b old answer left new p fine Broken is
+    (λ entries. refl) d
 
 -- a deposit that its beginning decides: nothing is added, and no signer is asked
 decided : {B X : Type 0} (g : Ghosts B) (signs : X → List ℕ → Result (List ℕ) SignerFault → X → Type 0)
@@ -377,6 +398,7 @@ blamed_too g one other o old new fault.NotOwner excused h = tt
 blamed_too g one other o old new fault.Conflict excused h = tt
 blamed_too g one other o old new fault.UnknownReader excused h = tt
 blamed_too g one other o old new fault.SelfGrant excused h = tt
+blamed_too g one other o old new fault.UnknownGroup excused h = tt
 blamed_too g one other o old new fault.TooLarge excused h = tt
 blamed_too g one other o old new (fault.Rejected rule) excused h = tt
 blamed_too g one other o old new fault.Memory excused h = h
@@ -408,14 +430,14 @@ begun_by s owner octets b plan p (Some cause) e = cc
 
 sealed_kept : (s : Setting) (plan : PlanValue) (r : ReservationValue) (owner reference bytes signature : List ℕ)
     (why : Option Cause)
-    → kept_by (pending_of s plan r) (deposit_row r.serial owner reference bytes) signature (Reserved r ∷ []) why
+    → kept_by (pending_of s plan r) (deposit_of r.serial owner reference bytes) signature (Reserved r ∷ []) why
     ≡ deposit_effect s owner reference bytes (sealed_or_void r (token_with (pending_of s plan r) signature) why)
 sealed_kept s plan r owner reference bytes signature None = refl
 sealed_kept s plan r owner reference bytes signature (Some cause) = refl
 
 signed_kept : (s : Setting) (plan : PlanValue) (r : ReservationValue) (owner reference bytes : List ℕ)
     (o finished : Outcome) (signing : Result (List ℕ) SignerFault)
-    → kept (pending_of s plan r) (deposit_row r.serial owner reference bytes) signing (Reserved r ∷ []) finished
+    → kept (pending_of s plan r) (deposit_of r.serial owner reference bytes) signing (Reserved r ∷ []) finished
     ≡ deposit_effect s owner reference bytes (signed_or_void (pending_of s plan r) r signing
     (joined o signing finished))
 signed_kept s plan r owner reference bytes o finished (Ok signature) =
@@ -426,14 +448,14 @@ signed_kept s plan r owner reference bytes o finished (Err signer.Memory) = refl
 kept_found : (s : Setting) (owner reference bytes octets : List ℕ) (o finished : Outcome)
     (signing : Result (List ℕ) SignerFault) (b : History) (p : PendingValue) (f : Finding)
     → (begin_found s owner octets o b f).says ≡ Begun p
-    → kept p (deposit_row p.serial owner reference bytes) signing (begin_found s owner octets o b f).adds finished
+    → kept p (deposit_of p.serial owner reference bytes) signing (begin_found s owner octets o b f).adds finished
     ≡ deposit_found s owner reference bytes octets (joined o signing finished) b f
 kept_found s owner reference bytes octets o finished signing b p (Fails rule) e = cc
 kept_found s owner reference bytes octets o finished signing b p (Unanswered cause) e = cc
 kept_found s owner reference bytes octets o finished signing b p (Allowed plan) e =
     let by = begun_by s owner octets b plan p (no_number o b) e in
     let r = next_reservation s owner plan octets b in
-    let row = λ (n : ℕ). deposit_row n owner reference bytes in
+    let row = λ (n : ℕ). deposit_of n owner reference bytes in
     ap (λ (x : Effect). kept p (row p.serial) signing x.adds finished) (ap (begin_effect s owner plan octets b) by.0)
     ∙ (ap (λ (x : PendingValue). kept x (row x.serial) signing (Reserved r ∷ []) finished) by.1
     ∙ (signed_kept s plan r owner reference bytes o finished signing
@@ -443,7 +465,7 @@ kept_found s owner reference bytes octets o finished signing b p (Allowed plan) 
 -- the deposit fits after its reservation
 fits_reserved : (r : ReservationValue) (owner reference bytes : List ℕ) (b : History) → Along Fits b
     → greatest_serial b < r.serial → r.account ≡ owner → deposit_under owner reference b ≡ None
-    → FitsDeposited (deposit_row r.serial owner reference bytes) (Reserved r ∷ b)
+    → FitsDeposited (deposit_of r.serial owner reference bytes) (Reserved r ∷ b)
 fits_reserved r owner reference bytes b sound above own unused = record {
   sealed = record {
     reservation = r;
@@ -457,12 +479,12 @@ fits_reserved r owner reference bytes b sound above own unused = record {
 fits_begun : (s : Setting) (a : AccountValue) (reading : ℤ) (reference bytes octets : List ℕ) (b : History)
     (p : PendingValue) (e : Effect) → Along Fits b → deposit_under a.name reference b ≡ None
     → IsBegun s (Some a) reading octets b p e
-    → FitsDeposited (deposit_row p.serial a.name reference bytes) (after e b)
+    → FitsDeposited (deposit_of p.serial a.name reference bytes) (after e b)
 fits_begun s a reading reference bytes octets b p e sound unused begun =
     let r = next_reservation s a.name begun.plan octets b in
-    subst (λ (x : PendingValue). FitsDeposited (deposit_row x.serial a.name reference bytes) (after e b))
+    subst (λ (x : PendingValue). FitsDeposited (deposit_of x.serial a.name reference bytes) (after e b))
     (sym begun.pending)
-    (subst (λ es. FitsDeposited (deposit_row r.serial a.name reference bytes) (es ++ b))
+    (subst (λ es. FitsDeposited (deposit_of r.serial a.name reference bytes) (es ++ b))
     (sym (ap (λ x. x.adds) begun.effect))
     (fits_reserved r a.name reference bytes b sound (omega arith) refl unused))
 
@@ -505,7 +527,7 @@ pub record IsReserved (s : Setting) (c : Command) (a : AccountValue) (reading : 
   pub begun : IsBegun s (Some a) reading octets b p e
   pub has : (signing : Result (List ℕ) SignerFault) (finished : Outcome)
       → HasEffect s c (joined (all_fine (Ok [])) signing finished) b
-      (kept p (deposit_row p.serial a.name reference bytes) signing e.adds finished)
+      (kept p (deposit_of p.serial a.name reference bytes) signing e.adds finished)
 
 reserved : {B : Type 0} (g : Ghosts B) (s : Setting) (c : Command) (a : AccountValue) (reading : ℤ) (reference bytes octets : List ℕ)
     (P : History → Type 0) (b : History) (p : PendingValue) (e : Effect)
@@ -514,7 +536,7 @@ reserved : {B : Type 0} (g : Ghosts B) (s : Setting) (c : Command) (a : AccountV
     → IsReserved s c a reading reference bytes octets b p e
 reserved g s c a reading reference bytes octets P b p e is_new holds h said =
     let o = all_fine (Ok []) in
-    let d = deposit_row p.serial a.name reference bytes in
+    let d = deposit_of p.serial a.name reference bytes in
     record {
       begun = (stamp_begun s (Some a) reading octets o o (Ok []) b e p h said).0;
       has = λ signing finished.
@@ -533,11 +555,11 @@ left_kept : {B : Type 0} (g : Ghosts B) (s : Setting) (c : Command) (a : Account
     → IsReserved s c a reading reference bytes octets b p e
     → ((left : g.Left) → g.leaves mid left
     → MayBeLeft g s (Begin (Some a) reading octets) (all_fine (Ok [])) b old e left)
-    → MayStayKept g p (deposit_row p.serial a.name reference bytes) signing finished (after e b) mid left
+    → MayStayKept g p (deposit_of p.serial a.name reference bytes) signing finished (after e b) mid left
     → MayBeLeft g s c (joined (all_fine (Ok [])) signing finished) b old
-    (kept p (deposit_row p.serial a.name reference bytes) signing e.adds finished) left
+    (kept p (deposit_of p.serial a.name reference bytes) signing e.adds finished) left
 left_kept g s c a reading reference bytes octets p signing finished b old mid e left is before (inl none) =
-    let d = deposit_row p.serial a.name reference bytes in
+    let d = deposit_of p.serial a.name reference bytes in
     elim (before left none.1) [
       | inl nothing ↦ absurd (begun_adds s (Some a) reading octets b p e is.begun nothing.0)
       | inr (inl holds) ↦ inr (inl (subst (λ es. g.holds left es)
@@ -545,10 +567,10 @@ left_kept g s c a reading reference bytes octets p signing finished b old mid e 
       | inr (inr doubt) ↦ absurd (sure g s (Some a) reading octets b left doubt)
     ]
 left_kept g s c a reading reference bytes octets p signing finished b old mid e left is before (inr (inl holds)) =
-    let d = deposit_row p.serial a.name reference bytes in
+    let d = deposit_of p.serial a.name reference bytes in
     inr (inl (subst (λ es. g.holds left es) (added p d signing finished e.adds b) holds))
 left_kept g s c a reading reference bytes octets p signing finished b old mid e left is before (inr (inr doubt)) =
-    let d = deposit_row p.serial a.name reference bytes in
+    let d = deposit_of p.serial a.name reference bytes in
     let sealed = record finished { sealing = Fine } in
     inr (inr (record {
       refused = λ adding sealing. doubt.0 sealing;
@@ -565,7 +587,7 @@ pub is_kept : {B X : Type 0} (g : Ghosts B) (signs : X → List ℕ → Result (
     → IsNew g s c a reading reference bytes octets P
     → StepsBy g no_signer s (Begin (Some a) reading octets) (all_fine (Ok [])) old mid (Begun p)
     → (g.honest new → g.honest mid)
-    → SignsAndKeeps g (with_signer signs count x y) p (deposit_row p.serial a.name reference bytes) signing finished
+    → SignsAndKeeps g (with_signer signs count x y) p (deposit_of p.serial a.name reference bytes) signing finished
     mid new answer
     → StepsWhere g (with_signer signs count x y) s c P (joined (all_fine (Ok [])) signing finished) old new answer
 is_kept g signs count x y s c a reading reference bytes octets P p signing finished old mid new answer is_new begin
@@ -576,7 +598,7 @@ is_kept g signs count x y s c a reading reference bytes octets P p signing finis
       blames = done.keeps.blames c old;
       opened = done.keeps.opened c;
       steps = λ kept_disk b stands holds.
-          let d = deposit_row p.serial a.name reference bytes in
+          let d = deposit_of p.serial a.name reference bytes in
           let h = begin.steps (honest kept_disk) b stands tt in
           let is = reserved g s c a reading reference bytes octets P b p h.effect is_new holds h.has (sym h.says) in
           let fits = fits_begun s a reading reference bytes octets b p h.effect stands.sound (is_new.unused b holds)

@@ -18,7 +18,7 @@ use Rattle.desk.specs.Command.{Setting, Command, Stamp, Begin, Finish, Abandon, 
 use Rattle.desk.specs.Command.{Revoke, Calibrate, Hold}
 use Rattle.desk.specs.Effects.{Effect, stamp_found, begin_found, deposit_found, name_of}
 use Rattle.desk.specs.Facts.{facts_of}
-use Rattle.desk.specs.Steps.{KeepsUnder, KeepsUnless, Keeps, HasEffect}
+use Rattle.desk.specs.Steps.{KeepsByReference, KeepsOnceSearched, KeepsWithinSize, HasEffect}
 use Rattle.desk.specs.Texts.{octets_for}
 use Rattle.desk.proofs.Headline.{one_first}
 use Rattle.desk.proofs.Sound.{TextLaws}
@@ -125,8 +125,8 @@ one_finding laws file account reading octets o b (Allowed plan) (Allowed other) 
     ap Allowed (one_plan laws file account reading octets b plan other h.0 k.0)
 
 one_under : TextLaws → (s : Setting) (a : AccountValue) (reading : ℤ) (reference bytes : List ℕ) (o : Outcome)
-    (b : History) (under : Option DepositValue) (e d : Effect) → KeepsUnder s a reading reference bytes o b under e
-    → KeepsUnder s a reading reference bytes o b under d → e ≡ d
+    (b : History) (under : Option DepositValue) (e d : Effect) → KeepsByReference s a reading reference bytes o b under e
+    → KeepsByReference s a reading reference bytes o b under d → e ≡ d
 one_under laws s a reading reference bytes o b (Some x) e d h k = h ∙ sym k
 one_under laws s a reading reference bytes o b None e d h k =
     let octets = octets_for s.file a bytes in
@@ -135,15 +135,15 @@ one_under laws s a reading reference bytes o b None e d h k =
     (one_finding laws s.file (Some a) reading octets o b h.1.0 k.1.0 h.1.1 k.1.1) ∙ sym k.1.2)
 
 one_unless : TextLaws → (s : Setting) (a : AccountValue) (reading : ℤ) (reference bytes : List ℕ) (o : Outcome)
-    (b : History) (refused : Option Cause) (e d : Effect) → KeepsUnless s a reading reference bytes o b refused e
-    → KeepsUnless s a reading reference bytes o b refused d → e ≡ d
+    (b : History) (refused : Option Cause) (e d : Effect) → KeepsOnceSearched s a reading reference bytes o b refused e
+    → KeepsOnceSearched s a reading reference bytes o b refused d → e ≡ d
 one_unless laws s a reading reference bytes o b (Some cause) e d h k = h ∙ sym k
 one_unless laws s a reading reference bytes o b None e d h k =
     one_under laws s a reading reference bytes o b (deposit_under a.name reference b) e d h k
 
 one_keeps : TextLaws → (s : Setting) (a : AccountValue) (reading : ℤ) (reference bytes : List ℕ) (o : Outcome)
-    (b : History) (short : Bool) (e d : Effect) → Keeps s a reading reference bytes o b short e
-    → Keeps s a reading reference bytes o b short d → e ≡ d
+    (b : History) (short : Bool) (e d : Effect) → KeepsWithinSize s a reading reference bytes o b short e
+    → KeepsWithinSize s a reading reference bytes o b short d → e ≡ d
 one_keeps laws s a reading reference bytes o b true e d h k =
     one_unless laws s a reading reference bytes o b (cause_of o.searching) e d h k
 one_keeps laws s a reading reference bytes o b false e d h k = h ∙ sym k

@@ -7,22 +7,27 @@ use Rattle.std.specs.Str.{bytes_eq}
 use Rattle.std.proofs.lemmas.Bool.{eqb-true}
 use Rattle.policy.specs.Record.{AccountValue}
 use Rattle.book.specs.Rows.{StampRow, DepositRow}
-use Rattle.book.specs.History.{deposits, Entry, Reserved, Sealed, Deposited, Calibrated, Held, Granted, Revoked}
+use Rattle.book.specs.History.{deposits, Reserved, Sealed, Deposited, Calibrated, Held, Granted, Revoked}
 use Rattle.book.specs.History.{History, ReservationValue, reservations, stamps, stamp_of, greatest_of, greatest_serial}
 use Rattle.book.specs.History.{token_of, reservation_at, deposit_at, deposit_under}
-use Rattle.book.specs.Rights.{seen_by, shown_to, is_reader, listed}
+use Rattle.book.specs.Readers.{Reader, is_same, Viewer}
+use Rattle.book.specs.Rights.{seen_by, shown_to, is_reader, may_read, listed}
+use Rattle.book.proofs.Rights.{reader_after_grant, reader_after_revocation}
 use Rattle.book.specs.Sound.{Along, Fits, FitsRight}
+use Rattle.book.specs.Values.{deposit_of}
 use Rattle.desk.specs.Agreement.{SeenValue, seen_as, seen_at}
-use Rattle.desk.specs.Outcome.{Outcome, Cause, cause_of, first_cause}
+use Rattle.desk.specs.Outcome.{Outcome, Cause, cause_of}
 use Rattle.desk.specs.Findings.{Finding, Fails, Unanswered, Allowed}
 use Rattle.desk.specs.Command.{Setting, Command, Stamp, Begin, Finish, Abandon, Deposit, Show, Token, ListAll, Grant}
 use Rattle.desk.specs.Command.{Revoke, Calibrate, Hold, Listed}
 use Rattle.desk.specs.Texts.{octets_for}
 use Rattle.desk.specs.Effects.{Effect, unless, Stamping, Unreserved, Void, Sealing, no_number, next_reservation}
-use Rattle.desk.specs.Effects.{stamping_of, stamp_effect, stamp_found, deposit_row, deposit_effect, deposit_found}
-use Rattle.desk.specs.Effects.{right_effect}
-use Rattle.desk.specs.Steps.{KeepsUnder, KeepsUnless, Keeps, HasEffect}
+use Rattle.desk.specs.Effects.{stamping_of, stamp_effect, stamp_found, deposit_effect, deposit_found}
+use Rattle.desk.specs.Effects.{right_effect, no_sight}
+use Rattle.desk.specs.Steps.{KeepsByReference, KeepsOnceSearched, KeepsWithinSize, HasEffect}
 use Rattle.desk.specs.Laws.{IsCommandOfOther, Concerns, StaysFor}
+use Rattle.desk.specs.Viewers.{viewer_in}
+use Rattle.desk.proofs.Reading.{nobody_reads, seen_beside_grant, seen_beside_revocation}
 use Rattle.desk.proofs.Views.{sealed_below, deposit_sealed}
 use Rattle.desk.proofs.Stepping.{right_seen, shows_none, tokens_none, answers_none, IsAtMost, at_most_unless}
 use Rattle.desk.proofs.Stepping.{right_at_most}
@@ -32,48 +37,47 @@ deposit_below : (b : History) → Along Fits b → (n : ℕ) → FitsRight n b �
 deposit_below b sound n fits =
     let token = deposit_sealed b n fits.deposit fits.deposited in sealed_below b sound n token.0 token.1
 
-right_below : (b : History) → Along Fits b → (m n : ℕ) (account : List ℕ) (same named given : Bool) → (m == n)
-    ≡ same → FitsRight m b
-    → (is_reader n account b ≡ true → n ≤ greatest_serial b) → cond (same && named) given (is_reader n account b)
-    ≡ true → n ≤ greatest_serial b
-right_below b sound m n account true true given is fits later e =
+right_below : (b : History) → Along Fits b → (m n : ℕ) (reader : Reader) (same named given : Bool) → (m == n) ≡ same
+    → FitsRight m b → (is_reader n reader b ≡ true → n ≤ greatest_serial b)
+    → cond (same && named) given (is_reader n reader b) ≡ true → n ≤ greatest_serial b
+right_below b sound m n reader true true given is fits later e =
     let number : m ≡ n = eqb-true m n is in
     let low = deposit_below b sound m fits in
     omega arith
-right_below b sound m n account true false given is fits later e = later e
-right_below b sound m n account false named given is fits later e = later e
+right_below b sound m n reader true false given is fits later e = later e
+right_below b sound m n reader false named given is fits later e = later e
 
 -- rights are to deposits that stand
-reader_of_deposit : (b : History) → Along Fits b → (n : ℕ) (account : List ℕ) → is_reader n account b ≡ true
+reader_of_deposit : (b : History) → Along Fits b → (n : ℕ) (reader : Reader) → is_reader n reader b ≡ true
     → n ≤ greatest_serial b
-reader_of_deposit [] sound n account e = cc
-reader_of_deposit (Reserved r ∷ b) sound n account e = let low = reader_of_deposit b sound.1 n account e in omega
-    arith
-reader_of_deposit (Sealed m t ∷ b) sound n account e = reader_of_deposit b sound.1 n account e
-reader_of_deposit (Deposited d t ∷ b) sound n account e = reader_of_deposit b sound.1 n account e
-reader_of_deposit (Calibrated c ∷ b) sound n account e = reader_of_deposit b sound.1 n account e
-reader_of_deposit (Held h ∷ b) sound n account e = reader_of_deposit b sound.1 n account e
-reader_of_deposit (Granted m a ∷ b) sound n account e =
-    right_below b sound.1 m n account (m == n) (bytes_eq a account) true refl sound.0
-    (reader_of_deposit b sound.1 n account) e
-reader_of_deposit (Revoked m a ∷ b) sound n account e =
-    right_below b sound.1 m n account (m == n) (bytes_eq a account) false refl sound.0
-    (reader_of_deposit b sound.1 n account) e
+reader_of_deposit [] sound n reader e = cc
+reader_of_deposit (Reserved r ∷ b) sound n reader e =
+    let low = reader_of_deposit b sound.1 n reader e in omega arith
+reader_of_deposit (Sealed m t ∷ b) sound n reader e = reader_of_deposit b sound.1 n reader e
+reader_of_deposit (Deposited d t ∷ b) sound n reader e = reader_of_deposit b sound.1 n reader e
+reader_of_deposit (Calibrated c ∷ b) sound n reader e = reader_of_deposit b sound.1 n reader e
+reader_of_deposit (Held h ∷ b) sound n reader e = reader_of_deposit b sound.1 n reader e
+reader_of_deposit (Granted m x ∷ b) sound n reader e =
+    right_below b sound.1 m n reader (m == n) (is_same x reader) true refl sound.0
+    (reader_of_deposit b sound.1 n reader) (sym (reader_after_grant n reader m x b) ∙ e)
+reader_of_deposit (Revoked m x ∷ b) sound n reader e =
+    right_below b sound.1 m n reader (m == n) (is_same x reader) false refl sound.0
+    (reader_of_deposit b sound.1 n reader) (sym (reader_after_revocation n reader m x b) ∙ e)
 
 false_where : (t : Bool) → (t ≡ true → ⊥) → t ≡ false
 false_where true h = absurd (h refl)
 false_where false h = refl
 
 -- a reservation of another account
-other_reserved : (account : List ℕ) (concerned : ℕ → Type 0) (b : History) (r : ReservationValue) → Along Fits b
-    → bytes_eq r.account account ≡ false → greatest_serial b < r.serial
-    → StaysFor account concerned b (Reserved r ∷ b)
-other_reserved account concerned b r sound other above = record {
+other_reserved : (viewer : Viewer) (concerned : ℕ → Type 0) (b : History) (r : ReservationValue) → Along Fits b
+    → bytes_eq r.account viewer.name ≡ false → greatest_serial b < r.serial
+    → StaysFor viewer concerned b (Reserved r ∷ b)
+other_reserved viewer concerned b r sound other above = record {
   own_stamps = sym (ap (λ t. cond t (stamp_of (token_of r.serial b) r
-      ∷ filter (λ s. bytes_eq s.account account) (stamps b)) (filter (λ s. bytes_eq s.account account)
+      ∷ filter (λ s. bytes_eq s.account viewer.name) (stamps b)) (filter (λ s. bytes_eq s.account viewer.name)
       (stamps b))) other);
   own_deposits = refl;
-  seen = λ n free. sym (seen_beside account n b r sound above (seen_by account n b) refl);
+  seen = λ n free. sym (seen_beside viewer n b r sound above (seen_by viewer n b) refl);
   calibration = refl;
   holding = refl;
 }
@@ -91,272 +95,263 @@ unsealed_rows n t token (r ∷ rs) above =
     ∙ ap (λ xs. stamp_of (token r.serial) r ∷ xs) (unsealed_rows n t token rs (omega arith))
 
 -- a stamp of another account, sealed
-seen_stamped : (account : List ℕ) (m : ℕ) (r : ReservationValue) (t : List ℕ) (b : History) → Along Fits b
+seen_stamped : (viewer : Viewer) (m : ℕ) (r : ReservationValue) (t : List ℕ) (b : History) → Along Fits b
     → greatest_serial b < r.serial
-    → (seen : Option DepositRow) → seen_by account m b ≡ seen
+    → (seen : Option DepositRow) → seen_by viewer m b ≡ seen
     → option_map (seen_as m (Sealed r.serial t ∷ Reserved r ∷ b)) seen ≡ option_map (seen_as m b) seen
-seen_stamped account m r t b sound above None is = refl
-seen_stamped account m r t b sound above (Some d) is =
-    let low = deposit_below b sound m (right_seen account m b d is) in
+seen_stamped viewer m r t b sound above None is = refl
+seen_stamped viewer m r t b sound above (Some d) is =
+    let low = deposit_below b sound m (right_seen viewer m b d is) in
     ap (λ same. Some (record {
       deposit = d;
       gen_time = option_map (λ x. x.gen_time) (cond same (Some r) (reservation_at m b));
       token = cond same (Some t) (token_of m b);
     })) (differ r.serial m (omega arith))
 
-own_stamps_stay : (account : List ℕ) (b : History) (r : ReservationValue) (t : List ℕ) → bytes_eq r.account account
+own_stamps_stay : (viewer : Viewer) (b : History) (r : ReservationValue) (t : List ℕ) → bytes_eq r.account viewer.name
     ≡ false → greatest_serial b < r.serial
-    → filter (λ s. bytes_eq s.account account) (stamps b)
-    ≡ filter (λ s. bytes_eq s.account account) (rows (λ m. cond (r.serial == m) (Some t) (token_of m b)) (r
+    → filter (λ s. bytes_eq s.account viewer.name) (stamps b)
+    ≡ filter (λ s. bytes_eq s.account viewer.name) (rows (λ m. cond (r.serial == m) (Some t) (token_of m b)) (r
     ∷ reservations b))
-own_stamps_stay account b r t other above =
+own_stamps_stay viewer b r t other above =
     let sealed = rows (λ m. cond (r.serial == m) (Some t) (token_of m b)) (reservations b) in
     let dropped = ap (λ mine. cond mine (stamp_of (cond (r.serial == r.serial) (Some t) (token_of r.serial b)) r
-    ∷ filter (λ s. bytes_eq s.account account) sealed)
-    (filter (λ s. bytes_eq s.account account) sealed)) other in
-    sym (dropped ∙ ap (filter (λ s. bytes_eq s.account account)) (unsealed_rows r.serial t (λ m. token_of m b)
+    ∷ filter (λ s. bytes_eq s.account viewer.name) sealed)
+    (filter (λ s. bytes_eq s.account viewer.name) sealed)) other in
+    sym (dropped ∙ ap (filter (λ s. bytes_eq s.account viewer.name)) (unsealed_rows r.serial t (λ m. token_of m b)
     (reservations b) above))
 
-other_sealed : (account : List ℕ) (concerned : ℕ → Type 0) (b : History) (r : ReservationValue) (t : List ℕ)
-    → Along Fits b → bytes_eq r.account account ≡ false
-    → greatest_serial b < r.serial → StaysFor account concerned b (Sealed r.serial t ∷ Reserved r ∷ b)
-other_sealed account concerned b r t sound other above = record {
-  own_stamps = own_stamps_stay account b r t other above;
+other_sealed : (viewer : Viewer) (concerned : ℕ → Type 0) (b : History) (r : ReservationValue) (t : List ℕ)
+    → Along Fits b → bytes_eq r.account viewer.name ≡ false
+    → greatest_serial b < r.serial → StaysFor viewer concerned b (Sealed r.serial t ∷ Reserved r ∷ b)
+other_sealed viewer concerned b r t sound other above = record {
+  own_stamps = own_stamps_stay viewer b r t other above;
   own_deposits = refl;
-  seen = λ m free. sym (seen_stamped account m r t b sound above (seen_by account m b) refl);
+  seen = λ m free. sym (seen_stamped viewer m r t b sound above (seen_by viewer m b) refl);
   calibration = refl;
   holding = refl;
 }
 
 -- a deposit of another account
-abbrev seen_new : List ℕ → ℕ → DepositRow → ReservationValue → List ℕ → History → Bool → Option SeenValue
-seen_new account m d r t b same =
+abbrev seen_new : Viewer → ℕ → DepositRow → ReservationValue → List ℕ → History → Bool → Option SeenValue
+seen_new viewer m d r t b same =
     option_map (λ x. record {
       deposit = x;
       gen_time = option_map (λ y. y.gen_time) (cond same (Some r) (reservation_at m b));
       token = cond same (Some t) (token_of m b);
-    }) (option_and_then (shown_to account (is_reader m account b)) (cond same (Some d) (deposit_at m b)))
+    }) (option_and_then (shown_to viewer (may_read viewer m b)) (cond same (Some d) (deposit_at m b)))
 
-none_seen : (account : List ℕ) (m : ℕ) (b : History) → Along Fits b → greatest_serial b < m
-    → (seen : Option DepositRow) → seen_by account m b ≡ seen
+none_seen : (viewer : Viewer) (m : ℕ) (b : History) → Along Fits b → greatest_serial b < m
+    → (seen : Option DepositRow) → seen_by viewer m b ≡ seen
     → None ≡ option_map (seen_as m b) seen
-none_seen account m b sound above None is = refl
-none_seen account m b sound above (Some d) is =
-    let low = deposit_below b sound m (right_seen account m b d is) in absurd (omega arith)
+none_seen viewer m b sound above None is = refl
+none_seen viewer m b sound above (Some d) is =
+    let low = deposit_below b sound m (right_seen viewer m b d is) in absurd (omega arith)
 
-new_unseen : (account : List ℕ) (m : ℕ) (d : DepositRow) (r : ReservationValue) (t : List ℕ) (b : History)
-    → Along Fits b → bytes_eq d.owner account ≡ false
-    → greatest_serial b < r.serial → (same : Bool) → (r.serial == m) ≡ same → seen_new account m d r t b same
-    ≡ seen_at account m b
-new_unseen account m d r t b sound other above true is =
+new_unseen : (viewer : Viewer) (m : ℕ) (d : DepositRow) (r : ReservationValue) (t : List ℕ) (b : History)
+    → Along Fits b → bytes_eq d.owner viewer.name ≡ false
+    → greatest_serial b < r.serial → (same : Bool) → (r.serial == m) ≡ same → seen_new viewer m d r t b same
+    ≡ seen_at viewer m b
+new_unseen viewer m d r t b sound other above true is =
     let number : r.serial ≡ m = eqb-true r.serial m is in
-    let no_reader : is_reader m account b ≡ false =
-    false_where (is_reader m account b) (λ e. let low = reader_of_deposit b sound m account e in omega arith) in
-    let hidden : (bytes_eq d.owner account || is_reader m account b)
-    ≡ false = ap (λ o. o || is_reader m account b) other ∙ no_reader in
+    let no_reader : may_read viewer m b ≡ false = nobody_reads viewer m b (λ reader.
+    false_where (is_reader m reader b) (λ e. let low = reader_of_deposit b sound m reader e in omega arith)) in
+    let hidden : (bytes_eq d.owner viewer.name || may_read viewer m b)
+    ≡ false = ap (λ o. o || may_read viewer m b) other ∙ no_reader in
     ap (λ t2. option_map (λ x. record { deposit = x; gen_time = Some r.gen_time; token = Some t })
     (cond t2 (Some d) None)) hidden
-    ∙ none_seen account m b sound (omega arith) (seen_by account m b) refl
-new_unseen account m d r t b sound other above false is = refl
+    ∙ none_seen viewer m b sound (omega arith) (seen_by viewer m b) refl
+new_unseen viewer m d r t b sound other above false is = refl
 
-other_deposited : (account : List ℕ) (concerned : ℕ
+other_deposited : (viewer : Viewer) (concerned : ℕ
     → Type 0) (b : History) (r : ReservationValue) (owner reference bytes t : List ℕ) → Along Fits b
-    → bytes_eq owner account ≡ false → bytes_eq r.account account ≡ false → greatest_serial b < r.serial
-    → StaysFor account concerned b (Deposited (deposit_row r.serial owner reference bytes) t ∷ Reserved r ∷ b)
-other_deposited account concerned b r owner reference bytes t sound other_owner other above =
-    let d = deposit_row r.serial owner reference bytes in
+    → bytes_eq owner viewer.name ≡ false → bytes_eq r.account viewer.name ≡ false → greatest_serial b < r.serial
+    → StaysFor viewer concerned b (Deposited (deposit_of r.serial owner reference bytes) t ∷ Reserved r ∷ b)
+other_deposited viewer concerned b r owner reference bytes t sound other_owner other above =
+    let d = deposit_of r.serial owner reference bytes in
     record {
-      own_stamps = own_stamps_stay account b r t other above;
-      own_deposits = sym (ap (λ mine. cond mine (d ∷ filter (λ x. bytes_eq x.owner account) (deposits b))
-          (filter (λ x. bytes_eq x.owner account) (deposits b))) other_owner);
-      seen = λ m free. sym (new_unseen account m d r t b sound other_owner above (r.serial == m) refl);
+      own_stamps = own_stamps_stay viewer b r t other above;
+      own_deposits = sym (ap (λ mine. cond mine (d ∷ filter (λ x. bytes_eq x.owner viewer.name) (deposits b))
+          (filter (λ x. bytes_eq x.owner viewer.name) (deposits b))) other_owner);
+      seen = λ m free. sym (new_unseen viewer m d r t b sound other_owner above (r.serial == m) refl);
       calibration = refl;
       holding = refl;
     }
 
--- a right to a deposit that isn't this one
-right_stays : (account : List ℕ) (b : History) (n : ℕ) (x : List ℕ) (given : Bool) (m : ℕ) → (n ≡ m → ⊥)
-    → seen_at account m b
-    ≡ option_map (seen_as m b) (option_and_then (shown_to account (cond ((n == m) && bytes_eq x account) given
-    (is_reader m account b))) (deposit_at m b))
-right_stays account b n x given m free =
-    sym (ap (λ t. option_map (seen_as m b) (option_and_then (shown_to account (cond (t && bytes_eq x account) given
-    (is_reader m account b))) (deposit_at m b)))
-    (false_where (n == m) (λ e. free (eqb-true n m e))))
-
-same_stays : (account : List ℕ) (concerned : ℕ → Type 0) (b : History) → StaysFor account concerned b b
-same_stays account concerned b = record {
+same_stays : (viewer : Viewer) (concerned : ℕ → Type 0) (b : History) → StaysFor viewer concerned b b
+same_stays viewer concerned b = record {
   own_stamps = refl;
   own_deposits = refl;
   seen = λ n free. refl;
-  calibration
-      = refl;
+  calibration = refl;
   holding = refl;
 }
 
-none_stays : (account : List ℕ) (concerned : ℕ → Type 0) (e : Effect) (b : History) → e.adds ≡ []
-    → StaysFor account concerned b (e.adds ++ b)
-none_stays account concerned e b h = subst (λ es. StaysFor account concerned b (es ++ b)) (sym h)
-    (same_stays account concerned b)
+none_stays : (viewer : Viewer) (concerned : ℕ → Type 0) (e : Effect) (b : History) → e.adds ≡ []
+    → StaysFor viewer concerned b (e.adds ++ b)
+none_stays viewer concerned e b h = subst (λ es. StaysFor viewer concerned b (es ++ b)) (sym h)
+    (same_stays viewer concerned b)
 
-granted_stays : (account : List ℕ) (n : ℕ) (x : List ℕ) (e : Effect) (b : History) → IsAtMost (Granted n x) e
-    → StaysFor account (λ m. n ≡ m) b (e.adds ++ b)
-granted_stays account n x e b (inl h) = none_stays account (λ m. n ≡ m) e b h
-granted_stays account n x e b (inr h) =
-    subst (λ es. StaysFor account (λ m. n ≡ m) b (es ++ b)) (sym h)
+-- a right to a deposit that isn't this one
+granted_stays : (viewer : Viewer) (n : ℕ) (x : Reader) (e : Effect) (b : History) → IsAtMost (Granted n x) e
+    → StaysFor viewer (λ m. n ≡ m) b (e.adds ++ b)
+granted_stays viewer n x e b (inl h) = none_stays viewer (λ m. n ≡ m) e b h
+granted_stays viewer n x e b (inr h) =
+    subst (λ es. StaysFor viewer (λ m. n ≡ m) b (es ++ b)) (sym h)
     (record {
       own_stamps = refl;
       own_deposits = refl;
-      seen = λ m free. right_stays account b n x true m free;
+      seen = λ m free. sym (ap (option_map (seen_as m b))
+          (seen_beside_grant viewer n x m b (false_where (n == m) (λ e. free (eqb-true n m e)))));
       calibration = refl;
       holding = refl;
     })
 
-revoked_stays : (account : List ℕ) (n : ℕ) (x : List ℕ) (e : Effect) (b : History) → IsAtMost (Revoked n x) e
-    → StaysFor account (λ m. n ≡ m) b (e.adds ++ b)
-revoked_stays account n x e b (inl h) = none_stays account (λ m. n ≡ m) e b h
-revoked_stays account n x e b (inr h) =
-    subst (λ es. StaysFor account (λ m. n ≡ m) b (es ++ b)) (sym h)
+revoked_stays : (viewer : Viewer) (n : ℕ) (x : Reader) (e : Effect) (b : History) → IsAtMost (Revoked n x) e
+    → StaysFor viewer (λ m. n ≡ m) b (e.adds ++ b)
+revoked_stays viewer n x e b (inl h) = none_stays viewer (λ m. n ≡ m) e b h
+revoked_stays viewer n x e b (inr h) =
+    subst (λ es. StaysFor viewer (λ m. n ≡ m) b (es ++ b)) (sym h)
     (record {
       own_stamps = refl;
       own_deposits = refl;
-      seen = λ m free. right_stays account b n x false m free;
+      seen = λ m free. sym (ap (option_map (seen_as m b))
+          (seen_beside_revocation viewer n x m b (false_where (n == m) (λ e. free (eqb-true n m e)))));
       calibration = refl;
       holding = refl;
     })
 
 -- a stamping by another account
-other_of : (account : List ℕ) (r next : ReservationValue) → r ≡ next → bytes_eq next.account account ≡ false
-    → bytes_eq r.account account ≡ false
-other_of account r next e h = subst (λ x. bytes_eq x.account account ≡ false) (sym e) h
+other_of : (viewer : Viewer) (r next : ReservationValue) → r ≡ next → bytes_eq next.account viewer.name ≡ false
+    → bytes_eq r.account viewer.name ≡ false
+other_of viewer r next e h = subst (λ x. bytes_eq x.account viewer.name ≡ false) (sym e) h
 
 above_next : (r next : ReservationValue) (n : ℕ) → r ≡ next → n < next.serial → n < r.serial
 above_next r next n e h = subst (λ x. n < x.serial) (sym e) h
 
-stamp_stays : (account : List ℕ) (concerned : ℕ → Type 0) (s : Setting) (b : History) → Along Fits b
-    → (next : ReservationValue) → bytes_eq next.account account ≡ false
+stamp_stays : (viewer : Viewer) (concerned : ℕ → Type 0) (s : Setting) (b : History) → Along Fits b
+    → (next : ReservationValue) → bytes_eq next.account viewer.name ≡ false
     → greatest_serial b < next.serial → (st : Stamping) → IsNext next st
-    → StaysFor account concerned b ((stamp_effect s st).adds ++ b)
-stamp_stays account concerned s b sound next other above (Unreserved cause) h = same_stays account concerned b
-stamp_stays account concerned s b sound next other above (Void r cause) h =
-    other_reserved account concerned b r sound (other_of account r next h other) (above_next r next
+    → StaysFor viewer concerned b ((stamp_effect s st).adds ++ b)
+stamp_stays viewer concerned s b sound next other above (Unreserved cause) h = same_stays viewer concerned b
+stamp_stays viewer concerned s b sound next other above (Void r cause) h =
+    other_reserved viewer concerned b r sound (other_of viewer r next h other) (above_next r next
     (greatest_serial b) h above)
-stamp_stays account concerned s b sound next other above (Sealing r token) h =
-    other_sealed account concerned b r token sound (other_of account r next h other) (above_next r next
+stamp_stays viewer concerned s b sound next other above (Sealing r token) h =
+    other_sealed viewer concerned b r token sound (other_of viewer r next h other) (above_next r next
     (greatest_serial b) h above)
 
-deposit_stays_for : (account : List ℕ) (concerned : ℕ
+deposit_stays_for : (viewer : Viewer) (concerned : ℕ
     → Type 0) (s : Setting) (owner reference bytes : List ℕ) (b : History) → Along Fits b → (next : ReservationValue)
-    → bytes_eq owner account ≡ false → bytes_eq next.account account ≡ false → greatest_serial b < next.serial
+    → bytes_eq owner viewer.name ≡ false → bytes_eq next.account viewer.name ≡ false → greatest_serial b < next.serial
     → (st : Stamping) → IsNext next st
-    → StaysFor account concerned b ((deposit_effect s owner reference bytes st).adds ++ b)
-deposit_stays_for account concerned s owner reference bytes b sound next mine other above
-    (Unreserved cause) h = same_stays account concerned b
-deposit_stays_for account concerned s owner reference bytes b sound next mine other above (Void r cause) h =
-    other_reserved account concerned b r sound (other_of account r next h other) (above_next r next
+    → StaysFor viewer concerned b ((deposit_effect s owner reference bytes st).adds ++ b)
+deposit_stays_for viewer concerned s owner reference bytes b sound next mine other above
+    (Unreserved cause) h = same_stays viewer concerned b
+deposit_stays_for viewer concerned s owner reference bytes b sound next mine other above (Void r cause) h =
+    other_reserved viewer concerned b r sound (other_of viewer r next h other) (above_next r next
     (greatest_serial b) h above)
-deposit_stays_for account concerned s owner reference bytes b sound next mine other above (Sealing r token) h =
-    other_deposited account concerned b r owner reference bytes token sound mine (other_of account r next h other)
+deposit_stays_for viewer concerned s owner reference bytes b sound next mine other above (Sealing r token) h =
+    other_deposited viewer concerned b r owner reference bytes token sound mine (other_of viewer r next h other)
     (above_next r next (greatest_serial b) h above)
 
-stamp_found_stays : (account : List ℕ) (concerned : ℕ
+stamp_found_stays : (viewer : Viewer) (concerned : ℕ
     → Type 0) (s : Setting) (name octets : List ℕ) (o : Outcome) (b : History) → Along Fits b
-    → bytes_eq name account ≡ false
-    → (f : Finding) → StaysFor account concerned b ((stamp_found s name octets o b f).adds ++ b)
-stamp_found_stays account concerned s name octets o b sound other (Fails rule) = same_stays account concerned b
-stamp_found_stays account concerned s name octets o b sound other (Unanswered cause) = same_stays account concerned b
-stamp_found_stays account concerned s name octets o b sound other (Allowed plan) =
-    stamp_stays account concerned s b sound (next_reservation s name plan octets b) other
+    → bytes_eq name viewer.name ≡ false
+    → (f : Finding) → StaysFor viewer concerned b ((stamp_found s name octets o b f).adds ++ b)
+stamp_found_stays viewer concerned s name octets o b sound other (Fails rule) = same_stays viewer concerned b
+stamp_found_stays viewer concerned s name octets o b sound other (Unanswered cause) = same_stays viewer concerned b
+stamp_found_stays viewer concerned s name octets o b sound other (Allowed plan) =
+    stamp_stays viewer concerned s b sound (next_reservation s name plan octets b) other
     (next_above s name plan octets b)
     (stamping_of s name plan octets o b (no_number o b)) (next_stamping s name plan octets o b (no_number o b))
 
-deposit_found_stays : (account : List ℕ) (concerned : ℕ
+deposit_found_stays : (viewer : Viewer) (concerned : ℕ
     → Type 0) (s : Setting) (owner reference bytes octets : List ℕ) (o : Outcome) (b : History) → Along Fits b
-    → bytes_eq owner account ≡ false → (f : Finding)
-    → StaysFor account concerned b ((deposit_found s owner reference bytes octets o b f).adds ++ b)
-deposit_found_stays account concerned s owner reference bytes octets o b sound other
-    (Fails rule) = same_stays account concerned b
-deposit_found_stays account concerned s owner reference bytes octets o b sound other
-    (Unanswered cause) = same_stays account concerned b
-deposit_found_stays account concerned s owner reference bytes octets o b sound other (Allowed plan) =
-    deposit_stays_for account concerned s owner reference bytes b sound
+    → bytes_eq owner viewer.name ≡ false → (f : Finding)
+    → StaysFor viewer concerned b ((deposit_found s owner reference bytes octets o b f).adds ++ b)
+deposit_found_stays viewer concerned s owner reference bytes octets o b sound other
+    (Fails rule) = same_stays viewer concerned b
+deposit_found_stays viewer concerned s owner reference bytes octets o b sound other
+    (Unanswered cause) = same_stays viewer concerned b
+deposit_found_stays viewer concerned s owner reference bytes octets o b sound other (Allowed plan) =
+    deposit_stays_for viewer concerned s owner reference bytes b sound
     (next_reservation s owner plan octets b) other other (next_above s owner plan octets b)
     (stamping_of s owner plan octets o b (no_number o b)) (next_stamping s owner plan octets o b (no_number o b))
 
-keeps_under_stays : (account : List ℕ) (concerned : ℕ
+keeps_under_stays : (viewer : Viewer) (concerned : ℕ
     → Type 0) (s : Setting) (a : AccountValue) (reading : ℤ) (reference bytes : List ℕ) (o : Outcome) (b : History)
     (e : Effect)
-    → Along Fits b → bytes_eq a.name account ≡ false → (known : Option DepositRow)
-    → KeepsUnder s a reading reference bytes o b known e → StaysFor account concerned b (e.adds ++ b)
-keeps_under_stays account concerned s a reading reference bytes o b e sound other
-    (Some d) h = none_stays account concerned e b (ap (λ x. x.adds) h)
-keeps_under_stays account concerned s a reading reference bytes o b e sound other None h =
-    subst (λ x. StaysFor account concerned b (x.adds ++ b)) (sym h.1.2)
-    (deposit_found_stays account concerned s a.name reference bytes
+    → Along Fits b → bytes_eq a.name viewer.name ≡ false → (known : Option DepositRow)
+    → KeepsByReference s a reading reference bytes o b known e → StaysFor viewer concerned b (e.adds ++ b)
+keeps_under_stays viewer concerned s a reading reference bytes o b e sound other
+    (Some d) h = none_stays viewer concerned e b (ap (λ x. x.adds) h)
+keeps_under_stays viewer concerned s a reading reference bytes o b e sound other None h =
+    subst (λ x. StaysFor viewer concerned b (x.adds ++ b)) (sym h.1.2)
+    (deposit_found_stays viewer concerned s a.name reference bytes
     (octets_for s.file a bytes) o b sound other h.1.0)
 
-keeps_unless_stays : (account : List ℕ) (concerned : ℕ
+keeps_unless_stays : (viewer : Viewer) (concerned : ℕ
     → Type 0) (s : Setting) (a : AccountValue) (reading : ℤ) (reference bytes : List ℕ) (o : Outcome) (b : History)
     (e : Effect)
-    → Along Fits b → bytes_eq a.name account ≡ false → (refused : Option Cause)
-    → KeepsUnless s a reading reference bytes o b refused e → StaysFor account concerned b (e.adds ++ b)
-keeps_unless_stays account concerned s a reading reference bytes o b e sound other
-    (Some cause) h = none_stays account concerned e b (ap (λ x. x.adds) h)
-keeps_unless_stays account concerned s a reading reference bytes o b e sound other None h =
-    keeps_under_stays account concerned s a reading reference bytes o b e sound other
+    → Along Fits b → bytes_eq a.name viewer.name ≡ false → (refused : Option Cause)
+    → KeepsOnceSearched s a reading reference bytes o b refused e → StaysFor viewer concerned b (e.adds ++ b)
+keeps_unless_stays viewer concerned s a reading reference bytes o b e sound other
+    (Some cause) h = none_stays viewer concerned e b (ap (λ x. x.adds) h)
+keeps_unless_stays viewer concerned s a reading reference bytes o b e sound other None h =
+    keeps_under_stays viewer concerned s a reading reference bytes o b e sound other
     (deposit_under a.name reference b) h
 
-keeps_stays : (account : List ℕ) (concerned : ℕ
+keeps_stays : (viewer : Viewer) (concerned : ℕ
     → Type 0) (s : Setting) (a : AccountValue) (reading : ℤ) (reference bytes : List ℕ) (o : Outcome) (b : History)
     (e : Effect)
-    → Along Fits b → bytes_eq a.name account ≡ false → (short : Bool)
-    → Keeps s a reading reference bytes o b short e → StaysFor account concerned b (e.adds ++ b)
-keeps_stays account concerned s a reading reference bytes o b e sound other true h =
-    keeps_unless_stays account concerned s a reading reference bytes o b e sound other (cause_of o.searching) h
-keeps_stays account concerned s a reading reference bytes o b e sound other false h = none_stays account concerned e
+    → Along Fits b → bytes_eq a.name viewer.name ≡ false → (short : Bool)
+    → KeepsWithinSize s a reading reference bytes o b short e → StaysFor viewer concerned b (e.adds ++ b)
+keeps_stays viewer concerned s a reading reference bytes o b e sound other true h =
+    keeps_unless_stays viewer concerned s a reading reference bytes o b e sound other (cause_of o.searching) h
+keeps_stays viewer concerned s a reading reference bytes o b e sound other false h = none_stays viewer concerned e
     b (ap (λ x. x.adds) h)
-
-right_is_at_most : (s : Setting) (a : AccountValue) (reader : List ℕ) (o : Outcome) (entry : Entry)
-    (seen : Option DepositRow)
-    → IsAtMost entry (right_effect s.file a.name reader o entry seen)
-right_is_at_most s a reader o entry None = inl refl
-right_is_at_most s a reader o entry (Some d) = right_at_most s.file a.name reader o entry d
 
 -- what another account's command leaves
 pub step_stays : (account : List ℕ) (s : Setting) (x : Command) (o : Outcome) (b : History) (e : Effect)
     → Along Fits b → IsCommandOfOther account x → HasEffect s x o b e
-    → StaysFor account (λ n. Concerns n x) b (e.adds ++ b)
+    → StaysFor (viewer_in s.file account) (λ n. Concerns n x) b (e.adds ++ b)
 step_stays account s (Stamp None reading octets) o b e sound other h = absurd other
 step_stays account s (Stamp (Some a) reading octets) o b e sound other h =
-    subst (λ y. StaysFor account (λ n. ⊥) b (y.adds ++ b)) (sym h.2) (stamp_found_stays account
-    (λ n. ⊥) s a.name octets o b sound other h.0)
+    let viewer = viewer_in s.file account in
+    subst (λ y. StaysFor viewer (λ n. ⊥) b (y.adds ++ b)) (sym h.2)
+    (stamp_found_stays viewer (λ n. ⊥) s a.name octets o b sound other h.0)
 step_stays account s (Begin by reading octets) o b e sound other h = absurd other
 step_stays account s (Finish p signature) o b e sound other h = absurd other
 step_stays account s (Abandon p) o b e sound other h = absurd other
 step_stays account s (Deposit a reading reference bytes) o b e sound other h =
-    keeps_stays account (λ n. ⊥) s a reading reference bytes o b e sound other (nat_le (length bytes) 1_048_576) h
+    keeps_stays (viewer_in s.file account) (λ n. ⊥) s a reading reference bytes o b e sound other
+    (nat_le (length bytes) 1_048_576) h
 step_stays account s (Show a n) o b e sound other h =
-    none_stays account (λ m. ⊥) e b (ap (λ x. x.adds) h
-    ∙ shows_none (cause_of o.searching) (first_cause (cause_of o.looking ∷ cause_of o.growing
-    ∷ [])) (seen_by a.name n b))
+    none_stays (viewer_in s.file account) (λ m. ⊥) e b
+    (ap (λ x. x.adds) h ∙ shows_none (cause_of o.searching) (no_sight o) (seen_by (viewer_in s.file a.name) n b))
 step_stays account s (Token a n) o b e sound other h =
-    none_stays account (λ m. ⊥) e b
-    (ap (λ x. x.adds) h ∙ tokens_none (cause_of o.searching) (first_cause (cause_of o.looking
-    ∷ cause_of o.growing ∷ [])) (token_of n b) (seen_by a.name n b))
+    none_stays (viewer_in s.file account) (λ m. ⊥) e b
+    (ap (λ x. x.adds) h
+    ∙ tokens_none (cause_of o.searching) (no_sight o) (token_of n b) (seen_by (viewer_in s.file a.name) n b))
 step_stays account s (ListAll a) o b e sound other h =
-    none_stays account (λ m. ⊥) e b (ap (λ x. x.adds) h
-    ∙ answers_none (cause_of o.looking) (Listed (listed a.name b)))
+    none_stays (viewer_in s.file account) (λ m. ⊥) e b
+    (ap (λ x. x.adds) h ∙ answers_none (cause_of o.looking) (Listed (listed (viewer_in s.file a.name) b)))
 step_stays account s (Grant a n reader) o b e sound other h =
-    let d = right_effect s.file a.name reader o (Granted n reader) (seen_by a.name n b) in
-    subst (λ y. StaysFor account (λ m. n ≡ m) b (y.adds ++ b)) (sym h)
-    (granted_stays account n reader (unless (cause_of o.searching) d) b
-    (at_most_unless (Granted n reader) (cause_of o.searching) d (right_is_at_most s a reader o
-    (Granted n reader) (seen_by a.name n b))))
+    let viewer = viewer_in s.file account in
+    let entry = Granted n reader in
+    let seen = seen_by (viewer_in s.file a.name) n b in
+    let d = right_effect s.file a.name reader o entry seen in
+    subst (λ y. StaysFor viewer (λ m. n ≡ m) b (y.adds ++ b)) (sym h)
+    (granted_stays viewer n reader (unless (cause_of o.searching) d) b
+    (at_most_unless entry (cause_of o.searching) d (right_at_most s.file a.name reader o entry seen)))
 step_stays account s (Revoke a n reader) o b e sound other h =
-    let d = right_effect s.file a.name reader o (Revoked n reader) (seen_by a.name n b) in
-    subst (λ y. StaysFor account (λ m. n ≡ m) b (y.adds ++ b)) (sym h)
-    (revoked_stays account n reader (unless (cause_of o.searching) d) b
-    (at_most_unless (Revoked n reader) (cause_of o.searching) d (right_is_at_most s a reader o
-    (Revoked n reader) (seen_by a.name n b))))
+    let viewer = viewer_in s.file account in
+    let entry = Revoked n reader in
+    let seen = seen_by (viewer_in s.file a.name) n b in
+    let d = right_effect s.file a.name reader o entry seen in
+    subst (λ y. StaysFor viewer (λ m. n ≡ m) b (y.adds ++ b)) (sym h)
+    (revoked_stays viewer n reader (unless (cause_of o.searching) d) b
+    (at_most_unless entry (cause_of o.searching) d (right_at_most s.file a.name reader o entry seen)))
 step_stays account s (Calibrate c) o b e sound other h = absurd other
 step_stays account s (Hold k) o b e sound other h = absurd other

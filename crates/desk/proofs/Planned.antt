@@ -10,6 +10,7 @@ use Rattle.tsp.specs.declared.rule.Rule.{Rule}
 use Rattle.cms.specs.SignedData.{token}
 use Rattle.book.specs.History.{Reserved, Deposited, History, DepositValue, greatest_serial, deposit_at, deposit_under}
 use Rattle.book.specs.Sound.{IsSound}
+use Rattle.book.specs.Values.{deposit_of}
 use Rattle.desk.specs.Outcome.{Outcome, Cause, OfMemory, OfStore, OfSigner, cause_of}
 use Rattle.desk.specs.Findings.{PlanValue, IsAllowed, HoldsAt, Finding, Fails, Unanswered, Allowed, Finds}
 use Rattle.desk.specs.Command.{Setting, PendingValue, Command, Stamp, Begin, Finish, Abandon, Deposit, Show, Token}
@@ -17,10 +18,10 @@ use Rattle.desk.specs.Command.{ListAll, Grant, Revoke, Calibrate, Hold, Answer, 
 use Rattle.desk.specs.Command.{Listed, Done, Refused}
 use Rattle.desk.specs.Texts.{tst_of, reservation_of, pending_of, token_with, gives_certificate, request_for, octets_for}
 use Rattle.desk.specs.Effects.{Effect, only, unless, Stamping, Unreserved, Void, Sealing, no_number, no_seal, name_of}
-use Rattle.desk.specs.Effects.{next_reservation, stamping_of, begin_effect, begin_found, finish_effect, deposit_row}
+use Rattle.desk.specs.Effects.{next_reservation, stamping_of, begin_effect, begin_found, finish_effect}
 use Rattle.desk.specs.Effects.{deposit_effect, deposit_found, known_effect, fault_of}
 use Rattle.desk.specs.declared.fault.Fault.TheVariants as fault
-use Rattle.desk.specs.Steps.{KeepsUnder, KeepsUnless, Keeps, HasEffect}
+use Rattle.desk.specs.Steps.{KeepsByReference, KeepsOnceSearched, KeepsWithinSize, HasEffect}
 use Rattle.desk.specs.Laws.{IsBegunOf, IsFinished, IsDeposited, IsOfPlan}
 use Rattle.desk.proofs.Headline.{SealedBy, stamping_by, granted_is, rejected_is}
 use Rattle.desk.proofs.Keeping.{same_row}
@@ -98,7 +99,7 @@ finished_is s p signature o b e serial reply h says =
 
 -- what is deposited
 abbrev rows : List ℕ → List ℕ → List ℕ → ℕ → DepositValue
-rows owner reference bytes n = deposit_row n owner reference bytes
+rows owner reference bytes n = deposit_of n owner reference bytes
 
 deposited_from : TextLaws → (s : Setting) (a : AccountValue) (reading : ℤ) (reference bytes : List ℕ) (o : Outcome)
     (b : History) (plan : PlanValue) (number : ℕ)
@@ -216,6 +217,7 @@ new_of laws s a reading reference bytes o b spelled f found (Refused fault.NotOw
 new_of laws s a reading reference bytes o b spelled f found (Refused fault.Conflict) e = tt
 new_of laws s a reading reference bytes o b spelled f found (Refused fault.UnknownReader) e = tt
 new_of laws s a reading reference bytes o b spelled f found (Refused fault.SelfGrant) e = tt
+new_of laws s a reading reference bytes o b spelled f found (Refused fault.UnknownGroup) e = tt
 new_of laws s a reading reference bytes o b spelled f found (Refused fault.TooLarge) e = tt
 new_of laws s a reading reference bytes o b spelled f found (Refused fault.Memory) e = tt
 new_of laws s a reading reference bytes o b spelled f found (Refused fault.Store) e = tt
@@ -229,7 +231,7 @@ new_of laws s a reading reference bytes o b spelled f found Done e = tt
 
 under_of : TextLaws → (s : Setting) (a : AccountValue) (reading : ℤ) (reference bytes : List ℕ) (o : Outcome)
     (b : History) → IsSound b → (e : Effect) → (under : Option DepositValue) → deposit_under a.name reference b ≡ under
-    → KeepsUnder s a reading reference bytes o b under e → IsOfDeposit s a reading reference bytes o b e e.says
+    → KeepsByReference s a reading reference bytes o b under e → IsOfDeposit s a reading reference bytes o b e e.says
 under_of laws s a reading reference bytes o b sound e (Some d) is h =
     let u = found_under b sound a.name reference d is in
     subst (λ x. IsOfDeposit s a reading reference bytes o b x x.says) (sym h)
@@ -249,7 +251,7 @@ plain_cause s a reading reference bytes o b e OfSigner = tt
 
 unless_of : TextLaws → (s : Setting) (a : AccountValue) (reading : ℤ) (reference bytes : List ℕ) (o : Outcome)
     (b : History) → IsSound b → (e : Effect) → (refused : Option Cause)
-    → KeepsUnless s a reading reference bytes o b refused e → IsOfDeposit s a reading reference bytes o b e e.says
+    → KeepsOnceSearched s a reading reference bytes o b refused e → IsOfDeposit s a reading reference bytes o b e e.says
 unless_of laws s a reading reference bytes o b sound e (Some cause) h =
     subst (λ x. IsOfDeposit s a reading reference bytes o b x x.says) (sym h)
     (plain_cause s a reading reference bytes o b (only (Refused (fault_of cause))) cause)
@@ -257,7 +259,7 @@ unless_of laws s a reading reference bytes o b sound e None h =
     under_of laws s a reading reference bytes o b sound e (deposit_under a.name reference b) refl h
 
 keeps_of : TextLaws → (s : Setting) (a : AccountValue) (reading : ℤ) (reference bytes : List ℕ) (o : Outcome)
-    (b : History) → IsSound b → (e : Effect) → (short : Bool) → Keeps s a reading reference bytes o b short e
+    (b : History) → IsSound b → (e : Effect) → (short : Bool) → KeepsWithinSize s a reading reference bytes o b short e
     → IsOfDeposit s a reading reference bytes o b e e.says
 keeps_of laws s a reading reference bytes o b sound e true h =
     unless_of laws s a reading reference bytes o b sound e (cause_of o.searching) h

@@ -18,7 +18,7 @@ use Rattle.desk.specs.Effects.{no_number, next_reservation, begin_effect}
 use Rattle.desk.specs.Findings.{PlanValue}
 use Rattle.desk.specs.Outcome.{Outcome, Fine, all_fine, Cause, OfStore, cause_of, first_cause, faults_after}
 use Rattle.desk.specs.Runs.{after}
-use Rattle.desk.specs.Stepped.{settled}
+use Rattle.desk.specs.Stepped.{committed}
 use Rattle.desk.specs.declared.refusal.Refusal.{Refusal}
 use Rattle.desk.specs.Texts.{tst_of, pending_of, reservation_of}
 
@@ -44,7 +44,7 @@ pub reserves_refused : {B : Type 0} (g : Ghosts B) (s : Setting) (account : List
     (b : History) (old new : B) (r : Refusal) → no_number (refused r) b ≡ Some (cause_with r)
     → Stands g b new → ((left : g.Left) → g.leaves new left → g.leaves old left
     ⊎ (((refused r).adding ≡ Fine → ⊥)
-    × g.holds left (after (reserving s account plan octets (settled (refused r)) b) b)))
+    × g.holds left (after (reserving s account plan octets (committed (refused r)) b) b)))
     → Reserves g s account plan octets b old new (Err r)
 reserves_refused g s account plan octets b old new r e st leaves = record {
   says = sym (ap (λ x. (begin_effect s account plan octets b x).says) e);
@@ -153,12 +153,12 @@ spent_not_left b unspent spent = omega arith
 
 -- where the commit is there after all, the number is reserved
 doubted_none : (f : StoreFault) (b : History) → greatest_serial b < greatest_number
-    → no_number (settled (refused (adding_refusal f))) b ≡ None
-doubted_none store.Memory b unspent = left_number (settled (refused (adding_refusal store.Memory))) b unspent
-doubted_none store.Database b unspent = left_number (settled (refused (adding_refusal store.Database))) b unspent
-doubted_none store.NotOurs b unspent = left_number (settled (refused (adding_refusal store.NotOurs))) b unspent
-doubted_none store.Full b unspent = left_number (settled (refused (adding_refusal store.Full))) b unspent
-doubted_none store.Backwards b unspent = left_number (settled (refused (adding_refusal store.Backwards))) b unspent
+    → no_number (committed (refused (adding_refusal f))) b ≡ None
+doubted_none store.Memory b unspent = left_number (committed (refused (adding_refusal store.Memory))) b unspent
+doubted_none store.Database b unspent = left_number (committed (refused (adding_refusal store.Database))) b unspent
+doubted_none store.NotOurs b unspent = left_number (committed (refused (adding_refusal store.NotOurs))) b unspent
+doubted_none store.Full b unspent = left_number (committed (refused (adding_refusal store.Full))) b unspent
+doubted_none store.Backwards b unspent = left_number (committed (refused (adding_refusal store.Backwards))) b unspent
 
 adding_cause : (f : StoreFault) (b : History) → RefusesReserving f → greatest_serial b < greatest_number
     → (f ≡ store.Full → IsSpent b) → no_number (refused (adding_refusal f)) b ≡ Some (cause_with (adding_refusal f))

@@ -8,6 +8,7 @@ use Rattle.tsp.specs.declared.rule.Rule.TheVariants.{System}
 use Rattle.cms.specs.declared.signer.SignerFault.TheVariants as signer
 use Rattle.book.specs.History.{Reserved, Deposited, Calibrated, Held, Granted, Revoked, History, ReservationValue}
 use Rattle.book.specs.History.{DepositValue}
+use Rattle.book.specs.Readers.{Reader, Account, Group}
 use Rattle.book.specs.Rights.{seen_by}
 use Rattle.desk.specs.Facts.{facts_of, count_in, gen_time_in}
 use Rattle.desk.specs.Outcome.{Wanting, Broken, OfMemory, OfStore, all_fine, faults_after}
@@ -15,6 +16,7 @@ use Rattle.desk.specs.Findings.{PlanValue}
 use Rattle.desk.specs.Command.{Setting, Rejected, Refused, Kept, Done}
 use Rattle.desk.specs.Effects.{no_number, next_reservation, stamping_of, stamp_effect, deposit_effect, known_effect}
 use Rattle.desk.specs.Effects.{right_effect, show_effect}
+use Rattle.desk.specs.Viewers.{viewer_in}
 use Rattle.desk.specs.declared.fault.Fault.TheVariants as fault
 
 abbrev pub alice : AccountValue
@@ -42,7 +44,7 @@ carol = record {
 }
 
 -- genTime in whole seconds, an accuracy of one second
-abbrev file : PolicyValue
+abbrev pub file : PolicyValue
 file = record {
   counter = record {
     accuracy_us = 1000000;
@@ -57,9 +59,10 @@ file = record {
   extensions = [];
   policies = [];
   accounts = alice ∷ carol ∷ [];
+  groups = [];
 }
 
-abbrev setting : Setting
+abbrev pub setting : Setting
 setting = record { file = file; identity = record { certificate = []; issuer = []; serial = [] }; algorithm = [] }
 
 abbrev pub reserved : ℕ → ℕ → ReservationValue
@@ -149,38 +152,87 @@ same_again = refl
 other_octets : (known_effect (codes "abd") deposit).says ≡ Refused fault.Conflict
 other_octets = refl
 
-seen_by_owner : seen_by (codes "alice") 2 deposited ≡ Some deposit
+seen_by_owner : seen_by (viewer_in file (codes "alice")) 2 deposited ≡ Some deposit
 seen_by_owner = refl
 
-unseen : seen_by (codes "carol") 2 deposited ≡ None
+unseen : seen_by (viewer_in file (codes "carol")) 2 deposited ≡ None
 unseen = refl
 
-seen_by_reader : seen_by (codes "carol") 2 (Granted 2 (codes "carol") ∷ deposited) ≡ Some deposit
+seen_by_reader : seen_by (viewer_in file (codes "carol")) 2 (Granted 2 (Account (codes "carol")) ∷ deposited) ≡ Some deposit
 seen_by_reader = refl
 
-unseen_again : seen_by (codes "carol") 2 (Revoked 2 (codes "carol") ∷ Granted 2 (codes "carol") ∷ deposited) ≡ None
+unseen_again : seen_by (viewer_in file (codes "carol")) 2 (Revoked 2 (Account (codes "carol")) ∷ Granted 2 (Account (codes "carol")) ∷ deposited) ≡ None
 unseen_again = refl
 
 -- who may grant what to whom
-grants : (right_effect file (codes "alice") (codes "carol") (all_fine (Ok [])) (Granted 2 (codes "carol"))
+grants : (right_effect file (codes "alice") (Account (codes "carol")) (all_fine (Ok [])) (Granted 2 (Account (codes "carol")))
     (Some deposit)).says ≡ Done
 grants = refl
 
-not_the_owner : (right_effect file (codes "carol") (codes "alice") (all_fine (Ok [])) (Granted 2 (codes "alice"))
+not_the_owner : (right_effect file (codes "carol") (Account (codes "alice")) (all_fine (Ok [])) (Granted 2 (Account (codes "alice")))
     (Some deposit)).says ≡ Refused fault.NotOwner
 not_the_owner = refl
 
-nobody : (right_effect file (codes "alice") (codes "nobody") (all_fine (Ok [])) (Granted 2 (codes "nobody"))
+nobody : (right_effect file (codes "alice") (Account (codes "nobody")) (all_fine (Ok [])) (Granted 2 (Account (codes "nobody")))
     (Some deposit)).says ≡ Refused fault.UnknownReader
 nobody = refl
 
-oneself : (right_effect file (codes "alice") (codes "alice") (all_fine (Ok [])) (Granted 2 (codes "alice"))
+oneself : (right_effect file (codes "alice") (Account (codes "alice")) (all_fine (Ok [])) (Granted 2 (Account (codes "alice")))
     (Some deposit)).says ≡ Refused fault.SelfGrant
 oneself = refl
 
-hidden : (right_effect file (codes "carol") (codes "alice") (all_fine (Ok []))
-    (Granted 2 (codes "alice")) None).says ≡ Refused fault.NotHere
+hidden : (right_effect file (codes "carol") (Account (codes "alice")) (all_fine (Ok []))
+    (Granted 2 (Account (codes "alice"))) None).says ≡ Refused fault.NotHere
 hidden = refl
 
 shown_to_nobody : (show_effect None None).says ≡ Refused fault.NotHere
 shown_to_nobody = refl
+
+-- a group of which carol is a member, and alice too
+abbrev pub grouped : PolicyValue
+grouped = record file {
+  groups = record { name = codes "staff"; members = codes "carol" ∷ codes "alice" ∷ [] } ∷ [];
+}
+
+abbrev staff : Reader
+staff = Group (codes "staff")
+
+seen_by_member : seen_by (viewer_in grouped (codes "carol")) 2 (Granted 2 staff ∷ deposited) ≡ Some deposit
+seen_by_member = refl
+
+-- who is no member, and a group that has left the file
+unseen_by_others : seen_by (viewer_in grouped (codes "bob")) 2 (Granted 2 staff ∷ deposited) ≡ None
+unseen_by_others = refl
+
+unseen_once_it_left : seen_by (viewer_in file (codes "carol")) 2 (Granted 2 staff ∷ deposited) ≡ None
+unseen_once_it_left = refl
+
+-- a right of the account outlives that of the group, and the other way round
+own_right_stays : seen_by (viewer_in grouped (codes "carol")) 2
+    (Revoked 2 staff ∷ Granted 2 staff ∷ Granted 2 (Account (codes "carol")) ∷ deposited) ≡ Some deposit
+own_right_stays = refl
+
+group_right_stays : seen_by (viewer_in grouped (codes "carol")) 2
+    (Revoked 2 (Account (codes "carol")) ∷ Granted 2 (Account (codes "carol")) ∷ Granted 2 staff ∷ deposited)
+    ≡ Some deposit
+group_right_stays = refl
+
+group_revoked : seen_by (viewer_in grouped (codes "carol")) 2 (Revoked 2 staff ∷ Granted 2 staff ∷ deposited) ≡ None
+group_revoked = refl
+
+-- an account by the name of a group is another reader
+not_the_account : seen_by (viewer_in grouped (codes "staff")) 2 (Granted 2 staff ∷ deposited) ≡ None
+not_the_account = refl
+
+-- a group may hold the owner; one that the file hasn't is unknown, and only the owner is told so
+grants_group : (right_effect grouped (codes "alice") staff (all_fine (Ok [])) (Granted 2 staff) (Some deposit)).says
+    ≡ Done
+grants_group = refl
+
+unknown_group : (right_effect file (codes "alice") staff (all_fine (Ok [])) (Granted 2 staff) (Some deposit)).says
+    ≡ Refused fault.UnknownGroup
+unknown_group = refl
+
+not_the_owner_of_it : (right_effect file (codes "carol") staff (all_fine (Ok [])) (Granted 2 staff)
+    (Some deposit)).says ≡ Refused fault.NotOwner
+not_the_owner_of_it = refl

@@ -6,6 +6,7 @@ use Rattle.book.specs.declared.standing.Standing.{Ghosts}
 use Rattle.cms.specs.Signer.{count_after}
 use Rattle.cms.specs.declared.signer.SignerFault.{SignerFault}
 use Rattle.book.specs.History.{History}
+use Rattle.book.specs.Readers.{Viewer}
 use Rattle.book.specs.Sound.{IsSound}
 use Rattle.book.specs.Stands.{Stands}
 use Rattle.desk.specs.Outcome.{Outcome}
@@ -20,6 +21,7 @@ use Rattle.desk.specs.Stepped.{StepsBy, IsBareStep, MayBeLeft, IsBlamed, IsOpene
 use Rattle.desk.specs.Ran.{AreSteps, ArePromised, MayBeLeftBy, AreCommandsOfOthers, OneConcerns, RunsBy, told_by}
 use Rattle.desk.specs.declared.obstacle.Obstacle.{Obstacle}
 use Rattle.desk.specs.declared.obstacle.Obstacle.TheVariants as obstacle
+use Rattle.desk.specs.Viewers.{viewer_in}
 use Rattle.desk.proofs.Sound.{TextLaws}
 use Rattle.desk.proofs.Acknowledged.{readers_along}
 use Rattle.desk.proofs.Falling.{given_in_order}
@@ -57,6 +59,7 @@ unsigned_by obstacle.NotHere = refl
 unsigned_by obstacle.NotOwner = refl
 unsigned_by obstacle.UnknownReader = refl
 unsigned_by obstacle.SelfGrant = refl
+unsigned_by obstacle.UnknownGroup = refl
 unsigned_by (obstacle.Searching f) = refl
 unsigned_by (obstacle.Looking f) = refl
 unsigned_by obstacle.Growing = refl
@@ -170,10 +173,10 @@ left_after g s c cs o os e b last old mid left has step (inr (inl holds)) = inr 
 left_after g s c cs o os e b last old mid left has step (inr (inr doubt)) = inr (inr (e, (has, inr doubt)))
 
 -- what a command leaves of what an account may know, and what the others leave
-stays_on : (account : List ℕ) (c : Command) (cs : List Command) (b mid last : History)
-    → StaysFor account (λ number. Concerns number c) b mid → StaysFor account (λ number. OneConcerns number cs) mid last
-    → StaysFor account (λ number. OneConcerns number (c ∷ cs)) b last
-stays_on account c cs b mid last one others = record {
+stays_on : (viewer : Viewer) (c : Command) (cs : List Command) (b mid last : History)
+    → StaysFor viewer (λ number. Concerns number c) b mid → StaysFor viewer (λ number. OneConcerns number cs) mid last
+    → StaysFor viewer (λ number. OneConcerns number (c ∷ cs)) b last
+stays_on viewer c cs b mid last one others = record {
   own_stamps = one.own_stamps ∙ others.own_stamps;
   own_deposits = one.own_deposits ∙ others.own_deposits;
   seen = λ number free. one.seen number (λ h. free (inl h)) ∙ others.seen number (λ h. free (inr h));
@@ -190,7 +193,7 @@ record Reaches {B X : Type 0} (g : Ghosts B) (signs : X → List ℕ → Result 
   stands : Stands g history new
   left : (left : g.Left) → g.leaves new left → MayBeLeftBy g s cs os b old history left
   undisturbed : (account : List ℕ) → AreCommandsOfOthers account cs
-      → StaysFor account (λ number. OneConcerns number cs) b history
+      → StaysFor (viewer_in s.file account) (λ number. OneConcerns number cs) b history
   ends : (w : List Told) → Continues s cs os b w history (told_by cs answers w)
   promises : ArePromised s cs os answers b
 
@@ -235,7 +238,8 @@ reaches g signs count s (c ∷ cs) (o ∷ os) (answer ∷ answers) b old x new y
       stands = rest.stands;
       left = λ left k. left_after g s c cs o os e b rest.history old h.0 left step.has (step.left left)
           (rest.left left k);
-      undisturbed = λ account others. stays_on account c cs b (after e b) rest.history
+      undisturbed = λ account others. stays_on (viewer_in s.file account) c cs b (after e b)
+          rest.history
           (step_stays account s c o b e stands.sound others.0 step.has) (rest.undisturbed account others.1);
       ends = λ w. told_more s c cs o os b rest.history w e answer answers step.has step.says rest.ends;
       promises = (e, (step.has, step.says, promised s c o b e stands.sound step.has, rest.promises));

@@ -15,8 +15,10 @@ use Rattle.decide.specs.Clock.{IsGood, IsGoodAt}
 use Rattle.decide.specs.Rules.{Holds}
 use Rattle.book.specs.Rows.{StampRow, DepositRow}
 use Rattle.book.specs.History.{Granted, Revoked, History, ReservationValue, reservations, deposits, holds, stamps}
-use Rattle.book.specs.History.{stamp_of, day_of, is_of_day, count_of_day, latest_calibration, greatest_serial}
+use Rattle.book.specs.History.{stamp_of, day_of, is_of_day, count_of_day, latest_calibration, last_gen_time}
+use Rattle.book.specs.History.{greatest_serial}
 use Rattle.book.specs.History.{token_of, reservation_at, deposit_under}
+use Rattle.book.specs.Readers.{Viewer}
 use Rattle.book.specs.Rights.{seen_by, ListedValue, listed_as, listed_at, listed}
 use Rattle.desk.specs.Agreement.{SeenValue, seen_as, Agree, IsCommandOf}
 use Rattle.desk.specs.Facts.{now_in, is_held_at, gen_time_of, gen_time_in, count_in, facts_of}
@@ -29,7 +31,8 @@ use Rattle.desk.specs.Texts.{octets_for, reservation_of, pending_of}
 use Rattle.desk.specs.Effects.{Stamping, Unreserved, signed_or_void, stamping_of, stamp_effect, deposit_effect}
 use Rattle.desk.specs.Effects.{no_number, reply_or_nothing, Effect, only, unless, stamp_found, deposit_found}
 use Rattle.desk.specs.Effects.{show_effect, token_effect, right_effect}
-use Rattle.desk.specs.Steps.{KeepsUnder, KeepsUnless, Keeps, HasEffect}
+use Rattle.desk.specs.Steps.{KeepsByReference, KeepsOnceSearched, KeepsWithinSize, HasEffect}
+use Rattle.desk.specs.Viewers.{viewer_in}
 
 -- the day's count is that of the account's own stamps
 abbrev own_by : List ℕ → StampRow → Bool
@@ -63,10 +66,11 @@ count_from_own : (account : List ℕ) (day : ℕ) (b : History)
     → count_of_day account day b ≡ fold (tally day) 0 (filter (own_by account) (stamps b))
 count_from_own account day b = count_own account day 0 (λ n. token_of n b) (reservations b)
 
-count_same : (account : List ℕ) (day : ℕ) (b c : History) → Agree account b c → count_of_day account day b
-    ≡ count_of_day account day c
-count_same account day b c agree =
-    count_from_own account day b ∙ (ap (fold (tally day) 0) agree.own_stamps ∙ sym (count_from_own account day c))
+count_same : (viewer : Viewer) (day : ℕ) (b c : History) → Agree viewer b c → count_of_day viewer.name day b
+    ≡ count_of_day viewer.name day c
+count_same viewer day b c agree =
+    count_from_own viewer.name day b
+    ∙ (ap (fold (tally day) 0) agree.own_stamps ∙ sym (count_from_own viewer.name day c))
 
 -- the clock and the day
 held_same : (now : Option ℤ) (b c : History) → holds b ≡ holds c → is_held_at now b ≡ is_held_at now c
@@ -75,18 +79,20 @@ held_same (Some (pos now)) b c e =
     ap (λ hs. nat_le now last_moment && list_any (λ h. int_le h.from (pos now) && int_lt (pos now) h.to) hs) e
 held_same (Some (negsuc now)) b c e = refl
 
-pub facts_same : (file : PolicyValue) (a : AccountValue) (reading : ℤ) (b c : History) → Agree a.name b c
+pub facts_same : (file : PolicyValue) (a : AccountValue) (reading : ℤ) (b c : History)
+    → Agree (viewer_in file a.name) b c
     → facts_of file (Some a) reading b ≡ facts_of file (Some a) reading c
 facts_same file a reading b c agree =
+    let calibration : latest_calibration b ≡ latest_calibration c = ap (λ x. x.calibration) agree.shared in
+    let holding : holds b ≡ holds c = ap (λ x. x.holding) agree.shared in
+    let last : last_gen_time b ≡ last_gen_time c = ap (λ x. x.last) agree.shared in
     let held : is_held_at (now_in reading (latest_calibration b)) b
     ≡ is_held_at (now_in reading (latest_calibration c)) c =
-    ap (λ l. is_held_at (now_in reading l) b) agree.calibration
-    ∙ held_same (now_in reading (latest_calibration c)) b c agree.holding in
+    ap (λ l. is_held_at (now_in reading l) b) calibration
+    ∙ held_same (now_in reading (latest_calibration c)) b c holding in
     let count : count_in file (Some a) reading b ≡ count_in file (Some a) reading c =
-    ap (λ l. count_of_day a.name (day_of (gen_time_of file (now_in reading l))) b) agree.calibration
-    ∙ count_same a.name (day_of (gen_time_in file reading c)) b c agree in
-    let calibration = agree.calibration in
-    let last = agree.last in
+    ap (λ l. count_of_day a.name (day_of (gen_time_of file (now_in reading l))) b) calibration
+    ∙ count_same (viewer_in file a.name) (day_of (gen_time_in file reading c)) b c agree in
     cc
 
 -- what is found of a request
@@ -183,26 +189,26 @@ own_under owner reference [] = refl
 own_under owner reference (d ∷ ds) = own_under_step owner reference d ds (bytes_eq d.owner owner)
     (own_under owner reference ds)
 
-under_same : (owner reference : List ℕ) (b c : History) → Agree owner b c → deposit_under owner reference b
-    ≡ deposit_under owner reference c
-under_same owner reference b c agree =
-    own_under owner reference (deposits b)
+under_same : (viewer : Viewer) (reference : List ℕ) (b c : History) → Agree viewer b c
+    → deposit_under viewer.name reference b ≡ deposit_under viewer.name reference c
+under_same viewer reference b c agree =
+    own_under viewer.name reference (deposits b)
     ∙ (ap (find (λ x. bytes_eq x.reference reference)) agree.own_deposits
-    ∙ sym (own_under owner reference (deposits c)))
+    ∙ sym (own_under viewer.name reference (deposits c)))
 
 -- what is seen
-abbrev deposit_of : Option SeenValue → Option DepositRow
-deposit_of seen = option_map (λ v. v.deposit) seen
+abbrev deposit_seen_in : Option SeenValue → Option DepositRow
+deposit_seen_in seen = option_map (λ v. v.deposit) seen
 
-seen_deposit : (n : ℕ) (b : History) (seen : Option DepositRow) → deposit_of (option_map (seen_as n b) seen) ≡ seen
+seen_deposit : (n : ℕ) (b : History) (seen : Option DepositRow) → deposit_seen_in (option_map (seen_as n b) seen) ≡ seen
 seen_deposit n b None = refl
 seen_deposit n b (Some d) = refl
 
-pub seen_same : (account : List ℕ) (n : ℕ) (b c : History) → Agree account b c → seen_by account n b
-    ≡ seen_by account n c
-seen_same account n b c agree =
-    sym (seen_deposit n b (seen_by account n b)) ∙ (ap deposit_of (agree.seen n)
-    ∙ seen_deposit n c (seen_by account n c))
+pub seen_same : (viewer : Viewer) (n : ℕ) (b c : History) → Agree viewer b c → seen_by viewer n b
+    ≡ seen_by viewer n c
+seen_same viewer n b c agree =
+    sym (seen_deposit n b (seen_by viewer n b)) ∙ (ap deposit_seen_in (agree.seen n)
+    ∙ seen_deposit n c (seen_by viewer n c))
 
 token_effect_same : (refused : Option Cause) (n : ℕ) (b c : History) (one other : Option DepositRow)
     → option_map (seen_as n b) one ≡ option_map (seen_as n c) other
@@ -240,11 +246,11 @@ listed_seen : (n : ℕ) (b : History) (seen : Option DepositRow)
 listed_seen n b None = refl
 listed_seen n b (Some d) = map_twice d (reservation_at n b)
 
-listed_at_same : (account : List ℕ) (n : ℕ) (b c : History) → Agree account b c → listed_at account b n
-    ≡ listed_at account c n
-listed_at_same account n b c agree =
-    listed_seen n b (seen_by account n b) ∙ (ap listed_from (agree.seen n)
-    ∙ sym (listed_seen n c (seen_by account n c)))
+listed_at_same : (viewer : Viewer) (n : ℕ) (b c : History) → Agree viewer b c → listed_at viewer b n
+    ≡ listed_at viewer c n
+listed_at_same viewer n b c agree =
+    listed_seen n b (seen_by viewer n b) ∙ (ap listed_from (agree.seen n)
+    ∙ sym (listed_seen n c (seen_by viewer n c)))
 
 filter_map_same : {X Y : Type 0} (f g : X → Option Y) → ((x : X) → f x ≡ g x) → (xs : List X) → filter_map f xs
     ≡ filter_map g xs
@@ -252,17 +258,20 @@ filter_map_same f g e [] = refl
 filter_map_same f g e (x ∷ xs) = ap (λ o. cons_option o (filter_map f xs)) (e x)
     ∙ ap (cons_option (g x)) (filter_map_same f g e xs)
 
-listed_same : (account : List ℕ) (b c : History) → Agree account b c → listed account b ≡ listed account c
-listed_same account b c agree =
-    filter_map_same (listed_at account b) (listed_at account c) (λ n. listed_at_same account n b c agree)
+greatest_same : (viewer : Viewer) (b c : History) → Agree viewer b c → greatest_serial b ≡ greatest_serial c
+greatest_same viewer b c agree = ap (λ x. x.greatest) agree.shared
+
+listed_same : (viewer : Viewer) (b c : History) → Agree viewer b c → listed viewer b ≡ listed viewer c
+listed_same viewer b c agree =
+    filter_map_same (listed_at viewer b) (listed_at viewer c) (λ n. listed_at_same viewer n b c agree)
     (range_with_len 1 (greatest_serial b))
-    ∙ ap (λ n. filter_map (listed_at account c) (range_with_len 1 n)) agree.greatest
+    ∙ ap (λ n. filter_map (listed_at viewer c) (range_with_len 1 n)) (greatest_same viewer b c agree)
 
 -- deposits
 under_found_same : (s : Setting) (a : AccountValue) (reading : ℤ) (reference bytes : List ℕ) (o : Outcome)
-    (b c : History) (e : Effect) → Agree a.name b c
-    → (known : Option DepositRow) → KeepsUnder s a reading reference bytes o b known e
-    → KeepsUnder s a reading reference bytes o c known e
+    (b c : History) (e : Effect) → Agree (viewer_in s.file a.name) b c
+    → (known : Option DepositRow) → KeepsByReference s a reading reference bytes o b known e
+    → KeepsByReference s a reading reference bytes o c known e
 under_found_same s a reading reference bytes o b c e agree (Some d) h = h
 under_found_same s a reading reference bytes o b c e agree None h =
     let octets = octets_for s.file a bytes in (
@@ -270,63 +279,67 @@ under_found_same s a reading reference bytes o b c e agree None h =
       (
         h.1.0,
         finds_same s.file (Some a) reading octets o b c h.1.0 (facts_same s.file a reading b c agree) h.1.1,
-        h.1.2 ∙ deposit_found_same s a.name reference bytes octets o b c h.1.0 agree.greatest,
+        h.1.2 ∙ deposit_found_same s a.name reference bytes octets o b c h.1.0
+            (greatest_same (viewer_in s.file a.name) b c agree),
       ),
     )
 
 keeps_unless_same : (s : Setting) (a : AccountValue) (reading : ℤ) (reference bytes : List ℕ) (o : Outcome)
-    (b c : History) (e : Effect) → Agree a.name b c
-    → (refused : Option Cause) → KeepsUnless s a reading reference bytes o b refused e
-    → KeepsUnless s a reading reference bytes o c refused e
+    (b c : History) (e : Effect) → Agree (viewer_in s.file a.name) b c
+    → (refused : Option Cause) → KeepsOnceSearched s a reading reference bytes o b refused e
+    → KeepsOnceSearched s a reading reference bytes o c refused e
 keeps_unless_same s a reading reference bytes o b c e agree (Some cause) h = h
 keeps_unless_same s a reading reference bytes o b c e agree None h =
-    subst (λ known. KeepsUnder s a reading reference bytes o c known e) (under_same a.name reference b c agree)
+    subst (λ known. KeepsByReference s a reading reference bytes o c known e) (under_same (viewer_in s.file a.name) reference
+    b c agree)
     (under_found_same s a reading reference bytes o b c e agree (deposit_under a.name reference b) h)
 
 keeps_same : (s : Setting) (a : AccountValue) (reading : ℤ) (reference bytes : List ℕ) (o : Outcome) (b c : History)
-    (e : Effect) → Agree a.name b c
-    → (short : Bool) → Keeps s a reading reference bytes o b short e → Keeps s a reading reference bytes o c short e
+    (e : Effect) → Agree (viewer_in s.file a.name) b c
+    → (short : Bool) → KeepsWithinSize s a reading reference bytes o b short e → KeepsWithinSize s a reading reference bytes o c short e
 keeps_same s a reading reference bytes o b c e agree true h = keeps_unless_same s a reading reference bytes o b c e
     agree (cause_of o.searching) h
 keeps_same s a reading reference bytes o b c e agree false h = h
 
-agree_as : (account other : List ℕ) (b c : History) → account ≡ other → Agree other b c → Agree account b c
-agree_as account other b c e agree = subst (λ x. Agree x b c) (sym e) agree
+agree_as : (file : PolicyValue) (account other : List ℕ) (b c : History) → account ≡ other
+    → Agree (viewer_in file other) b c → Agree (viewer_in file account) b c
+agree_as file account other b c e agree = subst (λ x. Agree (viewer_in file x) b c) (sym e) agree
 
 -- an account's command has the same effects
 pub effect_same : (account : List ℕ) (s : Setting) (x : Command) (o : Outcome) (b c : History) (e : Effect)
-    → Agree account b c → IsCommandOf account x
+    → Agree (viewer_in s.file account) b c → IsCommandOf account x
     → HasEffect s x o b e → HasEffect s x o c e
 effect_same account s (Stamp None reading octets) o b c e agree own h = absurd own
 effect_same account s (Stamp (Some a) reading octets) o b c e agree own h =
-    let g = agree_as a.name account b c own agree in (
+    let g = agree_as s.file a.name account b c own agree in (
       h.0,
       finds_same s.file (Some a) reading octets o b c h.0 (facts_same s.file a reading b c g) h.1,
-      h.2 ∙ stamp_found_same s a.name octets o b c h.0 agree.greatest,
+      h.2 ∙ stamp_found_same s a.name octets o b c h.0 (greatest_same (viewer_in s.file a.name) b c g),
     )
 effect_same account s (Begin by reading octets) o b c e agree own h = absurd own
 effect_same account s (Finish p signature) o b c e agree own h = absurd own
 effect_same account s (Abandon p) o b c e agree own h = absurd own
 effect_same account s (Deposit a reading reference bytes) o b c e agree own h =
-    keeps_same s a reading reference bytes o b c e (agree_as a.name account b c own agree)
+    keeps_same s a reading reference bytes o b c e (agree_as s.file a.name account b c own agree)
     (nat_le (length bytes) 1_048_576) h
 effect_same account s (Show a n) o b c e agree own h =
     h ∙ ap (λ seen. unless (cause_of o.searching) (show_effect (first_cause (cause_of o.looking ∷ cause_of o.growing
     ∷ [])) seen))
-    (seen_same a.name n b c (agree_as a.name account b c own agree))
+    (seen_same (viewer_in s.file a.name) n b c (agree_as s.file a.name account b c own agree))
 effect_same account s (Token a n) o b c e agree own h =
-    let g = agree_as a.name account b c own agree in
+    let g = agree_as s.file a.name account b c own agree in
     h ∙ ap (unless (cause_of o.searching))
     (token_effect_same (first_cause (cause_of o.looking ∷ cause_of o.growing
-    ∷ [])) n b c (seen_by a.name n b) (seen_by a.name n c) (g.seen n))
+    ∷ [])) n b c (seen_by (viewer_in s.file a.name) n b)
+    (seen_by (viewer_in s.file a.name) n c) (g.seen n))
 effect_same account s (ListAll a) o b c e agree own h =
-    h ∙ ap (λ xs. unless (cause_of o.looking) (only (Listed xs))) (listed_same a.name b c
-    (agree_as a.name account b c own agree))
+    h ∙ ap (λ xs. unless (cause_of o.looking) (only (Listed xs))) (listed_same (viewer_in s.file a.name) b c
+    (agree_as s.file a.name account b c own agree))
 effect_same account s (Grant a n reader) o b c e agree own h =
     h ∙ ap (λ seen. unless (cause_of o.searching) (right_effect s.file a.name reader o (Granted n reader) seen))
-    (seen_same a.name n b c (agree_as a.name account b c own agree))
+    (seen_same (viewer_in s.file a.name) n b c (agree_as s.file a.name account b c own agree))
 effect_same account s (Revoke a n reader) o b c e agree own h =
     h ∙ ap (λ seen. unless (cause_of o.searching) (right_effect s.file a.name reader o (Revoked n reader) seen))
-    (seen_same a.name n b c (agree_as a.name account b c own agree))
+    (seen_same (viewer_in s.file a.name) n b c (agree_as s.file a.name account b c own agree))
 effect_same account s (Calibrate x) o b c e agree own h = absurd own
 effect_same account s (Hold x) o b c e agree own h = absurd own

@@ -1,21 +1,21 @@
 -- A finish is a step of the machine: the token is stored, or the reservation stays void.
-use Rattle.std.proofs.Common.{◌≡◌, ◌⊎◌, ℕ, List, [], ◌∷◌, Some, None, Ok, refl, sym, ◌∙◌, ap, subst, inl, inr}
+use Rattle.std.proofs.Common.{◌≡◌, ◌⊎◌, ℕ, List, [], ◌∷◌, ◌++◌, Some, None, Ok, refl, sym, ◌∙◌, ap, subst, inl, inr}
 use Rattle.book.specs.declared.standing.Standing.{Ghosts}
 use Rattle.tsp.specs.Granted.{granted_octets}
 use Rattle.cms.specs.SignedData.{token}
 use Rattle.book.specs.declared.fault.StoreFault.{StoreFault}
 use Rattle.book.specs.declared.fault.StoreFault.TheVariants as store
 use Rattle.book.specs.Fault.{count_after}
-use Rattle.book.specs.History.{Sealed, History}
+use Rattle.book.specs.History.{Entry, Sealed, History}
 use Rattle.book.specs.Sound.{Fits, FitsSealed}
 use Rattle.book.specs.Stands.{Stands, LeavesOrAdds}
 use Rattle.desk.specs.Fit.{IsFit}
-use Rattle.desk.specs.Outcome.{Fine, Outcome, Cause, faults_after, all_fine}
+use Rattle.desk.specs.Outcome.{Call, Fine, Wanting, Broken, Outcome, Cause, faults_after, all_fine}
 use Rattle.desk.specs.Command.{Setting, PendingValue, Finish, Stamped, Refused}
 use Rattle.desk.specs.Texts.{token_with}
 use Rattle.desk.specs.Effects.{only, fault_of, unless, no_seal, finish_effect}
 use Rattle.desk.specs.Steps.{IsWaiting}
-use Rattle.desk.specs.Stepped.{StepsBy, IsBlamed, no_signer, settled}
+use Rattle.desk.specs.Stepped.{StepsBy, IsBlamed, no_signer, committed, in_doubt}
 use Rattle.desk.specs.Calls.{refused, store_cause}
 use Rattle.desk.specs.declared.refusal.Refusal.TheVariants as refusal
 use Rattle.desk.proofs.Fitting.{unbroken}
@@ -66,9 +66,15 @@ seals g s p signature serial token reply old new number is wrapped same opened o
     (subst (λ n. (b : History) → Stands g b old → Fits (Sealed n token) b → Stands g (Sealed n token ∷ b) new) number
     ok))))
 
+-- of one entry that one is in doubt
+pub one_in_doubt : (call : Call) (e : Entry) → in_doubt call (e ∷ []) ≡ e ∷ []
+one_in_doubt Fine e = refl
+one_in_doubt Wanting e = refl
+one_in_doubt Broken e = refl
+
 -- the commit is refused by this fault
 refused_as : {B : Type 0} (g : Ghosts B) (s : Setting) (p : PendingValue) (signature : List ℕ) (old new : B)
-    (o : Outcome) (cause : Cause) → no_seal o ≡ Some cause → no_seal (settled o) ≡ None
+    (o : Outcome) (cause : Cause) → no_seal o ≡ Some cause → no_seal (committed o) ≡ None
     → (o.adding ≡ Fine → o.sealing ≡ Fine → ⊥)
     → IsFit (Finish p signature) o → IsBlamed g (Finish p signature) o old new (Refused (fault_of cause))
     → g.fault_count new ≡ faults_after o (g.fault_count old)
@@ -93,7 +99,9 @@ refused_as g s p signature old new o cause why answered was_refused fits blamed 
         refused = was_refused;
         doubted = finish_effect p signature;
         has = ap (λ x. unless x (finish_effect p signature)) (sym answered);
-        holds = adds b stands (waiting_fits p b met.0);
+        holds = subst (λ es. g.holds left (es ++ b))
+            (sym (one_in_doubt o.adding (Sealed p.serial (token_with p signature))))
+            (adds b stands (waiting_fits p b met.0));
       }))
     ];
   };

@@ -11,7 +11,8 @@ use Rattle.policy.specs.LookUp.{account_named}
 use Rattle.book.specs.Rows.{DepositRow, StampRow}
 use Rattle.book.specs.History.{Entry, Reserved, Sealed, Deposited, Calibrated, Held, Granted, Revoked, History}
 use Rattle.book.specs.History.{ReservationValue, DepositValue, stamp_of, token_of, reservation_at, deposit_at}
-use Rattle.book.specs.Rights.{is_reader, shown_to, seen_by, deposit_with_stamp}
+use Rattle.book.specs.Readers.{Viewer}
+use Rattle.book.specs.Rights.{may_read, shown_to, seen_by, is_visible, deposit_with_stamp}
 use Rattle.book.specs.Sound.{Along, Fits, FitsSealed, IsSound}
 use Rattle.book.specs.Values.{stamped_view}
 use Rattle.book.specs.declared.values.StampedDeposit.{StampedDeposit}
@@ -64,11 +65,20 @@ absent_at token (Some d) None there e = let h = there d refl in let some : None 
 absent_at token (Some d) (Some r) there e = cc
 
 -- where no deposit with a stamp is found, nobody sees one
-pub unseen : (account : List ℕ) (n : ℕ) (b : History) → IsSound b → None ≡ deposit_with_stamp n b
-    → seen_by account n b ≡ None
-unseen account n b sound e =
-    ap (option_and_then (shown_to account (is_reader n account b)))
+pub unseen : (viewer : Viewer) (n : ℕ) (b : History) → IsSound b → None ≡ deposit_with_stamp n b
+    → seen_by viewer n b ≡ None
+unseen viewer n b sound e =
+    ap (option_and_then (shown_to viewer (may_read viewer n b)))
     (absent_at (token_of n b) (deposit_at n b) (reservation_at n b) (deposit_reserved b sound n) e)
+
+some_where : {A : Type 0} (o : Option A) → true ≡ is_some o → (x : A) × (o ≡ Some x)
+some_where None e = cc
+some_where (Some x) e = (x, refl)
+
+-- what is visible is seen
+pub seen_where : (viewer : Viewer) (n : ℕ) (b : History) → true ≡ is_visible viewer n b
+    → (d : DepositValue) × (seen_by viewer n b ≡ Some d)
+seen_where viewer n b e = some_where (seen_by viewer n b) e
 
 -- an account of the file has the name
 known_at : (name : List ℕ) (a : AccountValue) (accounts : List AccountValue) (here : Bool)

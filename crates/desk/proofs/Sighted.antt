@@ -9,7 +9,8 @@ use Rattle.std.proofs.lemmas.Bool.Decides.{nat_tests}
 use Rattle.std.proofs.lemmas.Slice.Eq.{bytes_eq-Decides}
 use Rattle.book.specs.History.{Reserved, Sealed, Deposited, Calibrated, Held, Granted, Revoked, History, DepositValue}
 use Rattle.book.specs.History.{ReservationValue, deposits, deposit_at, reservation_at, token_of, greatest_serial}
-use Rattle.book.specs.Rights.{ListedValue, is_reader, shown_to, seen_by, listed_as, listed_at, listed}
+use Rattle.book.specs.Readers.{Viewer}
+use Rattle.book.specs.Rights.{ListedValue, may_read, shown_to, seen_by, listed_as, listed_at, listed}
 use Rattle.book.specs.Sound.{Along, Fits, IsSound}
 use Rattle.desk.specs.Command.{Setting, Command, Stamp, Begin, Finish, Abandon, Deposit, Show, Token, ListAll, Grant}
 use Rattle.desk.specs.Command.{Revoke, Calibrate, Hold, Shown, Listed, Refused}
@@ -19,6 +20,7 @@ use Rattle.desk.specs.Outcome.{first_cause}
 use Rattle.desk.specs.Sight.{MaySee, HasNoSight, IsShownFrom, IsBytesOf, IsReplyOf, IsRowOf, Climbs}
 use Rattle.desk.specs.Sight.{IsListedFrom, ShowsExactly}
 use Rattle.desk.specs.Steps.{HasEffect}
+use Rattle.desk.specs.Viewers.{viewer_in}
 use Rattle.desk.proofs.Shows.{deposit_reserved}
 use Rattle.desk.proofs.Views.{deposit_sealed, reserved_below, same_octets}
 
@@ -57,50 +59,50 @@ some_serial (Held h ∷ b) fits n r e = some_serial b fits.1 n r e
 some_serial (Granted m a ∷ b) fits n r e = some_serial b fits.1 n r e
 some_serial (Revoked m a ∷ b) fits n r e = some_serial b fits.1 n r e
 
--- what an account sees it may see
-shown_may : (account : List ℕ) (n : ℕ) (b : History) (x d : DepositValue) (reader own : Bool)
-    → is_reader n account b ≡ reader → bytes_eq x.owner account ≡ own
+-- what an viewer sees it may see
+shown_may : (viewer : Viewer) (n : ℕ) (b : History) (x d : DepositValue) (reader own : Bool)
+    → may_read viewer n b ≡ reader → bytes_eq x.owner viewer.name ≡ own
     → cond (own || reader) (Some x) None ≡ Some d
-    → (x ≡ d) × ((x.owner ≡ account) ⊎ (is_reader n account b ≡ true))
-shown_may account n b x d reader true reads owns e = (cc, inl (same_octets x.owner account owns))
-shown_may account n b x d true false reads owns e = (cc, inr reads)
-shown_may account n b x d false false reads owns e = cc
+    → (x ≡ d) × ((x.owner ≡ viewer.name) ⊎ (may_read viewer n b ≡ true))
+shown_may viewer n b x d reader true reads owns e = (cc, inl (same_octets x.owner viewer.name owns))
+shown_may viewer n b x d true false reads owns e = (cc, inr reads)
+shown_may viewer n b x d false false reads owns e = cc
 
-may_at : (account : List ℕ) (n : ℕ) (b : History) (d : DepositValue) (at : Option DepositValue) → deposit_at n b ≡ at
-    → option_and_then (shown_to account (is_reader n account b)) at ≡ Some d → MaySee account n b d
-may_at account n b d None is e = cc
-may_at account n b d (Some x) is e =
-    let k = shown_may account n b x d (is_reader n account b) (bytes_eq x.owner account) refl refl e in
+may_at : (viewer : Viewer) (n : ℕ) (b : History) (d : DepositValue) (at : Option DepositValue) → deposit_at n b ≡ at
+    → option_and_then (shown_to viewer (may_read viewer n b)) at ≡ Some d → MaySee viewer n b d
+may_at viewer n b d None is e = cc
+may_at viewer n b d (Some x) is e =
+    let k = shown_may viewer n b x d (may_read viewer n b) (bytes_eq x.owner viewer.name) refl refl e in
     record {
       deposited = is ∙ ap Some k.0;
-      may = subst (λ (y : DepositValue). (y.owner ≡ account) ⊎ (is_reader n account b ≡ true)) k.0 k.1;
+      may = subst (λ (y : DepositValue). (y.owner ≡ viewer.name) ⊎ (may_read viewer n b ≡ true)) k.0 k.1;
     }
 
-pub may_see : (account : List ℕ) (n : ℕ) (b : History) (d : DepositValue) → seen_by account n b ≡ Some d
-    → MaySee account n b d
-may_see account n b d e = may_at account n b d (deposit_at n b) refl e
+pub may_see : (viewer : Viewer) (n : ℕ) (b : History) (d : DepositValue) → seen_by viewer n b ≡ Some d
+    → MaySee viewer n b d
+may_see viewer n b d e = may_at viewer n b d (deposit_at n b) refl e
 
 -- and what it may see it sees
 or_reads : (own : Bool) (d : DepositValue) → cond (own || true) (Some d) None ≡ Some d
 or_reads true d = refl
 or_reads false d = refl
 
-sees_by : (account : List ℕ) (n : ℕ) (b : History) (d : DepositValue)
-    → (d.owner ≡ account) ⊎ (is_reader n account b ≡ true)
-    → cond (bytes_eq d.owner account || is_reader n account b) (Some d) None ≡ Some d
-sees_by account n b d (inl own) =
-    ap (λ t. cond (t || is_reader n account b) (Some d) None) ((bytes_eq-Decides d.owner account).1 own)
-sees_by account n b d (inr reads) =
-    ap (λ t. cond (bytes_eq d.owner account || t) (Some d) None) reads ∙ or_reads (bytes_eq d.owner account) d
+sees_by : (viewer : Viewer) (n : ℕ) (b : History) (d : DepositValue)
+    → (d.owner ≡ viewer.name) ⊎ (may_read viewer n b ≡ true)
+    → cond (bytes_eq d.owner viewer.name || may_read viewer n b) (Some d) None ≡ Some d
+sees_by viewer n b d (inl own) =
+    ap (λ t. cond (t || may_read viewer n b) (Some d) None) ((bytes_eq-Decides d.owner viewer.name).1 own)
+sees_by viewer n b d (inr reads) =
+    ap (λ t. cond (bytes_eq d.owner viewer.name || t) (Some d) None) reads ∙ or_reads (bytes_eq d.owner viewer.name) d
 
-pub sees : (account : List ℕ) (n : ℕ) (b : History) (d : DepositValue) → MaySee account n b d
-    → seen_by account n b ≡ Some d
-sees account n b d m =
-    ap (option_and_then (shown_to account (is_reader n account b))) m.deposited ∙ sees_by account n b d m.may
+pub sees : (viewer : Viewer) (n : ℕ) (b : History) (d : DepositValue) → MaySee viewer n b d
+    → seen_by viewer n b ≡ Some d
+sees viewer n b d m =
+    ap (option_and_then (shown_to viewer (may_read viewer n b))) m.deposited ∙ sees_by viewer n b d m.may
 
-unsees : (account : List ℕ) (n : ℕ) (b : History) → seen_by account n b ≡ None → (d : DepositValue)
-    → MaySee account n b d → ⊥
-unsees account n b none d m = let some = sees account n b d m in cc
+unsees : (viewer : Viewer) (n : ℕ) (b : History) → seen_by viewer n b ≡ None → (d : DepositValue)
+    → MaySee viewer n b d → ⊥
+unsees viewer n b none d m = let some = sees viewer n b d m in cc
 
 -- no call of the store is the signer's
 unsigned : (x y z : Call) → first_cause (cause_of x ∷ cause_of y ∷ cause_of z ∷ []) ≡ Some OfSigner → ⊥
@@ -117,11 +119,11 @@ unsigned_call Fine e = cc
 unsigned_call Wanting e = cc
 unsigned_call Broken e = cc
 
-refused_sight : (IsOf : DepositValue → List ℕ → Type 0) (account : List ℕ) (n : ℕ) (o : Outcome) (b : History)
-    (cause : Cause) → HasNoSight o cause → IsShownFrom IsOf account n o b (Refused (fault_of cause))
-refused_sight IsOf account n o b OfMemory h = h
-refused_sight IsOf account n o b OfStore h = h
-refused_sight IsOf account n o b OfSigner h = absurd (unsigned o.searching o.looking o.growing h)
+refused_sight : (IsOf : DepositValue → List ℕ → Type 0) (viewer : Viewer) (n : ℕ) (o : Outcome) (b : History)
+    (cause : Cause) → HasNoSight o cause → IsShownFrom IsOf viewer n o b (Refused (fault_of cause))
+refused_sight IsOf viewer n o b OfMemory h = h
+refused_sight IsOf viewer n o b OfStore h = h
+refused_sight IsOf viewer n o b OfSigner h = absurd (unsigned o.searching o.looking o.growing h)
 
 searched_not : (o : Outcome) (cause : Cause) → cause_of o.searching ≡ Some cause → HasNoSight o cause
 searched_not o cause e = ap (λ x. first_cause (x ∷ cause_of o.looking ∷ cause_of o.growing ∷ [])) e
@@ -132,62 +134,62 @@ looked_not o cause searched e =
     ap (λ x. first_cause (x ∷ cause_of o.looking ∷ cause_of o.growing ∷ [])) searched ∙ e
 
 -- the octets of a deposit
-show_some : (account : List ℕ) (n : ℕ) (o : Outcome) (b : History) (d : DepositValue) → MaySee account n b d
+show_some : (viewer : Viewer) (n : ℕ) (o : Outcome) (b : History) (d : DepositValue) → MaySee viewer n b d
     → cause_of o.searching ≡ None → (sight : Option Cause) → no_sight o ≡ sight
-    → IsShownFrom IsBytesOf account n o b (unless sight (only (Shown d.bytes))).says
-show_some account n o b d may searched None is = (d, may, refl)
-show_some account n o b d may searched (Some cause) is =
-    refused_sight IsBytesOf account n o b cause (looked_not o cause searched is)
+    → IsShownFrom IsBytesOf viewer n o b (unless sight (only (Shown d.bytes))).says
+show_some viewer n o b d may searched None is = (d, may, refl)
+show_some viewer n o b d may searched (Some cause) is =
+    refused_sight IsBytesOf viewer n o b cause (looked_not o cause searched is)
 
-show_sight : (account : List ℕ) (n : ℕ) (o : Outcome) (b : History) (searched : Option Cause)
-    → cause_of o.searching ≡ searched → (seen : Option DepositValue) → seen_by account n b ≡ seen
-    → IsShownFrom IsBytesOf account n o b (unless searched (show_effect (no_sight o) seen)).says
-show_sight account n o b (Some cause) is seen e =
-    refused_sight IsBytesOf account n o b cause (searched_not o cause is)
-show_sight account n o b None is None e = unsees account n b e
-show_sight account n o b None is (Some d) e =
-    show_some account n o b d (may_see account n b d e) is (no_sight o) refl
+show_sight : (viewer : Viewer) (n : ℕ) (o : Outcome) (b : History) (searched : Option Cause)
+    → cause_of o.searching ≡ searched → (seen : Option DepositValue) → seen_by viewer n b ≡ seen
+    → IsShownFrom IsBytesOf viewer n o b (unless searched (show_effect (no_sight o) seen)).says
+show_sight viewer n o b (Some cause) is seen e =
+    refused_sight IsBytesOf viewer n o b cause (searched_not o cause is)
+show_sight viewer n o b None is None e = unsees viewer n b e
+show_sight viewer n o b None is (Some d) e =
+    show_some viewer n o b d (may_see viewer n b d e) is (no_sight o) refl
 
 -- the reply with its token
-reply_some : (account : List ℕ) (n : ℕ) (o : Outcome) (b : History) (d : DepositValue) → MaySee account n b d
+reply_some : (viewer : Viewer) (n : ℕ) (o : Outcome) (b : History) (d : DepositValue) → MaySee viewer n b d
     → (token : List ℕ) → token_of n b ≡ Some token
-    → IsShownFrom (IsReplyOf b) account n o b (reply_or_nothing (token_of n b))
-reply_some account n o b d may token is =
-    subst (λ x. IsShownFrom (IsReplyOf b) account n o b (reply_or_nothing x)) (sym is) (
+    → IsShownFrom (IsReplyOf b) viewer n o b (reply_or_nothing (token_of n b))
+reply_some viewer n o b d may token is =
+    subst (λ x. IsShownFrom (IsReplyOf b) viewer n o b (reply_or_nothing x)) (sym is) (
       d,
       may,
       (token, ap (λ k. token_of k b) (deposit_number n b d may.deposited) ∙ is, refl),
     )
 
-token_some : (account : List ℕ) (n : ℕ) (o : Outcome) (b : History) (d : DepositValue) → MaySee account n b d
+token_some : (viewer : Viewer) (n : ℕ) (o : Outcome) (b : History) (d : DepositValue) → MaySee viewer n b d
     → cause_of o.searching ≡ None → (sight : Option Cause) → no_sight o ≡ sight
-    → IsShownFrom (IsReplyOf b) account n o b (unless sight (only (reply_or_nothing (token_of n b)))).says
-token_some account n o b d may searched None is =
-    let t = deposit_sealed b n d may.deposited in reply_some account n o b d may t.0 t.1
-token_some account n o b d may searched (Some cause) is =
-    refused_sight (IsReplyOf b) account n o b cause (looked_not o cause searched is)
+    → IsShownFrom (IsReplyOf b) viewer n o b (unless sight (only (reply_or_nothing (token_of n b)))).says
+token_some viewer n o b d may searched None is =
+    let t = deposit_sealed b n d may.deposited in reply_some viewer n o b d may t.0 t.1
+token_some viewer n o b d may searched (Some cause) is =
+    refused_sight (IsReplyOf b) viewer n o b cause (looked_not o cause searched is)
 
-token_sight : (account : List ℕ) (n : ℕ) (o : Outcome) (b : History) (searched : Option Cause)
-    → cause_of o.searching ≡ searched → (seen : Option DepositValue) → seen_by account n b ≡ seen
-    → IsShownFrom (IsReplyOf b) account n o b (unless searched (token_effect (no_sight o) (token_of n b) seen)).says
-token_sight account n o b (Some cause) is seen e =
-    refused_sight (IsReplyOf b) account n o b cause (searched_not o cause is)
-token_sight account n o b None is None e = unsees account n b e
-token_sight account n o b None is (Some d) e =
-    token_some account n o b d (may_see account n b d e) is (no_sight o) refl
+token_sight : (viewer : Viewer) (n : ℕ) (o : Outcome) (b : History) (searched : Option Cause)
+    → cause_of o.searching ≡ searched → (seen : Option DepositValue) → seen_by viewer n b ≡ seen
+    → IsShownFrom (IsReplyOf b) viewer n o b (unless searched (token_effect (no_sight o) (token_of n b) seen)).says
+token_sight viewer n o b (Some cause) is seen e =
+    refused_sight (IsReplyOf b) viewer n o b cause (searched_not o cause is)
+token_sight viewer n o b None is None e = unsees viewer n b e
+token_sight viewer n o b None is (Some d) e =
+    token_some viewer n o b d (may_see viewer n b d e) is (no_sight o) refl
 
 -- a row of a list
-record IsRowFor (account : List ℕ) (b : History) (n : ℕ) (row : ListedValue) : Type 0 where
+record IsRowFor (viewer : Viewer) (b : History) (n : ℕ) (row : ListedValue) : Type 0 where
   deposit : DepositValue
-  may : MaySee account n b deposit
+  may : MaySee viewer n b deposit
   number : row.number ≡ n
   is_row : IsRowOf b deposit row
 
-row_by : (account : List ℕ) (b : History) (n : ℕ) (row : ListedValue) (d : DepositValue) → MaySee account n b d
+row_by : (viewer : Viewer) (b : History) (n : ℕ) (row : ListedValue) (d : DepositValue) → MaySee viewer n b d
     → (at : Option ReservationValue) → reservation_at n b ≡ at → option_map (listed_as d) at ≡ Some row
-    → IsRowFor account b n row
-row_by account b n row d may None is e = cc
-row_by account b n row d may (Some r) is e =
+    → IsRowFor viewer b n row
+row_by viewer b n row d may None is e = cc
+row_by viewer b n row d may (Some r) is e =
     let own = deposit_number n b d may.deposited in
     let made : listed_as d r ≡ row = cc in
     record {
@@ -201,21 +203,21 @@ row_by account b n row d may (Some r) is e =
       };
     }
 
-row_seen : (account : List ℕ) (b : History) (n : ℕ) (row : ListedValue) (seen : Option DepositValue)
-    → seen_by account n b ≡ seen
+row_seen : (viewer : Viewer) (b : History) (n : ℕ) (row : ListedValue) (seen : Option DepositValue)
+    → seen_by viewer n b ≡ seen
     → option_and_then (λ d. option_map (listed_as d) (reservation_at n b)) seen ≡ Some row
-    → IsRowFor account b n row
-row_seen account b n row None is e = cc
-row_seen account b n row (Some d) is e =
-    row_by account b n row d (may_see account n b d is) (reservation_at n b) refl e
+    → IsRowFor viewer b n row
+row_seen viewer b n row None is e = cc
+row_seen viewer b n row (Some d) is e =
+    row_by viewer b n row d (may_see viewer n b d is) (reservation_at n b) refl e
 
-row_of : (account : List ℕ) (b : History) (n : ℕ) (row : ListedValue) → listed_at account b n ≡ Some row
-    → IsRowFor account b n row
-row_of account b n row e = row_seen account b n row (seen_by account n b) refl e
+row_of : (viewer : Viewer) (b : History) (n : ℕ) (row : ListedValue) → listed_at viewer b n ≡ Some row
+    → IsRowFor viewer b n row
+row_of viewer b n row e = row_seen viewer b n row (seen_by viewer n b) refl e
 
 -- what a list of a range of numbers has
-abbrev rows : List ℕ → History → ℕ → ℕ → List ListedValue
-rows account b from count = filter_map (listed_at account b) (range_with_len from count)
+abbrev rows : Viewer → History → ℕ → ℕ → List ListedValue
+rows viewer b from count = filter_map (listed_at viewer b) (range_with_len from count)
 
 abbrev numbers : List ListedValue → List ℕ
 numbers xs = map (λ row. row.number) xs
@@ -241,45 +243,45 @@ lower_than : (m n : ℕ) → m < n → (ns : List ℕ) → AllByRecursion (λ k.
 lower_than m n lt [] h = tt
 lower_than m n lt (k ∷ ks) h = let first = h.0 in (omega arith, lower_than m n lt ks h.1)
 
-climbs_more : (account : List ℕ) (b : History) (from : ℕ) (xs : List ListedValue) → ClimbsFrom (from + 1) xs
-    → (found : Option ListedValue) → listed_at account b from ≡ found → ClimbsFrom from (more_rows found xs)
-climbs_more account b from xs h None is = record {
+climbs_more : (viewer : Viewer) (b : History) (from : ℕ) (xs : List ListedValue) → ClimbsFrom (from + 1) xs
+    → (found : Option ListedValue) → listed_at viewer b from ≡ found → ClimbsFrom from (more_rows found xs)
+climbs_more viewer b from xs h None is = record {
   climbs = h.climbs;
   above = lower from (from + 1) (omega arith) (numbers xs) h.above;
 }
-climbs_more account b from xs h (Some row) is =
-    let number = (row_of account b from row is).number in
+climbs_more viewer b from xs h (Some row) is =
+    let number = (row_of viewer b from row is).number in
     record {
       climbs = (lower_than row.number (from + 1) (omega arith) (numbers xs) h.above, h.climbs);
       above = (omega arith, lower from (from + 1) (omega arith) (numbers xs) h.above);
     }
 
-rows_climb : (account : List ℕ) (b : History) (from count : ℕ) → ClimbsFrom from (rows account b from count)
-rows_climb account b from zero = record { climbs = tt; above = tt }
-rows_climb account b from (suc count) =
-    subst (ClimbsFrom from) (sym (one_more (listed_at account b) from (range_with_len (from + 1) count)))
-    (climbs_more account b from (rows account b (from + 1) count) (rows_climb account b (from + 1) count)
-    (listed_at account b from) refl)
+rows_climb : (viewer : Viewer) (b : History) (from count : ℕ) → ClimbsFrom from (rows viewer b from count)
+rows_climb viewer b from zero = record { climbs = tt; above = tt }
+rows_climb viewer b from (suc count) =
+    subst (ClimbsFrom from) (sym (one_more (listed_at viewer b) from (range_with_len (from + 1) count)))
+    (climbs_more viewer b from (rows viewer b (from + 1) count) (rows_climb viewer b (from + 1) count)
+    (listed_at viewer b from) refl)
 
 -- each row is of a number
-abbrev IsOfSome : List ℕ → History → ListedValue → Type 0
-IsOfSome account b row = (n : ℕ) × (listed_at account b n ≡ Some row)
+abbrev IsOfSome : Viewer → History → ListedValue → Type 0
+IsOfSome viewer b row = (n : ℕ) × (listed_at viewer b n ≡ Some row)
 
-row_more : (account : List ℕ) (b : History) (from : ℕ) (xs : List ListedValue) (row : ListedValue)
-    → (Contains xs row → IsOfSome account b row) → (found : Option ListedValue) → listed_at account b from ≡ found
-    → Contains (more_rows found xs) row → IsOfSome account b row
-row_more account b from xs row others None is h = others h
-row_more account b from xs row others (Some x) is (zero, below, same) =
+row_more : (viewer : Viewer) (b : History) (from : ℕ) (xs : List ListedValue) (row : ListedValue)
+    → (Contains xs row → IsOfSome viewer b row) → (found : Option ListedValue) → listed_at viewer b from ≡ found
+    → Contains (more_rows found xs) row → IsOfSome viewer b row
+row_more viewer b from xs row others None is h = others h
+row_more viewer b from xs row others (Some x) is (zero, below, same) =
     let here : x ≡ row = cc in (from, is ∙ ap Some here)
-row_more account b from xs row others (Some x) is (suc k, below, same) = others (k, omega arith, same)
+row_more viewer b from xs row others (Some x) is (suc k, below, same) = others (k, omega arith, same)
 
-row_in : (account : List ℕ) (b : History) (from count : ℕ) (row : ListedValue) → Contains (rows account b from count) row
-    → IsOfSome account b row
-row_in account b from zero row (k, below, same) = absurd (omega arith)
-row_in account b from (suc count) row h =
-    row_more account b from (rows account b (from + 1) count) row (row_in account b (from + 1) count row)
-    (listed_at account b from) refl
-    (subst (λ xs. Contains xs row) (one_more (listed_at account b) from (range_with_len (from + 1) count)) h)
+row_in : (viewer : Viewer) (b : History) (from count : ℕ) (row : ListedValue) → Contains (rows viewer b from count) row
+    → IsOfSome viewer b row
+row_in viewer b from zero row (k, below, same) = absurd (omega arith)
+row_in viewer b from (suc count) row h =
+    row_more viewer b from (rows viewer b (from + 1) count) row (row_in viewer b (from + 1) count row)
+    (listed_at viewer b from) refl
+    (subst (λ xs. Contains xs row) (one_more (listed_at viewer b) from (range_with_len (from + 1) count)) h)
 
 -- and each number in the range that has a row, has it in the list
 contained_more : (found : Option ListedValue) (xs : List ListedValue) (row : ListedValue) → Contains xs row
@@ -295,44 +297,44 @@ contained_here (Some x) xs row e = let here : x ≡ row = cc in (0, omega arith,
 next_of : (from n : ℕ) → from ≤ n → (from == n) ≡ false → from + 1 ≤ n
 next_of from n low other = grind (arith, nat_tests)
 
-row_at : (account : List ℕ) (b : History) (from count n : ℕ) (row : ListedValue) (here : Bool) → (from == n) ≡ here
-    → (from + 1 ≤ n → Contains (rows account b (from + 1) count) row) → from ≤ n → listed_at account b n ≡ Some row
-    → Contains (more_rows (listed_at account b from) (rows account b (from + 1) count)) row
-row_at account b from count n row true same later low is =
+row_at : (viewer : Viewer) (b : History) (from count n : ℕ) (row : ListedValue) (here : Bool) → (from == n) ≡ here
+    → (from + 1 ≤ n → Contains (rows viewer b (from + 1) count) row) → from ≤ n → listed_at viewer b n ≡ Some row
+    → Contains (more_rows (listed_at viewer b from) (rows viewer b (from + 1) count)) row
+row_at viewer b from count n row true same later low is =
     let number : from ≡ n = eqb-true from n same in
-    contained_here (listed_at account b from) (rows account b (from + 1) count) row
-    (ap (listed_at account b) number ∙ is)
-row_at account b from count n row false other later low is =
-    contained_more (listed_at account b from) (rows account b (from + 1) count) row (later (next_of from n low other))
+    contained_here (listed_at viewer b from) (rows viewer b (from + 1) count) row
+    (ap (listed_at viewer b) number ∙ is)
+row_at viewer b from count n row false other later low is =
+    contained_more (listed_at viewer b from) (rows viewer b (from + 1) count) row (later (next_of from n low other))
 
-has_row : (account : List ℕ) (b : History) (from count n : ℕ) (row : ListedValue) → from ≤ n → n < from + count
-    → listed_at account b n ≡ Some row → Contains (rows account b from count) row
-has_row account b from zero n row low high is = absurd (omega arith)
-has_row account b from (suc count) n row low high is =
-    subst (λ xs. Contains xs row) (sym (one_more (listed_at account b) from (range_with_len (from + 1) count)))
-    (row_at account b from count n row (from == n) refl
-    (λ later. has_row account b (from + 1) count n row later (omega arith) is) low is)
+has_row : (viewer : Viewer) (b : History) (from count n : ℕ) (row : ListedValue) → from ≤ n → n < from + count
+    → listed_at viewer b n ≡ Some row → Contains (rows viewer b from count) row
+has_row viewer b from zero n row low high is = absurd (omega arith)
+has_row viewer b from (suc count) n row low high is =
+    subst (λ xs. Contains xs row) (sym (one_more (listed_at viewer b) from (range_with_len (from + 1) count)))
+    (row_at viewer b from count n row (from == n) refl
+    (λ later. has_row viewer b (from + 1) count n row later (omega arith) is) low is)
 
 -- the whole list
-list_only : (account : List ℕ) (b : History) (row : ListedValue) → Contains (listed account b) row
-    → (d : DepositValue) × MaySee account row.number b d × IsRowOf b d row
-list_only account b row h =
-    let found = row_in account b 1 (greatest_serial b) row h in
-    let r = row_of account b found.0 row found.1 in
-    (r.deposit, subst (λ n. MaySee account n b r.deposit) (sym r.number) r.may, r.is_row)
+list_only : (viewer : Viewer) (b : History) (row : ListedValue) → Contains (listed viewer b) row
+    → (d : DepositValue) × MaySee viewer row.number b d × IsRowOf b d row
+list_only viewer b row h =
+    let found = row_in viewer b 1 (greatest_serial b) row h in
+    let r = row_of viewer b found.0 row found.1 in
+    (r.deposit, subst (λ n. MaySee viewer n b r.deposit) (sym r.number) r.may, r.is_row)
 
-list_all : (account : List ℕ) (b : History) → IsSound b → (n : ℕ) (d : DepositValue) → MaySee account n b d
-    → (row : ListedValue) × Contains (listed account b) row × (row.number ≡ n) × IsRowOf b d row
-list_all account b sound n d m =
+list_all : (viewer : Viewer) (b : History) → IsSound b → (n : ℕ) (d : DepositValue) → MaySee viewer n b d
+    → (row : ListedValue) × Contains (listed viewer b) row × (row.number ≡ n) × IsRowOf b d row
+list_all viewer b sound n d m =
     let r = deposit_reserved b sound n d m.deposited in
     let own = deposit_number n b d m.deposited in
     let low = some_serial b sound n r.0 r.1 in
     let high = reserved_below n b r.0 r.1 in
-    let is : listed_at account b n ≡ Some (listed_as d r.0) =
-    ap (option_and_then (λ x. option_map (listed_as x) (reservation_at n b))) (sees account n b d m)
+    let is : listed_at viewer b n ≡ Some (listed_as d r.0) =
+    ap (option_and_then (λ x. option_map (listed_as x) (reservation_at n b))) (sees viewer n b d m)
     ∙ ap (option_map (listed_as d)) r.1 in (
       listed_as d r.0,
-      has_row account b 1 (greatest_serial b) n (listed_as d r.0) low (omega arith) is,
+      has_row viewer b 1 (greatest_serial b) n (listed_as d r.0) low (omega arith) is,
       own,
       record {
         reservation = r.0;
@@ -341,29 +343,29 @@ list_all account b sound n d m =
       },
     )
 
-list_sight : (account : List ℕ) (o : Outcome) (b : History) → IsSound b → (looked : Option Cause)
+list_sight : (viewer : Viewer) (o : Outcome) (b : History) → IsSound b → (looked : Option Cause)
     → cause_of o.looking ≡ looked
-    → IsListedFrom account o b (unless looked (only (Listed (listed account b)))).says
-list_sight account o b sound None is = record {
-  rising = (rows_climb account b 1 (greatest_serial b)).climbs;
-  only = list_only account b;
-  all = list_all account b sound;
+    → IsListedFrom viewer o b (unless looked (only (Listed (listed viewer b)))).says
+list_sight viewer o b sound None is = record {
+  rising = (rows_climb viewer b 1 (greatest_serial b)).climbs;
+  only = list_only viewer b;
+  all = list_all viewer b sound;
 }
-list_sight account o b sound (Some OfMemory) is = is
-list_sight account o b sound (Some OfStore) is = is
-list_sight account o b sound (Some OfSigner) is = absurd (unsigned_call o.looking is)
+list_sight viewer o b sound (Some OfMemory) is = is
+list_sight viewer o b sound (Some OfStore) is = is
+list_sight viewer o b sound (Some OfSigner) is = absurd (unsigned_call o.looking is)
 
 pub shows_exactly : (s : Setting) (c : Command) (o : Outcome) (b : History) (e : Effect) → IsSound b
-    → HasEffect s c o b e → ShowsExactly c o b e.says
+    → HasEffect s c o b e → ShowsExactly s.file c o b e.says
 shows_exactly s (Show a n) o b e sound h =
-    subst (λ x. ShowsExactly (Show a n) o b x.says) (sym h)
-    (show_sight a.name n o b (cause_of o.searching) refl (seen_by a.name n b) refl)
+    subst (λ x. ShowsExactly s.file (Show a n) o b x.says) (sym h)
+    (show_sight (viewer_in s.file a.name) n o b (cause_of o.searching) refl (seen_by (viewer_in s.file a.name) n b) refl)
 shows_exactly s (Token a n) o b e sound h =
-    subst (λ x. ShowsExactly (Token a n) o b x.says) (sym h)
-    (token_sight a.name n o b (cause_of o.searching) refl (seen_by a.name n b) refl)
+    subst (λ x. ShowsExactly s.file (Token a n) o b x.says) (sym h)
+    (token_sight (viewer_in s.file a.name) n o b (cause_of o.searching) refl (seen_by (viewer_in s.file a.name) n b) refl)
 shows_exactly s (ListAll a) o b e sound h =
-    subst (λ x. ShowsExactly (ListAll a) o b x.says) (sym h)
-    (list_sight a.name o b sound (cause_of o.looking) refl)
+    subst (λ x. ShowsExactly s.file (ListAll a) o b x.says) (sym h)
+    (list_sight (viewer_in s.file a.name) o b sound (cause_of o.looking) refl)
 shows_exactly s (Stamp account reading octets) o b e sound h = tt
 shows_exactly s (Begin account reading octets) o b e sound h = tt
 shows_exactly s (Finish p signature) o b e sound h = tt

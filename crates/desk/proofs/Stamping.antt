@@ -29,7 +29,7 @@ use Rattle.desk.specs.declared.reply.Reply.{Reply}
 use Rattle.desk.specs.declared.reply.Reply.TheVariants as reply
 use Rattle.desk.specs.Fit.{IsFit, IsUncounted}
 use Rattle.desk.specs.Stepped.{StepsBy, IsBlamed, IsOpened, MayBeLeft, IsDoubted, no_signer, with_signer}
-use Rattle.desk.specs.Stepped.{settled_by}
+use Rattle.desk.specs.Stepped.{committed, oldest, in_doubt}
 use Rattle.desk.specs.Wholes.{joined, sealed_by, stamped, IsOfFinish, MayStay, Completes}
 use Rattle.desk.specs.Calls.{refused, cause_with}
 use Rattle.desk.specs.declared.fault.Fault.{Fault}
@@ -194,26 +194,6 @@ stamp_begun s account reading octets o finished signing b e p h says =
       ),
     )
 
--- Over a store.
-
--- Where the signer fails, a stamp adds what a beginning adds.
-void_planned : (s : Setting) (account : List ℕ) (plan : PlanValue) (octets : List ℕ) (o : Outcome) (b : History)
-    (why : Option Cause) → o.signing ≡ Err signer.Failed
-    → (stamp_effect s (stamping_of s account plan octets o b why)).adds
-    ≡ (begin_effect s account plan octets b why).adds
-void_planned s account plan octets o b (Some cause) e = refl
-void_planned s account plan octets o b None e =
-    let r = next_reservation s account plan octets b in
-    ap (λ signing. (stamp_effect s (signed_or_void (pending_of s plan r) r signing o)).adds) e
-
-void_found : (s : Setting) (account : List ℕ) (octets : List ℕ) (o finished : Outcome) (b : History) (f : Finding)
-    → (stamp_found s account octets (joined o (Err signer.Failed) finished) b f).adds
-    ≡ (begin_found s account octets o b f).adds
-void_found s account octets o finished b (Fails rule) = refl
-void_found s account octets o finished b (Unanswered cause) = refl
-void_found s account octets o finished b (Allowed plan) =
-    void_planned s account plan octets (joined o (Err signer.Failed) finished) b (no_number o b) refl
-
 -- Where a beginning adds nothing, it adds nothing under the same calls.
 unjudged_not : (s : Setting) (account : Option AccountValue) (reading : ℤ) (o : Outcome) (b : History) (cause : Cause)
     → IsUnjudged s.file account reading o b cause → o.looking ≡ Fine → o.counting ≡ Fine → ⊥
@@ -260,7 +240,63 @@ none_doubted s account reading octets o b e d h none k =
     ∙ none_again s account reading octets o b h.0 k.0 h.1 (finds_sealed s account reading octets o b k.0 k.1)
     (ap (λ x. x.adds) (sym h.2) ∙ none)
 
+-- the first that a stamp adds is its reservation, as of its beginning
+oldest_sealed : (s : Setting) (r : ReservationValue) (token : List ℕ) (why : Option Cause)
+    → oldest (stamp_effect s (sealed_or_void r token why)).adds ≡ Reserved r ∷ []
+oldest_sealed s r token None = refl
+oldest_sealed s r token (Some cause) = refl
+
+oldest_signed : (s : Setting) (p : PendingValue) (r : ReservationValue) (o : Outcome)
+    (signing : Result (List ℕ) SignerFault)
+    → oldest (stamp_effect s (signed_or_void p r signing o)).adds ≡ Reserved r ∷ []
+oldest_signed s p r o (Ok signature) = oldest_sealed s r (token_with p signature) (no_seal o)
+oldest_signed s p r o (Err signer.Failed) = refl
+oldest_signed s p r o (Err signer.Memory) = refl
+
+oldest_planned : (s : Setting) (account : List ℕ) (plan : PlanValue) (octets : List ℕ) (o : Outcome) (b : History)
+    (why : Option Cause) → oldest (stamp_effect s (stamping_of s account plan octets o b why)).adds
+    ≡ oldest (begin_effect s account plan octets b why).adds
+oldest_planned s account plan octets o b (Some cause) = refl
+oldest_planned s account plan octets o b None =
+    let r = next_reservation s account plan octets b in oldest_signed s (pending_of s plan r) r o o.signing
+
+oldest_found : (s : Setting) (account octets : List ℕ) (o : Outcome) (b : History) (f : Finding)
+    → oldest (stamp_found s account octets o b f).adds ≡ oldest (begin_found s account octets o b f).adds
+oldest_found s account octets o b (Fails rule) = refl
+oldest_found s account octets o b (Unanswered cause) = refl
+oldest_found s account octets o b (Allowed plan) = oldest_planned s account plan octets o b (no_number o b)
+
+begin_signed : (s : Setting) (account octets : List ℕ) (o : Outcome) (signing : Result (List ℕ) SignerFault)
+    (b : History) (f : Finding)
+    → begin_found s account octets (record o { signing = signing }) b f ≡ begin_found s account octets o b f
+begin_signed s account octets o signing b (Fails rule) = refl
+begin_signed s account octets o signing b (Unanswered cause) = refl
+begin_signed s account octets o signing b (Allowed plan) = refl
+
 -- what is in doubt after a beginning that added nothing is in doubt after its stamp
+left_first : {B : Type 0} (g : Ghosts B) (s : Setting) (account : Option AccountValue) (reading : ℤ) (octets : List ℕ)
+    (o : Outcome) (b : History) (old : B) (answer : Answer) (left : g.Left) (call : Call) → o.adding ≡ call
+    → ((entries : List Entry) → in_doubt call entries ≡ oldest entries)
+    → IsDoubted g s (Begin account reading octets) o b left
+    → MayBeLeft g s (Stamp account reading octets) (joined o (Ok []) o) b old (only answer) left
+left_first g s account reading octets o b old answer left call is first d =
+    let has = d.has in
+    let made = record (committed o) { signing = Ok [] } in
+    let doubted = stamp_found s (name_of account) octets made b has.0 in
+    let same : in_doubt call d.doubted.adds ≡ in_doubt call doubted.adds =
+    ap (λ x. in_doubt call x.adds) has.2
+    ∙ (first (begin_found s (name_of account) octets (committed o) b has.0).adds
+    ∙ (ap (λ x. oldest x.adds) (sym (begin_signed s (name_of account) octets (committed o) (Ok []) b has.0))
+    ∙ (sym (oldest_found s (name_of account) octets made b has.0) ∙ sym (first doubted.adds)))) in
+    inr (inr (record {
+      refused = d.refused;
+      doubted = doubted;
+      has = (has.0, finds_joined s account reading octets (committed o) (committed o) (Ok []) b has.0 has.1, refl);
+      holds = subst (λ x. g.holds left (in_doubt x doubted.adds ++ b)) (sym is)
+          (subst (λ es. g.holds left (es ++ b)) same
+          (subst (λ x. g.holds left (in_doubt x d.doubted.adds ++ b)) is d.holds));
+    }))
+
 left_decided : {B : Type 0} (g : Ghosts B) (s : Setting) (account : Option AccountValue) (reading : ℤ)
     (octets : List ℕ) (o : Outcome) (b : History) (old : B) (e : Effect) (answer : Answer) (left : g.Left)
     → HasEffect s (Begin account reading octets) o b e → e.adds ≡ []
@@ -268,33 +304,15 @@ left_decided : {B : Type 0} (g : Ghosts B) (s : Setting) (account : Option Accou
     → IsDoubted g s (Begin account reading octets) o b left
     → MayBeLeft g s (Stamp account reading octets) (joined o (Ok []) o) b old (only answer) left
 left_decided g s account reading octets o b old e answer left h none Fine is d =
-    let has = subst (λ x. HasEffect s (Begin account reading octets) (settled_by x o) b d.doubted) is d.has in
+    let has = subst (λ x. HasEffect s (Begin account reading octets) (record o { adding = x; sealing = Fine }) b
+    d.doubted) (sym is) d.has in
     inr (inl (subst (λ es. g.holds left (es ++ b))
-    (none_doubted s account reading octets o b e d.doubted h none has) d.holds))
+    (none_doubted s account reading octets o b e d.doubted h none has)
+    (subst (λ x. g.holds left (in_doubt x d.doubted.adds ++ b)) is d.holds)))
 left_decided g s account reading octets o b old e answer left h none Wanting is d =
-    let has = subst (λ x. HasEffect s (Begin account reading octets) (settled_by x o) b d.doubted) is d.has in
-    let o2 = record o { adding = Fine; signing = Err signer.Failed } in
-    let doubted = stamp_found s (name_of account) octets (joined o2 (Err signer.Failed) o) b has.0 in
-    inr (inr (record {
-      refused = d.refused;
-      doubted = doubted;
-      has = subst (λ x. HasEffect s (Stamp account reading octets) (settled_by x (joined o (Ok []) o)) b doubted)
-          (sym is) (has.0, finds_joined s account reading octets o2 o (Err signer.Failed) b has.0 has.1, refl);
-      holds = subst (λ es. g.holds left (es ++ b))
-          (ap (λ x. x.adds) has.2 ∙ sym (void_found s (name_of account) octets o2 o b has.0)) d.holds;
-    }))
+    left_first g s account reading octets o b old answer left Wanting is (λ entries. refl) d
 left_decided g s account reading octets o b old e answer left h none Broken is d =
-    let has = subst (λ x. HasEffect s (Begin account reading octets) (settled_by x o) b d.doubted) is d.has in
-    let o2 = record o { adding = Fine; signing = Err signer.Failed } in
-    let doubted = stamp_found s (name_of account) octets (joined o2 (Err signer.Failed) o) b has.0 in
-    inr (inr (record {
-      refused = d.refused;
-      doubted = doubted;
-      has = subst (λ x. HasEffect s (Stamp account reading octets) (settled_by x (joined o (Ok []) o)) b doubted)
-          (sym is) (has.0, finds_joined s account reading octets o2 o (Err signer.Failed) b has.0 has.1, refl);
-      holds = subst (λ es. g.holds left (es ++ b))
-          (ap (λ x. x.adds) has.2 ∙ sym (void_found s (name_of account) octets o2 o b has.0)) d.holds;
-    }))
+    left_first g s account reading octets o b old answer left Broken is (λ entries. refl) d
 
 -- the calls that a stamp makes
 stamp_fits : (account : Option AccountValue) (reading : ℤ) (octets : List ℕ) (o : Outcome)
@@ -523,11 +541,11 @@ left_finished g s p signature o b old e left fine is (inr (inl holds)) =
     inr (inl (subst (λ es. g.holds left (es ++ b))
     (ap (λ x. x.adds) is ∙ unless_adds p signature (no_seal o)) holds))
 left_finished g s p signature o b old e left fine is (inr (inr d)) =
-    let has = subst (λ x. HasEffect s (Finish p signature) (settled_by x o) b d.doubted) fine d.has in
     inr (inr (
       d.refused fine,
       subst (λ es. g.holds left (es ++ b))
-          (ap (λ x. x.adds) has ∙ unless_adds p signature (no_seal (record o { sealing = Fine }))) d.holds,
+          (ap (λ x. x.adds) d.has ∙ unless_adds p signature (no_seal (record o { sealing = Fine })))
+          (subst (λ x. g.holds left (in_doubt x d.doubted.adds ++ b)) fine d.holds),
     ))
 
 -- after a signature: the finish

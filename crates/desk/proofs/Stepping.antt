@@ -2,7 +2,6 @@
 use Rattle.std.proofs.Common.{zero, ◌≡◌, ℕ, suc, ◌⊎◌, nat_le, cond, ℤ, Bool, true, false, List, [], ◌∷◌, ◌++◌, length}
 use Rattle.std.proofs.Common.{Option, Some, None, Result, Ok, Err, drop, refl, sym, ◌∙◌, ap, subst, inl, inr}
 use Rattle.std.specs.Option.{option_and_then}
-use Rattle.std.specs.Str.{bytes_eq}
 use Rattle.std.proofs.lemmas.Bool.{eq-eqb}
 use Rattle.sha2.specs.Sha256.{sha256}
 use Rattle.policy.specs.Record.{AccountValue, PolicyValue}
@@ -12,8 +11,10 @@ use Rattle.cms.specs.declared.signer.SignerFault.TheVariants as signer
 use Rattle.book.specs.History.{Entry, Reserved, Sealed, Deposited, Calibrated, Held, Granted, Revoked, History}
 use Rattle.book.specs.History.{ReservationValue, DepositValue, CalibrationValue, greatest_serial, latest_calibration}
 use Rattle.book.specs.History.{token_of, deposit_at, deposit_under}
-use Rattle.book.specs.Rights.{seen_by, shown_to, is_reader}
+use Rattle.book.specs.Readers.{Reader, Viewer}
+use Rattle.book.specs.Rights.{seen_by, shown_to, may_read}
 use Rattle.book.specs.Sound.{Along, Fits, FitsSealed, FitsRight, greatest_number}
+use Rattle.book.specs.Values.{deposit_of}
 use Rattle.desk.specs.Content.{IsTrueOf}
 use Rattle.desk.specs.Outcome.{Outcome, Cause, cause_of}
 use Rattle.desk.specs.Findings.{PlanValue, IsAllowed, Finding, Fails, Unanswered, Allowed, Finds}
@@ -22,11 +23,13 @@ use Rattle.desk.specs.Command.{ListAll, Grant, Revoke, Calibrate, Hold, Answer, 
 use Rattle.desk.specs.Texts.{octets_for, request_for, pending_of, token_with}
 use Rattle.desk.specs.Effects.{Effect, only, unless, Stamping, Unreserved, Void, Sealing, no_number, no_seal}
 use Rattle.desk.specs.Effects.{next_reservation, sealed_or_void, signed_or_void, stamping_of, stamp_effect, stamp_found}
-use Rattle.desk.specs.Effects.{begin_effect, begin_found, finish_effect, deposit_row, deposit_effect, deposit_found}
+use Rattle.desk.specs.Effects.{begin_effect, begin_found, finish_effect, deposit_effect, deposit_found}
 use Rattle.desk.specs.Effects.{known_effect, show_effect, token_effect, right_effect, is_backwards, calibrate_effect}
 use Rattle.desk.specs.Effects.{name_of}
-use Rattle.desk.specs.Steps.{KeepsUnder, KeepsUnless, Keeps, HasEffect, IsMet}
+use Rattle.desk.specs.Steps.{KeepsByReference, KeepsOnceSearched, KeepsWithinSize, HasEffect, IsMet}
 use Rattle.desk.specs.Runs.{IsProper}
+use Rattle.desk.specs.Viewers.{viewer_in}
+use Rattle.desk.proofs.Branches.{unless_has, right_has}
 use Rattle.desk.proofs.Views.{unsealed_above}
 use Rattle.desk.proofs.Sound.{TextLaws, IsGoodEntry, AreGood, reserved_good, number_left, not_full}
 
@@ -105,7 +108,7 @@ stamp_good s b g next (Sealing r token) h =
 deposited_good : (owner reference bytes token : List ℕ) (b : History) → Along Fits b → (r : ReservationValue)
     → IsGoodEntry (Reserved r) b
     → r.account ≡ owner → r.digest ≡ sha256 bytes → deposit_under owner reference b ≡ None
-    → IsGoodEntry (Deposited (deposit_row r.serial owner reference bytes) token) (Reserved r ∷ b)
+    → IsGoodEntry (Deposited (deposit_of r.serial owner reference bytes) token) (Reserved r ∷ b)
 deposited_good owner reference bytes token b g r new own digest unused = record {
   fits = record { sealed = waiting b g r new; owner = own; unused = unused };
   true_of = record { reservation = r; reserved = rw (eq-eqb r.serial r.serial refl); digest = digest };
@@ -145,26 +148,23 @@ at_most_good entry e b g new (inr h) = rw h (new, tt)
 none_good : (e : Effect) (b : History) → Along Fits b → e.adds ≡ [] → AddsGood e.adds b
 none_good e b g h = rw h tt
 
--- what an account sees is a deposit
-shown_is : (account : List ℕ) (reader : Bool) (o : Option DepositValue) (d : DepositValue)
-    → option_and_then (shown_to account reader) o ≡ Some d
+-- what is seen is a deposit
+shown_is : (viewer : Viewer) (reads : Bool) (o : Option DepositValue) (d : DepositValue)
+    → option_and_then (shown_to viewer reads) o ≡ Some d
     → (x : DepositValue) × (o ≡ Some x)
-shown_is account reader None d e = cc
-shown_is account reader (Some x) d e = (x, refl)
+shown_is viewer reads None d e = cc
+shown_is viewer reads (Some x) d e = (x, refl)
 
-pub right_seen : (account : List ℕ) (n : ℕ) (b : History) (d : DepositValue) → seen_by account n b ≡ Some d
+pub right_seen : (viewer : Viewer) (n : ℕ) (b : History) (d : DepositValue) → seen_by viewer n b ≡ Some d
     → FitsRight n b
-right_seen account n b d e =
-    let found = shown_is account (is_reader n account b) (deposit_at n b) d e in
+right_seen viewer n b d e =
+    let found = shown_is viewer (may_read viewer n b) (deposit_at n b) d e in
     record { deposit = found.0; deposited = found.1 }
 
-pub right_at_most : (file : PolicyValue) (account reader : List ℕ) (o : Outcome) (entry : Entry) (d : DepositValue)
-    → IsAtMost entry (right_effect file account reader o entry (Some d))
-right_at_most file account reader o entry d =
-    at_most_unless entry (cause_of o.looking) _ (at_most_if entry (bytes_eq d.owner account) _ _
-    (at_most_if entry _ _ _ (at_most_if entry (bytes_eq reader account) _ _ (inl refl) (at_most_unless entry
-    (cause_of o.adding) _ (inr refl))) (inl refl))
-    (inl refl))
+pub right_at_most : (file : PolicyValue) (account : List ℕ) (reader : Reader) (o : Outcome) (entry : Entry)
+    (seen : Option DepositValue) → IsAtMost entry (right_effect file account reader o entry seen)
+right_at_most file account reader o entry seen =
+    right_has (IsAtMost entry) (λ f. inl refl) file account reader o entry seen (λ d is owns. inr refl)
 
 begin_good : TextLaws → (s : Setting) → IsProper s
     → (account : Option AccountValue) (name : List ℕ) (reading : ℤ) (octets : List ℕ) (o : Outcome) (b : History)
@@ -218,7 +218,7 @@ known_none bytes d = refl
 keeps_under_good : TextLaws → (s : Setting) → IsProper s
     → (a : AccountValue) (reading : ℤ) (reference bytes : List ℕ) (o : Outcome) (b : History) (e : Effect)
     → Along Fits b → (under : Option DepositValue) → deposit_under a.name reference b ≡ under
-    → KeepsUnder s a reading reference bytes o b under e → AddsGood e.adds b
+    → KeepsByReference s a reading reference bytes o b under e → AddsGood e.adds b
 keeps_under_good laws s proper a reading reference bytes o b e g (Some d) is h = none_good e b g (ap (λ x. x.adds) h)
 keeps_under_good laws s proper a reading reference bytes o b e g None is h =
     subst (λ x. AddsGood x.adds b) (sym h.1.2)
@@ -226,7 +226,7 @@ keeps_under_good laws s proper a reading reference bytes o b e g None is h =
 
 keeps_unless_good : TextLaws → (s : Setting) → IsProper s
     → (a : AccountValue) (reading : ℤ) (reference bytes : List ℕ) (o : Outcome) (b : History) (e : Effect)
-    → Along Fits b → (refused : Option Cause) → KeepsUnless s a reading reference bytes o b refused e
+    → Along Fits b → (refused : Option Cause) → KeepsOnceSearched s a reading reference bytes o b refused e
     → AddsGood e.adds b
 keeps_unless_good laws s proper a reading reference bytes o b e g (Some cause) h = none_good e b g
     (ap (λ x. x.adds) h)
@@ -235,7 +235,7 @@ keeps_unless_good laws s proper a reading reference bytes o b e g None h =
 
 keeps_good : TextLaws → (s : Setting) → IsProper s
     → (a : AccountValue) (reading : ℤ) (reference bytes : List ℕ) (o : Outcome) (b : History) (e : Effect)
-    → Along Fits b → (short : Bool) → Keeps s a reading reference bytes o b short e → AddsGood e.adds b
+    → Along Fits b → (short : Bool) → KeepsWithinSize s a reading reference bytes o b short e → AddsGood e.adds b
 keeps_good laws s proper a reading reference bytes o b e g true h = keeps_unless_good laws s proper a reading
     reference bytes o b e g (cause_of o.searching) h
 keeps_good laws s proper a reading reference bytes o b e g false h = none_good e b g (ap (λ x. x.adds) h)
@@ -258,17 +258,16 @@ pub answers_none : (refused : Option Cause) (answer : Answer) → (unless refuse
 answers_none (Some cause) answer = refl
 answers_none None answer = refl
 
-right_good : (file : PolicyValue) (account reader : List ℕ) (n : ℕ) (o : Outcome) (b : History) (entry : Entry)
-    → Along Fits b
-    → (FitsRight n b → IsGoodEntry entry b) → (seen : Option DepositValue) → seen_by account n b ≡ seen
-    → AddsGood (unless (cause_of o.searching) (right_effect file account reader o entry seen)).adds b
-right_good file account reader n o b entry g new None is =
-    none_good (unless (cause_of o.searching) (right_effect file account reader o entry None)) b g
-    (answers_none (cause_of o.searching) _)
-right_good file account reader n o b entry g new (Some d) is =
-    at_most_good entry (unless (cause_of o.searching) (right_effect file account reader o entry (Some d))) b g
-    (new (right_seen account n b d is))
-    (at_most_unless entry (cause_of o.searching) _ (right_at_most file account reader o entry d))
+right_good : (file : PolicyValue) (account : List ℕ) (reader : Reader) (n : ℕ) (o : Outcome) (b : History)
+    (entry : Entry) → (FitsRight n b → IsGoodEntry entry b)
+    → AddsGood (unless (cause_of o.searching)
+    (right_effect file account reader o entry (seen_by (viewer_in file account) n b))).adds b
+right_good file account reader n o b entry new =
+    let P : Effect → Type 0 = λ x. AddsGood x.adds b in
+    let seen = seen_by (viewer_in file account) n b in
+    unless_has P (λ f. tt) (cause_of o.searching) (right_effect file account reader o entry seen)
+    (right_has P (λ f. tt) file account reader o entry seen
+    (λ d is owns. (new (right_seen (viewer_in file account) n b d is), tt)))
 
 calibrate_at_most : (c : CalibrationValue) (b : History) → IsAtMost (Calibrated c) (calibrate_effect c b)
 calibrate_at_most c b = at_most_if (Calibrated c) (is_backwards c (latest_calibration b)) _ _ (inl refl) (inr refl)
@@ -298,19 +297,19 @@ step_adds laws s proper (Abandon p) o b e g met h = none_good e b g (ap (λ x. x
 step_adds laws s proper (Deposit a reading reference bytes) o b e g met h =
     keeps_good laws s proper a reading reference bytes o b e g (nat_le (length bytes) 1_048_576) h
 step_adds laws s proper (Show a n) o b e g met h = none_good e b g (ap (λ x. x.adds) h
-    ∙ shows_none (cause_of o.searching) _ (seen_by a.name n b))
+    ∙ shows_none (cause_of o.searching) _ (seen_by (viewer_in s.file a.name) n b))
 step_adds laws s proper (Token a n) o b e g met h = none_good e b g (ap (λ x. x.adds) h
-    ∙ tokens_none (cause_of o.searching) _ (token_of n b) (seen_by a.name n b))
+    ∙ tokens_none (cause_of o.searching) _ (token_of n b) (seen_by (viewer_in s.file a.name) n b))
 step_adds laws s proper (ListAll a) o b e g met h = none_good e b g (ap (λ x. x.adds) h
     ∙ answers_none (cause_of o.looking) _)
 step_adds laws s proper (Grant a n reader) o b e g met h =
     subst (λ x. AddsGood x.adds b) (sym h)
-    (right_good s.file a.name reader n o b (Granted n reader) g
-    (λ fits. record { fits = fits; true_of = tt; rising = tt }) (seen_by a.name n b) refl)
+    (right_good s.file a.name reader n o b (Granted n reader)
+    (λ fits. record { fits = fits; true_of = tt; rising = tt }))
 step_adds laws s proper (Revoke a n reader) o b e g met h =
     subst (λ x. AddsGood x.adds b) (sym h)
-    (right_good s.file a.name reader n o b (Revoked n reader) g
-    (λ fits. record { fits = fits; true_of = tt; rising = tt }) (seen_by a.name n b) refl)
+    (right_good s.file a.name reader n o b (Revoked n reader)
+    (λ fits. record { fits = fits; true_of = tt; rising = tt }))
 step_adds laws s proper (Calibrate c) o b e g met h =
     subst (λ x. AddsGood x.adds b) (sym h)
     (at_most_good (Calibrated c) (unless (cause_of o.adding) (calibrate_effect c b)) b g

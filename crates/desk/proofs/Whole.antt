@@ -12,6 +12,7 @@ use Rattle.desk.specs.Effects.{Effect}
 use Rattle.desk.specs.Steps.{HasEffect, IsMet}
 use Rattle.desk.specs.Runs.{IsProper, Told, Journey, goes, stops, after, cut, Runs, HasProperties}
 use Rattle.desk.specs.Laws.{Continues, AreMet, AreCommandsOf, RunsAlike}
+use Rattle.desk.specs.Viewers.{viewer_in}
 use Rattle.desk.proofs.Sound.{TextLaws}
 use Rattle.desk.proofs.Stepping.{step_adds, adds_fit, adds_true, adds_cut}
 use Rattle.desk.proofs.Keeping.{journeys_have_properties}
@@ -85,10 +86,10 @@ own_met account (Hold h) b own = absurd own
 pub runs_alike : {S : Type 0} (signs : S → List ℕ → Result (List ℕ) SignerFault → S → Type 0) → TextLaws
     → (account : List ℕ) (s : Setting) (cs : List Command) (os : List Outcome)
     (b c : History) (x : S) (answers : List Answer) (b' : History) (x' : S) → IsProper s → AreCommandsOf account cs
-    → IsSound b → IsSound c → Agree account b c
+    → IsSound b → IsSound c → Agree (viewer_in s.file account) b c
     → Runs signs s cs os b x answers b' x' → RunsAlike signs account s cs os c x answers b' x'
 runs_alike signs laws account s [] [] b c x [] b' x' proper own one other agree h =
-    record { left = c; runs = (refl, h.1); agree = subst (λ y. Agree account y c) (sym h.0) agree }
+    record { left = c; runs = (refl, h.1); agree = subst (λ y. Agree (viewer_in s.file account) y c) (sym h.0) agree }
 runs_alike signs laws account s (d ∷ ds) (o ∷ os) b c x (answer ∷ answers) b' x' proper own one other agree h =
     let e = h.0 in
     let same = effect_same account s d o b c e agree own.0 h.2.0 in

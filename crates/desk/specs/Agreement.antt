@@ -1,8 +1,9 @@
 -- What an account may know of a history: histories that agree for it can't be told apart by its commands.
 use Rattle.std.specs.Prelude.{◌≡◌, ℕ, List, filter, Option, Some, None, option_map}
 use Rattle.std.specs.Str.{bytes_eq}
-use Rattle.book.specs.History.{History, DepositValue, stamps, deposits, holds, latest_calibration, last_gen_time}
-use Rattle.book.specs.History.{greatest_serial, reservation_at, token_of}
+use Rattle.book.specs.History.{History, DepositValue, CalibrationValue, HoldValue, stamps, deposits, holds}
+use Rattle.book.specs.History.{latest_calibration, last_gen_time, greatest_serial, reservation_at, token_of}
+use Rattle.book.specs.Readers.{Viewer}
 use Rattle.book.specs.Rights.{seen_by}
 use Rattle.desk.specs.Command.{Command, Stamp, Begin, Finish, Abandon, Deposit, Show, Token, ListAll, Grant, Revoke}
 use Rattle.desk.specs.Command.{Calibrate, Hold}
@@ -20,21 +21,33 @@ seen_as number b d = record {
   token = token_of number b;
 }
 
-abbrev pub seen_at : List ℕ → ℕ → History → Option SeenValue
-seen_at account number b = option_map (seen_as number b) (seen_by account number b)
+abbrev pub seen_at : Viewer → ℕ → History → Option SeenValue
+seen_at viewer number b = option_map (seen_as number b) (seen_by viewer number b)
 
--- Two histories agree for an account: the same stamps of its own, the same deposits of its own and deposits that it
--- sees, and the same clock, last genTime and greatest serial number.
-pub record Agree (account : List ℕ) (b c : History) : Type 0 where
-  pub own_stamps : filter (λ s. bytes_eq s.account account) (stamps b)
-      ≡ filter (λ s. bytes_eq s.account account) (stamps c)
-  pub own_deposits : filter (λ d. bytes_eq d.owner account) (deposits b)
-      ≡ filter (λ d. bytes_eq d.owner account) (deposits c)
-  pub seen : (number : ℕ) → seen_at account number b ≡ seen_at account number c
-  pub calibration : latest_calibration b ≡ latest_calibration c
-  pub holding : holds b ≡ holds c
-  pub last : last_gen_time b ≡ last_gen_time c
-  pub greatest : greatest_serial b ≡ greatest_serial c
+-- what all accounts may know: the clock, the genTime that was reserved last, and the greatest serial number
+pub record Shared : Type 0 where
+  pub calibration : Option CalibrationValue
+  pub holding : List HoldValue
+  pub last : Option ℕ
+  pub greatest : ℕ
+
+abbrev pub shared_by : History → Shared
+shared_by b = record {
+  calibration = latest_calibration b;
+  holding = holds b;
+  last = last_gen_time b;
+  greatest = greatest_serial b;
+}
+
+-- Two histories agree for who asks: the same stamps of its own, the same deposits of its own and deposits that it sees,
+-- and the same of what all share.
+pub record Agree (viewer : Viewer) (b c : History) : Type 0 where
+  pub own_stamps : filter (λ s. bytes_eq s.account viewer.name) (stamps b)
+      ≡ filter (λ s. bytes_eq s.account viewer.name) (stamps c)
+  pub own_deposits : filter (λ d. bytes_eq d.owner viewer.name) (deposits b)
+      ≡ filter (λ d. bytes_eq d.owner viewer.name) (deposits c)
+  pub seen : (number : ℕ) → seen_at viewer number b ≡ seen_at viewer number c
+  pub shared : shared_by b ≡ shared_by c
 
 -- the command is the account's own
 abbrev pub IsCommandOf : List ℕ → Command → Type 0

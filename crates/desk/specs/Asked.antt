@@ -2,6 +2,7 @@
 use Rattle.std.specs.Prelude.{List, map}
 use Rattle.policy.specs.View.{account_view}
 use Rattle.decide.specs.View.{account_asked}
+use Rattle.book.specs.Readers.{Account, Group}
 use Rattle.book.specs.Values.{calibration_view, hold_view}
 use Rattle.desk.specs.Command as machine
 use Rattle.desk.specs.Answers.{reply_as}
@@ -18,8 +19,14 @@ command_view (command.Deposit account reading reference bytes) =
 command_view (command.Show account number) = machine.Show (account_view account.now) number
 command_view (command.Token account number) = machine.Token (account_view account.now) number
 command_view (command.List account) = machine.ListAll (account_view account.now)
-command_view (command.Grant account number reader) = machine.Grant (account_view account.now) number reader.now
-command_view (command.Revoke account number reader) = machine.Revoke (account_view account.now) number reader.now
+command_view (command.Grant account number reader) =
+    machine.Grant (account_view account.now) number (Account reader.now)
+command_view (command.Revoke account number reader) =
+    machine.Revoke (account_view account.now) number (Account reader.now)
+command_view (command.GrantGroup account number group) =
+    machine.Grant (account_view account.now) number (Group group.now)
+command_view (command.RevokeGroup account number group) =
+    machine.Revoke (account_view account.now) number (Group group.now)
 command_view (command.Calibrate calibration) = machine.Calibrate (calibration_view calibration)
 command_view (command.Hold hold) = machine.Hold (hold_view hold)
 

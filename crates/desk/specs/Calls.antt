@@ -15,6 +15,7 @@ use Rattle.book.specs.declared.fault.StoreFault.{StoreFault}
 use Rattle.book.specs.declared.fault.StoreFault.TheVariants as store
 use Rattle.book.specs.declared.standing.Standing.{Ghosts}
 use Rattle.book.specs.History.{History, CalibrationValue, greatest_serial, count_of_day}
+use Rattle.book.specs.Readers as readers
 use Rattle.book.specs.Stands.{Stands}
 use Rattle.desk.specs.Facts.{calibration_of, clock_of}
 use Rattle.desk.specs.Outcome.{Call, Fine, Wanting, Broken, Outcome, Cause, OfMemory, OfStore, OfSigner, all_fine}
@@ -22,7 +23,7 @@ use Rattle.desk.specs.Effects.{Effect, begin_effect, no_number, fault_of}
 use Rattle.desk.specs.Findings.{PlanValue, Finding, Fails, Unanswered, Allowed}
 use Rattle.desk.specs.Command.{Setting, PendingValue, Answer, Begun, Refused}
 use Rattle.desk.specs.Runs.{after}
-use Rattle.desk.specs.Stepped.{settled}
+use Rattle.desk.specs.Stepped.{committed}
 use Rattle.desk.specs.Texts.{tst_of}
 use Rattle.desk.specs.declared.finding.Found.{Found}
 use Rattle.desk.specs.declared.finding.Found.TheVariants as found
@@ -30,6 +31,8 @@ use Rattle.desk.specs.declared.finding.Planned.{Planned}
 use Rattle.desk.specs.declared.looking.Looked.{Looked}
 use Rattle.desk.specs.declared.reserving.Prepared.{Prepared}
 use Rattle.desk.specs.declared.opening.Opening.{Opening}
+use Rattle.desk.specs.declared.reader.Reader.{Reader}
+use Rattle.desk.specs.declared.reader.Reader.TheVariants as reader
 use Rattle.desk.specs.declared.refusal.Refusal.{Refusal}
 use Rattle.desk.specs.declared.refusal.Refusal.TheVariants as refusal
 
@@ -37,16 +40,11 @@ use Rattle.desk.specs.declared.refusal.Refusal.TheVariants as refusal
 abbrev pub call_of : StoreFault → Call
 call_of store.Memory = Wanting
 call_of store.Database = Broken
-call_of store.NotOurs = Fine
-call_of store.Full = Fine
-call_of store.Backwards = Fine
+call_of _ = Fine
 
 abbrev pub store_cause : StoreFault → Cause
 store_cause store.Memory = OfMemory
-store_cause store.Database = OfStore
-store_cause store.NotOurs = OfStore
-store_cause store.Full = OfStore
-store_cause store.Backwards = OfStore
+store_cause _ = OfStore
 
 abbrev pub signer_cause : SignerFault → Cause
 signer_cause signer.Failed = OfSigner
@@ -75,11 +73,8 @@ refused (refusal.Sealing f) = record (all_fine (Ok [])) { sealing = call_of f }
 
 -- why the store reserved nothing
 abbrev pub adding_refusal : StoreFault → Refusal
-adding_refusal store.Memory = refusal.Adding store.Memory
-adding_refusal store.Database = refusal.Adding store.Database
-adding_refusal store.NotOurs = refusal.Adding store.NotOurs
 adding_refusal store.Full = refusal.Spent
-adding_refusal store.Backwards = refusal.Adding store.Backwards
+adding_refusal f = refusal.Adding f
 
 -- the store refuses a look-up or a commit by want of memory, or by a cause that it counts
 abbrev pub IsOfStore : StoreFault → Type 0
@@ -89,23 +84,14 @@ IsOfStore f = (f ≡ store.Memory) ⊎ (f ≡ store.Database)
 abbrev pub IsOfLooks : Refusal → Type 0
 IsOfLooks (refusal.Looking f) = IsOfStore f
 IsOfLooks (refusal.Counting f) = IsOfStore f
-IsOfLooks refusal.Spent = ⊥
-IsOfLooks refusal.Growing = ⊥
-IsOfLooks (refusal.Adding f) = ⊥
-IsOfLooks (refusal.Signing f) = ⊥
-IsOfLooks refusal.Wrapping = ⊥
-IsOfLooks (refusal.Sealing f) = ⊥
+IsOfLooks _ = ⊥
 
 -- a reservation was refused
 abbrev pub IsOfReserving : Refusal → Type 0
-IsOfReserving (refusal.Looking f) = ⊥
-IsOfReserving (refusal.Counting f) = ⊥
 IsOfReserving refusal.Spent = Unit {0}
 IsOfReserving refusal.Growing = Unit {0}
 IsOfReserving (refusal.Adding f) = IsOfStore f
-IsOfReserving (refusal.Signing f) = ⊥
-IsOfReserving refusal.Wrapping = ⊥
-IsOfReserving (refusal.Sealing f) = ⊥
+IsOfReserving _ = ⊥
 
 abbrev pub IsOfBeginning : Refusal → Type 0
 IsOfBeginning r = IsOfLooks r ⊎ IsOfReserving r
@@ -117,6 +103,11 @@ outcome_of (Err r) = refused r
 -- with what the desk was opened
 abbrev pub opening_view : Opening → Setting
 opening_view o = record { file = policy_view o.policy.now; identity = o.identity.now; algorithm = o.algorithm.now }
+
+-- whom a right names
+abbrev pub reader_view : Reader → readers.Reader
+reader_view (reader.Account name) = readers.Account name.now
+reader_view (reader.Group name) = readers.Group name.now
 
 abbrev pub looked_at : ℤ → History → Looked
 looked_at reading b = record { clock = clock_of reading b; serial = greatest_serial b }
@@ -182,7 +173,7 @@ abbrev pub LeftReserving : {B : Type 0} → (g : Ghosts B) → Setting → List 
 LeftReserving g s account plan octets o b old left =
     (((reserving s account plan octets o b).adds ≡ []) × g.leaves old left)
     ⊎ (g.holds left (after (reserving s account plan octets o b) b)
-    ⊎ ((o.adding ≡ Fine → ⊥) × g.holds left (after (reserving s account plan octets (settled o) b) b)))
+    ⊎ ((o.adding ≡ Fine → ⊥) × g.holds left (after (reserving s account plan octets (committed o) b) b)))
 
 pub record Reserves {B : Type 0} (g : Ghosts B) (s : Setting) (account : List ℕ) (plan : PlanValue) (octets : List ℕ)
     (b : History) (old new : B) (result : Result PendingValue Refusal) : Type 0 where

@@ -1,7 +1,8 @@
 -- How proofs tell the values of desks apart: no definitions.
 use Rattle.std.specs.Prelude.{ℕ, Bool, List, Option, refl}
 use Rattle.std.specs.Coded.{Coded, code_by, coded×, coded_ℕ, coded_bool, coded_list, coded_option}
-use Rattle.policy.specs.Record.{AlgorithmValue, ExtensionValue, TsaPolicyValue, AccountValue, CounterValue, PolicyValue}
+use Rattle.policy.specs.Record.{AlgorithmValue, ExtensionValue, TsaPolicyValue, AccountValue, GroupValue}
+use Rattle.policy.specs.Record.{CounterValue, PolicyValue}
 use Rattle.cms.specs.Identity.{IdentityValue}
 use Rattle.desk.specs.Command.{Setting}
 use Rattle.desk.specs.Stepped.{DeskValue}
@@ -46,6 +47,11 @@ account_code =
       daily_quota = p.1.1.1.1.1.1;
     }) (λ _. refl)
 
+abbrev group_code : Coded GroupValue
+group_code =
+    code_by (List ℕ × List (List ℕ)) (coded× octets names) (λ g. (g.name, g.members))
+    (λ p. record { name = p.0; members = p.1 }) (λ _. refl)
+
 abbrev counter_code : Coded CounterValue
 counter_code =
     code_by (ℕ × (ℕ × (Bool × (ℕ × (ℕ × Option (List ℕ))))))
@@ -62,16 +68,18 @@ counter_code =
 
 abbrev file_code : Coded PolicyValue
 file_code =
-    code_by (CounterValue × (List AlgorithmValue × (List ExtensionValue × (List TsaPolicyValue × List AccountValue))))
+    code_by (CounterValue × (List AlgorithmValue × (List ExtensionValue × (List TsaPolicyValue
+    × (List AccountValue × List GroupValue)))))
     (coded× counter_code (coded× (coded_list algorithm_code) (coded× (coded_list extension_code)
-    (coded× (coded_list tsa_policy_code) (coded_list account_code)))))
-    (λ f. (f.counter, (f.algorithms, (f.extensions, (f.policies, f.accounts)))))
+    (coded× (coded_list tsa_policy_code) (coded× (coded_list account_code) (coded_list group_code))))))
+    (λ f. (f.counter, (f.algorithms, (f.extensions, (f.policies, (f.accounts, f.groups))))))
     (λ p. record {
       counter = p.0;
       algorithms = p.1.0;
       extensions = p.1.1.0;
       policies = p.1.1.1.0;
-      accounts = p.1.1.1.1;
+      accounts = p.1.1.1.1.0;
+      groups = p.1.1.1.1.1;
     }) (λ _. refl)
 
 abbrev identity_code : Coded IdentityValue

@@ -4,6 +4,7 @@ use Rattle.policy.specs.Record.{AccountValue, PolicyValue}
 use Rattle.tsp.specs.declared.rule.Rule.{Rule}
 use Rattle.cms.specs.Identity.{IdentityValue}
 use Rattle.book.specs.History.{CalibrationValue, HoldValue}
+use Rattle.book.specs.Readers.{Reader}
 use Rattle.book.specs.Rights.{ListedValue}
 use Rattle.desk.specs.declared.fault.Fault.{Fault}
 
@@ -36,9 +37,9 @@ pub data Command : Type 0 where
   Show : AccountValue → ℕ → Command
   Token : AccountValue → ℕ → Command
   ListAll : AccountValue → Command
-  -- account, number, the reader's name
-  Grant : AccountValue → ℕ → List ℕ → Command
-  Revoke : AccountValue → ℕ → List ℕ → Command
+  -- account, number, whom the right names
+  Grant : AccountValue → ℕ → Reader → Command
+  Revoke : AccountValue → ℕ → Reader → Command
   Calibrate : CalibrationValue → Command
   Hold : HoldValue → Command
 

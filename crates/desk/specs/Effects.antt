@@ -1,15 +1,19 @@
 -- What a command adds to the history, what it has signed, and what it answers.
 use Rattle.std.specs.Prelude.{ℕ, ◌+◌, nat_le, int_lt, Bool, true, false, if◌then◌else◌, List, [], ◌∷◌, map, Option}
 use Rattle.std.specs.Prelude.{Some, None, Result, Ok, Err}
+use Rattle.std.specs.Option.{is_some}
 use Rattle.std.specs.Str.{bytes_eq}
 use Rattle.policy.specs.Record.{AccountValue, PolicyValue}
 use Rattle.policy.specs.Kinds.{is_among}
+use Rattle.policy.specs.LookUp.{group_named}
 use Rattle.tsp.specs.declared.rule.Rule.TheVariants.{System}
 use Rattle.cms.specs.SignedData.{attribute_text}
 use Rattle.cms.specs.declared.signer.SignerFault.{SignerFault}
 use Rattle.book.specs.History.{Entry, Reserved, Sealed, Deposited, Calibrated, History, ReservationValue, DepositValue}
 use Rattle.book.specs.History.{CalibrationValue, greatest_serial, latest_calibration}
+use Rattle.book.specs.Readers.{Reader, Account, Group}
 use Rattle.book.specs.Sound.{greatest_number}
+use Rattle.book.specs.Values.{deposit_of}
 use Rattle.desk.specs.Outcome.{Outcome, Cause, OfMemory, OfStore, OfSigner, cause_of, cause_of_signing, first_cause}
 use Rattle.desk.specs.Findings.{PlanValue, Finding, Fails, Unanswered, Allowed}
 use Rattle.desk.specs.Command.{Setting, PendingValue, Answer, Stamped, Rejected, Begun, Kept, Shown, Done, Refused}
@@ -119,21 +123,12 @@ finish_effect p signature = record {
 }
 
 -- Deposit: token and deposit stand in one entry
-abbrev pub deposit_row : ℕ → List ℕ → List ℕ → List ℕ → DepositValue
-deposit_row number owner reference bytes = record {
-  serial = number;
-  owner = owner;
-  reference = reference;
-  bytes =
-      bytes;
-}
-
 abbrev pub deposit_effect : Setting → List ℕ → List ℕ → List ℕ → Stamping → Effect
 deposit_effect s owner reference bytes (Unreserved cause) = only (Refused (fault_of cause))
 deposit_effect s owner reference bytes (Void r cause) =
     record { adds = Reserved r ∷ []; asks = Some (attribute_text s.identity r.tst); says = Refused (fault_of cause) }
 deposit_effect s owner reference bytes (Sealing r token) = record {
-  adds = Deposited (deposit_row r.serial owner reference bytes) token ∷ Reserved r ∷ [];
+  adds = Deposited (deposit_of r.serial owner reference bytes) token ∷ Reserved r ∷ [];
   asks = Some (attribute_text s.identity r.tst);
   says = Kept r.serial true;
 }
@@ -172,19 +167,32 @@ token_effect refused token (Some d) = unless refused (only (reply_or_nothing tok
 abbrev pub has_account : PolicyValue → List ℕ → Bool
 has_account file name = is_among (map (λ a. a.name) file.accounts) name
 
--- Grant and Revoke by the owner: the entry
-abbrev pub right_of_owner : PolicyValue → List ℕ → List ℕ → Option Cause → Entry → Effect
-right_of_owner file account reader refused entry =
-    if has_account file reader then
-    (if bytes_eq reader account then only (Refused fault.SelfGrant)
-    else unless refused (record { adds = entry ∷ []; asks = None; says = Done }))
-    else only (Refused fault.UnknownReader)
+-- a group of the file has the name
+abbrev pub has_group : PolicyValue → List ℕ → Bool
+has_group file name = is_some (group_named file name)
 
-abbrev pub right_effect : PolicyValue → List ℕ → List ℕ → Outcome → Entry → Option DepositValue → Effect
+-- What is against a right that the owner gives or takes: the file has no account or no group of that name, or it is the
+-- owner itself. A group may hold the owner.
+abbrev pub objection : PolicyValue → List ℕ → Reader → Option Fault
+objection file owner (Account name) =
+    if has_account file name then (if bytes_eq name owner then Some fault.SelfGrant else None)
+    else Some fault.UnknownReader
+objection file owner (Group name) = if has_group file name then None else Some fault.UnknownGroup
+
+-- an entry that is accepted
+abbrev pub accepted : Entry → Effect
+accepted entry = record { adds = entry ∷ []; asks = None; says = Done }
+
+abbrev pub unless_against : Option Fault → Effect → Effect
+unless_against None effect = effect
+unless_against (Some f) effect = only (Refused f)
+
+-- Grant and Revoke: the entry, by the owner alone
+abbrev pub right_effect : PolicyValue → List ℕ → Reader → Outcome → Entry → Option DepositValue → Effect
 right_effect file account reader o entry None = only (Refused fault.NotHere)
 right_effect file account reader o entry (Some d) =
-    unless (cause_of o.looking) (if bytes_eq d.owner account then right_of_owner file account reader
-    (cause_of o.adding) entry
+    unless (cause_of o.looking) (if bytes_eq d.owner account then unless_against (objection file account reader)
+    (unless (cause_of o.adding) (accepted entry))
     else only (Refused fault.NotOwner))
 
 -- a calibration before the last one
@@ -195,4 +203,4 @@ is_backwards c (Some last) = int_lt c.reading last.reading
 abbrev pub calibrate_effect : CalibrationValue → History → Effect
 calibrate_effect c b =
     if is_backwards c (latest_calibration b) then only (Refused fault.Store)
-    else record { adds = Calibrated c ∷ []; asks = None; says = Done }
+    else accepted (Calibrated c)

@@ -13,14 +13,11 @@ abbrev pub calibration_of : CalibrationValue → Calibration
 calibration_of c = record { reading = c.reading; offset = c.offset; uncertainty = c.uncertainty }
 
 -- the moment that the reading stands for
-abbrev pub now_in : ℤ → Option CalibrationValue → Option ℤ
-now_in reading None = None
-now_in reading (Some c) = Some (now_at reading (calibration_of c))
-
--- the same, of what the store answers
 abbrev pub now_with : ℤ → Option Calibration → Option ℤ
-now_with reading None = None
-now_with reading (Some c) = Some (now_at reading c)
+now_with reading calibration = option_map (now_at reading) calibration
+
+abbrev pub now_in : ℤ → Option CalibrationValue → Option ℤ
+now_in reading latest = now_with reading (option_map calibration_of latest)
 
 -- a hold holds moments that a genTime can state
 abbrev pub is_held_at : Option ℤ → History → Bool

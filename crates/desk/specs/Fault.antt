@@ -2,6 +2,7 @@
 use Rattle.std.specs.Prelude.{ℕ, ◌≤◌}
 use Rattle.tsp.specs.Rejection.{number_of as number_of_rule}
 use Rattle.tsp.specs.declared.rule.Rule.{Rule}
+use Rattle.book.specs.Readers.{Reader, Account, Group}
 use Rattle.desk.specs.declared.fault.Fault.{Fault}
 use Rattle.desk.specs.declared.fault.Fault.TheVariants as fault
 
@@ -16,6 +17,7 @@ number_of (fault.Rejected rule) = 7
 number_of fault.Memory = 8
 number_of fault.Store = 9
 number_of fault.Signer = 10
+number_of fault.UnknownGroup = 11
 
 -- a rule from 3 to 11: the rules 1 and 2 hold of each deposit's request, and rule 12 isn't judged
 abbrev pub IsLate : Rule → Type 0
@@ -23,39 +25,37 @@ IsLate rule = (3 ≤ number_of_rule rule) × (number_of_rule rule ≤ 11)
 
 -- how a deposit is refused
 abbrev pub IsOfDeposit : Fault → Type 0
-IsOfDeposit fault.NotHere = ⊥
-IsOfDeposit fault.NotOwner = ⊥
 IsOfDeposit fault.Conflict = Unit {0}
-IsOfDeposit fault.UnknownReader = ⊥
-IsOfDeposit fault.SelfGrant = ⊥
 IsOfDeposit fault.TooLarge = Unit {0}
 IsOfDeposit (fault.Rejected rule) = IsLate rule
 IsOfDeposit fault.Memory = Unit {0}
 IsOfDeposit fault.Store = Unit {0}
 IsOfDeposit fault.Signer = Unit {0}
+IsOfDeposit _ = ⊥
 
 -- how a deposit that is asked for is refused
 abbrev pub IsOfSight : Fault → Type 0
 IsOfSight fault.NotHere = Unit {0}
-IsOfSight fault.NotOwner = ⊥
-IsOfSight fault.Conflict = ⊥
-IsOfSight fault.UnknownReader = ⊥
-IsOfSight fault.SelfGrant = ⊥
-IsOfSight fault.TooLarge = ⊥
-IsOfSight (fault.Rejected rule) = ⊥
 IsOfSight fault.Memory = Unit {0}
 IsOfSight fault.Store = Unit {0}
-IsOfSight fault.Signer = ⊥
+IsOfSight _ = ⊥
 
--- how the right to see one is refused, and taking it
-abbrev pub IsOfRight : Fault → Type 0
-IsOfRight fault.NotHere = Unit {0}
-IsOfRight fault.NotOwner = Unit {0}
-IsOfRight fault.Conflict = ⊥
-IsOfRight fault.UnknownReader = Unit {0}
-IsOfRight fault.SelfGrant = Unit {0}
-IsOfRight fault.TooLarge = ⊥
-IsOfRight (fault.Rejected rule) = ⊥
-IsOfRight fault.Memory = Unit {0}
-IsOfRight fault.Store = Unit {0}
-IsOfRight fault.Signer = ⊥
+-- the right is an account's, or a group's
+abbrev pub NamesAccount : Reader → Type 0
+NamesAccount (Account name) = Unit {0}
+NamesAccount (Group name) = ⊥
+
+abbrev pub NamesGroup : Reader → Type 0
+NamesGroup (Account name) = ⊥
+NamesGroup (Group name) = Unit {0}
+
+-- how the right of a reader to see one is refused, and taking it
+abbrev pub IsOfRight : Reader → Fault → Type 0
+IsOfRight reader fault.NotHere = Unit {0}
+IsOfRight reader fault.NotOwner = Unit {0}
+IsOfRight reader fault.UnknownReader = NamesAccount reader
+IsOfRight reader fault.SelfGrant = NamesAccount reader
+IsOfRight reader fault.UnknownGroup = NamesGroup reader
+IsOfRight reader fault.Memory = Unit {0}
+IsOfRight reader fault.Store = Unit {0}
+IsOfRight reader _ = ⊥

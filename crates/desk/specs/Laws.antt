@@ -12,7 +12,9 @@ use Rattle.cms.specs.SignedData.{attribute_text, token}
 use Rattle.cms.specs.declared.signer.SignerFault.{SignerFault}
 use Rattle.book.specs.History.{Entry, Reserved, Deposited, History, ReservationValue, stamps, deposits, holds}
 use Rattle.book.specs.History.{latest_calibration, greatest_serial, deposit_at}
+use Rattle.book.specs.Readers.{Viewer}
 use Rattle.book.specs.Sound.{greatest_number}
+use Rattle.book.specs.Values.{deposit_of}
 use Rattle.desk.specs.Agreement.{seen_at, Agree, IsCommandOf}
 use Rattle.desk.specs.Outcome.{Outcome, Cause, cause_of, cause_of_signing}
 use Rattle.desk.specs.Findings.{PlanValue, IsAllowed, HoldsAt}
@@ -20,11 +22,12 @@ use Rattle.desk.specs.Command.{Setting, PendingValue, Command, Stamp, Begin, Fin
 use Rattle.desk.specs.Command.{ListAll, Grant, Revoke, Calibrate, Hold, Answer, Stamped, Rejected, Begun, Kept}
 use Rattle.desk.specs.Command.{Refused}
 use Rattle.desk.specs.Texts.{tst_of, reservation_of, pending_of, token_with, gives_certificate, request_for, octets_for}
-use Rattle.desk.specs.Effects.{Effect, next_reservation, name_of, deposit_row}
+use Rattle.desk.specs.Effects.{Effect, next_reservation, name_of}
 use Rattle.desk.specs.declared.fault.Fault.TheVariants as fault
 use Rattle.desk.specs.Steps.{HasEffect, IsMet}
 use Rattle.desk.specs.Runs.{Told, after, cut, Runs}
 use Rattle.desk.specs.Serials.{serials_of}
+use Rattle.desk.specs.Viewers.{viewer_in}
 
 -- A grant: no rule of 1 to 11 fails, the serial number is the greatest plus one, and the reply has the token over the
 -- TSTInfo of the plan under that number, with the signature that the signer answered.
@@ -84,7 +87,7 @@ pub record IsDeposited (s : Setting) (a : AccountValue) (reading : ℤ) (referen
   pub next : number ≡ greatest_serial b + 1
   pub signature : List ℕ
   pub signed : o.signing ≡ Ok signature
-  pub adds : e.adds ≡ Deposited (deposit_row number a.name reference bytes) (token s.identity s.algorithm
+  pub adds : e.adds ≡ Deposited (deposit_of number a.name reference bytes) (token s.identity s.algorithm
       (tst_of s.file plan number) signature (gives_certificate s.file a))
       ∷ Reserved (reservation_of s.file a.name plan (octets_for s.file a bytes) number) ∷ []
 
@@ -100,7 +103,7 @@ IsOfPlan s (Finish p signature) o b e (Stamped serial reply) = IsFinished p sign
 IsOfPlan s (Deposit a reading reference bytes) o b e (Kept number true) =
     IsDeposited s a reading reference bytes o b e number
 IsOfPlan s (Deposit a reading reference bytes) o b e (Kept number false) =
-    deposit_at number b ≡ Some (deposit_row number a.name reference bytes)
+    deposit_at number b ≡ Some (deposit_of number a.name reference bytes)
 IsOfPlan s (Deposit a reading reference bytes) o b e (Refused (fault.Rejected rule)) =
     IsFirstFailing (HoldsAt s.file (Some a) reading (octets_for s.file a bytes) b) rule
 IsOfPlan s c o b e answer = Unit {0}
@@ -150,7 +153,7 @@ pub record RunsAlike {S : Type 0} (signs : S → List ℕ → Result (List ℕ) 
     (os : List Outcome) (c : History) (x : S) (answers : List Answer) (b' : History) (x' : S) : Type 0 where
   pub left : History
   pub runs : Runs signs s cs os c x answers left x'
-  pub agree : Agree account b' left
+  pub agree : Agree (viewer_in s.file account) b' left
 
 -- the command is another account's
 abbrev pub IsCommandOfOther : List ℕ → Command → Type 0
@@ -170,26 +173,17 @@ IsCommandOfOther account (Hold h) = ⊥
 
 -- the command gives or takes a right to the deposit with this number
 abbrev pub Concerns : ℕ → Command → Type 0
-Concerns number (Stamp by reading octets) = ⊥
-Concerns number (Begin by reading octets) = ⊥
-Concerns number (Finish p signature) = ⊥
-Concerns number (Abandon p) = ⊥
-Concerns number (Deposit a reading reference bytes) = ⊥
-Concerns number (Show a n) = ⊥
-Concerns number (Token a n) = ⊥
-Concerns number (ListAll a) = ⊥
 Concerns number (Grant a n reader) = n ≡ number
 Concerns number (Revoke a n reader) = n ≡ number
-Concerns number (Calibrate c) = ⊥
-Concerns number (Hold h) = ⊥
+Concerns number _ = ⊥
 
--- Of what agreement for an account names, all stays but the greatest serial number, the last genTime and deposits to
+-- Of what agreement for who asks names, all stays but the greatest serial number, the last genTime and deposits to
 -- which a right is given or taken.
-pub record StaysFor (account : List ℕ) (concerned : ℕ → Type 0) (b c : History) : Type 0 where
-  pub own_stamps : filter (λ s. bytes_eq s.account account) (stamps b)
-      ≡ filter (λ s. bytes_eq s.account account) (stamps c)
-  pub own_deposits : filter (λ d. bytes_eq d.owner account) (deposits b)
-      ≡ filter (λ d. bytes_eq d.owner account) (deposits c)
-  pub seen : (number : ℕ) → (concerned number → ⊥) → seen_at account number b ≡ seen_at account number c
+pub record StaysFor (viewer : Viewer) (concerned : ℕ → Type 0) (b c : History) : Type 0 where
+  pub own_stamps : filter (λ s. bytes_eq s.account viewer.name) (stamps b)
+      ≡ filter (λ s. bytes_eq s.account viewer.name) (stamps c)
+  pub own_deposits : filter (λ d. bytes_eq d.owner viewer.name) (deposits b)
+      ≡ filter (λ d. bytes_eq d.owner viewer.name) (deposits c)
+  pub seen : (number : ℕ) → (concerned number → ⊥) → seen_at viewer number b ≡ seen_at viewer number c
   pub calibration : latest_calibration b ≡ latest_calibration c
   pub holding : holds b ≡ holds c

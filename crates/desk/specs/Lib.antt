@@ -25,4 +25,5 @@ pub mod Sight
 pub mod Stepped
 pub mod Steps
 pub mod Texts
+pub mod Viewers
 pub mod Wholes

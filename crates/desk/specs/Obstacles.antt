@@ -4,13 +4,16 @@ use Rattle.std.specs.Str.{bytes_eq}
 use Rattle.policy.specs.Record.{PolicyValue}
 use Rattle.book.specs.Values.{deposit_view}
 use Rattle.book.specs.History.{History, DepositValue, token_of}
+use Rattle.book.specs.Readers.{Reader, Viewer}
 use Rattle.book.specs.Rights.{seen_by}
 use Rattle.book.specs.declared.fault.StoreFault.{StoreFault}
 use Rattle.book.specs.declared.values.StampedDeposit.{StampedDeposit}
 use Rattle.desk.specs.Outcome.{Outcome, Wanting, all_fine}
 use Rattle.desk.specs.Command.{Answer, Refused}
-use Rattle.desk.specs.Effects.{fault_of, has_account}
+use Rattle.desk.specs.Effects.{fault_of, objection}
 use Rattle.desk.specs.Calls.{call_of, store_cause, IsOfStore}
+use Rattle.desk.specs.Fault.{NamesAccount, NamesGroup}
+use Rattle.desk.specs.Viewers.{viewer_in}
 use Rattle.desk.specs.declared.fault.Fault.{Fault}
 use Rattle.desk.specs.declared.fault.Fault.TheVariants as fault
 use Rattle.desk.specs.declared.obstacle.Obstacle.{Obstacle}
@@ -20,6 +23,7 @@ abbrev pub fault_with : Obstacle → Fault
 fault_with obstacle.NotHere = fault.NotHere
 fault_with obstacle.NotOwner = fault.NotOwner
 fault_with obstacle.UnknownReader = fault.UnknownReader
+fault_with obstacle.UnknownGroup = fault.UnknownGroup
 fault_with obstacle.SelfGrant = fault.SelfGrant
 fault_with (obstacle.Searching f) = fault_of (store_cause f)
 fault_with (obstacle.Looking f) = fault_of (store_cause f)
@@ -36,6 +40,7 @@ abbrev pub hindered : Obstacle → Outcome
 hindered obstacle.NotHere = all_fine (Ok [])
 hindered obstacle.NotOwner = all_fine (Ok [])
 hindered obstacle.UnknownReader = all_fine (Ok [])
+hindered obstacle.UnknownGroup = all_fine (Ok [])
 hindered obstacle.SelfGrant = all_fine (Ok [])
 hindered (obstacle.Searching f) = record (all_fine (Ok [])) { searching = call_of f }
 hindered (obstacle.Looking f) = record (all_fine (Ok [])) { looking = call_of f }
@@ -56,6 +61,7 @@ abbrev pub IsOfSight : Obstacle → Type 0
 IsOfSight obstacle.NotHere = Unit {0}
 IsOfSight obstacle.NotOwner = ⊥
 IsOfSight obstacle.UnknownReader = ⊥
+IsOfSight obstacle.UnknownGroup = ⊥
 IsOfSight obstacle.SelfGrant = ⊥
 IsOfSight (obstacle.Searching f) = IsOfStore f
 IsOfSight (obstacle.Looking f) = IsOfStore f
@@ -63,53 +69,59 @@ IsOfSight obstacle.Growing = ⊥
 IsOfSight (obstacle.Adding f) = ⊥
 
 -- what stands in the way of giving or taking a right to it
-abbrev pub IsOfRight : Obstacle → Type 0
-IsOfRight obstacle.NotHere = Unit {0}
-IsOfRight obstacle.NotOwner = Unit {0}
-IsOfRight obstacle.UnknownReader = Unit {0}
-IsOfRight obstacle.SelfGrant = Unit {0}
-IsOfRight (obstacle.Searching f) = IsOfStore f
-IsOfRight (obstacle.Looking f) = IsOfStore f
-IsOfRight obstacle.Growing = ⊥
-IsOfRight (obstacle.Adding f) = ⊥
+abbrev pub IsOfRight : Reader → Obstacle → Type 0
+IsOfRight reader obstacle.NotHere = Unit {0}
+IsOfRight reader obstacle.NotOwner = Unit {0}
+IsOfRight reader obstacle.UnknownReader = NamesAccount reader
+IsOfRight reader obstacle.UnknownGroup = NamesGroup reader
+IsOfRight reader obstacle.SelfGrant = NamesAccount reader
+IsOfRight reader (obstacle.Searching f) = IsOfStore f
+IsOfRight reader (obstacle.Looking f) = IsOfStore f
+IsOfRight reader obstacle.Growing = ⊥
+IsOfRight reader (obstacle.Adding f) = ⊥
 
--- the account sees this deposit, and its number has this token
-pub record Sees (account : List ℕ) (number : ℕ) (b : History) (found : StampedDeposit) : Type 0 where
-  pub seen : seen_by account number b ≡ Some (deposit_view found.deposit)
+-- who asks sees this deposit, and its number has this token
+pub record Sees (viewer : Viewer) (number : ℕ) (b : History) (found : StampedDeposit) : Type 0 where
+  pub seen : seen_by viewer number b ≡ Some (deposit_view found.deposit)
   pub token : token_of number b ≡ option_map (λ t. t.items) found.stamp.token
 
 -- it sees none with that number, or what it sees couldn't be read
-abbrev pub IsUnseen : List ℕ → ℕ → History → Obstacle → Type 0
-IsUnseen account number b obstacle.NotHere = seen_by account number b ≡ None
-IsUnseen account number b obstacle.NotOwner = Unit {0}
-IsUnseen account number b obstacle.UnknownReader = Unit {0}
-IsUnseen account number b obstacle.SelfGrant = Unit {0}
-IsUnseen account number b (obstacle.Searching f) = Unit {0}
-IsUnseen account number b (obstacle.Looking f) = (d : DepositValue) × (seen_by account number b ≡ Some d)
-IsUnseen account number b obstacle.Growing = Unit {0}
-IsUnseen account number b (obstacle.Adding f) = Unit {0}
+abbrev pub IsUnseen : Viewer → ℕ → History → Obstacle → Type 0
+IsUnseen viewer number b obstacle.NotHere = seen_by viewer number b ≡ None
+IsUnseen viewer number b obstacle.NotOwner = Unit {0}
+IsUnseen viewer number b obstacle.UnknownReader = Unit {0}
+IsUnseen viewer number b obstacle.UnknownGroup = Unit {0}
+IsUnseen viewer number b obstacle.SelfGrant = Unit {0}
+IsUnseen viewer number b (obstacle.Searching f) = Unit {0}
+IsUnseen viewer number b (obstacle.Looking f) = (d : DepositValue) × (seen_by viewer number b ≡ Some d)
+IsUnseen viewer number b obstacle.Growing = Unit {0}
+IsUnseen viewer number b (obstacle.Adding f) = Unit {0}
+
+-- the account sees this deposit, which is its own
+pub record Owns (file : PolicyValue) (account : List ℕ) (number : ℕ) (b : History) (d : DepositValue) : Type 0 where
+  pub seen : seen_by (viewer_in file account) number b ≡ Some d
+  pub owns : bytes_eq d.owner account ≡ true
 
 -- the account may give and take a reader's right to the deposit
-pub record MayName (file : PolicyValue) (account reader : List ℕ) (number : ℕ) (b : History) : Type 0 where
+pub record MayName (file : PolicyValue) (account : List ℕ) (reader : Reader) (number : ℕ) (b : History)
+    : Type 0 where
   pub deposit : DepositValue
-  pub seen : seen_by account number b ≡ Some deposit
-  pub owns : bytes_eq deposit.owner account ≡ true
-  pub known : has_account file reader ≡ true
-  pub another : bytes_eq reader account ≡ false
+  pub own : Owns file account number b deposit
+  pub unopposed : objection file account reader ≡ None
 
 -- and why not
-abbrev pub MayNot : PolicyValue → List ℕ → List ℕ → ℕ → History → Obstacle → Type 0
-MayNot file account reader number b obstacle.NotHere = seen_by account number b ≡ None
+abbrev pub MayNot : PolicyValue → List ℕ → Reader → ℕ → History → Obstacle → Type 0
+MayNot file account reader number b obstacle.NotHere = seen_by (viewer_in file account) number b ≡ None
 MayNot file account reader number b obstacle.NotOwner =
-    (d : DepositValue) × ((seen_by account number b ≡ Some d) × (bytes_eq d.owner account ≡ false))
+    (d : DepositValue) × ((seen_by (viewer_in file account) number b ≡ Some d) × (bytes_eq d.owner account ≡ false))
 MayNot file account reader number b obstacle.UnknownReader =
-    (d : DepositValue) × ((seen_by account number b ≡ Some d) × (bytes_eq d.owner account ≡ true)
-    × (has_account file reader ≡ false))
+    (d : DepositValue) × (Owns file account number b d × (objection file account reader ≡ Some fault.UnknownReader))
+MayNot file account reader number b obstacle.UnknownGroup =
+    (d : DepositValue) × (Owns file account number b d × (objection file account reader ≡ Some fault.UnknownGroup))
 MayNot file account reader number b obstacle.SelfGrant =
-    (d : DepositValue) × ((seen_by account number b ≡ Some d) × (bytes_eq d.owner account ≡ true)
-    × (has_account file reader ≡ true) × (bytes_eq reader account ≡ true))
+    (d : DepositValue) × (Owns file account number b d × (objection file account reader ≡ Some fault.SelfGrant))
 MayNot file account reader number b (obstacle.Searching f) = Unit {0}
 MayNot file account reader number b (obstacle.Looking f) =
-    (d : DepositValue) × (seen_by account number b ≡ Some d)
+    (d : DepositValue) × (seen_by (viewer_in file account) number b ≡ Some d)
 MayNot file account reader number b obstacle.Growing = Unit {0}
 MayNot file account reader number b (obstacle.Adding f) = Unit {0}

@@ -1,6 +1,7 @@
 -- What the store, the signer and memory answer in one command: all that a command's effect may depend on besides the
 -- history.
-use Rattle.std.specs.Prelude.{ℕ, ◌+◌, ◌%◌, ◌^◌, List, [], ◌∷◌, Option, Some, None, Result, Ok, Err}
+use Rattle.std.specs.Prelude.{ℕ, List, [], ◌∷◌, Option, Some, None, Result, Ok, Err}
+use Rattle.book.specs.Fault.{next_count}
 use Rattle.cms.specs.declared.signer.SignerFault.{SignerFault}
 use Rattle.cms.specs.declared.signer.SignerFault.TheVariants as signer
 
@@ -52,10 +53,7 @@ first_cause [] = None
 first_cause (None ∷ causes) = first_cause causes
 first_cause (Some cause ∷ causes) = Some cause
 
--- the store's count of faults, modulo 2^64: it goes up with each call that is refused for another cause than memory
-abbrev pub next_count : ℕ → ℕ
-next_count count = (count + 1) % 2 ^ 64
-
+-- the store's count of faults: it goes up with each call that is refused for another cause than memory
 abbrev pub counted : Call → ℕ → ℕ
 counted Fine count = count
 counted Wanting count = count

@@ -12,12 +12,13 @@ use Rattle.desk.specs.Steps.{HasEffect, IsMet}
 use Rattle.desk.specs.Runs.{IsProper, after}
 use Rattle.desk.specs.Laws.{IsReservedText, IsPendingOf, IsOfPlan, IsCommandOfOther, Concerns, StaysFor}
 use Rattle.desk.specs.Sight.{ShowsExactly}
+use Rattle.desk.specs.Viewers.{viewer_in}
 
 -- the same effect from another history, and that the histories after it agree
 pub record IsAlike (account : List ℕ) (s : Setting) (c : Command) (o : Outcome) (b other : History) (e : Effect)
     : Type 0 where
   pub has : HasEffect s c o other e
-  pub agree : Agree account (after e b) (after e other)
+  pub agree : Agree (viewer_in s.file account) (after e b) (after e other)
 
 pub record KeepsPromises (s : Setting) (c : Command) (o : Outcome) (b : History) (e : Effect) : Type 0 where
   -- What a signer is asked to sign, and what waits for its signature, is over the reservation that the command adds
@@ -27,15 +28,15 @@ pub record KeepsPromises (s : Setting) (c : Command) (o : Outcome) (b : History)
   -- A grant, a rejection and a deposit is of its plan, or by the first rule that fails.
   pub of_plan : IsOfPlan s c o b e e.says
   -- A deposit is shown or listed to exactly its owner and its current readers.
-  pub shows : ShowsExactly c o b e.says
+  pub shows : ShowsExactly s.file c o b e.says
   -- An account's command has the same effect, and so the same answer, from each sound history that agrees for the
   -- account, under the same outcome, and the histories that follow agree again.
   pub isolated : (account : List ℕ) → IsCommandOf account c → (other : History) → IsSound other
-      → Agree account b other → IsAlike account s c o b other e
+      → Agree (viewer_in s.file account) b other → IsAlike account s c o b other e
   -- Another account's command changes, of what agreement for this one names, at most the greatest serial number, the
   -- last genTime and the one deposit to which it gives or takes a right.
   pub undisturbed : (account : List ℕ) → IsCommandOfOther account c
-      → StaysFor account (λ number. Concerns number c) b (after e b)
+      → StaysFor (viewer_in s.file account) (λ number. Concerns number c) b (after e b)
   -- A history that is sound in full is left sound in full: each deposit's stamp has the digest of its octets, and each
   -- reservation the TSTInfo that answers its request.
   pub whole : IsProper s → IsSoundInFull b → IsMet c b → IsSoundInFull (after e b)

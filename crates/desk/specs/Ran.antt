@@ -3,6 +3,7 @@ use Rattle.std.specs.Prelude.{◌≡◌, ◌⊎◌, ℕ, List, [], ◌∷◌, Re
 use Rattle.book.specs.declared.standing.Standing.{Ghosts}
 use Rattle.cms.specs.declared.signer.SignerFault.{SignerFault}
 use Rattle.book.specs.History.{History}
+use Rattle.book.specs.Readers.{Reader}
 use Rattle.book.specs.Rights.{is_reader}
 use Rattle.book.specs.Sound.{IsSound}
 use Rattle.book.specs.Stands.{Stands}
@@ -17,6 +18,7 @@ use Rattle.desk.specs.Serials.{given_along, AreInOrder}
 use Rattle.desk.specs.Promises.{KeepsPromises}
 use Rattle.desk.specs.Laws.{Continues, AreMet, AreCommandsOf, RunsAlike, IsCommandOfOther, Concerns, StaysFor}
 use Rattle.desk.specs.Stepped.{StepsBy, IsDoubted, with_signer}
+use Rattle.desk.specs.Viewers.{viewer_in}
 
 -- Each call is a step under its outcome, from what the one before it left of store and signer.
 abbrev pub AreSteps : {B X : Type 0} → Ghosts B → (X → List ℕ → Result (List ℕ) SignerFault → X → Type 0) → (X → ℕ)
@@ -64,8 +66,8 @@ OneConcerns number (c ∷ cs) = Concerns number c ⊎ OneConcerns number cs
 pub record GoesOn (b : History) (w : List Told) : Type 0 where
   pub journey : Journey b w
   pub properties : HasProperties b w
-  pub readers : (j : Journey b w) (number : ℕ) (account : List ℕ)
-      → is_reader number account b ≡ is_reader number account (rights_along j)
+  pub readers : (j : Journey b w) (number : ℕ) (reader : Reader)
+      → is_reader number reader b ≡ is_reader number reader (rights_along j)
   pub given : (j : Journey b w) → AreInOrder (given_along j) b
 
 -- what was asked and answered before, and these commands with their answers, the newest first
@@ -103,12 +105,13 @@ pub record HasRun {B X : Type 0} (g : Ghosts B) (signs : X → List ℕ → Resu
   pub promises : ArePromised s cs os answers b
   -- Where the commands are one account's, they would be answered so from each history that agrees with b for it, and
   -- the histories that follow agree again.
-  pub isolated : (account : List ℕ) → AreCommandsOf account cs → (c : History) → IsSound c → Agree account b c
+  pub isolated : (account : List ℕ) → AreCommandsOf account cs → (c : History) → IsSound c
+      → Agree (viewer_in s.file account) b c
       → RunsAlike signs account s cs os c x answers history y
   -- Commands of others change for an account, of what agreement names, at most the greatest serial number, the last
   -- genTime and deposits to which they give or take a right.
   pub undisturbed : (account : List ℕ) → AreCommandsOfOthers account cs
-      → StaysFor account (λ number. OneConcerns number cs) b history
+      → StaysFor (viewer_in s.file account) (λ number. OneConcerns number cs) b history
 
 -- Calls one after the other, under their outcomes. While the store returns what was written, what holds after them is
 -- the run's, from each history that the store stood for.

@@ -1,35 +1,19 @@
 -- Who may read a deposit after a journey: what was acknowledged of rights, and what the stops left, in their order.
 use Rattle.std.specs.Prelude.{List, [], ◌∷◌, ◌++◌, drop}
 use Rattle.book.specs.History.{Entry, Granted, Revoked, History}
-use Rattle.desk.specs.Command.{Command, Stamp, Begin, Finish, Abandon, Deposit, Show, Token, ListAll, Grant, Revoke}
-use Rattle.desk.specs.Command.{Calibrate, Hold, Answer, Stamped, Rejected, Begun, Kept, Shown, Listed, Done, Refused}
+use Rattle.desk.specs.Command.{Command, Grant, Revoke, Answer, Done}
 use Rattle.desk.specs.Runs.{Told, Journey, begins, goes, stops}
 
 -- the entry, where it is done
 abbrev pub where_done : Entry → Answer → List Entry
-where_done entry (Stamped serial octets) = []
-where_done entry (Rejected rule) = []
-where_done entry (Begun p) = []
-where_done entry (Kept number is_new) = []
-where_done entry (Shown octets) = []
-where_done entry (Listed rows) = []
 where_done entry Done = entry ∷ []
-where_done entry (Refused f) = []
+where_done entry _ = []
 
 -- what an answer acknowledges of rights
 abbrev pub rights_by : Command → Answer → List Entry
-rights_by (Stamp account reading octets) answer = []
-rights_by (Begin account reading octets) answer = []
-rights_by (Finish p signature) answer = []
-rights_by (Abandon p) answer = []
-rights_by (Deposit a reading reference bytes) answer = []
-rights_by (Show a n) answer = []
-rights_by (Token a n) answer = []
-rights_by (ListAll a) answer = []
 rights_by (Grant a n reader) answer = where_done (Granted n reader) answer
 rights_by (Revoke a n reader) answer = where_done (Revoked n reader) answer
-rights_by (Calibrate c) answer = []
-rights_by (Hold h) answer = []
+rights_by _ answer = []
 
 -- the rights that a journey acknowledged, and the entries that its stops left, the newest first
 abbrev pub rights_along : {b : History} {w : List Told} → Journey b w → List Entry

@@ -7,12 +7,13 @@ use Rattle.decide.specs.Clock.{Follows}
 use Rattle.book.specs.History.{Entry, Reserved, Sealed, Deposited, Calibrated, Held, Granted, Revoked, History}
 use Rattle.book.specs.History.{last_gen_time, token_of, reservation_at, deposit_at, ReservationValue}
 use Rattle.book.specs.Sound.{Along}
+use Rattle.book.specs.Values.{deposit_of}
 use Rattle.desk.specs.Content.{IsForRequest, IsSoundInFull}
 use Rattle.desk.specs.Outcome.{Outcome}
 use Rattle.desk.specs.Command.{Setting, PendingValue, Command, Deposit, Grant, Revoke, Calibrate, Hold, Answer, Stamped}
 use Rattle.desk.specs.Command.{Begun, Kept, Done}
 use Rattle.tsp.specs.Granted.{granted_octets}
-use Rattle.desk.specs.Effects.{Effect, deposit_row}
+use Rattle.desk.specs.Effects.{Effect}
 use Rattle.desk.specs.Steps.{HasEffect, IsMet, Moves}
 
 -- a policy file's record with an accuracy, in microseconds, and object identifiers as such files have
@@ -85,7 +86,7 @@ abbrev pub IsKept : History → Command → Answer → Type 0
 IsKept b c (Stamped serial octets) = IsSealedWith serial octets b
 IsKept b c (Begun p) = IsReservedFor p b
 IsKept b (Deposit a reading reference bytes) (Kept number new) = deposit_at number b
-    ≡ Some (deposit_row number a.name reference bytes)
+    ≡ Some (deposit_of number a.name reference bytes)
 IsKept b (Grant a n reader) Done = Contains b (Granted n reader)
 IsKept b (Revoke a n reader) Done = Contains b (Revoked n reader)
 IsKept b (Calibrate c) Done = Contains b (Calibrated c)

@@ -1,33 +1,34 @@
 -- Who is shown which deposits: exactly its owner and its current readers.
 use Rattle.std.specs.Prelude.{◌≡◌, ℕ, ◌<◌, ◌⊎◌, true, List, [], ◌∷◌, map, Some, Contains}
 use Rattle.std.specs.List.{AllByRecursion}
+use Rattle.policy.specs.Record.{PolicyValue}
 use Rattle.tsp.specs.Granted.{granted_octets}
 use Rattle.book.specs.History.{History, DepositValue, ReservationValue, deposit_at, reservation_at, token_of}
-use Rattle.book.specs.Rights.{ListedValue, is_reader, listed_as}
+use Rattle.book.specs.Readers.{Viewer}
+use Rattle.book.specs.Rights.{ListedValue, may_read, listed_as}
 use Rattle.desk.specs.Outcome.{Outcome, Cause, OfMemory, OfStore, cause_of, first_cause}
 use Rattle.desk.specs.Command.{Command, Show, Token, ListAll, Answer, Shown, Listed, Refused}
+use Rattle.desk.specs.Viewers.{viewer_in}
 use Rattle.desk.specs.declared.fault.Fault.TheVariants as fault
 
--- The account may see this deposit, which has the number: it is its owner, or one of its current readers, which are the
--- accounts whose last entry about it is a grant.
-pub record MaySee (account : List ℕ) (number : ℕ) (b : History) (d : DepositValue) : Type 0 where
+-- Who asks may see this deposit, which has the number: it is its owner, or one of its current readers, which are those
+-- whose last entry about it is a grant.
+pub record MaySee (viewer : Viewer) (number : ℕ) (b : History) (d : DepositValue) : Type 0 where
   pub deposited : deposit_at number b ≡ Some d
-  pub may : (d.owner ≡ account) ⊎ (is_reader number account b ≡ true)
+  pub may : (d.owner ≡ viewer.name) ⊎ (may_read viewer number b ≡ true)
 
 -- a call that has to be answered before a deposit is shown had no answer, for this cause
 abbrev pub HasNoSight : Outcome → Cause → Type 0
 HasNoSight o cause = first_cause (cause_of o.searching ∷ cause_of o.looking ∷ cause_of o.growing ∷ []) ≡ Some cause
 
--- Something is shown only of a deposit that the account may see; it is told that none is here only where it may see
--- none; and any other answer comes only where a call wasn't answered. So what it may see is shown where calls are
--- answered.
-abbrev pub IsShownFrom : (DepositValue → List ℕ → Type 0) → List ℕ → ℕ → Outcome → History → Answer → Type 0
-IsShownFrom IsOf account number o b (Shown octets) =
-    (d : DepositValue) × MaySee account number b d × IsOf d octets
-IsShownFrom IsOf account number o b (Refused fault.NotHere) = (d : DepositValue) → MaySee account number b d → ⊥
-IsShownFrom IsOf account number o b (Refused fault.Memory) = HasNoSight o OfMemory
-IsShownFrom IsOf account number o b (Refused fault.Store) = HasNoSight o OfStore
-IsShownFrom IsOf account number o b answer = ⊥
+-- Something is shown only of a deposit that who asks may see; it is told that none is here only where it may see none;
+-- and any other answer comes only where a call wasn't answered. So what it may see is shown where calls are answered.
+abbrev pub IsShownFrom : (DepositValue → List ℕ → Type 0) → Viewer → ℕ → Outcome → History → Answer → Type 0
+IsShownFrom IsOf viewer number o b (Shown octets) = (d : DepositValue) × MaySee viewer number b d × IsOf d octets
+IsShownFrom IsOf viewer number o b (Refused fault.NotHere) = (d : DepositValue) → MaySee viewer number b d → ⊥
+IsShownFrom IsOf viewer number o b (Refused fault.Memory) = HasNoSight o OfMemory
+IsShownFrom IsOf viewer number o b (Refused fault.Store) = HasNoSight o OfStore
+IsShownFrom IsOf viewer number o b answer = ⊥
 
 -- the octets of a deposit
 abbrev pub IsBytesOf : DepositValue → List ℕ → Type 0
@@ -48,24 +49,24 @@ abbrev pub Climbs : List ℕ → Type 0
 Climbs [] = Unit {0}
 Climbs (n ∷ ns) = AllByRecursion (λ m. n < m) ns × Climbs ns
 
--- A list of exactly the deposits that the account may see, each once, by rising number.
-pub record IsExactList (account : List ℕ) (b : History) (rows : List ListedValue) : Type 0 where
+-- A list of exactly the deposits that who asks may see, each once, by rising number.
+pub record IsExactList (viewer : Viewer) (b : History) (rows : List ListedValue) : Type 0 where
   pub rising : Climbs (map (λ row. row.number) rows)
   pub only : (row : ListedValue) → Contains rows row
-      → (d : DepositValue) × MaySee account row.number b d × IsRowOf b d row
-  pub all : (number : ℕ) (d : DepositValue) → MaySee account number b d
+      → (d : DepositValue) × MaySee viewer row.number b d × IsRowOf b d row
+  pub all : (number : ℕ) (d : DepositValue) → MaySee viewer number b d
       → (row : ListedValue) × Contains rows row × (row.number ≡ number) × IsRowOf b d row
 
 -- such a list, or a call wasn't answered
-abbrev pub IsListedFrom : List ℕ → Outcome → History → Answer → Type 0
-IsListedFrom account o b (Listed rows) = IsExactList account b rows
-IsListedFrom account o b (Refused fault.Memory) = cause_of o.looking ≡ Some OfMemory
-IsListedFrom account o b (Refused fault.Store) = cause_of o.looking ≡ Some OfStore
-IsListedFrom account o b answer = ⊥
+abbrev pub IsListedFrom : Viewer → Outcome → History → Answer → Type 0
+IsListedFrom viewer o b (Listed rows) = IsExactList viewer b rows
+IsListedFrom viewer o b (Refused fault.Memory) = cause_of o.looking ≡ Some OfMemory
+IsListedFrom viewer o b (Refused fault.Store) = cause_of o.looking ≡ Some OfStore
+IsListedFrom viewer o b answer = ⊥
 
--- what a command that shows or lists answers, is exactly what its account may see
-abbrev pub ShowsExactly : Command → Outcome → History → Answer → Type 0
-ShowsExactly (Show a n) o b answer = IsShownFrom IsBytesOf a.name n o b answer
-ShowsExactly (Token a n) o b answer = IsShownFrom (IsReplyOf b) a.name n o b answer
-ShowsExactly (ListAll a) o b answer = IsListedFrom a.name o b answer
-ShowsExactly c o b answer = Unit {0}
+-- what a command that shows or lists answers, is exactly what its account may see, by the policy file
+abbrev pub ShowsExactly : PolicyValue → Command → Outcome → History → Answer → Type 0
+ShowsExactly file (Show a n) o b answer = IsShownFrom IsBytesOf (viewer_in file a.name) n o b answer
+ShowsExactly file (Token a n) o b answer = IsShownFrom (IsReplyOf b) (viewer_in file a.name) n o b answer
+ShowsExactly file (ListAll a) o b answer = IsListedFrom (viewer_in file a.name) o b answer
+ShowsExactly file c o b answer = Unit {0}

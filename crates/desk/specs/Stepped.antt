@@ -1,15 +1,15 @@
 -- A call of the program is a step of the machine: what each call's contract says.
-use Rattle.std.specs.Prelude.{◌≡◌, ℕ, ◌≤◌, ◌⊎◌, true, List, [], Option, None, Result, Err}
+use Rattle.std.specs.Prelude.{◌≡◌, ℕ, ◌≤◌, ◌⊎◌, true, List, [], ◌∷◌, ◌++◌, Option, None, Result, Err}
 use Rattle.book.specs.declared.standing.Standing.{Ghosts}
 use Rattle.cms.specs.Signer.{count_after}
 use Rattle.cms.specs.declared.signer.SignerFault.{SignerFault}
 use Rattle.cms.specs.declared.signer.SignerFault.TheVariants as signer
-use Rattle.book.specs.History.{History, greatest_serial, latest_calibration}
+use Rattle.book.specs.History.{Entry, History, greatest_serial, latest_calibration}
 use Rattle.book.specs.Sound.{greatest_number}
 use Rattle.book.specs.Stands.{Stands}
 use Rattle.desk.specs.Fit.{IsFit, IsUnbroken}
-use Rattle.desk.specs.Outcome.{Call, Fine, Wanting, Broken, Outcome, faults_after}
-use Rattle.desk.specs.Command.{Setting, Command, Stamp, Begin, Finish, Abandon, Deposit, Show, Token, ListAll, Grant}
+use Rattle.desk.specs.Outcome.{Call, Fine, Broken, Outcome, faults_after}
+use Rattle.desk.specs.Command.{Setting, Command, Stamp, Begin, Deposit, Grant}
 use Rattle.desk.specs.Command.{Revoke, Calibrate, Hold, Answer, Stamped, Rejected, Begun, Kept, Shown, Listed, Done}
 use Rattle.desk.specs.Command.{Refused}
 use Rattle.desk.specs.declared.fault.Fault.{Fault}
@@ -45,23 +45,29 @@ with_signer signs count before after = record {
   moves = λ asked answer. Moves signs asked answer before after;
 }
 
--- Of the same outcome, what follows where a commit that it makes was answered after all: where the first one was
--- refused, nothing came after it.
-abbrev pub settled_by : Call → Outcome → Outcome
-settled_by Fine o = record o { sealing = Fine }
-settled_by Wanting o = record o { adding = Fine; signing = Err signer.Failed }
-settled_by Broken o = record o { adding = Fine; signing = Err signer.Failed }
+-- the same outcome where both commits are answered
+abbrev pub committed : Outcome → Outcome
+committed o = record o { adding = Fine; sealing = Fine }
 
-abbrev pub settled : Outcome → Outcome
-settled o = settled_by o.adding o
+-- the first that was added
+abbrev pub oldest : List Entry → List Entry
+oldest [] = []
+oldest (e ∷ []) = e ∷ []
+oldest (e ∷ d ∷ es) = oldest (d ∷ es)
 
--- A commit was refused: the history with what the command adds where it is there after all.
+-- What is in doubt of a command's entries: where the first commit was refused, which is the reservation's, that alone,
+-- since nothing came after it; else all.
+abbrev pub in_doubt : Call → List Entry → List Entry
+in_doubt Fine entries = entries
+in_doubt _ entries = oldest entries
+
+-- A commit was refused: the history with what it would have added, where it is there after all.
 pub record IsDoubted {B : Type 0} (g : Ghosts B) (s : Setting) (c : Command) (o : Outcome) (b : History) (left : g.Left)
     : Type 0 where
   pub refused : o.adding ≡ Fine → o.sealing ≡ Fine → ⊥
   pub doubted : Effect
-  pub has : HasEffect s c (settled o) b doubted
-  pub holds : g.holds left (after doubted b)
+  pub has : HasEffect s c (committed o) b doubted
+  pub holds : g.holds left (in_doubt o.adding doubted.adds ++ b)
 
 -- What a stop after the call may leave: where nothing was added, what it could leave before; the history with what
 -- was added; or, in doubt, with what the refused commit would have added too.
@@ -95,17 +101,10 @@ IsSpentIn g old new = g.honest new → (b : History) → Stands g b old → grea
 abbrev pub IsExcused : {B : Type 0} → Ghosts B → Command → B → B → Type 0
 IsExcused g (Stamp account reading octets) old new = IsSpentIn g old new
 IsExcused g (Begin account reading octets) old new = IsSpentIn g old new
-IsExcused g (Finish p signature) old new = ⊥
-IsExcused g (Abandon p) old new = ⊥
 IsExcused g (Deposit a reading reference bytes) old new = IsSpentIn g old new
-IsExcused g (Show a n) old new = ⊥
-IsExcused g (Token a n) old new = ⊥
-IsExcused g (ListAll a) old new = ⊥
-IsExcused g (Grant a n reader) old new = ⊥
-IsExcused g (Revoke a n reader) old new = ⊥
 IsExcused g (Calibrate c) old new =
     g.honest new → (b : History) → Stands g b old → is_backwards c (latest_calibration b) ≡ true
-IsExcused g (Hold h) old new = ⊥
+IsExcused g _ old new = ⊥
 
 -- Store and signer are named only where they failed and counted it, and the store where it is excused. Want of memory
 -- is named only where neither did.
@@ -114,6 +113,7 @@ IsBlamedFor g c o old new fault.NotHere = Unit {0}
 IsBlamedFor g c o old new fault.NotOwner = Unit {0}
 IsBlamedFor g c o old new fault.Conflict = Unit {0}
 IsBlamedFor g c o old new fault.UnknownReader = Unit {0}
+IsBlamedFor g c o old new fault.UnknownGroup = Unit {0}
 IsBlamedFor g c o old new fault.SelfGrant = Unit {0}
 IsBlamedFor g c o old new fault.TooLarge = Unit {0}
 IsBlamedFor g c o old new (fault.Rejected rule) = Unit {0}

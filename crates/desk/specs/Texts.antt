@@ -1,11 +1,10 @@
 -- The texts that a stamp consists of.
-use Rattle.std.specs.Prelude.{ℕ, Bool, false, List, [], ◌∷◌, Option, None, option_map, unwrap_or}
-use Rattle.std.specs.List.{find}
-use Rattle.std.specs.Str.{bytes_eq}
+use Rattle.std.specs.Prelude.{ℕ, Bool, false, List, option_map, unwrap_or}
 use Rattle.der.specs.Node.{encoding}
 use Rattle.der.specs.ObjectIdentifier.{oid_content}
 use Rattle.sha2.specs.Sha256.{sha256}
-use Rattle.policy.specs.Record.{AccountValue, PolicyValue, TsaPolicyValue}
+use Rattle.policy.specs.LookUp.{default_policy}
+use Rattle.policy.specs.Record.{AccountValue, PolicyValue}
 use Rattle.tsp.specs.Request.{RequestValue, time_stamp_req, sha256_request, unstated}
 use Rattle.tsp.specs.Tst.{tst_info, answer}
 use Rattle.cms.specs.SignedData.{token}
@@ -46,14 +45,9 @@ pending_of s plan r = record {
 abbrev pub token_with : PendingValue → List ℕ → List ℕ
 token_with p signature = token p.identity p.algorithm p.tst signature p.certificate
 
--- the policy that the account's first name means
-abbrev pub default_of : PolicyValue → List (List ℕ) → Option TsaPolicyValue
-default_of file [] = None
-default_of file (name ∷ names) = find (λ p. bytes_eq p.name name) file.policies
-
--- that policy gives the certificate out
+-- the account's default policy gives the certificate out
 abbrev pub gives_certificate : PolicyValue → AccountValue → Bool
-gives_certificate file owner = unwrap_or (option_map (λ p. p.certificate) (default_of file owner.policies)) false
+gives_certificate file owner = unwrap_or (option_map (λ p. p.certificate) (default_policy file owner)) false
 
 -- A deposit is stamped as this request: SHA-256 with NULL parameters, no policy, nonce or extension, and certReq
 -- exactly where the owner's default policy gives the certificate out.

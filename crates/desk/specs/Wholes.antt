@@ -42,14 +42,9 @@ stamped p (Err fault) begun finished =
 
 -- the refusals of a finish
 abbrev pub IsOfFinish : Refusal → Type 0
-IsOfFinish (refusal.Looking f) = ⊥
-IsOfFinish (refusal.Counting f) = ⊥
-IsOfFinish refusal.Spent = ⊥
-IsOfFinish refusal.Growing = ⊥
-IsOfFinish (refusal.Adding f) = ⊥
-IsOfFinish (refusal.Signing f) = ⊥
 IsOfFinish refusal.Wrapping = Unit {0}
 IsOfFinish (refusal.Sealing f) = Unit {0}
+IsOfFinish _ = ⊥
 
 -- what a stop leaves after that: what it could leave before, the history with the token, or those in doubt
 abbrev pub MayStay : {B : Type 0} → (g : Ghosts B) → PendingValue → Result (List ℕ) SignerFault → Outcome → History

@@ -63,6 +63,24 @@ pub enum Command<'a> {
         /// The name of the account that isn't to see it.
         reader: &'a str,
     },
+    /// `grant_group`.
+    GrantGroup {
+        /// Who asks.
+        account: &'a Account,
+        /// The deposit's number.
+        number: u64,
+        /// The name of the group whose members are to see it.
+        group: &'a str,
+    },
+    /// `revoke_group`.
+    RevokeGroup {
+        /// Who asks.
+        account: &'a Account,
+        /// The deposit's number.
+        number: u64,
+        /// The name of the group whose members aren't to see it.
+        group: &'a str,
+    },
     /// Adds a calibration of the clock, with an uncertainty of at most 10^12 microseconds. One whose reading is before
     /// that of the latest is refused with `Store`.
     Calibrate(Calibration),
@@ -81,7 +99,7 @@ pub enum Answer {
     Shown(Vec<u8>),
     /// To `List`: the deposits that the account sees, by number.
     Listed(Vec<Listed>),
-    /// To `Grant`, `Revoke`, `Calibrate` and `Hold`: it is done.
+    /// To `Grant`, `Revoke`, `GrantGroup`, `RevokeGroup`, `Calibrate` and `Hold`: it is done.
     Done,
     /// To any but `Stamp`: why it is refused.
     Refused(Fault),

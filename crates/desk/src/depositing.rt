@@ -9,11 +9,11 @@ ghost use Rattle.tsp.specs.View.{request_view};
 ghost use Rattle.book.specs.Fault.{count_after};
 ghost use Rattle.book.specs.History.{History, deposit_under, greatest_serial};
 ghost use Rattle.book.specs.Stands.{Stands, OnlyLooks};
+ghost use Rattle.book.specs.Values.{deposit_of};
 ghost use Rattle.desk.specs.Answers.{answered, begun_as, told};
 ghost use Rattle.desk.specs.Calls.{outcome_of, opening_view, plan_of, IsOfBeginning, IsOfReserving, Reserves};
 ghost use Rattle.desk.specs.Command.{Begin, Deposit};
 ghost use Rattle.desk.specs.Depositing.{known_in, IsRejectedLate, IsUnused, KeepsBy, SignsAndKeeps, StepsWhere};
-ghost use Rattle.desk.specs.Effects.{deposit_row};
 ghost use Rattle.desk.specs.Fault.{IsOfDeposit};
 ghost use Rattle.desk.specs.Outcome.{Outcome, faults_after};
 ghost use Rattle.desk.specs.Shown.{deposited_as};
@@ -181,7 +181,7 @@ fn seal<B: Book + Drop>(
     requires few { length signature.now ≤ 4096 }
     ensures honest { B.honest store.new → B.honest store.old }
     ensures keeps { KeepsBy B.Standing pending.entry
-        (deposit_row pending.entry.serial owner.now reference.now bytes.now) (Ok signature.now) (outcome_of result)
+        (deposit_of pending.entry.serial owner.now reference.now bytes.now) (Ok signature.now) (outcome_of result)
         store.old store.new (told deposited_as result) }
 {
     let Pending {
@@ -219,7 +219,7 @@ fn sign_and_seal<B: Book + Drop, X: Signer>(
     ensures honest { B.honest store.new → B.honest store.old }
     ensures keeps { (signing : Result (List ℕ) SpecFault) × (o : Outcome)
         × SignsAndKeeps B.Standing (with_signer X.signs X.fault_count signer.old signer.new) pending.entry
-        (deposit_row pending.entry.serial owner.now reference.now bytes.now) signing o store.old store.new
+        (deposit_of pending.entry.serial owner.now reference.now bytes.now) signing o store.old store.new
         (told deposited_as result) }
 {
     match signer.sign(pending.text()) {

@@ -1,6 +1,7 @@
 //! The calls of the counter on deposits and the rights to them.
 ghost use Rattle.std.specs.Prelude.{◌≡◌, ◌⊎◌, ◌<◌, length, Err, IfErr};
 ghost use Rattle.policy.specs.View.{account_view};
+ghost use Rattle.book.specs.Readers.{Account as Named, Group};
 ghost use Rattle.desk.specs.Answers.{answered};
 ghost use Rattle.desk.specs.Command.{Deposit, Show, Token, ListAll, Grant, Revoke};
 ghost use Rattle.desk.specs.Fault.{IsOfDeposit, IsOfSight, IsOfRight};
@@ -11,6 +12,7 @@ use crate::depositing::deposit_with;
 use crate::desk::Desk;
 use crate::fault::Fault;
 use crate::laws::steps_keep_their_promises;
+use crate::reader::Reader;
 use crate::reply::Deposited;
 use crate::rights::{grant_by, revoke_by};
 use crate::showing::{list_to, show_to, token_to};
@@ -60,7 +62,8 @@ impl<'p, B: Book + Drop> Desk<'p, B> {
         )
     }
 
-    /// The octets of a deposit that is visible to the account: it is its owner, or the last right about it was granted.
+    /// The octets of a deposit that is visible to the account: it is its owner, or a reader, by its own name or in a
+    /// group of the policy file, whose last right about it was granted.
     /// Any other is `NotHere`, as is a number that no deposit has. Refused also with `Memory` or `Store`.
     pub fn show(&mut self, account: &Account, number: u64) -> Result<Vec<u8>, Fault>
         ensures setting { self.new.setting ≡ self.old.setting }
@@ -70,7 +73,8 @@ impl<'p, B: Book + Drop> Desk<'p, B> {
             self.old.store self.new.store (answered shown_as result) }
     {
         steps_keep_their_promises();
-        match show_to(&mut self.store, account, number) {
+        let opening = self.opening;
+        match show_to(&mut self.store, opening, account, number) {
             Ok(bytes) => Ok(bytes),
             Err(obstacle) => Err(Fault::from(obstacle)),
         }
@@ -87,7 +91,8 @@ impl<'p, B: Book + Drop> Desk<'p, B> {
             self.new.store (answered shown_as result) }
     {
         steps_keep_their_promises();
-        match token_to(&mut self.store, self.alloc, account, number) {
+        let opening = self.opening;
+        match token_to(&mut self.store, self.alloc, opening, account, number) {
             Ok(reply) => Ok(reply),
             Err(obstacle) => Err(Fault::from(obstacle)),
         }
@@ -103,7 +108,8 @@ impl<'p, B: Book + Drop> Desk<'p, B> {
             self.new.store (answered listed_as result) }
     {
         steps_keep_their_promises();
-        match list_to(&mut self.store, account) {
+        let opening = self.opening;
+        match list_to(&mut self.store, opening, account) {
             Ok(rows) => Ok(rows),
             Err(obstacle) => Err(Fault::from(obstacle)),
         }
@@ -118,30 +124,72 @@ impl<'p, B: Book + Drop> Desk<'p, B> {
     pub fn grant(&mut self, account: &Account, number: u64, name: &str) -> Result<(), Fault>
         ensures setting { self.new.setting ≡ self.old.setting }
         ensures honest { B.honest self.new.store → B.honest self.old.store }
-        ensures refusals { IfErr result IsOfRight }
-        ensures step { IsStep B.Standing no_signer self.old.setting (Grant (account_view account.now) number name.now)
+        ensures refusals { IfErr result (IsOfRight (Named name.now)) }
+        ensures step { IsStep B.Standing no_signer self.old.setting (Grant (account_view account.now) number (Named name.now))
             self.old.store self.new.store (answered done_as result) }
     {
         steps_keep_their_promises();
         let opening = self.opening;
-        match grant_by(&mut self.store, opening, account, number, name) {
+        let reader = Reader::Account(name);
+        match grant_by(&mut self.store, opening, account, number, reader) {
             Ok(()) => Ok(()),
             Err(obstacle) => Err(Fault::from(obstacle)),
         }
     }
 
-    /// Takes that right away, from now on; one that wasn't granted may be taken too, which changes nothing. The right
-    /// of an account that has left the policy file stays: it is `UnknownReader`. Refused as `grant` is.
+    /// Takes that right away, from now on; one that wasn't granted may be taken too, which changes nothing. A member of
+    /// a group that has the right still sees the deposit. The right of an account that has left the policy file stays: it is `UnknownReader`. Refused as `grant` is.
     pub fn revoke(&mut self, account: &Account, number: u64, name: &str) -> Result<(), Fault>
         ensures setting { self.new.setting ≡ self.old.setting }
         ensures honest { B.honest self.new.store → B.honest self.old.store }
-        ensures refusals { IfErr result IsOfRight }
-        ensures step { IsStep B.Standing no_signer self.old.setting (Revoke (account_view account.now) number name.now)
+        ensures refusals { IfErr result (IsOfRight (Named name.now)) }
+        ensures step { IsStep B.Standing no_signer self.old.setting (Revoke (account_view account.now) number (Named name.now))
             self.old.store self.new.store (answered done_as result) }
     {
         steps_keep_their_promises();
         let opening = self.opening;
-        match revoke_by(&mut self.store, opening, account, number, name) {
+        let reader = Reader::Account(name);
+        match revoke_by(&mut self.store, opening, account, number, reader) {
+            Ok(()) => Ok(()),
+            Err(obstacle) => Err(Fault::from(obstacle)),
+        }
+    }
+    /// Lets the members of a group see a deposit, from now on, those that the policy file names at the time; again is
+    /// accepted, and changes nothing. The owner may be among them.
+    ///
+    /// Refused in this order: `NotHere` where the deposit isn't visible to the account that grants, `NotOwner` where it
+    /// is another's, `UnknownGroup` where the policy file has no group of that name. `Memory` and `Store` come where
+    /// they are met.
+    pub fn grant_group(&mut self, account: &Account, number: u64, name: &str) -> Result<(), Fault>
+        ensures setting { self.new.setting ≡ self.old.setting }
+        ensures honest { B.honest self.new.store → B.honest self.old.store }
+        ensures refusals { IfErr result (IsOfRight (Group name.now)) }
+        ensures step { IsStep B.Standing no_signer self.old.setting (Grant (account_view account.now) number (Group name.now))
+            self.old.store self.new.store (answered done_as result) }
+    {
+        steps_keep_their_promises();
+        let opening = self.opening;
+        let group = Reader::Group(name);
+        match grant_by(&mut self.store, opening, account, number, group) {
+            Ok(()) => Ok(()),
+            Err(obstacle) => Err(Fault::from(obstacle)),
+        }
+    }
+
+    /// Takes that right away, from now on; a member who is a reader by its own name stays one. A right that wasn't
+    /// granted may be taken too, which changes nothing. That of a group that has left the policy file stays, and has no
+    /// members: it is `UnknownGroup`. Refused as `grant_group` is.
+    pub fn revoke_group(&mut self, account: &Account, number: u64, name: &str) -> Result<(), Fault>
+        ensures setting { self.new.setting ≡ self.old.setting }
+        ensures honest { B.honest self.new.store → B.honest self.old.store }
+        ensures refusals { IfErr result (IsOfRight (Group name.now)) }
+        ensures step { IsStep B.Standing no_signer self.old.setting (Revoke (account_view account.now) number (Group name.now))
+            self.old.store self.new.store (answered done_as result) }
+    {
+        steps_keep_their_promises();
+        let opening = self.opening;
+        let group = Reader::Group(name);
+        match revoke_by(&mut self.store, opening, account, number, group) {
             Ok(()) => Ok(()),
             Err(obstacle) => Err(Fault::from(obstacle)),
         }

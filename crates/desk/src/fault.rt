@@ -34,13 +34,16 @@ pub enum Fault {
     /// The signer failed, and counted it.
     #[error("the signer failed")]
     Signer,
+    /// The policy file has no group of that name.
+    #[error("no group has that name")]
+    UnknownGroup,
 }
 
 impl Fault {
     ghost use Rattle.std.specs.Prelude.{◌≡◌};
     ghost use Rattle.desk.specs.Fault.{number_of};
 
-    /// The refusal's number, 1 to 10.
+    /// The refusal's number, 1 to 11.
     pub fn number(self) -> u8
         ensures { result ≡ number_of self }
     {
@@ -55,6 +58,7 @@ impl Fault {
             Fault::Memory => 8,
             Fault::Store => 9,
             Fault::Signer => 10,
+            Fault::UnknownGroup => 11,
         }
     }
 }

@@ -6,6 +6,7 @@ ghost use Rattle.tsp.specs.Rejection.{rejection};
 ghost use Rattle.tsp.specs.Rules.{IsFirstFailing};
 ghost use Rattle.tsp.specs.declared.rule.Rule.{Rule};
 ghost use Rattle.book.specs.History.{History, ReservationValue, greatest_serial, reservation_at};
+ghost use Rattle.book.specs.Readers.{Reader};
 ghost use Rattle.book.specs.Rights.{is_reader};
 ghost use Rattle.book.specs.Sound.{IsSound, greatest_number};
 ghost use Rattle.desk.specs.Agreement.{Agree};
@@ -22,6 +23,7 @@ ghost use Rattle.desk.specs.Runs.{IsProper, Told, Journey, HasProperties, Runs, 
 ghost use Rattle.desk.specs.Serials.{given_along, AreInOrder};
 ghost use Rattle.desk.specs.Sight.{ShowsExactly};
 ghost use Rattle.desk.specs.Steps.{HasEffect, IsMet};
+ghost use Rattle.desk.specs.Viewers.{viewer_in};
 
 use cms::Signer;
 use tsp::requests_have_one_reading;
@@ -80,7 +82,7 @@ pub fn commands_have_one_effect()
 /// once, by rising number, and nothing else.
 pub fn deposits_are_shown_exactly()
     ensures { (s : Setting) (c : Command) (o : Outcome) (b : History) (e : Effect) → IsSound b
-        → HasEffect s c o b e → ShowsExactly c o b e.says }
+        → HasEffect s c o b e → ShowsExactly s.file c o b e.says }
 {}
 
 /// What is promised of each command: what the laws here say of its effect.
@@ -115,8 +117,8 @@ pub fn rejections_tell_their_rule()
 pub fn journeys_keep_their_promises()
     ensures journey { (b : History) (w : List Told) → Journey b w → HasProperties b w }
     ensures given { (b : History) (w : List Told) (j : Journey b w) → AreInOrder (given_along j) b }
-    ensures readers { (b : History) (w : List Told) (j : Journey b w) (number : ℕ) (account : List ℕ)
-        → is_reader number account b ≡ is_reader number account (rights_along j) }
+    ensures readers { (b : History) (w : List Told) (j : Journey b w) (number : ℕ) (reader : Reader)
+        → is_reader number reader b ≡ is_reader number reader (rights_along j) }
     ensures continued { (s : Setting) (cs : List Command) (os : List Outcome) (b : History) (w : List Told)
         (b' : History) (w' : List Told)
         → IsProper s → AreMet s cs os b → Journey b w → Continues s cs os b w b' w' → HasProperties b' w' }
@@ -129,8 +131,8 @@ pub fn journeys_keep_their_promises()
 pub fn accounts_are_isolated<S: Signer>()
     ensures { (account : List ℕ) (s : Setting) (cs : List Command) (os : List Outcome) (b c : History) (x : S)
         (answers : List Answer) (b' : History) (x' : S)
-        → IsProper s → AreCommandsOf account cs → IsSound b → IsSound c → Agree account b c
-        → Runs S.signs s cs os b x answers b' x' → RunsAlike S.signs account s cs os c x answers b' x' }
+        → IsProper s → AreCommandsOf account cs → IsSound b → IsSound c
+        → Agree (viewer_in s.file account) b c → Runs S.signs s cs os b x answers b' x' → RunsAlike S.signs account s cs os c x answers b' x' }
 {
     requests_have_one_reading();
 }
@@ -140,5 +142,5 @@ pub fn accounts_are_isolated<S: Signer>()
 pub fn accounts_disturb_little()
     ensures { (account : List ℕ) (s : Setting) (c : Command) (o : Outcome) (b : History) (e : Effect) → IsSound b
         → IsCommandOfOther account c → HasEffect s c o b e
-        → StaysFor account (λ number. Concerns number c) b (after e b) }
+        → StaysFor (viewer_in s.file account) (λ number. Concerns number c) b (after e b) }
 {}

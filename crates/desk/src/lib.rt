@@ -17,6 +17,7 @@ mod looking;
 mod obstacle;
 mod opening;
 mod pending;
+mod reader;
 mod refusal;
 mod reply;
 mod reserving;

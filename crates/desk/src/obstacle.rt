@@ -15,6 +15,8 @@ pub(crate) enum Obstacle {
     NotOwner,
     /// The policy file has no account of that name.
     UnknownReader,
+    /// The policy file has no group of that name.
+    UnknownGroup,
     /// The reader is the owner.
     SelfGrant,
     /// Whether the account sees the deposit.
@@ -35,6 +37,7 @@ impl From<Obstacle> for Fault {
             Obstacle::NotHere => Fault::NotHere,
             Obstacle::NotOwner => Fault::NotOwner,
             Obstacle::UnknownReader => Fault::UnknownReader,
+            Obstacle::UnknownGroup => Fault::UnknownGroup,
             Obstacle::SelfGrant => Fault::SelfGrant,
             Obstacle::Searching(fault) | Obstacle::Looking(fault) | Obstacle::Adding(fault) => {
                 fault_of(fault)

@@ -1,11 +1,13 @@
 //! Who gives and takes rights.
-ghost use Rattle.std.specs.Prelude.{◌≡◌, IfErr, MatchResult};
+ghost use Rattle.std.specs.Prelude.{◌≡◌, ◌∷◌, IfErr, OnOk, OnErr, MatchResult};
 ghost use Rattle.policy.specs.View.{account_view, policy_view};
-ghost use Rattle.book.specs.History.{History};
-ghost use Rattle.book.specs.Stands.{Stands, OnlyLooks};
-ghost use Rattle.desk.specs.Calls.{opening_view};
+ghost use Rattle.book.specs.Fault.{count_after};
+ghost use Rattle.book.specs.History.{History, Granted, Revoked};
+ghost use Rattle.book.specs.Sound.{Fits};
+ghost use Rattle.book.specs.Stands.{Stands, OnlyLooks, LeavesOrAdds};
+ghost use Rattle.desk.specs.Calls.{opening_view, reader_view, IsOfStore};
 ghost use Rattle.desk.specs.Command.{Grant, Revoke};
-ghost use Rattle.desk.specs.Effects.{has_account};
+ghost use Rattle.desk.specs.Effects.{has_account, has_group};
 ghost use Rattle.desk.specs.Fault as refused;
 ghost use Rattle.desk.specs.Obstacles.{fault_with, outcome_with, told_with, IsOfRight, MayName, MayNot};
 ghost use Rattle.desk.specs.Outcome.{faults_after};
@@ -14,8 +16,9 @@ ghost use Rattle.desk.specs.Stepped.{StepsBy, no_signer};
 
 use crate::obstacle::Obstacle;
 use crate::opening::Opening;
+use crate::reader::Reader;
 use crate::showing::see;
-use book::Book;
+use book::{Book, StoreFault};
 use policy::{Account, Policy};
 
 /// Whether the policy file has an account of that name, active or not.
@@ -25,36 +28,88 @@ fn is_known(policy: &Policy, name: &str) -> bool
     policy.account_named(name).is_some()
 }
 
-/// Whether an account may give a reader the right to see a deposit, and take it: the owner may, and for another
-/// account.
+/// Whether it has a group of that name.
+fn is_group(policy: &Policy, name: &str) -> bool
+    ensures { result ≡ has_group (policy_view policy.now) name.now }
+{
+    policy.group_named(name).is_some()
+}
+
+/// Whether an account may give a reader the right to see a deposit, and take it: the owner may, for another account and
+/// for a group.
 fn may_name<B: Book + Drop>(
     store: &mut B,
     policy: &Policy,
     account: &str,
     number: u64,
-    name: &str,
+    reader: Reader<'_>,
 ) -> Result<(), Obstacle>
     ensures looks { OnlyLooks B.Standing store.old store.new }
     ensures counted { B.fault_count store.new ≡ faults_after (outcome_with result) (B.fault_count store.old) }
     ensures may { B.honest store.new → (b : History) → Stands B.Standing b store.old
-        → MatchResult result (λ _. MayName (policy_view policy.now) account.now name.now number b)
-        (MayNot (policy_view policy.now) account.now name.now number b) }
-    ensures refusals { IfErr result IsOfRight }
+        → MatchResult result (λ _. MayName (policy_view policy.now) account.now (reader_view reader.entry) number b)
+        (MayNot (policy_view policy.now) account.now (reader_view reader.entry) number b) }
+    ensures refusals { IfErr result (IsOfRight (reader_view reader.entry)) }
 {
-    let found = match see(store, account, number) {
+    let found = match see(store, policy, account, number) {
         Ok(found) => found,
         Err(unseen) => return Err(unseen),
     };
     if found.deposit.owner.as_str() != account {
         return Err(Obstacle::NotOwner);
     }
-    if !is_known(policy, name) {
-        return Err(Obstacle::UnknownReader);
-    }
-    if name == account {
-        return Err(Obstacle::SelfGrant);
+    match reader {
+        Reader::Account(name) => {
+            if !is_known(policy, name) {
+                return Err(Obstacle::UnknownReader);
+            }
+            if name == account {
+                return Err(Obstacle::SelfGrant);
+            }
+        }
+        Reader::Group(name) => {
+            if !is_group(policy, name) {
+                return Err(Obstacle::UnknownGroup);
+            }
+        }
     }
     Ok(())
+}
+
+/// Gives the right.
+fn give<B: Book + Drop>(store: &mut B, number: u64, reader: Reader<'_>) -> Result<(), StoreFault>
+    ensures honest { B.honest store.new → B.honest store.old }
+    ensures opened { B.honest store.new → OnOk result (B.is_open store.old × B.is_open store.new) }
+    ensures ok { (b : History) → Stands B.Standing b store.old → Fits (Granted number (reader_view reader.entry)) b
+        → OnOk result (Stands B.Standing (Granted number (reader_view reader.entry) ∷ b) store.new) }
+    ensures err { (b : History) → Stands B.Standing b store.old → OnErr result (Stands B.Standing b store.new) }
+    ensures crash { LeavesOrAdds B.Standing (Granted number (reader_view reader.entry)) store.old store.new }
+    ensures refusals { IfErr result IsOfStore }
+    ensures faults { MatchResult result (λ _. B.fault_count store.new ≡ B.fault_count store.old)
+        (λ e. B.fault_count store.new ≡ count_after e (B.fault_count store.old)) }
+{
+    match reader {
+        Reader::Account(name) => store.grant(number, name),
+        Reader::Group(name) => store.grant_group(number, name),
+    }
+}
+
+/// Takes the right.
+fn take<B: Book + Drop>(store: &mut B, number: u64, reader: Reader<'_>) -> Result<(), StoreFault>
+    ensures honest { B.honest store.new → B.honest store.old }
+    ensures opened { B.honest store.new → OnOk result (B.is_open store.old × B.is_open store.new) }
+    ensures ok { (b : History) → Stands B.Standing b store.old → Fits (Revoked number (reader_view reader.entry)) b
+        → OnOk result (Stands B.Standing (Revoked number (reader_view reader.entry) ∷ b) store.new) }
+    ensures err { (b : History) → Stands B.Standing b store.old → OnErr result (Stands B.Standing b store.new) }
+    ensures crash { LeavesOrAdds B.Standing (Revoked number (reader_view reader.entry)) store.old store.new }
+    ensures refusals { IfErr result IsOfStore }
+    ensures faults { MatchResult result (λ _. B.fault_count store.new ≡ B.fault_count store.old)
+        (λ e. B.fault_count store.new ≡ count_after e (B.fault_count store.old)) }
+{
+    match reader {
+        Reader::Account(name) => store.revoke(number, name),
+        Reader::Group(name) => store.revoke_group(number, name),
+    }
 }
 
 /// Lets a reader see a deposit, from now on.
@@ -63,20 +118,20 @@ pub(crate) fn grant_by<B: Book + Drop>(
     opening: Opening<'_>,
     account: &Account,
     number: u64,
-    name: &str,
+    reader: Reader<'_>,
 ) -> Result<(), Obstacle>
     ensures honest { B.honest store.new → B.honest store.old }
     ensures step { StepsBy B.Standing no_signer (opening_view opening.entry)
-        (Grant (account_view account.now) number name.now) (outcome_with result) store.old store.new
+        (Grant (account_view account.now) number (reader_view reader.entry)) (outcome_with result) store.old store.new
         (told_with done_as result) }
-    ensures refusals { IfErr result (λ obstacle. refused.IsOfRight (fault_with obstacle)) }
+    ensures refusals { IfErr result (λ obstacle. refused.IsOfRight (reader_view reader.entry) (fault_with obstacle)) }
 {
     let policy = opening.policy;
-    match may_name(store, policy, account.name.as_str(), number, name) {
+    match may_name(store, policy, account.name.as_str(), number, reader) {
         Ok(()) => {}
         Err(obstacle) => return Err(obstacle),
     }
-    match store.grant(number, name) {
+    match give(store, number, reader) {
         Ok(()) => Ok(()),
         Err(fault) => Err(Obstacle::Adding(fault)),
     }
@@ -88,20 +143,20 @@ pub(crate) fn revoke_by<B: Book + Drop>(
     opening: Opening<'_>,
     account: &Account,
     number: u64,
-    name: &str,
+    reader: Reader<'_>,
 ) -> Result<(), Obstacle>
     ensures honest { B.honest store.new → B.honest store.old }
     ensures step { StepsBy B.Standing no_signer (opening_view opening.entry)
-        (Revoke (account_view account.now) number name.now) (outcome_with result) store.old store.new
+        (Revoke (account_view account.now) number (reader_view reader.entry)) (outcome_with result) store.old store.new
         (told_with done_as result) }
-    ensures refusals { IfErr result (λ obstacle. refused.IsOfRight (fault_with obstacle)) }
+    ensures refusals { IfErr result (λ obstacle. refused.IsOfRight (reader_view reader.entry) (fault_with obstacle)) }
 {
     let policy = opening.policy;
-    match may_name(store, policy, account.name.as_str(), number, name) {
+    match may_name(store, policy, account.name.as_str(), number, reader) {
         Ok(()) => {}
         Err(obstacle) => return Err(obstacle),
     }
-    match store.revoke(number, name) {
+    match take(store, number, reader) {
         Ok(()) => Ok(()),
         Err(fault) => Err(Obstacle::Adding(fault)),
     }

@@ -17,6 +17,7 @@ use crate::entering::{calibrate_by, hold_by};
 use crate::fault::Fault;
 use crate::obstacle::Obstacle;
 use crate::opening::{Opening, is_proper};
+use crate::reader::Reader;
 use crate::reply::Deposited;
 use crate::rights::{grant_by, revoke_by};
 use crate::showing::{list_to, show_to, token_to};
@@ -87,19 +88,31 @@ pub(crate) fn obey<B: Book + Drop, G: Signer>(
         } => kept(deposit_with(
             store, alloc, opening, account, reading, reference, bytes, signer,
         )),
-        Command::Show { account, number } => shown(show_to(store, account, number)),
-        Command::Token { account, number } => shown(token_to(store, alloc, account, number)),
-        Command::List { account } => listed(list_to(store, account)),
+        Command::Show { account, number } => { shown(show_to(store, opening, account, number)) },
+        Command::Token { account, number } => {
+            shown(token_to(store, alloc, opening, account, number))
+        },
+        Command::List { account } => listed(list_to(store, opening, account)),
         Command::Grant {
             account,
             number,
             reader,
-        } => done(grant_by(store, opening, account, number, reader)),
+        } => done(grant_by(store, opening, account, number, Reader::Account(reader))),
         Command::Revoke {
             account,
             number,
             reader,
-        } => done(revoke_by(store, opening, account, number, reader)),
+        } => done(revoke_by(store, opening, account, number, Reader::Account(reader))),
+        Command::GrantGroup {
+            account,
+            number,
+            group,
+        } => done(grant_by(store, opening, account, number, Reader::Group(group))),
+        Command::RevokeGroup {
+            account,
+            number,
+            group,
+        } => done(revoke_by(store, opening, account, number, Reader::Group(group))),
         Command::Calibrate(calibration) => done(calibrate_by(store, &calibration)),
         Command::Hold(hold) => done(hold_by(store, &hold)),
     }

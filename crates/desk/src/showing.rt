@@ -1,35 +1,79 @@
 //! What an account sees.
-ghost use Rattle.std.specs.Prelude.{◌≡◌, ◌⊎◌, IfErr, MatchResult};
-ghost use Rattle.policy.specs.View.{account_view};
+ghost use Rattle.std.specs.Prelude.{◌≡◌, ◌⊎◌, map, IfOk, IfErr, MatchResult};
+ghost use Rattle.policy.specs.View.{account_view, policy_view};
+ghost use Rattle.book.specs.Fault.{count_after};
 ghost use Rattle.book.specs.History.{History};
+ghost use Rattle.book.specs.Rights.{is_visible, listed};
 ghost use Rattle.book.specs.Stands.{Stands, OnlyLooks};
-ghost use Rattle.desk.specs.Command.{Setting, Show, Token, ListAll};
+ghost use Rattle.book.specs.Values.{listed_view};
+ghost use Rattle.desk.specs.Calls.{opening_view, IsOfStore};
+ghost use Rattle.desk.specs.Command.{Show, Token, ListAll};
 ghost use Rattle.desk.specs.Fault as sight;
 ghost use Rattle.desk.specs.Obstacles.{fault_with, outcome_with, told_with, IsOfSight, Sees, IsUnseen};
 ghost use Rattle.desk.specs.Outcome.{faults_after};
 ghost use Rattle.desk.specs.Shown.{shown_as, listed_as};
 ghost use Rattle.desk.specs.Stepped.{StepsBy, no_signer};
+ghost use Rattle.desk.specs.Viewers.{viewer_in};
 
 use crate::fault::Fault;
 use crate::obstacle::Obstacle;
-use book::{Book, Listed, StampedDeposit};
-use policy::Account;
+use crate::opening::Opening;
+use book::{Book, Listed, StampedDeposit, StoreFault};
+use policy::{Account, Policy};
 use std::alloc::Global;
 use tsp::write_granted;
+
+/// Whether an account, which the policy file knows with its groups, sees the deposit with a number.
+fn is_seen<B: Book + Drop>(
+    store: &mut B,
+    policy: &Policy,
+    account: &str,
+    number: u64,
+) -> Result<bool, StoreFault>
+    ensures looks { OnlyLooks B.Standing store.old store.new }
+    ensures value { B.honest store.new → (b : History) → Stands B.Standing b store.old
+        → IfOk result (λ seen. seen ≡ is_visible (viewer_in (policy_view policy.now) account.now) number b) }
+    ensures refusals { IfErr result IsOfStore }
+    ensures faults { MatchResult result (λ _. B.fault_count store.new ≡ B.fault_count store.old)
+        (λ e. B.fault_count store.new ≡ count_after e (B.fault_count store.old)) }
+{
+    let groups = policy.groups_of(account);
+    store.visible(number, account, groups.as_slice())
+}
+
+/// All that such an account sees, by number.
+fn all_seen<B: Book + Drop>(
+    store: &mut B,
+    policy: &Policy,
+    account: &str,
+) -> Result<Vec<Listed>, StoreFault>
+    ensures looks { OnlyLooks B.Standing store.old store.new }
+    ensures value { B.honest store.new → (b : History) → Stands B.Standing b store.old
+        → IfOk result (λ rows. map listed_view rows.items
+        ≡ listed (viewer_in (policy_view policy.now) account.now) b) }
+    ensures refusals { IfErr result IsOfStore }
+    ensures faults { MatchResult result (λ _. B.fault_count store.new ≡ B.fault_count store.old)
+        (λ e. B.fault_count store.new ≡ count_after e (B.fault_count store.old)) }
+{
+    let groups = policy.groups_of(account);
+    store.list(account, groups.as_slice())
+}
 
 /// The deposit with a number, and its stamp, where the account sees it. It is read only then.
 pub(crate) fn see<B: Book + Drop>(
     store: &mut B,
+    policy: &Policy,
     account: &str,
     number: u64,
 ) -> Result<StampedDeposit, Obstacle>
     ensures looks { OnlyLooks B.Standing store.old store.new }
     ensures counted { B.fault_count store.new ≡ faults_after (outcome_with result) (B.fault_count store.old) }
     ensures sees { B.honest store.new → (b : History) → Stands B.Standing b store.old
-        → MatchResult result (Sees account.now number b) (IsUnseen account.now number b) }
+        → MatchResult result (Sees (viewer_in (policy_view policy.now) account.now) number b)
+        (IsUnseen (viewer_in (policy_view policy.now) account.now) number b) }
     ensures refusals { IfErr result IsOfSight }
 {
-    let visible = match store.visible(number, account) {
+    let visible = match is_seen(store, policy, account, number) {
         Ok(visible) => visible,
         Err(fault) => return Err(Obstacle::Searching(fault)),
     };
@@ -46,15 +90,17 @@ pub(crate) fn see<B: Book + Drop>(
 /// The octets of a deposit that the account sees.
 pub(crate) fn show_to<B: Book + Drop>(
     store: &mut B,
+    opening: Opening<'_>,
     account: &Account,
     number: u64,
 ) -> Result<Vec<u8>, Obstacle>
     ensures looks { OnlyLooks B.Standing store.old store.new }
-    ensures step { (s : Setting) → StepsBy B.Standing no_signer s (Show (account_view account.now) number)
+    ensures step { StepsBy B.Standing no_signer (opening_view opening.entry) (Show (account_view account.now) number)
         (outcome_with result) store.old store.new (told_with shown_as result) }
     ensures refusals { IfErr result (λ obstacle. sight.IsOfSight (fault_with obstacle)) }
 {
-    match see(store, account.name.as_str(), number) {
+    let policy = opening.policy;
+    match see(store, policy, account.name.as_str(), number) {
         Ok(found) => Ok(found.deposit.bytes),
         Err(obstacle) => Err(obstacle),
     }
@@ -64,15 +110,17 @@ pub(crate) fn show_to<B: Book + Drop>(
 pub(crate) fn token_to<B: Book + Drop>(
     store: &mut B,
     alloc: Global,
+    opening: Opening<'_>,
     account: &Account,
     number: u64,
 ) -> Result<Vec<u8>, Obstacle>
     ensures looks { OnlyLooks B.Standing store.old store.new }
-    ensures step { (s : Setting) → StepsBy B.Standing no_signer s (Token (account_view account.now) number)
+    ensures step { StepsBy B.Standing no_signer (opening_view opening.entry) (Token (account_view account.now) number)
         (outcome_with result) store.old store.new (told_with shown_as result) }
     ensures refusals { IfErr result (λ obstacle. sight.IsOfSight (fault_with obstacle)) }
 {
-    match see(store, account.name.as_str(), number) {
+    let policy = opening.policy;
+    match see(store, policy, account.name.as_str(), number) {
         Err(obstacle) => Err(obstacle),
         Ok(found) => match &found.stamp.token {
             None => Err(Obstacle::NotHere),
@@ -87,15 +135,17 @@ pub(crate) fn token_to<B: Book + Drop>(
 /// All that the account sees, by number.
 pub(crate) fn list_to<B: Book + Drop>(
     store: &mut B,
+    opening: Opening<'_>,
     account: &Account,
 ) -> Result<Vec<Listed>, Obstacle>
     ensures looks { OnlyLooks B.Standing store.old store.new }
-    ensures step { (s : Setting) → StepsBy B.Standing no_signer s (ListAll (account_view account.now))
+    ensures step { StepsBy B.Standing no_signer (opening_view opening.entry) (ListAll (account_view account.now))
         (outcome_with result) store.old store.new (told_with listed_as result) }
     ensures refusals { IfErr result (λ obstacle. (fault_with obstacle ≡ Fault.Memory)
         ⊎ (fault_with obstacle ≡ Fault.Store)) }
 {
-    match store.list(account.name.as_str()) {
+    let policy = opening.policy;
+    match all_seen(store, policy, account.name.as_str()) {
         Ok(rows) => Ok(rows),
         Err(fault) => Err(Obstacle::Looking(fault)),
     }

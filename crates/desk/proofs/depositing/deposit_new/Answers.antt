@@ -1,11 +1,12 @@
 use Rattle.std.proofs.Common.{ℕ, List, [], Some, Ok, sym, subst, SFits, w64, to_z-of_z, rules}
 use Rattle.policy.specs.View.{account_view}
+use Rattle.book.specs.Values.{deposit_of}
 use Rattle.desk.specs.Answers.{begun_as}
 use Rattle.desk.specs.Calls.{opening_view, refused, cause_with}
 use Rattle.desk.specs.Command.{Begin, Deposit, Refused}
 use Rattle.desk.specs.Fault.{IsOfDeposit}
 use Rattle.desk.specs.Depositing.{IsRejectedLate, IsUnused, SignsAndKeeps, StepsWhere}
-use Rattle.desk.specs.Effects.{fault_of, deposit_row}
+use Rattle.desk.specs.Effects.{fault_of}
 use Rattle.desk.specs.Outcome.{all_fine}
 use Rattle.desk.specs.Shown.{deposited_as}
 use Rattle.desk.specs.Stepped.{StepsBy, no_signer, with_signer}
@@ -73,7 +74,7 @@ returns-in-Ok-clause-step g c =
     c.begin.new.store (begun_as c.in-Ok-Pending.field-0)) (to_z-of_z reading) c.in-Ok-Pending.ensures.step) in
     let done = c.in-Ok.ensures.keeps in
     let keeps = subst (λ (n : List ℕ). SignsAndKeeps g.B.Standing (with_signer g.X.Signer.signs g.X.Signer.fault_count
-    c.args.signer.now c.sign_and_seal.new.signer) p (deposit_row p.serial n reference bytes) done.0 done.1
+    c.args.signer.now c.sign_and_seal.new.signer) p (deposit_of p.serial n reference bytes) done.0 done.1
     c.begin.new.store c.sign_and_seal.new.store (deposited_as c.in-Ok.deposited)) c.as_str-owner.ensures.value
     done.2 in (
       joined (all_fine (Ok [])) done.0 done.1,
@@ -101,7 +102,7 @@ returns-in-Err-sign_and_seal-clause-step g c =
     let done = c.in-Err-sign_and_seal.ensures.keeps in
     let refused = Refused (fault_of (cause_with c.in-Err-sign_and_seal.refusal)) in
     let keeps = subst (λ (n : List ℕ). SignsAndKeeps g.B.Standing (with_signer g.X.Signer.signs g.X.Signer.fault_count
-    c.args.signer.now c.sign_and_seal.new.signer) p (deposit_row p.serial n reference bytes) done.0 done.1
+    c.args.signer.now c.sign_and_seal.new.signer) p (deposit_of p.serial n reference bytes) done.0 done.1
     c.begin.new.store c.sign_and_seal.new.store refused) c.as_str-owner.ensures.value done.2 in (
       joined (all_fine (Ok [])) done.0 done.1,
       subst (λ (x : Fault). StepsWhere g.B.Standing (with_signer g.X.Signer.signs g.X.Signer.fault_count

@@ -1,7 +1,7 @@
 use Rattle.std.proofs.Common.{ℕ, List, [], Ok, Err, sym, ◌∙◌, subst}
+use Rattle.book.specs.Values.{deposit_of}
 use Rattle.desk.specs.Outcome.{all_fine}
 use Rattle.desk.specs.Calls.{refused}
-use Rattle.desk.specs.Effects.{deposit_row}
 use Rattle.desk.proofs.NewDeposits.{unsigned}
 use Rattle.desk.proofs.Stamping.{signer_counted}
 use Rattle.desk.proofs.depositing.sign_and_seal.Goals as goal
@@ -39,7 +39,7 @@ returns-clause-keeps g c =
         signer = c.in-Err.ensures.counted ∙ signer_counted ⊥ fault (g.X.Signer.fault_count c.args.signer.now);
         moves = signed;
         keeps = unsigned g.B.Standing c.args.pending
-            (deposit_row c.args.pending.serial c.args.owner.now c.args.reference.now c.args.bytes.now) fault
+            (deposit_of c.args.pending.serial c.args.owner.now c.args.reference.now c.args.bytes.now) fault
             c.args.store.now;
       },
     )

@@ -1,5 +1,6 @@
 use Rattle.std.proofs.Common.{◌∙◌, sym, ap, SFits, w64, to_z, of_z, to_z-of_z, rules}
 use Rattle.policy.specs.View.{account_view}
+use Rattle.book.specs.Readers.{Account, Group}
 use Rattle.book.specs.Values.{calibration_view, hold_view}
 use Rattle.desk.specs.Answers.{answered}
 use Rattle.desk.specs.Asked.{command_view, answer_view}
@@ -30,7 +31,7 @@ returns-in-Show-clause-step g c =
     (Show (account_view c.in-Show.account.now) c.in-Show.number)
     (command_view c.args.command.now) shown_as c.show_to.result c.args.store.now c.show_to.new.store
     (answer_view c.shown.result)
-    (ap command_view c.in-Show.is) c.shown.ensures (c.show_to.ensures.step s)
+    (ap command_view c.in-Show.is) c.shown.ensures c.show_to.ensures.step
 
 pub returns-in-Token-clause-step : goal.returns-in-Token-clause-step
 returns-in-Token-clause-step g c =
@@ -39,7 +40,7 @@ returns-in-Token-clause-step g c =
     (Token (account_view c.in-Token.account.now) c.in-Token.number)
     (command_view c.args.command.now) shown_as c.token_to.result c.args.store.now c.token_to.new.store
     (answer_view c.shown-in-Token.result)
-    (ap command_view c.in-Token.is) c.shown-in-Token.ensures (c.token_to.ensures.step s)
+    (ap command_view c.in-Token.is) c.shown-in-Token.ensures c.token_to.ensures.step
 
 pub returns-in-List-clause-step : goal.returns-in-List-clause-step
 returns-in-List-clause-step g c =
@@ -48,13 +49,13 @@ returns-in-List-clause-step g c =
     (ListAll (account_view c.in-List.account.now))
     (command_view c.args.command.now) listed_as c.list_to.result c.args.store.now c.list_to.new.store
     (answer_view c.listed.result)
-    (ap command_view c.in-List.is) c.listed.ensures (c.list_to.ensures.step s)
+    (ap command_view c.in-List.is) c.listed.ensures c.list_to.ensures.step
 
 pub returns-in-Grant-clause-step : goal.returns-in-Grant-clause-step
 returns-in-Grant-clause-step g c =
     let s = opening_view c.args.opening in
     obeyed_by g.B.Standing g.G.Signer.signs g.G.Signer.fault_count c.args.signer.now s
-    (Grant (account_view c.in-Grant.account.now) c.in-Grant.number c.in-Grant.reader.now)
+    (Grant (account_view c.in-Grant.account.now) c.in-Grant.number (Account c.in-Grant.reader.now))
     (command_view c.args.command.now) done_as c.grant_by.result c.args.store.now c.grant_by.new.store
     (answer_view c.done.result)
     (ap command_view c.in-Grant.is) c.done.ensures c.grant_by.ensures.step
@@ -63,10 +64,28 @@ pub returns-in-Revoke-clause-step : goal.returns-in-Revoke-clause-step
 returns-in-Revoke-clause-step g c =
     let s = opening_view c.args.opening in
     obeyed_by g.B.Standing g.G.Signer.signs g.G.Signer.fault_count c.args.signer.now s
-    (Revoke (account_view c.in-Revoke.account.now) c.in-Revoke.number c.in-Revoke.reader.now)
+    (Revoke (account_view c.in-Revoke.account.now) c.in-Revoke.number (Account c.in-Revoke.reader.now))
     (command_view c.args.command.now) done_as c.revoke_by.result c.args.store.now c.revoke_by.new.store
     (answer_view c.done-in-Revoke.result)
     (ap command_view c.in-Revoke.is) c.done-in-Revoke.ensures c.revoke_by.ensures.step
+
+pub returns-in-GrantGroup-clause-step : goal.returns-in-GrantGroup-clause-step
+returns-in-GrantGroup-clause-step g c =
+    let s = opening_view c.args.opening in
+    obeyed_by g.B.Standing g.G.Signer.signs g.G.Signer.fault_count c.args.signer.now s
+    (Grant (account_view c.in-GrantGroup.account.now) c.in-GrantGroup.number (Group c.in-GrantGroup.group.now))
+    (command_view c.args.command.now) done_as c.grant_by-in-GrantGroup.result c.args.store.now c.grant_by-in-GrantGroup.new.store
+    (answer_view c.done-in-GrantGroup.result)
+    (ap command_view c.in-GrantGroup.is) c.done-in-GrantGroup.ensures c.grant_by-in-GrantGroup.ensures.step
+
+pub returns-in-RevokeGroup-clause-step : goal.returns-in-RevokeGroup-clause-step
+returns-in-RevokeGroup-clause-step g c =
+    let s = opening_view c.args.opening in
+    obeyed_by g.B.Standing g.G.Signer.signs g.G.Signer.fault_count c.args.signer.now s
+    (Revoke (account_view c.in-RevokeGroup.account.now) c.in-RevokeGroup.number (Group c.in-RevokeGroup.group.now))
+    (command_view c.args.command.now) done_as c.revoke_by-in-RevokeGroup.result c.args.store.now c.revoke_by-in-RevokeGroup.new.store
+    (answer_view c.done-in-RevokeGroup.result)
+    (ap command_view c.in-RevokeGroup.is) c.done-in-RevokeGroup.ensures c.revoke_by-in-RevokeGroup.ensures.step
 
 pub returns-in-Calibrate-clause-step : goal.returns-in-Calibrate-clause-step
 returns-in-Calibrate-clause-step g c =

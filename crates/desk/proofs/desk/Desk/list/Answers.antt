@@ -24,5 +24,5 @@ returns-clause-step g c =
           (record { setting = opening_view c.self.inside.opening; store = c.self.inside.store }) c.args.self.now
           command command (outcome_with c.list_to.result) c.list_to.new.store (told_with listed_as c.list_to.result)
           (answered listed_as c.match-list_to.result) c.self.view_is refl same
-          (c.list_to.ensures.step (opening_view c.self.inside.opening)),
+          c.list_to.ensures.step,
     )

@@ -1,5 +1,6 @@
 use Rattle.std.proofs.Common.{◌≡◌, ◌∙◌, refl, sym, ap}
 use Rattle.policy.specs.View.{account_view}
+use Rattle.book.specs.Readers.{Account}
 use Rattle.desk.specs.Answers.{answered}
 use Rattle.desk.specs.Calls.{opening_view}
 use Rattle.desk.specs.Command.{Revoke, Refused}
@@ -18,7 +19,7 @@ returns-clause-step g c =
       | in-Err w ↦ ap (answered done_as) w.result-is
           ∙ (ap Refused w.from.ensures ∙ sym (ap (told_with done_as) w.in-Err.is))
     ] in
-    let command = (Revoke (account_view c.args.account.now) c.args.number c.args.name.now) in (
+    let command = (Revoke (account_view c.args.account.now) c.args.number (Account c.args.name.now)) in (
       outcome_with c.revoke_by.result,
       steps_opened g.B.Standing c.steps_keep_their_promises.ensures no_signer
           (record { setting = opening_view c.self.inside.opening; store = c.self.inside.store }) c.args.self.now

@@ -24,5 +24,5 @@ returns-clause-step g c =
           (record { setting = opening_view c.self.inside.opening; store = c.self.inside.store }) c.args.self.now
           command command (outcome_with c.show_to.result) c.show_to.new.store (told_with shown_as c.show_to.result)
           (answered shown_as c.match-show_to.result) c.self.view_is refl same
-          (c.show_to.ensures.step (opening_view c.self.inside.opening)),
+          c.show_to.ensures.step,
     )

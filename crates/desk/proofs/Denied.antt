@@ -1,0 +1,166 @@
+-- What stands in the way of seeing a deposit, or of a right to it, is answered so.
+use Rattle.std.proofs.Common.{◌≡◌, ℕ, List, [], Some, None, Ok, refl, sym, ap, ◌∙◌, inl, inr}
+use Rattle.tsp.specs.Granted.{granted_octets}
+use Rattle.book.specs.declared.fault.StoreFault.TheVariants as store
+use Rattle.book.specs.declared.standing.Standing.{Ghosts}
+use Rattle.book.specs.History.{History, DepositValue, token_of}
+use Rattle.book.specs.Readers.{Reader, Viewer}
+use Rattle.book.specs.Rights.{seen_by}
+use Rattle.book.specs.Stands.{Stands, OnlyLooks}
+use Rattle.desk.specs.Calls.{call_of}
+use Rattle.desk.specs.Command.{Setting, Command, Answer, Shown, Refused}
+use Rattle.desk.specs.Effects.{only, unless, no_sight, show_effect, token_effect, reply_or_nothing}
+use Rattle.desk.specs.Fit.{IsFit}
+use Rattle.desk.specs.Obstacles.{fault_with, hindered, IsOfSight, IsOfRight, IsUnseen}
+use Rattle.desk.specs.Outcome.{Call, Fine, Outcome, OfMemory, cause_of, faults_after, all_fine}
+use Rattle.desk.specs.Steps.{HasEffect}
+use Rattle.desk.specs.Stepped.{no_signer, IsBlamed, IsOpened, StepsBy}
+use Rattle.desk.specs.declared.fault.Fault.{Fault}
+use Rattle.desk.specs.declared.fault.Fault.TheVariants as fault
+use Rattle.desk.specs.declared.obstacle.Obstacle.{Obstacle}
+use Rattle.desk.specs.declared.obstacle.Obstacle.TheVariants as obstacle
+use Rattle.desk.proofs.Fitting.{unbroken}
+
+blamed : {B : Type 0} (reader : Reader) (g : Ghosts B) (c : Command) (old new : B) (x : Obstacle)
+    → IsOfRight reader x
+    → IsBlamed g c (hindered x) old new (Refused (fault_with x))
+blamed reader g c old new obstacle.NotHere of = tt
+blamed reader g c old new obstacle.NotOwner of = tt
+blamed reader g c old new obstacle.UnknownReader of = tt
+blamed reader g c old new obstacle.UnknownGroup of = tt
+blamed reader g c old new obstacle.SelfGrant of = tt
+blamed reader g c old new (obstacle.Searching store.Memory) of = unbroken _ tt tt tt tt tt tt tt tt
+blamed reader g c old new (obstacle.Searching store.Database) of = inl (inl refl)
+blamed reader g c old new (obstacle.Searching store.NotOurs) of = absurd (elim of [ inl e ↦ cc | inr e ↦ cc ])
+blamed reader g c old new (obstacle.Searching store.Full) of = absurd (elim of [ inl e ↦ cc | inr e ↦ cc ])
+blamed reader g c old new (obstacle.Searching store.Backwards) of = absurd (elim of [ inl e ↦ cc | inr e ↦ cc ])
+blamed reader g c old new (obstacle.Looking store.Memory) of = unbroken _ tt tt tt tt tt tt tt tt
+blamed reader g c old new (obstacle.Looking store.Database) of = inl (inr (inl refl))
+blamed reader g c old new (obstacle.Looking store.NotOurs) of = absurd (elim of [ inl e ↦ cc | inr e ↦ cc ])
+blamed reader g c old new (obstacle.Looking store.Full) of = absurd (elim of [ inl e ↦ cc | inr e ↦ cc ])
+blamed reader g c old new (obstacle.Looking store.Backwards) of = absurd (elim of [ inl e ↦ cc | inr e ↦ cc ])
+blamed reader g c old new obstacle.Growing of = absurd of
+blamed reader g c old new (obstacle.Adding f) of = absurd of
+
+-- the calls that were made until then
+abbrev pub looked_up : Call → Call → Outcome
+looked_up searching looking = record (all_fine (Ok [])) { searching = searching; looking = looking }
+
+denied_fits : (reader : Reader) (c : Command) (x : Obstacle) → ((searching looking : Call) → IsFit c (looked_up searching looking))
+    → IsOfRight reader x → IsFit c (hindered x)
+denied_fits reader c obstacle.NotHere fits of = fits Fine Fine
+denied_fits reader c obstacle.NotOwner fits of = fits Fine Fine
+denied_fits reader c obstacle.UnknownReader fits of = fits Fine Fine
+denied_fits reader c obstacle.UnknownGroup fits of = fits Fine Fine
+denied_fits reader c obstacle.SelfGrant fits of = fits Fine Fine
+denied_fits reader c (obstacle.Searching f) fits of = fits (call_of f) Fine
+denied_fits reader c (obstacle.Looking f) fits of = fits Fine (call_of f)
+denied_fits reader c obstacle.Growing fits of = absurd of
+denied_fits reader c (obstacle.Adding f) fits of = absurd of
+
+-- a look-up is answered, and changes nothing
+pub looks_as : {B : Type 0} (g : Ghosts B) (s : Setting) (c : Command) (old new : B) (o : Outcome) (answer : Answer)
+    → IsFit c o → g.fault_count new ≡ faults_after o (g.fault_count old) → IsBlamed g c o old new answer
+    → IsOpened g c answer new → OnlyLooks g old new
+    → (g.honest new → (b : History) → Stands g b old → HasEffect s c o b (only answer))
+    → StepsBy g no_signer s c o old new answer
+looks_as g s c old new o answer fits counted blames opened looks has = record {
+  fits = fits;
+  counted = counted;
+  signer = tt;
+  blames = blames;
+  opened = λ honest. opened;
+  steps = λ honest b st met. record {
+    effect = only answer;
+    has = has honest b st;
+    says = refl;
+    moves = refl;
+    stands = looks.stands b st;
+    left = λ left r. inl (refl, looks.leaves honest left r);
+  };
+}
+
+-- the look-ups tell why not
+pub denied : {B : Type 0} (reader : Reader) (g : Ghosts B) (s : Setting) (c : Command) (old new : B) (x : Obstacle)
+    → ((searching looking : Call) → IsFit c (looked_up searching looking)) → ((f : Fault) → IsOpened g c (Refused f) new)
+    → IsOfRight reader x → OnlyLooks g old new → g.fault_count new ≡ faults_after (hindered x) (g.fault_count old)
+    → (g.honest new → (b : History) → Stands g b old → HasEffect s c (hindered x) b (only (Refused (fault_with x))))
+    → StepsBy g no_signer s c (hindered x) old new (Refused (fault_with x))
+denied reader g s c old new x fits opened of looks counted has =
+    looks_as g s c old new (hindered x) (Refused (fault_with x)) (denied_fits reader c x fits of) counted
+    (blamed reader g c old new x of) (opened (fault_with x)) looks has
+
+pub sight_is_right : (reader : Reader) (x : Obstacle) → IsOfSight x → IsOfRight reader x
+sight_is_right reader obstacle.NotHere of = tt
+sight_is_right reader obstacle.NotOwner of = absurd of
+sight_is_right reader obstacle.UnknownReader of = absurd of
+sight_is_right reader obstacle.UnknownGroup of = absurd of
+sight_is_right reader obstacle.SelfGrant of = absurd of
+sight_is_right reader (obstacle.Searching f) of = of
+sight_is_right reader (obstacle.Looking f) of = of
+sight_is_right reader obstacle.Growing of = absurd of
+sight_is_right reader (obstacle.Adding f) of = absurd of
+
+-- what isn't seen isn't shown, and neither is its token
+pub unshown : (viewer : Viewer) (n : ℕ) (b : History) (x : Obstacle) → IsOfSight x → IsUnseen viewer n b x
+    → only (Refused (fault_with x)) ≡ unless (cause_of (hindered x).searching)
+    (show_effect (no_sight (hindered x)) (seen_by viewer n b))
+unshown viewer n b obstacle.NotHere of unseen = sym (ap (show_effect None) unseen)
+unshown viewer n b obstacle.NotOwner of unseen = absurd of
+unshown viewer n b obstacle.UnknownReader of unseen = absurd of
+unshown viewer n b obstacle.UnknownGroup of unseen = absurd of
+unshown viewer n b obstacle.SelfGrant of unseen = absurd of
+unshown viewer n b (obstacle.Searching store.Memory) of unseen = refl
+unshown viewer n b (obstacle.Searching store.Database) of unseen = refl
+unshown viewer n b (obstacle.Searching store.NotOurs) of unseen = absurd (elim of [ inl e ↦ cc | inr e ↦ cc ])
+unshown viewer n b (obstacle.Searching store.Full) of unseen = absurd (elim of [ inl e ↦ cc | inr e ↦ cc ])
+unshown viewer n b (obstacle.Searching store.Backwards) of unseen = absurd (elim of [ inl e ↦ cc | inr e ↦ cc ])
+unshown viewer n b (obstacle.Looking store.Memory) of unseen =
+    sym (ap (show_effect (no_sight (hindered (obstacle.Looking store.Memory)))) unseen.1)
+unshown viewer n b (obstacle.Looking store.Database) of unseen =
+    sym (ap (show_effect (no_sight (hindered (obstacle.Looking store.Database)))) unseen.1)
+unshown viewer n b (obstacle.Looking store.NotOurs) of unseen = absurd (elim of [ inl e ↦ cc | inr e ↦ cc ])
+unshown viewer n b (obstacle.Looking store.Full) of unseen = absurd (elim of [ inl e ↦ cc | inr e ↦ cc ])
+unshown viewer n b (obstacle.Looking store.Backwards) of unseen = absurd (elim of [ inl e ↦ cc | inr e ↦ cc ])
+unshown viewer n b obstacle.Growing of unseen = absurd of
+unshown viewer n b (obstacle.Adding f) of unseen = absurd of
+
+pub untold : (viewer : Viewer) (n : ℕ) (b : History) (x : Obstacle) → IsOfSight x → IsUnseen viewer n b x
+    → only (Refused (fault_with x)) ≡ unless (cause_of (hindered x).searching)
+    (token_effect (no_sight (hindered x)) (token_of n b) (seen_by viewer n b))
+untold viewer n b obstacle.NotHere of unseen = sym (ap (token_effect None (token_of n b)) unseen)
+untold viewer n b obstacle.NotOwner of unseen = absurd of
+untold viewer n b obstacle.UnknownReader of unseen = absurd of
+untold viewer n b obstacle.UnknownGroup of unseen = absurd of
+untold viewer n b obstacle.SelfGrant of unseen = absurd of
+untold viewer n b (obstacle.Searching store.Memory) of unseen = refl
+untold viewer n b (obstacle.Searching store.Database) of unseen = refl
+untold viewer n b (obstacle.Searching store.NotOurs) of unseen = absurd (elim of [ inl e ↦ cc | inr e ↦ cc ])
+untold viewer n b (obstacle.Searching store.Full) of unseen = absurd (elim of [ inl e ↦ cc | inr e ↦ cc ])
+untold viewer n b (obstacle.Searching store.Backwards) of unseen = absurd (elim of [ inl e ↦ cc | inr e ↦ cc ])
+untold viewer n b (obstacle.Looking store.Memory) of unseen =
+    sym (ap (token_effect (no_sight (hindered (obstacle.Looking store.Memory))) (token_of n b)) unseen.1)
+untold viewer n b (obstacle.Looking store.Database) of unseen =
+    sym (ap (token_effect (no_sight (hindered (obstacle.Looking store.Database))) (token_of n b)) unseen.1)
+untold viewer n b (obstacle.Looking store.NotOurs) of unseen = absurd (elim of [ inl e ↦ cc | inr e ↦ cc ])
+untold viewer n b (obstacle.Looking store.Full) of unseen = absurd (elim of [ inl e ↦ cc | inr e ↦ cc ])
+untold viewer n b (obstacle.Looking store.Backwards) of unseen = absurd (elim of [ inl e ↦ cc | inr e ↦ cc ])
+untold viewer n b obstacle.Growing of unseen = absurd of
+untold viewer n b (obstacle.Adding f) of unseen = absurd of
+
+-- the octets of what is seen
+pub shown : (viewer : Viewer) (n : ℕ) (b : History) (d : DepositValue) → seen_by viewer n b ≡ Some d
+    → only (Shown d.bytes) ≡ show_effect None (seen_by viewer n b)
+shown viewer n b d seen = sym (ap (show_effect None) seen)
+
+-- the reply with the token of what is seen, and where memory for it was wanting
+pub told : (viewer : Viewer) (n : ℕ) (b : History) (d : DepositValue) (token reply : List ℕ)
+    → seen_by viewer n b ≡ Some d → token_of n b ≡ Some token → reply ≡ granted_octets token
+    → only (Shown reply) ≡ token_effect None (token_of n b) (seen_by viewer n b)
+told viewer n b d token reply seen sealed is =
+    ap (λ x. only (Shown x)) is
+    ∙ sym (ap (token_effect None (token_of n b)) seen ∙ ap (λ x. only (reply_or_nothing x)) sealed)
+
+pub ungrown : (viewer : Viewer) (n : ℕ) (b : History) (d : DepositValue) → seen_by viewer n b ≡ Some d
+    → only (Refused fault.Memory) ≡ token_effect (Some OfMemory) (token_of n b) (seen_by viewer n b)
+ungrown viewer n b d seen = sym (ap (token_effect (Some OfMemory) (token_of n b)) seen)
