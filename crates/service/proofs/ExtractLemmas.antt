@@ -7,23 +7,24 @@ use Rattle.std.specs.Io.KnownBytes.{Appends}
 use Rattle.std.specs.Prelude.{Result}
 use Rattle.book.specs.declared.standing.Standing.{Ghosts}
 use Rattle.book.specs.History.{History}
-use Rattle.book.specs.Stands.{Stands}
-use Rattle.audit.specs.Auditor.{ComesWhere, IfUnasked}
+use Rattle.book.specs.Stands.{OnlyLooks, Stands}
+use Rattle.audit.specs.Auditor.{ComesWhere, IfUnasked, IsAllowed}
 use Rattle.audit.specs.Extract.{extract_text}
 use Rattle.audit.specs.Fault.{count_after}
 use Rattle.audit.specs.Writing.{Writes}
 use Rattle.audit.specs.declared.fault.ExtractFault.{ExtractFault}
 use Rattle.audit.specs.declared.fault.ExtractFault.TheVariants.{Write}
 use Rattle.policy.specs.Record.{AccountValue, PolicyValue}
-use Rattle.service.specs.Answers.{answer_text, head_text, refusal_answer, success}
-use Rattle.service.specs.Extracting.{SendsExtract, ServesExtract, kept_back, unanswered}
+use Rattle.service.specs.Answers.{answer_text, extract_answer, head_text, refusal_answer, success}
+use Rattle.service.specs.Extracting.{SendsExtract, SendsExtractOrOverflows, ServesExtract, extracted, kept_back}
+use Rattle.service.specs.Extracting.{too_long}
 use Rattle.service.specs.Refusals.{refusal_of_extract}
-use Rattle.service.specs.Served.{Sends, SendsOrWants}
+use Rattle.service.specs.Served.{Sends}
 use Rattle.service.specs.declared.answer.Media.TheVariants as media
 use Rattle.service.specs.declared.refusal.Refusal.{Refusal}
 use Rattle.service.specs.declared.served.Served.{Served}
 use Rattle.service.specs.declared.served.Served.TheVariants as served
-use Rattle.service.proofs.ServingLemmas.{front_of_joined}
+use Rattle.service.proofs.Joined.{front_of_joined}
 
 -- the head of such an answer, whose body has so many octets
 abbrev pub extract_head : ℕ → List ℕ
@@ -37,6 +38,13 @@ text_of head body count states is =
 
 module _ {B W : Type 0} (g : Ghosts B) (contents : W → Option (List ℕ)) (w mid w' : W) (old new : B)
     (from to count : ℕ) (head : List ℕ) (states : head ≡ extract_head count) where
+  -- the head and the octets behind it are too many
+  pub too_many : 2 ^ 64 ≤ length head + count → (b : History) → count ≡ length (extract_text from to b)
+      → 2 ^ 64 ≤ length (answer_text (extract_answer from to b))
+  too_many many b is =
+      let body = extract_text from to b in
+      omega (arith, many, is, ap length (text_of head body count states is), length-append head body)
+
   -- a part of the head is written
   pub head_cut : (n : ℕ) → n < length head → Appends (contents w) (contents w') (take n head)
       → SendsExtract g contents w w' old new from to count (served.WriteFailed 200 n)
@@ -99,16 +107,27 @@ module _ {B W : Type 0} (g : Ghosts B) (contents : W → Option (List ℕ)) (w m
           (rows.written, (refl, subst P (sym (text_of head rows.written count states is)) joined));
     }
 
--- a refusal of an extract is told, or memory is wanting for that
+-- a refusal of an extract is told
 pub keeping_back : {B W : Type 0} (g : Ghosts B) (contents : W → Option (List ℕ)) (w w' : W) (old new : B)
     (file : PolicyValue) (account : AccountValue) (from to : ℕ) (outcome : Served) (f : ExtractFault) (r : Refusal)
     → ComesWhere file account from to f → IfUnasked (new ≡ old) f
     → g.fault_count new ≡ count_after f (g.fault_count old)
     → (g.honest new → (b : History) → Stands g b old → f ≡ Write → 2 ^ 64 ≤ length (extract_text from to b))
-    → r ≡ refusal_of_extract f → SendsOrWants contents w w' (refusal_answer r) outcome
+    → r ≡ refusal_of_extract f → Sends contents w w' (refusal_answer r) outcome
     → ServesExtract g contents w w' old new file account from to outcome
-keeping_back g contents w w' old new file account from to outcome f r comes unasked counted long same (inl sent) =
+keeping_back g contents w w' old new file account from to outcome f r comes unasked counted long same sent =
     let P : Refusal → Type 0 = λ r. Sends contents w w' (refusal_answer r) outcome in
     kept_back f comes unasked counted long (subst P same sent)
-keeping_back g contents w w' old new file account from to outcome f r comes unasked counted long same (inr sent) =
-    unanswered sent
+
+-- an extract whose length was found is answered
+pub answering : {B W : Type 0} (g : Ghosts B) (contents : W → Option (List ℕ)) (w w' : W) (old mid new : B)
+    (file : PolicyValue) (account : AccountValue) (from to count : ℕ) (outcome : Served)
+    → IsAllowed file account from to → OnlyLooks g old mid → OnlyLooks g mid new
+    → (g.honest mid → (b : History) → Stands g b old → count ≡ length (extract_text from to b))
+    → SendsExtractOrOverflows g contents w w' mid new from to count outcome
+    → ServesExtract g contents w w' old new file account from to outcome
+answering g contents w w' old mid new file account from to count outcome allowed first second found (inl s) =
+    extracted allowed
+    (λ honest b stands. s.sent honest b (first.stands b stands) (found (second.honest honest) b stands)) s.told
+answering g contents w w' old mid new file account from to count outcome allowed first second found (inr (long, sent)) =
+    too_long (λ honest b stands. long b (found (second.honest honest) b stands)) sent

@@ -51,6 +51,10 @@ at_reader : place_of (codes "/deposits/1/readers/bob") ≡ Some place.Reader
 unfolding routes matchit_on_literals
 at_reader = refl
 
+at_group : place_of (codes "/deposits/1/groups/staff") ≡ Some place.Group
+unfolding routes matchit_on_literals
+at_group = refl
+
 at_deposits : place_of (codes "/deposits") ≡ Some place.Deposits
 unfolding routes matchit_on_literals
 at_deposits = refl

@@ -1,23 +1,26 @@
 -- What is written, and why.
-use Rattle.std.proofs.Common.{◌≡◌, ◌∙◌, ℕ, ◌+◌, ℤ, List, ◌++◌, Option, Result, Ok, Err, length, take, drop}
+use Rattle.std.proofs.Common.{◌≡◌, ◌∙◌, ℕ, ℤ, List, Option, Result, Ok, Err, map}
 use Rattle.std.proofs.Common.{refl, ap, inl, inr, subst}
-use Rattle.std.proofs.lemmas.List.{take_at, drop_at}
-use lib.Seq.{take-add}
 use Rattle.book.specs.declared.standing.Standing.{Ghosts}
 use Rattle.cms.specs.declared.signer.SignerFault.{SignerFault}
-use Rattle.desk.specs.Command.{Command, Answer, Calibrate}
+use Rattle.book.specs.Rights.{ListedValue}
+use Rattle.book.specs.Values.{listed_view}
+use Rattle.desk.specs.Command.{Command, Answer, Calibrate, ListAll, Listed}
 use Rattle.desk.specs.Stepped.{DeskValue}
 use Rattle.policy.specs.Record.{AccountValue}
 use Rattle.service.specs.Answers.{AnswerValue, answer_to, refusal_answer, success}
 use Rattle.service.specs.Refusals.{refusal_of_extract}
-use Rattle.service.specs.Extracting.{ServesExtract, extracted, kept_back, unanswered}
+use Rattle.service.specs.Extracting.{ServesExtract, extracted, kept_back, too_long}
 use Rattle.service.specs.Requests.{Step, Extract, Status, IsEarly}
 use Rattle.service.specs.Served.{Turn, IsIdle, IsLook, Reads, Sends, SendsOrWants, SendsOctets, unavailable, Takes}
-use Rattle.service.specs.Served.{IsAnswer, refuses, replies, keeps_back, wants_early, wants_idle, wants_after}
+use Rattle.service.specs.Served.{IsAnswer, refuses, replies, keeps_back, wants_early, wants_list, overflows}
 use Rattle.service.specs.Served.{turns_back, Tells, plainly, backwards, tells_status, wants_status}
 use Rattle.service.specs.Telling.{ServesStatus}
 use Rattle.service.specs.declared.answer.Media.TheVariants as media
-use Rattle.service.specs.Served.{wants_looking, Extracts, Serves}
+use Rattle.service.specs.Served.{Extracts, Serves}
+use Rattle.service.specs.Views.{performed_answer, Responds, IsOfList}
+use Rattle.service.specs.declared.performing.Performed.{Performed}
+use Rattle.service.specs.declared.performing.Performed.TheVariants as performed
 use Rattle.service.specs.declared.refusal.Refusal.{Refusal}
 use Rattle.service.specs.declared.served.Served.{Served}
 use Rattle.service.specs.declared.served.Served.TheVariants as served
@@ -53,10 +56,9 @@ module _ {W B X : Type 0} (g : Ghosts B) (signs : X → List ℕ → Result (Lis
   either a outcome why wants (inr sent) = sends unavailable outcome wants sent
 
   pub refusing : (r : Refusal) (outcome : Served) → Reads reading t (Err r) → IsIdle t
-      → SendsOrWants contents t.writer t.writer_after (refusal_answer r) outcome
+      → Sends contents t.writer t.writer_after (refusal_answer r) outcome
       → Serves g signs count contents reading t outcome
-  refusing r outcome reads idle sent =
-      either (refusal_answer r) outcome (refuses r reads idle refl) (wants_idle r reads idle refl) sent
+  refusing r outcome reads idle sent = sends (refusal_answer r) outcome (refuses r reads idle refl) sent
 
   -- a reply that is told plainly, and one to a calibration that is before the latest
   why_told : (c : Command) → Reads reading t (Ok (Step c)) → (reply : Answer) → Takes g signs count t c reply
@@ -68,12 +70,37 @@ module _ {W B X : Type 0} (g : Ghosts B) (signs : X → List ℕ → Result (Lis
       let Q : Answer → Type 0 = λ r. Takes g signs count t (Calibrate x) r in
       turns_back x reads (subst Q turns taken) behind is
 
-  pub replying : (c : Command) (outcome : Served) → Reads reading t (Ok (Step c)) → (reply : Answer)
-      → Takes g signs count t c reply
-      → (a : AnswerValue) → Tells g signs count t.desk t.desk_after c reply a
-      → SendsOrWants contents t.writer t.writer_after a outcome → Serves g signs count contents reading t outcome
-  replying c outcome reads reply takes a told sent =
-      either a outcome (why_told c reads reply takes a told) (wants_after c reads reply takes refl) sent
+  -- memory is wanting for a list
+  wanting_list : (rows : List ListedValue) (c : Command) (reply : Answer) → Reads reading t (Ok (Step c))
+      → Takes g signs count t c reply → (account : AccountValue) → c ≡ ListAll account → reply ≡ Listed rows
+      → IsAnswer g signs count reading t unavailable
+  wanting_list rows c reply reads takes account lists told =
+      let P : Command → Type 0 = λ c. Reads reading t (Ok (Step c)) × Takes g signs count t c reply in
+      let (reads, taken) = subst P lists (reads, takes) in
+      let Q : Answer → Type 0 = λ r. Takes g signs count t (ListAll account) r in
+      wants_list account reads rows (subst Q told taken) refl
+
+  module _ (c : Command) (outcome : Served) (reads : Reads reading t (Ok (Step c))) (reply : Answer)
+      (takes : Takes g signs count t c reply) where
+    plain : (a : AnswerValue) → Tells g signs count t.desk t.desk_after c reply a
+        → Sends contents t.writer t.writer_after a outcome → Serves g signs count contents reading t outcome
+    plain a told sent = sends a outcome (why_told c reads reply takes a told) sent
+
+    pub replying : (p : Performed) → Tells g signs count t.desk t.desk_after c reply (performed_answer p)
+        → IsOfList p c reply → Responds contents t.writer t.writer_after p outcome
+        → Serves g signs count contents reading t outcome
+    replying (performed.Stamped r) told list sent = plain (performed_answer (performed.Stamped r)) told sent
+    replying (performed.Kept d) told list sent = plain (performed_answer (performed.Kept d)) told sent
+    replying (performed.Shown b) told list sent = plain (performed_answer (performed.Shown b)) told sent
+    replying (performed.Token b) told list sent = plain (performed_answer (performed.Token b)) told sent
+    replying (performed.Listed rows) told (account, lists, is) sent =
+        either (performed_answer (performed.Listed rows)) outcome
+        (why_told c reads reply takes (performed_answer (performed.Listed rows)) told)
+        (wanting_list (map listed_view rows.items) c reply reads takes account lists is) sent
+    replying performed.Done told list sent = plain (performed_answer performed.Done) told sent
+    replying performed.Added told list sent = plain (performed_answer performed.Added) told sent
+    replying performed.TurnedBack told list sent = plain (performed_answer performed.TurnedBack) told sent
+    replying (performed.Refused f) told list sent = plain (performed_answer (performed.Refused f)) told sent
 
   pub wanting_early : (outcome : Served) → IsEarly t.input t.input_after → IsIdle t
       → Sends contents t.writer t.writer_after unavailable outcome → Serves g signs count contents reading t outcome
@@ -113,8 +140,8 @@ module _ {W B X : Type 0} (g : Ghosts B) (signs : X → List ℕ → Result (Lis
         long = long;
       }) refl)
       sent
-  answering_auditor account from to outcome reads look (unanswered sent) =
-      sends unavailable outcome (wants_looking account from to reads look refl) sent
+  answering_auditor account from to outcome reads look (too_long long sent) =
+      sends unavailable outcome (overflows account from to reads look long refl) sent
 
   pub telling_status : (outcome : Served) → Reads reading t (Ok Status) → IsLook g signs count t
       → ServesStatus g contents t.writer t.writer_after t.desk.store t.desk_after.store t.desk.setting.file.counter
@@ -124,9 +151,3 @@ module _ {W B X : Type 0} (g : Ghosts B) (signs : X → List ℕ → Result (Lis
       either (success 200 media.Text tells.body) outcome (tells_status tells.body reads look tells.is refl)
       (wants_status reads look refl) tells.sent
   telling_status outcome reads look (inr sent) = sends unavailable outcome (wants_status reads look refl) sent
-
--- a front of a text that is joined of two, longer than the first
-pub front_of_joined : (a b : List ℕ) (n : ℕ) → take (length a + n) (a ++ b) ≡ a ++ take n b
-front_of_joined a b n =
-    take-add (length a) n (a ++ b) ∙ ap (λ l. l ++ take n (drop (length a) (a ++ b))) (take_at a b (length a) refl)
-    ∙ ap (λ l. a ++ take n l) (drop_at a b (length a) refl)

@@ -9,7 +9,7 @@ use Rattle.audit.specs.Extract.{extract_text}
 use Rattle.audit.specs.Fault.{count_after}
 use Rattle.audit.specs.declared.fault.ExtractFault.{ExtractFault}
 use Rattle.audit.specs.declared.fault.ExtractFault.TheVariants.{Write}
-use Rattle.service.specs.Answers.{extract_answer, refusal_answer}
+use Rattle.service.specs.Answers.{answer_text, extract_answer, refusal_answer}
 use Rattle.service.specs.Refusals.{refusal_of_extract}
 use Rattle.service.specs.Served.{Sends, SendsOctets, unavailable}
 use Rattle.service.specs.declared.served.Served.{Served}
@@ -21,10 +21,13 @@ module _ {B W : Type 0} (g : Ghosts B) (contents : W → Option (List ℕ)) (w w
         → Sends contents w w' (extract_answer from to b) outcome
     pub told : SendsOctets contents w w' outcome
 
-  -- or, as memory is wanting for its head, that the counter can't answer now
-  abbrev pub SendsExtractOrWants : ℕ → ℕ → ℕ → Served → Type 0
-  SendsExtractOrWants from to count outcome =
-      SendsExtract from to count outcome ⊎ Sends contents w w' unavailable outcome
+  -- or, as it would have 2^64 octets or more, that the counter can't answer now
+  abbrev pub SendsExtractOrOverflows : ℕ → ℕ → ℕ → Served → Type 0
+  SendsExtractOrOverflows from to count outcome =
+      SendsExtract from to count outcome
+      ⊎ (((b : History) → count ≡ length (extract_text from to b)
+      → 2 ^ 64 ≤ length (answer_text (extract_answer from to b)))
+      × Sends contents w w' unavailable outcome)
 
   -- an extract is answered
   pub data ServesExtract (file : PolicyValue) (account : AccountValue) (from to : ℕ) (outcome : Served) : Type 0 where
@@ -36,4 +39,6 @@ module _ {B W : Type 0} (g : Ghosts B) (contents : W → Option (List ℕ)) (w w
         → (g.honest new → (b : History) → Stands g b old → f ≡ Write → 2 ^ 64 ≤ length (extract_text from to b))
         → Sends contents w w' (refusal_answer (refusal_of_extract f)) outcome
         → ServesExtract file account from to outcome
-    unanswered : Sends contents w w' unavailable outcome → ServesExtract file account from to outcome
+    too_long : (g.honest new → (b : History) → Stands g b old
+        → 2 ^ 64 ≤ length (answer_text (extract_answer from to b)))
+        → Sends contents w w' unavailable outcome → ServesExtract file account from to outcome

@@ -3,6 +3,7 @@ pub mod Checks
 pub mod Extracting
 pub mod Fields
 pub mod Forms
+pub mod Fronts
 pub mod Heads
 pub mod Numbers
 pub mod Reading

@@ -3,6 +3,7 @@ use Rattle.std.specs.Prelude.{◌≡◌, ℕ, ◌<◌, ℤ, List, [], ◌++◌, 
 use Rattle.std.specs.Io.KnownBytes.{Consumes, IsAtEnd}
 use Rattle.httparse.specs.Grammar.{RequestHead, print_request}
 use Rattle.policy.specs.Record.{AccountValue, PolicyValue}
+use Rattle.book.specs.Readers as readers
 use Rattle.desk.specs.Command.{Command, Stamp, Deposit, Show, Token, ListAll, Grant, Revoke, Calibrate, Hold}
 use Rattle.service.specs.Checks.{◌>>=◌, WantedValue, wanted_by, account_shown, active_account, number_stated}
 use Rattle.service.specs.Checks.{reference_stated, range_stated, operator_shown, watcher_shown}
@@ -55,10 +56,16 @@ asked_by file reading h body action.Token = do
   Ok (Step (Token account number))
 asked_by file reading h body action.Grant = do
   (account, number) ← account_and_number file h
-  Ok (Step (Grant account number (name_part h.target)))
+  Ok (Step (Grant account number (readers.Account (name_part h.target))))
 asked_by file reading h body action.Revoke = do
   (account, number) ← account_and_number file h
-  Ok (Step (Revoke account number (name_part h.target)))
+  Ok (Step (Revoke account number (readers.Account (name_part h.target))))
+asked_by file reading h body action.GrantGroup = do
+  (account, number) ← account_and_number file h
+  Ok (Step (Grant account number (readers.Group (name_part h.target))))
+asked_by file reading h body action.RevokeGroup = do
+  (account, number) ← account_and_number file h
+  Ok (Step (Revoke account number (readers.Group (name_part h.target))))
 asked_by file reading h body action.Extract = do
   (account, from, to) ← account_and_range file h
   Ok (Extract account from to)

@@ -27,6 +27,7 @@ with_route text p routes = joined (parse_route text) p routes
 unfoldable pub routes : Routes
 routes =
     with_route (codes "/audit/{from}/{to}") place.Audit
+    (with_route (codes "/deposits/{number}/groups/{name}") place.Group
     (with_route (codes "/deposits/{number}/readers/{name}") place.Reader
     (with_route (codes "/deposits/{number}/token") place.Token
     (with_route (codes "/deposits/{number}") place.Deposit
@@ -34,7 +35,7 @@ routes =
     (with_route (codes "/status") place.Status
     (with_route (codes "/holds") place.Holds
     (with_route (codes "/calibrations") place.Calibrations
-    (with_route (codes "/tsp") place.Tsp []))))))))
+    (with_route (codes "/tsp") place.Tsp [])))))))))
 
 -- the place that a target names, as it was sent
 abbrev pub place_of : List ℕ → Option Place
@@ -47,6 +48,7 @@ methods_of place.Deposits = codes "GET, POST"
 methods_of place.Deposit = codes "GET"
 methods_of place.Token = codes "GET"
 methods_of place.Reader = codes "PUT, DELETE"
+methods_of place.Group = codes "PUT, DELETE"
 methods_of place.Audit = codes "GET"
 methods_of place.Calibrations = codes "POST"
 methods_of place.Holds = codes "POST"
@@ -64,6 +66,8 @@ action_of place.Deposit method = action_where method (codes "GET") action.Show N
 action_of place.Token method = action_where method (codes "GET") action.Token None
 action_of place.Reader method =
     action_where method (codes "PUT") action.Grant (action_where method (codes "DELETE") action.Revoke None)
+action_of place.Group method =
+    action_where method (codes "PUT") action.GrantGroup (action_where method (codes "DELETE") action.RevokeGroup None)
 action_of place.Audit method = action_where method (codes "GET") action.Extract None
 action_of place.Calibrations method = action_where method (codes "POST") action.Calibrate None
 action_of place.Holds method = action_where method (codes "POST") action.Hold None
@@ -81,7 +85,7 @@ before_slash text = before_first (λ octet. octet == 0x2F) text
 abbrev pub number_part : List ℕ → List ℕ
 number_part target = before_slash (behind_slash (behind_slash target))
 
--- the segment that stands for {name}, behind `/deposits/{number}/readers/`
+-- the segment that stands for {name}, behind `/deposits/{number}/readers/` or `/deposits/{number}/groups/`
 abbrev pub name_part : List ℕ → List ℕ
 name_part target = behind_slash (behind_slash (behind_slash (behind_slash target)))
 

@@ -9,7 +9,8 @@ use Rattle.policy.specs.Record.{AccountValue}
 use Rattle.book.specs.History.{History, CalibrationValue, latest_calibration}
 use Rattle.book.specs.Sound.{IsBackwards}
 use Rattle.book.specs.Stands.{Stands, OnlyLooks}
-use Rattle.desk.specs.Command.{Command, Stamp, Deposit, Calibrate, Answer, Rejected, Refused}
+use Rattle.book.specs.Rights.{ListedValue}
+use Rattle.desk.specs.Command.{Command, Stamp, Deposit, ListAll, Calibrate, Answer, Listed, Rejected, Refused}
 use Rattle.desk.specs.declared.fault.Fault.TheVariants as fault
 use Rattle.desk.specs.Calls.{looked_at}
 use Rattle.desk.specs.Findings.{HoldsUnasked}
@@ -69,7 +70,7 @@ Sends contents old new a outcome = SendsText contents old new a.status (answer_t
 abbrev pub unavailable : AnswerValue
 unavailable = refusal_answer refusal.Unavailable
 
--- that answer is written, or, as memory is wanting for it, that the counter can't answer now
+-- that answer is written, or, as memory is wanting for its body, that the counter can't answer now
 abbrev pub SendsOrWants : {W : Type 0} → (W → Option (List ℕ)) → W → W → AnswerValue → Served → Type 0
 SendsOrWants contents old new a outcome =
     Sends contents old new a outcome ⊎ Sends contents old new unavailable outcome
@@ -161,15 +162,15 @@ module _ {B X : Type 0} (g : Ghosts B) (signs : X → List ℕ → Result (List 
         → IsAnswer reading t a
     -- memory is wanting before the body is read
     wants_early : IsEarly t.input t.input_after → IsIdle t → a ≡ unavailable → IsAnswer reading t a
-    -- memory is wanting for the answer that refuses the request
-    wants_idle : (r : Refusal) → Reads reading t (Err r) → IsIdle t → a ≡ unavailable → IsAnswer reading t a
-    -- memory is wanting for the answer, once that step is taken
-    wants_after : (c : Command) → Reads reading t (Ok (Step c)) → (reply : Answer) → Takes t c reply → a ≡ unavailable
-        → IsAnswer reading t a
+    -- memory is wanting for the lines of a list, once that step is taken
+    wants_list : (account : AccountValue) → Reads reading t (Ok (Step (ListAll account))) → (rows : List ListedValue)
+        → Takes t (ListAll account) (Listed rows) → a ≡ unavailable → IsAnswer reading t a
     -- the store can't be looked into, or memory is wanting for the state
     wants_status : Reads reading t (Ok Status) → IsLook t → a ≡ unavailable → IsAnswer reading t a
-    -- memory is wanting for the extract, or for the answer that refuses it
-    wants_looking : (account : AccountValue) (from to : ℕ) → Reads reading t (Ok (Extract account from to)) → IsLook t
+    -- the answer with the extract has 2^64 octets or more
+    overflows : (account : AccountValue) (from to : ℕ) → Reads reading t (Ok (Extract account from to)) → IsLook t
+        → (g.honest t.desk_after.store → (b : History) → Stands g b t.desk.store
+        → 2 ^ 64 ≤ length (answer_text (extract_answer from to b)))
         → a ≡ unavailable → IsAnswer reading t a
 
   -- an answer is written, for a reason

@@ -1,13 +1,16 @@
-//! The texts of answers (RFC 9112 4 and 6).
-ghost use Rattle.std.specs.Prelude.{◌≡◌, ◌++◌, Option, option_map, codes, IfOk, string_bytes};
+//! The texts of answers (RFC 9112 4 and 6). None but a body takes memory.
+ghost use Rattle.std.specs.Prelude.{◌≡◌, ◌+◌, ◌≤◌, ◌++◌, length, Option, option_map, codes, IfSome};
 ghost use Rattle.std.specs.Fmt.{decimal};
 ghost use Rattle.http.specs.StatusCode.{reason_phrase};
+ghost use Rattle.arrayvec.specs.ArrayString.{array_string_len};
 ghost use Rattle.service.specs.Answers.{phrase_of, media_type, status_line, content_lines, allow_line, head_text, crlf};
-ghost use Rattle.service.specs.Answers.{answer_text, refusal_answer};
-ghost use Rattle.service.specs.declared.refusal.Refusal.TheVariants.{Unavailable};
 
+use arrayvec::ArrayString;
 use http::StatusCode;
-use std::alloc::{AllocError, Global};
+use itoa::Buffer;
+
+/// A text on the stack: the head of an answer, a number, or what a refusal says. All of these have fewer octets.
+pub(crate) type ShortText = ArrayString<512>;
 
 /// The type of a body.
 #[derive(Clone, Copy, Debug, PartialEq, Eq)]
@@ -25,7 +28,8 @@ pub enum Media {
 impl Media {
     /// Its name.
     fn name(self) -> &'static str
-        ensures { result.now ≡ media_type self }
+        ensures value { result.now ≡ media_type self }
+        ensures short { length result.now ≤ 40 }
     {
         match self {
             Media::Reply => "application/timestamp-reply",
@@ -34,14 +38,6 @@ impl Media {
             Media::Csv => "text/csv",
         }
     }
-}
-
-/// The whole answer that tells that the counter can't answer now. It takes no memory.
-pub(crate) fn unavailable() -> &'static [u8]
-    ensures { result.now ≡ answer_text (refusal_answer Unavailable) }
-{
-    b"HTTP/1.1 503 Service Unavailable\r\nContent-Type: text/plain\r\n\
-      Content-Length: 16\r\nConnection: close\r\n\r\n503 Unavailable\n"
 }
 
 /// The phrase of a status.
@@ -54,61 +50,75 @@ fn phrase(status: StatusCode) -> &'static str
     }
 }
 
-/// The line with a status and its phrase.
-fn line_of_status(alloc: Global, code: u16, phrase: &str) -> Result<String, AllocError>
-    ensures { IfOk result (λ line. string_bytes line
-        ≡ codes "HTTP/1.1 " ++ decimal code ++ codes " " ++ phrase.now ++ crlf) }
+/// Appends a number in decimal digits.
+pub(crate) fn push_number(text: &mut ShortText, number: u64)
+    requires { array_string_len text.old + 40 ≤ 512 }
+    ensures bytes { text.new.bytes ≡ text.old.bytes ++ decimal number }
+    ensures len { array_string_len text.new ≤ array_string_len text.old + 40 }
 {
-    format!(in alloc; "HTTP/1.1 {code} {phrase}\r\n")
+    let mut digits = Buffer::new();
+    text.push_str(digits.format(number));
 }
 
-/// The line with an answer's status.
-fn status_line(alloc: Global, status: StatusCode) -> Result<String, AllocError>
-    ensures { IfOk result (λ line. string_bytes line ≡ status_line status) }
+/// Appends the line with an answer's status.
+fn push_status(text: &mut ShortText, status: StatusCode)
+    requires room { array_string_len text.old + 92 ≤ 512 }
+    requires short { length (phrase_of (reason_phrase status)) ≤ 40 }
+    ensures bytes { text.new.bytes ≡ text.old.bytes ++ status_line status }
+    ensures len { array_string_len text.new ≤ array_string_len text.old + 92 }
 {
-    line_of_status(alloc, status.as_u16(), phrase(status))
+    text.push_str("HTTP/1.1 ");
+    push_number(text, u64::from(status.as_u16()));
+    text.push_str(" ");
+    text.push_str(phrase(status));
+    text.push_str("\r\n");
 }
 
-/// The lines on a body of that type and so many octets.
-fn content_lines(alloc: Global, media: Media, count: usize) -> Result<String, AllocError>
-    ensures { IfOk result (λ lines. string_bytes lines ≡ content_lines media count) }
+/// Appends the lines on a body of that type and so many octets.
+fn push_content(text: &mut ShortText, media: Media, count: usize)
+    requires { array_string_len text.old + 114 ≤ 512 }
+    ensures bytes { text.new.bytes ≡ text.old.bytes ++ content_lines media count }
+    ensures len { array_string_len text.new ≤ array_string_len text.old + 114 }
 {
-    let name = media.name();
-    format!(in alloc; "Content-Type: {name}\r\nContent-Length: {count}\r\n")
+    text.push_str("Content-Type: ");
+    text.push_str(media.name());
+    text.push_str("\r\n");
+    text.push_str("Content-Length: ");
+    push_number(text, count as u64);
+    text.push_str("\r\n");
 }
 
-/// The line on the methods that a place has, where it is asked for.
-fn allow_line(alloc: Global, allow: Option<&str>) -> Result<String, AllocError>
-    ensures { IfOk result (λ line. string_bytes line ≡ allow_line (option_map (λ m. m.now) allow.entry)) }
+/// Appends the line on the methods that a place has, where it is asked for.
+fn push_allow(text: &mut ShortText, allow: Option<&str>)
+    requires room { array_string_len text.old + 49 ≤ 512 }
+    requires short { IfSome allow (λ m. length m.now ≤ 40) }
+    ensures bytes { text.new.bytes ≡ text.old.bytes ++ allow_line (option_map (λ m. m.now) allow.entry) }
+    ensures len { array_string_len text.new ≤ array_string_len text.old + 49 }
 {
-    match allow {
-        Some(methods) => format!(in alloc; "Allow: {methods}\r\n"),
-        None => Ok(String::new(alloc)),
+    if let Some(methods) = allow {
+        text.push_str("Allow: ");
+        text.push_str(methods);
+        text.push_str("\r\n");
     }
-}
-
-/// The lines of a head, and what ends it.
-fn joined(alloc: Global, status: &str, content: &str, allow: &str) -> Result<String, AllocError>
-    ensures { IfOk result (λ text. string_bytes text
-        ≡ status.now ++ content.now ++ allow.now ++ codes "Connection: close" ++ crlf ++ crlf) }
-{
-    format!(in alloc; "{status}{content}{allow}Connection: close\r\n\r\n")
 }
 
 /// All that stands before the body.
 #[tactic(auto, unfolding(crate::specs::Answers::head_text))]
 pub(crate) fn head_text(
-    alloc: Global,
     status: StatusCode,
     media: Media,
     allow: Option<&str>,
     count: usize,
-) -> Result<String, AllocError>
-    ensures { IfOk result (λ text. string_bytes text
-        ≡ head_text status media (option_map (λ m. m.now) allow.entry) count) }
+) -> ShortText
+    requires phrase { length (phrase_of (reason_phrase status)) ≤ 40 }
+    requires methods { IfSome allow (λ m. length m.now ≤ 40) }
+    ensures value { result.bytes ≡ head_text status media (option_map (λ m. m.now) allow.entry) count }
+    ensures short { array_string_len result ≤ 512 }
 {
-    let status = status_line(alloc, status)?;
-    let content = content_lines(alloc, media, count)?;
-    let allow = allow_line(alloc, allow)?;
-    joined(alloc, status.as_str(), content.as_str(), allow.as_str())
+    let mut text = ArrayString::new();
+    push_status(&mut text, status);
+    push_content(&mut text, media, count);
+    push_allow(&mut text, allow);
+    text.push_str("Connection: close\r\n\r\n");
+    text
 }

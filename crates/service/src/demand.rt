@@ -49,7 +49,7 @@ pub(crate) enum Demand<'a> {
         account: &'a Account,
         number: u64,
     },
-    /// To let a reader see a deposit.
+    /// To let an account see a deposit.
     Grant {
         account: &'a Account,
         number: u64,
@@ -57,6 +57,18 @@ pub(crate) enum Demand<'a> {
     },
     /// To take that right away.
     Revoke {
+        account: &'a Account,
+        number: u64,
+        name: &'a str,
+    },
+    /// To let the members of a group see a deposit.
+    GrantGroup {
+        account: &'a Account,
+        number: u64,
+        name: &'a str,
+    },
+    /// To take that right away.
+    RevokeGroup {
         account: &'a Account,
         number: u64,
         name: &'a str,
@@ -349,6 +361,22 @@ pub(crate) fn asked_by<'a>(
         },
         Action::Revoke => match of_number(policy, head) {
             Ok((account, number)) => Ok(Asked::Step(Demand::Revoke {
+                account,
+                number,
+                name: name_part(head.target),
+            })),
+            Err(refusal) => Err(refusal),
+        },
+        Action::GrantGroup => match of_number(policy, head) {
+            Ok((account, number)) => Ok(Asked::Step(Demand::GrantGroup {
+                account,
+                number,
+                name: name_part(head.target),
+            })),
+            Err(refusal) => Err(refusal),
+        },
+        Action::RevokeGroup => match of_number(policy, head) {
+            Ok((account, number)) => Ok(Asked::Step(Demand::RevokeGroup {
                 account,
                 number,
                 name: name_part(head.target),

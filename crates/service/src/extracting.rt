@@ -2,14 +2,13 @@
 ghost use Rattle.std.specs.Prelude.{◌≡◌};
 ghost use Rattle.policy.specs.View.{account_view};
 ghost use Rattle.book.specs.Stands.{OnlyLooks};
-ghost use Rattle.service.specs.Extracting.{SendsExtractOrWants, ServesExtract};
+ghost use Rattle.service.specs.Extracting.{SendsExtractOrOverflows, ServesExtract};
 
 use crate::answer::{Media, head_text};
 use crate::refusal::Refusal;
 use crate::responding::{refuse, wanting};
 use crate::served::Served;
-use crate::writing::write_octets;
-use audit::{extract_length, write_extract};
+use audit::{extract_length, write_extract, write_octets};
 use book::Book;
 use desk::Desk;
 use http::StatusCode;
@@ -17,7 +16,8 @@ use policy::{Account, Policy};
 use std::alloc::Global;
 use std::io::Write;
 
-/// Writes the answer with an extract that is found to have so many octets.
+/// Writes the answer with an extract that is found to have so many octets. It can't be where they and the head's are
+/// 2^64 or more.
 fn send_extract<W: Write, B: Book + Drop>(
     alloc: Global,
     writer: &mut W,
@@ -29,18 +29,17 @@ fn send_extract<W: Write, B: Book + Drop>(
     length: u64,
 ) -> Served
     ensures looks { OnlyLooks B.Standing store.old store.new }
-    ensures sent { SendsExtractOrWants B.Standing W.contents writer.old writer.new store.old store.new from to length
-        result }
+    ensures sent { SendsExtractOrOverflows B.Standing W.contents writer.old writer.new store.old store.new from to
+        length result }
 {
     let count = length as usize;
-    let Ok(head) = head_text(alloc, StatusCode::OK, Media::Csv, None, count) else {
-        return wanting(writer);
-    };
-    if head.len().checked_add(count).is_none() {
+    let head = head_text(StatusCode::OK, Media::Csv, None, count);
+    let most = usize::MAX - head.len();
+    if most < count {
         return wanting(writer);
     }
     let status = StatusCode::OK.as_u16();
-    let of_head = write_octets(writer, head.as_bytes());
+    let of_head = write_octets(writer, head.as_str().as_bytes());
     if of_head < head.len() {
         return Served::WriteFailed {
             status,
@@ -83,6 +82,6 @@ pub(crate) fn serve_extract<W: Write, B: Book + Drop>(
             to,
             length,
         ),
-        Err(fault) => refuse(alloc, writer, Refusal::from(fault)),
+        Err(fault) => refuse(writer, Refusal::from(fault)),
     }
 }

@@ -1,7 +1,7 @@
 //! A head in the octets that were read.
 ghost use Rattle.std.specs.Prelude.{◌≡◌, ◌≤◌, length, take, IsUtf8};
 ghost use Rattle.httparse.specs.Grammar.{RequestHead};
-ghost use Rattle.httparse.specs.Spans.{IsRequestWithin};
+ghost use Rattle.httparse.specs.Spans.{IsRequestAt, IsRequestWithin};
 ghost use Rattle.service.specs.Heads.{head_value};
 ghost use Rattle.service.specs.Reading.{LiesAt};
 ghost use Rattle.service.specs.Views.{head_view, IsInPlace};
@@ -28,6 +28,24 @@ fn text_of(octets: &[u8]) -> &str
     }
 }
 
+/// The head that begins octets.
+pub(crate) fn head_in<'b>(
+    octets: &'b [u8],
+    headers: &'b [HeaderSpan],
+    spans: RequestSpans,
+) -> Head<'b>
+    requires { IsRequestWithin octets.now headers.now spans }
+    ensures head { (h : RequestHead) → IsRequestAt octets.now headers.now spans h → head_view result ≡ head_value h }
+    ensures within { IsInPlace result }
+{
+    Head {
+        method: spans.method.of(octets),
+        target: text_of(spans.path.of(octets)),
+        octets,
+        headers: headers.split_at(spans.headers).0,
+    }
+}
+
 /// The head that lies at the front of the room.
 pub(crate) fn head_at<'b>(
     room: &'b [u8],
@@ -39,11 +57,5 @@ pub(crate) fn head_at<'b>(
     ensures head { (h : RequestHead) → LiesAt room.now headers.now spans h → head_view result ≡ head_value h }
     ensures within { IsInPlace result }
 {
-    let octets = room.split_at(spans.len).0;
-    Head {
-        method: spans.method.of(octets),
-        target: text_of(spans.path.of(octets)),
-        octets,
-        headers: headers.split_at(spans.headers).0,
-    }
+    head_in(room.split_at(spans.len).0, headers, spans)
 }

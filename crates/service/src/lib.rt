@@ -3,12 +3,15 @@
 
 mod answer;
 mod demand;
+mod extent;
 mod extracting;
 mod fields;
 mod form;
+mod front;
 mod head;
 mod listing;
 mod numbers;
+mod octets;
 mod performing;
 mod reading;
 mod refusal;
@@ -21,7 +24,10 @@ mod wanted;
 mod writing;
 
 pub use answer::Media;
+pub use extent::{Extent, extent_of};
+pub use octets::{Exchanged, serve_octets};
+pub use reading::MOST_OCTETS;
 pub use refusal::Refusal;
-pub use routes::Place;
+pub use routes::{Place, Routes};
 pub use served::Served;
 pub use serving::serve_one;

@@ -5,15 +5,20 @@ ghost use Rattle.std.specs.List.{flat_map};
 ghost use Rattle.book.specs.Values.{listed_view};
 ghost use Rattle.service.specs.Answers.{listed_line, line_feed};
 
+use crate::answer::{ShortText, push_number};
+use arrayvec::ArrayString;
 use book::Listed;
 use gentime::GenTime;
 use std::alloc::{AllocError, Global};
 
 /// A deposit's number on a line.
-pub(crate) fn number_line(alloc: Global, number: u64) -> Result<String, AllocError>
-    ensures { IfOk result (λ line. string_bytes line ≡ decimal number ++ line_feed) }
+pub(crate) fn number_line(number: u64) -> ShortText
+    ensures { result.bytes ≡ decimal number ++ line_feed }
 {
-    format!(in alloc; "{number}\n")
+    let mut line = ArrayString::new();
+    push_number(&mut line, number);
+    line.push_str("\n");
+    line
 }
 
 /// Number, owner and reference, and the space behind them.

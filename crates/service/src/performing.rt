@@ -1,8 +1,8 @@
 //! What the desk does for a request.
 ghost use Rattle.std.specs.Prelude.{◌≡◌};
-ghost use Rattle.desk.specs.Command.{Answer};
+ghost use Rattle.desk.specs.Command.{Answer, Command};
 ghost use Rattle.service.specs.Served.{Steps, Tells};
-ghost use Rattle.service.specs.Views.{demand_view, performed_answer, added_answer};
+ghost use Rattle.service.specs.Views.{demand_view, performed_answer, added_answer, IsOfList};
 
 use crate::demand::Demand;
 use book::{Book, Listed, StoreFault};
@@ -34,7 +34,8 @@ pub(crate) enum Performed {
 
 /// What is added, or why the store refuses it.
 fn added(outcome: Result<(), StoreFault>) -> Performed
-    ensures { performed_answer result ≡ added_answer outcome }
+    ensures told { performed_answer result ≡ added_answer outcome }
+    ensures no_list { (c : Command) (reply : Answer) → IsOfList result c reply }
 {
     match outcome {
         Ok(()) => Performed::Added,
@@ -56,7 +57,8 @@ pub(crate) fn perform<B: Book + Drop, G: Signer>(
     ensures steps { (reply : Answer) × Steps B.Standing G.signs G.fault_count desk.old desk.new signer.old signer.new
         (demand_view reading demand.entry) reply
         × Tells B.Standing G.signs G.fault_count desk.old desk.new (demand_view reading demand.entry) reply
-        (performed_answer result) }
+        (performed_answer result)
+        × IsOfList result (demand_view reading demand.entry) reply }
 {
     match demand {
         Demand::Stamp { account, query } => {
@@ -95,6 +97,22 @@ pub(crate) fn perform<B: Book + Drop, G: Signer>(
             number,
             name,
         } => match desk.revoke(account, number, name) {
+            Ok(()) => Performed::Done,
+            Err(fault) => Performed::Refused(fault),
+        },
+        Demand::GrantGroup {
+            account,
+            number,
+            name,
+        } => match desk.grant_group(account, number, name) {
+            Ok(()) => Performed::Done,
+            Err(fault) => Performed::Refused(fault),
+        },
+        Demand::RevokeGroup {
+            account,
+            number,
+            name,
+        } => match desk.revoke_group(account, number, name) {
             Ok(()) => Performed::Done,
             Err(fault) => Performed::Refused(fault),
         },

@@ -8,7 +8,7 @@ use httparse::spans::{HeaderSpan, RequestSpans, parse_request};
 use std::io::Read;
 
 /// The most octets of a head, with the empty lines before it.
-pub(crate) const MOST_OCTETS: usize = 8_192;
+pub const MOST_OCTETS: usize = 8_192;
 
 /// The most field lines of a head.
 pub(crate) const MOST_FIELDS: usize = 32;

@@ -1,15 +1,16 @@
 //! Why a request is refused.
-ghost use Rattle.std.specs.Prelude.{◌≡◌, ◌++◌, codes, IfOk, string_bytes, option_map};
-ghost use Rattle.std.specs.Fmt.{decimal};
+ghost use Rattle.std.specs.Prelude.{◌≡◌, ◌≤◌, length, option_map, IfSome};
+ghost use Rattle.http.specs.StatusCode.{reason_phrase};
 ghost use Rattle.tsp.specs.Rejection.{number_of, reason};
-ghost use Rattle.service.specs.Answers.{allowed_by, line_feed, refusal_body};
+ghost use Rattle.service.specs.Answers.{allowed_by, phrase_of, refusal_body};
 ghost use Rattle.service.specs.Refusals.{status_of_rule, status_of, word_of, refusal_of, refusal_of_extract};
 
+use crate::answer::{ShortText, push_number};
 use crate::routes::Place;
+use arrayvec::ArrayString;
 use audit::ExtractFault;
 use desk::Fault;
 use http::StatusCode;
-use std::alloc::{AllocError, Global};
 use tsp::Rule;
 
 /// Why a request is refused.
@@ -43,6 +44,8 @@ pub enum Refusal {
     Conflict,
     /// No account has the reader's name.
     UnknownReader,
+    /// No group has the name.
+    UnknownGroup,
     /// An owner needs no right.
     SelfGrant,
     /// Only an auditor may have an extract.
@@ -63,7 +66,8 @@ pub enum Refusal {
 
 /// A rule's word.
 fn word_of_rule(rule: Rule) -> &'static str
-    ensures { result.now ≡ reason (number_of rule) }
+    ensures value { result.now ≡ reason (number_of rule) }
+    ensures short { length result.now ≤ 40 }
 {
     match rule {
         Rule::Spelling => "rule 01",
@@ -83,7 +87,8 @@ fn word_of_rule(rule: Rule) -> &'static str
 
 /// The status that tells that a rule fails.
 fn status_of_rule(rule: Rule) -> StatusCode
-    ensures { result ≡ status_of_rule rule }
+    ensures value { result ≡ status_of_rule rule }
+    ensures short { length (phrase_of (reason_phrase result)) ≤ 40 }
 {
     match rule {
         Rule::Clock => StatusCode::SERVICE_UNAVAILABLE,
@@ -94,13 +99,15 @@ fn status_of_rule(rule: Rule) -> StatusCode
 impl Refusal {
     /// The status that tells it.
     pub(crate) fn status(self) -> StatusCode
-        ensures { result ≡ status_of self }
+        ensures value { result ≡ status_of self }
+        ensures short { length (phrase_of (reason_phrase result)) ≤ 40 }
     {
         match self {
             Refusal::BadRequest
             | Refusal::BadLength
             | Refusal::BadReference
             | Refusal::UnknownReader
+            | Refusal::UnknownGroup
             | Refusal::SelfGrant
             | Refusal::BadRange
             | Refusal::BadField => StatusCode::BAD_REQUEST,
@@ -120,7 +127,8 @@ impl Refusal {
 
     /// Its word.
     fn word(self) -> &'static str
-        ensures { result.now ≡ word_of self }
+        ensures value { result.now ≡ word_of self }
+        ensures short { length result.now ≤ 40 }
     {
         match self {
             Refusal::BadRequest => "BadRequest",
@@ -137,6 +145,7 @@ impl Refusal {
             Refusal::NotOwner => "NotOwner",
             Refusal::Conflict => "Conflict",
             Refusal::UnknownReader => "UnknownReader",
+            Refusal::UnknownGroup => "UnknownGroup",
             Refusal::SelfGrant => "SelfGrant",
             Refusal::NotAuditor => "NotAuditor",
             Refusal::BadRange => "BadRange",
@@ -150,7 +159,8 @@ impl Refusal {
 
     /// The methods that its answer tells.
     pub(crate) fn allowed(self) -> Option<&'static str>
-        ensures { option_map (λ m. m.now) result ≡ allowed_by self }
+        ensures value { option_map (λ m. m.now) result ≡ allowed_by self }
+        ensures short { IfSome result (λ m. length m.now ≤ 40) }
     {
         match self {
             Refusal::Method(place) => Some(place.methods()),
@@ -159,18 +169,16 @@ impl Refusal {
     }
 
     /// The body of its answer: status and word, on a line.
-    pub(crate) fn body(self, alloc: Global) -> Result<String, AllocError>
-        ensures { IfOk result (λ text. string_bytes text ≡ refusal_body self) }
+    pub(crate) fn body(self) -> ShortText
+        ensures { result.bytes ≡ refusal_body self }
     {
-        line(alloc, self.status().as_u16(), self.word())
+        let mut line = ArrayString::new();
+        push_number(&mut line, u64::from(self.status().as_u16()));
+        line.push_str(" ");
+        line.push_str(self.word());
+        line.push_str("\n");
+        line
     }
-}
-
-/// A status and a word on a line.
-fn line(alloc: Global, status: u16, word: &str) -> Result<String, AllocError>
-    ensures { IfOk result (λ text. string_bytes text ≡ decimal status ++ codes " " ++ word.now ++ line_feed) }
-{
-    format!(in alloc; "{status} {word}\n")
 }
 
 impl From<Fault> for Refusal {
@@ -182,6 +190,7 @@ impl From<Fault> for Refusal {
             Fault::NotOwner => Refusal::NotOwner,
             Fault::Conflict => Refusal::Conflict,
             Fault::UnknownReader => Refusal::UnknownReader,
+            Fault::UnknownGroup => Refusal::UnknownGroup,
             Fault::SelfGrant => Refusal::SelfGrant,
             Fault::TooLarge => Refusal::TooLarge,
             Fault::Rejected(rule) => Refusal::Rule(rule),

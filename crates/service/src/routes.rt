@@ -1,10 +1,10 @@
 //! Targets, and what methods do there.
-ghost use Rattle.std.specs.Prelude.{◌≡◌, Option, IfOk, OnOk};
+ghost use Rattle.std.specs.Prelude.{◌≡◌, ◌≤◌, length, Option, IfOk, OnOk};
 ghost use Rattle.std.specs.Str.{bytes_eq};
 ghost use Rattle.service.specs.Routes.{with_route, routes, place_of, methods_of, action_of};
 
 use matchit::{InsertError, Router};
-use std::alloc::Global;
+use std::alloc::{AllocError, Global};
 
 /// What a target names.
 #[derive(Clone, Copy, Debug, PartialEq, Eq)]
@@ -17,8 +17,10 @@ pub enum Place {
     Deposit,
     /// `/deposits/{number}/token`: its token.
     Token,
-    /// `/deposits/{number}/readers/{name}`: one who may see it.
+    /// `/deposits/{number}/readers/{name}`: an account that may see it.
     Reader,
+    /// `/deposits/{number}/groups/{name}`: a group whose members may see it.
+    Group,
     /// `/audit/{from}/{to}`: the stamps with serial numbers from one on and up to another.
     Audit,
     /// `/calibrations`: the calibrations of the clock.
@@ -42,10 +44,14 @@ pub(crate) enum Action {
     Show,
     /// Shows a deposit's token.
     Token,
-    /// Lets a reader see a deposit.
+    /// Lets an account see a deposit.
     Grant,
     /// Takes that right away.
     Revoke,
+    /// Lets the members of a group see a deposit.
+    GrantGroup,
+    /// Takes that right away.
+    RevokeGroup,
     /// Writes stamps out for an auditor.
     Extract,
     /// Adds a calibration for an operator.
@@ -66,13 +72,14 @@ fn is_named(method: &[u8], name: &str) -> bool
 impl Place {
     /// Its methods.
     pub(crate) fn methods(self) -> &'static str
-        ensures { result.now ≡ methods_of self }
+        ensures value { result.now ≡ methods_of self }
+        ensures short { length result.now ≤ 40 }
     {
         match self {
             Place::Tsp | Place::Calibrations | Place::Holds => "POST",
             Place::Deposits => "GET, POST",
             Place::Deposit | Place::Token | Place::Audit | Place::Status => "GET",
-            Place::Reader => "PUT, DELETE",
+            Place::Reader | Place::Group => "PUT, DELETE",
         }
     }
 
@@ -88,6 +95,8 @@ impl Place {
             Place::Token if is_named(method, "GET") => Some(Action::Token),
             Place::Reader if is_named(method, "PUT") => Some(Action::Grant),
             Place::Reader if is_named(method, "DELETE") => Some(Action::Revoke),
+            Place::Group if is_named(method, "PUT") => Some(Action::GrantGroup),
+            Place::Group if is_named(method, "DELETE") => Some(Action::RevokeGroup),
             Place::Audit if is_named(method, "GET") => Some(Action::Extract),
             Place::Calibrations if is_named(method, "POST") => Some(Action::Calibrate),
             Place::Holds if is_named(method, "POST") => Some(Action::Hold),
@@ -108,7 +117,7 @@ fn add(router: &mut Router<Place>, text: &str, place: Place) -> Result<(), Inser
 }
 
 /// All routes.
-fn routes(alloc: Global) -> Result<Router<Place>, InsertError>
+fn all_routes(alloc: Global) -> Result<Router<Place>, InsertError>
     ensures { IfOk result (λ router. router ≡ routes) }
 {
     let mut router = Router::new(alloc);
@@ -124,17 +133,38 @@ fn routes(alloc: Global) -> Result<Router<Place>, InsertError>
         "/deposits/{number}/readers/{name}",
         Place::Reader,
     )?;
+    add(
+        &mut router,
+        "/deposits/{number}/groups/{name}",
+        Place::Group,
+    )?;
     add(&mut router, "/audit/{from}/{to}", Place::Audit)?;
     Ok(router)
 }
 
-/// The place that a target names, as it was sent. An error where memory runs out.
-pub(crate) fn place_of(alloc: Global, target: &str) -> Result<Option<Place>, InsertError>
-    ensures { IfOk result (λ place. place ≡ place_of target.now) }
-{
-    let router = routes(alloc)?;
-    match router.at(target) {
-        Ok(found) => Ok(Some(*found.value)),
-        Err(_) => Ok(None),
+/// The routes, made once for all requests.
+#[derive(Drop)]
+pub struct Routes {
+    router: Router<Place>,
+    ghost all: { router ≡ routes },
+}
+
+impl Routes {
+    /// All routes. An error where memory runs out.
+    pub fn new(alloc: Global) -> Result<Routes, AllocError> {
+        match all_routes(alloc) {
+            Ok(router) => Ok(Routes { router }),
+            Err(_) => Err(AllocError),
+        }
+    }
+
+    /// The place that a target names, as it was sent.
+    pub(crate) fn place_of(&self, target: &str) -> Option<Place>
+        ensures { result ≡ place_of target.now }
+    {
+        match self.router.at(target) {
+            Ok(found) => Some(*found.value),
+            Err(_) => None,
+        }
     }
 }

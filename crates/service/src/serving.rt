@@ -14,10 +14,10 @@ use crate::performing::perform;
 use crate::reading::{BodyRead, HeadRead, MOST_FIELDS, MOST_OCTETS, read_body, read_head};
 use crate::refusal::Refusal;
 use crate::responding::{refuse, respond, wanting};
-use crate::routes::{Action, place_of};
+use crate::routes::{Action, Routes};
 use crate::served::Served;
 use crate::status::serve_status;
-use crate::wanted::check_head;
+use crate::wanted::wanted_by;
 use book::Book;
 use cms::Signer;
 use desk::Desk;
@@ -26,7 +26,7 @@ use std::alloc::Global;
 use std::io::{Read, Write};
 
 /// Answers a whole request.
-fn serve_whole<W: Write, B: Book + Drop, G: Signer>(
+pub(crate) fn serve_whole<W: Write, B: Book + Drop, G: Signer>(
     alloc: Global,
     writer: &mut W,
     desk: &mut Desk<'_, B>,
@@ -54,7 +54,7 @@ fn serve_whole<W: Write, B: Book + Drop, G: Signer>(
         }) result }
 {
     match asked_by(desk.policy(), head, action, body) {
-        Err(refusal) => refuse(alloc, writer, refusal),
+        Err(refusal) => refuse(writer, refusal),
         Ok(Asked::Step(demand)) => {
             let performed = perform(desk, demand, reading, signer);
             respond(alloc, writer, &performed)
@@ -69,6 +69,7 @@ fn serve_whole<W: Write, B: Book + Drop, G: Signer>(
 /// Reads the body of a request whose head was read, and answers it.
 fn serve_head<R: Read, W: Write, B: Book + Drop, G: Signer>(
     alloc: Global,
+    routes: &Routes,
     reader: &mut R,
     writer: &mut W,
     desk: &mut Desk<'_, B>,
@@ -92,19 +93,16 @@ fn serve_head<R: Read, W: Write, B: Book + Drop, G: Signer>(
           signer_after = signer.new;
         }) result }
 {
-    let Ok(place) = place_of(alloc, head.target) else {
-        return wanting(writer);
-    };
-    let wanted = match check_head(head, place) {
+    let wanted = match wanted_by(routes, head) {
         Ok(wanted) => wanted,
-        Err(refusal) => return refuse(alloc, writer, refusal),
+        Err(refusal) => return refuse(writer, refusal),
     };
     let Ok(mut body) = vec![in alloc; 0u8; wanted.count as usize] else {
         return wanting(writer);
     };
     match read_body(reader, body.as_mut_slice()) {
         BodyRead::Whole => {}
-        BodyRead::Cut => return refuse(alloc, writer, Refusal::BadRequest),
+        BodyRead::Cut => return refuse(writer, Refusal::BadRequest),
         BodyRead::Failed => return Served::ReadFailed,
     }
     serve_whole(
@@ -149,6 +147,9 @@ pub fn serve_one<R: Read, W: Write, B: Book + Drop, G: Signer>(
       signer_after = signer.new;
     }) result }
 {
+    let Ok(routes) = Routes::new(alloc) else {
+        return wanting(writer);
+    };
     let Ok(mut room) = vec![in alloc; 0u8; MOST_OCTETS] else {
         return wanting(writer);
     };
@@ -156,10 +157,10 @@ pub fn serve_one<R: Read, W: Write, B: Book + Drop, G: Signer>(
     let spans = match read_head(reader, room.as_mut_slice(), &mut headers) {
         HeadRead::Closed => return Served::Closed,
         HeadRead::Failed => return Served::ReadFailed,
-        HeadRead::Cut => return refuse(alloc, writer, Refusal::BadRequest),
-        HeadRead::Refused => return refuse(alloc, writer, Refusal::BadRequest),
+        HeadRead::Cut => return refuse(writer, Refusal::BadRequest),
+        HeadRead::Refused => return refuse(writer, Refusal::BadRequest),
         HeadRead::Whole(spans) => spans,
     };
     let head = head_at(&room, &headers, spans);
-    serve_head(alloc, reader, writer, desk, reading, signer, head)
+    serve_head(alloc, &routes, reader, writer, desk, reading, signer, head)
 }

@@ -238,7 +238,7 @@ pub(crate) fn serve_status<W: Write, B: Book + Drop>(
         signer_faults,
     );
     match told {
-        Some(text) => succeed(alloc, writer, Media::Text, &text),
+        Some(text) => succeed(writer, Media::Text, &text),
         None => wanting(writer),
     }
 }

@@ -1,6 +1,6 @@
 //! The checks of a head, in their order.
 ghost use Rattle.std.specs.Prelude.{◌≡◌, ◌≤◌, Option, IfOk};
-ghost use Rattle.service.specs.Checks.{without_coding, stated_length, body_length, stated_query, typed, wanted_at};
+ghost use Rattle.service.specs.Checks.{without_coding, stated_length, body_length, stated_query, typed, wanted_at, wanted_by};
 ghost use Rattle.service.specs.Checks.{most_body};
 ghost use Rattle.service.specs.Checks.{once, has_body, is_stamp};
 ghost use Rattle.service.specs.Views.{found_view, head_view, IsInPlace, octets_given, result_by, wanted_view};
@@ -9,7 +9,7 @@ use crate::fields::{Found, same_letters, stated, type_in};
 use crate::head::Head;
 use crate::numbers::length_in;
 use crate::refusal::Refusal;
-use crate::routes::{Action, Place};
+use crate::routes::{Action, Place, Routes};
 
 /// The most octets of a body.
 const MOST_BODY: u64 = 1_048_576;
@@ -68,7 +68,7 @@ fn stated_length(head: Head<'_>) -> Result<u64, Refusal>
 
 impl Action {
     /// Whether a body comes with it.
-    fn has_body(self) -> bool
+    pub(crate) fn has_body(self) -> bool
         ensures { result ≡ has_body self }
     {
         matches!(
@@ -129,7 +129,7 @@ fn check_type(head: Head<'_>, action: Action) -> Result<(), Refusal>
 
 /// What a head asks for whose target names that place, or the first check of it that fails.
 #[tactic(auto, unfolding(crate::specs::Checks::wanted_at))]
-pub(crate) fn check_head(head: Head<'_>, place: Option<Place>) -> Result<Wanted, Refusal>
+fn check_head(head: Head<'_>, place: Option<Place>) -> Result<Wanted, Refusal>
     requires { IsInPlace head }
     ensures value { result_by wanted_view result ≡ wanted_at (head_view head.entry) place }
     ensures few { IfOk result (λ wanted. wanted.count ≤ most_body) }
@@ -152,4 +152,13 @@ pub(crate) fn check_head(head: Head<'_>, place: Option<Place>) -> Result<Wanted,
         Ok(()) => Ok(Wanted { action, count }),
         Err(refusal) => Err(refusal),
     }
+}
+
+/// What a head asks for, or the first check of it that fails.
+pub(crate) fn wanted_by(routes: &Routes, head: Head<'_>) -> Result<Wanted, Refusal>
+    requires { IsInPlace head }
+    ensures value { result_by wanted_view result ≡ wanted_by (head_view head.entry) }
+    ensures few { IfOk result (λ wanted. wanted.count ≤ most_body) }
+{
+    check_head(head, routes.place_of(head.target))
 }

@@ -1,22 +1,24 @@
-//! Writing, by a loop of our own, so that it is known how much a failed write left.
-ghost use Rattle.std.specs.Prelude.{◌≤◌, length, take};
+//! Writing, so that it is known how much a failed write left.
+ghost use Rattle.std.specs.Prelude.{◌≤◌, ◌++◌, length, take};
 ghost use Rattle.std.specs.Io.KnownBytes.{Appends};
 
+use arrayvec::ArrayVec;
+use audit::write_octets;
 use std::io::Write;
 
-/// Writes octets until all are written, or a write fails or takes none: how many were.
-pub(crate) fn write_octets<W: Write>(writer: &mut W, octets: &[u8]) -> usize
-    ensures within { result ≤ length octets.now }
-    ensures written { Appends (W.contents writer.old) (W.contents writer.new) (take result octets.now) }
+/// Writes a short text and octets behind it, at once where they are few: how many were written.
+pub(crate) fn write_both<W: Write>(writer: &mut W, text: &[u8], octets: &[u8]) -> usize
+    requires { length text.now ≤ 512 }
+    ensures within { result ≤ length (text.now ++ octets.now) }
+    ensures written { Appends (W.contents writer.old) (W.contents writer.new) (take result (text.now ++ octets.now)) }
 {
-    let mut sent = 0;
-    while sent < octets.len() {
-        let (_, rest) = octets.split_at(sent);
-        match writer.write(rest) {
-            Ok(0) => return sent,
-            Ok(taken) => sent += taken,
-            Err(_) => return sent,
-        }
+    let mut both: ArrayVec<u8, 2048> = ArrayVec::new();
+    if both.try_extend_from_slice(text).is_ok() && both.try_extend_from_slice(octets).is_ok() {
+        return write_octets(writer, both.as_slice());
     }
-    sent
+    let sent = write_octets(writer, text);
+    if sent < text.len() {
+        return sent;
+    }
+    sent + write_octets(writer, octets)
 }

@@ -1,12 +1,21 @@
-use Rattle.std.proofs.Common.{◌∙◌, refl}
-use Rattle.std.proofs.lemmas.Result.{IfOk-weaker}
-use Rattle.service.specs.Answers.{head_text}
+use Rattle.std.proofs.Common.{◌≡◌, ◌∙◌, ℕ, List, [], ◌++◌, ap, append_assoc, option_map}
+use Rattle.std.specs.Prelude.{codes}
+use Rattle.service.specs.Answers.{allow_line, content_lines, crlf, head_text, status_line}
 use Rattle.service.proofs.answer.head_text.Goals as goal
 
-pub returns : goal.returns
+-- four pieces, one after the other
+in_turn : (t u v w x a b d k l m : List ℕ) → t ≡ [] → u ≡ t ++ a → v ≡ u ++ b → w ≡ v ++ d → x ≡ w ++ (k ++ l ++ m)
+    → x ≡ a ++ b ++ d ++ k ++ l ++ m
+in_turn t u v w x a b d k l m none first second third fourth =
+    fourth
+    ∙ ap (λ y. y ++ (k ++ l ++ m))
+    (third ∙ ap (λ y. y ++ d) (second ∙ ap (λ y. y ++ b) (first ∙ ap (λ y. y ++ a) none)))
+    ∙ simp append_assoc
+
+pub returns-clause-value : goal.returns-clause-value
 unfolding head_text
-returns c =
-    let status = c.as_str.ensures.value ∙ c.in_ok-status.ensures in
-    let content = c.as_str-2.ensures.value ∙ c.in_ok-content.ensures in
-    let allow = c.as_str-3.ensures.value ∙ c.in_ok-allow.ensures in
-    IfOk-weaker c.joined.result _ _ (λ text is. is ∙ rw (status, content, allow) refl) c.joined.ensures
+returns-clause-value c =
+    in_turn _ _ _ _ _ (status_line c.args.status) (content_lines c.args.media c.args.count)
+    (allow_line (option_map (λ m. m.now) c.args.allow)) (codes "Connection: close") crlf crlf
+    c.new-text.ensures c.push_status.ensures.bytes c.push_content.ensures.bytes c.push_allow.ensures.bytes
+    c.push_str.ensures.bytes

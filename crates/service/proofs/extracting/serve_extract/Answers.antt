@@ -1,5 +1,5 @@
 use Rattle.policy.specs.View.{account_view}
-use Rattle.service.proofs.ExtractLemmas.{keeping_back}
+use Rattle.service.proofs.ExtractLemmas.{answering, keeping_back}
 use Rattle.service.proofs.extracting.serve_extract.Goals as goal
 
 pub returns-in-Err-clause-served : goal.returns-in-Err-clause-served
@@ -12,3 +12,14 @@ returns-in-Err-clause-served g c =
     (rw c.store.ensures.same at c.in-Err.ensures.faults)
     (rw c.store.ensures.same at c.in-Err.ensures.long)
     c.from.ensures c.refuse.ensures
+
+pub returns-in-Ok-clause-served : goal.returns-in-Ok-clause-served
+returns-in-Ok-clause-served g c =
+    answering g.B.Standing g.W.Write.contents c.args.writer.now c.send_extract.new.writer c.args.desk.now.store
+    c.extract_length.new.store c.send_extract.new.store c.args.desk.now.setting.file (account_view c.args.account.now)
+    c.args.from c.args.to c.in-Ok.length c.send_extract.result
+    (rw c.policy-policy.ensures at c.in-Ok.ensures.refusals)
+    (rw c.store.ensures.same at c.in-Ok.ensures.looks)
+    (rw c.store-in-Ok.ensures.same at c.send_extract.ensures.looks)
+    (rw c.store.ensures.same at c.in-Ok.ensures.value)
+    (rw c.store-in-Ok.ensures.same at c.send_extract.ensures.sent)

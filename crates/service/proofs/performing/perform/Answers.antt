@@ -3,7 +3,7 @@ use Rattle.std.proofs.Common.{to_z-of_z}
 use Rattle.policy.specs.Record.{AccountValue}
 use Rattle.book.specs.Values.{listed_view, calibration_view, hold_view}
 use Rattle.desk.specs.Answers.{reply_as, entered}
-use Rattle.desk.specs.Command.{Stamp, Deposit, Kept, Shown, Listed, Done, Refused}
+use Rattle.desk.specs.Command.{Stamp, Deposit, Calibrate, Hold, Kept, Shown, Listed, Done, Refused}
 use Rattle.decide.specs.View.{account_asked}
 use Rattle.desk.specs.Stepped.{IsStep, with_signer}
 use Rattle.desk.specs.declared.reply.Reply.{Reply}
@@ -37,45 +37,67 @@ returns-in-Stamp-clause-steps g c =
       reply_as c.answer.result,
       (step, c.answer.ensures.unasked),
       plainly (told c.answer.result account c.args.reading c.in-Stamp.query.now),
+      tt,
     )
 
 pub returns-in-Ok-list-clause-steps : goal.returns-in-Ok-list-clause-steps
 returns-in-Ok-list-clause-steps g c =
-    rw c.in-List.is (Listed (map listed_view c.in-Ok-list.rows.items), (c.in-Ok-list.ensures.step, refl), plainly refl)
+    rw c.in-List.is (
+      Listed (map listed_view c.in-Ok-list.rows.items),
+      (c.in-Ok-list.ensures.step, refl),
+      plainly refl,
+      (account_view c.in-List.account.now, refl, refl),
+    )
 
 pub returns-in-Err-list-clause-steps : goal.returns-in-Err-list-clause-steps
 returns-in-Err-list-clause-steps g c =
-    rw c.in-List.is (Refused c.in-Err-list.fault, (c.in-Err-list.ensures.step, refl), plainly refl)
+    rw c.in-List.is (Refused c.in-Err-list.fault, (c.in-Err-list.ensures.step, refl), plainly refl, tt)
 
 pub returns-in-Ok-show-clause-steps : goal.returns-in-Ok-show-clause-steps
 returns-in-Ok-show-clause-steps g c =
-    rw c.in-Show.is (Shown c.in-Ok-show.bytes.items, (c.in-Ok-show.ensures.step, refl), plainly refl)
+    rw c.in-Show.is (Shown c.in-Ok-show.bytes.items, (c.in-Ok-show.ensures.step, refl), plainly refl, tt)
 
 pub returns-in-Err-show-clause-steps : goal.returns-in-Err-show-clause-steps
 returns-in-Err-show-clause-steps g c =
-    rw c.in-Show.is (Refused c.in-Err-show.fault, (c.in-Err-show.ensures.step, refl), plainly refl)
+    rw c.in-Show.is (Refused c.in-Err-show.fault, (c.in-Err-show.ensures.step, refl), plainly refl, tt)
 
 pub returns-in-Ok-token_of-clause-steps : goal.returns-in-Ok-token_of-clause-steps
 returns-in-Ok-token_of-clause-steps g c =
-    rw c.in-Token.is (Shown c.in-Ok-token_of.bytes.items, (c.in-Ok-token_of.ensures.step, refl), plainly refl)
+    rw c.in-Token.is (Shown c.in-Ok-token_of.bytes.items, (c.in-Ok-token_of.ensures.step, refl), plainly refl, tt)
 
 pub returns-in-Err-token_of-clause-steps : goal.returns-in-Err-token_of-clause-steps
 returns-in-Err-token_of-clause-steps g c =
-    rw c.in-Token.is (Refused c.in-Err-token_of.fault, (c.in-Err-token_of.ensures.step, refl), plainly refl)
+    rw c.in-Token.is (Refused c.in-Err-token_of.fault, (c.in-Err-token_of.ensures.step, refl), plainly refl, tt)
 
 pub returns-in-Ok-grant-clause-steps : goal.returns-in-Ok-grant-clause-steps
-returns-in-Ok-grant-clause-steps g c = rw c.in-Grant.is (Done, (c.in-Ok-grant.ensures.step, refl), plainly refl)
+returns-in-Ok-grant-clause-steps g c = rw c.in-Grant.is (Done, (c.in-Ok-grant.ensures.step, refl), plainly refl, tt)
 
 pub returns-in-Err-grant-clause-steps : goal.returns-in-Err-grant-clause-steps
 returns-in-Err-grant-clause-steps g c =
-    rw c.in-Grant.is (Refused c.in-Err-grant.fault, (c.in-Err-grant.ensures.step, refl), plainly refl)
+    rw c.in-Grant.is (Refused c.in-Err-grant.fault, (c.in-Err-grant.ensures.step, refl), plainly refl, tt)
 
 pub returns-in-Ok-revoke-clause-steps : goal.returns-in-Ok-revoke-clause-steps
-returns-in-Ok-revoke-clause-steps g c = rw c.in-Revoke.is (Done, (c.in-Ok-revoke.ensures.step, refl), plainly refl)
+returns-in-Ok-revoke-clause-steps g c = rw c.in-Revoke.is (Done, (c.in-Ok-revoke.ensures.step, refl), plainly refl, tt)
 
 pub returns-in-Err-revoke-clause-steps : goal.returns-in-Err-revoke-clause-steps
 returns-in-Err-revoke-clause-steps g c =
-    rw c.in-Revoke.is (Refused c.in-Err-revoke.fault, (c.in-Err-revoke.ensures.step, refl), plainly refl)
+    rw c.in-Revoke.is (Refused c.in-Err-revoke.fault, (c.in-Err-revoke.ensures.step, refl), plainly refl, tt)
+
+pub returns-in-Ok-grant_group-clause-steps : goal.returns-in-Ok-grant_group-clause-steps
+returns-in-Ok-grant_group-clause-steps g c =
+    rw c.in-GrantGroup.is (Done, (c.in-Ok-grant_group.ensures.step, refl), plainly refl, tt)
+
+pub returns-in-Err-grant_group-clause-steps : goal.returns-in-Err-grant_group-clause-steps
+returns-in-Err-grant_group-clause-steps g c =
+    rw c.in-GrantGroup.is (Refused c.in-Err-grant_group.fault, (c.in-Err-grant_group.ensures.step, refl), plainly refl, tt)
+
+pub returns-in-Ok-revoke_group-clause-steps : goal.returns-in-Ok-revoke_group-clause-steps
+returns-in-Ok-revoke_group-clause-steps g c =
+    rw c.in-RevokeGroup.is (Done, (c.in-Ok-revoke_group.ensures.step, refl), plainly refl, tt)
+
+pub returns-in-Err-revoke_group-clause-steps : goal.returns-in-Err-revoke_group-clause-steps
+returns-in-Err-revoke_group-clause-steps g c =
+    rw c.in-RevokeGroup.is (Refused c.in-Err-revoke_group.fault, (c.in-Err-revoke_group.ensures.step, refl), plainly refl, tt)
 
 -- a deposit's number is told with the status that says whether it is new
 kept : (number : ℕ) (is_new : Bool) (a : AccountValue) (reading : ℤ) (reference bytes : List ℕ)
@@ -100,6 +122,7 @@ returns-in-Ok-clause-steps g c =
       step,
       plainly (kept deposited.number deposited.is_new account c.args.reading c.in-Keep.reference.now
           c.in-Keep.bytes.now),
+      tt,
     )
 
 pub returns-in-Err-clause-steps : goal.returns-in-Err-clause-steps
@@ -112,7 +135,7 @@ returns-in-Err-clause-steps g c =
     c.args.desk.now.setting (Deposit account r c.in-Keep.reference.now c.in-Keep.bytes.now) c.args.desk.now.store
     c.deposit.new.self.store (Refused c.in-Err.fault) in
     let step : P c.args.reading = subst P (to_z-of_z fits) c.in-Err.ensures.step in
-    rw c.in-Keep.is (Refused c.in-Err.fault, step, plainly refl)
+    rw c.in-Keep.is (Refused c.in-Err.fault, step, plainly refl, tt)
 
 pub returns-in-Calibrate-clause-steps : goal.returns-in-Calibrate-clause-steps
 returns-in-Calibrate-clause-steps g c =
@@ -121,7 +144,8 @@ returns-in-Calibrate-clause-steps g c =
       (c.calibrate.ensures.step, refl),
       calibration_told g.B.Standing g.G.Signer.signs g.G.Signer.fault_count c.args.desk.now c.calibrate.new.self
           (performed_answer c.added.result) (calibration_view c.in-Calibrate.calibration) c.calibrate.result
-          c.calibrate.ensures.backwards c.added.ensures,
+          c.calibrate.ensures.backwards c.added.ensures.told,
+      c.added.ensures.no_list (Calibrate (calibration_view c.in-Calibrate.calibration)) (entered c.calibrate.result),
     )
 
 pub returns-in-Hold-clause-steps : goal.returns-in-Hold-clause-steps
@@ -131,5 +155,6 @@ returns-in-Hold-clause-steps g c =
       (c.hold.ensures.step, refl),
       hold_told g.B.Standing g.G.Signer.signs g.G.Signer.fault_count c.args.desk.now c.hold.new.self
           (performed_answer c.added-in-Hold.result) (hold_view c.in-Hold.hold) c.hold.result c.hold.ensures.refusals
-          c.added-in-Hold.ensures,
+          c.added-in-Hold.ensures.told,
+      c.added-in-Hold.ensures.no_list (Hold (hold_view c.in-Hold.hold)) (entered c.hold.result),
     )

@@ -21,6 +21,14 @@ returns-in_default-clause-served g c =
     c.args.desk.now c.args.desk.now c.args.signer.now c.args.signer.now)
     c.wanting.result (nothing (Consumes-nil _)) (record { desk = refl; signer = refl }) c.wanting.ensures
 
+pub returns-in_default-vec-clause-served : goal.returns-in_default-vec-clause-served
+returns-in_default-vec-clause-served g c =
+    wanting_early g.B.Standing g.G.Signer.signs g.G.Signer.fault_count g.W.Write.contents c.args.reading
+    (turn (g.R.Read.remaining c.args.reader.now) (g.R.Read.remaining c.args.reader.now) c.args.writer.now
+    c.wanting-in_default-vec.new.writer
+    c.args.desk.now c.args.desk.now c.args.signer.now c.args.signer.now)
+    c.wanting-in_default-vec.result (nothing (Consumes-nil _)) (record { desk = refl; signer = refl }) c.wanting-in_default-vec.ensures
+
 pub returns-in-Failed-clause-served : goal.returns-in-Failed-clause-served
 returns-in-Failed-clause-served g c =
     let part = c.in-Failed.ensures in (
@@ -51,10 +59,10 @@ returns-in-Refused-clause-served g c =
 pub returns-clause-served : goal.returns-clause-served
 returns-clause-served g c =
     let read = c.in-Whole.ensures in
-    let kept : length c.read_head.new.room ≡ c.in-Ok.room.len =
+    let kept : length c.read_head.new.room ≡ c.in-Ok-vec.room.len =
     omega (arith, c.read_head.auto.room, c.as_mut_slice.ensures.len) in
     let room : c.deref.result.now ≡ c.read_head.new.room =
-    c.deref.ensures.value ∙ with_items_is c.in-Ok.room c.read_head.new.room kept in
+    c.deref.ensures.value ∙ with_items_is c.in-Ok-vec.room c.read_head.new.room kept in
     let L : List ℕ → Type 0 = λ l. LiesAt l c.read_head.new.headers c.in-Whole.spans read.read in
     let lies : L c.deref.result.now = subst L (sym room) read.lies in
     let fits : SFits w64 c.args.reading = search rules in

@@ -5,7 +5,7 @@ use Rattle.desk.specs.Command.{Answer}
 use Rattle.service.specs.Requests.{Asked, IsRequest}
 use Rattle.service.specs.Served.{Steps, Tells}
 use Rattle.service.specs.Telling.{ServesStatus}
-use Rattle.service.specs.Views.{demand_view, performed_answer}
+use Rattle.service.specs.Views.{demand_view, performed_answer, IsOfList}
 use Rattle.service.specs.declared.refusal.Refusal.{Refusal}
 use Rattle.service.proofs.ServingLemmas.{turn, refusing, replying, answering_auditor, telling_status}
 use Rattle.service.proofs.serving.serve_whole.Goals as goal
@@ -32,14 +32,15 @@ returns-in-Ok-Step-clause-served g c = λ before after request.
     c.args.desk.now
     c.perform-performed.new.desk c.args.signer.now c.perform-performed.new.signer (demand_view r demand) reply
     × Tells g.B.Standing g.G.Signer.signs g.G.Signer.fault_count c.args.desk.now c.perform-performed.new.desk
-    (demand_view r demand) reply (performed_answer c.perform-performed.result) in
+    (demand_view r demand) reply (performed_answer c.perform-performed.result)
+    × IsOfList c.perform-performed.result (demand_view r demand) reply in
     let steps : Q c.args.reading = subst Q (to_z-of_z fits) c.perform-performed.ensures.steps in
     replying g.B.Standing g.G.Signer.signs g.G.Signer.fault_count g.W.Write.contents c.args.reading
     (turn before after c.args.writer.now c.respond.new.writer c.args.desk.now c.perform-performed.new.desk
     c.args.signer.now
     c.perform-performed.new.signer)
     (demand_view c.args.reading demand) c.respond.result (subst P (sym same) request) steps.0 steps.1
-    (performed_answer c.perform-performed.result) steps.2 c.respond.ensures
+    c.perform-performed.result steps.2 steps.3 c.respond.ensures
 
 pub returns-in-Ok-Extract-clause-served : goal.returns-in-Ok-Extract-clause-served
 returns-in-Ok-Extract-clause-served g c = λ before after request.

@@ -1,4 +1,4 @@
-use Rattle.std.proofs.Common.{◌∙◌, SFits, w64, to_z-of_z, to_z, of_z, rules, sym, ap, subst}
+use Rattle.std.proofs.Common.{◌∙◌, inl, SFits, w64, to_z-of_z, to_z, of_z, rules, sym, ap, subst}
 use Rattle.policy.specs.View.{counter_view}
 use Rattle.service.proofs.Operators.{status_told}
 use Rattle.service.proofs.status.serve_status.Goals as goal
@@ -16,4 +16,4 @@ returns-in-Some-clause-served g c =
     ∙ ap (λ s. s.file.counter) c.look.ensures.setting)
     (to_z-of_z fits)
     (λ honest b stands. c.in-Ok.ensures.value (subst (λ d. g.B.Standing.honest d.store) same honest) b stands)
-    (c.store_faults-store.ensures.value ∙ ap (λ d. g.B.Standing.fault_count d.store) (sym same)) c.succeed.ensures
+    (c.store_faults-store.ensures.value ∙ ap (λ d. g.B.Standing.fault_count d.store) (sym same)) (inl c.succeed.ensures)
