@@ -7,17 +7,18 @@ use Rattle.book.specs.Sound.{IsSound}
 use Rattle.book.specs.Stands.{Stands}
 use Rattle.cms.specs.declared.signer.SignerFault.{SignerFault}
 use Rattle.desk.specs.Command.{Setting, Command, Stamp, Begin, Finish, Abandon, Deposit, Show, Token, ListAll, Grant}
-use Rattle.desk.specs.Command.{Revoke, Calibrate, Hold, Answer}
+use Rattle.desk.specs.Command.{Revoke, Calibrate, Hold, Answer, Listed}
 use Rattle.desk.specs.Effects.{Effect}
 use Rattle.desk.specs.Agreement.{Agree}
 use Rattle.desk.specs.Laws.{AreMet, AreCommandsOf, Continues, RunsAlike}
 use Rattle.desk.specs.Outcome.{Outcome}
 use Rattle.desk.specs.Runs.{Told, Runs, Journey, HasProperties, IsProper, after}
 use Rattle.desk.specs.Steps.{HasEffect, IsMet, Moves}
+use Rattle.desk.specs.Viewers.{viewer_in}
 use Rattle.desk.specs.Stepped.{DeskValue, IsStep, no_signer, with_signer}
 use Rattle.service.specs.Answers.{AnswerValue}
-use Rattle.service.specs.Served.{IsAnswer, refuses, replies, keeps_back, wants_early, wants_idle, wants_after}
-use Rattle.service.specs.Served.{wants_looking, Serves, Steps}
+use Rattle.service.specs.Served.{IsAnswer, refuses, replies, keeps_back, wants_early, wants_list, overflows}
+use Rattle.service.specs.Served.{Serves, Steps}
 use Rattle.service.specs.Served.{turned_back, turns_back, tells_status, wants_status}
 use Rattle.service.specs.declared.served.Served.{Served}
 use Rattle.service.specs.declared.served.Served.TheVariants as served
@@ -148,9 +149,8 @@ module _ {C B X : Type 0} (reads : C → Result ℤ ClockFailed → C → Type 0
     answers reading a (keeps_back account from to reads f k is) met =
         stays (k.look.store.stands b stood) k.look.signer met
     answers reading a (wants_early early i is) met = idles i.desk i.signer met
-    answers reading a (wants_idle r reads i is) met = idles i.desk i.signer met
-    answers reading a (wants_after c reads reply takes is) met = steps c reply takes met
-    answers reading a (wants_looking account from to reads l is) met = stays (l.store.stands b stood) l.signer met
+    answers reading a (wants_list account reads rows takes is) met = steps (ListAll account) (Listed rows) takes met
+    answers reading a (overflows account from to reads l long is) met = stays (l.store.stands b stood) l.signer met
 
     serves : (reading : ℤ) (outcome : Served) (s : Serves g signs count untold reading (turn reads g signs count old next) outcome)
         → AreMetAnywhere (commands_of (told_in reads g signs count reading (turn reads g signs count old next) outcome s ++ later))
@@ -208,7 +208,7 @@ module _ {C B X : Type 0} (reads : C → Result ℤ ClockFailed → C → Type 0
       (w' : List Told) → IsProper s → AreMet s cs os b → Journey b w → Continues s cs os b w b' w' → HasProperties b' w')
       (isolated : (account : List ℕ) (s : Setting) (cs : List Command) (os : List Outcome) (b c : History) (x : X)
       (answers : List Answer) (b' : History) (x' : X) → IsProper s → AreCommandsOf account cs → IsSound b → IsSound c
-      → Agree account b c → Runs signs s cs os b x answers b' x'
+      → Agree (viewer_in s.file account) b c → Runs signs s cs os b x answers b' x'
       → RunsAlike signs account s cs os c x answers b' x') where
     lawful : (n : ℕ) (old new : State C B X) (served : IsServedBy reads g signs count n old new)
         → AreRun reads g signs count served → AreLawfulRun reads g signs count served

@@ -7,7 +7,7 @@ use Rattle.audit.specs.declared.fault.ExtractFault.{ExtractFault}
 use Rattle.desk.specs.Stepped.{DeskValue}
 use Rattle.service.specs.Answers.{AnswerValue}
 use Rattle.service.specs.Served.{Turn, IsIdle, IsSilent, IsLook, IsKeptBack, IsAnswer, refuses, replies, keeps_back}
-use Rattle.service.specs.Served.{wants_early, wants_idle, wants_after, wants_looking, Sends, SendsOctets, Writes}
+use Rattle.service.specs.Served.{wants_early, wants_list, overflows, Sends, SendsOctets, Writes}
 use Rattle.service.specs.Served.{turns_back, tells_status, wants_status, Extracts, Serves}
 use Rattle.service.specs.declared.served.Served.{Served}
 use Rattle.service.specs.declared.served.Served.TheVariants as served
@@ -68,9 +68,8 @@ module _ {W B X : Type 0} (g : Ghosts B) (signs : X → List ℕ → Result (Lis
   answer a (keeps_back account from to reads f k is) =
       keeps_back account from to reads f (kept account from to f k) is
   answer a (wants_early early i is) = wants_early early (idle i) is
-  answer a (wants_idle r reads i is) = wants_idle r reads (idle i) is
-  answer a (wants_after c reads reply takes is) = wants_after c reads reply takes is
-  answer a (wants_looking account from to reads l is) = wants_looking account from to reads (look l) is
+  answer a (wants_list account reads rows takes is) = wants_list account reads rows takes is
+  answer a (overflows account from to reads l long is) = overflows account from to reads (look l) long is
 
   sent : (a : AnswerValue) (outcome : Served) → Sends nothing_told t.writer t.writer_after a outcome
       → Sends untold tt tt a outcome

@@ -7,15 +7,16 @@ use Rattle.book.specs.History.{History}
 use Rattle.book.specs.Sound.{IsSound}
 use Rattle.book.specs.Stands.{Stands}
 use Rattle.cms.specs.declared.signer.SignerFault.{SignerFault}
-use Rattle.desk.specs.Command.{Setting, Command, Calibrate, Answer}
+use Rattle.desk.specs.Command.{Setting, Command, Calibrate, ListAll, Answer, Listed}
 use Rattle.desk.specs.Agreement.{Agree}
 use Rattle.desk.specs.Laws.{AreCommandsOf, Continues, RunsAlike}
 use Rattle.desk.specs.Outcome.{Outcome}
 use Rattle.desk.specs.Runs.{Told, Runs, Journey, HasProperties, IsProper}
 use Rattle.desk.specs.Steps.{IsMet}
+use Rattle.desk.specs.Viewers.{viewer_in}
 use Rattle.service.specs.Answers.{AnswerValue}
-use Rattle.service.specs.Served.{Turn, IsAnswer, refuses, replies, keeps_back, wants_early, wants_idle, wants_after}
-use Rattle.service.specs.Served.{wants_looking, Serves}
+use Rattle.service.specs.Served.{Turn, IsAnswer, refuses, replies, keeps_back, wants_early, wants_list, overflows}
+use Rattle.service.specs.Served.{Serves}
 use Rattle.service.specs.Served.{turned_back, turns_back, tells_status, wants_status}
 use Rattle.service.specs.declared.served.Served.{Served}
 use Rattle.service.specs.declared.served.Served.TheVariants as served
@@ -49,9 +50,8 @@ module _ {C B X : Type 0} (reads : C → Result ℤ ClockFailed → C → Type 0
   told_for (wants_status reads l is) = []
   told_for (keeps_back account from to reads f k is) = []
   told_for (wants_early early i is) = []
-  told_for (wants_idle r reads i is) = []
-  told_for (wants_after c reads reply takes is) = told c reply
-  told_for (wants_looking account from to reads l is) = []
+  told_for (wants_list account reads rows takes is) = told (ListAll account) (Listed rows)
+  told_for (overflows account from to reads l long is) = []
 
   -- what is served between two states, over a stream that tells no octets
   abbrev pub turn : State C B X → State C B X → Turn (Unit {0}) B X
@@ -103,7 +103,7 @@ module _ {C B X : Type 0} (reads : C → Result ℤ ClockFailed → C → Type 0
     pub journeys : (w : List Told) → Journey b w → (outcomes : List Outcome) (b' : History) (w' : List Told)
         → Continues s (commands_of told) outcomes b w b' w' → HasProperties b' w'
     pub isolated : (account : List ℕ) → AreCommandsOf account (commands_of told) → (c : History) → IsSound c
-        → Agree account b c
+        → Agree (viewer_in s.file account) b c
         → RunsAlike signs account s (commands_of told) run.outcomes c old.signer (answers_of told) run.history
         new.signer
 

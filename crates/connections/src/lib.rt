@@ -4,8 +4,6 @@
 
 mod clock;
 mod closing;
-mod extent;
-mod incoming;
 mod key_holder;
 mod limited;
 mod listening;

@@ -5,6 +5,7 @@ use crate::request::{Progress, Request};
 use crate::waiting::Waiting;
 use mio::unix::SourceFd;
 use mio::{Events, Interest, Poll, Registry, Token};
+use service::Routes;
 use std::alloc::Global;
 use std::io;
 use std::io::ErrorKind;
@@ -45,6 +46,8 @@ pub struct Listening<'l> {
     listener: &'l TcpListener,
     poll: Poll,
     events: Events,
+    /// What requests may ask for.
+    pub(crate) routes: Routes,
     /// In the order in which they were taken.
     waiting: Vec<Waiting>,
     closing: Vec<Closing>,
@@ -69,11 +72,12 @@ fn hear(waiting: &mut [Waiting], closing: &mut [Closing], token: Token) {
 /// Reads what is there of each in turn: where the first stands that is done with, and how.
 fn first_done(
     waiting: &mut [Waiting],
+    routes: &Routes,
     registry: &Registry,
     now: Instant,
 ) -> Option<(usize, Progress)> {
     for (place, one) in waiting.iter_mut().enumerate() {
-        match one.progress(registry, now) {
+        match one.progress(routes, registry, now) {
             Progress::Came | Progress::Waits => {}
             done => return Some((place, done)),
         }
@@ -133,6 +137,7 @@ impl<'l> Listening<'l> {
             listener,
             poll,
             events: Events::with_capacity(alloc, MOST_EVENTS)?,
+            routes: Routes::new(alloc)?,
             waiting: Vec::with_capacity(alloc, MOST_WAITING)?,
             closing: Vec::with_capacity(alloc, MOST_CLOSING)?,
             is_ready: true,
@@ -153,7 +158,7 @@ impl<'l> Listening<'l> {
             if self.take(now, most.min(MOST_WAITING), limit) {
                 return None;
             }
-            match first_done(&mut self.waiting, self.poll.registry(), now) {
+            match first_done(&mut self.waiting, &self.routes, self.poll.registry(), now) {
                 Some((place, Progress::Whole)) => return self.removed(place),
                 Some((place, _)) => {
                     let _ = self.removed(place);

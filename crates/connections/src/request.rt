@@ -2,7 +2,7 @@
 ghost use Rattle.std.specs.Option.{ForNone};
 ghost use Rattle.std.specs.Prelude.{◌≡◌, ◌≤◌, true, false, length, vec_len};
 
-use crate::extent::{Extent, MOST_OCTETS, foreseen};
+use service::{Extent, MOST_OCTETS, Routes, extent_of};
 use std::alloc::Global;
 use std::io::{ErrorKind, Read};
 
@@ -26,11 +26,13 @@ pub(crate) struct Request {
     room: Vec<u8>,
     /// How many came.
     filled: usize,
-    /// What its head tells, once that is whole.
-    extent: Option<Extent>,
+    /// How many it has, once its head tells.
+    count: Option<usize>,
+    /// The input ended behind them.
+    is_ended: bool,
     ghost within: { filled ≤ vec_len room },
     ghost few: { vec_len room ≤ 1_056_768 },
-    ghost head: { ForNone extent (vec_len room ≤ 8_192) },
+    ghost head: { ForNone count (vec_len room ≤ 8_192) },
 }
 
 impl Request {
@@ -43,7 +45,8 @@ impl Request {
         Request {
             room,
             filled: 0,
-            extent: None,
+            count: None,
+            is_ended: false,
         }
     }
 
@@ -55,25 +58,25 @@ impl Request {
         self.room.as_slice().split_at(self.filled).0
     }
 
-    /// What has come is a whole request, and nothing follows.
-    pub(crate) fn is_exact(&self) -> bool {
-        match self.extent {
-            Some(extent) => extent.is_whole && extent.count == self.filled,
-            None => false,
-        }
+    /// Whether the input ended behind what has come.
+    pub(crate) fn is_ended(&self) -> bool {
+        self.is_ended
     }
 
     /// Reads once, where more is wanted and memory isn't wanting for it.
-    pub(crate) fn read_on<R: Read>(&mut self, reader: &mut R) -> Progress {
+    pub(crate) fn read_on<R: Read>(&mut self, routes: &Routes, reader: &mut R) -> Progress {
         if self.filled == self.room.len() {
             return Progress::Whole;
         }
         match reader.read(&mut self.room[self.filled..]) {
             Ok(0) if self.filled == 0 => Progress::Failed,
-            Ok(0) => Progress::Whole,
+            Ok(0) => {
+                self.is_ended = true;
+                Progress::Whole
+            }
             Ok(taken) => {
                 self.filled += taken;
-                self.settle()
+                self.settle(routes)
             }
             Err(error) => match error.kind() {
                 ErrorKind::WouldBlock => Progress::Waits,
@@ -83,20 +86,28 @@ impl Request {
         }
     }
 
-    /// How far it has come, now that octets came: a head is looked for once for each piece.
-    fn settle(&mut self) -> Progress {
-        if self.extent.is_none()
-            && let Some(extent) = foreseen(self.octets())
-        {
-            let wants = self.filled < extent.count && has_room(&mut self.room, extent.count);
-            self.extent = Some(extent);
-            return if wants {
-                Progress::Came
-            } else {
-                Progress::Whole
+    /// How far it has come, now that octets came. A head is looked for once for each piece, until it is whole.
+    fn settle(&mut self, routes: &Routes) -> Progress {
+        if self.count.is_none() {
+            return match extent_of(routes, self.octets()) {
+                Extent::Open => Progress::Came,
+                Extent::Known(count) => self.expect(count),
+                Extent::Refused => Progress::Whole,
             };
         }
         if self.filled < self.room.len() {
+            Progress::Came
+        } else {
+            Progress::Whole
+        }
+    }
+
+    /// It has so many octets: makes room for those that are still to come.
+    fn expect(&mut self, count: usize) -> Progress
+        requires { count ≤ 1_056_768 }
+    {
+        if self.filled < count && has_room(&mut self.room, count) {
+            self.count = Some(count);
             Progress::Came
         } else {
             Progress::Whole

@@ -4,7 +4,6 @@ ghost use Rattle.connections.specs.Run.{RunsEach, ServesEach};
 ghost use Rattle.connections.specs.Turns.{IsTurn};
 
 use crate::clock::{Clock, ClockFailed};
-use crate::incoming::Incoming;
 use crate::limited::Limited;
 use crate::listening::Listening;
 use crate::request::Request;
@@ -12,7 +11,7 @@ use crate::waiting::Waiting;
 use book::Book;
 use cms::Signer;
 use desk::{Desk, accounts_are_isolated, journeys_keep_their_promises};
-use service::{Served, serve_one};
+use service::{Exchanged, Routes, Served, serve_octets};
 use std::net::TcpStream;
 use std::time::{Duration, Instant};
 
@@ -20,9 +19,9 @@ use std::time::{Duration, Instant};
 pub const CONNECTION_SECONDS: u64 = 20;
 
 /// Until which moment a connection has to be read further behind its answer, where its client may still send.
-fn rest_until(served: Served, request: &Request, end: Option<Instant>) -> Option<Instant> {
-    match served {
-        Served::Answered(_) if !request.is_exact() => end,
+fn rest_until(exchanged: Exchanged, count: usize, end: Option<Instant>) -> Option<Instant> {
+    match exchanged.served {
+        Served::Answered(_) if !exchanged.is_whole || exchanged.taken < count => end,
         _ => None,
     }
 }
@@ -30,6 +29,7 @@ fn rest_until(served: Served, request: &Request, end: Option<Instant>) -> Option
 /// Serves a request. Until which moment the connection has to be read further, where it has to be.
 fn serve_request<R: AllocGlobal + std::time::Clock, C: Clock, B: Book + Drop, G: Signer>(
     rt: &R,
+    routes: &Routes,
     stream: &TcpStream,
     request: &Request,
     limit: Duration,
@@ -48,13 +48,19 @@ fn serve_request<R: AllocGlobal + std::time::Clock, C: Clock, B: Book + Drop, G:
         Ok(reading) => reading,
         Err(failed) => return Err(failed),
     };
-    let mut input = Incoming {
-        octets: request.octets(),
-        rest: stream,
-    };
+    let octets = request.octets();
     let mut output = Limited::new(rt, stream, limit);
-    let served = serve_one(rt.alloc(), &mut input, &mut output, desk, reading, signer);
-    Ok(rest_until(served, request, output.end))
+    let exchanged = serve_octets(
+        rt.alloc(),
+        routes,
+        octets,
+        request.is_ended(),
+        &mut output,
+        desk,
+        reading,
+        signer,
+    );
+    Ok(rest_until(exchanged, octets.len(), output.end))
 }
 
 /// Waits for the next connection whose request is whole, and serves it. At most so many are waited for.
@@ -77,7 +83,9 @@ fn serve_connection<R: AllocGlobal + std::time::Clock, C: Clock, B: Book + Drop,
     let Some(Waiting { peer, request }) = listening.next(rt, most, limit) else {
         return Ok(());
     };
-    match serve_request(rt, &peer.stream, &request, limit, clock, desk, signer) {
+    let routes = &listening.routes;
+    let stream = &peer.stream;
+    match serve_request(rt, routes, stream, &request, limit, clock, desk, signer) {
         Ok(Some(end)) => {
             let _ = listening.close(rt, peer, end);
             Ok(())
@@ -114,7 +122,7 @@ fn serve_each<R: AllocGlobal + std::time::Clock, C: Clock, B: Book + Drop, G: Si
     Ok(())
 }
 
-/// Serves so many connections: one request of each, by `service::serve_one`. They are served one after the other, and
+/// Serves so many connections: one request of each, as `service::serve_one` serves it. They are served one after the other, and
 /// the next is one whose request is whole; until then up to 128 are read side by side, so that none holds up another.
 /// One that fails counts too, also where it was given up before it could be taken. Where the system has no descriptor
 /// for one, it is tried again after 50 milliseconds.

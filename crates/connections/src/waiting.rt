@@ -2,6 +2,7 @@
 use crate::peer::Peer;
 use crate::request::{Progress, Request};
 use mio::Registry;
+use service::Routes;
 use std::time::Instant;
 
 /// How often one connection is read before it is another's turn.
@@ -18,10 +19,10 @@ pub(crate) struct Waiting {
 
 impl Waiting {
     /// Reads what is there.
-    fn read(&mut self, registry: &Registry) -> Progress {
+    fn read(&mut self, routes: &Routes, registry: &Registry) -> Progress {
         for _ in 0..MOST_READS {
             let mut stream = &self.peer.stream;
-            match self.request.read_on(&mut stream) {
+            match self.request.read_on(routes, &mut stream) {
                 Progress::Came => {}
                 Progress::Waits => match self.peer.wait(registry) {
                     Ok(()) => return Progress::Waits,
@@ -34,9 +35,14 @@ impl Waiting {
     }
 
     /// How far its request has come. It has failed where it isn't whole and its time is up.
-    pub(crate) fn progress(&mut self, registry: &Registry, now: Instant) -> Progress {
+    pub(crate) fn progress(
+        &mut self,
+        routes: &Routes,
+        registry: &Registry,
+        now: Instant,
+    ) -> Progress {
         let progress = if self.peer.is_ready {
-            self.read(registry)
+            self.read(routes, registry)
         } else {
             Progress::Waits
         };

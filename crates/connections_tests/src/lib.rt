@@ -7,6 +7,8 @@ mod awaiting;
 #[cfg(test)]
 mod clocks;
 #[cfg(test)]
+mod desks;
+#[cfg(test)]
 mod exchanges;
 #[cfg(test)]
 mod limits;

@@ -78,13 +78,22 @@ fn reads_no_longer_than_the_limit(rt: HostRuntime) -> Result<(), Fail> {
     Ok(())
 }
 
-// Where the time is up behind the first write, what was written is a beginning of the answer.
+/// What an auditor asks for: the head of its answer goes out before the extract.
+const AUDIT: &[u8] = b"GET /audit/1/1 HTTP/1.1\r\nCounter-Key: a\r\n\r\n";
+
+/// The extract of no stamps.
+const COLUMNS: &[u8] = b"serial,genTime,account,policy,algorithm,digest,state,token\n";
+
+// A short answer goes out at once. Where the time is up behind the first write of another, what was written is a
+// beginning of it.
 #[test]
 fn writes_no_longer_than_the_limit(rt: HostRuntime) -> Result<(), Fail> {
     let rejected = answer(rt.alloc(), "200 OK", REPLY, RULE_1)?;
     let octets = EMPTY.as_bytes();
-    assert!(rt; told(&rt, octets, b"", Duration::from_secs(1))?.as_slice() == rejected.as_slice());
-    let begun = told(&rt, octets, b"", long())?;
-    assert!(rt; !begun.is_empty() && begun.len() < rejected.len() && rejected.starts_with(&begun));
+    assert!(rt; told(&rt, octets, b"", long())?.as_slice() == rejected.as_slice());
+    let extract = answer(rt.alloc(), "200 OK", "text/csv", COLUMNS)?;
+    assert!(rt; told(&rt, AUDIT, b"", Duration::from_secs(1))?.as_slice() == extract.as_slice());
+    let begun = told(&rt, AUDIT, b"", long())?;
+    assert!(rt; !begun.is_empty() && begun.len() < extract.len() && extract.starts_with(&begun));
     Ok(())
 }

@@ -47,7 +47,8 @@ fn calibrate(book: &mut MemoryBook) -> Result<(), StoreFault> {
     })
 }
 
-fn desk_of(alloc: Global, setting: &Setting, book: MemoryBook) -> Desk<'_, MemoryBook> {
+/// A desk over a book.
+pub fn desk_of(alloc: Global, setting: &Setting, book: MemoryBook) -> Desk<'_, MemoryBook> {
     Desk::new(
         alloc,
         &setting.policy,

@@ -81,7 +81,14 @@ guest = record {
 }
 
 abbrev file : PolicyValue
-file = record { counter = counter 2399; algorithms = []; extensions = []; policies = []; accounts = guest ∷ [] }
+file = record {
+  counter = counter 2399;
+  algorithms = [];
+  extensions = [];
+  policies = [];
+  accounts = guest ∷ [];
+  groups = [];
+}
 
 -- a request of version 1 with an algorithm that the file hasn't
 abbrev request : RequestValue
