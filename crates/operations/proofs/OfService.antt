@@ -1,12 +1,11 @@
 -- What answering one HTTP request does to a reader and a writer, out of what the service says of it.
-use Rattle.std.proofs.Common.{ℕ, ℤ, List, Option, Result, Ok, Err, ap, inl, inr}
+use Rattle.std.proofs.Common.{ℕ, ℤ, List, Option, Result, ap, inl, inr}
 use Rattle.book.specs.declared.standing.Standing.{Ghosts}
 use Rattle.cms.specs.declared.signer.SignerFault.{SignerFault}
 use Rattle.desk.specs.Command.{Command, Stamp, Answer}
 use Rattle.service.specs.Answers.{AnswerValue}
-use Rattle.service.specs.Requests.{Step, Extract, Status}
-use Rattle.service.specs.Served.{Turn, Takes, IsAnswer, refuses, replies, keeps_back, wants_early, wants_idle}
-use Rattle.service.specs.Served.{wants_after, wants_looking, turns_back, tells_status, wants_status, Extracts, Serves}
+use Rattle.service.specs.Served.{Turn, Takes, IsAnswer, refuses, replies, keeps_back, wants_early, wants_list}
+use Rattle.service.specs.Served.{overflows, turns_back, tells_status, wants_status, Extracts, Serves}
 use Rattle.service.specs.declared.served.Served.{Served}
 use Rattle.service.specs.declared.served.Served.TheVariants as served
 use Rattle.operations.specs.Exchanges as known
@@ -24,12 +23,11 @@ module _ {W B X : Type 0} (g : Ghosts B) (signs : X → List ℕ → Result (Lis
   explained a (replies c reads reply takes is) = known.replies c reads reply (judged c reply takes) is
   explained a (turns_back x reads takes behind is) = known.turns_back x reads is
   explained a (tells_status body reads look told is) = known.tells_status body reads is
-  explained a (wants_status reads look is) = known.wants (Ok Status) reads is
+  explained a (wants_status reads look is) = known.wants_status reads is
   explained a (keeps_back account from to reads f kept is) = known.keeps_back account from to reads f kept.comes is
   explained a (wants_early early idle is) = known.wants_early early is
-  explained a (wants_idle r reads idle is) = known.wants (Err r) reads is
-  explained a (wants_after c reads reply takes is) = known.wants (Ok (Step c)) reads is
-  explained a (wants_looking account from to reads look is) = known.wants (Ok (Extract account from to)) reads is
+  explained a (wants_list account reads rows takes is) = known.wants_list account reads is
+  explained a (overflows account from to reads look long is) = known.overflows account from to reads is
 
   asked : (outcome : Served) → Extracts g signs count contents reading t outcome
       → AsksExtract t.desk.setting.file reading t.input t.input_after

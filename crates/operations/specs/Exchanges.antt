@@ -1,14 +1,14 @@
 -- What answering one HTTP request does to a reader and a writer, where nothing is known of what the database holds.
-use Rattle.std.specs.Prelude.{◌≡◌, ◌⊎◌, ℕ, ℤ, List, [], length, take, Option, Result, Ok, Err}
+use Rattle.std.specs.Prelude.{◌≡◌, ◌⊎◌, ℕ, ℤ, List, [], length, take, Option, Ok, Err}
 use Rattle.std.specs.Io.KnownBytes.{Appends, Consumes, IsAtEnd}
 use Rattle.policy.specs.Record.{AccountValue, PolicyValue}
 use Rattle.audit.specs.Auditor.{IsAllowed, ComesWhere}
 use Rattle.audit.specs.declared.fault.ExtractFault.{ExtractFault}
 use Rattle.book.specs.History.{CalibrationValue}
-use Rattle.desk.specs.Command.{Command, Stamp, Calibrate, Answer}
+use Rattle.desk.specs.Command.{Command, Stamp, ListAll, Calibrate, Answer}
 use Rattle.service.specs.Answers.{AnswerValue, answer_text, answer_to, refusal_answer, success}
 use Rattle.service.specs.Refusals.{refusal_of_extract}
-use Rattle.service.specs.Requests.{Asked, Step, Extract, Status, IsRequest, IsPart, IsEarly}
+use Rattle.service.specs.Requests.{Step, Extract, Status, IsRequest, IsPart, IsEarly}
 use Rattle.service.specs.Served.{unavailable}
 use Rattle.service.specs.declared.answer.Media.TheVariants as media
 use Rattle.service.specs.declared.answer.Media.TheVariants.{Csv}
@@ -44,9 +44,14 @@ pub data IsAnswerFor (file : PolicyValue) (reading : ℤ) (old new : Option (Lis
       → IsAnswerFor file reading old new a
   -- memory is wanting before the body is read
   wants_early : IsEarly old new → a ≡ unavailable → IsAnswerFor file reading old new a
-  -- memory is wanting for the answer
-  wants : (asked : Result Asked Refusal) → IsRequest file reading old new asked → a ≡ unavailable
-      → IsAnswerFor file reading old new a
+  -- memory is wanting for the lines of a list
+  wants_list : (account : AccountValue) → IsRequest file reading old new (Ok (Step (ListAll account)))
+      → a ≡ unavailable → IsAnswerFor file reading old new a
+  -- the store can't be looked into, or memory is wanting for the state
+  wants_status : IsRequest file reading old new (Ok Status) → a ≡ unavailable → IsAnswerFor file reading old new a
+  -- the answer with the extract has 2^64 octets or more
+  overflows : (account : AccountValue) (from to : ℕ) → IsRequest file reading old new (Ok (Extract account from to))
+      → a ≡ unavailable → IsAnswerFor file reading old new a
 
 -- an answer of that status is there, and this much of its text is written
 pub record Writes (file : PolicyValue) (reading : ℤ) (old new before after : Option (List ℕ)) (status : ℕ)

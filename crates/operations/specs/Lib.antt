@@ -3,4 +3,5 @@ pub mod Auditing
 pub mod Opening
 pub mod Exchanges
 pub mod Judged
+pub mod Serving
 pub mod Signing

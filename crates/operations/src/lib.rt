@@ -18,7 +18,7 @@ pub use answering::{Question, answer};
 pub use auditing::{AuditFault, Inquiry, audit, check_stamps};
 pub use exchanging::exchange;
 pub use fault::OperationFault;
-pub use opening::init;
+pub use opening::{init, migrate};
 pub use serving::serve;
 pub use signing::Signing;
 pub use terms::Terms;

@@ -3,7 +3,7 @@ ghost use Rattle.std.specs.Prelude.{◌≡◌, IfOk, IfErr, OnErr};
 ghost use Rattle.sqlite.specs.Files.{file_state, over_files};
 ghost use Rattle.sqlite.specs.State.{HasCleanDisk};
 ghost use Rattle.tables.specs.Base.{BaseValue};
-ghost use Rattle.store.specs.Opening.{image_at, OpensFound, OpensThen};
+ghost use Rattle.store.specs.Opening.{image_at, OpensFound, OpensThen, MigratesFound};
 ghost use Rattle.store.specs.Stands.{over_tables};
 ghost use Rattle.operations.specs.Opening.{IsOpeningFault};
 
@@ -51,6 +51,26 @@ pub fn init(rt: &HostRuntime, path: &str) -> Result<(), StoreFault>
     ensures { IfErr result IsOpeningFault }
 {
     perform_in_files(rt, path, Unknown, Tables::Made, Nothing, &mut (), &mut ())
+}
+
+/// Takes the database at the path, which an earlier version of the counter may have made, to the schema of now, in one
+/// commit: each row is kept. Refused as `perform_at` is; what stands there is left as it is then.
+pub fn migrate(rt: &HostRuntime, path: &str) -> Result<(), StoreFault>
+    ensures { IfErr result IsOpeningFault }
+{
+    migrate_in_files(rt, path, Unknown)
+}
+
+/// The same of the files at the path, whatever they hold.
+fn migrate_in_files<F: Start + Drop>(
+    rt: &HostRuntime,
+    path: &str,
+    start: F,
+) -> Result<(), StoreFault>
+    ensures migrated { IfOk result (λ _. MigratesFound ⟦<FileFrom<F> as Disk>⟧ (image_at F.Start)) }
+    ensures refusals { IfErr result IsOpeningFault }
+{
+    Store::migrate_at(rt, path, start)
 }
 
 /// Does it to the history that the database at the path keeps. Refused with `Memory`, with `Database` where no file

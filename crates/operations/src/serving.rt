@@ -1,6 +1,7 @@
 //! How HTTP connections are served over the database at a path.
-ghost use Rattle.std.specs.Prelude.{IfErr};
+ghost use Rattle.std.specs.Prelude.{◌≡◌, IfErr};
 ghost use Rattle.operations.specs.Opening.{IsServingFault};
+ghost use Rattle.operations.specs.Serving.{ServesAt};
 
 use crate::desk_operation::{DeskOperation, perform_at_desk};
 use crate::fault::OperationFault;
@@ -8,7 +9,7 @@ use crate::signing::{Renewal, Signing};
 use crate::terms::Terms;
 use book::Book;
 use cms::Signer;
-use connections::{CONNECTION_SECONDS, Listening, SystemClock, serve_connections};
+use connections::{CONNECTION_SECONDS, Clock, Listening, SystemClock, serve_connections};
 use desk::Desk;
 use std::net::TcpListener;
 use std::time::Duration;
@@ -33,7 +34,8 @@ impl DeskOperation<(), ()> for Serving<'_> {
         _input: &mut (),
         _output: &mut (),
     ) -> Result<(), OperationFault> {
-        listen(rt, desk, signer, self.address, self.connections)
+        let mut clock = SystemClock { machine: rt };
+        listen(rt, desk, signer, &mut clock, self.address, self.connections)
     }
 }
 
@@ -68,14 +70,21 @@ pub fn serve(
 }
 
 /// Listens on the address, and serves connections.
-fn listen<B: Book + Drop, G: Signer>(
+fn listen<B: Book + Drop, G: Signer, C: Clock>(
     rt: &HostRuntime,
     desk: &mut Desk<'_, B>,
     signer: &mut G,
+    clock: &mut C,
     address: &str,
     connections: u32,
 ) -> Result<(), OperationFault>
-    ensures { IfErr result IsServingFault }
+    // The connections that were served are a run of the machine, which goes on from journeys and is isolated.
+    ensures served { ServesAt C.reads B.Standing G.signs G.fault_count connections
+        (record { clock = clock.old; desk = desk.old; signer = signer.old })
+        (record { clock = clock.new; desk = desk.new; signer = signer.new }) result }
+    ensures setting { desk.new.setting ≡ desk.old.setting }
+    ensures honest { B.honest desk.new.store → B.honest desk.old.store }
+    ensures refusals { IfErr result IsServingFault }
 {
     let Ok(listener) = TcpListener::bind(rt, address) else {
         return Err(OperationFault::Unheard);
@@ -83,16 +92,8 @@ fn listen<B: Book + Drop, G: Signer>(
     let Ok(mut listening) = Listening::new(rt, rt.alloc(), &listener) else {
         return Err(OperationFault::Unheard);
     };
-    let mut clock = SystemClock { machine: rt };
-    match serve_connections(
-        rt,
-        &mut listening,
-        connections,
-        Duration::from_secs(CONNECTION_SECONDS),
-        &mut clock,
-        desk,
-        signer,
-    ) {
+    let limit = Duration::from_secs(CONNECTION_SECONDS);
+    match serve_connections(rt, &mut listening, connections, limit, clock, desk, signer) {
         Ok(()) => Ok(()),
         Err(_) => Err(OperationFault::Clock),
     }
