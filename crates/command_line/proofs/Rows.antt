@@ -114,6 +114,10 @@ pub init_needs_a_database : fault_of counter_command (codes "counter" ∷ codes 
 unfolding clap_on_literals
 init_needs_a_database = refl
 
+pub migrate_is_taken : AreTaken (codes "counter" ∷ codes "migrate" ∷ codes "--db=a.db" ∷ [])
+unfolding clap_on_literals
+migrate_is_taken = (refl, refl)
+
 -- the words of `exchange` with these options for the signer
 abbrev exchange_words : List Text → List Text
 exchange_words signer =

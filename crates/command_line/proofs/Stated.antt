@@ -1,6 +1,6 @@
 -- What a parse found, as the values that the words state.
-use Rattle.std.proofs.Common.{◌≡◌, ◌∙◌, ◌<◌, ◌^◌, ℕ, List, Bor, Result, Option, Ok, Err, Some, None, ap}
-use Rattle.std.proofs.Common.{sym, refl}
+use Rattle.std.proofs.Common.{◌≡◌, ◌∙◌, ◌<◌, ◌≤◌, ◌^◌, ℕ, List, Bor, Result, Option, Ok, Err, Some, None, ap}
+use Rattle.std.proofs.Common.{sym, refl, arith}
 use Rattle.std.specs.Prelude.{option_map, unwrap_or}
 use Rattle.std.specs.Str.Parse.{ParsesUnsigned, digits_value, without_leading_plus}
 use Rattle.clap.specs.Words.{ReadsOne, Row, Text, first_of, first_value, one_text, rows_of}
@@ -61,3 +61,16 @@ unread_text f name result text same is given =
     let missing : first_of name (rows_of f) ≡ None = sym (first_value-rows f name) ∙ sym same
     ∙ ap (option_map (λ (s : Bor Text). s.now)) is in
     cc
+
+-- the bounds of numbers, over a number alone: a proof by arithmetic reads all that is known where it stands
+
+pub zero_least : (n : ℕ) → 0 ≤ n
+zero_least n = omega arith
+
+-- of 63 bits
+pub whole_most : (n : ℕ) → n < 2 ^ 63 → n ≤ 9223372036854775807
+whole_most n below = omega arith
+
+-- of 32 bits
+pub connections_most : (n : ℕ) → n < 2 ^ 32 → n ≤ 4294967295
+connections_most n below = omega arith

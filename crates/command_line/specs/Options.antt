@@ -74,6 +74,9 @@ database_option = text_option (codes "db")
 abbrev pub init_options : List Rule
 init_options = database_option ∷ []
 
+abbrev pub migrate_options : List Rule
+migrate_options = database_option ∷ []
+
 -- numbers of 63 bits: readings, offsets and moments in microseconds, and serial numbers
 abbrev pub whole_number : ValueParser
 whole_number = number_between 0 9223372036854775807
@@ -169,6 +172,9 @@ check_command = with_rules check_options (new_app (codes "check"))
 abbrev pub init_command : App
 init_command = with_rules init_options (new_app (codes "init"))
 
+abbrev pub migrate_command : App
+migrate_command = with_rules migrate_options (new_app (codes "migrate"))
+
 abbrev pub calibrate_command : App
 calibrate_command = with_rules calibrate_options (new_app (codes "calibrate"))
 
@@ -196,6 +202,7 @@ subcommands =
     tst_command
     ∷ check_command
     ∷ init_command
+    ∷ migrate_command
     ∷ calibrate_command
     ∷ hold_command
     ∷ answer_command

@@ -22,13 +22,14 @@ use Rattle.command_line.specs.declared.words.DeskWords.{DeskWords}
 use Rattle.command_line.specs.declared.words.ExchangeWords.{ExchangeWords}
 use Rattle.command_line.specs.declared.words.HoldWords.{HoldWords}
 use Rattle.command_line.specs.declared.words.InitWords.{InitWords}
+use Rattle.command_line.specs.declared.words.MigrateWords.{MigrateWords}
 use Rattle.command_line.specs.declared.words.ServeWords.{ServeWords}
 use Rattle.command_line.specs.declared.words.SignerWords.{SignerWords}
 use Rattle.command_line.specs.declared.words.SignerWords.TheVariants.{Key, Session}
 use Rattle.command_line.specs.declared.words.TstWords.{TstWords}
 use Rattle.command_line.specs.declared.words.Word.{Word}
-use Rattle.command_line.specs.declared.words.Word.TheVariants.{Tst, Check, Init, Calibrate, Hold, Answer, Exchange}
-use Rattle.command_line.specs.declared.words.Word.TheVariants.{Serve, Audit}
+use Rattle.command_line.specs.declared.words.Word.TheVariants.{Tst, Check, Init, Migrate, Calibrate, Hold, Answer}
+use Rattle.command_line.specs.declared.words.Word.TheVariants.{Exchange, Serve, Audit}
 
 -- the octets of each word
 abbrev pub texts_of : List (String Global) → List Text
@@ -60,6 +61,9 @@ pub record StatesCheck (rows : List Row) (words : CheckWords) : Type 0 where
   pub rules : first_of (codes "rules") rows ≡ Some words.rules.now
 
 pub record StatesInit (rows : List Row) (words : InitWords) : Type 0 where
+  pub db : first_of (codes "db") rows ≡ Some words.db.now
+
+pub record StatesMigrate (rows : List Row) (words : MigrateWords) : Type 0 where
   pub db : first_of (codes "db") rows ≡ Some words.db.now
 
 pub record StatesCalibrate (rows : List Row) (words : CalibrateWords) : Type 0 where
@@ -126,6 +130,7 @@ abbrev pub IsAsked : Text → List Row → Word → Type 0
 IsAsked name rows (Tst words) = (name ≡ codes "tst") × StatesTst rows words
 IsAsked name rows (Check words) = (name ≡ codes "check") × StatesCheck rows words
 IsAsked name rows (Init words) = (name ≡ codes "init") × StatesInit rows words
+IsAsked name rows (Migrate words) = (name ≡ codes "migrate") × StatesMigrate rows words
 IsAsked name rows (Calibrate words) = (name ≡ codes "calibrate") × StatesCalibrate rows words
 IsAsked name rows (Hold words) = (name ≡ codes "hold") × StatesHold rows words
 IsAsked name rows (Answer words) = (name ≡ codes "answer") × StatesAnswer rows words

@@ -13,5 +13,5 @@ mod words;
 pub use refusal::Refusal;
 pub use words::{
     AnswerWords, AuditWords, CalibrateWords, CheckWords, DeskWords, ExchangeWords, HoldWords,
-    InitWords, ServeWords, SignerWords, TstWords, Word,
+    InitWords, MigrateWords, ServeWords, SignerWords, TstWords, Word,
 };

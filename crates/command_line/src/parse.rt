@@ -15,7 +15,7 @@ use crate::table::{
 };
 use crate::words::{
     AnswerWords, AuditWords, CalibrateWords, CheckWords, DeskWords, ExchangeWords, HoldWords,
-    InitWords, ServeWords, TstWords, Word,
+    InitWords, MigrateWords, ServeWords, TstWords, Word,
 };
 use clap::error::ErrorKind;
 use clap::{ArgMatches, Error};
@@ -101,6 +101,7 @@ fn word_named<'a>(name: &str, words: &ArgMatches<'a>) -> Option<Word<'a>>
         "tst" => tst_word(words),
         "check" => check_word(words),
         "init" => init_word(words),
+        "migrate" => migrate_word(words),
         "calibrate" => calibrate_word(words),
         "hold" => hold_word(words),
         "answer" => answer_word(words),
@@ -125,6 +126,15 @@ fn init_word<'a>(matches: &ArgMatches<'a>) -> Option<Word<'a>>
     ensures none { IsNone result → IsUnasked (codes "init") (rows_of (found_of matches.now)) }
 {
     Some(Word::Init(InitWords {
+        db: matches.get_str("db")?,
+    }))
+}
+
+fn migrate_word<'a>(matches: &ArgMatches<'a>) -> Option<Word<'a>>
+    ensures found { IfSome result (IsAsked (codes "migrate") (rows_of (found_of matches.now))) }
+    ensures none { IsNone result → IsUnasked (codes "migrate") (rows_of (found_of matches.now)) }
+{
+    Some(Word::Migrate(MigrateWords {
         db: matches.get_str("db")?,
     }))
 }

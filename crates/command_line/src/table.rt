@@ -165,6 +165,13 @@ const INIT: SubcommandRow = SubcommandRow {
     options: &[DATABASE],
 };
 
+const MIGRATE: SubcommandRow = SubcommandRow {
+    name: "migrate",
+    full_name: "counter migrate",
+    about: "Takes over a database that an older version made, with all that it holds",
+    options: &[DATABASE],
+};
+
 const CALIBRATE: SubcommandRow = SubcommandRow {
     name: "calibrate",
     full_name: "counter calibrate",
@@ -310,8 +317,8 @@ const AUDIT: SubcommandRow = SubcommandRow {
     ],
 };
 
-static SUBCOMMANDS: [SubcommandRow; 9] = [
-    TST, CHECK, INIT, CALIBRATE, HOLD, ANSWER, EXCHANGE, SERVE, AUDIT,
+static SUBCOMMANDS: [SubcommandRow; 10] = [
+    TST, CHECK, INIT, MIGRATE, CALIBRATE, HOLD, ANSWER, EXCHANGE, SERVE, AUDIT,
 ];
 
 /// The subcommands, in the order of the text of help.

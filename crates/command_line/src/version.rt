@@ -1,2 +1,4 @@
-/// The version, which `counter --version` tells. The package and its pages take it from this line.
-pub(crate) const VERSION: &str = "0.1.0";
+/// The version, which `counter --version` tells, and the commit. A build writes that into the finished program, in
+/// place of these two words, which have as many octets: so what is proved doesn't change with each commit. The package
+/// and its pages take the version from this line.
+pub(crate) const VERSION: &str = "0.1.0 (unknown commit)";

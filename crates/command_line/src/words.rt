@@ -9,6 +9,8 @@ pub enum Word<'a> {
     Check(CheckWords<'a>),
     /// Makes the tables of a new database.
     Init(InitWords<'a>),
+    /// Takes a database of an older schema over.
+    Migrate(MigrateWords<'a>),
     /// Adds a calibration to the database.
     Calibrate(CalibrateWords<'a>),
     /// Adds a hold to the database.
@@ -106,6 +108,13 @@ pub struct AuditWords<'a> {
 /// The words of `init`.
 #[derive(Clone, Copy, Debug, PartialEq, Eq)]
 pub struct InitWords<'a> {
+    /// The database's path.
+    pub db: &'a str,
+}
+
+/// The words of `migrate`.
+#[derive(Clone, Copy, Debug, PartialEq, Eq)]
+pub struct MigrateWords<'a> {
     /// The database's path.
     pub db: &'a str,
 }

@@ -1,7 +1,7 @@
-use Rattle.std.proofs.Common.{arith, codes, refl}
+use Rattle.std.proofs.Common.{codes, refl}
 use Rattle.clap.specs.Words.{found_of, rows_of}
 use Rattle.command_line.proofs.Names.{no_answer}
-use Rattle.command_line.proofs.Stated.{reads_some_text}
+use Rattle.command_line.proofs.Stated.{reads_some_text, whole_most, zero_least}
 use Rattle.command_line.proofs.parse.answer_word.Goals as goal
 
 pub returns-clause-found : goal.returns-clause-found
@@ -15,7 +15,12 @@ returns-clause-found c = (
 )
 
 pub returns-in_err-desk_words-clause-none : goal.returns-in_err-desk_words-clause-none
-returns-in_err-desk_words-clause-none c = λ _. no_answer (rows_of (found_of c.args.matches.now)) (λ words states. c.desk_words.ensures.none (rw c.in_err-desk_words.was refl) words.desk states.desk)
+returns-in_err-desk_words-clause-none c = λ _.
+    no_answer (rows_of (found_of c.args.matches.now)) (λ words states.
+    c.desk_words.ensures.none (rw c.in_err-desk_words.was refl) words.desk states.desk)
 
 pub returns-in_err-number-clause-none : goal.returns-in_err-number-clause-none
-returns-in_err-number-clause-none c = λ _. no_answer (rows_of (found_of c.args.matches.now)) (λ words states. c.number.ensures.none (rw c.in_err-number.was refl) words.reading states.reading (omega arith) (omega (arith, words.some_reading)))
+returns-in_err-number-clause-none c = λ _.
+    no_answer (rows_of (found_of c.args.matches.now)) (λ words states.
+    c.number.ensures.none (rw c.in_err-number.was refl) words.reading states.reading (zero_least words.reading)
+    (whole_most words.reading words.some_reading))

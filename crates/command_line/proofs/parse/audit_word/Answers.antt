@@ -1,8 +1,8 @@
-use Rattle.std.proofs.Common.{◌∙◌, arith, codes, refl}
+use Rattle.std.proofs.Common.{◌∙◌, codes, refl}
 use Rattle.clap.specs.Words.{found_of, rows_of}
 use Rattle.clap.proofs.WalkLemmas.{one_text-rows}
 use Rattle.command_line.proofs.Names.{no_audit}
-use Rattle.command_line.proofs.Stated.{reads_text, unread_text}
+use Rattle.command_line.proofs.Stated.{reads_text, unread_text, whole_most, zero_least}
 use Rattle.command_line.proofs.parse.audit_word.Goals as goal
 
 pub returns-clause-found : goal.returns-clause-found
@@ -27,16 +27,31 @@ returns-clause-found c =
     )
 
 pub returns-in_err-get_str-clause-none : goal.returns-in_err-get_str-clause-none
-returns-in_err-get_str-clause-none c = λ _. no_audit (rows_of (found_of c.args.matches.now)) (λ words states. unread_text (found_of c.args.matches.now) (codes "db") c.get_str.result words.db.now c.get_str.ensures c.in_err-get_str.was states.db)
+returns-in_err-get_str-clause-none c = λ _.
+    no_audit (rows_of (found_of c.args.matches.now)) (λ words states.
+    unread_text (found_of c.args.matches.now) (codes "db") c.get_str.result words.db.now c.get_str.ensures
+    c.in_err-get_str.was states.db)
 
 pub returns-in_err-get_str-2-clause-none : goal.returns-in_err-get_str-2-clause-none
-returns-in_err-get_str-2-clause-none c = λ _. no_audit (rows_of (found_of c.args.matches.now)) (λ words states. unread_text (found_of c.args.matches.now) (codes "rules") c.get_str-2.result words.rules.now c.get_str-2.ensures c.in_err-get_str-2.was states.rules)
+returns-in_err-get_str-2-clause-none c = λ _.
+    no_audit (rows_of (found_of c.args.matches.now)) (λ words states.
+    unread_text (found_of c.args.matches.now) (codes "rules") c.get_str-2.result words.rules.now c.get_str-2.ensures
+    c.in_err-get_str-2.was states.rules)
 
 pub returns-in_err-get_str-3-clause-none : goal.returns-in_err-get_str-3-clause-none
-returns-in_err-get_str-3-clause-none c = λ _. no_audit (rows_of (found_of c.args.matches.now)) (λ words states. unread_text (found_of c.args.matches.now) (codes "account") c.get_str-3.result words.account.now c.get_str-3.ensures c.in_err-get_str-3.was states.account)
+returns-in_err-get_str-3-clause-none c = λ _.
+    no_audit (rows_of (found_of c.args.matches.now)) (λ words states.
+    unread_text (found_of c.args.matches.now) (codes "account") c.get_str-3.result words.account.now
+    c.get_str-3.ensures c.in_err-get_str-3.was states.account)
 
 pub returns-in_err-number-clause-none : goal.returns-in_err-number-clause-none
-returns-in_err-number-clause-none c = λ _. no_audit (rows_of (found_of c.args.matches.now)) (λ words states. c.number.ensures.none (rw c.in_err-number.was refl) words.from states.from (omega arith) (omega (arith, words.first)))
+returns-in_err-number-clause-none c = λ _.
+    no_audit (rows_of (found_of c.args.matches.now)) (λ words states.
+    c.number.ensures.none (rw c.in_err-number.was refl) words.from states.from (zero_least words.from) (whole_most
+    words.from words.first))
 
 pub returns-in_err-number-2-clause-none : goal.returns-in_err-number-2-clause-none
-returns-in_err-number-2-clause-none c = λ _. no_audit (rows_of (found_of c.args.matches.now)) (λ words states. c.number-2.ensures.none (rw c.in_err-number-2.was refl) words.to states.to (omega arith) (omega (arith, words.last)))
+returns-in_err-number-2-clause-none c = λ _.
+    no_audit (rows_of (found_of c.args.matches.now)) (λ words states.
+    c.number-2.ensures.none (rw c.in_err-number-2.was refl) words.to states.to (zero_least words.to) (whole_most
+    words.to words.last))

@@ -1,8 +1,8 @@
-use Rattle.std.proofs.Common.{◌∙◌, arith, codes, refl}
+use Rattle.std.proofs.Common.{◌∙◌, codes, refl}
 use Rattle.clap.specs.Words.{found_of, rows_of}
 use Rattle.clap.proofs.WalkLemmas.{one_text-rows}
 use Rattle.command_line.proofs.Names.{no_calibrate}
-use Rattle.command_line.proofs.Stated.{reads_text, unread_text}
+use Rattle.command_line.proofs.Stated.{reads_text, unread_text, whole_most, zero_least}
 use Rattle.command_line.proofs.parse.calibrate_word.Goals as goal
 
 pub returns-clause-found : goal.returns-clause-found
@@ -24,13 +24,25 @@ returns-clause-found c =
     )
 
 pub returns-in_err-get_str-clause-none : goal.returns-in_err-get_str-clause-none
-returns-in_err-get_str-clause-none c = λ _. no_calibrate (rows_of (found_of c.args.matches.now)) (λ words states. unread_text (found_of c.args.matches.now) (codes "db") c.get_str.result words.db.now c.get_str.ensures c.in_err-get_str.was states.db)
+returns-in_err-get_str-clause-none c = λ _.
+    no_calibrate (rows_of (found_of c.args.matches.now)) (λ words states.
+    unread_text (found_of c.args.matches.now) (codes "db") c.get_str.result words.db.now c.get_str.ensures
+    c.in_err-get_str.was states.db)
 
 pub returns-in_err-number-clause-none : goal.returns-in_err-number-clause-none
-returns-in_err-number-clause-none c = λ _. no_calibrate (rows_of (found_of c.args.matches.now)) (λ words states. c.number.ensures.none (rw c.in_err-number.was refl) words.reading states.reading (omega arith) (omega (arith, words.some_reading)))
+returns-in_err-number-clause-none c = λ _.
+    no_calibrate (rows_of (found_of c.args.matches.now)) (λ words states.
+    c.number.ensures.none (rw c.in_err-number.was refl) words.reading states.reading (zero_least words.reading)
+    (whole_most words.reading words.some_reading))
 
 pub returns-in_err-number-2-clause-none : goal.returns-in_err-number-2-clause-none
-returns-in_err-number-2-clause-none c = λ _. no_calibrate (rows_of (found_of c.args.matches.now)) (λ words states. c.number-2.ensures.none (rw c.in_err-number-2.was refl) words.offset states.offset (omega arith) (omega (arith, words.some_offset)))
+returns-in_err-number-2-clause-none c = λ _.
+    no_calibrate (rows_of (found_of c.args.matches.now)) (λ words states.
+    c.number-2.ensures.none (rw c.in_err-number-2.was refl) words.offset states.offset (zero_least words.offset)
+    (whole_most words.offset words.some_offset))
 
 pub returns-in_err-number-3-clause-none : goal.returns-in_err-number-3-clause-none
-returns-in_err-number-3-clause-none c = λ _. no_calibrate (rows_of (found_of c.args.matches.now)) (λ words states. c.number-3.ensures.none (rw c.in_err-number-3.was refl) words.uncertainty states.uncertainty (omega arith) words.most_uncertainty)
+returns-in_err-number-3-clause-none c = λ _.
+    no_calibrate (rows_of (found_of c.args.matches.now)) (λ words states.
+    c.number-3.ensures.none (rw c.in_err-number-3.was refl) words.uncertainty states.uncertainty (zero_least
+    words.uncertainty) words.most_uncertainty)

@@ -14,4 +14,7 @@ returns-clause-found c = (
 )
 
 pub returns-in_err-get_str-clause-none : goal.returns-in_err-get_str-clause-none
-returns-in_err-get_str-clause-none c = λ _. no_check (rows_of (found_of c.args.matches.now)) (λ words states. unread_text (found_of c.args.matches.now) (codes "rules") c.get_str.result words.rules.now c.get_str.ensures c.in_err-get_str.was states.rules)
+returns-in_err-get_str-clause-none c = λ _.
+    no_check (rows_of (found_of c.args.matches.now)) (λ words states.
+    unread_text (found_of c.args.matches.now) (codes "rules") c.get_str.result words.rules.now c.get_str.ensures
+    c.in_err-get_str.was states.rules)

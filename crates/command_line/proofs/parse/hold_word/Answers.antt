@@ -1,7 +1,7 @@
-use Rattle.std.proofs.Common.{arith, codes, refl}
+use Rattle.std.proofs.Common.{codes, refl}
 use Rattle.clap.specs.Words.{found_of, rows_of}
 use Rattle.command_line.proofs.Names.{no_hold}
-use Rattle.command_line.proofs.Stated.{reads_text, unread_text}
+use Rattle.command_line.proofs.Stated.{reads_text, unread_text, whole_most, zero_least}
 use Rattle.command_line.proofs.parse.hold_word.Goals as goal
 
 pub returns-clause-found : goal.returns-clause-found
@@ -16,10 +16,19 @@ returns-clause-found c = (
 )
 
 pub returns-in_err-get_str-clause-none : goal.returns-in_err-get_str-clause-none
-returns-in_err-get_str-clause-none c = λ _. no_hold (rows_of (found_of c.args.matches.now)) (λ words states. unread_text (found_of c.args.matches.now) (codes "db") c.get_str.result words.db.now c.get_str.ensures c.in_err-get_str.was states.db)
+returns-in_err-get_str-clause-none c = λ _.
+    no_hold (rows_of (found_of c.args.matches.now)) (λ words states.
+    unread_text (found_of c.args.matches.now) (codes "db") c.get_str.result words.db.now c.get_str.ensures
+    c.in_err-get_str.was states.db)
 
 pub returns-in_err-number-clause-none : goal.returns-in_err-number-clause-none
-returns-in_err-number-clause-none c = λ _. no_hold (rows_of (found_of c.args.matches.now)) (λ words states. c.number.ensures.none (rw c.in_err-number.was refl) words.from states.from (omega arith) (omega (arith, words.first)))
+returns-in_err-number-clause-none c = λ _.
+    no_hold (rows_of (found_of c.args.matches.now)) (λ words states.
+    c.number.ensures.none (rw c.in_err-number.was refl) words.from states.from (zero_least words.from) (whole_most
+    words.from words.first))
 
 pub returns-in_err-number-2-clause-none : goal.returns-in_err-number-2-clause-none
-returns-in_err-number-2-clause-none c = λ _. no_hold (rows_of (found_of c.args.matches.now)) (λ words states. c.number-2.ensures.none (rw c.in_err-number-2.was refl) words.to states.to (omega arith) (omega (arith, words.end)))
+returns-in_err-number-2-clause-none c = λ _.
+    no_hold (rows_of (found_of c.args.matches.now)) (λ words states.
+    c.number-2.ensures.none (rw c.in_err-number-2.was refl) words.to states.to (zero_least words.to) (whole_most
+    words.to words.end))

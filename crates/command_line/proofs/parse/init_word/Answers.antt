@@ -14,4 +14,7 @@ returns-clause-found c = (
 )
 
 pub returns-in_err-get_str-clause-none : goal.returns-in_err-get_str-clause-none
-returns-in_err-get_str-clause-none c = λ _. no_init (rows_of (found_of c.args.matches.now)) (λ words states. unread_text (found_of c.args.matches.now) (codes "db") c.get_str.result words.db.now c.get_str.ensures c.in_err-get_str.was states.db)
+returns-in_err-get_str-clause-none c = λ _.
+    no_init (rows_of (found_of c.args.matches.now)) (λ words states.
+    unread_text (found_of c.args.matches.now) (codes "db") c.get_str.result words.db.now c.get_str.ensures
+    c.in_err-get_str.was states.db)

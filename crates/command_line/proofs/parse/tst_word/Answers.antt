@@ -1,8 +1,8 @@
-use Rattle.std.proofs.Common.{◌∙◌, arith, codes, refl}
+use Rattle.std.proofs.Common.{◌∙◌, codes, refl}
 use Rattle.clap.specs.Words.{found_of, rows_of}
 use Rattle.clap.proofs.WalkLemmas.{one_text-rows}
 use Rattle.command_line.proofs.Names.{no_tst}
-use Rattle.command_line.proofs.Stated.{reads_text, unread_text}
+use Rattle.command_line.proofs.Stated.{reads_text, unread_text, whole_most, zero_least}
 use Rattle.command_line.proofs.parse.tst_word.Goals as goal
 
 pub returns-clause-found : goal.returns-clause-found
@@ -26,16 +26,31 @@ returns-clause-found c =
     )
 
 pub returns-in_err-get_str-clause-none : goal.returns-in_err-get_str-clause-none
-returns-in_err-get_str-clause-none c = λ _. no_tst (rows_of (found_of c.args.matches.now)) (λ words states. unread_text (found_of c.args.matches.now) (codes "policy") c.get_str.result words.policy.now c.get_str.ensures c.in_err-get_str.was states.policy)
+returns-in_err-get_str-clause-none c = λ _.
+    no_tst (rows_of (found_of c.args.matches.now)) (λ words states.
+    unread_text (found_of c.args.matches.now) (codes "policy") c.get_str.result words.policy.now c.get_str.ensures
+    c.in_err-get_str.was states.policy)
 
 pub returns-in_err-number-clause-none : goal.returns-in_err-number-clause-none
-returns-in_err-number-clause-none c = λ _. no_tst (rows_of (found_of c.args.matches.now)) (λ words states. c.number.ensures.none (rw c.in_err-number.was refl) words.moment states.moment (omega arith) words.moments)
+returns-in_err-number-clause-none c = λ _.
+    no_tst (rows_of (found_of c.args.matches.now)) (λ words states.
+    c.number.ensures.none (rw c.in_err-number.was refl) words.moment states.moment (zero_least words.moment)
+    words.moments)
 
 pub returns-in_err-number-2-clause-none : goal.returns-in_err-number-2-clause-none
-returns-in_err-number-2-clause-none c = λ _. no_tst (rows_of (found_of c.args.matches.now)) (λ words states. c.number-2.ensures.none (rw c.in_err-number-2.was refl) words.digits states.digits (omega arith) words.fraction)
+returns-in_err-number-2-clause-none c = λ _.
+    no_tst (rows_of (found_of c.args.matches.now)) (λ words states.
+    c.number-2.ensures.none (rw c.in_err-number-2.was refl) words.digits states.digits (zero_least words.digits)
+    words.fraction)
 
 pub returns-in_err-number-3-clause-none : goal.returns-in_err-number-3-clause-none
-returns-in_err-number-3-clause-none c = λ _. no_tst (rows_of (found_of c.args.matches.now)) (λ words states. c.number-3.ensures.none (rw c.in_err-number-3.was refl) words.serial states.serial words.first_serial (omega (arith, words.last_serial)))
+returns-in_err-number-3-clause-none c = λ _.
+    no_tst (rows_of (found_of c.args.matches.now)) (λ words states.
+    c.number-3.ensures.none (rw c.in_err-number-3.was refl) words.serial states.serial words.first_serial (whole_most
+    words.serial words.last_serial))
 
 pub returns-in_err-number-4-clause-none : goal.returns-in_err-number-4-clause-none
-returns-in_err-number-4-clause-none c = λ _. no_tst (rows_of (found_of c.args.matches.now)) (λ words states. c.number-4.ensures.none (rw c.in_err-number-4.was refl) words.accuracy states.accuracy words.some_accuracy words.most_accuracy)
+returns-in_err-number-4-clause-none c = λ _.
+    no_tst (rows_of (found_of c.args.matches.now)) (λ words states.
+    c.number-4.ensures.none (rw c.in_err-number-4.was refl) words.accuracy states.accuracy words.some_accuracy
+    words.most_accuracy)

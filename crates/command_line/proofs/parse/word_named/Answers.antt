@@ -26,6 +26,14 @@ pub returns-in-init-clause-none : goal.returns-in-init-clause-none
 returns-in-init-clause-none c =
     named_none (rows_of (found_of c.args.words.now)) c.init_word.result c.in-init.is c.init_word.ensures.none
 
+pub returns-in-migrate-clause-found : goal.returns-in-migrate-clause-found
+returns-in-migrate-clause-found c =
+    named_found (rows_of (found_of c.args.words.now)) c.migrate_word.result c.in-migrate.is c.migrate_word.ensures.found
+
+pub returns-in-migrate-clause-none : goal.returns-in-migrate-clause-none
+returns-in-migrate-clause-none c =
+    named_none (rows_of (found_of c.args.words.now)) c.migrate_word.result c.in-migrate.is c.migrate_word.ensures.none
+
 pub returns-in-calibrate-clause-found : goal.returns-in-calibrate-clause-found
 returns-in-calibrate-clause-found c =
     named_found (rows_of (found_of c.args.words.now)) c.calibrate_word.result c.in-calibrate.is c.calibrate_word.ensures.found
