@@ -13,7 +13,7 @@ use Rattle.policy.specs.Record.{PolicyValue}
 use Rattle.command_line.specs.declared.words.AnswerWords.{AnswerWords}
 use Rattle.command_line.specs.declared.words.TstWords.{TstWords}
 use Rattle.command_line.specs.declared.words.Word.{Word}
-use Rattle.command_line.specs.declared.words.Word.TheVariants.{Tst, Check, Init, Calibrate, Hold, Answer}
+use Rattle.command_line.specs.declared.words.Word.TheVariants.{Tst, Check, Init, Migrate, Calibrate, Hold, Answer}
 use Rattle.command_line.specs.declared.words.Word.TheVariants.{Exchange, Serve, Audit}
 
 -- The text spells a request's octets, the words state settings, and what is written is the line of a reply to the one
@@ -45,6 +45,7 @@ Does (Tst words) old new IsWritten =
     IfSome old (λ text. (written : List ℕ) × Answers words text written × IsWritten written)
 Does (Check words) old new IsWritten = (new ≡ old) × ((written : List ℕ) × Counts written × IsWritten written)
 Does (Init words) old new IsWritten = (new ≡ old) × IsWritten []
+Does (Migrate words) old new IsWritten = (new ≡ old) × IsWritten []
 Does (Calibrate words) old new IsWritten = (new ≡ old) × IsWritten []
 Does (Hold words) old new IsWritten = (new ≡ old) × (words.from < words.to) × IsWritten []
 Does (Answer words) old new IsWritten =

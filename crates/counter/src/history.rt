@@ -6,7 +6,7 @@ ghost use Rattle.counter.specs.Fault.{IsStoreFault};
 
 use crate::fault::{Fault, InputFault};
 use book::{Calibration, Hold};
-use command_line::{CalibrateWords, HoldWords, InitWords};
+use command_line::{CalibrateWords, HoldWords, InitWords, MigrateWords};
 use operations::Addition;
 use std::rt::HostRuntime;
 
@@ -15,6 +15,13 @@ pub fn init(rt: &HostRuntime, words: &InitWords<'_>) -> Result<(), Fault>
     ensures { IfErr result IsStoreFault }
 {
     Ok(operations::init(rt, words.db)?)
+}
+
+/// Takes a database of an older schema over.
+pub fn migrate(rt: &HostRuntime, words: &MigrateWords<'_>) -> Result<(), Fault>
+    ensures { IfErr result IsStoreFault }
+{
+    Ok(operations::migrate(rt, words.db)?)
 }
 
 /// Adds the calibration that the words state.

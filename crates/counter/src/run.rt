@@ -16,7 +16,7 @@ use crate::exchange::{exchange, serve};
 use crate::extracting::audit;
 use crate::fault::{Fault, InputFault};
 use crate::hexadecimal::{read_octets, write_octets};
-use crate::history::{calibrate, hold, init};
+use crate::history::{calibrate, hold, init, migrate};
 use crate::output::write_text;
 use crate::settings::Settings;
 use crate::tst::tst_reply;
@@ -201,6 +201,10 @@ fn run_word<I: Read, O: Write, E: Write>(
         }
         Word::Init(words) => {
             init(rt, words)?;
+            Ok(Outcome::Changed)
+        }
+        Word::Migrate(words) => {
+            migrate(rt, words)?;
             Ok(Outcome::Changed)
         }
         Word::Calibrate(words) => {
