@@ -53,6 +53,16 @@ fn of_account<'p>(reader: Reader<'p>, word: &str, words: &mut Words<'p>) -> Opti
             number: words.number(),
             reader: words.next(),
         },
+        "grant-group" => Command::GrantGroup {
+            account,
+            number: words.number(),
+            group: words.next(),
+        },
+        "revoke-group" => Command::RevokeGroup {
+            account,
+            number: words.number(),
+            group: words.next(),
+        },
         _ => return None,
     })
 }

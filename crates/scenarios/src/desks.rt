@@ -75,6 +75,24 @@ fn revoke(
     desk.revoke(account, number, reader)
 }
 
+fn grant_group(
+    desk: &mut Counter<'_>,
+    account: &Account,
+    number: u64,
+    group: &str,
+) -> Result<(), Fault> {
+    desk.grant_group(account, number, group)
+}
+
+fn revoke_group(
+    desk: &mut Counter<'_>,
+    account: &Account,
+    number: u64,
+    group: &str,
+) -> Result<(), Fault> {
+    desk.revoke_group(account, number, group)
+}
+
 /// Makes the call of a deposit's command, and tells of it.
 fn call_about_deposits(printer: Printer<'_>, desk: &mut Counter<'_>, command: Command<'_>) {
     match command {
@@ -91,6 +109,16 @@ fn call_about_deposits(printer: Printer<'_>, desk: &mut Counter<'_>, command: Co
             number,
             reader,
         } => printer.tell(&revoke(desk, account, number, reader)),
+        Command::GrantGroup {
+            account,
+            number,
+            group,
+        } => printer.tell(&grant_group(desk, account, number, group)),
+        Command::RevokeGroup {
+            account,
+            number,
+            group,
+        } => printer.tell(&revoke_group(desk, account, number, group)),
         _ => printer.line("  no such call"),
     }
 }

@@ -78,6 +78,16 @@ fn revoke(store: &mut Kept, words: &mut Words<'_>) -> Ending {
     store.revoke(number, words.next())
 }
 
+fn grant_group(store: &mut Kept, words: &mut Words<'_>) -> Ending {
+    let number = words.number();
+    store.grant_group(number, words.next())
+}
+
+fn revoke_group(store: &mut Kept, words: &mut Words<'_>) -> Ending {
+    let number = words.number();
+    store.revoke_group(number, words.next())
+}
+
 /// What becomes of a change; none where the word names none.
 fn changed(store: &mut Kept, names: &Names, word: &str, words: &mut Words<'_>) -> Option<Ending> {
     Some(match word {
@@ -88,6 +98,8 @@ fn changed(store: &mut Kept, names: &Names, word: &str, words: &mut Words<'_>) -
         "seal-deposit" => seal_deposit(store, names, words),
         "grant" => grant(store, words),
         "revoke" => revoke(store, words),
+        "grant-group" => grant_group(store, words),
+        "revoke-group" => revoke_group(store, words),
         _ => return None,
     })
 }
@@ -109,13 +121,26 @@ fn count(store: &mut Kept, words: &mut Words<'_>) -> Result<u64, StoreFault> {
     store.count_of_day(account, words.number())
 }
 
+/// The first of two names of groups up to an empty one.
+fn named<'n, 'w>(names: &'n [&'w str; 2]) -> &'n [&'w str] {
+    if names[0].is_empty() {
+        return &[];
+    }
+    if names[1].is_empty() {
+        return &names[..1];
+    }
+    names
+}
+
 fn list(store: &mut Kept, words: &mut Words<'_>) -> Result<Vec<Listed>, StoreFault> {
-    store.list(words.next())
+    let account = words.next();
+    store.list(account, named(&[words.next(), words.next()]))
 }
 
 fn is_visible(store: &mut Kept, words: &mut Words<'_>) -> Result<bool, StoreFault> {
     let number = words.number();
-    store.visible(number, words.next())
+    let account = words.next();
+    store.visible(number, account, named(&[words.next(), words.next()]))
 }
 
 fn stamped(store: &mut Kept, words: &mut Words<'_>) -> Result<Option<StampedDeposit>, StoreFault> {

@@ -111,7 +111,7 @@ fn seal<'w>(names: &'w Names, words: Words<'w>) -> Change<'w> {
     }
 }
 
-/// A serial number, and an account.
+/// A serial number, and the name of an account or a group.
 fn right(words: Words<'_>) -> (u64, &str) {
     let mut words = words;
     (words.number(), words.next())
@@ -119,15 +119,23 @@ fn right(words: Words<'_>) -> (u64, &str) {
 
 /// The change that the words spell.
 fn change_of<'w>(names: &'w Names, word: &str, words: Words<'w>) -> Option<Change<'w>> {
-    let (serial, account) = right(words);
+    let (serial, name) = right(words);
     Some(match word {
         "reserve" => reserve(names, words),
         "seal" => seal(names, words),
         "deposit" => deposit(names, words),
         "calibrate" => calibrate(words),
         "hold" => hold(words),
-        "grant" => Change::Grant { serial, account },
-        "revoke" => Change::Revoke { serial, account },
+        "grant" => Change::Grant {
+            serial,
+            account: name,
+        },
+        "revoke" => Change::Revoke {
+            serial,
+            account: name,
+        },
+        "grant-group" => Change::GrantGroup { serial, name },
+        "revoke-group" => Change::RevokeGroup { serial, name },
         _ => return None,
     })
 }
@@ -181,6 +189,11 @@ fn is_reader(base: &mut Tables, words: &mut Words<'_>) -> Result<bool, TableFaul
     base.is_reader(serial, words.next())
 }
 
+fn is_group_reader(base: &mut Tables, words: &mut Words<'_>) -> Result<bool, TableFault> {
+    let serial = words.number();
+    base.is_group_reader(serial, words.next())
+}
+
 fn next_owned(base: &mut Tables, words: &mut Words<'_>) -> Result<Option<u64>, TableFault> {
     let account = words.next();
     base.next_owned(account, words.number())
@@ -189,6 +202,14 @@ fn next_owned(base: &mut Tables, words: &mut Words<'_>) -> Result<Option<u64>, T
 fn next_readable(base: &mut Tables, words: &mut Words<'_>) -> Result<Option<u64>, TableFault> {
     let account = words.next();
     base.next_readable(account, words.number())
+}
+
+fn next_group_readable(
+    base: &mut Tables,
+    words: &mut Words<'_>,
+) -> Result<Option<u64>, TableFault> {
+    let name = words.next();
+    base.next_group_readable(name, words.number())
 }
 
 fn stamp(base: &mut Tables, words: &mut Words<'_>) -> Result<Option<Stamp>, TableFault> {
@@ -219,6 +240,8 @@ fn show_others(printer: Printer<'_>, base: &mut Tables, word: &str, words: &mut 
         "reader" => printer.tell(&is_reader(base, words)),
         "next-owned" => printer.tell(&next_owned(base, words)),
         "next-readable" => printer.tell(&next_readable(base, words)),
+        "group-reader" => printer.tell(&is_group_reader(base, words)),
+        "next-group-readable" => printer.tell(&next_group_readable(base, words)),
         "stamp" => tell_found(printer, stamp(base, words)),
         "origin" => printer.tell(&origin(base, words)),
         "next" => tell_found(printer, next_stamp(base, words)),

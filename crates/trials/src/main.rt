@@ -1,5 +1,4 @@
-//! Trials of the counter: requests, heads and files of which each front and each change of one octet is tried, and a
-//! journey with a stop at each call of the disk.
+//! Trials of the counter: requests, heads and files of which each front and each change of one octet is tried.
 #![tactic(auto)]
 
 mod answers;

@@ -59,6 +59,7 @@ fn tell(printer: Printer<'_>, policy: &Policy) {
     printer.number("extensions", policy.extensions.len() as u64);
     printer.number("policies", policy.policies.len() as u64);
     printer.number("accounts", policy.accounts.len() as u64);
+    printer.number("groups", policy.groups.len() as u64);
     printer.number("accuracy", u64::from(policy.counter.accuracy_us));
     printer.number("age", policy.counter.max_age_us);
     printer.tell(&policy.counter.ordering);

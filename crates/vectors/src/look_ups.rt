@@ -1,6 +1,6 @@
 //! Look-ups in a policy file's record.
 use crate::files::Files;
-use policy::{Account, Algorithm, Extension, HashAlgorithm, Policy, TsaPolicy};
+use policy::{Account, Algorithm, Extension, Group, HashAlgorithm, Policy, TsaPolicy};
 use transcript::{Printer, Words};
 
 fn tell_account(printer: Printer<'_>, account: Option<&Account>) {
@@ -32,6 +32,28 @@ fn tell_extension(printer: Printer<'_>, extension: Option<&Extension>) {
     match extension {
         Some(extension) => printer.number(&extension.name, u64::from(extension.max_length)),
         None => printer.line("  None"),
+    }
+}
+
+fn tell_group(printer: Printer<'_>, group: Option<&Group>) {
+    match group {
+        Some(group) => printer.number(&group.name, group.members.len() as u64),
+        None => printer.line("  None"),
+    }
+}
+
+/// Tells whether the account is a member of the group.
+fn tell_member(printer: Printer<'_>, group: Option<&Group>, account: &str) {
+    match group {
+        Some(group) => printer.tell(&group.has_member(account)),
+        None => printer.line("  None"),
+    }
+}
+
+/// Tells the names of the groups of which the account is a member.
+fn tell_groups(printer: Printer<'_>, policy: &Policy, account: &str) {
+    for name in policy.groups_of(account).as_slice() {
+        printer.octets("name", name.as_bytes());
     }
 }
 
@@ -73,6 +95,9 @@ pub fn call(printer: Printer<'_>, files: &Files, words: Words<'_>) {
         "named" => tell_account(printer, policy.account_named(words.next())),
         "default" => tell_policy(printer, default_policy(policy, words.next())),
         "policy-named" => tell_policy(printer, policy.policy_named(words.next())),
+        "group" => tell_group(printer, policy.group_named(words.next())),
+        "member" => tell_member(printer, policy.group_named(words.next()), words.next()),
+        "groups-of" => tell_groups(printer, policy, words.next()),
         word => {
             if let Ok(octets) = printer.names.octets_of(words.rest) {
                 look_up(printer, policy, word, &octets);

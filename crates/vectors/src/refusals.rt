@@ -35,7 +35,7 @@ static OF_FILES: [PolicyFault; 7] = [
     PolicyFault::Memory,
 ];
 
-static FIELDS: [Field; 30] = [
+static FIELDS: [Field; 33] = [
     Field::Key,
     Field::Counter,
     Field::CounterAccuracyUs,
@@ -66,6 +66,9 @@ static FIELDS: [Field; 30] = [
     Field::AccountOperator,
     Field::AccountPolicies,
     Field::AccountDailyQuota,
+    Field::Group,
+    Field::GroupName,
+    Field::GroupMembers,
 ];
 
 fn tell_of_values(printer: Printer<'_>) {

@@ -1,0 +1,42 @@
+//! The parts of a line.
+use hex::FromHexError;
+use std::alloc::{AllocError, Global};
+
+/// More pieces than a line has.
+const MOST_PIECES: usize = 100;
+
+/// The first word of a text, and what stands behind the space after it.
+pub fn word(text: &str) -> (&str, &str) {
+    text.split_once(' ').unwrap_or((text, ""))
+}
+
+/// The octets of hexadecimal digits.
+pub fn octets(alloc: Global, digits: &str) -> Result<Vec<u8>, FromHexError> {
+    hex::decode(alloc, digits)
+}
+
+/// Adds a piece, as many times as stands before its asterisk.
+fn add_piece(text: &mut String, piece: &str) -> Result<(), AllocError> {
+    let (count, piece) = piece.split_once('*').unwrap_or(("1", piece));
+    for _ in 0..count.parse().unwrap_or(0u64) {
+        text.push_str(piece)?;
+    }
+    Ok(())
+}
+
+/// A text in which `\r` and `\n` stand for these controls, and `{9*ab}` for nine times `ab`.
+pub fn expand(alloc: Global, text: &str) -> Result<String, AllocError> {
+    let mut whole = String::new(alloc);
+    let mut rest = text;
+    for _ in 0..MOST_PIECES {
+        let Some((front, back)) = rest.split_once('{') else {
+            break;
+        };
+        let (piece, back) = back.split_once('}').unwrap_or((back, ""));
+        whole.push_str(front)?;
+        add_piece(&mut whole, piece)?;
+        rest = back;
+    }
+    whole.push_str(rest)?;
+    whole.replace(alloc, "\\r\\n", "\r\n")
+}

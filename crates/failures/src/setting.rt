@@ -1,0 +1,51 @@
+//! By what requests are answered.
+use cms::{Algorithm, Identity};
+use policy::{EXAMPLE, Policy};
+use std::alloc::Global;
+
+/// A certificate of 102 octets, by hand; its keys are none.
+const CERTIFICATE: &[u8] =
+    b"\x30\x64\x30\x57\x02\x01\x07\x30\x05\x06\x03\x88\x37\x09\x30\x0e\x31\x0c\x30\x0a\x06\x03\x55\x04\x03\x0c\x03\
+    \x54\x53\x41\x30\x1e\x17\x0d\x37\x30\x30\x31\x30\x31\x30\x30\x30\x30\x30\x30\x5a\x17\x0d\x34\x39\x31\x32\x33\
+    \x31\x32\x33\x35\x39\x35\x39\x5a\x30\x0e\x31\x0c\x30\x0a\x06\x03\x55\x04\x03\x0c\x03\x54\x53\x41\x30\x0b\x30\
+    \x05\x06\x03\x88\x37\x09\x03\x02\x00\x01\x30\x05\x06\x03\x88\x37\x09\x03\x02\x00\x01";
+
+/// The AlgorithmIdentifier of the stand-in signer, 2.999.9.
+pub const ALGORITHM: &[u8] = b"\x30\x05\x06\x03\x88\x37\x09";
+
+/// A time-stamp request for the SHA-256 digest of `abc` (RFC 3161 2.4.1).
+pub const REQUEST: &[u8] =
+    b"\x30\x36\x02\x01\x01\x30\x31\x30\x0d\x06\x09\x60\x86\x48\x01\x65\x03\x04\x02\x01\x05\x00\x04\x20\
+    \xba\x78\x16\xbf\x8f\x01\xcf\xea\x41\x41\x40\xde\x5d\xae\x22\x23\
+    \xb0\x03\x61\xa3\x96\x17\x7a\x9c\xb4\x10\xff\x61\xf2\x00\x15\xad";
+
+/// The extract of its stamp under the serial number 1, to which no token came.
+pub const VOID_EXTRACT: &[u8] = b"serial,genTime,account,policy,algorithm,digest,state,token\n\
+    1,19700101000000Z,guest,2.999.1,2.16.840.1.101.3.4.2.1,\
+    ba7816bf8f01cfea414140de5dae2223b00361a396177a9cb410ff61f20015ad,void,\n";
+
+/// The rejection by rule 12 (docs/formats.md).
+pub const RULE_12: &[u8] =
+    b"\x30\x17\x30\x15\x02\x01\x02\x30\x09\x0c\x07rule 12\x03\x05\x06\x00\x00\x00\x40";
+
+/// A policy file's record, the certificate, and the signer's algorithm.
+#[derive(Drop)]
+pub struct Setting {
+    pub policy: Policy,
+    pub identity: Identity,
+    pub algorithm: Algorithm,
+}
+
+/// The example of a policy file, with an auditor who is an operator too.
+pub fn make_setting(alloc: Global) -> anyhow::Result<Setting> {
+    let rules = EXAMPLE.replace(
+        alloc,
+        "auditor = true\n",
+        "auditor = true\noperator = true\n",
+    )?;
+    Ok(Setting {
+        policy: Policy::from_text(alloc, &rules)?,
+        identity: Identity::from_certificate(alloc, CERTIFICATE)?,
+        algorithm: Algorithm::from_bytes(alloc, ALGORITHM)?,
+    })
+}
