@@ -105,6 +105,16 @@ def values(der):
     return found
 
 
+def value(tag, *contents):
+    """One value's encoding (X.690 8.1.1, 8.1.3, 10.1)."""
+    octets = b"".join(contents)
+    count = len(octets)
+    if count < 128:
+        return bytes([tag, count]) + octets
+    digits = count.to_bytes((count.bit_length() + 7) // 8, "big")
+    return bytes([tag, 128 + len(digits)]) + digits + octets
+
+
 def name_of(identifier):
     """How OpenSSL shows an object identifier: by its name if it has one."""
     said = subprocess.run(["openssl", "asn1parse", "-genstr", f"OID:{identifier}"], capture_output=True, check=True)
