@@ -26,6 +26,10 @@ CERTIFICATE = bytes.fromhex(
 )
 
 
+# where rows have their mark, behind which memory is refused: an allocation of so many octets
+BEHIND_MARK = {"REFUSED_AFTER": "1000003"}
+
+
 class Wrong:
     """What was found wrong, told as it is found."""
 
@@ -70,6 +74,34 @@ def compiled_library(name, folder):
     """Compiles a C file of this folder as a library that a program loads before the others."""
     source = os.path.join(ROOT, "tests", f"{name}.c")
     return compiled(source, os.path.join(folder, f"{name}.so"), "-shared", "-fPIC", "-O1")
+
+
+def refusing(library, mark, number, which, **more):
+    """The environment in which the library `refused_memory` refuses the allocation of this number, that `one` or `all`
+    from it on, and makes the file `mark` if there was one."""
+    return {
+        "LD_PRELOAD": library,
+        "REFUSED_ALLOCATION": str(number),
+        "REFUSED_ALLOCATIONS": which,
+        "REFUSAL_MARK": mark,
+        **more,
+    }
+
+
+def played(program, text, path, environment):
+    """What a program that plays rows tells of each, as it has them in a file: the row, and the lines behind it."""
+    with open(path, "w", encoding="utf-8") as file:
+        file.write(text)
+    done = subprocess.run([program, path], capture_output=True, env=environment, timeout=60)
+    if done.returncode or done.stderr:
+        raise RuntimeError(f"{text}: {done}")
+    told = []
+    for line in done.stdout.decode().rstrip("\n").split("\n"):
+        if line.startswith("  "):
+            told[-1].append(line[2:])
+        else:
+            told.append([line])
+    return [tuple(lines) for lines in told]
 
 
 def ended_runs(what, begun):
