@@ -22,6 +22,15 @@ static int listening(void)
     return listener;
 }
 
+/* The next connection. */
+static int accepted(int listener)
+{
+    int connection = accept(listener, NULL, NULL);
+    if (connection < 0)
+        exit(1);
+    return connection;
+}
+
 /* The body, of so many octets, of the request on the connection, or NULL. */
 static const char *body_of(int connection, size_t body)
 {

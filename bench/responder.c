@@ -49,9 +49,7 @@ int main(int words, char **word)
     sqlite3_stmt *insert = database(word[3]);
     size_t body = strtoul(word[4], NULL, 10);
     for (int listener = listening();;) {
-        int connection = accept(listener, NULL, NULL);
-        if (connection < 0)
-            return 1;
+        int connection = accepted(listener);
         answer(connection, context, insert, body);
         close(connection);
     }

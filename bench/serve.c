@@ -24,9 +24,7 @@ int main(int words, char **word)
         return 2;
     size_t length = fread(octets, 1, sizeof octets, file), body = strtoul(word[2], NULL, 10);
     for (int listener = listening();;) {
-        int connection = accept(listener, NULL, NULL);
-        if (connection < 0)
-            return 1;
+        int connection = accepted(listener);
         answer(connection, body, octets, length);
         close(connection);
     }
