@@ -1,3 +1,1 @@
-pub mod Identities
 pub mod Rights
-mod Worked

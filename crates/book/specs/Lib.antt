@@ -1,6 +1,5 @@
 pub mod Fault
 pub mod History
-pub mod Identities
 pub mod Ranges
 pub mod Readers
 pub mod Rights

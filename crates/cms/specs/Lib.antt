@@ -1,6 +1,4 @@
 pub mod Certificate
-pub mod Chain
-pub mod ChainView
 pub mod Fault
 pub mod Framed
 pub mod Grammar
@@ -9,6 +7,5 @@ pub mod KeyedHash
 pub mod Outline
 pub mod OutlineView
 pub mod Place
-pub mod SetOf
 pub mod SignedData
 pub mod Signer

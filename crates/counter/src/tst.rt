@@ -59,7 +59,6 @@ fn write_reply(
         gen_time,
         settings.accuracy,
         settings.ordering,
-        None,
     );
     write_tst(alloc, &tst)
 }

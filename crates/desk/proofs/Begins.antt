@@ -17,7 +17,7 @@ use Rattle.desk.specs.Fit.{IsFit}
 use Rattle.desk.specs.Calls.{pending_as, reserving, Reserves}
 use Rattle.desk.specs.Command.{Setting, PendingValue, Command, Begin, Rejected, Refused}
 use Rattle.desk.specs.Effects.{only, fault_of, no_number, begin_effect, name_of}
-use Rattle.desk.specs.Findings.{StampPlan, Fails, Unanswered, Allowed, Finds}
+use Rattle.desk.specs.Findings.{PlanValue, Fails, Unanswered, Allowed, Finds}
 use Rattle.desk.specs.Outcome.{Call, Outcome, Fine, Wanting, Broken, Cause, OfStore, first_cause, faults_after}
 use Rattle.desk.specs.Outcome.{all_fine}
 use Rattle.desk.specs.Stepped.{no_signer, IsBlamedFor, IsBlamed, IsExcused, IsOpened, StepsBy, committed, in_doubt}
@@ -140,7 +140,7 @@ leaves_open g s account reading octets old new r of looks counted finds = record
   };
 }
 
-begin_asks : (s : Setting) (account : List ℕ) (plan : StampPlan) (octets : List ℕ) (b : History)
+begin_asks : (s : Setting) (account : List ℕ) (plan : PlanValue) (octets : List ℕ) (b : History)
     (refused : Option Cause) → (begin_effect s account plan octets b refused).asks ≡ None
 begin_asks s account plan octets b None = refl
 begin_asks s account plan octets b (Some cause) = refl
@@ -157,7 +157,7 @@ reserving_looks refusal.Wrapping h = absurd h
 reserving_looks (refusal.Sealing f) h = absurd h
 
 -- of a reservation all is in doubt
-begun_in_doubt : (call : Call) (s : Setting) (account : List ℕ) (plan : StampPlan) (octets : List ℕ) (b : History)
+begun_in_doubt : (call : Call) (s : Setting) (account : List ℕ) (plan : PlanValue) (octets : List ℕ) (b : History)
     (why : Option Cause) → in_doubt call (begin_effect s account plan octets b why).adds
     ≡ (begin_effect s account plan octets b why).adds
 begun_in_doubt Fine s account plan octets b why = refl
@@ -167,7 +167,7 @@ begun_in_doubt Broken s account plan octets b None = refl
 begun_in_doubt Broken s account plan octets b (Some cause) = refl
 
 -- no number is left where that is said
-spent_if : (s : Setting) (account : List ℕ) (plan : StampPlan) (octets : List ℕ) (b : History) (spent : Bool)
+spent_if : (s : Setting) (account : List ℕ) (plan : PlanValue) (octets : List ℕ) (b : History) (spent : Bool)
     → Refused (fault_of OfStore) ≡ (begin_effect s account plan octets b (first_cause ((cond spent (Some OfStore) None)
     ∷ None ∷ None ∷ []))).says → spent ≡ true
 spent_if s account plan octets b true e = refl
@@ -177,7 +177,7 @@ is_excused : (n : ℕ) → nat_le greatest_number n ≡ true → greatest_number
 is_excused n e = grind (arith, nat_tests)
 
 -- what the reservation that follows the look-ups meets
-pub record Follows {B : Type 0} (g : Ghosts B) (s : Setting) (name : List ℕ) (plan : StampPlan) (octets : List ℕ)
+pub record Follows {B : Type 0} (g : Ghosts B) (s : Setting) (name : List ℕ) (plan : PlanValue) (octets : List ℕ)
     (last : ℕ) (mid new : B) (result : Result PendingValue Refusal) : Type 0 where
   pub honest : g.honest new → g.honest mid
   pub opened : g.honest new → OnOk result (g.is_open new)
@@ -213,7 +213,7 @@ result_blamed g c old new (Err r) h spent = reserving_blamed g c r old new h (λ
 
 -- no rule fails: the reservation goes on from what was found
 pub reserves_after : {B : Type 0} (g : Ghosts B) (s : Setting) (account : Option AccountValue) (reading : ℤ)
-    (octets : List ℕ) (old mid new : B) (plan : StampPlan) (last : ℕ) (name : List ℕ)
+    (octets : List ℕ) (old mid new : B) (plan : PlanValue) (last : ℕ) (name : List ℕ)
     (result : Result PendingValue Refusal)
     → name ≡ name_of account → IsReserving result → OnlyLooks g old mid → g.fault_count mid ≡ g.fault_count old
     → (g.honest mid → (b : History) → Stands g b old

@@ -1,21 +1,17 @@
 -- What the promises refuse: false variants of what a journey gave out and acknowledged, of what an account is shown and
 -- listed and may know of others, and of outcomes, effects and grants, each computed on the rows.
-use Rattle.std.proofs.Common.{◌≡◌, ◌⊎◌, ℕ, ◌+◌, ◌<◌, true, false, List, [], ◌∷◌, Option, Some, None, Ok, Err, refl, inl, inr}
+use Rattle.std.proofs.Common.{◌≡◌, ◌⊎◌, ℕ, ◌+◌, ◌<◌, true, false, List, [], ◌∷◌, Some, None, Ok, Err, refl, inl, inr}
 use Rattle.std.proofs.Common.{arith, sym, ◌∙◌, ap}
 use Rattle.std.specs.Prelude.{codes}
 use Rattle.std.specs.Str.{bytes_eq}
 use Rattle.book.specs.declared.standing.Standing.{Ghosts}
-use Rattle.der.specs.Node.{Node}
-use Rattle.book.specs.History.{Reserved, Granted, Revoked, Installed, InstalledValue, History}
-use Rattle.book.specs.History.{DepositValue}
+use Rattle.book.specs.History.{Reserved, Granted, Revoked, History, DepositValue}
 use Rattle.book.specs.Readers.{Account, Group}
 use Rattle.book.specs.Rights.{ListedValue}
 use Rattle.cms.specs.declared.signer.SignerFault.TheVariants as signer
 use Rattle.desk.specs.Agreement.{seen_as, Agree}
-use Rattle.desk.specs.Command.{Setting, PendingValue, Rejected, Refused, Shown, Show, ListAll, Grant, Revoke, Succeed}
-use Rattle.desk.specs.Command.{Done, setting_after}
-use Rattle.desk.specs.Succession.{installed_by, IsInForce, NamesLatest}
-use Rattle.desk.specs.Effects.{only, accepted}
+use Rattle.desk.specs.Command.{Setting, PendingValue, Rejected, Refused, Shown, Show, ListAll, Grant, Revoke, Done}
+use Rattle.desk.specs.Effects.{only}
 use Rattle.desk.specs.Fit.{IsFit}
 use Rattle.desk.specs.Laws.{IsFinished}
 use Rattle.desk.specs.Outcome.{Wanting, Broken, all_fine}
@@ -28,8 +24,7 @@ use Rattle.desk.specs.Steps.{HasEffect}
 use Rattle.desk.specs.Viewers.{viewer_in}
 use Rattle.desk.specs.declared.fault.Fault.TheVariants as fault
 use Rattle.tsp.specs.declared.rule.Rule.TheVariants.{System}
-use Rattle.desk.proofs.Rows.{alice, carol, file, grouped, setting, reserved, history, deposit, deposited, identity}
-use Rattle.desk.proofs.Rows.{installed, chained, chained_force}
+use Rattle.desk.proofs.Rows.{alice, carol, file, grouped, setting, reserved, history, deposit, deposited}
 
 -- the text of a void stamp was given out, under its number
 void_given : given_by (Some []) (Rejected System) (Reserved (reserved 3 0) ∷ []) ≡ 3 ∷ []
@@ -184,27 +179,3 @@ another_number p reply h = let same = h.number in absurd (omega arith)
 -- a policy file without an accuracy is proper
 improper : (s : Setting) → s.file.counter.accuracy_us ≡ 0 → IsProper s → ⊥
 improper s none proper = let some = proper.some_accuracy in absurd (omega arith)
-
--- the authority is named though no identity was installed
-unknown : (name : Node) → NamesLatest (Some name) history → ⊥
-unknown name h = cc
-
--- an identity that was installed last is another one than that in force
-abbrev chain_in : Option InstalledValue → List ℕ
-chain_in None = []
-chain_in (Some i) = i.chain
-
-out_of_force : IsInForce chained_force installed → ⊥
-out_of_force h = let same : identity.chain ≡ chained.chain = ap chain_in h in cc
-
--- an opening installs the same identity again
-again : HasEffect setting (Succeed setting.in_force) (all_fine (Ok [])) installed
-    (accepted (Installed (installed_by identity))) → ⊥
-again h = let adds : Installed (installed_by identity) ∷ [] ≡ [] = ap (λ e. e.adds) h in cc
-
--- a succession that is refused has brought what it was to bring
-brought_though : setting_after setting (Succeed chained_force) (Refused fault.Store) ≡ record {
-  file = file;
-  in_force = chained_force;
-} → ⊥
-brought_though e = let same : identity.chain ≡ chained.chain = ap (λ s. s.in_force.identity.chain) e in cc

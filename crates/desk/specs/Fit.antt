@@ -5,7 +5,7 @@ use Rattle.cms.specs.declared.signer.SignerFault.{SignerFault}
 use Rattle.cms.specs.declared.signer.SignerFault.TheVariants as signer
 use Rattle.desk.specs.Outcome.{Call, Fine, Wanting, Broken, Outcome, all_fine}
 use Rattle.desk.specs.Command.{Command, Stamp, Begin, Finish, Abandon, Deposit, Show, Token, ListAll, Grant, Revoke}
-use Rattle.desk.specs.Command.{Calibrate, Hold, Succeed}
+use Rattle.desk.specs.Command.{Calibrate, Hold}
 
 -- the outcome with the calls that the command makes, and with all others fine
 abbrev pub made_by : Command → Outcome → Outcome
@@ -38,7 +38,6 @@ made_by (Revoke a n reader) o = record (all_fine (Ok [])) {
 }
 made_by (Calibrate c) o = record (all_fine (Ok [])) { adding = o.adding }
 made_by (Hold h) o = record (all_fine (Ok [])) { adding = o.adding }
-made_by (Succeed next) o = record (all_fine (Ok [])) { looking = o.looking; adding = o.adding }
 
 -- a call that wasn't refused for a cause that is counted
 abbrev pub IsUncounted : Call → Type 0

@@ -12,30 +12,28 @@ use Rattle.cms.specs.SignedData.{attribute_text, token}
 use Rattle.cms.specs.declared.signer.SignerFault.{SignerFault}
 use Rattle.book.specs.History.{Entry, Reserved, Deposited, History, ReservationValue, stamps, deposits, holds}
 use Rattle.book.specs.History.{latest_calibration, greatest_serial, deposit_at}
-use Rattle.book.specs.Identities.{latest_identity, identity_of}
 use Rattle.book.specs.Readers.{Viewer}
 use Rattle.book.specs.Sound.{greatest_number}
 use Rattle.book.specs.Values.{deposit_of}
 use Rattle.desk.specs.Agreement.{seen_at, Agree, IsCommandOf}
 use Rattle.desk.specs.Outcome.{Outcome, Cause, cause_of, cause_of_signing}
-use Rattle.desk.specs.Findings.{StampPlan, IsAllowed, HoldsAt}
+use Rattle.desk.specs.Findings.{PlanValue, IsAllowed, HoldsAt}
 use Rattle.desk.specs.Command.{Setting, PendingValue, Command, Stamp, Begin, Finish, Abandon, Deposit, Show, Token}
-use Rattle.desk.specs.Command.{ListAll, Grant, Revoke, Calibrate, Hold, Succeed, Answer, Stamped, Rejected, Begun}
-use Rattle.desk.specs.Command.{Kept, Refused, setting_after}
+use Rattle.desk.specs.Command.{ListAll, Grant, Revoke, Calibrate, Hold, Answer, Stamped, Rejected, Begun, Kept}
+use Rattle.desk.specs.Command.{Refused}
 use Rattle.desk.specs.Texts.{tst_of, reservation_of, pending_of, token_with, gives_certificate, request_for, octets_for}
 use Rattle.desk.specs.Effects.{Effect, next_reservation, name_of}
 use Rattle.desk.specs.declared.fault.Fault.TheVariants as fault
 use Rattle.desk.specs.Steps.{HasEffect, IsMet}
 use Rattle.desk.specs.Runs.{Told, after, cut, Runs}
 use Rattle.desk.specs.Serials.{serials_of}
-use Rattle.desk.specs.Succession.{installed_by, IsInForce}
 use Rattle.desk.specs.Viewers.{viewer_in}
 
 -- A grant: no rule of 1 to 11 fails, the serial number is the greatest plus one, and the reply has the token over the
 -- TSTInfo of the plan under that number, with the signature that the signer answered.
 pub record IsGrant (s : Setting) (account : Option AccountValue) (reading : ℤ) (octets : List ℕ) (o : Outcome)
     (b : History) (serial : ℕ) (reply : List ℕ) : Type 0 where
-  pub plan : StampPlan
+  pub plan : PlanValue
   pub allowed : IsAllowed s.file account reading octets b plan
   pub number : serial ≡ greatest_serial b + 1
   pub signature : List ℕ
@@ -64,13 +62,13 @@ IsRejection s account reading octets o b rule = IsFirstFailing (HoldsAt s.file a
 -- the plan and the setting.
 pub record IsBegunOf (s : Setting) (account : Option AccountValue) (reading : ℤ) (octets : List ℕ) (b : History)
     (p : PendingValue) : Type 0 where
-  pub plan : StampPlan
+  pub plan : PlanValue
   pub allowed : IsAllowed s.file account reading octets b plan
   pub number : p.serial ≡ greatest_serial b + 1
-  pub tst : p.tst ≡ tst_of s plan p.serial
+  pub tst : p.tst ≡ tst_of s.file plan p.serial
   pub certificate : p.certificate ≡ plan.request.cert_req
-  pub identity : p.identity ≡ s.in_force.identity
-  pub algorithm : p.algorithm ≡ s.in_force.algorithm
+  pub identity : p.identity ≡ s.identity
+  pub algorithm : p.algorithm ≡ s.algorithm
 
 -- What `Finish` grants: the token over the TSTInfo that waited, under its serial number, with the signature that was
 -- handed in, and with the identity and algorithm with which it was begun.
@@ -83,15 +81,15 @@ pub record IsFinished (p : PendingValue) (signature : List ℕ) (serial : ℕ) (
 -- exactly where the owner's default policy gives it out.
 pub record IsDeposited (s : Setting) (a : AccountValue) (reading : ℤ) (reference bytes : List ℕ) (o : Outcome)
     (b : History) (e : Effect) (number : ℕ) : Type 0 where
-  pub plan : StampPlan
+  pub plan : PlanValue
   pub allowed : IsAllowed s.file (Some a) reading (octets_for s.file a bytes) b plan
   pub request : plan.request ≡ request_for s.file a bytes
   pub next : number ≡ greatest_serial b + 1
   pub signature : List ℕ
   pub signed : o.signing ≡ Ok signature
-  pub adds : e.adds ≡ Deposited (deposit_of number a.name reference bytes) (token s.in_force.identity s.in_force.algorithm
-      (tst_of s plan number) signature (gives_certificate s.file a))
-      ∷ Reserved (reservation_of s a.name plan (octets_for s.file a bytes) number) ∷ []
+  pub adds : e.adds ≡ Deposited (deposit_of number a.name reference bytes) (token s.identity s.algorithm
+      (tst_of s.file plan number) signature (gives_certificate s.file a))
+      ∷ Reserved (reservation_of s.file a.name plan (octets_for s.file a bytes) number) ∷ []
 
 -- Of grants, rejections and deposits: each is of its plan, or by the first rule that fails.
 abbrev pub IsOfPlan : Setting → Command → Outcome → History → Effect → Answer → Type 0
@@ -119,10 +117,7 @@ pub record IsReservedText (s : Setting) (e : Effect) (b : History) (text : List 
   -- no other is reserved by the command
   pub alone : serials_of e.adds ≡ reservation.serial ∷ []
   pub above : greatest_serial b < reservation.serial
-  pub text_is : text ≡ attribute_text s.in_force.identity reservation.tst
-  -- that identity is then the one of the serial number, where it was installed last before
-  pub signer : IsInForce s.in_force b
-      → identity_of reservation.serial (e.adds ++ b) ≡ Some (installed_by s.in_force.identity)
+  pub text_is : text ≡ attribute_text s.identity reservation.tst
 
 -- What waits for its signature: that reservation's, with its serial number and TSTInfo.
 pub record IsPendingOf (s : Setting) (e : Effect) (b : History) (p : PendingValue) : Type 0 where
@@ -130,21 +125,19 @@ pub record IsPendingOf (s : Setting) (e : Effect) (b : History) (p : PendingValu
   pub number : p.serial ≡ of_reservation.reservation.serial
   pub tst : p.tst ≡ of_reservation.reservation.tst
 
--- a run that goes to its end, or is cut in one of its commands by a stop, after which no desk is open
-abbrev pub Continues : Setting → List Command → List Outcome → History → List Told → History → Option Setting
-    → List Told → Type 0
-Continues s [] [] b w b' x' w' = (b' ≡ b) × (x' ≡ Some s) × (w' ≡ w)
-Continues s (c ∷ cs) (o ∷ os) b w b' x' w' =
+-- a run that goes to its end, or is cut in one of its commands by a stop
+abbrev pub Continues : Setting → List Command → List Outcome → History → List Told → History → List Told → Type 0
+Continues s [] [] b w b' w' = (b' ≡ b) × (w' ≡ w)
+Continues s (c ∷ cs) (o ∷ os) b w b' w' =
     (e : Effect) × HasEffect s c o b e
-    × (((k : ℕ) × (b' ≡ cut k e b) × (x' ≡ None) × (w' ≡ w)) ⊎ Continues (setting_after s c e.says) cs os (after e b)
-    (record { command = c; answer = e.says } ∷ w) b' x' w')
-Continues s [] (o ∷ os) b w b' x' w' = ⊥
-Continues s (c ∷ cs) [] b w b' x' w' = ⊥
+    × (((k : ℕ) × (b' ≡ cut k e b) × (w' ≡ w)) ⊎ Continues s cs os (after e b)
+    (record { command = c; answer = e.says } ∷ w) b' w')
+Continues s [] (o ∷ os) b w b' w' = ⊥
+Continues s (c ∷ cs) [] b w b' w' = ⊥
 
 -- what the caller of each command sees to, of the history at its moment
 abbrev pub AreMet : Setting → List Command → List Outcome → History → Type 0
-AreMet s (c ∷ cs) (o ∷ os) b =
-    IsMet c b × ((e : Effect) → HasEffect s c o b e → AreMet (setting_after s c e.says) cs os (after e b))
+AreMet s (c ∷ cs) (o ∷ os) b = IsMet c b × ((e : Effect) → HasEffect s c o b e → AreMet s cs os (after e b))
 AreMet s [] os b = Unit {0}
 AreMet s (c ∷ cs) [] b = Unit {0}
 
@@ -177,7 +170,6 @@ IsCommandOfOther account (Grant a n reader) = bytes_eq a.name account ≡ false
 IsCommandOfOther account (Revoke a n reader) = bytes_eq a.name account ≡ false
 IsCommandOfOther account (Calibrate c) = ⊥
 IsCommandOfOther account (Hold h) = ⊥
-IsCommandOfOther account (Succeed next) = ⊥
 
 -- the command gives or takes a right to the deposit with this number
 abbrev pub Concerns : ℕ → Command → Type 0
@@ -195,4 +187,3 @@ pub record StaysFor (viewer : Viewer) (concerned : ℕ → Type 0) (b c : Histor
   pub seen : (number : ℕ) → (concerned number → ⊥) → seen_at viewer number b ≡ seen_at viewer number c
   pub calibration : latest_calibration b ≡ latest_calibration c
   pub holding : holds b ≡ holds c
-  pub identity : latest_identity b ≡ latest_identity c

@@ -1,30 +1,26 @@
 -- Runs of the machine over lists of commands, and journeys through openings and stops.
-use Rattle.std.specs.Prelude.{◌≡◌, ℕ, ◌≤◌, ◌++◌, ◌+◌, false, List, [], ◌∷◌, drop, length, Option, Some, None, Result}
+use Rattle.std.specs.Prelude.{◌≡◌, ℕ, ◌≤◌, ◌++◌, List, [], ◌∷◌, drop, Some, Result}
 use Rattle.std.specs.List.{AllByRecursion, Contains}
 use Rattle.der.specs.ObjectIdentifier.{IsOid}
 use Rattle.cms.specs.declared.signer.SignerFault.{SignerFault}
 use Rattle.decide.specs.Clock.{Follows}
-use Rattle.book.specs.History.{Entry, Reserved, Sealed, Deposited, Calibrated, Held, Granted, Revoked, Installed}
-use Rattle.book.specs.History.{History, calibrations, holds, last_gen_time, token_of, reservation_at, deposit_at, ReservationValue}
+use Rattle.book.specs.History.{Entry, Reserved, Sealed, Deposited, Calibrated, Held, Granted, Revoked, History}
+use Rattle.book.specs.History.{last_gen_time, token_of, reservation_at, deposit_at, ReservationValue}
 use Rattle.book.specs.Sound.{Along}
-use Rattle.book.specs.Identities.{latest_identity}
 use Rattle.book.specs.Values.{deposit_of}
 use Rattle.desk.specs.Content.{IsForRequest, IsSoundInFull}
 use Rattle.desk.specs.Outcome.{Outcome}
-use Rattle.desk.specs.Command.{Setting, PendingValue, Command, Deposit, Grant, Revoke, Calibrate, Hold, Succeed}
-use Rattle.desk.specs.Command.{Answer, Stamped, Begun, Kept, Done, Numbered, setting_after}
+use Rattle.desk.specs.Command.{Setting, PendingValue, Command, Deposit, Grant, Revoke, Calibrate, Hold, Answer, Stamped}
+use Rattle.desk.specs.Command.{Begun, Kept, Done}
 use Rattle.tsp.specs.Granted.{granted_octets}
 use Rattle.desk.specs.Effects.{Effect}
 use Rattle.desk.specs.Steps.{HasEffect, IsMet, Moves}
-use Rattle.desk.specs.Succession.{installed_by, HasSubject}
 
--- a policy file's record with an accuracy, in microseconds, and object identifiers as such files have, and an identity
--- that was read
+-- a policy file's record with an accuracy, in microseconds, and object identifiers as such files have
 pub record IsProper (s : Setting) : Type 0 where
   pub some_accuracy : 1 ≤ s.file.counter.accuracy_us
   pub most_accuracy : s.file.counter.accuracy_us ≤ 1_000_000
   pub policies : AllByRecursion (λ p. IsOid p.oid) s.file.policies
-  pub identity : HasSubject s.in_force.identity
 
 -- the history after a command
 abbrev pub after : Effect → History → History
@@ -34,14 +30,13 @@ after e b = e.adds ++ b
 abbrev pub cut : ℕ → Effect → History → History
 cut k e b = drop k e.adds ++ b
 
--- Commands one after the other, with their outcomes and answers, and how the signer moves: each is done by the setting
--- that the one before it left.
+-- commands one after the other, with their outcomes and answers, and how the signer moves
 abbrev pub Runs : {S : Type 0} → (S → List ℕ → Result (List ℕ) SignerFault → S → Type 0)
     → Setting → List Command → List Outcome → History → S → List Answer → History → S → Type 0
 Runs signs s [] [] b x [] b' x' = (b' ≡ b) × (x' ≡ x)
 Runs {S} signs s (c ∷ cs) (o ∷ os) b x (answer ∷ answers) b' x' =
     (e : Effect) × (y : S) × (HasEffect s c o b e × Moves signs e.asks o.signing x y × (answer ≡ e.says)
-    × Runs signs (setting_after s c e.says) cs os (after e b) y answers b' x')
+    × Runs signs s cs os (after e b) y answers b' x')
 Runs signs s [] [] b x (answer ∷ answers) b' x' = ⊥
 Runs signs s [] (o ∷ os) b x answers b' x' = ⊥
 Runs signs s (c ∷ cs) [] b x answers b' x' = ⊥
@@ -52,45 +47,16 @@ pub record Told : Type 0 where
   pub command : Command
   pub answer : Answer
 
--- a calibration or a hold
-abbrev pub IsEntering : Command → Type 0
-IsEntering (Calibrate c) = Unit {0}
-IsEntering (Hold h) = Unit {0}
-IsEntering _ = ⊥
-
--- A journey: openings, whole commands, and both cut by a stop, each from the history that was left. It tells by what
--- setting a desk is open, if one is, and what was answered, the newest first.
-pub data Journey : History → Option Setting → List Told → Type 0 where
-  begins : Journey [] None []
-  -- a desk is opened, by a policy file, an identity and an algorithm of its own: what is in force is brought so, as a
-  -- succession brings it
-  opens : {b : History} {x : Option Setting} {w : List Told} (s : Setting) (o : Outcome) (e : Effect)
-      → IsProper s → HasEffect s (Succeed s.in_force) o b e → e.says ≡ Done → Journey b x w
-      → Journey (after e b) (Some s) w
-  -- so it is by a program whose schema kept no identities, before any was installed, and whose TSTInfos named none
-  opens_older : {b : History} {x : Option Setting} {w : List Told} (s : Setting) → IsProper s
-      → latest_identity b ≡ None → s.file.counter.tsa_name ≡ false → Journey b x w → Journey b (Some s) w
-  -- an opening is refused, or cut by a stop
-  shuts : {b : History} {x : Option Setting} {w : List Told} (s : Setting) (o : Outcome) (e : Effect) (k : ℕ)
-      → IsProper s → HasEffect s (Succeed s.in_force) o b e → Journey b x w
-      → Journey (cut k e b) None w
-  -- No desk is open: its store may be closed, and taken to a newer schema, also where a stop cuts that, which adds
-  -- nothing.
-  rests : {b : History} {x : Option Setting} {w : List Told} → Journey b x w → Journey b None w
-  -- A calibration or a hold is added by the store alone, where no desk is open; whole, or cut by a stop. No setting
-  -- enters its effect.
-  enters : {b : History} {w : List Told} (s : Setting) (c : Command) (o : Outcome) (e : Effect)
-      → IsEntering c → IsMet c b → HasEffect s c o b e → Journey b None w
-      → Journey (after e b) None (record { command = c; answer = e.says } ∷ w)
-  breaks : {b : History} {w : List Told} (s : Setting) (c : Command) (o : Outcome) (e : Effect) (k : ℕ)
-      → IsEntering c → IsMet c b → HasEffect s c o b e → Journey b None w
-      → Journey (cut k e b) None w
+-- A journey: whole commands, and commands cut by a stop, each from the history that was left, and each with a policy
+-- file, an identity and an algorithm of its own. What was answered is kept, the newest first.
+pub data Journey : History → List Told → Type 0 where
+  begins : Journey [] []
   goes : {b : History} {w : List Told} (s : Setting) (c : Command) (o : Outcome) (e : Effect)
-      → IsMet c b → HasEffect s c o b e → Journey b (Some s) w
-      → Journey (after e b) (Some (setting_after s c e.says)) (record { command = c; answer = e.says } ∷ w)
+      → IsProper s → IsMet c b → HasEffect s c o b e → Journey b w
+      → Journey (after e b) (record { command = c; answer = e.says } ∷ w)
   stops : {b : History} {w : List Told} (s : Setting) (c : Command) (o : Outcome) (e : Effect) (k : ℕ)
-      → IsMet c b → HasEffect s c o b e → Journey b (Some s) w
-      → Journey (cut k e b) None w
+      → IsProper s → IsMet c b → HasEffect s c o b e → Journey b w
+      → Journey (cut k e b) w
 
 -- A reservation comes after those before it: its genTime never before the last one, and after it where its TSTInfo
 -- states ordering.
@@ -106,7 +72,6 @@ IsRising (Calibrated c) b = Unit {0}
 IsRising (Held h) b = Unit {0}
 IsRising (Granted number account) b = Unit {0}
 IsRising (Revoked number account) b = Unit {0}
-IsRising (Installed i) b = Unit {0}
 
 -- a token that was answered stands under its serial number
 abbrev pub IsSealedWith : ℕ → List ℕ → History → Type 0
@@ -116,13 +81,6 @@ IsSealedWith serial octets b = (token : List ℕ) × (octets ≡ granted_octets 
 abbrev pub IsReservedFor : PendingValue → History → Type 0
 IsReservedFor p b = (r : ReservationValue) × (reservation_at p.serial b ≡ Some r) × (r.tst ≡ p.tst)
 
--- of a list with the newest first, the one with that number: they count 1, 2, 3 and so on from the oldest
-pub record IsNumbered {X : Type 0} (number : ℕ) (x : X) (xs : List X) : Type 0 where
-  pub newer : List X
-  pub older : List X
-  pub is : xs ≡ newer ++ (x ∷ older)
-  pub counts : number ≡ length older + 1
-
 -- what an answer acknowledged still stands
 abbrev pub IsKept : History → Command → Answer → Type 0
 IsKept b c (Stamped serial octets) = IsSealedWith serial octets b
@@ -131,15 +89,13 @@ IsKept b (Deposit a reading reference bytes) (Kept number new) = deposit_at numb
     ≡ Some (deposit_of number a.name reference bytes)
 IsKept b (Grant a n reader) Done = Contains b (Granted n reader)
 IsKept b (Revoke a n reader) Done = Contains b (Revoked n reader)
-IsKept b (Calibrate c) (Numbered number) = IsNumbered number c (calibrations b)
-IsKept b (Hold h) (Numbered number) = IsNumbered number h (holds b)
-IsKept b (Succeed next) Done = Contains b (Installed (installed_by next.identity))
+IsKept b (Calibrate c) Done = Contains b (Calibrated c)
+IsKept b (Hold h) Done = Contains b (Held h)
 IsKept b c answer = Unit {0}
 
 -- What holds of the history of each journey.
 pub record HasProperties (b : History) (w : List Told) : Type 0 where
-  -- Serial numbers rise; each deposit is sealed, its owner's, and its stamp has the digest of its octets; each TSTInfo
-  -- names nobody, or the identity of its serial number.
+  -- Serial numbers rise; each deposit is sealed, its owner's, and its stamp has the digest of its octets.
   pub sound : IsSoundInFull b
   pub rising : Along IsRising b
   pub kept : AllByRecursion (λ t. IsKept b t.command t.answer) w

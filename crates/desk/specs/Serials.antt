@@ -3,8 +3,8 @@
 use Rattle.std.specs.Prelude.{ℕ, ◌<◌, ◌≤◌, List, [], ◌++◌, ◌∷◌, map, drop, Option, Some, None}
 use Rattle.std.specs.List.{AllByRecursion}
 use Rattle.book.specs.History.{Entry, History, reservations, greatest_serial}
-use Rattle.desk.specs.Command.{Setting, Answer, Begun}
-use Rattle.desk.specs.Runs.{Told, Journey, begins, opens, opens_older, shuts, rests, enters, breaks, goes, stops}
+use Rattle.desk.specs.Command.{Answer, Begun}
+use Rattle.desk.specs.Runs.{Told, Journey, begins, goes, stops}
 
 -- the serial numbers that entries reserve, the newest first
 abbrev pub serials_of : List Entry → List ℕ
@@ -19,16 +19,10 @@ given_by None answer committed = []
 
 -- The same along a journey, the newest first. Of a command that a stop cut, what it had committed before the stop
 -- counts.
-abbrev pub given_along : {b : History} {x : Option Setting} {w : List Told} → Journey b x w → List ℕ
+abbrev pub given_along : {b : History} {w : List Told} → Journey b w → List ℕ
 given_along begins = []
-given_along (opens s o e proper h done j) = given_along j
-given_along (opens_older s proper none unnamed j) = given_along j
-given_along (shuts s o e k proper h j) = given_along j
-given_along (rests j) = given_along j
-given_along (enters s c o e entering met h j) = given_along j
-given_along (breaks s c o e k entering met h j) = given_along j
-given_along (goes s c o e met h j) = given_by e.asks e.says e.adds ++ given_along j
-given_along (stops s c o e k met h j) = given_by e.asks e.says (drop k e.adds) ++ given_along j
+given_along (goes s c o e proper met h j) = given_by e.asks e.says e.adds ++ given_along j
+given_along (stops s c o e k proper met h j) = given_by e.asks e.says (drop k e.adds) ++ given_along j
 
 -- each number is above all that come after it
 abbrev pub Falls : List ℕ → Type 0

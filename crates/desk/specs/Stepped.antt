@@ -1,33 +1,28 @@
 -- A call of the program is a step of the machine: what each call's contract says.
-use Rattle.std.specs.Prelude.{◌≡◌, ℕ, ◌≤◌, ◌⊎◌, true, List, [], ◌∷◌, ◌++◌, Option, None, Result, Ok, Err}
+use Rattle.std.specs.Prelude.{◌≡◌, ℕ, ◌≤◌, ◌⊎◌, true, List, [], ◌∷◌, ◌++◌, Option, None, Result, Err}
 use Rattle.book.specs.declared.standing.Standing.{Ghosts}
 use Rattle.cms.specs.Signer.{count_after}
 use Rattle.cms.specs.declared.signer.SignerFault.{SignerFault}
 use Rattle.cms.specs.declared.signer.SignerFault.TheVariants as signer
-use Rattle.book.specs.History.{Entry, Installed, History, greatest_serial, latest_calibration}
+use Rattle.book.specs.History.{Entry, History, greatest_serial, latest_calibration}
 use Rattle.book.specs.Sound.{greatest_number}
 use Rattle.book.specs.Stands.{Stands}
 use Rattle.desk.specs.Fit.{IsFit, IsUnbroken}
 use Rattle.desk.specs.Outcome.{Call, Fine, Broken, Outcome, faults_after}
-use Rattle.desk.specs.Command.{InForce, Setting, Command, Stamp, Begin, Deposit, Grant}
-use Rattle.desk.specs.Command.{Revoke, Calibrate, Hold, Succeed, Answer, Stamped, Rejected, Begun, Kept, Shown, Listed, Done, Numbered}
-use Rattle.desk.specs.Command.{Refused, setting_after}
+use Rattle.desk.specs.Command.{Setting, Command, Stamp, Begin, Deposit, Grant}
+use Rattle.desk.specs.Command.{Revoke, Calibrate, Hold, Answer, Stamped, Rejected, Begun, Kept, Shown, Listed, Done}
+use Rattle.desk.specs.Command.{Refused}
 use Rattle.desk.specs.declared.fault.Fault.{Fault}
 use Rattle.desk.specs.declared.fault.Fault.TheVariants as fault
 use Rattle.desk.specs.Effects.{Effect, is_backwards}
 use Rattle.desk.specs.Steps.{HasEffect, IsMet, Moves}
 use Rattle.desk.specs.Runs.{after}
 use Rattle.desk.specs.Promises.{KeepsPromises}
-use Rattle.desk.specs.Succession.{installed_by, IsInForce}
 
--- a desk: by what it answers, and its store
+-- a desk: with what it was opened, and its store
 pub record DeskValue (B : Type 0) : Type 0 where
   pub setting : Setting
   pub store : B
-
--- a desk of this setting, over this store
-abbrev pub desk_of : {B : Type 0} → Setting → B → DeskValue B
-desk_of s store = record { setting = s; store = store }
 
 -- the desk with another store
 abbrev pub with_store : {B : Type 0} → DeskValue B → B → DeskValue B
@@ -134,7 +129,6 @@ IsBlamed g c o old new (Kept number is_new) = Unit {0}
 IsBlamed g c o old new (Shown octets) = Unit {0}
 IsBlamed g c o old new (Listed rows) = Unit {0}
 IsBlamed g c o old new Done = Unit {0}
-IsBlamed g c o old new (Numbered number) = Unit {0}
 IsBlamed g c o old new (Refused f) = IsBlamedFor g c o old new f
 
 -- After a call that acknowledges what it committed, the store is open: a store whose connection is shut stands for
@@ -145,8 +139,8 @@ IsOpened g c (Begun p) new = g.is_open new
 IsOpened g c (Kept number true) new = g.is_open new
 IsOpened g (Grant a n reader) Done new = g.is_open new
 IsOpened g (Revoke a n reader) Done new = g.is_open new
-IsOpened g (Calibrate calibration) (Numbered number) new = g.is_open new
-IsOpened g (Hold h) (Numbered number) new = g.is_open new
+IsOpened g (Calibrate calibration) Done new = g.is_open new
+IsOpened g (Hold h) Done new = g.is_open new
 IsOpened g c answer new = Unit {0}
 
 -- A call is a step of the machine under an outcome, in which the calls that the command doesn't make are fine. The
@@ -174,26 +168,7 @@ pub record IsStepBy {B : Type 0} (g : Ghosts B) (t : SignerStep) (s : Setting) (
   pub promises : (honest : g.honest new) (b : History) (stands : Stands g b old) (met : IsMet c b)
       → KeepsPromises s c o b (step.steps honest b stands met).effect
 
--- A call of a desk is such a step, under some outcome, from the desk before it to the desk after it: the policy file
--- stays, and so does what is in force, unless it is succeeded.
-pub record IsStep {B : Type 0} (g : Ghosts B) (t : SignerStep) (c : Command) (old new : DeskValue B) (answer : Answer)
-    : Type 0 where
-  pub setting : new.setting ≡ setting_after old.setting c answer
-  pub outcome : Outcome
-  pub by : IsStepBy g t old.setting c outcome old.store new.store answer
-
--- What an opening by a setting answers: a desk of it, or a refusal, with the store handed back. What is in force is
--- brought as a succession brings it.
-abbrev pub HasOpened : {B : Type 0} → Ghosts B → Setting → B → Result (DeskValue B) (Fault × B) → Type 0
-HasOpened g s store (Ok desk) =
-    (desk.setting ≡ s) × IsStep g no_signer (Succeed s.in_force) (desk_of s store) desk Done
-HasOpened g s store (Err refusal) =
-    IsStep g no_signer (Succeed s.in_force) (desk_of s store) (desk_of s refusal.1) (Refused refusal.0)
-
--- From each history that the store stood for, it stands for one whose latest identity is the one in force: for that
--- history, or, open, for that with the identity installed.
-pub record StandsInForce {B : Type 0} (g : Ghosts B) (k : InForce) (b : History) (new : B) : Type 0 where
-  pub history : History
-  pub adds : (history ≡ b) ⊎ ((history ≡ Installed (installed_by k.identity) ∷ b) × g.is_open new)
-  pub stands : Stands g history new
-  pub in_force : IsInForce k history
+-- the same under some outcome
+abbrev pub IsStep : {B : Type 0} → Ghosts B → SignerStep → Setting → Command → B → B → Answer
+    → Type 0
+IsStep g t s c old new answer = (o : Outcome) × IsStepBy g t s c o old new answer

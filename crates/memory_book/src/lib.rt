@@ -4,7 +4,6 @@
 mod calls;
 mod copies;
 mod entry;
-mod identities;
 mod laws;
 mod listing;
 mod memory_book;

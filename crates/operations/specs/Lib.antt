@@ -3,9 +3,5 @@ pub mod Auditing
 pub mod Opening
 pub mod Exchanges
 pub mod Judged
-pub mod Machine
-pub mod OverFiles
-pub mod Reached
 pub mod Serving
 pub mod Signing
-pub mod Visits

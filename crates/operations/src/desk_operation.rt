@@ -1,29 +1,17 @@
 //! What is done at a desk over the database at a path.
-ghost use Rattle.std.specs.Prelude.{◌≡◌, ◌⊎◌, IfOk, IfErr, OnErr};
-ghost use Rattle.book.specs.declared.standing.Standing.{Ghosts};
-ghost use Rattle.cms.specs.declared.signer.Signer.{Ghosts as Signs};
+ghost use Rattle.std.specs.Prelude.{◌≡◌, IfOk, IfErr, OnErr};
 ghost use Rattle.policy.specs.Record.{PolicyValue};
 ghost use Rattle.policy.specs.View.{policy_view};
-ghost use Rattle.sqlite.specs.Files.{over_files};
-ghost use Rattle.store.specs.Opening.{image_at};
-ghost use Rattle.store.specs.Stands.{over_tables};
-ghost use Rattle.operations.specs.Opening.{IsStartingFault, IsUnready, IsUnreached};
-ghost use Rattle.operations.specs.Signing.{algorithm_of};
-ghost use Rattle.operations.specs.OverFiles.{IsVisitedOver};
-ghost use Rattle.operations.specs.Visits.{IsUnopened, IsVisited, Visit, setting_of, visit_of};
-ghost use Rattle.operations.specs.declared.fault.OperationFault.{OperationFault as SpecFault};
+ghost use Rattle.operations.specs.Opening.{IsStartingFault, IsUnreached};
 
 use crate::fault::OperationFault;
 use crate::opening::perform_at;
 use crate::operation::Operation;
-use crate::reached::HostSigner;
-use crate::signing::{Renewal, Signing};
+use crate::signing::{Renewal, Signing, reach, reach_again};
 use crate::terms::Terms;
 use book::Book;
 use cms::Signer;
 use desk::Desk;
-use sqlite::{FileFrom, Start};
-use sqlite_disk::Disk;
 
 /// What is done at a desk with a signer, over any book. Input and output are what it reads from and writes to; `()`
 /// where it does neither.
@@ -31,36 +19,19 @@ pub(crate) trait DeskOperation<I, O>: Drop {
     /// What it answers.
     type Answer;
 
-    /// What it needs besides, and gets before there is a desk.
-    type Means: Drop;
-
-    // how it can be refused what it needs
-    ghost lacks: { SpecFault → Type 0 };
-
     // by a policy, what input and output are before it and after it, and what it answers
     ghost answers: { Self → PolicyValue → I → I → O → O → Self.Answer → Type 0 };
-
-    // by what is known of a book and of a signer: how it moves desk and signer, and input and output, and what it
-    // answers
-    ghost moves: { (B X : Type 0) → Ghosts B → Signs X → Self → Visit I O B X → Self.Answer → Type 0 };
-
-    /// What it needs besides desk and signer.
-    fn prepare(&self, rt: &HostRuntime) -> Result<Self::Means, OperationFault>
-        ensures { IfErr result lacks };
 
     /// Does it.
     fn perform<B: Book + Drop, G: Signer>(
         self,
-        means: Self::Means,
         rt: &HostRuntime,
         desk: &mut Desk<'_, B>,
         signer: &mut G,
         input: &mut I,
         output: &mut O,
     ) -> Self::Answer
-        ensures answered { answers self desk.old.setting.file input.old input.new output.old output.new result }
-        ensures moved { moves B G B.Standing G.Signer self (visit_of input.old input.new output.old output.new desk.old
-            desk.new signer.old signer.new) result };
+        ensures { answers self desk.old.setting.file input.old input.new output.old output.new result };
 }
 
 /// What is done at a desk, by whom its tokens are signed, and by what requests are judged.
@@ -78,14 +49,9 @@ impl<I, O, T: DeskOperation<I, O>> Operation<I, O> for AtDesk<'_, T> {
     ghost answers = { λ work input input' output output' done. IfOk done (T.answers work.operation
         (policy_view work.terms.policy.now) input input' output output')
         × OnErr done ((input' ≡ input) × (output' ≡ output))
-        × IfErr done (λ fault. IsUnready fault ⊎ T.lacks fault) };
+        × IfErr done IsUnreached };
 
-    ghost moves = { λ B g work old new input input' output output' done.
-        IfOk done (λ answer. IsVisited g (setting_of work.terms) (algorithm_of work.signing)
-        ⟦<HostSigner<'static> as Signer>⟧.algorithm_octets old new (λ desk desk' signer signer'.
-        T.moves B _ g ⟦<HostSigner<'static> as Signer>⟧ work.operation
-        (visit_of input input' output output' desk desk' signer signer') answer))
-        × IfErr done (IsUnopened g (setting_of work.terms) old new) };
+    ghost moves = { λ _ _ _ _ _ _. Unit {0} };
 
     fn perform<B: Book + Drop>(
         self,
@@ -100,47 +66,58 @@ impl<I, O, T: DeskOperation<I, O>> Operation<I, O> for AtDesk<'_, T> {
             renewal,
             operation,
         } = self;
-        let (means, mut signer) = match ready(rt, &operation, signing, renewal) {
-            Ok(ready) => ready,
-            Err(fault) => return (book, Err(fault)),
-        };
-        let (policy, identity, algorithm) = (terms.policy, terms.identity, terms.algorithm);
-        match Desk::open(rt.alloc(), policy, identity, algorithm, book) {
-            Ok(desk) => {
-                let mut desk = desk;
-                let answer = operation.perform(means, rt, &mut desk, &mut signer, input, output);
-                (desk.into_store(), Ok(answer))
-            }
-            Err((fault, book)) => (book, Err(OperationFault::Desk(fault))),
-        }
+        let mut desk = Desk::new(
+            rt.alloc(),
+            terms.policy,
+            terms.identity,
+            terms.algorithm,
+            book,
+        );
+        let answer = perform_signed(rt, &mut desk, signing, renewal, operation, input, output);
+        (desk.into_store(), answer)
     }
 }
 
-/// Reaches who signs, and then gets what the operation needs besides.
-fn ready<'a, I, O, T: DeskOperation<I, O>>(
-    rt: &'a HostRuntime,
-    operation: &T,
-    signing: Signing<'a>,
+/// Does it at a desk, whoever signs. `Unreached` where the key holder can't be reached; nothing is done then.
+fn perform_signed<B: Book + Drop, I, O, T: DeskOperation<I, O>>(
+    rt: &HostRuntime,
+    desk: &mut Desk<'_, B>,
+    signing: Signing<'_>,
     renewal: Renewal,
-) -> Result<(T::Means, HostSigner<'a>), OperationFault>
-    ensures algorithm { IfOk result (λ ready. ⟦<HostSigner<'static> as Signer>⟧.algorithm_octets ready.1
-        ≡ algorithm_of signing.entry) }
-    ensures refusals { IfErr result (λ fault. IsUnreached fault ⊎ T.lacks fault) }
+    operation: T,
+    input: &mut I,
+    output: &mut O,
+) -> Result<T::Answer, OperationFault>
+    ensures answered { IfOk result (T.answers operation desk.old.setting.file input.old input.new output.old
+        output.new) }
+    ensures unread { OnErr result (input.new ≡ input.old) }
+    ensures unwritten { OnErr result (output.new ≡ output.old) }
+    ensures refusals { IfErr result IsUnreached }
 {
-    let signer = signing.reach(rt, renewal)?;
-    let means = operation.prepare(rt)?;
-    Ok((means, signer))
+    match signing {
+        Signing::Keyed(signer) => {
+            let mut signer = signer;
+            Ok(operation.perform(rt, desk, &mut signer, input, output))
+        }
+        Signing::Session { address, algorithm } => match renewal {
+            Renewal::Never => {
+                let mut signer = reach(rt, address, algorithm)?;
+                Ok(operation.perform(rt, desk, &mut signer, input, output))
+            }
+            Renewal::AfterLoss => {
+                let mut signer = reach_again(rt, address, algorithm)?;
+                Ok(operation.perform(rt, desk, &mut signer, input, output))
+            }
+        },
+    }
 }
 
 /// Does it at a desk over the history that the database at the path keeps, with the signer's answers. Refused with
 /// `Memory`, with `Database` where no file stands there, and with `NotOurs` where it isn't a database of the counter's;
-/// then with `Unreached` where the key holder can't be reached, and as what it needs besides. Last the identity is
-/// installed, unless it is the one that was installed last: refused with `Desk` where memory runs out, or the database
-/// refuses it. Nothing is done then.
-pub(crate) fn perform_at_desk<F: Start + Drop, I, O, T: DeskOperation<I, O>>(
+/// then with `Unreached` where the key holder can't be reached. Nothing is done then.
+pub(crate) fn perform_at_desk<I, O, T: DeskOperation<I, O>>(
     rt: &HostRuntime,
     path: &str,
-    start: F,
     terms: Terms<'_>,
     signing: Signing<'_>,
     renewal: Renewal,
@@ -150,15 +127,9 @@ pub(crate) fn perform_at_desk<F: Start + Drop, I, O, T: DeskOperation<I, O>>(
 ) -> Result<T::Answer, OperationFault>
     ensures answered { IfOk result (T.answers operation (policy_view terms.entry.policy.now) input.old input.new
         output.old output.new) }
-
-    // Whatever the files hold: it was done at a desk over the store that was opened over them.
-    ensures moved { IfOk result (λ answer. IsVisitedOver ⟦<FileFrom<F> as Disk>⟧ (image_at F.Start)
-        ⟦<HostSigner<'static> as Signer>⟧ (setting_of terms.entry) (algorithm_of signing.entry)
-        (λ desk desk' signer signer'. T.moves _ _ (over_tables over_files) ⟦<HostSigner<'static> as Signer>⟧ operation
-        (visit_of input.old input.new output.old output.new desk desk' signer signer') answer)) }
     ensures unread { OnErr result (input.new ≡ input.old) }
     ensures unwritten { OnErr result (output.new ≡ output.old) }
-    ensures refusals { IfErr result (λ fault. IsStartingFault fault ⊎ T.lacks fault) }
+    ensures refusals { IfErr result IsStartingFault }
 {
     let at_desk = AtDesk {
         terms,
@@ -166,5 +137,5 @@ pub(crate) fn perform_at_desk<F: Start + Drop, I, O, T: DeskOperation<I, O>>(
         renewal,
         operation,
     };
-    perform_at(rt, path, start, at_desk, input, output)?
+    perform_at(rt, path, at_desk, input, output)?
 }

@@ -1,10 +1,9 @@
 //! Who signs.
-ghost use Rattle.std.specs.Prelude.{◌≡◌, IfErr, IfOk};
+ghost use Rattle.std.specs.Prelude.{◌≡◌, IfErr};
 ghost use Rattle.operations.specs.Opening.{IsUnreached};
 ghost use Rattle.operations.specs.Signing.{algorithm_of};
 
 use crate::fault::OperationFault;
-use crate::reached::{HostSigner, ReachedSigner};
 use cms::{Algorithm, KeyedHash, Signer};
 use connections::{KeyHolderSigner, SIGNER_SECONDS, Session, connect_renewed, connect_signer};
 use std::io::Stderr;
@@ -25,16 +24,7 @@ pub enum Signing<'a> {
     },
 }
 
-/// Whether another session with a key holder is opened where one was lost.
-#[derive(Clone, Copy, Debug, PartialEq, Eq)]
-pub(crate) enum Renewal {
-    /// One session is kept to the end.
-    Never,
-    /// Another is opened when the next signature is asked for.
-    AfterLoss,
-}
-
-impl<'a> Signing<'a> {
+impl Signing<'_> {
     /// The algorithm of the signatures. Takes no memory.
     pub fn algorithm(&self) -> &Algorithm
         ensures { result.now ≡ algorithm_of self.now }
@@ -47,38 +37,24 @@ impl<'a> Signing<'a> {
             } => algorithm,
         }
     }
+}
 
-    /// Reaches who signs: by a connection to a key holder, and the stand-in as it is. `Unreached` where the key holder
-    /// can't be reached.
-    pub(crate) fn reach(
-        self,
-        rt: &'a HostRuntime,
-        renewal: Renewal,
-    ) -> Result<HostSigner<'a>, OperationFault>
-        ensures algorithm { IfOk result (λ signer. ⟦<HostSigner<'static> as Signer>⟧.algorithm_octets signer
-            ≡ algorithm_of self.entry) }
-        ensures refusals { IfErr result IsUnreached }
-    {
-        match self {
-            Signing::Keyed(signer) => Ok(ReachedSigner::Keyed(signer)),
-            Signing::Session { address, algorithm } => match renewal {
-                Renewal::Never => Ok(ReachedSigner::Session(reach_once(rt, address, algorithm)?)),
-                Renewal::AfterLoss => Ok(ReachedSigner::Renewed(reach_again(
-                    rt, address, algorithm,
-                )?)),
-            },
-        }
-    }
+/// Whether another session with a key holder is opened where one was lost.
+#[derive(Clone, Copy, Debug, PartialEq, Eq)]
+pub(crate) enum Renewal {
+    /// One session is kept to the end.
+    Never,
+    /// Another is opened when the next signature is asked for.
+    AfterLoss,
 }
 
 /// A session with the key holder. `Unreached` where there is none.
-fn reach_once<'a>(
+pub(crate) fn reach<'a>(
     rt: &'a HostRuntime,
     address: &str,
     algorithm: Algorithm,
 ) -> Result<Session<'a, HostRuntime>, OperationFault>
-    ensures algorithm { IfOk result (λ signer. signer.algorithm ≡ algorithm) }
-    ensures refusals { IfErr result IsUnreached }
+    ensures { IfErr result IsUnreached }
 {
     match connect_signer(rt, address, Duration::from_secs(SIGNER_SECONDS), algorithm) {
         Ok(signer) => Ok(signer),
@@ -87,13 +63,12 @@ fn reach_once<'a>(
 }
 
 /// Sessions with the key holder, of which standard error tells. `Unreached` where there is none.
-fn reach_again<'a>(
+pub(crate) fn reach_again<'a>(
     rt: &'a HostRuntime,
     address: &'a str,
     algorithm: Algorithm,
 ) -> Result<KeyHolderSigner<'a, HostRuntime, Stderr>, OperationFault>
-    ensures algorithm { IfOk result (λ signer. signer.algorithm ≡ algorithm) }
-    ensures refusals { IfErr result IsUnreached }
+    ensures { IfErr result IsUnreached }
 {
     let limit = Duration::from_secs(SIGNER_SECONDS);
     match connect_renewed(rt, address, limit, algorithm, rt.stderr()) {

@@ -13,7 +13,7 @@ pub struct Reader<'p> {
     pub setting: &'p Setting,
 }
 
-fn stamp<'p>(reader: Reader<'p>, words: &mut Words<'p>) -> Command<'p, 'p> {
+fn stamp<'p>(reader: Reader<'p>, words: &mut Words<'p>) -> Command<'p> {
     Command::Stamp {
         account: reader.setting.account(words.next()),
         reading: words.signed(),
@@ -21,7 +21,7 @@ fn stamp<'p>(reader: Reader<'p>, words: &mut Words<'p>) -> Command<'p, 'p> {
     }
 }
 
-fn deposit<'p>(reader: Reader<'p>, account: &'p Account, words: &mut Words<'p>) -> Command<'p, 'p> {
+fn deposit<'p>(reader: Reader<'p>, account: &'p Account, words: &mut Words<'p>) -> Command<'p> {
     Command::Deposit {
         account,
         reading: words.signed(),
@@ -30,11 +30,7 @@ fn deposit<'p>(reader: Reader<'p>, account: &'p Account, words: &mut Words<'p>) 
     }
 }
 
-fn of_account<'p>(
-    reader: Reader<'p>,
-    word: &str,
-    words: &mut Words<'p>,
-) -> Option<Command<'p, 'p>> {
+fn of_account<'p>(reader: Reader<'p>, word: &str, words: &mut Words<'p>) -> Option<Command<'p>> {
     let account = reader.setting.account(words.next())?;
     Some(match word {
         "deposit" => deposit(reader, account, words),
@@ -71,7 +67,7 @@ fn of_account<'p>(
     })
 }
 
-fn calibrate<'p>(words: &mut Words<'_>) -> Command<'p, 'p> {
+fn calibrate<'p>(words: &mut Words<'_>) -> Command<'p> {
     Command::Calibrate(Calibration {
         reading: words.signed(),
         offset: words.signed(),
@@ -79,18 +75,11 @@ fn calibrate<'p>(words: &mut Words<'_>) -> Command<'p, 'p> {
     })
 }
 
-fn hold<'p>(words: &mut Words<'_>) -> Command<'p, 'p> {
+fn hold<'p>(words: &mut Words<'_>) -> Command<'p> {
     Command::Hold(Hold {
         from: words.signed(),
         to: words.signed(),
     })
-}
-
-fn succeed<'p>(reader: Reader<'p>) -> Command<'p, 'p> {
-    Command::Succeed {
-        identity: &reader.setting.next,
-        algorithm: &reader.setting.algorithm,
-    }
 }
 
 /// The command that the words spell; none where they spell none, or name an account that no file has.
@@ -98,12 +87,11 @@ pub fn command_of<'p>(
     reader: Reader<'p>,
     word: &str,
     words: &mut Words<'p>,
-) -> Option<Command<'p, 'p>> {
+) -> Option<Command<'p>> {
     match word {
         "stamp" => Some(stamp(reader, words)),
         "calibrate" => Some(calibrate(words)),
         "hold" => Some(hold(words)),
-        "succeed" => Some(succeed(reader)),
         _ => of_account(reader, word, words),
     }
 }

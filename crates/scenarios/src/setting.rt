@@ -6,14 +6,12 @@ use counter_fakes::FailingSigner;
 use policy::{Account, EXAMPLE, Policy};
 use std::alloc::Global;
 
-/// The record of a policy file, that of another, the identities and the algorithm.
+/// The record of a policy file, that of another, the certificate and the algorithm.
 #[derive(Drop)]
 pub struct Setting {
     pub policy: Policy,
     pub other: Policy,
     pub identity: Identity,
-    /// Another identity, for successions.
-    pub next: Identity,
     pub algorithm: Algorithm,
 }
 
@@ -52,16 +50,8 @@ fn policy_by(alloc: Global, names: &Names, line: Option<&str>) -> Option<Policy>
     }
 }
 
-/// The identity of a certificate and a chain that a line may name; without it, of the certificate of all scenarios.
-fn identity_by(alloc: Global, names: &Names, line: Option<&str>) -> Option<Identity> {
-    let mut words = Words {
-        rest: line.unwrap_or("CERTIFICATE"),
-    };
-    let certificate = names.octets(words.next());
-    match words.next() {
-        "" => Identity::from_certificate(alloc, certificate).ok(),
-        chain => Identity::from_parts(alloc, certificate, names.octets(chain)).ok(),
-    }
+fn identity_of(alloc: Global, names: &Names) -> Option<Identity> {
+    Identity::from_certificate(alloc, names.octets("CERTIFICATE")).ok()
 }
 
 fn algorithm_of(alloc: Global, names: &Names) -> Option<Algorithm> {
@@ -73,8 +63,7 @@ pub fn setting_of(alloc: Global, names: &Names, scenario: &str) -> Option<Settin
     Some(Setting {
         policy: policy_by(alloc, names, rest_of(scenario, "policy"))?,
         other: policy_by(alloc, names, rest_of(scenario, "other"))?,
-        identity: identity_by(alloc, names, rest_of(scenario, "identity"))?,
-        next: identity_by(alloc, names, rest_of(scenario, "next"))?,
+        identity: identity_of(alloc, names)?,
         algorithm: algorithm_of(alloc, names)?,
     })
 }

@@ -1,10 +1,7 @@
 pub mod ExtractLemmas
 pub mod FrontLemmas
-pub mod HandledLemmas
 pub mod HeadLemmas
 pub mod Joined
-pub mod LineLemmas
 pub mod Operators
 pub mod Rows
 pub mod ServingLemmas
-pub mod TargetLemmas

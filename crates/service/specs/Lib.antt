@@ -4,9 +4,7 @@ pub mod Extracting
 pub mod Fields
 pub mod Forms
 pub mod Fronts
-pub mod Handling
 pub mod Heads
-pub mod Lines
 pub mod Numbers
 pub mod Reading
 pub mod Refusals

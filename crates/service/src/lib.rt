@@ -2,19 +2,17 @@
 #![tactic(auto)]
 
 mod answer;
-mod checks;
-mod context;
+mod demand;
 mod extent;
 mod extracting;
 mod fields;
 mod form;
 mod front;
-mod handlers;
 mod head;
-mod line;
 mod listing;
 mod numbers;
 mod octets;
+mod performing;
 mod reading;
 mod refusal;
 mod responding;

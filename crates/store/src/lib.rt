@@ -4,7 +4,6 @@
 mod cursors;
 mod deposits;
 mod finding;
-mod identities;
 mod laws;
 mod opening;
 mod path;

@@ -12,13 +12,19 @@ use crate::cursors::Cursors;
 use crate::deposits::{add_listed, asked_for};
 use crate::ranges::only_within;
 use book::{
-    Book, Calibration, DAY, Deposit, GREATEST_NUMBER, Hold, IdentityRow, Last, Listed, Reservation,
-    Stamp, StampedDeposit, Standing, StoreFault,
+    Book, Calibration, Deposit, Hold, Last, Listed, Reservation, Stamp, StampedDeposit, Standing,
+    StoreFault,
 };
 use sqlite::{Alter, Connection};
 use std::alloc::Global;
 use std::marker::Model;
 use tables::{Base, Change, LastStamp, LatestCalibration};
+
+/// The microseconds of a day.
+const DAY: u64 = 86_400_000_000;
+
+/// The greatest serial number, 2^63 - 1.
+pub(crate) const GREATEST: u64 = 9_223_372_036_854_775_807;
 
 /// The history of what the counter accepted, kept in tables. Each change is one commit.
 ///
@@ -67,7 +73,7 @@ impl<S: Alter + Drop> Book for Store<S> {
 
     fn count_of_day(&mut self, account: &str, day: u64) -> Result<u64, StoreFault> {
         // No genTime is on so late a day, and no column can have a later one.
-        let count = self.base.tally(account, day.min(GREATEST_NUMBER))?;
+        let count = self.base.tally(account, day.min(GREATEST))?;
         Ok(count.unwrap_or(0))
     }
 
@@ -83,7 +89,7 @@ impl<S: Alter + Drop> Book for Store<S> {
 
     fn reserve(&mut self, reservation: &Reservation<'_>) -> Result<(), StoreFault> {
         let last = self.last()?;
-        if last.serial == GREATEST_NUMBER {
+        if last.serial == GREATEST {
             return Err(StoreFault::Full);
         }
         self.base.commit(&Change::Reserve {
@@ -197,7 +203,7 @@ impl<S: Alter + Drop> Book for Store<S> {
         Ok(())
     }
 
-    fn calibrate(&mut self, calibration: &Calibration) -> Result<u64, StoreFault> {
+    fn calibrate(&mut self, calibration: &Calibration) -> Result<(), StoreFault> {
         let latest = self.base.latest_calibration()?;
         if is_backwards(calibration, latest) {
             return Err(StoreFault::Backwards);
@@ -207,46 +213,28 @@ impl<S: Alter + Drop> Book for Store<S> {
             offset,
             uncertainty,
         } = *calibration;
-        let n = next_calibration(latest);
         self.base.commit(&Change::Calibrate {
-            n,
+            n: next_calibration(latest),
             reading,
             offset,
             uncertainty,
         })?;
-        Ok(n)
+        Ok(())
     }
 
-    fn hold(&mut self, hold: &Hold) -> Result<u64, StoreFault> {
+    fn hold(&mut self, hold: &Hold) -> Result<(), StoreFault> {
         let greatest = self.base.greatest_hold()?;
         let Hold { from, to } = *hold;
-        let n = next_number(greatest);
-        self.base.commit(&Change::Hold { n, from, to })?;
-        Ok(n)
-    }
-
-    fn install(&mut self, certificate: &[u8], chain: &[u8]) -> Result<(), StoreFault> {
-        let last = self.last()?;
-        let number = self.next_identity()?;
-        self.base.commit(&Change::Install {
-            number,
-            after_serial: last.serial,
-            certificate,
-            chain,
+        self.base.commit(&Change::Hold {
+            n: next_number(greatest),
+            from,
+            to,
         })?;
         Ok(())
     }
 
-    fn identities(&mut self) -> Result<Vec<IdentityRow>, StoreFault> {
-        let mut identities = Vec::new(self.alloc);
-        while let Some(identity) = self.identity_after(identities.len() as u64)? {
-            identities.push(identity)?;
-        }
-        Ok(identities)
-    }
-
     fn next_stamp(&mut self, from: u64, to: u64) -> Result<Option<Stamp>, StoreFault> {
-        let to = to.min(GREATEST_NUMBER);
+        let to = to.min(GREATEST);
         if from > to {
             return Ok(None);
         }
@@ -316,7 +304,7 @@ fn next_calibration(latest: Option<LatestCalibration>) -> u64
     }
 }
 
-pub(crate) fn next_number(greatest: Option<u64>) -> u64
+fn next_number(greatest: Option<u64>) -> u64
     requires { ForSome greatest (λ n. n < 2 ^ 63) }
     ensures { result ≡ next_number greatest }
 {

@@ -14,7 +14,6 @@ mod FoundLemmas
 mod FrameLemmas
 mod FreeLemmas
 mod GroupReaderLemmas
-mod IdentityLemmas
 mod InsertLemmas
 mod ListLemmas
 mod LookupLemmas

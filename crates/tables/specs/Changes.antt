@@ -1,10 +1,10 @@
 -- The changes, each committed at once.
 use Rattle.std.specs.Prelude.{◌≡◌, ℕ, ◌<◌, ◌^◌, None}
 use Rattle.tables.specs.Tables.{Tables, with_stamp, with_token, with_deposit, with_calibration, with_hold, with_reader}
-use Rattle.tables.specs.Tables.{without_reader, with_group_reader, without_group_reader, with_identity}
+use Rattle.tables.specs.Tables.{without_reader, with_group_reader, without_group_reader}
 use Rattle.tables.specs.declared.change.Change.{Change}
 use Rattle.tables.specs.declared.change.Change.TheVariants.{Reserve, Seal, Deposit, Calibrate, Hold, Grant, Revoke}
-use Rattle.tables.specs.declared.change.Change.TheVariants.{GrantGroup, RevokeGroup, Install}
+use Rattle.tables.specs.declared.change.Change.TheVariants.{GrantGroup, RevokeGroup}
 use Rattle.tables.specs.declared.fault.TableFault.{TableFault}
 use Rattle.tables.specs.declared.fault.TableFault.TheVariants.{Memory, Database}
 use Rattle.book.specs.Fault.{next_count}
@@ -33,12 +33,6 @@ applied (Grant serial account) t = with_reader serial account.now t
 applied (Revoke serial account) t = without_reader serial account.now t
 applied (GrantGroup serial name) t = with_group_reader serial name.now t
 applied (RevokeGroup serial name) t = without_group_reader serial name.now t
-applied (Install number after_serial certificate chain) t = with_identity record {
-  number = number;
-  after_serial = after_serial;
-  certificate = certificate.now;
-  chain = chain.now;
-} t
 
 abbrev pub IsCounted : TableFault → ℕ → ℕ → Type 0
 IsCounted Memory old new = new ≡ old
@@ -56,4 +50,3 @@ FitsColumns (Grant serial account) = serial < 2 ^ 63
 FitsColumns (Revoke serial account) = serial < 2 ^ 63
 FitsColumns (GrantGroup serial name) = serial < 2 ^ 63
 FitsColumns (RevokeGroup serial name) = serial < 2 ^ 63
-FitsColumns (Install number after_serial certificate chain) = (number < 2 ^ 63) × (after_serial < 2 ^ 63)

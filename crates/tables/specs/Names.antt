@@ -9,4 +9,3 @@ pub data Name : Type 0 where
   Reader : Name
   Tally : Name
   GroupReader : Name
-  Identity : Name

@@ -59,11 +59,4 @@ pub enum Change<'a> {
         serial: u64,
         name: &'a str,
     },
-    /// An identity.
-    Install {
-        number: u64,
-        after_serial: u64,
-        certificate: &'a [u8],
-        chain: &'a [u8],
-    },
 }

@@ -12,7 +12,6 @@ ghost use Rattle.tables.specs.Steps.{with_stamp_alone, with_raised, with_first_t
 
 use crate::change::Change;
 use crate::group_readers::{drop_group_reader, put_group_reader};
-use crate::identities::put_identity;
 use sqlite::types::{ToSql, ValueRef};
 use sqlite::{Alter, Connection, Error, Transaction};
 
@@ -319,12 +318,6 @@ fn make<S: Alter>(tx: &mut Transaction<'_, S>, change: &Change<'_>) -> Result<us
             put_group_reader(tx, *serial, name)
         }
         Change::RevokeGroup { serial, name } => drop_group_reader(tx, *serial, name),
-        Change::Install {
-            number,
-            after_serial,
-            certificate,
-            chain,
-        } => put_identity(tx, *number, *after_serial, certificate, chain),
     }
 }
 
@@ -348,11 +341,6 @@ fn fits(change: &Change<'_>) -> bool
         | Change::RevokeGroup { serial, .. } => serial <= greatest,
         Change::Calibrate { n, uncertainty, .. } => n <= greatest && uncertainty <= greatest,
         Change::Hold { n, .. } => n <= greatest,
-        Change::Install {
-            number,
-            after_serial,
-            ..
-        } => number <= greatest && after_serial <= greatest,
     }
 }
 

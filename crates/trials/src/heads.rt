@@ -2,7 +2,7 @@
 use crate::answers::is_answer;
 use crate::changes::{Subject, Tally, try_all};
 use crate::fields::{text_octets, word};
-use crate::setting::{Setting, open_desk};
+use crate::setting::Setting;
 use cms::Signer;
 use desk::Desk;
 use service::{Served, serve_one};
@@ -64,7 +64,8 @@ pub fn try_over<B: Book + Drop, G: Signer + Drop>(
 ) -> anyhow::Result<Tally> {
     let (name, text) = word(line);
     let mut octets = text_octets(rt.alloc(), text)?;
-    let mut desk = open_desk(rt.alloc(), setting, book)?;
+    let (policy, identity) = (&setting.policy, &setting.identity);
+    let mut desk = Desk::new(rt.alloc(), policy, identity, &setting.algorithm, book);
     if !deposit(&mut desk, &mut signer) {
         anyhow::bail!("no deposit");
     }

@@ -41,6 +41,5 @@ tst_view tst = record {
   accuracy = tst.accuracy;
   ordering = tst.ordering;
   nonce = tst.nonce;
-  tsa = option_map value_view tst.tsa;
   extensions = tst.extensions;
 }

@@ -97,7 +97,6 @@ fn tst_of(
         plan.gen_time,
         counter.accuracy_us,
         counter.ordering,
-        None,
     );
     write_tst(alloc, &tst_info).ok()
 }

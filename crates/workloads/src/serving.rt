@@ -1,5 +1,5 @@
 //! Exchanges over loopback, with the database in memory.
-use crate::setting::{CERTIFICATE, Setting, setting_of};
+use crate::setting::{CERTIFICATE, setting_of};
 use cms::KeyedHash;
 use connections::{CONNECTION_SECONDS, Clock, Listening, SystemClock, serve_connections};
 use desk::Desk;
@@ -34,15 +34,13 @@ fn serve_at(rt: &HostRuntime, listener: &TcpListener, count: u32) -> anyhow::Res
     let mut signer = KeyedHash::new(alloc, b"k")?;
     let mut clock = SystemClock { machine: rt };
     let store = calibrated(alloc, clock.reading()?)?;
-    let Setting {
-        policy,
-        identity,
-        algorithm,
-    } = &setting;
-    let mut desk = match Desk::open(alloc, policy, identity, algorithm, store) {
-        Ok(desk) => desk,
-        Err((fault, _)) => return Err(fault.into()),
-    };
+    let mut desk = Desk::new(
+        alloc,
+        &setting.policy,
+        &setting.identity,
+        &setting.algorithm,
+        store,
+    );
     let limit = Duration::from_secs(CONNECTION_SECONDS);
     let mut listening = Listening::new(rt, alloc, listener)?;
     serve_connections(

@@ -39,6 +39,3 @@ returns-in_ok-drop_group_reader-in-GrantGroup-clause-carries g c =
 pub returns-in-RevokeGroup-clause-carries : goal.returns-in-RevokeGroup-clause-carries
 returns-in-RevokeGroup-clause-carries g c =
     rw c.in-RevokeGroup.is c.drop_group_reader-in-RevokeGroup.ensures.carries
-
-pub returns-in-Install-clause-carries : goal.returns-in-Install-clause-carries
-returns-in-Install-clause-carries g c = rw c.in-Install.is c.put_identity.ensures.carries

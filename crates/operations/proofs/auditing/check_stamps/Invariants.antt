@@ -1,0 +1,13 @@
+-- The stamps before those that are left are checked.
+use Rattle.std.proofs.Common.{◌≡◌, ◌+◌, ◌-◌}
+use Rattle.operations.proofs.Checking.{HasChecked}
+use Rattle.operations.proofs.auditing.check_stamps.Given as goal
+
+abbrev pub invariant-loop-stamp : goal.invariant-loop-stamp
+invariant-loop-stamp g l =
+    HasChecked g.B.Standing l.fn.book l.walk.book.now (g.E.Write.contents l.fn.errors) (g.E.Write.contents l.errors)
+    l.from l.to l.walk.from l.agree
+    × (l.walk.to ≡ l.to) × (l.walk.book.ghost_name ≡ l.initial.walk.book.ghost_name)
+
+abbrev pub decreases-loop-stamp : goal.decreases-loop-stamp
+decreases-loop-stamp g l = l.to + 1 - l.walk.from
