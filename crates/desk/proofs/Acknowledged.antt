@@ -1,25 +1,27 @@
 -- The readers after a journey are those by the rights that it acknowledged and that its stops left.
-use Rattle.std.proofs.Common.{◌≡◌, ℕ, ◌==◌, ◌&&◌, nat_le, cond, ℤ, Bool, true, false, List, [], ◌∷◌, ◌++◌, drop, length}
+use Rattle.std.proofs.Common.{zero, suc, ◌≡◌, ℕ, ◌+◌, ◌==◌, ◌&&◌, nat_le, cond, ℤ, Bool, true, false, List, [], ◌∷◌, ◌++◌, drop, length}
 use Rattle.std.proofs.Common.{Option, Some, None, refl, sym, ◌∙◌, ap, subst}
 use Rattle.policy.specs.Record.{AccountValue}
 use Rattle.book.specs.History.{Entry, Reserved, Sealed, Deposited, Calibrated, Held, Granted, Revoked, History}
-use Rattle.book.specs.History.{DepositValue, latest_calibration, token_of, deposit_under}
+use Rattle.book.specs.History.{Installed, InstalledValue, DepositValue, calibrations, holds, latest_calibration, token_of, deposit_under}
+use Rattle.book.specs.Identities.{latest_identity}
 use Rattle.book.specs.Readers.{Reader, is_same}
 use Rattle.book.specs.Rights.{is_reader, seen_by}
 use Rattle.book.proofs.Rights.{reader_after_grant, reader_after_revocation}
 use Rattle.desk.specs.Outcome.{Outcome, Cause, cause_of}
-use Rattle.desk.specs.Findings.{PlanValue, Finding, Fails, Unanswered, Allowed}
-use Rattle.desk.specs.Command.{Setting, Command, Stamp, Begin, Finish, Abandon, Deposit, Show, Token, ListAll, Grant}
-use Rattle.desk.specs.Command.{Revoke, Calibrate, Hold, Answer, Refused}
+use Rattle.desk.specs.Findings.{StampPlan, Finding, Fails, Unanswered, Allowed}
+use Rattle.desk.specs.Command.{InForce, Setting, Command, Stamp, Begin, Finish, Abandon, Deposit, Show, Token, ListAll, Grant}
+use Rattle.desk.specs.Command.{Revoke, Calibrate, Hold, Succeed, Answer, Done, Refused}
 use Rattle.desk.specs.Texts.{octets_for}
 use Rattle.desk.specs.Effects.{Effect, only, unless, Stamping, Unreserved, Void, Sealing, no_number, no_seal}
 use Rattle.desk.specs.Effects.{stamping_of, stamp_effect, stamp_found, begin_effect, begin_found, finish_effect}
 use Rattle.desk.specs.Effects.{deposit_effect, deposit_found, right_effect}
-use Rattle.desk.specs.Effects.{accepted, is_backwards, calibrate_effect, name_of}
+use Rattle.desk.specs.Effects.{accepted, numbered, succeed_effect, is_backwards, calibrate_effect, name_of}
+use Rattle.desk.specs.Succession.{installed_by, is_latest}
 use Rattle.desk.specs.declared.fault.Fault.{Fault}
 use Rattle.desk.specs.declared.fault.Fault.TheVariants as fault
 use Rattle.desk.specs.Steps.{KeepsByReference, KeepsOnceSearched, KeepsWithinSize, HasEffect}
-use Rattle.desk.specs.Runs.{Told, Journey, begins, goes, stops}
+use Rattle.desk.specs.Runs.{Told, Journey, begins, opens, opens_older, shuts, rests, enters, breaks, goes, stops}
 use Rattle.desk.specs.Readers.{where_done, rights_by, rights_along}
 use Rattle.desk.specs.Viewers.{viewer_in}
 use Rattle.desk.proofs.Branches.{if_has, unless_has, right_has}
@@ -37,6 +39,7 @@ same_rights (Sealed serial token ∷ xs) b h n reader e = same_rights xs b h n r
 same_rights (Deposited d token ∷ xs) b h n reader e = same_rights xs b h n reader e
 same_rights (Calibrated c ∷ xs) b h n reader e = same_rights xs b h n reader e
 same_rights (Held k ∷ xs) b h n reader e = same_rights xs b h n reader e
+same_rights (Installed i ∷ xs) b h n reader e = same_rights xs b h n reader e
 same_rights (Granted m x ∷ xs) b h n reader e =
     reader_after_grant n reader m x (xs ++ b)
     ∙ (ap (cond ((m == n) && is_same x reader) true) (same_rights xs b h n reader e)
@@ -65,7 +68,7 @@ stamp_found_silent s account octets o b (Unanswered cause) = λ c h n reader e. 
 stamp_found_silent s account octets o b (Allowed plan) =
     stamp_silent s (stamping_of s account plan octets o b (no_number o b))
 
-begin_silent : (s : Setting) (account octets : List ℕ) (plan : PlanValue) (b : History) (refused : Option Cause)
+begin_silent : (s : Setting) (account octets : List ℕ) (plan : StampPlan) (b : History) (refused : Option Cause)
     → IsSilent (begin_effect s account plan octets b refused)
 begin_silent s account octets plan b None c h n reader e = e
 begin_silent s account octets plan b (Some cause) c h n reader e = e
@@ -109,6 +112,12 @@ keeps_silent s a reading reference bytes o b true e is =
     unless_silent s a reading reference bytes o b (cause_of o.searching) e is
 keeps_silent s a reading reference bytes o b false e is =
     subst IsSilent (sym is) (λ c h n reader same. same)
+
+-- an identity that is installed is no right
+succeeded_silent : (o : Outcome) (i : InstalledValue) (latest : Bool) → IsSilent (succeed_effect o i latest)
+succeeded_silent o i true = λ b h n reader e. e
+succeeded_silent o i false =
+    unless_has IsSilent refused_silent (cause_of o.adding) (accepted (Installed i)) (λ b h n reader e. e)
 
 -- what adds nothing
 none_silent : (e : Effect) → e.adds ≡ [] → IsSilent e
@@ -159,16 +168,59 @@ step_rights s (Calibrate c) o b e h =
     let backwards : Effect = only (Refused fault.Store) in
     subst IsSilent (sym h)
     (unless_has IsSilent refused_silent (cause_of o.adding) (calibrate_effect c b)
-    (if_has IsSilent (is_backwards c (latest_calibration b)) backwards (accepted (Calibrated c))
+    (if_has IsSilent (is_backwards c (latest_calibration b)) backwards
+    (numbered (Calibrated c) (length (calibrations b) + 1))
     (refused_silent fault.Store) (λ k l n account same. same)))
 step_rights s (Hold k) o b e h =
     subst IsSilent (sym h)
-    (unless_has IsSilent refused_silent (cause_of o.adding) (accepted (Held k)) (λ c l n account same. same))
+    (unless_has IsSilent refused_silent (cause_of o.adding) (numbered (Held k) (length (holds b) + 1))
+    (λ c l n account same. same))
+step_rights s (Succeed next) o b e h =
+    let i = installed_by next.identity in
+    subst IsSilent (sym h)
+    (unless_has IsSilent refused_silent (cause_of o.looking) (succeed_effect o i (is_latest i (latest_identity b)))
+    (succeeded_silent o i (is_latest i (latest_identity b))))
 
-pub readers_along : (b : History) (w : List Told) (j : Journey b w) (n : ℕ) (reader : Reader)
+-- what a stop leaves of a succession changes no right either
+abbrev IsSilentCut : Effect → Type 0
+IsSilentCut e = (k : ℕ) → SameRights (drop k e.adds) []
+
+nothing_cut : (a : Answer) → IsSilentCut (only a)
+nothing_cut a zero b h n reader e = e
+nothing_cut a (suc k) b h n reader e = e
+
+added_cut : (i : InstalledValue) → IsSilentCut (accepted (Installed i))
+added_cut i zero b h n reader e = e
+added_cut i (suc zero) b h n reader e = e
+added_cut i (suc (suc k)) b h n reader e = e
+
+succeeded_cut : (o : Outcome) (i : InstalledValue) (latest : Bool) → IsSilentCut (succeed_effect o i latest)
+succeeded_cut o i true = nothing_cut Done
+succeeded_cut o i false = unless_has IsSilentCut (λ f. nothing_cut (Refused f)) (cause_of o.adding) (accepted (Installed i)) (added_cut i)
+
+opening_cut : (s : Setting) (next : InForce) (o : Outcome) (b : History) (e : Effect) → HasEffect s (Succeed next) o b e
+    → IsSilentCut e
+opening_cut s next o b e h =
+    let i = installed_by next.identity in
+    subst IsSilentCut (sym h)
+    (unless_has IsSilentCut (λ f. nothing_cut (Refused f)) (cause_of o.looking) (succeed_effect o i (is_latest i (latest_identity b)))
+    (succeeded_cut o i (is_latest i (latest_identity b))))
+
+pub readers_along : (b : History) (x : Option Setting) (w : List Told) (j : Journey b x w) (n : ℕ) (reader : Reader)
     → is_reader n reader b ≡ is_reader n reader (rights_along j)
-readers_along b w begins n reader = refl
-readers_along b w (goes {b = b0} {w = w0} s c o e proper met h j) n reader =
-    step_rights s c o b0 e h b0 (rights_along j) n reader (readers_along b0 w0 j n reader)
-readers_along b w (stops {b = b0} {w = w0} s c o e k proper met h j) n reader =
-    same_rights (drop k e.adds) b0 (rights_along j) n reader (readers_along b0 w0 j n reader)
+readers_along b x w begins n reader = refl
+readers_along b x w (opens {b = b0} {x = x0} {w = w0} s o e proper h done j) n reader =
+    step_rights s (Succeed s.in_force) o b0 e h b0 (rights_along j) n reader (readers_along b0 x0 w0 j n reader)
+readers_along b x w (opens_older {b = b0} {x = x0} {w = w0} s proper none unnamed j) n reader =
+    readers_along b0 x0 w0 j n reader
+readers_along b x w (shuts {b = b0} {x = x0} {w = w0} s o e k proper h j) n reader =
+    opening_cut s s.in_force o b0 e h k b0 (rights_along j) n reader (readers_along b0 x0 w0 j n reader)
+readers_along b x w (rests {b = b0} {x = x0} {w = w0} j) n reader = readers_along b0 x0 w0 j n reader
+readers_along b x w (enters {b = b0} {w = w0} s c o e entering met h j) n reader =
+    step_rights s c o b0 e h b0 (rights_along j) n reader (readers_along b0 None w0 j n reader)
+readers_along b x w (breaks {b = b0} {w = w0} s c o e k entering met h j) n reader =
+    same_rights (drop k e.adds) b0 (rights_along j) n reader (readers_along b0 None w0 j n reader)
+readers_along b x w (goes {b = b0} {w = w0} s c o e met h j) n reader =
+    step_rights s c o b0 e h b0 (rights_along j) n reader (readers_along b0 (Some s) w0 j n reader)
+readers_along b x w (stops {b = b0} {w = w0} s c o e k met h j) n reader =
+    same_rights (drop k e.adds) b0 (rights_along j) n reader (readers_along b0 (Some s) w0 j n reader)

@@ -1,5 +1,5 @@
 -- A calibration and a hold are steps of the machine.
-use Rattle.std.proofs.Common.{◌≡◌, ◌⊎◌, cond, T, Bool, true, false, [], ◌∷◌, ◌++◌, Option, Some, None, Ok, refl, sym}
+use Rattle.std.proofs.Common.{◌≡◌, ℕ, ◌⊎◌, cond, T, Bool, true, false, [], ◌∷◌, ◌++◌, Option, Some, None, Ok, refl, sym}
 use Rattle.std.proofs.Common.{ap, ◌∙◌, subst, inl, inr}
 use Rattle.std.specs.Prelude.{int_lt}
 use Rattle.book.specs.declared.standing.Standing.{Ghosts}
@@ -11,8 +11,8 @@ use Rattle.book.specs.declared.fault.StoreFault.{StoreFault}
 use Rattle.book.specs.declared.fault.StoreFault.TheVariants as store
 use Rattle.desk.specs.Fit.{IsFit}
 use Rattle.desk.specs.Outcome.{Call, Fine, Wanting, Broken, Outcome, Cause, OfMemory, OfStore, cause_of, faults_after, all_fine}
-use Rattle.desk.specs.Command.{Setting, Command, Done, Refused}
-use Rattle.desk.specs.Effects.{Effect, only, unless, fault_of, accepted, is_backwards}
+use Rattle.desk.specs.Command.{Setting, Command, Numbered, Refused}
+use Rattle.desk.specs.Effects.{Effect, only, unless, fault_of, numbered, is_backwards}
 use Rattle.desk.specs.Calls.{store_cause}
 use Rattle.desk.specs.Obstacles.{hindered}
 use Rattle.desk.specs.Steps.{HasEffect, IsMet}
@@ -23,12 +23,13 @@ use Rattle.desk.proofs.Fitting.{unbroken}
 use Rattle.desk.proofs.Sealing.{one_in_doubt}
 
 -- what a command does that enters one entry, unless the history turns it back
-abbrev pub entering : Entry → Option Cause → Bool → Effect
-entering entry refused turned = unless refused (cond turned (only (Refused fault.Store)) (accepted entry))
+abbrev pub entering : Entry → ℕ → Option Cause → Bool → Effect
+entering entry number refused turned = unless refused (cond turned (only (Refused fault.Store)) (numbered entry number))
 
 -- the command is such a one
-pub record Enters (s : Setting) (c : Command) (entry : Entry) (turns : History → Bool) : Type 0 where
-  pub has : (o : Outcome) (b : History) (e : Effect) → e ≡ entering entry (cause_of o.adding) (turns b)
+pub record Enters (s : Setting) (c : Command) (entry : Entry) (numbers : History → ℕ) (turns : History → Bool)
+    : Type 0 where
+  pub has : (o : Outcome) (b : History) (e : Effect) → e ≡ entering entry (numbers b) (cause_of o.adding) (turns b)
       → HasEffect s c o b e
   pub fits : (b : History) → IsMet c b → Fits entry b
   pub made : (call : Call) → IsFit c (record (all_fine (Ok [])) { adding = call })
@@ -39,14 +40,15 @@ unturned true free = absurd (free refl)
 unturned false free = refl
 
 -- the entry stands
-pub enters_as : {B : Type 0} (g : Ghosts B) (s : Setting) (c : Command) (entry : Entry) (turns : History → Bool)
-    (old new : B) → Enters s c entry turns → g.fault_count new ≡ g.fault_count old
+pub enters_as : {B : Type 0} (g : Ghosts B) (s : Setting) (c : Command) (entry : Entry) (numbers : History → ℕ)
+    (turns : History → Bool) (old new : B) (number : ℕ) → Enters s c entry numbers turns → g.fault_count new ≡ g.fault_count old
     → (g.honest new → g.is_open old × g.is_open new)
     → ((b : History) → Stands g b old → Fits entry b → Stands g (entry ∷ b) new)
     → (g.honest new → (b : History) → Stands g b old → turns b ≡ true → ⊥)
-    → (g.is_open new → IsOpened g c Done new)
-    → StepsBy g no_signer s c (all_fine (Ok [])) old new Done
-enters_as g s c entry turns old new enters same opened ok free opens = record {
+    → (g.honest new → (b : History) → Stands g b old → number ≡ numbers b)
+    → (g.is_open new → IsOpened g c (Numbered number) new)
+    → StepsBy g no_signer s c (all_fine (Ok [])) old new (Numbered number)
+enters_as g s c entry numbers turns old new number enters same opened ok free counts opens = record {
   fits = enters.made Fine;
   counted = same;
   signer = tt;
@@ -55,10 +57,10 @@ enters_as g s c entry turns old new enters same opened ok free opens = record {
   steps = λ honest b stands met.
       let now = ok b stands (enters.fits b met) in
       record {
-        effect = accepted entry;
-        has = enters.has (all_fine (Ok [])) b (accepted entry)
-            (sym (ap (λ t. entering entry None t) (unturned (turns b) (free honest b stands))));
-        says = refl;
+        effect = numbered entry (numbers b);
+        has = enters.has (all_fine (Ok [])) b (numbered entry (numbers b))
+            (sym (ap (λ t. entering entry (numbers b) None t) (unturned (turns b) (free honest b stands))));
+        says = ap Numbered (counts honest b stands);
         moves = refl;
         stands = now;
         left = λ left r. inr (inl (now.settled honest (opened honest).1 left r));
@@ -66,8 +68,8 @@ enters_as g s c entry turns old new enters same opened ok free opens = record {
 }
 
 -- the commit is refused by this cause
-refused_as : {B : Type 0} (g : Ghosts B) (s : Setting) (c : Command) (entry : Entry) (turns : History → Bool)
-    (old new : B) (o : Outcome) (cause : Cause) → Enters s c entry turns
+refused_as : {B : Type 0} (g : Ghosts B) (s : Setting) (c : Command) (entry : Entry) (numbers : History → ℕ)
+    (turns : History → Bool) (old new : B) (o : Outcome) (cause : Cause) → Enters s c entry numbers turns
     → cause_of o.adding ≡ Some cause → cause_of (committed o).adding ≡ None
     → (o.adding ≡ Fine → o.sealing ≡ Fine → ⊥)
     → IsFit c o → IsBlamed g c o old new (Refused (fault_of cause))
@@ -76,7 +78,7 @@ refused_as : {B : Type 0} (g : Ghosts B) (s : Setting) (c : Command) (entry : En
     → LeavesOrAdds g entry old new
     → (g.honest new → (b : History) → Stands g b old → turns b ≡ true → LeavesAsBefore g old new)
     → StepsBy g no_signer s c o old new (Refused (fault_of cause))
-refused_as g s c entry turns old new o cause enters why answered was_refused fits blamed counted err crash before =
+refused_as g s c entry numbers turns old new o cause enters why answered was_refused fits blamed counted err crash before =
     record {
       fits = fits;
       counted = counted;
@@ -85,7 +87,7 @@ refused_as g s c entry turns old new o cause enters why answered was_refused fit
       opened = λ honest. tt;
       steps = λ honest b stands met. record {
         effect = only (Refused (fault_of cause));
-        has = enters.has o b (only (Refused (fault_of cause))) (ap (λ x. entering entry x (turns b)) (sym why));
+        has = enters.has o b (only (Refused (fault_of cause))) (ap (λ x. entering entry (numbers b) x (turns b)) (sym why));
         says = refl;
         moves = refl;
         stands = err b stands;
@@ -96,9 +98,10 @@ refused_as g s c entry turns old new o cause enters why answered was_refused fit
                 | inl left ↦ inl (refl, left)
                 | inr adds ↦ inr (inr (record {
                   refused = was_refused;
-                  doubted = accepted entry;
-                  has = enters.has (committed o) b (accepted entry)
-                      (sym (ap (λ x. entering entry x (turns b)) answered ∙ ap (λ t. entering entry None t) e));
+                  doubted = numbered entry (numbers b);
+                  has = enters.has (committed o) b (numbered entry (numbers b))
+                      (sym (ap (λ x. entering entry (numbers b) x (turns b)) answered
+                      ∙ ap (λ t. entering entry (numbers b) None t) e));
                   holds = subst (λ es. g.holds left (es ++ b)) (sym (one_in_doubt o.adding entry))
                       (adds b stands (enters.fits b met));
                 }))
@@ -108,14 +111,14 @@ refused_as g s c entry turns old new o cause enters why answered was_refused fit
     }
 
 -- the store turns it back
-turned_back : {B : Type 0} (g : Ghosts B) (s : Setting) (c : Command) (entry : Entry) (turns : History → Bool)
-    (old new : B) → Enters s c entry turns → g.fault_count new ≡ g.fault_count old
+turned_back : {B : Type 0} (g : Ghosts B) (s : Setting) (c : Command) (entry : Entry) (numbers : History → ℕ)
+    (turns : History → Bool) (old new : B) → Enters s c entry numbers turns → g.fault_count new ≡ g.fault_count old
     → ((b : History) → Stands g b old → Stands g b new)
     → (g.honest new → (b : History) → Stands g b old → turns b ≡ true)
     → IsExcused g c old new
     → (g.honest new → (b : History) → Stands g b old → turns b ≡ true → LeavesAsBefore g old new)
     → StepsBy g no_signer s c (all_fine (Ok [])) old new (Refused fault.Store)
-turned_back g s c entry turns old new enters same err turned excused before = record {
+turned_back g s c entry numbers turns old new enters same err turned excused before = record {
   fits = enters.made Fine;
   counted = same;
   signer = tt;
@@ -124,7 +127,7 @@ turned_back g s c entry turns old new enters same err turned excused before = re
   steps = λ honest b stands met. record {
     effect = only (Refused fault.Store);
     has = enters.has (all_fine (Ok [])) b (only (Refused fault.Store))
-        (sym (ap (λ t. entering entry None t) (turned honest b stands)));
+        (sym (ap (λ t. entering entry (numbers b) None t) (turned honest b stands)));
     says = refl;
     moves = refl;
     stands = err b stands;
@@ -133,8 +136,8 @@ turned_back g s c entry turns old new enters same err turned excused before = re
 }
 
 -- the store's refusal by this fault
-pub refuses_by : {B : Type 0} (g : Ghosts B) (s : Setting) (c : Command) (entry : Entry) (turns : History → Bool)
-    (old new : B) (f : StoreFault) → Enters s c entry turns
+pub refuses_by : {B : Type 0} (g : Ghosts B) (s : Setting) (c : Command) (entry : Entry) (numbers : History → ℕ)
+    (turns : History → Bool) (old new : B) (f : StoreFault) → Enters s c entry numbers turns
     → (f ≡ store.Memory) ⊎ ((f ≡ store.Database) ⊎ (f ≡ store.Backwards))
     → g.fault_count new ≡ count_after f (g.fault_count old)
     → ((b : History) → Stands g b old → Stands g b new)
@@ -143,19 +146,19 @@ pub refuses_by : {B : Type 0} (g : Ghosts B) (s : Setting) (c : Command) (entry 
     → (f ≡ store.Backwards → IsExcused g c old new)
     → (g.honest new → (b : History) → Stands g b old → turns b ≡ true → LeavesAsBefore g old new)
     → StepsBy g no_signer s c (hindered (obstacle.Adding f)) old new (Refused (fault_of (store_cause f)))
-refuses_by g s c entry turns old new store.Memory enters which counted err crash turned excuses before =
-    refused_as g s c entry turns old new (hindered (obstacle.Adding store.Memory)) OfMemory enters refl refl
+refuses_by g s c entry numbers turns old new store.Memory enters which counted err crash turned excuses before =
+    refused_as g s c entry numbers turns old new (hindered (obstacle.Adding store.Memory)) OfMemory enters refl refl
     (λ a e. cc) (enters.made Wanting)
     (unbroken _ tt tt tt tt tt tt tt tt) counted err crash before
-refuses_by g s c entry turns old new store.Database enters which counted err crash turned excuses before =
-    refused_as g s c entry turns old new (hindered (obstacle.Adding store.Database)) OfStore enters refl refl
+refuses_by g s c entry numbers turns old new store.Database enters which counted err crash turned excuses before =
+    refused_as g s c entry numbers turns old new (hindered (obstacle.Adding store.Database)) OfStore enters refl refl
     (λ a e. cc) (enters.made Broken) (inl (inr (inr (inr (inr (inl refl)))))) counted err crash before
-refuses_by g s c entry turns old new store.Backwards enters which counted err crash turned excuses before =
-    turned_back g s c entry turns old new enters counted err (λ honest b stands. turned honest b stands refl)
+refuses_by g s c entry numbers turns old new store.Backwards enters which counted err crash turned excuses before =
+    turned_back g s c entry numbers turns old new enters counted err (λ honest b stands. turned honest b stands refl)
     (excuses refl) before
-refuses_by g s c entry turns old new store.NotOurs enters which counted err crash turned excuses before =
+refuses_by g s c entry numbers turns old new store.NotOurs enters which counted err crash turned excuses before =
     absurd (elim which [ inl e ↦ cc | inr e ↦ elim e [ inl k ↦ cc | inr k ↦ cc ] ])
-refuses_by g s c entry turns old new store.Full enters which counted err crash turned excuses before =
+refuses_by g s c entry numbers turns old new store.Full enters which counted err crash turned excuses before =
     absurd (elim which [ inl e ↦ cc | inr e ↦ elim e [ inl k ↦ cc | inr k ↦ cc ] ])
 
 -- a calibration before the latest one

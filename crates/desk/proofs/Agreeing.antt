@@ -20,9 +20,9 @@ use Rattle.book.specs.Sound.{Along, Fits}
 use Rattle.book.specs.Values.{deposit_of}
 use Rattle.desk.specs.Agreement.{SeenValue, seen_as, Agree, IsCommandOf}
 use Rattle.desk.specs.Outcome.{Outcome, Cause, cause_of}
-use Rattle.desk.specs.Findings.{PlanValue, Finding, Fails, Unanswered, Allowed}
+use Rattle.desk.specs.Findings.{StampPlan, Finding, Fails, Unanswered, Allowed}
 use Rattle.desk.specs.Command.{Setting, PendingValue, Command, Stamp, Begin, Finish, Abandon, Deposit, Show, Token}
-use Rattle.desk.specs.Command.{ListAll, Grant, Revoke, Calibrate, Hold, Listed}
+use Rattle.desk.specs.Command.{ListAll, Grant, Revoke, Calibrate, Hold, Succeed, Listed}
 use Rattle.desk.specs.Texts.{octets_for, pending_of, token_with}
 use Rattle.desk.specs.Effects.{Effect, unless, Stamping, Unreserved, Void, Sealing, no_number, no_seal}
 use Rattle.desk.specs.Effects.{next_reservation, sealed_or_void, signed_or_void, stamping_of, stamp_effect, stamp_found}
@@ -84,6 +84,7 @@ agree_reserved viewer b c r one other agree above =
         holding = x.holding;
         last = Some r.gen_time;
         greatest = max r.serial x.greatest;
+        identity = x.identity;
       }) agree.shared;
     }
 
@@ -241,7 +242,7 @@ next_signed p r o (Ok signature) = next_sealed r (token_with p signature) (no_se
 next_signed p r o (Err signer.Failed) = refl
 next_signed p r o (Err signer.Memory) = refl
 
-pub next_stamping : (s : Setting) (account : List ℕ) (plan : PlanValue) (octets : List ℕ) (o : Outcome)
+pub next_stamping : (s : Setting) (account : List ℕ) (plan : StampPlan) (octets : List ℕ) (o : Outcome)
     (b : History) (refused : Option Cause)
     → IsNext (next_reservation s account plan octets b) (stamping_of s account plan octets o b refused)
 next_stamping s account plan octets o b (Some cause) = tt
@@ -278,7 +279,7 @@ deposit_agrees viewer s owner reference bytes b c mine one other agree next abov
     ((bytes_eq-Decides owner viewer.name).1 mine) (just_reserved r b c)
     (agree_reserved viewer b c r one other agree (above_of r next (greatest_serial b) h above))
 
-pub next_above : (s : Setting) (account : List ℕ) (plan : PlanValue) (octets : List ℕ) (b : History)
+pub next_above : (s : Setting) (account : List ℕ) (plan : StampPlan) (octets : List ℕ) (b : History)
     → greatest_serial b < (next_reservation s account plan octets b).serial
 next_above s account plan octets b = omega arith
 
@@ -415,3 +416,4 @@ step_agrees account s (Revoke a n reader) o b c e one other agree mine h =
     (right_adds s.file a.name reader n b o (Revoked n reader)))
 step_agrees account s (Calibrate x) o b c e one other agree mine h = absurd mine
 step_agrees account s (Hold x) o b c e one other agree mine h = absurd mine
+step_agrees account s (Succeed next) o b c e one other agree mine h = absurd mine

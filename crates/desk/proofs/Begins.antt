@@ -12,12 +12,12 @@ use Rattle.book.specs.Stands.{Stands, OnlyLooks}
 use Rattle.book.specs.declared.fault.StoreFault.{StoreFault}
 use Rattle.book.specs.declared.fault.StoreFault.TheVariants as store
 use Rattle.desk.specs.Calls.{store_cause, cause_with, refused, outcome_of, IsOfStore, IsOfLooks, IsOfReserving}
-use Rattle.desk.specs.Calls.{IsOfBeginning}
+use Rattle.desk.specs.Calls.{IsOfBeginning, IsSomebodys}
 use Rattle.desk.specs.Fit.{IsFit}
 use Rattle.desk.specs.Calls.{pending_as, reserving, Reserves}
 use Rattle.desk.specs.Command.{Setting, PendingValue, Command, Begin, Rejected, Refused}
 use Rattle.desk.specs.Effects.{only, fault_of, no_number, begin_effect, name_of}
-use Rattle.desk.specs.Findings.{PlanValue, Fails, Unanswered, Allowed, Finds}
+use Rattle.desk.specs.Findings.{StampPlan, Fails, Unanswered, Allowed, Finds}
 use Rattle.desk.specs.Outcome.{Call, Outcome, Fine, Wanting, Broken, Cause, OfStore, first_cause, faults_after}
 use Rattle.desk.specs.Outcome.{all_fine}
 use Rattle.desk.specs.Stepped.{no_signer, IsBlamedFor, IsBlamed, IsExcused, IsOpened, StepsBy, committed, in_doubt}
@@ -106,26 +106,39 @@ reserving_blamed g c refusal.Wrapping old new h spent = absurd h
 reserving_blamed g c (refusal.Sealing f) old new h spent = absurd h
 
 -- the calls that a beginning makes
+pub begin_calls : (account : Option AccountValue) (reading : ℤ) (octets : List ℕ)
+    → IsFit (Begin account reading octets) (all_fine (Ok []))
+begin_calls None reading octets = (refl, (tt, tt))
+begin_calls (Some a) reading octets = (refl, (tt, tt))
+
 pub begin_fits : (account : Option AccountValue) (reading : ℤ) (octets : List ℕ) (r : Refusal) → IsOfBeginning r
-    → IsFit (Begin account reading octets) (refused r)
-begin_fits account reading octets (refusal.Looking f) h = (refl, (tt, tt))
-begin_fits account reading octets (refusal.Counting f) h = (refl, (tt, tt))
-begin_fits account reading octets refusal.Spent h = (refl, (tt, tt))
-begin_fits account reading octets refusal.Growing h = (refl, (tt, tt))
-begin_fits account reading octets (refusal.Adding f) h = (refl, (tt, tt))
-begin_fits account reading octets (refusal.Signing f) h = absurd (elim h [ inl x ↦ x | inr x ↦ x ])
-begin_fits account reading octets refusal.Wrapping h = absurd (elim h [ inl x ↦ x | inr x ↦ x ])
-begin_fits account reading octets (refusal.Sealing f) h = absurd (elim h [ inl x ↦ x | inr x ↦ x ])
+    → IsSomebodys account r → IsFit (Begin account reading octets) (refused r)
+begin_fits None reading octets (refusal.Looking f) h somebody = (refl, (tt, tt))
+begin_fits None reading octets (refusal.Counting f) h somebody = absurd (somebody refl)
+begin_fits None reading octets refusal.Spent h somebody = (refl, (tt, tt))
+begin_fits None reading octets refusal.Growing h somebody = (refl, (tt, tt))
+begin_fits None reading octets (refusal.Adding f) h somebody = (refl, (tt, tt))
+begin_fits None reading octets (refusal.Signing f) h somebody = absurd (elim h [ inl x ↦ x | inr x ↦ x ])
+begin_fits None reading octets refusal.Wrapping h somebody = absurd (elim h [ inl x ↦ x | inr x ↦ x ])
+begin_fits None reading octets (refusal.Sealing f) h somebody = absurd (elim h [ inl x ↦ x | inr x ↦ x ])
+begin_fits (Some a) reading octets (refusal.Looking f) h somebody = (refl, (tt, tt))
+begin_fits (Some a) reading octets (refusal.Counting f) h somebody = (refl, (tt, tt))
+begin_fits (Some a) reading octets refusal.Spent h somebody = (refl, (tt, tt))
+begin_fits (Some a) reading octets refusal.Growing h somebody = (refl, (tt, tt))
+begin_fits (Some a) reading octets (refusal.Adding f) h somebody = (refl, (tt, tt))
+begin_fits (Some a) reading octets (refusal.Signing f) h somebody = absurd (elim h [ inl x ↦ x | inr x ↦ x ])
+begin_fits (Some a) reading octets refusal.Wrapping h somebody = absurd (elim h [ inl x ↦ x | inr x ↦ x ])
+begin_fits (Some a) reading octets (refusal.Sealing f) h somebody = absurd (elim h [ inl x ↦ x | inr x ↦ x ])
 
 -- a look-up is refused
 pub leaves_open : {B : Type 0} (g : Ghosts B) (s : Setting) (account : Option AccountValue) (reading : ℤ)
-    (octets : List ℕ) (old new : B) (r : Refusal) → IsOfLooks r
+    (octets : List ℕ) (old new : B) (r : Refusal) → IsOfLooks r → IsSomebodys account r
     → OnlyLooks g old new → g.fault_count new ≡ faults_after (refused r) (g.fault_count old)
     → (g.honest new → (b : History) → Stands g b old
     → Finds s.file account reading octets (refused r) b (Unanswered (cause_with r)))
     → StepsBy g no_signer s (Begin account reading octets) (refused r) old new (Refused (fault_of (cause_with r)))
-leaves_open g s account reading octets old new r of looks counted finds = record {
-  fits = begin_fits account reading octets r (inl of);
+leaves_open g s account reading octets old new r of somebody looks counted finds = record {
+  fits = begin_fits account reading octets r (inl of) somebody;
   counted = counted;
   signer = tt;
   blames = looks_blamed g (Begin account reading octets) r old new of;
@@ -140,7 +153,7 @@ leaves_open g s account reading octets old new r of looks counted finds = record
   };
 }
 
-begin_asks : (s : Setting) (account : List ℕ) (plan : PlanValue) (octets : List ℕ) (b : History)
+begin_asks : (s : Setting) (account : List ℕ) (plan : StampPlan) (octets : List ℕ) (b : History)
     (refused : Option Cause) → (begin_effect s account plan octets b refused).asks ≡ None
 begin_asks s account plan octets b None = refl
 begin_asks s account plan octets b (Some cause) = refl
@@ -157,7 +170,7 @@ reserving_looks refusal.Wrapping h = absurd h
 reserving_looks (refusal.Sealing f) h = absurd h
 
 -- of a reservation all is in doubt
-begun_in_doubt : (call : Call) (s : Setting) (account : List ℕ) (plan : PlanValue) (octets : List ℕ) (b : History)
+begun_in_doubt : (call : Call) (s : Setting) (account : List ℕ) (plan : StampPlan) (octets : List ℕ) (b : History)
     (why : Option Cause) → in_doubt call (begin_effect s account plan octets b why).adds
     ≡ (begin_effect s account plan octets b why).adds
 begun_in_doubt Fine s account plan octets b why = refl
@@ -167,7 +180,7 @@ begun_in_doubt Broken s account plan octets b None = refl
 begun_in_doubt Broken s account plan octets b (Some cause) = refl
 
 -- no number is left where that is said
-spent_if : (s : Setting) (account : List ℕ) (plan : PlanValue) (octets : List ℕ) (b : History) (spent : Bool)
+spent_if : (s : Setting) (account : List ℕ) (plan : StampPlan) (octets : List ℕ) (b : History) (spent : Bool)
     → Refused (fault_of OfStore) ≡ (begin_effect s account plan octets b (first_cause ((cond spent (Some OfStore) None)
     ∷ None ∷ None ∷ []))).says → spent ≡ true
 spent_if s account plan octets b true e = refl
@@ -177,7 +190,7 @@ is_excused : (n : ℕ) → nat_le greatest_number n ≡ true → greatest_number
 is_excused n e = grind (arith, nat_tests)
 
 -- what the reservation that follows the look-ups meets
-pub record Follows {B : Type 0} (g : Ghosts B) (s : Setting) (name : List ℕ) (plan : PlanValue) (octets : List ℕ)
+pub record Follows {B : Type 0} (g : Ghosts B) (s : Setting) (name : List ℕ) (plan : StampPlan) (octets : List ℕ)
     (last : ℕ) (mid new : B) (result : Result PendingValue Refusal) : Type 0 where
   pub honest : g.honest new → g.honest mid
   pub opened : g.honest new → OnOk result (g.is_open new)
@@ -194,10 +207,21 @@ result_looks : (result : Result PendingValue Refusal) → IsReserving result
 result_looks (Ok p) h = (refl, refl)
 result_looks (Err r) h = reserving_looks r h
 
+reserving_somebodys : (account : Option AccountValue) (r : Refusal) → IsOfReserving r → IsSomebodys account r
+reserving_somebodys account (refusal.Looking f) h = tt
+reserving_somebodys account (refusal.Counting f) h = absurd h
+reserving_somebodys account refusal.Spent h = tt
+reserving_somebodys account refusal.Growing h = tt
+reserving_somebodys account (refusal.Adding f) h = tt
+reserving_somebodys account (refusal.Signing f) h = tt
+reserving_somebodys account refusal.Wrapping h = tt
+reserving_somebodys account (refusal.Sealing f) h = tt
+
 result_fits : (account : Option AccountValue) (reading : ℤ) (octets : List ℕ) (result : Result PendingValue Refusal)
     → IsReserving result → IsFit (Begin account reading octets) (outcome_of result)
-result_fits account reading octets (Ok p) h = (refl, (tt, tt))
-result_fits account reading octets (Err r) h = begin_fits account reading octets r (inr h)
+result_fits account reading octets (Ok p) h = begin_calls account reading octets
+result_fits account reading octets (Err r) h =
+    begin_fits account reading octets r (inr h) (reserving_somebodys account r h)
 
 result_opened : {B : Type 0} (g : Ghosts B) (c : Command) (new : B) (result : Result PendingValue Refusal)
     → OnOk result (g.is_open new) → IsOpened g c (pending_as result) new
@@ -213,7 +237,7 @@ result_blamed g c old new (Err r) h spent = reserving_blamed g c r old new h (λ
 
 -- no rule fails: the reservation goes on from what was found
 pub reserves_after : {B : Type 0} (g : Ghosts B) (s : Setting) (account : Option AccountValue) (reading : ℤ)
-    (octets : List ℕ) (old mid new : B) (plan : PlanValue) (last : ℕ) (name : List ℕ)
+    (octets : List ℕ) (old mid new : B) (plan : StampPlan) (last : ℕ) (name : List ℕ)
     (result : Result PendingValue Refusal)
     → name ≡ name_of account → IsReserving result → OnlyLooks g old mid → g.fault_count mid ≡ g.fault_count old
     → (g.honest mid → (b : History) → Stands g b old

@@ -2,7 +2,7 @@
 use Rattle.std.proofs.Common.{◌≡◌, ℕ, ◌≤◌, ℤ, Bool, [], ◌∷◌, Option, Some, None, refl, ap, ◌∙◌, arith}
 use Rattle.std.specs.Prelude.{option_map}
 use Rattle.gentime.specs.GenTime.{last_moment}
-use Rattle.book.specs.History.{Reserved, Sealed, Deposited, Calibrated, Held, Granted, Revoked, History}
+use Rattle.book.specs.History.{Reserved, Sealed, Deposited, Calibrated, Held, Granted, Revoked, Installed, History}
 use Rattle.book.specs.History.{CalibrationValue, latest_calibration, last_gen_time, greatest_serial}
 use Rattle.book.specs.Sound.{IsSound}
 use Rattle.book.specs.Values.{last_of}
@@ -25,6 +25,7 @@ last_within (Calibrated c ∷ b) s = last_within b s.1
 last_within (Held h ∷ b) s = last_within b s.1
 last_within (Granted n account ∷ b) s = last_within b s.1
 last_within (Revoked n account ∷ b) s = last_within b s.1
+last_within (Installed i ∷ b) s = last_within b s.1
 
 pub now_same : (reading : ℤ) (latest : Option CalibrationValue)
     → now_with reading (calibrations_as latest) ≡ now_in reading latest

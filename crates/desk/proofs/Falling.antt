@@ -2,13 +2,14 @@
 use Rattle.std.proofs.Common.{ℕ, ◌<◌, ◌≤◌, List, [], ◌∷◌, ◌++◌, Option, Some, None, drop, arith}
 use Rattle.std.specs.List.{AllByRecursion}
 use Rattle.book.specs.History.{Entry, Reserved, Sealed, Deposited, Calibrated, Held, Granted, Revoked, History}
-use Rattle.book.specs.History.{greatest_serial}
+use Rattle.book.specs.History.{Installed, greatest_serial}
 use Rattle.book.specs.Sound.{Along, Fits}
-use Rattle.desk.specs.Command.{Answer, Stamped, Rejected, Begun, Kept, Shown, Listed, Done, Refused}
-use Rattle.desk.specs.Runs.{Told, Journey, begins, goes, stops, after, cut}
+use Rattle.desk.specs.Command.{Setting, Answer, Stamped, Rejected, Begun, Kept, Shown, Listed, Done, Numbered, Refused}
+use Rattle.desk.specs.Command.{setting_after}
+use Rattle.desk.specs.Runs.{Told, Journey, begins, opens, opens_older, shuts, rests, enters, breaks, goes, stops, after, cut}
 use Rattle.desk.specs.Serials.{serials_of, given_by, given_along, AreInOrder}
 use Rattle.desk.proofs.Sound.{TextLaws}
-use Rattle.desk.proofs.Keeping.{journeys_have_properties}
+use Rattle.desk.proofs.Keeping.{sound_along}
 
 within_more : (m n : ℕ) → m ≤ n → (ns : List ℕ) → AllByRecursion (λ k. k ≤ m) ns → AllByRecursion (λ k. k ≤ n) ns
 within_more m n le [] h = tt
@@ -45,6 +46,8 @@ reserved_in_order (Granted n a ∷ es) b fits ns h =
     let more = reserved_in_order es b fits.1 ns h in record { falling = more.falling; within = more.within }
 reserved_in_order (Revoked n a ∷ es) b fits ns h =
     let more = reserved_in_order es b fits.1 ns h in record { falling = more.falling; within = more.within }
+reserved_in_order (Installed i ∷ es) b fits ns h =
+    let more = reserved_in_order es b fits.1 ns h in record { falling = more.falling; within = more.within }
 
 -- entries that were added leave what was given out below the greatest serial number
 greatest_grows : (es : List Entry) (b : History) → greatest_serial b ≤ greatest_serial (es ++ b)
@@ -56,6 +59,7 @@ greatest_grows (Calibrated c ∷ es) b = greatest_grows es b
 greatest_grows (Held k ∷ es) b = greatest_grows es b
 greatest_grows (Granted n a ∷ es) b = greatest_grows es b
 greatest_grows (Revoked n a ∷ es) b = greatest_grows es b
+greatest_grows (Installed i ∷ es) b = greatest_grows es b
 
 still_in_order : (es : List Entry) (b : History) (ns : List ℕ) → AreInOrder ns b → AreInOrder ns (es ++ b)
 still_in_order es b ns h = record {
@@ -74,15 +78,27 @@ step_in_order None (Kept number new) es b fits ns h = still_in_order es b ns h
 step_in_order None (Shown octets) es b fits ns h = still_in_order es b ns h
 step_in_order None (Listed rows) es b fits ns h = still_in_order es b ns h
 step_in_order None Done es b fits ns h = still_in_order es b ns h
+step_in_order None (Numbered number) es b fits ns h = still_in_order es b ns h
 step_in_order None (Refused fault) es b fits ns h = still_in_order es b ns h
 
-pub given_in_order : TextLaws → (b : History) (w : List Told) (j : Journey b w) → AreInOrder (given_along j) b
-given_in_order laws b w begins = record { falling = tt; within = tt }
-given_in_order laws b w (goes {b = b0} {w = w0} s c o e proper met h j) =
+pub given_in_order : TextLaws → (b : History) (x : Option Setting) (w : List Told) (j : Journey b x w)
+    → AreInOrder (given_along j) b
+given_in_order laws b x w begins = record { falling = tt; within = tt }
+given_in_order laws b x w (opens {b = b0} {x = x0} {w = w0} s o e proper h done j) =
+    still_in_order e.adds b0 (given_along j) (given_in_order laws b0 x0 w0 j)
+given_in_order laws b x w (opens_older {b = b0} {x = x0} {w = w0} s proper none unnamed j) = given_in_order laws b0 x0 w0 j
+given_in_order laws b x w (shuts {b = b0} {x = x0} {w = w0} s o e k proper h j) =
+    still_in_order (drop k e.adds) b0 (given_along j) (given_in_order laws b0 x0 w0 j)
+given_in_order laws b x w (rests {b = b0} {x = x0} {w = w0} j) = given_in_order laws b0 x0 w0 j
+given_in_order laws b x w (enters {b = b0} {w = w0} s c o e entering met h j) =
+    still_in_order e.adds b0 (given_along j) (given_in_order laws b0 None w0 j)
+given_in_order laws b x w (breaks {b = b0} {w = w0} s c o e k entering met h j) =
+    still_in_order (drop k e.adds) b0 (given_along j) (given_in_order laws b0 None w0 j)
+given_in_order laws b x w (goes {b = b0} {w = w0} s c o e met h j) =
     step_in_order e.asks e.says e.adds b0
-    (journeys_have_properties laws (after e b0) (record { command = c; answer = e.says } ∷ w0)
-    (goes s c o e proper met h j)).sound.sound (given_along j) (given_in_order laws b0 w0 j)
-given_in_order laws b w (stops {b = b0} {w = w0} s c o e k proper met h j) =
+    (sound_along laws (after e b0) (Some (setting_after s c e.says)) (record { command = c; answer = e.says } ∷ w0)
+    (goes s c o e met h j)) (given_along j) (given_in_order laws b0 (Some s) w0 j)
+given_in_order laws b x w (stops {b = b0} {w = w0} s c o e k met h j) =
     step_in_order e.asks e.says (drop k e.adds) b0
-    (journeys_have_properties laws (cut k e b0) w0 (stops s c o e k proper met h j)).sound.sound (given_along j)
-    (given_in_order laws b0 w0 j)
+    (sound_along laws (cut k e b0) None w0 (stops s c o e k met h j)) (given_along j)
+    (given_in_order laws b0 (Some s) w0 j)

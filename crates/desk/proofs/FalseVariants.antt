@@ -1,22 +1,29 @@
 -- What the promises refuse: false variants of what a journey gave out and acknowledged, of what an account is shown and
 -- listed and may know of others, and of outcomes, effects and grants, each computed on the rows.
-use Rattle.std.proofs.Common.{◌≡◌, ◌⊎◌, ℕ, ◌+◌, ◌<◌, true, false, List, [], ◌∷◌, Some, None, Ok, Err, refl, inl, inr}
+use Rattle.std.proofs.Common.{◌≡◌, ◌⊎◌, ℕ, ◌+◌, ◌<◌, pos, true, false, List, [], ◌∷◌, Option, Some, None, Ok, Err, refl}
+use Rattle.std.proofs.Common.{inl, inr}
 use Rattle.std.proofs.Common.{arith, sym, ◌∙◌, ap}
 use Rattle.std.specs.Prelude.{codes}
 use Rattle.std.specs.Str.{bytes_eq}
 use Rattle.book.specs.declared.standing.Standing.{Ghosts}
-use Rattle.book.specs.History.{Reserved, Granted, Revoked, History, DepositValue}
+use Rattle.der.specs.Node.{Node}
+use Rattle.book.specs.History.{Reserved, Granted, Revoked, Installed, InstalledValue, History}
+use Rattle.book.specs.History.{HoldValue, DepositValue}
 use Rattle.book.specs.Readers.{Account, Group}
 use Rattle.book.specs.Rights.{ListedValue}
+use Rattle.cms.specs.Identity.{IdentityValue}
 use Rattle.cms.specs.declared.signer.SignerFault.TheVariants as signer
 use Rattle.desk.specs.Agreement.{seen_as, Agree}
-use Rattle.desk.specs.Command.{Setting, PendingValue, Rejected, Refused, Shown, Show, ListAll, Grant, Revoke, Done}
-use Rattle.desk.specs.Effects.{only}
+use Rattle.desk.specs.Command.{Setting, PendingValue, Stamp, Begin, Finish, Show, ListAll, Grant, Revoke, Hold}
+use Rattle.desk.specs.Command.{Succeed, Stamped, Rejected, Begun, Shown, Done, Numbered, Refused, setting_after}
+use Rattle.desk.specs.Succession.{installed_by, IsInForce, NamesLatest}
+use Rattle.desk.specs.Effects.{only, accepted}
 use Rattle.desk.specs.Fit.{IsFit}
-use Rattle.desk.specs.Laws.{IsFinished}
+use Rattle.desk.specs.Laws.{IsFinished, AreMet}
 use Rattle.desk.specs.Outcome.{Wanting, Broken, all_fine}
+use Rattle.desk.specs.Promises.{IsAlike}
 use Rattle.desk.specs.Readers.{rights_by}
-use Rattle.desk.specs.Runs.{IsProper}
+use Rattle.desk.specs.Runs.{IsProper, IsKept}
 use Rattle.desk.specs.Serials.{given_by, Falls, AreInOrder}
 use Rattle.desk.specs.Sight.{ShowsExactly, IsExactList}
 use Rattle.desk.specs.Stepped.{IsBlamedFor, IsOpened}
@@ -24,7 +31,8 @@ use Rattle.desk.specs.Steps.{HasEffect}
 use Rattle.desk.specs.Viewers.{viewer_in}
 use Rattle.desk.specs.declared.fault.Fault.TheVariants as fault
 use Rattle.tsp.specs.declared.rule.Rule.TheVariants.{System}
-use Rattle.desk.proofs.Rows.{alice, carol, file, grouped, setting, reserved, history, deposit, deposited}
+use Rattle.desk.proofs.Rows.{alice, carol, file, grouped, setting, reserved, history, deposit, deposited, identity}
+use Rattle.desk.proofs.Rows.{installed, chained, chained_force}
 
 -- the text of a void stamp was given out, under its number
 void_given : given_by (Some []) (Rejected System) (Reserved (reserved 3 0) ∷ []) ≡ 3 ∷ []
@@ -147,6 +155,10 @@ unfailed g old new (inl broken) = elim broken [
 ]
 unfailed g old new (inr excused) = excused
 
+-- nobody has a day that could be counted
+nobodys_day : IsFit (Stamp None (pos 0) []) (record (all_fine (Ok [])) { counting = Broken }) → ⊥
+nobodys_day fits = let same = ap (λ o. o.counting) fits.0 in cc
+
 -- a sight has no signer
 unsigned : IsFit (Show alice 2) (all_fine (Err signer.Failed)) → ⊥
 unsigned fits = let same = ap (λ o. o.signing) fits.0 in cc
@@ -163,6 +175,29 @@ refused_counts e = cc
 agreeing : Agree (viewer_in file (codes "carol")) shared deposited → ⊥
 agreeing agree = let seen : Some (seen_as 2 shared deposit) ≡ None = agree.seen 2 in cc
 
+-- and she is shown from the one what isn't there in the other
+alike_otherwise : IsAlike (codes "carol") setting (Show carol 2) (all_fine (Ok [])) history deposited
+    (only (Shown (codes "abc"))) → ⊥
+alike_otherwise alike =
+    let says : Shown (codes "abc") ≡ Refused fault.NotHere = ap (λ e. e.says) alike.has in
+    cc
+
+-- the caller of a finish sees to what the history says at that moment, and can't where the number is sealed
+abbrev waiting : PendingValue
+waiting = record { serial = 2; tst = []; certificate = false; identity = identity; algorithm = [] }
+
+met : AreMet setting (Finish waiting (1 ∷ []) ∷ []) (all_fine (Ok []) ∷ []) history
+met = (
+  (
+    record { reservation = reserved 2 86399000000; reserved = refl; tst = refl; open_yet = refl },
+    (omega arith, omega arith),
+  ),
+  λ e has. tt,
+)
+
+unmet : AreMet setting (Finish waiting (1 ∷ []) ∷ []) (all_fine (Ok []) ∷ []) deposited → ⊥
+unmet are = let open_yet : Some [] ≡ None = are.0.0.open_yet in cc
+
 -- a command has a second effect
 second_effect : HasEffect setting (Show alice 2) (all_fine (Ok [])) deposited (only (Refused fault.NotHere)) → ⊥
 second_effect h = let says : Refused fault.NotHere ≡ Shown (codes "abc") = ap (λ e. e.says) h in cc
@@ -172,6 +207,37 @@ shut : {B : Type 0} (g : Ghosts B) (new : B) → (g.is_open new → ⊥)
     → IsOpened g (Grant alice 2 (Account (codes "carol"))) Done new → ⊥
 shut g new closed opened = closed opened
 
+-- so is a hold, and what a command is said to have done that enters nothing
+shut_hold : {B : Type 0} (g : Ghosts B) (new : B) (h : HoldValue) → (g.is_open new → ⊥)
+    → IsOpened g (Hold h) (Numbered 1) new → ⊥
+shut_hold g new h closed opened = closed opened
+
+shut_sight : {B : Type 0} (g : Ghosts B) (new : B) → (g.is_open new → ⊥)
+    → IsOpened g (Show alice 2) Done new → ⊥
+shut_sight g new closed opened = closed opened
+
+-- what a journey acknowledged: a stamp is begun, and so signed, under another identity than that of its number
+abbrev begun_by : IdentityValue → PendingValue
+begun_by of = record { serial = 3; tst = []; certificate = false; identity = of; algorithm = [] }
+
+begun_otherwise : IsKept (Reserved (reserved 3 0) ∷ installed) (Begin None (pos 0) []) (Begun (begun_by chained)) → ⊥
+begun_otherwise kept =
+    let same : installed_by identity ≡ installed_by chained = kept.signer (installed_by identity) refl in
+    let chains : identity.chain ≡ chained.chain = ap (λ i. i.chain) same in
+    cc
+
+-- of a number whose identity came later than its reservation, none is asked
+begun_before : IsKept (Installed (installed_by identity) ∷ Reserved (reserved 3 0) ∷ history) (Begin None (pos 0) [])
+    (Begun (begun_by chained))
+begun_before = record { reservation = reserved 3 0; reserved = refl; tst = refl; signer = λ i found. absurd cc }
+
+-- a stamp's token is gone, and a command is answered as none of its kind is
+gone : (reply : List ℕ) → IsKept history (Stamp None (pos 0) []) (Stamped 2 reply) → ⊥
+gone reply kept = let sealed = kept.2.sealed in cc
+
+done_sight : IsKept history (Show alice 2) Done → ⊥
+done_sight kept = kept
+
 -- a finish grants another number than that of what waited
 another_number : (p : PendingValue) (reply : List ℕ) → IsFinished p [] (p.serial + 1) reply → ⊥
 another_number p reply h = let same = h.number in absurd (omega arith)
@@ -179,3 +245,27 @@ another_number p reply h = let same = h.number in absurd (omega arith)
 -- a policy file without an accuracy is proper
 improper : (s : Setting) → s.file.counter.accuracy_us ≡ 0 → IsProper s → ⊥
 improper s none proper = let some = proper.some_accuracy in absurd (omega arith)
+
+-- the authority is named though no identity was installed
+unknown : (name : Node) → NamesLatest (Some name) history → ⊥
+unknown name h = cc
+
+-- an identity that was installed last is another one than that in force
+abbrev chain_in : Option InstalledValue → List ℕ
+chain_in None = []
+chain_in (Some i) = i.chain
+
+out_of_force : IsInForce chained_force installed → ⊥
+out_of_force h = let same : identity.chain ≡ chained.chain = ap chain_in h in cc
+
+-- an opening installs the same identity again
+again : HasEffect setting (Succeed setting.in_force) (all_fine (Ok [])) installed
+    (accepted (Installed (installed_by identity))) → ⊥
+again h = let adds : Installed (installed_by identity) ∷ [] ≡ [] = ap (λ e. e.adds) h in cc
+
+-- a succession that is refused has brought what it was to bring
+brought_though : setting_after setting (Succeed chained_force) (Refused fault.Store) ≡ record {
+  file = file;
+  in_force = chained_force;
+} → ⊥
+brought_though e = let same : identity.chain ≡ chained.chain = ap (λ s. s.in_force.identity.chain) e in cc

@@ -17,7 +17,7 @@ use Rattle.book.specs.History.{History, ReservationValue, greatest_serial}
 use Rattle.book.specs.Sound.{greatest_number}
 use Rattle.std.proofs.lemmas.Bool.Decides.{nat_tests}
 use Rattle.desk.specs.Outcome.{Outcome, Cause, OfMemory, OfStore, OfSigner, cause_of, cause_of_signing, first_cause}
-use Rattle.desk.specs.Findings.{IsUnjudged, PlanValue, IsAllowed, HoldsAt, Finding, Fails, Unanswered, Allowed, Finds}
+use Rattle.desk.specs.Findings.{IsUnjudged, StampPlan, IsAllowed, HoldsAt, Finding, Fails, Unanswered, Allowed, Finds}
 use Rattle.desk.specs.Command.{Setting, PendingValue, Stamp, Answer, Stamped, Rejected}
 use Rattle.desk.specs.Texts.{pending_of, token_with}
 use Rattle.desk.specs.Effects.{Effect, Stamping, Unreserved, Void, Sealing, no_number, no_seal, next_reservation}
@@ -26,7 +26,7 @@ use Rattle.desk.specs.Steps.{HasEffect}
 use Rattle.desk.specs.Laws.{causes_of, IsUnanswered, IsGrant, IsRejection}
 
 -- what is reserved is the next reservation; and what is sealed has the token over the signer's answer
-abbrev pub SealedBy : Setting → List ℕ → PlanValue → List ℕ → Outcome → History → Stamping → Type 0
+abbrev pub SealedBy : Setting → List ℕ → StampPlan → List ℕ → Outcome → History → Stamping → Type 0
 SealedBy s account plan octets o b (Unreserved cause) = Unit {0}
 SealedBy s account plan octets o b (Void r cause) = r ≡ next_reservation s account plan octets b
 SealedBy s account plan octets o b (Sealing r token) =
@@ -34,14 +34,14 @@ SealedBy s account plan octets o b (Sealing r token) =
     × (token ≡ token_with (pending_of s plan (next_reservation s account plan octets b)) signature)
     × (o.signing ≡ Ok signature)
 
-sealed_by : (s : Setting) (account : List ℕ) (plan : PlanValue) (octets : List ℕ) (o : Outcome) (b : History)
+sealed_by : (s : Setting) (account : List ℕ) (plan : StampPlan) (octets : List ℕ) (o : Outcome) (b : History)
     (signature : List ℕ) → o.signing ≡ Ok signature → (refused : Option Cause)
     → SealedBy s account plan octets o b (sealed_or_void (next_reservation s account plan octets b)
     (token_with (pending_of s plan (next_reservation s account plan octets b)) signature) refused)
 sealed_by s account plan octets o b signature is None = (signature, refl, refl, is)
 sealed_by s account plan octets o b signature is (Some cause) = refl
 
-signed_by : (s : Setting) (account : List ℕ) (plan : PlanValue) (octets : List ℕ) (o : Outcome) (b : History)
+signed_by : (s : Setting) (account : List ℕ) (plan : StampPlan) (octets : List ℕ) (o : Outcome) (b : History)
     (signing : Result (List ℕ) SignerFault) → o.signing ≡ signing
     → SealedBy s account plan octets o b (signed_or_void (pending_of s plan
     (next_reservation s account plan octets b)) (next_reservation s account plan octets b) signing o)
@@ -49,14 +49,14 @@ signed_by s account plan octets o b (Ok signature) is = sealed_by s account plan
 signed_by s account plan octets o b (Err signer.Failed) is = refl
 signed_by s account plan octets o b (Err signer.Memory) is = refl
 
-pub stamping_by : (s : Setting) (account : List ℕ) (plan : PlanValue) (octets : List ℕ) (o : Outcome) (b : History)
+pub stamping_by : (s : Setting) (account : List ℕ) (plan : StampPlan) (octets : List ℕ) (o : Outcome) (b : History)
     (refused : Option Cause)
     → SealedBy s account plan octets o b (stamping_of s account plan octets o b refused)
 stamping_by s account plan octets o b (Some cause) = tt
 stamping_by s account plan octets o b None = signed_by s account plan octets o b o.signing refl
 
 granted_from : (s : Setting) (account : Option AccountValue) (reading : ℤ) (octets : List ℕ) (o : Outcome)
-    (b : History) (plan : PlanValue) (serial : ℕ) (reply : List ℕ)
+    (b : History) (plan : StampPlan) (serial : ℕ) (reply : List ℕ)
     → IsAllowed s.file account reading octets b plan → (st : Stamping)
     → SealedBy s (name_of account) plan octets o b st → (stamp_effect s st).says ≡ Stamped serial reply
     → IsGrant s account reading octets o b serial reply
@@ -146,7 +146,7 @@ rejected_signed s p r o b rule (Err signer.Failed) is e =
 rejected_signed s p r o b rule (Err signer.Memory) is e =
     (cc, inl (OfMemory, (4, omega arith, ap cause_of_signing is)))
 
-rejected_from : (s : Setting) (name : List ℕ) (plan : PlanValue) (octets : List ℕ) (o : Outcome) (b : History)
+rejected_from : (s : Setting) (name : List ℕ) (plan : StampPlan) (octets : List ℕ) (o : Outcome) (b : History)
     (rule : Rule) (refused : Option Cause)
     → no_number o b ≡ refused → (stamp_effect s (stamping_of s name plan octets o b refused)).says ≡ Rejected rule
     → (rule ≡ System) × IsRefused o b
@@ -275,7 +275,7 @@ found_says s name octets o b (Allowed plan) = stamp_says s (stamping_of s name p
 
 -- where no rule fails, all that it needs is answered and a number is left, the stamp is granted
 pub granted_where : (s : Setting) (account : Option AccountValue) (reading : ℤ) (octets : List ℕ) (o : Outcome)
-    (b : History) (e : Effect) (plan : PlanValue)
+    (b : History) (e : Effect) (plan : StampPlan)
     → IsAllowed s.file account reading octets b plan → greatest_serial b < greatest_number → (IsUnanswered o → ⊥)
     → HasEffect s (Stamp account reading octets) o b e
     → (reply : List ℕ) × (e.says ≡ Stamped (greatest_serial b + 1) reply)

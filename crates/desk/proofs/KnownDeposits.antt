@@ -14,8 +14,8 @@ use Rattle.book.specs.declared.fault.StoreFault.{StoreFault}
 use Rattle.book.specs.declared.fault.StoreFault.TheVariants as store
 use Rattle.desk.specs.Calls.{call_of, store_cause, IsOfStore}
 use Rattle.desk.specs.Command.{Setting, Command, Stamp, Begin, Finish, Abandon, Deposit, Show, Token, ListAll, Grant}
-use Rattle.desk.specs.Command.{Revoke, Calibrate, Hold, Answer, Stamped, Rejected, Begun, Kept, Shown, Listed, Done}
-use Rattle.desk.specs.Command.{Refused}
+use Rattle.desk.specs.Command.{Revoke, Calibrate, Hold, Succeed, Answer, Stamped, Rejected, Begun, Kept, Shown, Listed}
+use Rattle.desk.specs.Command.{Done, Numbered, Refused}
 use Rattle.desk.specs.Fit.{IsFit}
 use Rattle.desk.specs.Depositing.{known_in, IsUnused, StepsWhere}
 use Rattle.desk.specs.Effects.{only, fault_of, too_large}
@@ -200,6 +200,7 @@ excused_before g (Grant a n reader) old mid new looks h = h
 excused_before g (Revoke a n reader) old mid new looks h = h
 excused_before g (Calibrate x) old mid new looks h = λ honest b st. h honest b (looks.stands b st)
 excused_before g (Hold x) old mid new looks h = h
+excused_before g (Succeed next) old mid new looks h = h
 
 blamed_before : {B : Type 0} (g : Ghosts B) (c : Command) (o : Outcome) (old mid new : B) (f : Fault)
     → OnlyLooks g old mid → IsBlamedFor g c o mid new f → IsBlamedFor g c o old new f
@@ -225,6 +226,7 @@ said_before g c o old mid new (Kept number is_new) looks h = tt
 said_before g c o old mid new (Shown octets) looks h = tt
 said_before g c o old mid new (Listed rows) looks h = tt
 said_before g c o old mid new Done looks h = tt
+said_before g c o old mid new (Numbered number) looks h = tt
 said_before g c o old mid new (Refused f) looks h = blamed_before g c o old mid new f looks h
 
 -- a step after the look-up is one from before it

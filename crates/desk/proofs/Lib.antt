@@ -12,6 +12,7 @@ pub mod Fitting
 pub mod Given
 pub mod Granting
 pub mod Headline
+pub mod Installing
 pub mod Judgement
 pub mod Keeping
 pub mod KnownDeposits
@@ -34,5 +35,6 @@ pub mod Sighted
 pub mod Sound
 pub mod Stamping
 pub mod Stepping
+pub mod Successions
 pub mod Views
 pub mod Whole

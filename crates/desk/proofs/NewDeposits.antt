@@ -21,7 +21,7 @@ use Rattle.book.specs.declared.fault.StoreFault.{StoreFault}
 use Rattle.book.specs.declared.fault.StoreFault.TheVariants as store
 use Rattle.book.specs.Values.{deposit_of}
 use Rattle.desk.specs.Outcome.{Call, Fine, Wanting, Broken, Outcome, Cause, cause_of, counted, all_fine}
-use Rattle.desk.specs.Findings.{PlanValue, Finding, Fails, Unanswered, Allowed, Finds}
+use Rattle.desk.specs.Findings.{StampPlan, Finding, Fails, Unanswered, Allowed, Finds}
 use Rattle.desk.specs.Command.{Setting, PendingValue, Command, Begin, Deposit, Answer, Rejected, Begun, Kept, Refused}
 use Rattle.desk.specs.Texts.{gives_certificate, pending_of, token_with, request_for, octets_for}
 use Rattle.desk.specs.Effects.{Effect, only, fault_of, no_number, no_seal, next_reservation, sealed_or_void}
@@ -225,7 +225,7 @@ new_deposit g s a reading reference bytes few spelled = record {
 }
 
 -- where a beginning is refused, so is the deposit
-refused_by : (s : Setting) (owner reference bytes octets : List ℕ) (o : Outcome) (b : History) (plan : PlanValue)
+refused_by : (s : Setting) (owner reference bytes octets : List ℕ) (o : Outcome) (b : History) (plan : StampPlan)
     (f : Fault) (why : Option Cause) → (begin_effect s owner plan octets b why).says ≡ Refused f
     → (deposit_effect s owner reference bytes (stamping_of s owner plan octets o b why) ≡ only (Refused f))
     × (begin_effect s owner plan octets b why ≡ only (Refused f))
@@ -242,7 +242,7 @@ refused_found s owner reference bytes octets o b f (Allowed plan) e =
     refused_by s owner reference bytes octets o b plan f (no_number o b) e
 
 -- and where a rule fails, it is rejected by it
-rejected_by : (s : Setting) (owner octets : List ℕ) (b : History) (plan : PlanValue) (rule : Rule)
+rejected_by : (s : Setting) (owner octets : List ℕ) (b : History) (plan : StampPlan) (rule : Rule)
     (why : Option Cause) → (begin_effect s owner plan octets b why).says ≡ Rejected rule → ⊥
 rejected_by s owner octets b plan rule None e = cc
 rejected_by s owner octets b plan rule (Some cause) e = cc
@@ -272,7 +272,7 @@ oldest_signed s owner reference bytes p r o (Ok signature) =
 oldest_signed s owner reference bytes p r o (Err signer.Failed) = refl
 oldest_signed s owner reference bytes p r o (Err signer.Memory) = refl
 
-oldest_planned : (s : Setting) (owner reference bytes : List ℕ) (plan : PlanValue) (octets : List ℕ) (o : Outcome)
+oldest_planned : (s : Setting) (owner reference bytes : List ℕ) (plan : StampPlan) (octets : List ℕ) (o : Outcome)
     (b : History) (why : Option Cause)
     → oldest (deposit_effect s owner reference bytes (stamping_of s owner plan octets o b why)).adds
     ≡ oldest (begin_effect s owner plan octets b why).adds
@@ -422,20 +422,20 @@ is_refused g signs count x s c a reading reference bytes octets P old new r is_n
     (blamed_too g (Begin (Some a) reading octets) c (refused r) old new f (is_new.excused old new) begin.blames)
 
 -- what follows a reservation is the deposit's effect
-begun_by : (s : Setting) (owner octets : List ℕ) (b : History) (plan : PlanValue) (p : PendingValue)
+begun_by : (s : Setting) (owner octets : List ℕ) (b : History) (plan : StampPlan) (p : PendingValue)
     (why : Option Cause) → (begin_effect s owner plan octets b why).says ≡ Begun p
     → (why ≡ None) × (p ≡ pending_of s plan (next_reservation s owner plan octets b))
 begun_by s owner octets b plan p None e = (refl, cc)
 begun_by s owner octets b plan p (Some cause) e = cc
 
-sealed_kept : (s : Setting) (plan : PlanValue) (r : ReservationValue) (owner reference bytes signature : List ℕ)
+sealed_kept : (s : Setting) (plan : StampPlan) (r : ReservationValue) (owner reference bytes signature : List ℕ)
     (why : Option Cause)
     → kept_by (pending_of s plan r) (deposit_of r.serial owner reference bytes) signature (Reserved r ∷ []) why
     ≡ deposit_effect s owner reference bytes (sealed_or_void r (token_with (pending_of s plan r) signature) why)
 sealed_kept s plan r owner reference bytes signature None = refl
 sealed_kept s plan r owner reference bytes signature (Some cause) = refl
 
-signed_kept : (s : Setting) (plan : PlanValue) (r : ReservationValue) (owner reference bytes : List ℕ)
+signed_kept : (s : Setting) (plan : StampPlan) (r : ReservationValue) (owner reference bytes : List ℕ)
     (o finished : Outcome) (signing : Result (List ℕ) SignerFault)
     → kept (pending_of s plan r) (deposit_of r.serial owner reference bytes) signing (Reserved r ∷ []) finished
     ≡ deposit_effect s owner reference bytes (signed_or_void (pending_of s plan r) r signing

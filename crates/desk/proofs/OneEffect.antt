@@ -12,10 +12,10 @@ use Rattle.decide.specs.Clock.{IsGood, IsGoodAt, gen_time, now_at}
 use Rattle.decide.specs.declared.facts.ClockFacts.{ClockFacts}
 use Rattle.book.specs.History.{History, DepositValue, deposit_under}
 use Rattle.desk.specs.Outcome.{Outcome, Cause, Fine, cause_of}
-use Rattle.desk.specs.Findings.{PlanValue, IsAllowed, Finding, Fails, Unanswered, Allowed, Finds, HoldsAt, HoldsUnasked}
+use Rattle.desk.specs.Findings.{StampPlan, IsAllowed, Finding, Fails, Unanswered, Allowed, Finds, HoldsAt, HoldsUnasked}
 use Rattle.desk.specs.Findings.{IsUnjudged, IsAnsweredFor}
 use Rattle.desk.specs.Command.{Setting, Command, Stamp, Begin, Finish, Abandon, Deposit, Show, Token, ListAll, Grant}
-use Rattle.desk.specs.Command.{Revoke, Calibrate, Hold}
+use Rattle.desk.specs.Command.{Revoke, Calibrate, Hold, Succeed}
 use Rattle.desk.specs.Effects.{Effect, stamp_found, begin_found, deposit_found, name_of}
 use Rattle.desk.specs.Facts.{facts_of}
 use Rattle.desk.specs.Steps.{KeepsByReference, KeepsOnceSearched, KeepsWithinSize, HasEffect}
@@ -85,11 +85,11 @@ one_moment : (counter : CounterValue) (facts : ClockFacts) (m n : ℕ) → IsGoo
     → IsGoodAt counter facts n → m ≡ n
 one_moment counter facts m n h k = h.1 ∙ (ap (gen_time counter) (one_now counter facts h.0 k.0) ∙ sym k.1)
 
-abbrev planned : RequestValue → List ℕ → ℕ → PlanValue
+abbrev planned : RequestValue → List ℕ → ℕ → StampPlan
 planned request policy gen_time = record { request = request; policy = policy; gen_time = gen_time }
 
 one_plan : TextLaws → (file : PolicyValue) (account : Option AccountValue) (reading : ℤ) (octets : List ℕ)
-    (b : History) (one other : PlanValue) → IsAllowed file account reading octets b one
+    (b : History) (one other : StampPlan) → IsAllowed file account reading octets b one
     → IsAllowed file account reading octets b other → one ≡ other
 one_plan laws file account reading octets b one other h k =
     let request = laws.one_request octets one.request other.request h.spelled k.spelled in
@@ -169,3 +169,4 @@ one_effect laws s (Grant a n reader) o b e d h k = h ∙ sym k
 one_effect laws s (Revoke a n reader) o b e d h k = h ∙ sym k
 one_effect laws s (Calibrate c) o b e d h k = h ∙ sym k
 one_effect laws s (Hold k) o b e d h j = h ∙ sym j
+one_effect laws s (Succeed next) o b e d h j = h ∙ sym j

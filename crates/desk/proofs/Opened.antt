@@ -1,14 +1,17 @@
 -- What is proved of a desk's parts is said of the desk.
-use Rattle.std.proofs.Common.{◌≡◌, sym, subst}
+use Rattle.std.proofs.Common.{◌≡◌, ◌∙◌, [], Ok, Err, refl, sym, ap, subst}
 use Rattle.book.specs.declared.standing.Standing.{Ghosts}
 use Rattle.book.specs.History.{History}
 use Rattle.book.specs.Sound.{IsSound}
-use Rattle.desk.specs.Command.{Setting, Command, Answer}
+use Rattle.desk.specs.Command.{InForce, Setting, Command, Succeed, Answer, Done, Refused, setting_after}
+use Rattle.desk.specs.Obstacles.{fault_with, hindered}
+use Rattle.desk.specs.declared.fault.Fault.{Fault}
+use Rattle.desk.specs.declared.obstacle.Obstacle.{Obstacle}
 use Rattle.desk.specs.Effects.{Effect}
-use Rattle.desk.specs.Outcome.{Outcome}
+use Rattle.desk.specs.Outcome.{Outcome, all_fine}
 use Rattle.desk.specs.Promises.{KeepsPromises}
 use Rattle.desk.specs.Steps.{HasEffect}
-use Rattle.desk.specs.Stepped.{DeskValue, SignerStep, StepsBy, IsStepBy}
+use Rattle.desk.specs.Stepped.{DeskValue, desk_of, SignerStep, no_signer, StepsBy, IsStepBy, IsStep, HasOpened}
 
 -- what is promised of each command
 abbrev pub ArePromises : Type 0
@@ -23,11 +26,66 @@ promised g promises t s c o old new answer by = record {
       let h = by.steps honest b stands met in promises s c o b h.effect stands.sound h.has;
 }
 
+-- the setting stays under the command, whatever is answered
+abbrev pub StaysUnder : Command → Type 0
+StaysUnder c = (s : Setting) (a : Answer) → setting_after s c a ≡ s
+
 pub steps_opened : {B : Type 0} (g : Ghosts B) → ArePromises → (t : SignerStep) (seen now : DeskValue B)
-    (one other : Command) (o : Outcome) (new : B) (said says : Answer) → seen ≡ now → one ≡ other → says ≡ said
-    → StepsBy g t seen.setting one o seen.store new said → IsStepBy g t now.setting other o now.store new says
-steps_opened g promises t seen now one other o new said says same command answer step =
-    promised g promises t now.setting other o now.store new says
-    (subst (λ d. StepsBy g t d.setting other o d.store new says) same
-    (subst (λ c. StepsBy g t seen.setting c o seen.store new says) command
-    (subst (λ a. StepsBy g t seen.setting one o seen.store new a) (sym answer) step)))
+    (one other : Command) (o : Outcome) (new : B) (said says : Answer) → StaysUnder other → seen ≡ now → one ≡ other
+    → says ≡ said → StepsBy g t seen.setting one o seen.store new said
+    → IsStep g t other now (record { setting = seen.setting; store = new }) says
+steps_opened g promises t seen now one other o new said says stays same command answer step = record {
+  setting = ap (λ d. d.setting) same ∙ sym (stays now.setting says);
+  outcome = o;
+  by = promised g promises t now.setting other o now.store new says
+      (subst (λ d. StepsBy g t d.setting other o d.store new says) same
+      (subst (λ c. StepsBy g t seen.setting c o seen.store new says) command
+      (subst (λ a. StepsBy g t seen.setting one o seen.store new a) (sym answer) step)));
+}
+
+-- an opening, and one that is refused
+pub opens_by : {B : Type 0} (g : Ghosts B) → ArePromises → (s : Setting) (old new : B)
+    → StepsBy g no_signer s (Succeed s.in_force) (all_fine (Ok [])) old new Done
+    → HasOpened g s old (Ok (desk_of s new))
+opens_by g promises s old new step = (
+  refl,
+  record {
+    setting = refl;
+    outcome = all_fine (Ok []);
+    by = promised g promises no_signer s (Succeed s.in_force) (all_fine (Ok [])) old new Done step;
+  },
+)
+
+pub opening_refused : {B : Type 0} (g : Ghosts B) → ArePromises → (s : Setting) (x : Obstacle) (f : Fault) (old new : B)
+    → f ≡ fault_with x → StepsBy g no_signer s (Succeed s.in_force) (hindered x) old new (Refused (fault_with x))
+    → HasOpened g s old (Err (f, new))
+opening_refused g promises s x f old new same step = record {
+  setting = refl;
+  outcome = hindered x;
+  by = promised g promises no_signer s (Succeed s.in_force) (hindered x) old new (Refused f)
+      (subst (λ k. StepsBy g no_signer s (Succeed s.in_force) (hindered x) old new (Refused k)) (sym same) step);
+}
+
+-- a succession of a desk that is open
+pub succeeds_by : {B : Type 0} (g : Ghosts B) → ArePromises → (seen now : DeskValue B) (k : InForce) (new : B)
+    (after : Setting) → seen ≡ now → after ≡ record seen.setting { in_force = k }
+    → StepsBy g no_signer seen.setting (Succeed k) (all_fine (Ok [])) seen.store new Done
+    → IsStep g no_signer (Succeed k) now (desk_of after new) Done
+succeeds_by g promises seen now k new after same brought step = record {
+  setting = brought ∙ ap (λ d. record d.setting { in_force = k }) same;
+  outcome = all_fine (Ok []);
+  by = promised g promises no_signer now.setting (Succeed k) (all_fine (Ok [])) now.store new Done
+      (subst (λ d. StepsBy g no_signer d.setting (Succeed k) (all_fine (Ok [])) d.store new Done) same step);
+}
+
+pub succession_refused : {B : Type 0} (g : Ghosts B) → ArePromises → (seen now : DeskValue B) (k : InForce) (x : Obstacle)
+    (f : Fault) (new : B) → seen ≡ now → f ≡ fault_with x
+    → StepsBy g no_signer seen.setting (Succeed k) (hindered x) seen.store new (Refused (fault_with x))
+    → IsStep g no_signer (Succeed k) now (desk_of seen.setting new) (Refused f)
+succession_refused g promises seen now k x f new same told step = record {
+  setting = ap (λ d. d.setting) same;
+  outcome = hindered x;
+  by = promised g promises no_signer now.setting (Succeed k) (hindered x) now.store new (Refused f)
+      (subst (λ d. StepsBy g no_signer d.setting (Succeed k) (hindered x) d.store new (Refused f)) same
+      (subst (λ j. StepsBy g no_signer seen.setting (Succeed k) (hindered x) seen.store new (Refused j)) (sym told) step));
+}

@@ -7,7 +7,7 @@ use Rattle.std.specs.Str.{bytes_eq}
 use Rattle.std.proofs.lemmas.Bool.{eqb-true}
 use Rattle.policy.specs.Record.{AccountValue}
 use Rattle.book.specs.Rows.{StampRow, DepositRow}
-use Rattle.book.specs.History.{deposits, Reserved, Sealed, Deposited, Calibrated, Held, Granted, Revoked}
+use Rattle.book.specs.History.{deposits, Reserved, Sealed, Deposited, Calibrated, Held, Granted, Revoked, Installed}
 use Rattle.book.specs.History.{History, ReservationValue, reservations, stamps, stamp_of, greatest_of, greatest_serial}
 use Rattle.book.specs.History.{token_of, reservation_at, deposit_at, deposit_under}
 use Rattle.book.specs.Readers.{Reader, is_same, Viewer}
@@ -19,7 +19,7 @@ use Rattle.desk.specs.Agreement.{SeenValue, seen_as, seen_at}
 use Rattle.desk.specs.Outcome.{Outcome, Cause, cause_of}
 use Rattle.desk.specs.Findings.{Finding, Fails, Unanswered, Allowed}
 use Rattle.desk.specs.Command.{Setting, Command, Stamp, Begin, Finish, Abandon, Deposit, Show, Token, ListAll, Grant}
-use Rattle.desk.specs.Command.{Revoke, Calibrate, Hold, Listed}
+use Rattle.desk.specs.Command.{Revoke, Calibrate, Hold, Succeed, Listed}
 use Rattle.desk.specs.Texts.{octets_for}
 use Rattle.desk.specs.Effects.{Effect, unless, Stamping, Unreserved, Void, Sealing, no_number, next_reservation}
 use Rattle.desk.specs.Effects.{stamping_of, stamp_effect, stamp_found, deposit_effect, deposit_found}
@@ -57,6 +57,7 @@ reader_of_deposit (Sealed m t ∷ b) sound n reader e = reader_of_deposit b soun
 reader_of_deposit (Deposited d t ∷ b) sound n reader e = reader_of_deposit b sound.1 n reader e
 reader_of_deposit (Calibrated c ∷ b) sound n reader e = reader_of_deposit b sound.1 n reader e
 reader_of_deposit (Held h ∷ b) sound n reader e = reader_of_deposit b sound.1 n reader e
+reader_of_deposit (Installed i ∷ b) sound n reader e = reader_of_deposit b sound.1 n reader e
 reader_of_deposit (Granted m x ∷ b) sound n reader e =
     right_below b sound.1 m n reader (m == n) (is_same x reader) true refl sound.0
     (reader_of_deposit b sound.1 n reader) (sym (reader_after_grant n reader m x b) ∙ e)
@@ -80,6 +81,7 @@ other_reserved viewer concerned b r sound other above = record {
   seen = λ n free. sym (seen_beside viewer n b r sound above (seen_by viewer n b) refl);
   calibration = refl;
   holding = refl;
+  identity = refl;
 }
 
 -- a token under a number above the others
@@ -130,6 +132,7 @@ other_sealed viewer concerned b r t sound other above = record {
   seen = λ m free. sym (seen_stamped viewer m r t b sound above (seen_by viewer m b) refl);
   calibration = refl;
   holding = refl;
+  identity = refl;
 }
 
 -- a deposit of another account
@@ -176,6 +179,7 @@ other_deposited viewer concerned b r owner reference bytes t sound other_owner o
       seen = λ m free. sym (new_unseen viewer m d r t b sound other_owner above (r.serial == m) refl);
       calibration = refl;
       holding = refl;
+      identity = refl;
     }
 
 same_stays : (viewer : Viewer) (concerned : ℕ → Type 0) (b : History) → StaysFor viewer concerned b b
@@ -185,6 +189,7 @@ same_stays viewer concerned b = record {
   seen = λ n free. refl;
   calibration = refl;
   holding = refl;
+  identity = refl;
 }
 
 none_stays : (viewer : Viewer) (concerned : ℕ → Type 0) (e : Effect) (b : History) → e.adds ≡ []
@@ -205,6 +210,7 @@ granted_stays viewer n x e b (inr h) =
           (seen_beside_grant viewer n x m b (false_where (n == m) (λ e. free (eqb-true n m e)))));
       calibration = refl;
       holding = refl;
+      identity = refl;
     })
 
 revoked_stays : (viewer : Viewer) (n : ℕ) (x : Reader) (e : Effect) (b : History) → IsAtMost (Revoked n x) e
@@ -219,6 +225,7 @@ revoked_stays viewer n x e b (inr h) =
           (seen_beside_revocation viewer n x m b (false_where (n == m) (λ e. free (eqb-true n m e)))));
       calibration = refl;
       holding = refl;
+      identity = refl;
     })
 
 -- a stamping by another account
@@ -355,3 +362,4 @@ step_stays account s (Revoke a n reader) o b e sound other h =
     (at_most_unless entry (cause_of o.searching) d (right_at_most s.file a.name reader o entry seen)))
 step_stays account s (Calibrate c) o b e sound other h = absurd other
 step_stays account s (Hold k) o b e sound other h = absurd other
+step_stays account s (Succeed next) o b e sound other h = absurd other

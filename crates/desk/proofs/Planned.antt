@@ -12,10 +12,10 @@ use Rattle.book.specs.History.{Reserved, Deposited, History, DepositValue, great
 use Rattle.book.specs.Sound.{IsSound}
 use Rattle.book.specs.Values.{deposit_of}
 use Rattle.desk.specs.Outcome.{Outcome, Cause, OfMemory, OfStore, OfSigner, cause_of}
-use Rattle.desk.specs.Findings.{PlanValue, IsAllowed, HoldsAt, Finding, Fails, Unanswered, Allowed, Finds}
+use Rattle.desk.specs.Findings.{StampPlan, IsAllowed, HoldsAt, Finding, Fails, Unanswered, Allowed, Finds}
 use Rattle.desk.specs.Command.{Setting, PendingValue, Command, Stamp, Begin, Finish, Abandon, Deposit, Show, Token}
-use Rattle.desk.specs.Command.{ListAll, Grant, Revoke, Calibrate, Hold, Answer, Stamped, Rejected, Begun, Kept, Shown}
-use Rattle.desk.specs.Command.{Listed, Done, Refused}
+use Rattle.desk.specs.Command.{ListAll, Grant, Revoke, Calibrate, Hold, Succeed, Answer, Stamped, Rejected, Begun, Kept}
+use Rattle.desk.specs.Command.{Shown, Listed, Done, Numbered, Refused}
 use Rattle.desk.specs.Texts.{tst_of, reservation_of, pending_of, token_with, gives_certificate, request_for, octets_for}
 use Rattle.desk.specs.Effects.{Effect, only, unless, Stamping, Unreserved, Void, Sealing, no_number, no_seal, name_of}
 use Rattle.desk.specs.Effects.{next_reservation, stamping_of, begin_effect, begin_found, finish_effect}
@@ -30,7 +30,7 @@ use Rattle.desk.proofs.Views.{found_under, same_octets}
 
 -- what is begun
 begun_from : (s : Setting) (account : Option AccountValue) (reading : ℤ) (octets : List ℕ) (b : History)
-    (plan : PlanValue) (p : PendingValue) → IsAllowed s.file account reading octets b plan → (why : Option Cause)
+    (plan : StampPlan) (p : PendingValue) → IsAllowed s.file account reading octets b plan → (why : Option Cause)
     → (begin_effect s (name_of account) plan octets b why).says ≡ Begun p
     → IsBegunOf s account reading octets b p
 begun_from s account reading octets b plan p allowed (Some cause) e = cc
@@ -61,7 +61,7 @@ begun_is s account reading octets o b e p h says =
     begun_found s account reading octets o b p h.0 h.1 (sym (ap (λ x. x.says) h.2) ∙ says)
 
 -- a beginning is rejected by the first rule that fails
-unrejected : (s : Setting) (name octets : List ℕ) (b : History) (plan : PlanValue) (rule : Rule) (why : Option Cause)
+unrejected : (s : Setting) (name octets : List ℕ) (b : History) (plan : StampPlan) (rule : Rule) (why : Option Cause)
     → (begin_effect s name plan octets b why).says ≡ Rejected rule → ⊥
 unrejected s name octets b plan rule (Some cause) e = cc
 unrejected s name octets b plan rule None e = cc
@@ -102,7 +102,7 @@ abbrev rows : List ℕ → List ℕ → List ℕ → ℕ → DepositValue
 rows owner reference bytes n = deposit_of n owner reference bytes
 
 deposited_from : TextLaws → (s : Setting) (a : AccountValue) (reading : ℤ) (reference bytes : List ℕ) (o : Outcome)
-    (b : History) (plan : PlanValue) (number : ℕ)
+    (b : History) (plan : StampPlan) (number : ℕ)
     → Spells (octets_for s.file a bytes) (request_for s.file a bytes)
     → IsAllowed s.file (Some a) reading (octets_for s.file a bytes) b plan → (st : Stamping)
     → SealedBy s a.name plan (octets_for s.file a bytes) o b st
@@ -117,13 +117,13 @@ deposited_from laws s a reading reference bytes o b plan number spelled allowed 
     let of_next : r.serial ≡ number = cc in
     let number_is : number ≡ greatest_serial b + 1 = sym of_next ∙ ap (λ x. x.serial) by.1 in
     let given : plan.request.cert_req ≡ gives_certificate s.file a = ap (λ x. x.cert_req) request in
-    let signed = λ (n : ℕ) (certificate : Bool). token s.identity s.algorithm (tst_of s.file plan n) by.0 certificate
+    let signed = λ (n : ℕ) (certificate : Bool). token s.in_force.identity s.in_force.algorithm (tst_of s plan n) by.0 certificate
     in
     let text_is : text ≡ signed number (gives_certificate s.file a) =
     by.2 ∙ (ap (signed (greatest_serial b + 1)) given
     ∙ ap (λ n. signed n (gives_certificate s.file a)) (sym number_is)) in
-    let reserved_is : r ≡ reservation_of s.file a.name plan octets number =
-    by.1 ∙ ap (reservation_of s.file a.name plan octets) (sym number_is) in
+    let reserved_is : r ≡ reservation_of s a.name plan octets number =
+    by.1 ∙ ap (reservation_of s a.name plan octets) (sym number_is) in
     record {
       plan = plan;
       allowed = allowed;
@@ -228,6 +228,7 @@ new_of laws s a reading reference bytes o b spelled f found (Begun p) e = tt
 new_of laws s a reading reference bytes o b spelled f found (Shown octets) e = tt
 new_of laws s a reading reference bytes o b spelled f found (Listed xs) e = tt
 new_of laws s a reading reference bytes o b spelled f found Done e = tt
+new_of laws s a reading reference bytes o b spelled f found (Numbered n) e = tt
 
 under_of : TextLaws → (s : Setting) (a : AccountValue) (reading : ℤ) (reference bytes : List ℕ) (o : Outcome)
     (b : History) → IsSound b → (e : Effect) → (under : Option DepositValue) → deposit_under a.name reference b ≡ under
@@ -279,6 +280,7 @@ stamp_of s account reading octets o b e h (Kept number new) says = tt
 stamp_of s account reading octets o b e h (Shown bytes) says = tt
 stamp_of s account reading octets o b e h (Listed xs) says = tt
 stamp_of s account reading octets o b e h Done says = tt
+stamp_of s account reading octets o b e h (Numbered n) says = tt
 stamp_of s account reading octets o b e h (Refused f) says = tt
 
 begin_of : (s : Setting) (account : Option AccountValue) (reading : ℤ) (octets : List ℕ) (o : Outcome) (b : History)
@@ -292,6 +294,7 @@ begin_of s account reading octets o b e h (Kept number new) says = tt
 begin_of s account reading octets o b e h (Shown bytes) says = tt
 begin_of s account reading octets o b e h (Listed xs) says = tt
 begin_of s account reading octets o b e h Done says = tt
+begin_of s account reading octets o b e h (Numbered n) says = tt
 begin_of s account reading octets o b e h (Refused f) says = tt
 
 finish_of : (s : Setting) (p : PendingValue) (signature : List ℕ) (o : Outcome) (b : History) (e : Effect)
@@ -304,6 +307,7 @@ finish_of s p signature o b e h (Kept number new) says = tt
 finish_of s p signature o b e h (Shown bytes) says = tt
 finish_of s p signature o b e h (Listed xs) says = tt
 finish_of s p signature o b e h Done says = tt
+finish_of s p signature o b e h (Numbered n) says = tt
 finish_of s p signature o b e h (Refused f) says = tt
 
 pub of_plan : TextLaws → (s : Setting) (c : Command) (o : Outcome) (b : History) (e : Effect) → IsSound b
@@ -321,3 +325,4 @@ of_plan laws s (Grant a n reader) o b e sound h = tt
 of_plan laws s (Revoke a n reader) o b e sound h = tt
 of_plan laws s (Calibrate c) o b e sound h = tt
 of_plan laws s (Hold k) o b e sound h = tt
+of_plan laws s (Succeed next) o b e sound h = tt

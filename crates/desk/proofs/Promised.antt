@@ -1,4 +1,5 @@
 -- What is promised of each command is kept.
+use Rattle.std.proofs.Common.{subst}
 use Rattle.desk.specs.Command.{Setting, Command}
 use Rattle.desk.specs.Effects.{Effect}
 use Rattle.desk.specs.Outcome.{Outcome}
@@ -8,6 +9,7 @@ use Rattle.book.specs.History.{History}
 use Rattle.book.specs.Sound.{IsSound}
 use Rattle.desk.proofs.Agreeing.{step_agrees}
 use Rattle.desk.proofs.Given.{asked_is_reserved, begun_is_reserved}
+use Rattle.desk.proofs.Installing.{in_force_kept, brought_in_force}
 use Rattle.desk.proofs.Others.{step_stays}
 use Rattle.desk.proofs.Planned.{of_plan}
 use Rattle.desk.proofs.SameEffect.{effect_same}
@@ -27,5 +29,7 @@ keeps_promises laws s c o b e sound h = record {
     agree = step_agrees account s c o b other e sound fine agree own h;
   };
   undisturbed = λ account other. step_stays account s c o b e sound other h;
-  whole = λ proper full met. step_sound laws s c o e b proper full met h;
+  whole = λ proper nameable full met. step_sound laws s c o e b proper nameable full met h;
+  in_force = in_force_kept s c o b e h;
+  brought = λ next same. brought_in_force s next o b e (subst (λ x. HasEffect s x o b e) same h);
 }

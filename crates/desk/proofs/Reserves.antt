@@ -15,7 +15,7 @@ use Rattle.book.specs.declared.fault.StoreFault.TheVariants as store
 use Rattle.desk.specs.Calls.{cause_with, refused, adding_refusal, IsOfReserving, reserving, Reserves}
 use Rattle.desk.specs.Command.{Setting, PendingValue, Begun}
 use Rattle.desk.specs.Effects.{no_number, next_reservation, begin_effect}
-use Rattle.desk.specs.Findings.{PlanValue}
+use Rattle.desk.specs.Findings.{StampPlan}
 use Rattle.desk.specs.Outcome.{Outcome, Fine, all_fine, Cause, OfStore, cause_of, first_cause, faults_after}
 use Rattle.desk.specs.Runs.{after}
 use Rattle.desk.specs.Stepped.{committed}
@@ -40,7 +40,7 @@ pub left_number : (o : Outcome) (b : History) → greatest_serial b < greatest_n
 left_number o b h = ap (causes_at o) (is_left (greatest_serial b) h)
 
 -- nothing is reserved
-pub reserves_refused : {B : Type 0} (g : Ghosts B) (s : Setting) (account : List ℕ) (plan : PlanValue) (octets : List ℕ)
+pub reserves_refused : {B : Type 0} (g : Ghosts B) (s : Setting) (account : List ℕ) (plan : StampPlan) (octets : List ℕ)
     (b : History) (old new : B) (r : Refusal) → no_number (refused r) b ≡ Some (cause_with r)
     → Stands g b new → ((left : g.Left) → g.leaves new left → g.leaves old left
     ⊎ (((refused r).adding ≡ Fine → ⊥)
@@ -56,7 +56,7 @@ reserves_refused g s account plan octets b old new r e st leaves = record {
 }
 
 -- the next number is
-pub reserves_next : {B : Type 0} (g : Ghosts B) (s : Setting) (account : List ℕ) (plan : PlanValue) (octets : List ℕ)
+pub reserves_next : {B : Type 0} (g : Ghosts B) (s : Setting) (account : List ℕ) (plan : StampPlan) (octets : List ℕ)
     (b : History) (old new : B) (p : PendingValue) (r : ReservationValue)
     → no_number (all_fine (Ok [])) b ≡ None → r ≡ next_reservation s account plan octets b → p ≡ pending_of s plan r
     → g.honest new → g.is_open new → Stands g (Reserved r ∷ b) new
@@ -85,11 +85,11 @@ made serial account gen_time policy algorithm digest request tst = record {
 }
 
 -- what is prepared is the next reservation
-pub next_is : (s : Setting) (account : List ℕ) (plan : PlanValue) (octets : List ℕ) (b : History) (last : ℕ)
+pub next_is : (s : Setting) (account : List ℕ) (plan : StampPlan) (octets : List ℕ) (b : History) (last : ℕ)
     (serial gen_time : ℕ) (policy algorithm digest tst : List ℕ)
     → greatest_serial b ≡ last → serial ≡ last + 1 → gen_time ≡ plan.gen_time → policy ≡ oid_content plan.policy
     → algorithm ≡ oid_content plan.request.imprint.algorithm → digest ≡ plan.request.imprint.hash
-    → tst ≡ tst_of s.file plan (last + 1)
+    → tst ≡ tst_of s plan (last + 1)
     → made serial account gen_time policy algorithm digest octets tst ≡ next_reservation s account plan octets b
 next_is s account plan octets b last serial gen_time policy algorithm digest tst e f g h k l m =
     ap (λ x. made x account gen_time policy algorithm digest octets tst) f
@@ -100,7 +100,7 @@ next_is s account plan octets b last serial gen_time policy algorithm digest tst
     (oid_content plan.request.imprint.algorithm) x octets tst) l
     ∙ (ap (λ x. made (last + 1) account plan.gen_time (oid_content plan.policy)
     (oid_content plan.request.imprint.algorithm) plan.request.imprint.hash octets x) m
-    ∙ ap (λ x. reservation_of s.file account plan octets (x + 1)) (sym e))))))
+    ∙ ap (λ x. reservation_of s account plan octets (x + 1)) (sym e))))))
 
 abbrev pub waiting : ℕ → List ℕ → Bool → IdentityValue → List ℕ → PendingValue
 waiting serial tst certificate identity algorithm = record {
@@ -111,10 +111,10 @@ waiting serial tst certificate identity algorithm = record {
   algorithm = algorithm;
 }
 
-pub waits_for : (s : Setting) (plan : PlanValue) (r : ReservationValue) (certificate : Bool)
+pub waits_for : (s : Setting) (plan : StampPlan) (r : ReservationValue) (certificate : Bool)
     → certificate ≡ plan.request.cert_req
-    → waiting r.serial r.tst certificate s.identity s.algorithm ≡ pending_of s plan r
-waits_for s plan r certificate e = ap (λ x. waiting r.serial r.tst x s.identity s.algorithm) e
+    → waiting r.serial r.tst certificate s.in_force.identity s.in_force.algorithm ≡ pending_of s plan r
+waits_for s plan r certificate e = ap (λ x. waiting r.serial r.tst x s.in_force.identity s.in_force.algorithm) e
 
 pub fits_next : (r : ReservationValue) (b : History) (last : ℕ) → greatest_serial b ≡ last → r.serial ≡ last + 1
     → last < greatest_number → r.gen_time ≤ last_moment → Fits (Reserved r) b
@@ -178,7 +178,7 @@ adding_met store.Full b h unspent full e = spent_not_left b unspent (full refl)
 adding_met store.Backwards b h unspent full e = not_backwards h
 
 -- the commit is refused
-pub adding_refused : {B : Type 0} (g : Ghosts B) (s : Setting) (account : List ℕ) (plan : PlanValue) (octets : List ℕ)
+pub adding_refused : {B : Type 0} (g : Ghosts B) (s : Setting) (account : List ℕ) (plan : StampPlan) (octets : List ℕ)
     (b : History) (old new : B) (f : StoreFault) (r : ReservationValue)
     → RefusesReserving f → greatest_serial b < greatest_number → (f ≡ store.Full → IsSpent b)
     → r ≡ next_reservation s account plan octets b → Fits (Reserved r) b → g.honest new → Stands g b old

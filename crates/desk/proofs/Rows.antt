@@ -7,15 +7,18 @@ use Rattle.tsp.specs.Request.{sha256_request}
 use Rattle.tsp.specs.declared.rule.Rule.TheVariants.{System}
 use Rattle.cms.specs.declared.signer.SignerFault.TheVariants as signer
 use Rattle.book.specs.History.{Reserved, Deposited, Calibrated, Held, Granted, Revoked, History, ReservationValue}
-use Rattle.book.specs.History.{DepositValue}
+use Rattle.book.specs.History.{Installed, DepositValue}
 use Rattle.book.specs.Readers.{Reader, Account, Group}
 use Rattle.book.specs.Rights.{seen_by}
 use Rattle.desk.specs.Facts.{facts_of, count_in, gen_time_in}
 use Rattle.desk.specs.Outcome.{Wanting, Broken, OfMemory, OfStore, all_fine, faults_after}
-use Rattle.desk.specs.Findings.{PlanValue}
-use Rattle.desk.specs.Command.{Setting, Rejected, Refused, Kept, Done}
+use Rattle.desk.specs.Findings.{StampPlan}
+use Rattle.desk.specs.Command.{InForce, Setting, Succeed, Rejected, Refused, Kept, Done, Numbered, setting_after}
+use Rattle.cms.specs.Identity.{IdentityValue}
+use Rattle.book.specs.Identities.{latest_identity}
+use Rattle.desk.specs.Succession.{installed_by, is_latest, subject_of, tsa_of}
 use Rattle.desk.specs.Effects.{no_number, next_reservation, stamping_of, stamp_effect, deposit_effect, known_effect}
-use Rattle.desk.specs.Effects.{right_effect, show_effect}
+use Rattle.desk.specs.Effects.{Effect, right_effect, show_effect, succeed_effect, calibrate_effect}
 use Rattle.desk.specs.Viewers.{viewer_in}
 use Rattle.desk.specs.declared.fault.Fault.TheVariants as fault
 
@@ -54,6 +57,7 @@ file = record {
     max_age_us =
         86400000000;
     anonymous = None;
+    tsa_name = false;
   };
   algorithms = [];
   extensions = [];
@@ -63,7 +67,20 @@ file = record {
 }
 
 abbrev pub setting : Setting
-setting = record { file = file; identity = record { certificate = []; issuer = []; serial = [] }; algorithm = [] }
+setting = record {
+  file = file;
+  in_force = record {
+    identity = record {
+      certificate = 1 ∷ [];
+      chain = [];
+      certificates = 1 ∷ [];
+      issuer = [];
+      serial = [];
+      subject = [];
+    };
+    algorithm = [];
+  };
+}
 
 abbrev pub reserved : ℕ → ℕ → ReservationValue
 reserved serial moment = record {
@@ -103,7 +120,7 @@ held_at_end : (facts_of file None (pos 1000000) (Held (record { from = pos 0; to
     ∷ history)).clock.held ≡ false
 held_at_end = refl
 
-abbrev plan : PlanValue
+abbrev plan : StampPlan
 plan = record { request = sha256_request [] false; policy = []; gen_time = 86400000000 }
 
 -- the number after those of void stamps
@@ -236,3 +253,49 @@ unknown_group = refl
 not_the_owner_of_it : (right_effect file (codes "carol") staff (all_fine (Ok [])) (Granted 2 staff)
     (Some deposit)).says ≡ Refused fault.NotOwner
 not_the_owner_of_it = refl
+
+-- an identity that was installed last isn't installed again, and one with another chain is
+abbrev pub identity : IdentityValue
+identity = setting.in_force.identity
+
+abbrev pub installed : History
+installed = Installed (installed_by identity) ∷ history
+
+abbrev succeeding : IdentityValue → History → Effect
+succeeding next b =
+    succeed_effect (all_fine (Ok [])) (installed_by next) (is_latest (installed_by next) (latest_identity b))
+
+installed_once : (succeeding identity history).adds ≡ Installed (installed_by identity) ∷ []
+installed_once = refl
+
+installed_again : (succeeding identity installed).adds ≡ []
+installed_again = refl
+
+abbrev pub chained : IdentityValue
+chained = record identity { chain = 2 ∷ [] }
+
+installed_chained : (succeeding chained installed).adds ≡ Installed (installed_by chained) ∷ []
+installed_chained = refl
+
+-- a succession that is refused leaves what was in force
+abbrev pub chained_force : InForce
+chained_force = record { identity = chained; algorithm = [] }
+
+kept_force : setting_after setting (Succeed chained_force) (Refused fault.Store) ≡ setting
+kept_force = refl
+
+new_force : (setting_after setting (Succeed chained_force) Done).in_force ≡ chained_force
+new_force = refl
+
+-- nobody is named by a file that doesn't want it
+unnamed : tsa_of setting ≡ None
+unnamed = refl
+
+named : tsa_of (record setting { file = record file { counter = record file.counter { tsa_name = true } } })
+    ≡ Some (subject_of identity)
+named = refl
+
+-- the second calibration's number
+second_calibration : (calibrate_effect (record { reading = pos 5; offset = pos 0; uncertainty = 0 }) history).says
+    ≡ Numbered 2
+second_calibration = refl

@@ -23,9 +23,9 @@ use Rattle.book.specs.Rights.{seen_by, ListedValue, listed_as, listed_at, listed
 use Rattle.desk.specs.Agreement.{SeenValue, seen_as, Agree, IsCommandOf}
 use Rattle.desk.specs.Facts.{now_in, is_held_at, gen_time_of, gen_time_in, count_in, facts_of}
 use Rattle.desk.specs.Outcome.{Outcome, Cause, OfStore, cause_of, first_cause}
-use Rattle.desk.specs.Findings.{IsUnjudged, PlanValue, IsAllowed, Finding, Fails, Unanswered, Allowed, Finds}
+use Rattle.desk.specs.Findings.{IsUnjudged, StampPlan, IsAllowed, Finding, Fails, Unanswered, Allowed, Finds}
 use Rattle.desk.specs.Command.{Setting, Command, Stamp, Begin, Finish, Abandon, Deposit, Show, Token, ListAll, Grant}
-use Rattle.desk.specs.Command.{Revoke, Calibrate, Hold, Listed}
+use Rattle.desk.specs.Command.{Revoke, Calibrate, Hold, Succeed, Listed}
 use Rattle.book.specs.Sound.{greatest_number}
 use Rattle.desk.specs.Texts.{octets_for, reservation_of, pending_of}
 use Rattle.desk.specs.Effects.{Stamping, Unreserved, signed_or_void, stamping_of, stamp_effect, deposit_effect}
@@ -97,7 +97,7 @@ facts_same file a reading b c agree =
 
 -- what is found of a request
 allowed_same : (file : PolicyValue) (account : Option AccountValue) (reading : ℤ) (octets : List ℕ) (b c : History)
-    (plan : PlanValue)
+    (plan : StampPlan)
     → facts_of file account reading b ≡ facts_of file account reading c
     → IsAllowed file account reading octets b plan → IsAllowed file account reading octets c plan
 allowed_same file account reading octets b c plan e allowed = record {
@@ -132,19 +132,19 @@ number_same : (o : Outcome) (b c : History) → greatest_serial b ≡ greatest_s
 number_same o b c e = ap (λ n. first_cause ((if nat_le greatest_number n then Some OfStore else None)
     ∷ cause_of o.growing ∷ cause_of o.adding ∷ [])) e
 
-abbrev stamping_with : Setting → List ℕ → PlanValue → List ℕ → Outcome → ℕ → Option Cause → Stamping
+abbrev stamping_with : Setting → List ℕ → StampPlan → List ℕ → Outcome → ℕ → Option Cause → Stamping
 stamping_with s account plan octets o n (Some cause) = Unreserved cause
 stamping_with s account plan octets o n None =
-    let r = reservation_of s.file account plan octets (n + 1) in signed_or_void (pending_of s plan r) r o.signing o
+    let r = reservation_of s account plan octets (n + 1) in signed_or_void (pending_of s plan r) r o.signing o
 
-stamping_as : (s : Setting) (account : List ℕ) (plan : PlanValue) (octets : List ℕ) (o : Outcome) (b : History)
+stamping_as : (s : Setting) (account : List ℕ) (plan : StampPlan) (octets : List ℕ) (o : Outcome) (b : History)
     (refused : Option Cause)
     → stamping_of s account plan octets o b refused
     ≡ stamping_with s account plan octets o (greatest_serial b) refused
 stamping_as s account plan octets o b (Some cause) = refl
 stamping_as s account plan octets o b None = refl
 
-stamping_same : (s : Setting) (account : List ℕ) (plan : PlanValue) (octets : List ℕ) (o : Outcome) (b c : History)
+stamping_same : (s : Setting) (account : List ℕ) (plan : StampPlan) (octets : List ℕ) (o : Outcome) (b c : History)
     → greatest_serial b ≡ greatest_serial c
     → stamping_of s account plan octets o b (no_number o b) ≡ stamping_of s account plan octets o c (no_number o c)
 stamping_same s account plan octets o b c e =
@@ -343,3 +343,4 @@ effect_same account s (Revoke a n reader) o b c e agree own h =
     (seen_same (viewer_in s.file a.name) n b c (agree_as s.file a.name account b c own agree))
 effect_same account s (Calibrate x) o b c e agree own h = absurd own
 effect_same account s (Hold x) o b c e agree own h = absurd own
+effect_same account s (Succeed next) o b c e agree own h = absurd own

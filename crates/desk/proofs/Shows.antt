@@ -10,7 +10,7 @@ use Rattle.policy.specs.Kinds.{is_among}
 use Rattle.policy.specs.LookUp.{account_named}
 use Rattle.book.specs.Rows.{DepositRow, StampRow}
 use Rattle.book.specs.History.{Entry, Reserved, Sealed, Deposited, Calibrated, Held, Granted, Revoked, History}
-use Rattle.book.specs.History.{ReservationValue, DepositValue, stamp_of, token_of, reservation_at, deposit_at}
+use Rattle.book.specs.History.{Installed, ReservationValue, DepositValue, stamp_of, token_of, reservation_at, deposit_at}
 use Rattle.book.specs.Readers.{Viewer}
 use Rattle.book.specs.Rights.{may_read, shown_to, seen_by, is_visible, deposit_with_stamp}
 use Rattle.book.specs.Sound.{Along, Fits, FitsSealed, IsSound}
@@ -56,6 +56,7 @@ deposit_reserved (Granted m a ∷ b) g n d e =
     reservation_goes_on (Granted m a) b g.0 n (deposit_reserved b g.1 n d e)
 deposit_reserved (Revoked m a ∷ b) g n d e =
     reservation_goes_on (Revoked m a) b g.0 n (deposit_reserved b g.1 n d e)
+deposit_reserved (Installed i ∷ b) g n d e = reservation_goes_on (Installed i) b g.0 n (deposit_reserved b g.1 n d e)
 
 absent_at : (token : Option (List ℕ)) (at : Option DepositRow) (reserved : Option ReservationValue)
     → ((d : DepositRow) → at ≡ Some d → (r : ReservationValue) × (reserved ≡ Some r))

@@ -7,13 +7,14 @@ use Rattle.std.specs.Str.{bytes_eq}
 use Rattle.std.proofs.lemmas.Bool.{eqb-true}
 use Rattle.std.proofs.lemmas.Bool.Decides.{nat_tests}
 use Rattle.std.proofs.lemmas.Slice.Eq.{bytes_eq-Decides}
-use Rattle.book.specs.History.{Reserved, Sealed, Deposited, Calibrated, Held, Granted, Revoked, History, DepositValue}
+use Rattle.book.specs.History.{Reserved, Sealed, Deposited, Calibrated, Held, Granted, Revoked, Installed, History}
+use Rattle.book.specs.History.{DepositValue}
 use Rattle.book.specs.History.{ReservationValue, deposits, deposit_at, reservation_at, token_of, greatest_serial}
 use Rattle.book.specs.Readers.{Viewer}
 use Rattle.book.specs.Rights.{ListedValue, may_read, shown_to, seen_by, listed_as, listed_at, listed}
 use Rattle.book.specs.Sound.{Along, Fits, IsSound}
 use Rattle.desk.specs.Command.{Setting, Command, Stamp, Begin, Finish, Abandon, Deposit, Show, Token, ListAll, Grant}
-use Rattle.desk.specs.Command.{Revoke, Calibrate, Hold, Shown, Listed, Refused}
+use Rattle.desk.specs.Command.{Revoke, Calibrate, Hold, Succeed, Shown, Listed, Refused}
 use Rattle.desk.specs.Effects.{Effect, only, unless, fault_of, no_sight, show_effect, token_effect, reply_or_nothing}
 use Rattle.desk.specs.Outcome.{Call, Fine, Wanting, Broken, Outcome, Cause, OfMemory, OfStore, OfSigner, cause_of}
 use Rattle.desk.specs.Outcome.{first_cause}
@@ -58,6 +59,7 @@ some_serial (Calibrated c ∷ b) fits n r e = some_serial b fits.1 n r e
 some_serial (Held h ∷ b) fits n r e = some_serial b fits.1 n r e
 some_serial (Granted m a ∷ b) fits n r e = some_serial b fits.1 n r e
 some_serial (Revoked m a ∷ b) fits n r e = some_serial b fits.1 n r e
+some_serial (Installed i ∷ b) fits n r e = some_serial b fits.1 n r e
 
 -- what an viewer sees it may see
 shown_may : (viewer : Viewer) (n : ℕ) (b : History) (x d : DepositValue) (reader own : Bool)
@@ -375,3 +377,4 @@ shows_exactly s (Grant a n reader) o b e sound h = tt
 shows_exactly s (Revoke a n reader) o b e sound h = tt
 shows_exactly s (Calibrate c) o b e sound h = tt
 shows_exactly s (Hold k) o b e sound h = tt
+shows_exactly s (Succeed next) o b e sound h = tt

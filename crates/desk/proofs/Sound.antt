@@ -1,18 +1,20 @@
 -- Each step leaves a sound history sound, and keeps what was acknowledged.
 use Rattle.std.proofs.Common.{zero, ◌∙◌, if◌then◌else◌, ◌≡◌, ℕ, suc, ◌<◌, ◌≤◌, ◌^◌, ◌+◌, ◌-◌, nat_le, ℤ, Bool, true}
-use Rattle.std.proofs.Common.{false, List, [], ◌∷◌, ◌++◌, length, Option, Some, None, drop, refl, sym, arith}
-use Rattle.der.specs.Node.{IsLawful}
+use Rattle.std.proofs.Common.{false, IfSome, List, [], ◌∷◌, ◌++◌, length, Option, Some, None, drop, refl, sym, arith}
+use Rattle.der.specs.Node.{Node, IsLawful}
 use Rattle.der.specs.ObjectIdentifier.{IsOid}
 use Rattle.gentime.specs.GenTime.{last_moment}
-use Rattle.policy.specs.Record.{AccountValue, PolicyValue}
+use Rattle.policy.specs.Record.{AccountValue}
 use Rattle.tsp.specs.Request.{RequestValue, Spells}
-use Rattle.tsp.specs.Tst.{SpellsTst, TstValue, IsTst, tst_info, answer}
+use Rattle.tsp.specs.Tst.{SpellsTst, TstValue, IsTst, IsName, IsTsaName, tst_info, answer}
 use Rattle.tsp.specs.declared.rule.Rule.TheVariants.{Spelling, Policy}
 use Rattle.book.specs.History.{Entry, Reserved, History, greatest_serial}
 use Rattle.book.specs.Sound.{Along, Fits, greatest_number}
-use Rattle.desk.specs.Content.{IsForRequest, IsTrueOf}
-use Rattle.desk.specs.Findings.{PlanValue, IsAllowed}
+use Rattle.cms.specs.Certificate.{IsSubjectName}
+use Rattle.desk.specs.Content.{IsForRequest, IsTrueOf, IsNaming}
+use Rattle.desk.specs.Findings.{StampPlan, IsAllowed}
 use Rattle.desk.specs.Command.{Setting}
+use Rattle.desk.specs.Succession.{installed_by, subject_of, tsa_of, IsNameable, NamesLatest}
 use Rattle.desk.specs.Texts.{tst_of}
 use Rattle.desk.specs.Effects.{next_reservation}
 use Rattle.desk.specs.Runs.{IsProper, IsRising}
@@ -25,16 +27,18 @@ use Rattle.std.proofs.lemmas.Bool.Decides.{nat_tests}
 pub record TextLaws : Type 0 where
   pub one_request : (octets : List ℕ) (r s : RequestValue) → Spells octets r → Spells octets s → r ≡ s
   pub lawful_answers : (octets : List ℕ) (r : RequestValue) (t : TstValue) → Spells octets r → length octets ≤ 65536
-      → IsTst t → t.imprint ≡ r.imprint → t.nonce ≡ r.nonce → t.extensions ≡ r.extensions → IsLawful (tst_info t)
+      → IsTst t → t.imprint ≡ r.imprint → t.nonce ≡ r.nonce → t.extensions ≡ r.extensions → IfSome t.tsa IsTsaName
+      → IsLawful (tst_info t)
 
--- all that an entry has to be
-pub record IsGoodEntry (e : Entry) (b : History) : Type 0 where
+-- all that an entry has to be, where the authority that is named is the one in force
+pub record IsGoodEntry (P : Type 0) (e : Entry) (b : History) : Type 0 where
   pub fits : Fits e b
   pub true_of : IsTrueOf e b
   pub rising : IsRising e b
+  pub naming : P → IsNaming e b
 
 abbrev pub AreGood : History → Type 0
-AreGood b = Along IsGoodEntry b
+AreGood b = Along (IsGoodEntry (Unit {0})) b
 
 pub fits_along : (b : History) → AreGood b → Along Fits b
 fits_along [] g = tt
@@ -48,9 +52,9 @@ pub rising_along : (b : History) → AreGood b → Along IsRising b
 rising_along [] g = tt
 rising_along (e ∷ b) g = (g.0.rising, rising_along b g.1)
 
-pub good_along : (b : History) → Along Fits b → Along IsTrueOf b → Along IsRising b → AreGood b
-good_along [] f t r = tt
-good_along (e ∷ b) f t r = (record { fits = f.0; true_of = t.0; rising = r.0 }, good_along b f.1 t.1 r.1)
+pub naming_along : (b : History) → AreGood b → Along IsNaming b
+naming_along [] g = tt
+naming_along (e ∷ b) g = (g.0.naming tt, naming_along b g.1)
 
 -- what a stop leaves of good entries is good
 pub good_cut : (k : ℕ) (es : List Entry) (b : History) → AreGood (es ++ b) → AreGood (drop k es ++ b)
@@ -60,7 +64,7 @@ good_cut (suc k) (e ∷ es) b g = good_cut k es b g.1
 
 -- the policy that is asked for is an object identifier
 asked_is_oid : (s : Setting) → IsProper s → (account : Option AccountValue) (reading : ℤ) (octets : List ℕ)
-    (b : History) (plan : PlanValue)
+    (b : History) (plan : StampPlan)
     → IsAllowed s.file account reading octets b plan → IsOid plan.policy
 asked_is_oid s proper account reading octets b plan allowed =
     let accepted = allowed.holds Policy plan.request allowed.spelled in
@@ -81,12 +85,34 @@ pub not_full : (n : ℕ) → nat_le greatest_number n ≡ false → n < greatest
 not_full n e = grind (arith, nat_tests)
 
 -- the TSTInfo of a plan is one
-abbrev tst_value : PolicyValue → PlanValue → ℕ → TstValue
-tst_value file plan serial = answer plan.request plan.policy serial plan.gen_time file.counter.accuracy_us
-    file.counter.ordering
+abbrev tst_value : Setting → StampPlan → ℕ → TstValue
+tst_value s plan serial = answer plan.request plan.policy serial plan.gen_time s.file.counter.accuracy_us
+    s.file.counter.ordering (tsa_of s)
+
+-- a TSTInfo has room for the name of an identity
+tsa_fits : (name : Node) → IsSubjectName name → (wanted : Bool) → IfSome (if wanted then Some name else None) IsTsaName
+tsa_fits name is true = let short = is.short in record {
+  name = record { components = is.components; sequence = is.sequence };
+  formed = is.formed;
+  depth = is.shallow;
+  short = omega arith;
+}
+tsa_fits name is false = tt
+
+tsa_is_name : (name : Node) → IsSubjectName name → (wanted : Bool) → IfSome (if wanted then Some name else None) IsName
+tsa_is_name name is true = record { components = is.components; sequence = is.sequence }
+tsa_is_name name is false = tt
+
+-- and it is that of the identity that was installed last
+names_latest : (s : Setting) → IsProper s → (b : History) → IsNameable s b → (wanted : Bool)
+    → s.file.counter.tsa_name ≡ wanted
+    → NamesLatest (if wanted then Some (subject_of s.in_force.identity) else None) b
+names_latest s proper b nameable true e =
+    (installed_by s.in_force.identity, nameable e, proper.identity.subject)
+names_latest s proper b nameable false e = tt
 
 gen_time_bound : (s : Setting) (account : Option AccountValue) (reading : ℤ) (octets : List ℕ) (b : History)
-    (plan : PlanValue)
+    (plan : StampPlan)
     → IsAllowed s.file account reading octets b plan → plan.gen_time ≤ last_moment
 gen_time_bound s account reading octets b plan allowed =
     let good = allowed.good.0 in
@@ -96,9 +122,9 @@ gen_time_bound s account reading octets b plan allowed =
     omega arith
 
 proper_tst : (s : Setting) → IsProper s → (account : Option AccountValue) (reading : ℤ) (octets : List ℕ)
-    (b : History) (plan : PlanValue)
+    (b : History) (plan : StampPlan)
     → IsAllowed s.file account reading octets b plan → (serial : ℕ) → 1 ≤ serial → serial ≤ greatest_number
-    → IsTst (tst_value s.file plan serial)
+    → IsTst (tst_value s plan serial)
 proper_tst s proper account reading octets b plan allowed serial some most = record {
   policy = asked_is_oid s proper account reading octets b plan allowed;
   algorithm = allowed.spelled.proper.algorithm;
@@ -107,23 +133,25 @@ proper_tst s proper account reading octets b plan allowed serial some most = rec
   gen_time = gen_time_bound s account reading octets b plan allowed;
   some_accuracy = proper.some_accuracy;
   most_accuracy = proper.most_accuracy;
+  tsa = tsa_is_name (subject_of s.in_force.identity) proper.identity.name s.file.counter.tsa_name;
   extensions = allowed.spelled.proper.extensions;
 }
 
 -- what is reserved by a plan fits, is for its request, and rises
 pub reserved_good : TextLaws → (s : Setting) → IsProper s
     → (account : Option AccountValue) (name : List ℕ) (reading : ℤ) (octets : List ℕ) (b : History)
-    (plan : PlanValue) → IsAllowed s.file account reading octets b plan → greatest_serial b < greatest_number
-    → IsGoodEntry (Reserved (next_reservation s name plan octets b)) b
+    (plan : StampPlan) → IsAllowed s.file account reading octets b plan → greatest_serial b < greatest_number
+    → IsGoodEntry (IsNameable s b) (Reserved (next_reservation s name plan octets b)) b
 reserved_good laws s proper account name reading octets b plan allowed left =
     let serial = greatest_serial b + 1 in
     let tst = proper_tst s proper account reading octets b plan allowed serial (omega arith) (omega arith) in
     let spelled = allowed.holds Spelling in
-    let text : SpellsTst (tst_of s.file plan serial) (tst_value s.file plan serial) =
+    let fitting = tsa_fits (subject_of s.in_force.identity) proper.identity.name s.file.counter.tsa_name in
+    let text : SpellsTst (tst_of s plan serial) (tst_value s plan serial) =
     record {
       ranges = tst;
       lawful = laws.lawful_answers octets plan.request
-          (tst_value s.file plan serial) allowed.spelled spelled.1 tst refl refl refl;
+          (tst_value s plan serial) allowed.spelled spelled.1 tst refl refl refl fitting;
       spelled = refl;
     } in
     let stamped : IsForRequest (next_reservation s name plan octets b) = record {
@@ -134,6 +162,7 @@ reserved_good laws s proper account name reading octets b plan allowed left =
       policy = plan.policy;
       accuracy = s.file.counter.accuracy_us;
       ordering = s.file.counter.ordering;
+      tsa = tsa_of s;
       content = refl;
       tst = text;
     } in
@@ -146,4 +175,8 @@ reserved_good laws s proper account name reading octets b plan allowed left =
       };
       true_of = stamped;
       rising = record { stamped = stamped; follows = rw allowed.good.1 allowed.good.0.follows };
+      naming = λ nameable. record {
+        stamped = stamped;
+        named = names_latest s proper b nameable s.file.counter.tsa_name refl;
+      };
     }

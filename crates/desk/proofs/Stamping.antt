@@ -15,7 +15,7 @@ use Rattle.book.specs.History.{Entry, Reserved, Sealed, History, ReservationValu
 use Rattle.book.specs.Sound.{Along, Fits}
 use Rattle.book.specs.Stands.{Stands}
 use Rattle.desk.specs.Outcome.{Call, Fine, Wanting, Broken, Outcome, Cause, counted, faults_after, all_fine}
-use Rattle.desk.specs.Findings.{IsUnjudged, IsAnsweredFor, PlanValue, IsAllowed, Finding, Fails, Unanswered, Allowed}
+use Rattle.desk.specs.Findings.{IsUnjudged, IsAnsweredFor, StampPlan, IsAllowed, Finding, Fails, Unanswered, Allowed}
 use Rattle.desk.specs.Findings.{Finds}
 use Rattle.desk.specs.Command.{Setting, PendingValue, Command, Stamp, Begin, Finish, Answer, Rejected, Begun, Refused}
 use Rattle.desk.specs.Texts.{pending_of, token_with}
@@ -68,7 +68,7 @@ finds_joined s account reading octets o finished signing b (Unanswered cause) h 
     (h.0, unjudged_joined s account reading o finished signing b cause h.1)
 finds_joined s account reading octets o finished signing b (Allowed plan) h = h
 
-refused_by : (s : Setting) (account : List ℕ) (octets : List ℕ) (o : Outcome) (b : History) (plan : PlanValue)
+refused_by : (s : Setting) (account : List ℕ) (octets : List ℕ) (o : Outcome) (b : History) (plan : StampPlan)
     (fault : Fault) (why : Option Cause) → (begin_effect s account plan octets b why).says ≡ Refused fault
     → (stamp_effect s (stamping_of s account plan octets o b why) ≡ only (Rejected System))
     × (begin_effect s account plan octets b why ≡ only (Refused fault))
@@ -97,7 +97,7 @@ stamp_refused s account reading octets o finished signing b e fault h says =
       ap (λ x. x.adds) (h.2 ∙ r.1),
     )
 
-rejected_by : (s : Setting) (account : List ℕ) (octets : List ℕ) (b : History) (plan : PlanValue)
+rejected_by : (s : Setting) (account : List ℕ) (octets : List ℕ) (b : History) (plan : StampPlan)
     (rule : Rule) (why : Option Cause) → (begin_effect s account plan octets b why).says ≡ Rejected rule → ⊥
 rejected_by s account octets b plan rule None e = cc
 rejected_by s account octets b plan rule (Some cause) e = cc
@@ -124,13 +124,13 @@ stamp_rejected s account reading octets o finished signing b e rule h says =
       ap (λ x. x.adds) (h.2 ∙ r.1),
     )
 
-sealed_or : (s : Setting) (plan : PlanValue) (r : ReservationValue) (signature : List ℕ) (why : Option Cause)
+sealed_or : (s : Setting) (plan : StampPlan) (r : ReservationValue) (signature : List ℕ) (why : Option Cause)
     → sealed_by (pending_of s plan r) signature (Reserved r ∷ []) why
     ≡ stamp_effect s (sealed_or_void r (token_with (pending_of s plan r) signature) why)
 sealed_or s plan r signature None = refl
 sealed_or s plan r signature (Some cause) = refl
 
-stamped_by : (s : Setting) (plan : PlanValue) (r : ReservationValue) (o finished : Outcome)
+stamped_by : (s : Setting) (plan : StampPlan) (r : ReservationValue) (o finished : Outcome)
     (signing : Result (List ℕ) SignerFault)
     → stamped (pending_of s plan r) signing (Reserved r ∷ []) finished
     ≡ stamp_effect s (signed_or_void (pending_of s plan r) r signing (joined o signing finished))
@@ -141,7 +141,7 @@ stamped_by s plan r o finished (Err signer.Memory) = refl
 -- a plan whose reservation is made, and what waits then
 pub record IsBegun (s : Setting) (account : Option AccountValue) (reading : ℤ) (octets : List ℕ) (b : History)
     (p : PendingValue) (e : Effect) : Type 0 where
-  pub plan : PlanValue
+  pub plan : StampPlan
   pub allowed : IsAllowed s.file account reading octets b plan
   pub pending : p ≡ pending_of s plan (next_reservation s (name_of account) plan octets b)
   pub effect : e ≡ record {
@@ -150,7 +150,7 @@ pub record IsBegun (s : Setting) (account : Option AccountValue) (reading : ℤ)
     says = Begun (pending_of s plan (next_reservation s (name_of account) plan octets b));
   }
 
-begun_by : (s : Setting) (account : List ℕ) (octets : List ℕ) (b : History) (plan : PlanValue) (p : PendingValue)
+begun_by : (s : Setting) (account : List ℕ) (octets : List ℕ) (b : History) (plan : StampPlan) (p : PendingValue)
     (why : Option Cause) → (begin_effect s account plan octets b why).says ≡ Begun p
     → (why ≡ None) × (p ≡ pending_of s plan (next_reservation s account plan octets b))
 begun_by s account octets b plan p None e = (refl, cc)
@@ -200,7 +200,7 @@ unjudged_not : (s : Setting) (account : Option AccountValue) (reading : ℤ) (o 
 unjudged_not s account reading o b cause (inl h) looking counting = cc
 unjudged_not s account reading o b cause (inr h) looking counting = let e = h.2 in cc
 
-none_by : (s : Setting) (account : List ℕ) (one other : PlanValue) (octets : List ℕ) (b : History)
+none_by : (s : Setting) (account : List ℕ) (one other : StampPlan) (octets : List ℕ) (b : History)
     (why : Option Cause) → (begin_effect s account one octets b why).adds ≡ []
     → (begin_effect s account other octets b why).adds ≡ []
 none_by s account one other octets b None e = cc
@@ -253,7 +253,7 @@ oldest_signed s p r o (Ok signature) = oldest_sealed s r (token_with p signature
 oldest_signed s p r o (Err signer.Failed) = refl
 oldest_signed s p r o (Err signer.Memory) = refl
 
-oldest_planned : (s : Setting) (account : List ℕ) (plan : PlanValue) (octets : List ℕ) (o : Outcome) (b : History)
+oldest_planned : (s : Setting) (account : List ℕ) (plan : StampPlan) (octets : List ℕ) (o : Outcome) (b : History)
     (why : Option Cause) → oldest (stamp_effect s (stamping_of s account plan octets o b why)).adds
     ≡ oldest (begin_effect s account plan octets b why).adds
 oldest_planned s account plan octets o b (Some cause) = refl
@@ -319,7 +319,8 @@ stamp_fits : (account : Option AccountValue) (reading : ℤ) (octets : List ℕ)
     (signing : Result (List ℕ) SignerFault) (finished : Outcome) → IsFit (Begin account reading octets) o
     → IsUncounted finished.wrapping → IsFit (Stamp account reading octets) (joined o signing finished)
 stamp_fits account reading octets o signing finished fits wrapped = (
-  ap (λ x. record (joined o signing finished) { searching = x }) (ap (λ x. x.searching) fits.0),
+  ap (λ x. record (joined o signing finished) { searching = x }) (ap (λ x. x.searching) fits.0)
+      ∙ ap (λ x. record (joined o signing finished) { searching = Fine; counting = x }) (ap (λ x. x.counting) fits.0),
   (fits.1.0, wrapped),
 )
 
@@ -382,7 +383,7 @@ stamp_is_rejected g signs count x s account reading octets o old new rule begin 
     (λ b e h says. stamp_rejected s account reading octets o o (Ok []) b e rule h says) tt tt
 
 -- a reservation that was just added waits for its signature
-waits : (s : Setting) (plan : PlanValue) (r : ReservationValue) (b : History) → Along Fits b
+waits : (s : Setting) (plan : StampPlan) (r : ReservationValue) (b : History) → Along Fits b
     → greatest_serial b < r.serial → IsWaiting (pending_of s plan r) (Reserved r ∷ b)
 waits s plan r b sound above = record {
   reservation = r;

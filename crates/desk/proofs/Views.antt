@@ -5,9 +5,11 @@ use Rattle.std.specs.List.{find}
 use Rattle.std.specs.Str.{bytes_eq}
 use Rattle.std.proofs.lemmas.Bool.{eqb-true, eq-eqb}
 use Rattle.std.proofs.lemmas.Slice.Eq.{bytes_eq-Decides}
-use Rattle.book.specs.History.{Entry, Reserved, Sealed, Deposited, Calibrated, Held, Granted, Revoked, History}
+use Rattle.book.specs.History.{Entry, Reserved, Sealed, Deposited, Calibrated, Held, Granted, Revoked, Installed}
+use Rattle.book.specs.History.{History}
 use Rattle.book.specs.History.{ReservationValue, DepositValue, reservations, greatest_of, greatest_serial, token_of}
 use Rattle.book.specs.History.{reservation_at, deposit_at, deposit_under}
+use Rattle.book.specs.Identities.{latest_identity, identity_of}
 use Rattle.book.specs.Sound.{Along, Fits, FitsReserved, FitsSealed}
 
 abbrev search_serial : ℕ → List ReservationValue → Option ReservationValue
@@ -63,6 +65,7 @@ sealed_below (Calibrated c ∷ b) sound n t e = sealed_below b sound.1 n t e
 sealed_below (Held h ∷ b) sound n t e = sealed_below b sound.1 n t e
 sealed_below (Granted m a ∷ b) sound n t e = sealed_below b sound.1 n t e
 sealed_below (Revoked m a ∷ b) sound n t e = sealed_below b sound.1 n t e
+sealed_below (Installed i ∷ b) sound n t e = sealed_below b sound.1 n t e
 
 pub none_where : {A : Type 0} (o : Option A) → ((x : A) → o ≡ Some x → ⊥) → o ≡ None
 none_where None h = refl
@@ -94,6 +97,29 @@ reservation_stays (Calibrated c) b fits n r e = e
 reservation_stays (Held h) b fits n r e = e
 reservation_stays (Granted m a) b fits n r e = e
 reservation_stays (Revoked m a) b fits n r e = e
+reservation_stays (Installed i) b fits n r e = e
+
+-- the identity of a serial number that is reserved stays
+identity_beside : (n : ℕ) (b : History) (x r : ReservationValue) (same : Bool) → (x.serial == n) ≡ same
+    → FitsReserved x b → reservation_at n b ≡ Some r
+    → cond same (latest_identity b) (identity_of n b) ≡ identity_of n b
+identity_beside n b x r true same fits e =
+    let number : x.serial ≡ n = eqb-true x.serial n same in
+    let low = reserved_below n b r e in
+    let high = fits.rises in
+    absurd (omega arith)
+identity_beside n b x r false same fits e = refl
+
+pub identity_stays : (e : Entry) (b : History) → Fits e b → (n : ℕ) (r : ReservationValue) → reservation_at n b
+    ≡ Some r → identity_of n (e ∷ b) ≡ identity_of n b
+identity_stays (Reserved x) b fits n r e = identity_beside n b x r (x.serial == n) refl fits e
+identity_stays (Sealed m x) b fits n r e = refl
+identity_stays (Deposited d x) b fits n r e = refl
+identity_stays (Calibrated c) b fits n r e = refl
+identity_stays (Held h) b fits n r e = refl
+identity_stays (Granted m a) b fits n r e = refl
+identity_stays (Revoked m a) b fits n r e = refl
+identity_stays (Installed i) b fits n r e = refl
 
 -- a token stays
 token_beside : (m n : ℕ) (b : History) (x t : List ℕ) (same : Bool) → (m == n) ≡ same → FitsSealed m b
@@ -113,6 +139,7 @@ token_stays (Calibrated c) b fits n t e = e
 token_stays (Held h) b fits n t e = e
 token_stays (Granted m a) b fits n t e = e
 token_stays (Revoked m a) b fits n t e = e
+token_stays (Installed i) b fits n t e = e
 
 -- a deposit has its token
 record HasToken (n : ℕ) (b : History) : Type 0 where
@@ -142,6 +169,7 @@ has_token (Calibrated c ∷ b) n d e = let h = has_token b n d e in record { tok
 has_token (Held h ∷ b) n d e = let h = has_token b n d e in record { token = h.token; sealed = h.sealed }
 has_token (Granted m a ∷ b) n d e = let h = has_token b n d e in record { token = h.token; sealed = h.sealed }
 has_token (Revoked m a ∷ b) n d e = let h = has_token b n d e in record { token = h.token; sealed = h.sealed }
+has_token (Installed i ∷ b) n d e = let h = has_token b n d e in record { token = h.token; sealed = h.sealed }
 
 pub deposit_sealed : (b : History) (n : ℕ) (d : DepositValue) → deposit_at n b ≡ Some d → (t : List ℕ)
     × (token_of n b ≡ Some t)
@@ -168,6 +196,7 @@ deposit_stays (Calibrated c) b fits n d e = e
 deposit_stays (Held h) b fits n d e = e
 deposit_stays (Granted m a) b fits n d e = e
 deposit_stays (Revoked m a) b fits n d e = e
+deposit_stays (Installed i) b fits n d e = e
 
 -- a deposit that is found by its owner and reference is found by its number
 pub record IsUnder (owner reference : List ℕ) (b : History) (d : DepositValue) : Type 0 where
@@ -251,6 +280,13 @@ found_under (Granted m a ∷ b) sound owner reference d e =
       at_number = u.at_number;
     }
 found_under (Revoked m a ∷ b) sound owner reference d e =
+    let u = found_under b sound.1 owner reference d e in record {
+      owner_is = u.owner_is;
+      reference_is =
+          u.reference_is;
+      at_number = u.at_number;
+    }
+found_under (Installed i ∷ b) sound owner reference d e =
     let u = found_under b sound.1 owner reference d e in record {
       owner_is = u.owner_is;
       reference_is =

@@ -1,5 +1,6 @@
 -- Runs: journeys go on by them, and an account's run is one from each history that agrees.
-use Rattle.std.proofs.Common.{◌≡◌, ℕ, ◌⊎◌, List, [], ◌∷◌, Result, drop, refl, sym, subst, inl, inr}
+use Rattle.std.proofs.Common.{◌≡◌, ℕ, ◌⊎◌, List, [], ◌∷◌, Option, Some, None, Result, drop, refl, sym, subst, inl}
+use Rattle.std.proofs.Common.{inr}
 use Rattle.cms.specs.declared.signer.SignerFault.{SignerFault}
 use Rattle.book.specs.History.{History}
 use Rattle.book.specs.Sound.{IsSound}
@@ -7,66 +8,77 @@ use Rattle.desk.specs.Agreement.{Agree, IsCommandOf}
 use Rattle.desk.specs.Content.{IsSoundInFull}
 use Rattle.desk.specs.Outcome.{Outcome}
 use Rattle.desk.specs.Command.{Setting, Command, Stamp, Begin, Finish, Abandon, Deposit, Show, Token, ListAll, Grant}
-use Rattle.desk.specs.Command.{Revoke, Calibrate, Hold, Answer}
+use Rattle.desk.specs.Command.{Revoke, Calibrate, Hold, Succeed, Answer, setting_after}
 use Rattle.desk.specs.Effects.{Effect}
 use Rattle.desk.specs.Steps.{HasEffect, IsMet}
 use Rattle.desk.specs.Runs.{IsProper, Told, Journey, goes, stops, after, cut, Runs, HasProperties}
 use Rattle.desk.specs.Laws.{Continues, AreMet, AreCommandsOf, RunsAlike}
+use Rattle.desk.specs.Naming.{IsNameableFor}
 use Rattle.desk.specs.Viewers.{viewer_in}
 use Rattle.desk.proofs.Sound.{TextLaws}
-use Rattle.desk.proofs.Stepping.{step_adds, adds_fit, adds_true, adds_cut}
-use Rattle.desk.proofs.Keeping.{journeys_have_properties}
+use Rattle.desk.proofs.Stepping.{step_adds, adds_fit, adds_true, adds_names, adds_cut}
+use Rattle.desk.proofs.Keeping.{journeys_have_properties, proper_after}
 use Rattle.desk.proofs.SameEffect.{effect_same}
 use Rattle.desk.proofs.Agreeing.{step_agrees}
 
 pub step_sound : TextLaws → (s : Setting) (c : Command) (o : Outcome) (e : Effect) (b : History) → IsProper s
-    → IsSoundInFull b → IsMet c b → HasEffect s c o b e
+    → IsNameableFor s c b → IsSoundInFull b → IsMet c b → HasEffect s c o b e
     → IsSoundInFull (after e b)
-step_sound laws s c o e b proper sound met h =
+step_sound laws s c o e b proper nameable sound met h =
+    let P = IsNameableFor s c b in
     let adds = step_adds laws s proper c o b e sound.sound met h in
-    record { sound = adds_fit e.adds b adds sound.sound; content = adds_true e.adds b adds sound.content }
+    record {
+      sound = adds_fit P e.adds b adds sound.sound;
+      content = adds_true P e.adds b adds sound.content;
+      naming = adds_names P nameable e.adds b adds sound.naming;
+    }
 
 pub cut_sound : TextLaws → (s : Setting) (c : Command) (o : Outcome) (e : Effect) (b : History) (k : ℕ) → IsProper s
-    → IsSoundInFull b → IsMet c b → HasEffect s c o b e
+    → IsNameableFor s c b → IsSoundInFull b → IsMet c b → HasEffect s c o b e
     → IsSoundInFull (cut k e b)
-cut_sound laws s c o e b k proper sound met h =
-    let adds = adds_cut k e.adds b (step_adds laws s proper c o b e sound.sound met h) in
+cut_sound laws s c o e b k proper nameable sound met h =
+    let P = IsNameableFor s c b in
+    let adds = adds_cut P k e.adds b (step_adds laws s proper c o b e sound.sound met h) in
     record {
-      sound = adds_fit (drop k e.adds) b adds sound.sound;
-      content = adds_true
-          (drop k e.adds) b adds sound.content;
+      sound = adds_fit P (drop k e.adds) b adds sound.sound;
+      content = adds_true P (drop k e.adds) b adds sound.content;
+      naming = adds_names P nameable (drop k e.adds) b adds sound.naming;
     }
 
 -- the step that comes next: it goes on, or is cut
 continued_by : (s : Setting) (c : Command) (cs : List Command) (o : Outcome) (os : List Outcome) (b : History)
-    (w : List Told) (b' : History) (w' : List Told) (e : Effect)
-    → IsProper s → IsMet c b → Journey b w → HasEffect s c o b e
-    → (Journey (after e b) (record { command = c; answer = e.says } ∷ w)
-    → Continues s cs os (after e b) (record { command = c; answer = e.says } ∷ w) b' w' → Journey b' w')
-    → ((k : ℕ) × (b' ≡ cut k e b) × (w' ≡ w)) ⊎ Continues s cs os (after e b)
-    (record { command = c; answer = e.says } ∷ w) b' w' → Journey b' w'
-continued_by s c cs o os b w b' w' e proper met j h others (inl stop) =
-    subst (λ x. Journey x w') (sym stop.1) (subst (λ x. Journey (cut stop.0 e b) x) (sym stop.2)
-    (stops s c o e stop.0 proper met h j))
-continued_by s c cs o os b w b' w' e proper met j h others (inr more) = others (goes s c o e proper met h j) more
+    (w : List Told) (b' : History) (x' : Option Setting) (w' : List Told) (e : Effect)
+    → IsMet c b → Journey b (Some s) w → HasEffect s c o b e
+    → (Journey (after e b) (Some (setting_after s c e.says)) (record { command = c; answer = e.says } ∷ w)
+    → Continues (setting_after s c e.says) cs os (after e b) (record { command = c; answer = e.says } ∷ w) b' x' w'
+    → Journey b' x' w')
+    → ((k : ℕ) × (b' ≡ cut k e b) × (x' ≡ None) × (w' ≡ w))
+    ⊎ Continues (setting_after s c e.says) cs os (after e b) (record { command = c; answer = e.says } ∷ w) b' x' w'
+    → Journey b' x' w'
+continued_by s c cs o os b w b' x' w' e met j h others (inl stop) =
+    subst (λ y. Journey y x' w') (sym stop.1)
+    (subst (λ y. Journey (cut stop.0 e b) y w') (sym stop.2)
+    (subst (λ y. Journey (cut stop.0 e b) None y) (sym stop.3) (stops s c o e stop.0 met h j)))
+continued_by s c cs o os b w b' x' w' e met j h others (inr more) = others (goes s c o e met h j) more
 
 pub continued : (s : Setting) (cs : List Command) (os : List Outcome) (b : History) (w : List Told) (b' : History)
-    (w' : List Told) → IsProper s → AreMet s cs os b
-    → Journey b w → Continues s cs os b w b' w' → Journey b' w'
-continued s [] [] b w b' w' proper met j h = subst (λ x. Journey x w') (sym h.0) (subst (λ x. Journey b x)
-    (sym h.1) j)
-continued s (c ∷ cs) [] b w b' w' proper met j h = absurd h
-continued s [] (o ∷ os) b w b' w' proper met j h = absurd h
-continued s (c ∷ cs) (o ∷ os) b w b' w' proper met j h =
-    continued_by s c cs o os b w b' w' h.0 proper met.0 j h.1
-    (λ j2 more. continued s cs os (after h.0 b) (record { command = c; answer = h.0.says }
-    ∷ w) b' w' proper (met.1 h.0 h.1) j2 more) h.2
+    (x' : Option Setting) (w' : List Told) → AreMet s cs os b
+    → Journey b (Some s) w → Continues s cs os b w b' x' w' → Journey b' x' w'
+continued s [] [] b w b' x' w' met j h =
+    subst (λ y. Journey y x' w') (sym h.0)
+    (subst (λ y. Journey b y w') (sym h.1) (subst (λ y. Journey b (Some s) y) (sym h.2) j))
+continued s (c ∷ cs) [] b w b' x' w' met j h = absurd h
+continued s [] (o ∷ os) b w b' x' w' met j h = absurd h
+continued s (c ∷ cs) (o ∷ os) b w b' x' w' met j h =
+    continued_by s c cs o os b w b' x' w' h.0 met.0 j h.1
+    (λ j2 more. continued (setting_after s c h.0.says) cs os (after h.0 b)
+    (record { command = c; answer = h.0.says } ∷ w) b' x' w' (met.1 h.0 h.1) j2 more) h.2
 
 pub continued_properties : TextLaws → (s : Setting) (cs : List Command) (os : List Outcome) (b : History)
-    (w : List Told) (b' : History) (w' : List Told) → IsProper s → AreMet s cs os b
-    → Journey b w → Continues s cs os b w b' w' → HasProperties b' w'
-continued_properties laws s cs os b w b' w' proper met j h = journeys_have_properties laws b' w'
-    (continued s cs os b w b' w' proper met j h)
+    (w : List Told) (b' : History) (x' : Option Setting) (w' : List Told) → AreMet s cs os b
+    → Journey b (Some s) w → Continues s cs os b w b' x' w' → HasProperties b' w'
+continued_properties laws s cs os b w b' x' w' met j h = journeys_have_properties laws b' x' w'
+    (continued s cs os b w b' x' w' met j h)
 
 -- what an account's caller has to see to, of no command of these
 own_met : (account : List ℕ) (c : Command) (b : History) → IsCommandOf account c → IsMet c b
@@ -82,6 +94,7 @@ own_met account (Grant a n reader) b own = tt
 own_met account (Revoke a n reader) b own = tt
 own_met account (Calibrate x) b own = absurd own
 own_met account (Hold h) b own = absurd own
+own_met account (Succeed next) b own = absurd own
 
 pub runs_alike : {S : Type 0} (signs : S → List ℕ → Result (List ℕ) SignerFault → S → Type 0) → TextLaws
     → (account : List ℕ) (s : Setting) (cs : List Command) (os : List Outcome)
@@ -93,12 +106,12 @@ runs_alike signs laws account s [] [] b c x [] b' x' proper own one other agree 
 runs_alike signs laws account s (d ∷ ds) (o ∷ os) b c x (answer ∷ answers) b' x' proper own one other agree h =
     let e = h.0 in
     let same = effect_same account s d o b c e agree own.0 h.2.0 in
-    let one_after = adds_fit e.adds b (step_adds laws s proper d o b e one (own_met account d b own.0) h.2.0) one in
-    let other_after = adds_fit e.adds c (step_adds laws s proper d o c e other
+    let one_after = adds_fit (IsNameableFor s d b) e.adds b (step_adds laws s proper d o b e one (own_met account d b own.0) h.2.0) one in
+    let other_after = adds_fit (IsNameableFor s d c) e.adds c (step_adds laws s proper d o c e other
     (own_met account d c own.0) same) other in
     let again = step_agrees account s d o b c e one other agree own.0 h.2.0 in
-    let rest = runs_alike signs laws account s ds os (after e b)
-    (after e c) h.1 answers b' x' proper own.1 one_after other_after again h.2.3 in
+    let rest = runs_alike signs laws account (setting_after s d e.says) ds os (after e b)
+    (after e c) h.1 answers b' x' (proper_after s d b e.says (own_met account d b own.0) proper) own.1 one_after other_after again h.2.3 in
     record { left = rest.left; runs = (e, h.1, (same, h.2.1, h.2.2, rest.runs)); agree = rest.agree }
 runs_alike signs laws account s [] [] b c x (answer ∷ answers) b' x' proper own one other agree h = absurd h
 runs_alike signs laws account s [] (o ∷ os) b c x answers b' x' proper own one other agree h = absurd h

@@ -1,12 +1,14 @@
 -- What an account may know of a history: histories that agree for it can't be told apart by its commands.
 use Rattle.std.specs.Prelude.{◌≡◌, ℕ, List, filter, Option, Some, None, option_map}
 use Rattle.std.specs.Str.{bytes_eq}
-use Rattle.book.specs.History.{History, DepositValue, CalibrationValue, HoldValue, stamps, deposits, holds}
+use Rattle.book.specs.History.{History, DepositValue, CalibrationValue, HoldValue, InstalledValue, stamps, deposits}
+use Rattle.book.specs.History.{holds}
+use Rattle.book.specs.Identities.{latest_identity}
 use Rattle.book.specs.History.{latest_calibration, last_gen_time, greatest_serial, reservation_at, token_of}
 use Rattle.book.specs.Readers.{Viewer}
 use Rattle.book.specs.Rights.{seen_by}
 use Rattle.desk.specs.Command.{Command, Stamp, Begin, Finish, Abandon, Deposit, Show, Token, ListAll, Grant, Revoke}
-use Rattle.desk.specs.Command.{Calibrate, Hold}
+use Rattle.desk.specs.Command.{Calibrate, Hold, Succeed}
 
 -- a deposit that an account sees, with the genTime and the token of its stamp
 pub record SeenValue : Type 0 where
@@ -24,12 +26,14 @@ seen_as number b d = record {
 abbrev pub seen_at : Viewer → ℕ → History → Option SeenValue
 seen_at viewer number b = option_map (seen_as number b) (seen_by viewer number b)
 
--- what all accounts may know: the clock, the genTime that was reserved last, and the greatest serial number
+-- what all accounts may know: the clock, the genTime that was reserved last, the greatest serial number, and the
+-- identity in force
 pub record Shared : Type 0 where
   pub calibration : Option CalibrationValue
   pub holding : List HoldValue
   pub last : Option ℕ
   pub greatest : ℕ
+  pub identity : Option InstalledValue
 
 abbrev pub shared_by : History → Shared
 shared_by b = record {
@@ -37,6 +41,7 @@ shared_by b = record {
   holding = holds b;
   last = last_gen_time b;
   greatest = greatest_serial b;
+  identity = latest_identity b;
 }
 
 -- Two histories agree for who asks: the same stamps of its own, the same deposits of its own and deposits that it sees,
@@ -64,3 +69,4 @@ IsCommandOf account (Grant a n reader) = a.name ≡ account
 IsCommandOf account (Revoke a n reader) = a.name ≡ account
 IsCommandOf account (Calibrate c) = ⊥
 IsCommandOf account (Hold h) = ⊥
+IsCommandOf account (Succeed next) = ⊥

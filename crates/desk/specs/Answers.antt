@@ -1,5 +1,5 @@
 -- The answers of the machine that the program's are.
-use Rattle.std.specs.Prelude.{Result, Ok, Err}
+use Rattle.std.specs.Prelude.{ℕ, Result, Ok, Err}
 use Rattle.desk.specs.Command as answer
 use Rattle.desk.specs.Command.{Answer}
 use Rattle.book.specs.declared.fault.StoreFault.{StoreFault}
@@ -30,7 +30,7 @@ abbrev pub told : {A : Type 0} → (A → Answer) → Result A Refusal → Answe
 told as_answer (Ok a) = as_answer a
 told as_answer (Err refusal) = answer.Refused (fault_of (cause_with refusal))
 
--- a calibration or a hold is added, or the store refuses it
-abbrev pub entered : Result (Unit {0}) StoreFault → Answer
-entered (Ok done) = answer.Done
+-- a calibration or a hold is added under its number, or the store refuses it
+abbrev pub entered : Result ℕ StoreFault → Answer
+entered (Ok number) = answer.Numbered number
 entered (Err f) = answer.Refused (fault_of (store_cause f))

@@ -6,6 +6,7 @@ use Rattle.book.specs.Readers.{Account, Group}
 use Rattle.book.specs.Values.{calibration_view, hold_view}
 use Rattle.desk.specs.Command as machine
 use Rattle.desk.specs.Answers.{reply_as}
+use Rattle.desk.specs.Calls.{in_force_of}
 use Rattle.desk.specs.Shown.{deposited_as, shown_as, listed_as}
 use Rattle.desk.specs.declared.commands.Command.{Command}
 use Rattle.desk.specs.declared.commands.Command.TheVariants as command
@@ -29,6 +30,7 @@ command_view (command.RevokeGroup account number group) =
     machine.Revoke (account_view account.now) number (Group group.now)
 command_view (command.Calibrate calibration) = machine.Calibrate (calibration_view calibration)
 command_view (command.Hold hold) = machine.Hold (hold_view hold)
+command_view (command.Succeed identity algorithm) = machine.Succeed (in_force_of identity.now algorithm.now)
 
 abbrev pub answer_view : Answer → machine.Answer
 answer_view (answer.Stamped reply) = reply_as reply
@@ -36,6 +38,7 @@ answer_view (answer.Kept deposited) = deposited_as deposited
 answer_view (answer.Shown octets) = shown_as octets
 answer_view (answer.Listed rows) = listed_as rows
 answer_view answer.Done = machine.Done
+answer_view (answer.Numbered number) = machine.Numbered number
 answer_view (answer.Refused fault) = machine.Refused fault
 
 abbrev pub commands_view : List Command → List machine.Command

@@ -5,8 +5,10 @@ use Rattle.gentime.specs.GenTime.{last_moment}
 use Rattle.der.specs.ObjectIdentifier.{oid_content}
 use Rattle.policy.specs.Record.{AccountValue}
 use Rattle.policy.specs.View.{policy_view}
+use Rattle.policy.specs.declared.policy.Policy.{Policy}
 use Rattle.tsp.specs.Request.{RequestValue, Spells}
 use Rattle.tsp.specs.View.{request_view}
+use Rattle.cms.specs.Identity.{IdentityValue}
 use Rattle.cms.specs.SignedData.{attribute_text}
 use Rattle.cms.specs.declared.signer.SignerFault.{SignerFault}
 use Rattle.cms.specs.declared.signer.SignerFault.TheVariants as signer
@@ -20,8 +22,8 @@ use Rattle.book.specs.Stands.{Stands}
 use Rattle.desk.specs.Facts.{calibration_of, clock_of}
 use Rattle.desk.specs.Outcome.{Call, Fine, Wanting, Broken, Outcome, Cause, OfMemory, OfStore, OfSigner, all_fine}
 use Rattle.desk.specs.Effects.{Effect, begin_effect, no_number, fault_of}
-use Rattle.desk.specs.Findings.{PlanValue, Finding, Fails, Unanswered, Allowed}
-use Rattle.desk.specs.Command.{Setting, PendingValue, Answer, Begun, Refused}
+use Rattle.desk.specs.Findings.{StampPlan, Finding, Fails, Unanswered, Allowed}
+use Rattle.desk.specs.Command.{InForce, Setting, PendingValue, Answer, Begun, Done, Refused}
 use Rattle.desk.specs.Runs.{after}
 use Rattle.desk.specs.Stepped.{committed}
 use Rattle.desk.specs.Texts.{tst_of}
@@ -86,6 +88,17 @@ IsOfLooks (refusal.Looking f) = IsOfStore f
 IsOfLooks (refusal.Counting f) = IsOfStore f
 IsOfLooks _ = ⊥
 
+-- the day that was asked for, and refused, is somebody's
+abbrev pub IsSomebodys : Option AccountValue → Refusal → Type 0
+IsSomebodys account (refusal.Looking f) = Unit {0}
+IsSomebodys account (refusal.Counting f) = account ≡ None → ⊥
+IsSomebodys account refusal.Spent = Unit {0}
+IsSomebodys account refusal.Growing = Unit {0}
+IsSomebodys account (refusal.Adding f) = Unit {0}
+IsSomebodys account (refusal.Signing f) = Unit {0}
+IsSomebodys account refusal.Wrapping = Unit {0}
+IsSomebodys account (refusal.Sealing f) = Unit {0}
+
 -- a reservation was refused
 abbrev pub IsOfReserving : Refusal → Type 0
 IsOfReserving refusal.Spent = Unit {0}
@@ -100,9 +113,16 @@ abbrev pub outcome_of : {A : Type 0} → Result A Refusal → Outcome
 outcome_of (Ok a) = all_fine (Ok [])
 outcome_of (Err r) = refused r
 
--- with what the desk was opened
+-- an identity and an algorithm, brought into force
+abbrev pub in_force_of : IdentityValue → List ℕ → InForce
+in_force_of identity algorithm = record { identity = identity; algorithm = algorithm }
+
+-- by what a desk answers
+abbrev pub setting_of : Policy → IdentityValue → List ℕ → Setting
+setting_of policy identity algorithm = record { file = policy_view policy; in_force = in_force_of identity algorithm }
+
 abbrev pub opening_view : Opening → Setting
-opening_view o = record { file = policy_view o.policy.now; identity = o.identity.now; algorithm = o.algorithm.now }
+opening_view o = setting_of o.policy.now o.identity.now o.algorithm.now
 
 -- whom a right names
 abbrev pub reader_view : Reader → readers.Reader
@@ -119,7 +139,7 @@ abbrev pub moment_or_last : ℕ → ℕ
 moment_or_last moment = min moment last_moment
 
 -- what is found of a request
-abbrev pub plan_of : Planned → PlanValue
+abbrev pub plan_of : Planned → StampPlan
 plan_of p = record { request = request_view p.request; policy = p.policy.now; gen_time = p.gen_time }
 
 abbrev pub finding_of : Result Found Refusal → Finding
@@ -147,7 +167,7 @@ count_for None day b = 0
 count_for (Some account) day b = count_of_day account.name day b
 
 -- what is written for a reservation under a serial number
-pub record IsPrepared (s : Setting) (plan : PlanValue) (serial : ℕ) (p : Prepared) : Type 0 where
+pub record IsPrepared (s : Setting) (plan : StampPlan) (serial : ℕ) (p : Prepared) : Type 0 where
   pub number : p.serial ≡ serial
   pub moment : p.gen_time ≡ plan.gen_time
   pub moment_within : p.gen_time ≤ last_moment
@@ -155,8 +175,8 @@ pub record IsPrepared (s : Setting) (plan : PlanValue) (serial : ℕ) (p : Prepa
   pub algorithm_is : p.algorithm.now ≡ oid_content plan.request.imprint.algorithm
   pub digest_is : p.digest.now ≡ plan.request.imprint.hash
   pub certificate_is : p.certificate ≡ plan.request.cert_req
-  pub tst_is : p.tst.items ≡ tst_of s.file plan serial
-  pub text_is : p.text.items ≡ attribute_text s.identity (tst_of s.file plan serial)
+  pub tst_is : p.tst.items ≡ tst_of s plan serial
+  pub text_is : p.text.items ≡ attribute_text s.in_force.identity (tst_of s plan serial)
 
 -- what waits for its signature, or the refusal
 abbrev pub pending_as : Result PendingValue Refusal → Answer
@@ -164,20 +184,29 @@ pending_as (Ok p) = Begun p
 pending_as (Err r) = Refused (fault_of (cause_with r))
 
 -- what a reservation adds and answers
-abbrev pub reserving : Setting → List ℕ → PlanValue → List ℕ → Outcome → History → Effect
+abbrev pub reserving : Setting → List ℕ → StampPlan → List ℕ → Outcome → History → Effect
 reserving s account plan octets o b = begin_effect s account plan octets b (no_number o b)
 
 -- what a stop after it may leave
-abbrev pub LeftReserving : {B : Type 0} → (g : Ghosts B) → Setting → List ℕ → PlanValue → List ℕ → Outcome → History
+abbrev pub LeftReserving : {B : Type 0} → (g : Ghosts B) → Setting → List ℕ → StampPlan → List ℕ → Outcome → History
     → B → g.Left → Type 0
 LeftReserving g s account plan octets o b old left =
     (((reserving s account plan octets o b).adds ≡ []) × g.leaves old left)
     ⊎ (g.holds left (after (reserving s account plan octets o b) b)
     ⊎ ((o.adding ≡ Fine → ⊥) × g.holds left (after (reserving s account plan octets (committed o) b) b)))
 
-pub record Reserves {B : Type 0} (g : Ghosts B) (s : Setting) (account : List ℕ) (plan : PlanValue) (octets : List ℕ)
+pub record Reserves {B : Type 0} (g : Ghosts B) (s : Setting) (account : List ℕ) (plan : StampPlan) (octets : List ℕ)
     (b : History) (old new : B) (result : Result PendingValue Refusal) : Type 0 where
   pub says : pending_as result ≡ (reserving s account plan octets (outcome_of result) b).says
   pub stands : Stands g (after (reserving s account plan octets (outcome_of result) b) b) new
   pub left : (left : g.Left) → g.leaves new left
       → LeftReserving g s account plan octets (outcome_of result) b old left
+
+-- what is in force from now on is brought so
+abbrev pub succeeded_as : Opening → Answer
+succeeded_as opening = Done
+
+-- with what the desk goes on, and as before where that is refused
+abbrev pub or_before : {E : Type 0} → Result Opening E → Opening → Opening
+or_before (Ok after) before = after
+or_before (Err e) before = before

@@ -4,7 +4,7 @@ use Rattle.std.specs.Coded.{Coded, code_by, coded×, coded_ℕ, coded_bool, code
 use Rattle.policy.specs.Record.{AlgorithmValue, ExtensionValue, TsaPolicyValue, AccountValue, GroupValue}
 use Rattle.policy.specs.Record.{CounterValue, PolicyValue}
 use Rattle.cms.specs.Identity.{IdentityValue}
-use Rattle.desk.specs.Command.{Setting}
+use Rattle.desk.specs.Command.{InForce, Setting}
 use Rattle.desk.specs.Stepped.{DeskValue}
 
 abbrev octets : Coded (List ℕ)
@@ -54,16 +54,18 @@ group_code =
 
 abbrev counter_code : Coded CounterValue
 counter_code =
-    code_by (ℕ × (ℕ × (Bool × (ℕ × (ℕ × Option (List ℕ))))))
-    (coded× coded_ℕ (coded× coded_ℕ (coded× coded_bool (coded× coded_ℕ (coded× coded_ℕ (coded_option octets))))))
-    (λ c. (c.accuracy_us, (c.fraction_digits, (c.ordering, (c.drift_ppb, (c.max_age_us, c.anonymous))))))
+    code_by (ℕ × (ℕ × (Bool × (ℕ × (ℕ × (Option (List ℕ) × Bool))))))
+    (coded× coded_ℕ (coded× coded_ℕ (coded× coded_bool (coded× coded_ℕ (coded× coded_ℕ (coded× (coded_option octets)
+    coded_bool))))))
+    (λ c. (c.accuracy_us, (c.fraction_digits, (c.ordering, (c.drift_ppb, (c.max_age_us, (c.anonymous, c.tsa_name)))))))
     (λ p. record {
       accuracy_us = p.0;
       fraction_digits = p.1.0;
       ordering = p.1.1.0;
       drift_ppb = p.1.1.1.0;
       max_age_us = p.1.1.1.1.0;
-      anonymous = p.1.1.1.1.1;
+      anonymous = p.1.1.1.1.1.0;
+      tsa_name = p.1.1.1.1.1.1;
     }) (λ _. refl)
 
 abbrev file_code : Coded PolicyValue
@@ -84,15 +86,27 @@ file_code =
 
 abbrev identity_code : Coded IdentityValue
 identity_code =
-    code_by (List ℕ × (List ℕ × List ℕ)) (coded× octets (coded× octets octets))
-    (λ i. (i.certificate, (i.issuer, i.serial))) (λ p. record { certificate = p.0; issuer = p.1.0; serial = p.1.1 })
-    (λ _. refl)
+    code_by (List ℕ × (List ℕ × (List ℕ × (List ℕ × (List ℕ × List ℕ)))))
+    (coded× octets (coded× octets (coded× octets (coded× octets (coded× octets octets)))))
+    (λ i. (i.certificate, (i.chain, (i.certificates, (i.issuer, (i.serial, i.subject))))))
+    (λ p. record {
+      certificate = p.0;
+      chain = p.1.0;
+      certificates = p.1.1.0;
+      issuer = p.1.1.1.0;
+      serial = p.1.1.1.1.0;
+      subject = p.1.1.1.1.1;
+    }) (λ _. refl)
+
+abbrev in_force_code : Coded InForce
+in_force_code =
+    code_by (IdentityValue × List ℕ) (coded× identity_code octets) (λ k. (k.identity, k.algorithm))
+    (λ p. record { identity = p.0; algorithm = p.1 }) (λ _. refl)
 
 abbrev setting_code : Coded Setting
 setting_code =
-    code_by (PolicyValue × (IdentityValue × List ℕ)) (coded× file_code (coded× identity_code octets))
-    (λ s. (s.file, (s.identity, s.algorithm))) (λ p. record { file = p.0; identity = p.1.0; algorithm = p.1.1 })
-    (λ _. refl)
+    code_by (PolicyValue × InForce) (coded× file_code in_force_code) (λ s. (s.file, s.in_force))
+    (λ p. record { file = p.0; in_force = p.1 }) (λ _. refl)
 
 abbrev pub desk_code : {B : Type 0} → Coded B → Coded (DeskValue B)
 desk_code {B} store =

@@ -8,12 +8,15 @@ use Rattle.book.specs.Readers.{Reader}
 use Rattle.book.specs.Rights.{ListedValue}
 use Rattle.desk.specs.declared.fault.Fault.{Fault}
 
--- with what the desk was opened: the policy file's record, the signer's certificate, and the octets of its
--- AlgorithmIdentifier
-pub record Setting : Type 0 where
-  pub file : PolicyValue
+-- what is in force: the identity whose key signs, and the octets of the signer's AlgorithmIdentifier
+pub record InForce : Type 0 where
   pub identity : IdentityValue
   pub algorithm : List ℕ
+
+-- by what a desk answers: the policy file's record, which stays, and what is in force, which a succession changes
+pub record Setting : Type 0 where
+  pub file : PolicyValue
+  pub in_force : InForce
 
 -- what waits for its signature: the TSTInfo under a reserved serial number, and with which identity and algorithm it
 -- was begun
@@ -42,6 +45,8 @@ pub data Command : Type 0 where
   Revoke : AccountValue → ℕ → Reader → Command
   Calibrate : CalibrationValue → Command
   Hold : HoldValue → Command
+  -- what is in force from then on
+  Succeed : InForce → Command
 
 pub data Answer : Type 0 where
   -- a granted reply: serial number, octets
@@ -55,4 +60,20 @@ pub data Answer : Type 0 where
   Shown : List ℕ → Answer
   Listed : List ListedValue → Answer
   Done : Answer
+  -- a calibration or a hold is added, and this is its number
+  Numbered : ℕ → Answer
   Refused : Fault → Answer
+
+-- what was brought into force, where that is done
+abbrev pub brought : InForce → InForce → Answer → InForce
+brought before next Done = next
+brought before next _ = before
+
+-- what is in force after a command and its answer
+abbrev pub in_force_after : InForce → Command → Answer → InForce
+in_force_after before (Succeed next) answer = brought before next answer
+in_force_after before _ answer = before
+
+-- the setting after it: the policy file stays
+abbrev pub setting_after : Setting → Command → Answer → Setting
+setting_after s c answer = record { file = s.file; in_force = in_force_after s.in_force c answer }

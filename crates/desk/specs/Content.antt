@@ -1,13 +1,16 @@
 -- Sound histories in full: besides what the history alone says, each reservation holds its request's digest and
--- TSTInfo, and each deposit is what its stamp was given for (RFC 3161 2.4.2).
-use Rattle.std.specs.Prelude.{◌≡◌, ℕ, Bool, List, Some}
+-- TSTInfo, which names nobody else than the identity of its serial number, and each deposit is what its stamp was given
+-- for (RFC 3161 2.4.2).
+use Rattle.std.specs.Prelude.{◌≡◌, ℕ, Bool, List, Option, Some}
+use Rattle.der.specs.Node.{Node}
 use Rattle.der.specs.ObjectIdentifier.{oid_content}
 use Rattle.sha2.specs.Sha256.{sha256}
 use Rattle.tsp.specs.Request.{RequestValue, Spells}
 use Rattle.tsp.specs.Tst.{SpellsTst, answer}
-use Rattle.book.specs.History.{Entry, Reserved, Sealed, Deposited, Calibrated, Held, Granted, Revoked, History}
-use Rattle.book.specs.History.{ReservationValue, DepositValue, reservation_at}
+use Rattle.book.specs.History.{Entry, Reserved, Sealed, Deposited, Calibrated, Held, Granted, Revoked, Installed}
+use Rattle.book.specs.History.{History, ReservationValue, DepositValue, reservation_at}
 use Rattle.book.specs.Sound.{Along, IsSound}
+use Rattle.desk.specs.Succession.{NamesLatest}
 
 -- A reservation is for the request that its octets spell: with its algorithm and digest, and the TSTInfo that answers
 -- it.
@@ -20,8 +23,15 @@ pub record IsForRequest (r : ReservationValue) : Type 0 where
   pub policy : List ℕ
   pub accuracy : ℕ
   pub ordering : Bool
+  -- naming this authority, if any
+  pub tsa : Option Node
   pub content : r.policy ≡ oid_content policy
-  pub tst : SpellsTst r.tst (answer request policy r.serial r.gen_time accuracy ordering)
+  pub tst : SpellsTst r.tst (answer request policy r.serial r.gen_time accuracy ordering tsa)
+
+-- Its TSTInfo names nobody, or the identity of its serial number: the last that was installed before it.
+pub record IsNamedBy (r : ReservationValue) (b : History) : Type 0 where
+  pub stamped : IsForRequest r
+  pub named : NamesLatest stamped.tsa b
 
 -- A deposit's stamp has the digest of its octets.
 pub record IsStampedBy (d : DepositValue) (b : History) : Type 0 where
@@ -38,7 +48,20 @@ IsTrueOf (Calibrated c) b = Unit {0}
 IsTrueOf (Held h) b = Unit {0}
 IsTrueOf (Granted number account) b = Unit {0}
 IsTrueOf (Revoked number account) b = Unit {0}
+IsTrueOf (Installed i) b = Unit {0}
+
+-- whom an entry names
+abbrev pub IsNaming : Entry → History → Type 0
+IsNaming (Reserved r) b = IsNamedBy r b
+IsNaming (Sealed serial token) b = Unit {0}
+IsNaming (Deposited d token) b = Unit {0}
+IsNaming (Calibrated c) b = Unit {0}
+IsNaming (Held h) b = Unit {0}
+IsNaming (Granted number account) b = Unit {0}
+IsNaming (Revoked number account) b = Unit {0}
+IsNaming (Installed i) b = Unit {0}
 
 pub record IsSoundInFull (b : History) : Type 0 where
   pub sound : IsSound b
   pub content : Along IsTrueOf b
+  pub naming : Along IsNaming b

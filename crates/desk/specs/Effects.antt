@@ -1,6 +1,6 @@
 -- What a command adds to the history, what it has signed, and what it answers.
-use Rattle.std.specs.Prelude.{ℕ, ◌+◌, nat_le, int_lt, Bool, true, false, if◌then◌else◌, List, [], ◌∷◌, map, Option}
-use Rattle.std.specs.Prelude.{Some, None, Result, Ok, Err}
+use Rattle.std.specs.Prelude.{ℕ, ◌+◌, nat_le, int_lt, Bool, true, false, if◌then◌else◌, List, [], ◌∷◌, map, length}
+use Rattle.std.specs.Prelude.{Option, Some, None, Result, Ok, Err}
 use Rattle.std.specs.Option.{is_some}
 use Rattle.std.specs.Str.{bytes_eq}
 use Rattle.policy.specs.Record.{AccountValue, PolicyValue}
@@ -9,14 +9,16 @@ use Rattle.policy.specs.LookUp.{group_named}
 use Rattle.tsp.specs.declared.rule.Rule.TheVariants.{System}
 use Rattle.cms.specs.SignedData.{attribute_text}
 use Rattle.cms.specs.declared.signer.SignerFault.{SignerFault}
-use Rattle.book.specs.History.{Entry, Reserved, Sealed, Deposited, Calibrated, History, ReservationValue, DepositValue}
-use Rattle.book.specs.History.{CalibrationValue, greatest_serial, latest_calibration}
+use Rattle.book.specs.History.{Entry, Reserved, Sealed, Deposited, Calibrated, Installed, History, ReservationValue}
+use Rattle.book.specs.History.{DepositValue, CalibrationValue, InstalledValue, greatest_serial, calibrations}
+use Rattle.book.specs.History.{latest_calibration}
 use Rattle.book.specs.Readers.{Reader, Account, Group}
 use Rattle.book.specs.Sound.{greatest_number}
 use Rattle.book.specs.Values.{deposit_of}
 use Rattle.desk.specs.Outcome.{Outcome, Cause, OfMemory, OfStore, OfSigner, cause_of, cause_of_signing, first_cause}
-use Rattle.desk.specs.Findings.{PlanValue, Finding, Fails, Unanswered, Allowed}
-use Rattle.desk.specs.Command.{Setting, PendingValue, Answer, Stamped, Rejected, Begun, Kept, Shown, Done, Refused}
+use Rattle.desk.specs.Findings.{StampPlan, Finding, Fails, Unanswered, Allowed}
+use Rattle.desk.specs.Command.{Setting, PendingValue, Answer, Stamped, Rejected, Begun, Kept, Shown, Done, Numbered}
+use Rattle.desk.specs.Command.{Refused}
 use Rattle.tsp.specs.Granted.{granted_octets}
 use Rattle.desk.specs.Texts.{reservation_of, pending_of, token_with}
 use Rattle.desk.specs.declared.fault.Fault.{Fault}
@@ -61,8 +63,8 @@ abbrev pub no_seal : Outcome → Option Cause
 no_seal o = first_cause (cause_of o.wrapping ∷ cause_of o.sealing ∷ [])
 
 -- the reservation under the greatest serial number plus one
-abbrev pub next_reservation : Setting → List ℕ → PlanValue → List ℕ → History → ReservationValue
-next_reservation s account plan octets b = reservation_of s.file account plan octets (greatest_serial b + 1)
+abbrev pub next_reservation : Setting → List ℕ → StampPlan → List ℕ → History → ReservationValue
+next_reservation s account plan octets b = reservation_of s account plan octets (greatest_serial b + 1)
 
 abbrev pub sealed_or_void : ReservationValue → List ℕ → Option Cause → Stamping
 sealed_or_void r token None = Sealing r token
@@ -72,7 +74,7 @@ abbrev pub signed_or_void : PendingValue → ReservationValue → Result (List �
 signed_or_void p r (Ok signature) o = sealed_or_void r (token_with p signature) (no_seal o)
 signed_or_void p r (Err fault) o = sealed_or_void r [] (cause_of_signing (Err fault))
 
-abbrev pub stamping_of : Setting → List ℕ → PlanValue → List ℕ → Outcome → History → Option Cause → Stamping
+abbrev pub stamping_of : Setting → List ℕ → StampPlan → List ℕ → Outcome → History → Option Cause → Stamping
 stamping_of s account plan octets o b (Some cause) = Unreserved cause
 stamping_of s account plan octets o b None =
     let r = next_reservation s account plan octets b in signed_or_void (pending_of s plan r) r o.signing o
@@ -83,12 +85,12 @@ stamp_effect s (Unreserved cause) = only (Rejected System)
 stamp_effect s (Void r cause) = record {
   adds = Reserved r
       ∷ [];
-  asks = Some (attribute_text s.identity r.tst);
+  asks = Some (attribute_text s.in_force.identity r.tst);
   says = Rejected System;
 }
 stamp_effect s (Sealing r token) = record {
   adds = Sealed r.serial token ∷ Reserved r ∷ [];
-  asks = Some (attribute_text s.identity r.tst);
+  asks = Some (attribute_text s.in_force.identity r.tst);
   says = Stamped r.serial (granted_octets token);
 }
 
@@ -103,7 +105,7 @@ stamp_found s account octets o b (Allowed plan) = stamp_effect s (stamping_of s 
     (no_number o b))
 
 -- Begin: the reservation alone, and what waits for its signature
-abbrev pub begin_effect : Setting → List ℕ → PlanValue → List ℕ → History → Option Cause → Effect
+abbrev pub begin_effect : Setting → List ℕ → StampPlan → List ℕ → History → Option Cause → Effect
 begin_effect s account plan octets b (Some cause) = only (Refused (fault_of cause))
 begin_effect s account plan octets b None =
     let r = next_reservation s account plan octets b in
@@ -126,10 +128,10 @@ finish_effect p signature = record {
 abbrev pub deposit_effect : Setting → List ℕ → List ℕ → List ℕ → Stamping → Effect
 deposit_effect s owner reference bytes (Unreserved cause) = only (Refused (fault_of cause))
 deposit_effect s owner reference bytes (Void r cause) =
-    record { adds = Reserved r ∷ []; asks = Some (attribute_text s.identity r.tst); says = Refused (fault_of cause) }
+    record { adds = Reserved r ∷ []; asks = Some (attribute_text s.in_force.identity r.tst); says = Refused (fault_of cause) }
 deposit_effect s owner reference bytes (Sealing r token) = record {
   adds = Deposited (deposit_of r.serial owner reference bytes) token ∷ Reserved r ∷ [];
-  asks = Some (attribute_text s.identity r.tst);
+  asks = Some (attribute_text s.in_force.identity r.tst);
   says = Kept r.serial true;
 }
 
@@ -183,6 +185,10 @@ objection file owner (Group name) = if has_group file name then None else Some f
 abbrev pub accepted : Entry → Effect
 accepted entry = record { adds = entry ∷ []; asks = None; says = Done }
 
+-- the same, under its number
+abbrev pub numbered : Entry → ℕ → Effect
+numbered entry number = record { adds = entry ∷ []; asks = None; says = Numbered number }
+
 abbrev pub unless_against : Option Fault → Effect → Effect
 unless_against None effect = effect
 unless_against (Some f) effect = only (Refused f)
@@ -203,4 +209,9 @@ is_backwards c (Some last) = int_lt c.reading last.reading
 abbrev pub calibrate_effect : CalibrationValue → History → Effect
 calibrate_effect c b =
     if is_backwards c (latest_calibration b) then only (Refused fault.Store)
-    else accepted (Calibrated c)
+    else numbered (Calibrated c) (length (calibrations b) + 1)
+
+-- Succeed, and an opening: the identity is installed, unless it is the latest already
+abbrev pub succeed_effect : Outcome → InstalledValue → Bool → Effect
+succeed_effect o i true = only Done
+succeed_effect o i false = unless (cause_of o.adding) (accepted (Installed i))

@@ -23,7 +23,7 @@ HoldsAt file account reading octets b rule = HoldsOfOctets (λ r. Holds file acc
     (facts_of file account reading b)) octets rule
 
 -- what a stamp will say besides its serial number
-pub record PlanValue : Type 0 where
+pub record StampPlan : Type 0 where
   pub request : RequestValue
   -- the policy's object identifier, by subidentifiers
   pub policy : List ℕ
@@ -31,7 +31,7 @@ pub record PlanValue : Type 0 where
 
 -- no rule fails, and this is the plan
 pub record IsAllowed (file : PolicyValue) (account : Option AccountValue) (reading : ℤ) (octets : List ℕ)
-    (b : History) (plan : PlanValue) : Type 0 where
+    (b : History) (plan : StampPlan) : Type 0 where
   pub holds : (rule : Rule) → HoldsAt file account reading octets b rule
   pub spelled : Spells octets plan.request
   pub policy : policy_asked file account plan.request ≡ Some plan.policy
@@ -62,7 +62,7 @@ IsUnjudged file account reading o b cause =
 pub data Finding : Type 0 where
   Fails : Rule → Finding
   Unanswered : Cause → Finding
-  Allowed : PlanValue → Finding
+  Allowed : StampPlan → Finding
 
 abbrev pub Finds : PolicyValue → Option AccountValue → ℤ → List ℕ → Outcome → History → Finding → Type 0
 Finds file account reading octets o b (Fails rule) = IsFirstFailing (HoldsAt file account reading octets b) rule

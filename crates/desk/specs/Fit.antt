@@ -1,18 +1,27 @@
 -- Which calls of the store, of the signer and for memory each command makes: an outcome fits a command where all others
 -- are fine.
-use Rattle.std.specs.Prelude.{◌≡◌, List, [], ℕ, Result, Ok, Err}
+use Rattle.std.specs.Prelude.{◌≡◌, List, [], ℕ, Option, Some, None, Result, Ok, Err}
+use Rattle.policy.specs.Record.{AccountValue}
 use Rattle.cms.specs.declared.signer.SignerFault.{SignerFault}
 use Rattle.cms.specs.declared.signer.SignerFault.TheVariants as signer
 use Rattle.desk.specs.Outcome.{Call, Fine, Wanting, Broken, Outcome, all_fine}
 use Rattle.desk.specs.Command.{Command, Stamp, Begin, Finish, Abandon, Deposit, Show, Token, ListAll, Grant, Revoke}
-use Rattle.desk.specs.Command.{Calibrate, Hold}
+use Rattle.desk.specs.Command.{Calibrate, Hold, Succeed}
+
+-- nobody's day is asked for
+abbrev pub counting_for : Option AccountValue → Call → Call
+counting_for None call = Fine
+counting_for (Some account) call = call
 
 -- the outcome with the calls that the command makes, and with all others fine
 abbrev pub made_by : Command → Outcome → Outcome
-made_by (Stamp account reading octets) o = record o { searching = Fine }
+made_by (Stamp account reading octets) o = record o {
+  searching = Fine;
+  counting = counting_for account o.counting;
+}
 made_by (Begin account reading octets) o = record (all_fine (Ok [])) {
   looking = o.looking;
-  counting = o.counting;
+  counting = counting_for account o.counting;
   growing = o.growing;
   adding = o.adding;
 }
@@ -38,6 +47,7 @@ made_by (Revoke a n reader) o = record (all_fine (Ok [])) {
 }
 made_by (Calibrate c) o = record (all_fine (Ok [])) { adding = o.adding }
 made_by (Hold h) o = record (all_fine (Ok [])) { adding = o.adding }
+made_by (Succeed next) o = record (all_fine (Ok [])) { looking = o.looking; adding = o.adding }
 
 -- a call that wasn't refused for a cause that is counted
 abbrev pub IsUncounted : Call → Type 0

@@ -12,28 +12,31 @@ use Rattle.cms.specs.SignedData.{attribute_text, token}
 use Rattle.cms.specs.declared.signer.SignerFault.{SignerFault}
 use Rattle.book.specs.History.{Entry, Reserved, Deposited, History, ReservationValue, stamps, deposits, holds}
 use Rattle.book.specs.History.{latest_calibration, greatest_serial, deposit_at}
+use Rattle.book.specs.Identities.{latest_identity, identity_of}
 use Rattle.book.specs.Readers.{Viewer}
 use Rattle.book.specs.Sound.{greatest_number}
 use Rattle.book.specs.Values.{deposit_of}
 use Rattle.desk.specs.Agreement.{seen_at, Agree, IsCommandOf}
 use Rattle.desk.specs.Outcome.{Outcome, Cause, cause_of, cause_of_signing}
-use Rattle.desk.specs.Findings.{PlanValue, IsAllowed, HoldsAt}
+use Rattle.desk.specs.Findings.{StampPlan, IsAllowed, HoldsAt}
 use Rattle.desk.specs.Command.{Setting, PendingValue, Command, Stamp, Begin, Finish, Abandon, Deposit, Show, Token}
-use Rattle.desk.specs.Command.{ListAll, Grant, Revoke, Calibrate, Hold, Answer, Stamped, Rejected, Begun, Kept}
-use Rattle.desk.specs.Command.{Refused}
+use Rattle.desk.specs.Command.{ListAll, Grant, Revoke, Calibrate, Hold, Succeed, Answer, Stamped, Rejected, Begun}
+use Rattle.desk.specs.Command.{Kept, Shown, Listed, Done, Numbered, Refused, setting_after}
 use Rattle.desk.specs.Texts.{tst_of, reservation_of, pending_of, token_with, gives_certificate, request_for, octets_for}
 use Rattle.desk.specs.Effects.{Effect, next_reservation, name_of}
+use Rattle.desk.specs.declared.fault.Fault.{Fault}
 use Rattle.desk.specs.declared.fault.Fault.TheVariants as fault
 use Rattle.desk.specs.Steps.{HasEffect, IsMet}
 use Rattle.desk.specs.Runs.{Told, after, cut, Runs}
 use Rattle.desk.specs.Serials.{serials_of}
+use Rattle.desk.specs.Succession.{installed_by, IsInForce}
 use Rattle.desk.specs.Viewers.{viewer_in}
 
 -- A grant: no rule of 1 to 11 fails, the serial number is the greatest plus one, and the reply has the token over the
 -- TSTInfo of the plan under that number, with the signature that the signer answered.
 pub record IsGrant (s : Setting) (account : Option AccountValue) (reading : ℤ) (octets : List ℕ) (o : Outcome)
     (b : History) (serial : ℕ) (reply : List ℕ) : Type 0 where
-  pub plan : PlanValue
+  pub plan : StampPlan
   pub allowed : IsAllowed s.file account reading octets b plan
   pub number : serial ≡ greatest_serial b + 1
   pub signature : List ℕ
@@ -62,13 +65,13 @@ IsRejection s account reading octets o b rule = IsFirstFailing (HoldsAt s.file a
 -- the plan and the setting.
 pub record IsBegunOf (s : Setting) (account : Option AccountValue) (reading : ℤ) (octets : List ℕ) (b : History)
     (p : PendingValue) : Type 0 where
-  pub plan : PlanValue
+  pub plan : StampPlan
   pub allowed : IsAllowed s.file account reading octets b plan
   pub number : p.serial ≡ greatest_serial b + 1
-  pub tst : p.tst ≡ tst_of s.file plan p.serial
+  pub tst : p.tst ≡ tst_of s plan p.serial
   pub certificate : p.certificate ≡ plan.request.cert_req
-  pub identity : p.identity ≡ s.identity
-  pub algorithm : p.algorithm ≡ s.algorithm
+  pub identity : p.identity ≡ s.in_force.identity
+  pub algorithm : p.algorithm ≡ s.in_force.algorithm
 
 -- What `Finish` grants: the token over the TSTInfo that waited, under its serial number, with the signature that was
 -- handed in, and with the identity and algorithm with which it was begun.
@@ -81,32 +84,98 @@ pub record IsFinished (p : PendingValue) (signature : List ℕ) (serial : ℕ) (
 -- exactly where the owner's default policy gives it out.
 pub record IsDeposited (s : Setting) (a : AccountValue) (reading : ℤ) (reference bytes : List ℕ) (o : Outcome)
     (b : History) (e : Effect) (number : ℕ) : Type 0 where
-  pub plan : PlanValue
+  pub plan : StampPlan
   pub allowed : IsAllowed s.file (Some a) reading (octets_for s.file a bytes) b plan
   pub request : plan.request ≡ request_for s.file a bytes
   pub next : number ≡ greatest_serial b + 1
   pub signature : List ℕ
   pub signed : o.signing ≡ Ok signature
-  pub adds : e.adds ≡ Deposited (deposit_of number a.name reference bytes) (token s.identity s.algorithm
-      (tst_of s.file plan number) signature (gives_certificate s.file a))
-      ∷ Reserved (reservation_of s.file a.name plan (octets_for s.file a bytes) number) ∷ []
+  pub adds : e.adds ≡ Deposited (deposit_of number a.name reference bytes) (token s.in_force.identity s.in_force.algorithm
+      (tst_of s plan number) signature (gives_certificate s.file a))
+      ∷ Reserved (reservation_of s a.name plan (octets_for s.file a bytes) number) ∷ []
 
--- Of grants, rejections and deposits: each is of its plan, or by the first rule that fails.
-abbrev pub IsOfPlan : Setting → Command → Outcome → History → Effect → Answer → Type 0
-IsOfPlan s (Stamp account reading octets) o b e (Stamped serial reply) =
-    IsGrant s account reading octets o b serial reply
-IsOfPlan s (Stamp account reading octets) o b e (Rejected rule) = IsRejection s account reading octets o b rule
-IsOfPlan s (Begin account reading octets) o b e (Begun p) = IsBegunOf s account reading octets b p
-IsOfPlan s (Begin account reading octets) o b e (Rejected rule) =
+-- A stamp's answer is of its plan, or by the first rule that fails. By the others a stamp isn't answered.
+abbrev pub IsStampOfPlan : Setting → Option AccountValue → ℤ → List ℕ → Outcome → History → Answer → Type 0
+IsStampOfPlan s account reading octets o b (Stamped serial reply) = IsGrant s account reading octets o b serial reply
+IsStampOfPlan s account reading octets o b (Rejected rule) = IsRejection s account reading octets o b rule
+IsStampOfPlan s account reading octets o b (Begun p) = Unit {0}
+IsStampOfPlan s account reading octets o b (Kept number is_new) = Unit {0}
+IsStampOfPlan s account reading octets o b (Shown bytes) = Unit {0}
+IsStampOfPlan s account reading octets o b (Listed rows) = Unit {0}
+IsStampOfPlan s account reading octets o b Done = Unit {0}
+IsStampOfPlan s account reading octets o b (Numbered number) = Unit {0}
+IsStampOfPlan s account reading octets o b (Refused f) = Unit {0}
+
+-- and so is what is begun, or it is refused
+abbrev pub IsBeginningOfPlan : Setting → Option AccountValue → ℤ → List ℕ → History → Answer → Type 0
+IsBeginningOfPlan s account reading octets b (Begun p) = IsBegunOf s account reading octets b p
+IsBeginningOfPlan s account reading octets b (Rejected rule) =
     IsFirstFailing (HoldsAt s.file account reading octets b) rule
-IsOfPlan s (Finish p signature) o b e (Stamped serial reply) = IsFinished p signature serial reply
-IsOfPlan s (Deposit a reading reference bytes) o b e (Kept number true) =
-    IsDeposited s a reading reference bytes o b e number
-IsOfPlan s (Deposit a reading reference bytes) o b e (Kept number false) =
-    deposit_at number b ≡ Some (deposit_of number a.name reference bytes)
-IsOfPlan s (Deposit a reading reference bytes) o b e (Refused (fault.Rejected rule)) =
+IsBeginningOfPlan s account reading octets b (Stamped serial reply) = Unit {0}
+IsBeginningOfPlan s account reading octets b (Kept number is_new) = Unit {0}
+IsBeginningOfPlan s account reading octets b (Shown bytes) = Unit {0}
+IsBeginningOfPlan s account reading octets b (Listed rows) = Unit {0}
+IsBeginningOfPlan s account reading octets b Done = Unit {0}
+IsBeginningOfPlan s account reading octets b (Numbered number) = Unit {0}
+IsBeginningOfPlan s account reading octets b (Refused f) = Unit {0}
+
+abbrev pub IsFinishOfPlan : PendingValue → List ℕ → Answer → Type 0
+IsFinishOfPlan p signature (Stamped serial reply) = IsFinished p signature serial reply
+IsFinishOfPlan p signature (Rejected rule) = Unit {0}
+IsFinishOfPlan p signature (Begun q) = Unit {0}
+IsFinishOfPlan p signature (Kept number is_new) = Unit {0}
+IsFinishOfPlan p signature (Shown bytes) = Unit {0}
+IsFinishOfPlan p signature (Listed rows) = Unit {0}
+IsFinishOfPlan p signature Done = Unit {0}
+IsFinishOfPlan p signature (Numbered number) = Unit {0}
+IsFinishOfPlan p signature (Refused f) = Unit {0}
+
+-- a deposit that is refused by a rule, is by the first that fails
+abbrev pub IsRefusalOfPlan : Setting → AccountValue → ℤ → List ℕ → History → Fault → Type 0
+IsRefusalOfPlan s a reading bytes b (fault.Rejected rule) =
     IsFirstFailing (HoldsAt s.file (Some a) reading (octets_for s.file a bytes) b) rule
-IsOfPlan s c o b e answer = Unit {0}
+IsRefusalOfPlan s a reading bytes b fault.NotHere = Unit {0}
+IsRefusalOfPlan s a reading bytes b fault.NotOwner = Unit {0}
+IsRefusalOfPlan s a reading bytes b fault.Conflict = Unit {0}
+IsRefusalOfPlan s a reading bytes b fault.UnknownReader = Unit {0}
+IsRefusalOfPlan s a reading bytes b fault.UnknownGroup = Unit {0}
+IsRefusalOfPlan s a reading bytes b fault.SelfGrant = Unit {0}
+IsRefusalOfPlan s a reading bytes b fault.TooLarge = Unit {0}
+IsRefusalOfPlan s a reading bytes b fault.Memory = Unit {0}
+IsRefusalOfPlan s a reading bytes b fault.Store = Unit {0}
+IsRefusalOfPlan s a reading bytes b fault.Signer = Unit {0}
+
+abbrev pub IsDepositOfPlan : Setting → AccountValue → ℤ → List ℕ → List ℕ → Outcome → History → Effect → Answer
+    → Type 0
+IsDepositOfPlan s a reading reference bytes o b e (Kept number true) =
+    IsDeposited s a reading reference bytes o b e number
+IsDepositOfPlan s a reading reference bytes o b e (Kept number false) =
+    deposit_at number b ≡ Some (deposit_of number a.name reference bytes)
+IsDepositOfPlan s a reading reference bytes o b e (Refused f) = IsRefusalOfPlan s a reading bytes b f
+IsDepositOfPlan s a reading reference bytes o b e (Stamped serial reply) = Unit {0}
+IsDepositOfPlan s a reading reference bytes o b e (Rejected rule) = Unit {0}
+IsDepositOfPlan s a reading reference bytes o b e (Begun p) = Unit {0}
+IsDepositOfPlan s a reading reference bytes o b e (Shown octets) = Unit {0}
+IsDepositOfPlan s a reading reference bytes o b e (Listed rows) = Unit {0}
+IsDepositOfPlan s a reading reference bytes o b e Done = Unit {0}
+IsDepositOfPlan s a reading reference bytes o b e (Numbered number) = Unit {0}
+
+-- Of grants, rejections and deposits: each is of its plan, or by the first rule that fails. The other commands have no
+-- plan.
+abbrev pub IsOfPlan : Setting → Command → Outcome → History → Effect → Answer → Type 0
+IsOfPlan s (Stamp account reading octets) o b e answer = IsStampOfPlan s account reading octets o b answer
+IsOfPlan s (Begin account reading octets) o b e answer = IsBeginningOfPlan s account reading octets b answer
+IsOfPlan s (Finish p signature) o b e answer = IsFinishOfPlan p signature answer
+IsOfPlan s (Abandon p) o b e answer = Unit {0}
+IsOfPlan s (Deposit a reading reference bytes) o b e answer = IsDepositOfPlan s a reading reference bytes o b e answer
+IsOfPlan s (Show a n) o b e answer = Unit {0}
+IsOfPlan s (Token a n) o b e answer = Unit {0}
+IsOfPlan s (ListAll a) o b e answer = Unit {0}
+IsOfPlan s (Grant a n reader) o b e answer = Unit {0}
+IsOfPlan s (Revoke a n reader) o b e answer = Unit {0}
+IsOfPlan s (Calibrate c) o b e answer = Unit {0}
+IsOfPlan s (Hold h) o b e answer = Unit {0}
+IsOfPlan s (Succeed next) o b e answer = Unit {0}
 
 -- What is given out to be signed is the text of the reservation that the same command adds first, under a serial number
 -- above all that were reserved before.
@@ -117,7 +186,10 @@ pub record IsReservedText (s : Setting) (e : Effect) (b : History) (text : List 
   -- no other is reserved by the command
   pub alone : serials_of e.adds ≡ reservation.serial ∷ []
   pub above : greatest_serial b < reservation.serial
-  pub text_is : text ≡ attribute_text s.identity reservation.tst
+  pub text_is : text ≡ attribute_text s.in_force.identity reservation.tst
+  -- that identity is then the one of the serial number, where it was installed last before
+  pub signer : IsInForce s.in_force b
+      → identity_of reservation.serial (e.adds ++ b) ≡ Some (installed_by s.in_force.identity)
 
 -- What waits for its signature: that reservation's, with its serial number and TSTInfo.
 pub record IsPendingOf (s : Setting) (e : Effect) (b : History) (p : PendingValue) : Type 0 where
@@ -125,19 +197,21 @@ pub record IsPendingOf (s : Setting) (e : Effect) (b : History) (p : PendingValu
   pub number : p.serial ≡ of_reservation.reservation.serial
   pub tst : p.tst ≡ of_reservation.reservation.tst
 
--- a run that goes to its end, or is cut in one of its commands by a stop
-abbrev pub Continues : Setting → List Command → List Outcome → History → List Told → History → List Told → Type 0
-Continues s [] [] b w b' w' = (b' ≡ b) × (w' ≡ w)
-Continues s (c ∷ cs) (o ∷ os) b w b' w' =
+-- a run that goes to its end, or is cut in one of its commands by a stop, after which no desk is open
+abbrev pub Continues : Setting → List Command → List Outcome → History → List Told → History → Option Setting
+    → List Told → Type 0
+Continues s [] [] b w b' x' w' = (b' ≡ b) × (x' ≡ Some s) × (w' ≡ w)
+Continues s (c ∷ cs) (o ∷ os) b w b' x' w' =
     (e : Effect) × HasEffect s c o b e
-    × (((k : ℕ) × (b' ≡ cut k e b) × (w' ≡ w)) ⊎ Continues s cs os (after e b)
-    (record { command = c; answer = e.says } ∷ w) b' w')
-Continues s [] (o ∷ os) b w b' w' = ⊥
-Continues s (c ∷ cs) [] b w b' w' = ⊥
+    × (((k : ℕ) × (b' ≡ cut k e b) × (x' ≡ None) × (w' ≡ w)) ⊎ Continues (setting_after s c e.says) cs os (after e b)
+    (record { command = c; answer = e.says } ∷ w) b' x' w')
+Continues s [] (o ∷ os) b w b' x' w' = ⊥
+Continues s (c ∷ cs) [] b w b' x' w' = ⊥
 
 -- what the caller of each command sees to, of the history at its moment
 abbrev pub AreMet : Setting → List Command → List Outcome → History → Type 0
-AreMet s (c ∷ cs) (o ∷ os) b = IsMet c b × ((e : Effect) → HasEffect s c o b e → AreMet s cs os (after e b))
+AreMet s (c ∷ cs) (o ∷ os) b =
+    IsMet c b × ((e : Effect) → HasEffect s c o b e → AreMet (setting_after s c e.says) cs os (after e b))
 AreMet s [] os b = Unit {0}
 AreMet s (c ∷ cs) [] b = Unit {0}
 
@@ -170,6 +244,7 @@ IsCommandOfOther account (Grant a n reader) = bytes_eq a.name account ≡ false
 IsCommandOfOther account (Revoke a n reader) = bytes_eq a.name account ≡ false
 IsCommandOfOther account (Calibrate c) = ⊥
 IsCommandOfOther account (Hold h) = ⊥
+IsCommandOfOther account (Succeed next) = ⊥
 
 -- the command gives or takes a right to the deposit with this number
 abbrev pub Concerns : ℕ → Command → Type 0
@@ -187,3 +262,4 @@ pub record StaysFor (viewer : Viewer) (concerned : ℕ → Type 0) (b c : Histor
   pub seen : (number : ℕ) → (concerned number → ⊥) → seen_at viewer number b ≡ seen_at viewer number c
   pub calibration : latest_calibration b ≡ latest_calibration c
   pub holding : holds b ≡ holds c
+  pub identity : latest_identity b ≡ latest_identity c

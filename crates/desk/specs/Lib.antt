@@ -12,6 +12,7 @@ pub mod Fault
 pub mod Findings
 pub mod Fit
 pub mod Laws
+pub mod Naming
 pub mod Obstacles
 pub mod Outcome
 pub mod Promises
@@ -24,6 +25,7 @@ pub mod Shown
 pub mod Sight
 pub mod Stepped
 pub mod Steps
+pub mod Succession
 pub mod Texts
 pub mod Viewers
 pub mod Wholes

@@ -6,12 +6,14 @@ use Rattle.book.specs.Sound.{IsSound}
 use Rattle.desk.specs.Agreement.{Agree, IsCommandOf}
 use Rattle.desk.specs.Content.{IsSoundInFull}
 use Rattle.desk.specs.Outcome.{Outcome}
-use Rattle.desk.specs.Command.{Setting, PendingValue, Command, Begun}
+use Rattle.desk.specs.Command.{InForce, Setting, PendingValue, Command, Succeed, Begun, Done, setting_after}
 use Rattle.desk.specs.Effects.{Effect}
 use Rattle.desk.specs.Steps.{HasEffect, IsMet}
 use Rattle.desk.specs.Runs.{IsProper, after}
 use Rattle.desk.specs.Laws.{IsReservedText, IsPendingOf, IsOfPlan, IsCommandOfOther, Concerns, StaysFor}
 use Rattle.desk.specs.Sight.{ShowsExactly}
+use Rattle.desk.specs.Naming.{IsNameableFor}
+use Rattle.desk.specs.Succession.{IsInForce}
 use Rattle.desk.specs.Viewers.{viewer_in}
 
 -- the same effect from another history, and that the histories after it agree
@@ -38,5 +40,8 @@ pub record KeepsPromises (s : Setting) (c : Command) (o : Outcome) (b : History)
   pub undisturbed : (account : List ℕ) → IsCommandOfOther account c
       → StaysFor (viewer_in s.file account) (λ number. Concerns number c) b (after e b)
   -- A history that is sound in full is left sound in full: each deposit's stamp has the digest of its octets, and each
-  -- reservation the TSTInfo that answers its request.
-  pub whole : IsProper s → IsSoundInFull b → IsMet c b → IsSoundInFull (after e b)
+  -- reservation the TSTInfo that answers its request, and that names nobody or the identity of its serial number.
+  pub whole : IsProper s → IsNameableFor s c b → IsSoundInFull b → IsMet c b → IsSoundInFull (after e b)
+  -- What is in force stays the identity that was installed last, and what a succession brings is it from then on.
+  pub in_force : IsInForce s.in_force b → IsInForce (setting_after s c e.says).in_force (after e b)
+  pub brought : (next : InForce) → c ≡ Succeed next → e.says ≡ Done → IsInForce next (after e b)

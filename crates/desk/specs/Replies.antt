@@ -9,7 +9,7 @@ use Rattle.cms.specs.SignedData.{attribute_text, token}
 use Rattle.cms.specs.declared.signer.SignerFault.{SignerFault}
 use Rattle.book.specs.History.{History, greatest_serial}
 use Rattle.desk.specs.Command.{Setting}
-use Rattle.desk.specs.Findings.{PlanValue, IsAllowed, HoldsAt}
+use Rattle.desk.specs.Findings.{StampPlan, IsAllowed, HoldsAt}
 use Rattle.desk.specs.Texts.{tst_of}
 
 -- A grant: none of the rules 1 to 11 fails; the serial number is the greatest plus one; and the octets are those of the
@@ -17,12 +17,12 @@ use Rattle.desk.specs.Texts.{tst_of}
 pub record IsGranted (s : Setting) (signs : List ℕ → Result (List ℕ) SignerFault → Type 0)
     (account : Option AccountValue) (reading : ℤ) (octets : List ℕ) (b : History) (serial : ℕ) (reply : List ℕ)
     : Type 0 where
-  pub plan : PlanValue
+  pub plan : StampPlan
   pub allowed : IsAllowed s.file account reading octets b plan
   pub number : serial ≡ greatest_serial b + 1
   pub signature : List ℕ
-  pub signed : signs (attribute_text s.identity (tst_of s.file plan serial)) (Ok signature)
-  pub text : reply ≡ granted_octets (token s.identity s.algorithm (tst_of s.file plan serial) signature
+  pub signed : signs (attribute_text s.in_force.identity (tst_of s plan serial)) (Ok signature)
+  pub text : reply ≡ granted_octets (token s.in_force.identity s.in_force.algorithm (tst_of s plan serial) signature
       plan.request.cert_req)
 
 -- A rejection: by the first rule that fails, or by rule 12.

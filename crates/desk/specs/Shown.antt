@@ -3,7 +3,7 @@ use Rattle.std.specs.Prelude.{ℕ, map, Vec}
 use Rattle.std.specs.declared.alloc.Global.{Global}
 use Rattle.book.specs.Values.{listed_view}
 use Rattle.book.specs.declared.values.Listed.{Listed as Row}
-use Rattle.desk.specs.Command.{Answer, Kept, Shown, Listed, Done}
+use Rattle.desk.specs.Command.{Answer, Kept, Shown, Listed, Done, Numbered}
 use Rattle.desk.specs.declared.reply.Deposited.{Deposited}
 
 abbrev pub deposited_as : Deposited → Answer
@@ -17,3 +17,6 @@ listed_as rows = Listed (map listed_view rows.items)
 
 abbrev pub done_as : Unit {0} → Answer
 done_as done = Done
+
+abbrev pub numbered_as : ℕ → Answer
+numbered_as number = Numbered number

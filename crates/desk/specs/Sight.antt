@@ -7,7 +7,8 @@ use Rattle.book.specs.History.{History, DepositValue, ReservationValue, deposit_
 use Rattle.book.specs.Readers.{Viewer}
 use Rattle.book.specs.Rights.{ListedValue, may_read, listed_as}
 use Rattle.desk.specs.Outcome.{Outcome, Cause, OfMemory, OfStore, cause_of, first_cause}
-use Rattle.desk.specs.Command.{Command, Show, Token, ListAll, Answer, Shown, Listed, Refused}
+use Rattle.desk.specs.Command.{Command, Stamp, Begin, Finish, Abandon, Deposit, Show, Token, ListAll, Grant, Revoke}
+use Rattle.desk.specs.Command.{Calibrate, Hold, Succeed, Answer, Shown, Listed, Refused}
 use Rattle.desk.specs.Viewers.{viewer_in}
 use Rattle.desk.specs.declared.fault.Fault.TheVariants as fault
 
@@ -64,9 +65,19 @@ IsListedFrom viewer o b (Refused fault.Memory) = cause_of o.looking ≡ Some OfM
 IsListedFrom viewer o b (Refused fault.Store) = cause_of o.looking ≡ Some OfStore
 IsListedFrom viewer o b answer = ⊥
 
--- what a command that shows or lists answers, is exactly what its account may see, by the policy file
+-- What a command that shows or lists answers, is exactly what its account may see, by the policy file. The others show
+-- and list nothing.
 abbrev pub ShowsExactly : PolicyValue → Command → Outcome → History → Answer → Type 0
 ShowsExactly file (Show a n) o b answer = IsShownFrom IsBytesOf (viewer_in file a.name) n o b answer
 ShowsExactly file (Token a n) o b answer = IsShownFrom (IsReplyOf b) (viewer_in file a.name) n o b answer
 ShowsExactly file (ListAll a) o b answer = IsListedFrom (viewer_in file a.name) o b answer
-ShowsExactly file c o b answer = Unit {0}
+ShowsExactly file (Stamp account reading octets) o b answer = Unit {0}
+ShowsExactly file (Begin account reading octets) o b answer = Unit {0}
+ShowsExactly file (Finish p signature) o b answer = Unit {0}
+ShowsExactly file (Abandon p) o b answer = Unit {0}
+ShowsExactly file (Deposit a reading reference bytes) o b answer = Unit {0}
+ShowsExactly file (Grant a n reader) o b answer = Unit {0}
+ShowsExactly file (Revoke a n reader) o b answer = Unit {0}
+ShowsExactly file (Calibrate c) o b answer = Unit {0}
+ShowsExactly file (Hold h) o b answer = Unit {0}
+ShowsExactly file (Succeed next) o b answer = Unit {0}

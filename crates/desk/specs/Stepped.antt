@@ -1,28 +1,33 @@
 -- A call of the program is a step of the machine: what each call's contract says.
-use Rattle.std.specs.Prelude.{◌≡◌, ℕ, ◌≤◌, ◌⊎◌, true, List, [], ◌∷◌, ◌++◌, Option, None, Result, Err}
+use Rattle.std.specs.Prelude.{◌≡◌, ℕ, ◌≤◌, ◌⊎◌, true, false, List, [], ◌∷◌, ◌++◌, Option, None, Result, Ok, Err}
 use Rattle.book.specs.declared.standing.Standing.{Ghosts}
 use Rattle.cms.specs.Signer.{count_after}
 use Rattle.cms.specs.declared.signer.SignerFault.{SignerFault}
 use Rattle.cms.specs.declared.signer.SignerFault.TheVariants as signer
-use Rattle.book.specs.History.{Entry, History, greatest_serial, latest_calibration}
-use Rattle.book.specs.Sound.{greatest_number}
+use Rattle.book.specs.History.{Entry, Installed, History, greatest_serial, latest_calibration}
+use Rattle.book.specs.Sound.{IsBackwards, greatest_number}
 use Rattle.book.specs.Stands.{Stands}
 use Rattle.desk.specs.Fit.{IsFit, IsUnbroken}
 use Rattle.desk.specs.Outcome.{Call, Fine, Broken, Outcome, faults_after}
-use Rattle.desk.specs.Command.{Setting, Command, Stamp, Begin, Deposit, Grant}
-use Rattle.desk.specs.Command.{Revoke, Calibrate, Hold, Answer, Stamped, Rejected, Begun, Kept, Shown, Listed, Done}
-use Rattle.desk.specs.Command.{Refused}
+use Rattle.desk.specs.Command.{InForce, Setting, Command, Stamp, Begin, Abandon, Deposit, Calibrate, Succeed, Answer}
+use Rattle.desk.specs.Command.{Stamped, Rejected, Begun, Kept, Shown, Listed, Done, Numbered}
+use Rattle.desk.specs.Command.{Refused, setting_after}
 use Rattle.desk.specs.declared.fault.Fault.{Fault}
 use Rattle.desk.specs.declared.fault.Fault.TheVariants as fault
-use Rattle.desk.specs.Effects.{Effect, is_backwards}
+use Rattle.desk.specs.Effects.{Effect}
 use Rattle.desk.specs.Steps.{HasEffect, IsMet, Moves}
 use Rattle.desk.specs.Runs.{after}
 use Rattle.desk.specs.Promises.{KeepsPromises}
+use Rattle.desk.specs.Succession.{installed_by, IsInForce}
 
--- a desk: with what it was opened, and its store
+-- a desk: by what it answers, and its store
 pub record DeskValue (B : Type 0) : Type 0 where
   pub setting : Setting
   pub store : B
+
+-- a desk of this setting, over this store
+abbrev pub desk_of : {B : Type 0} → Setting → B → DeskValue B
+desk_of s store = record { setting = s; store = store }
 
 -- the desk with another store
 abbrev pub with_store : {B : Type 0} → DeskValue B → B → DeskValue B
@@ -103,7 +108,7 @@ IsExcused g (Stamp account reading octets) old new = IsSpentIn g old new
 IsExcused g (Begin account reading octets) old new = IsSpentIn g old new
 IsExcused g (Deposit a reading reference bytes) old new = IsSpentIn g old new
 IsExcused g (Calibrate c) old new =
-    g.honest new → (b : History) → Stands g b old → is_backwards c (latest_calibration b) ≡ true
+    g.honest new → (b : History) → Stands g b old → IsBackwards c (latest_calibration b)
 IsExcused g _ old new = ⊥
 
 -- Store and signer are named only where they failed and counted it, and the store where it is excused. Want of memory
@@ -129,19 +134,29 @@ IsBlamed g c o old new (Kept number is_new) = Unit {0}
 IsBlamed g c o old new (Shown octets) = Unit {0}
 IsBlamed g c o old new (Listed rows) = Unit {0}
 IsBlamed g c o old new Done = Unit {0}
+IsBlamed g c o old new (Numbered number) = Unit {0}
 IsBlamed g c o old new (Refused f) = IsBlamedFor g c o old new f
 
+-- What is done was committed, but for an abandonment, which commits nothing, and a succession, which may find its
+-- identity installed: of that the calls say it themselves, before it and after it.
+abbrev pub IsOpenedOnceDone : {B : Type 0} → Ghosts B → Command → B → Type 0
+IsOpenedOnceDone g (Abandon p) new = Unit {0}
+IsOpenedOnceDone g (Succeed next) new = Unit {0}
+IsOpenedOnceDone g _ new = g.is_open new
+
 -- After a call that acknowledges what it committed, the store is open: a store whose connection is shut stands for
--- every history.
+-- every history. A known deposit, what is shown or listed, a rejection and a refusal acknowledge no commit.
 abbrev pub IsOpened : {B : Type 0} → Ghosts B → Command → Answer → B → Type 0
 IsOpened g c (Stamped serial octets) new = g.is_open new
+IsOpened g c (Rejected rule) new = Unit {0}
 IsOpened g c (Begun p) new = g.is_open new
 IsOpened g c (Kept number true) new = g.is_open new
-IsOpened g (Grant a n reader) Done new = g.is_open new
-IsOpened g (Revoke a n reader) Done new = g.is_open new
-IsOpened g (Calibrate calibration) Done new = g.is_open new
-IsOpened g (Hold h) Done new = g.is_open new
-IsOpened g c answer new = Unit {0}
+IsOpened g c (Kept number false) new = Unit {0}
+IsOpened g c (Shown octets) new = Unit {0}
+IsOpened g c (Listed rows) new = Unit {0}
+IsOpened g c Done new = IsOpenedOnceDone g c new
+IsOpened g c (Numbered number) new = g.is_open new
+IsOpened g c (Refused f) new = Unit {0}
 
 -- A call is a step of the machine under an outcome, in which the calls that the command doesn't make are fine. The
 -- counts of faults of store and signer are the outcome's, and they are named only where the outcome says that they
@@ -168,7 +183,26 @@ pub record IsStepBy {B : Type 0} (g : Ghosts B) (t : SignerStep) (s : Setting) (
   pub promises : (honest : g.honest new) (b : History) (stands : Stands g b old) (met : IsMet c b)
       → KeepsPromises s c o b (step.steps honest b stands met).effect
 
--- the same under some outcome
-abbrev pub IsStep : {B : Type 0} → Ghosts B → SignerStep → Setting → Command → B → B → Answer
-    → Type 0
-IsStep g t s c old new answer = (o : Outcome) × IsStepBy g t s c o old new answer
+-- A call of a desk is such a step, under some outcome, from the desk before it to the desk after it: the policy file
+-- stays, and so does what is in force, unless it is succeeded.
+pub record IsStep {B : Type 0} (g : Ghosts B) (t : SignerStep) (c : Command) (old new : DeskValue B) (answer : Answer)
+    : Type 0 where
+  pub setting : new.setting ≡ setting_after old.setting c answer
+  pub outcome : Outcome
+  pub by : IsStepBy g t old.setting c outcome old.store new.store answer
+
+-- What an opening by a setting answers: a desk of it, or a refusal, with the store handed back. What is in force is
+-- brought as a succession brings it.
+abbrev pub HasOpened : {B : Type 0} → Ghosts B → Setting → B → Result (DeskValue B) (Fault × B) → Type 0
+HasOpened g s store (Ok desk) =
+    (desk.setting ≡ s) × IsStep g no_signer (Succeed s.in_force) (desk_of s store) desk Done
+HasOpened g s store (Err refusal) =
+    IsStep g no_signer (Succeed s.in_force) (desk_of s store) (desk_of s refusal.1) (Refused refusal.0)
+
+-- From each history that the store stood for, it stands for one whose latest identity is the one in force: for that
+-- history, or, open, for that with the identity installed.
+pub record StandsInForce {B : Type 0} (g : Ghosts B) (k : InForce) (b : History) (new : B) : Type 0 where
+  pub history : History
+  pub adds : (history ≡ b) ⊎ ((history ≡ Installed (installed_by k.identity) ∷ b) × g.is_open new)
+  pub stands : Stands g history new
+  pub in_force : IsInForce k history

@@ -1,21 +1,23 @@
 -- The machine: which effects a command may have on a history, by what store, signer and memory answer.
-use Rattle.std.specs.Prelude.{◌≡◌, ℕ, ◌≤◌, ℤ, ◌<ℤ◌, nat_le, Bool, true, false, List, length, Option, Some}
+use Rattle.std.specs.Prelude.{◌≡◌, ℕ, ◌+◌, ◌≤◌, ℤ, ◌<ℤ◌, nat_le, Bool, true, false, List, length, Option, Some}
 use Rattle.std.specs.Prelude.{None, Result}
 use Rattle.policy.specs.Record.{AccountValue}
 use Rattle.tsp.specs.Request.{Spells}
 use Rattle.cms.specs.declared.signer.SignerFault.{SignerFault}
 use Rattle.book.specs.History.{Granted, Revoked, Held, History, ReservationValue, DepositValue, reservation_at}
-use Rattle.book.specs.History.{token_of, deposit_under}
+use Rattle.book.specs.History.{holds, token_of, deposit_under}
+use Rattle.book.specs.Identities.{latest_identity}
 use Rattle.book.specs.Rights.{seen_by, listed}
 use Rattle.desk.specs.Outcome.{Outcome, Cause, cause_of}
 use Rattle.desk.specs.Findings.{Finding, Finds}
 use Rattle.desk.specs.Command.{Setting, PendingValue, Command, Stamp, Begin, Finish, Abandon, Deposit, Show, Token}
-use Rattle.desk.specs.Command.{ListAll, Grant, Revoke, Calibrate, Hold, Listed, Done, Refused}
+use Rattle.desk.specs.Command.{ListAll, Grant, Revoke, Calibrate, Hold, Succeed, Listed, Done, Refused}
 use Rattle.desk.specs.Texts.{octets_for, request_for}
 use Rattle.desk.specs.Viewers.{viewer_in}
 use Rattle.desk.specs.Effects.{no_sight, Effect, only, fault_of, unless, stamp_found, begin_found, finish_effect}
 use Rattle.desk.specs.Effects.{deposit_found, known_effect, name_of, show_effect, token_effect, right_effect}
-use Rattle.desk.specs.Effects.{calibrate_effect, accepted, no_seal, too_large}
+use Rattle.desk.specs.Effects.{calibrate_effect, numbered, succeed_effect, no_seal, too_large}
+use Rattle.desk.specs.Succession.{installed_by, is_latest, HasSubject}
 
 -- the effect of what was found
 abbrev pub HasFound : (Finding → Type 0) → (Finding → Effect) → Effect → Type 0
@@ -66,7 +68,10 @@ HasEffect s (Revoke a n reader) o b e =
     e ≡ unless (cause_of o.searching) (right_effect s.file a.name reader o (Revoked n reader)
     (seen_by (viewer_in s.file a.name) n b))
 HasEffect s (Calibrate c) o b e = e ≡ unless (cause_of o.adding) (calibrate_effect c b)
-HasEffect s (Hold h) o b e = e ≡ unless (cause_of o.adding) (accepted (Held h))
+HasEffect s (Hold h) o b e = e ≡ unless (cause_of o.adding) (numbered (Held h) (length (holds b) + 1))
+HasEffect s (Succeed next) o b e =
+    e ≡ unless (cause_of o.looking) (succeed_effect o (installed_by next.identity)
+    (is_latest (installed_by next.identity) (latest_identity b)))
 
 -- The signer moves by exactly one call, on the text that it is asked to sign, and else it stays.
 abbrev pub Moves : {S : Type 0} → (S → List ℕ → Result (List ℕ) SignerFault → S → Type 0) → Option (List ℕ)
@@ -91,4 +96,5 @@ IsMet (Finish p signature) b = IsWaiting p b × IsSignature signature
 IsMet (Abandon p) b = IsWaiting p b
 IsMet (Calibrate c) b = c.uncertainty ≤ 1_000_000_000_000
 IsMet (Hold h) b = h.from <ℤ h.to
+IsMet (Succeed next) b = HasSubject next.identity
 IsMet _ b = Unit {0}

@@ -9,18 +9,20 @@ use Rattle.tsp.specs.Request.{RequestValue, time_stamp_req, sha256_request, unst
 use Rattle.tsp.specs.Tst.{tst_info, answer}
 use Rattle.cms.specs.SignedData.{token}
 use Rattle.book.specs.History.{ReservationValue}
-use Rattle.desk.specs.Findings.{PlanValue}
+use Rattle.desk.specs.Findings.{StampPlan}
 use Rattle.desk.specs.Command.{Setting, PendingValue}
+use Rattle.desk.specs.Succession.{tsa_of}
 
--- the TSTInfo by the plan, under a serial number, with the policy file's accuracy and ordering
-abbrev pub tst_of : PolicyValue → PlanValue → ℕ → List ℕ
-tst_of file plan serial =
-    encoding (tst_info (answer plan.request plan.policy serial plan.gen_time file.counter.accuracy_us
-    file.counter.ordering))
+-- the TSTInfo by the plan, under a serial number, with the policy file's accuracy and ordering, and the name of the
+-- identity in force where the file wants it
+abbrev pub tst_of : Setting → StampPlan → ℕ → List ℕ
+tst_of s plan serial =
+    encoding (tst_info (answer plan.request plan.policy serial plan.gen_time s.file.counter.accuracy_us
+    s.file.counter.ordering (tsa_of s)))
 
 -- what is reserved for an account by the plan
-abbrev pub reservation_of : PolicyValue → List ℕ → PlanValue → List ℕ → ℕ → ReservationValue
-reservation_of file account plan octets serial = record {
+abbrev pub reservation_of : Setting → List ℕ → StampPlan → List ℕ → ℕ → ReservationValue
+reservation_of s account plan octets serial = record {
   serial = serial;
   account = account;
   gen_time = plan.gen_time;
@@ -28,17 +30,17 @@ reservation_of file account plan octets serial = record {
   algorithm = oid_content plan.request.imprint.algorithm;
   digest = plan.request.imprint.hash;
   request = octets;
-  tst = tst_of file plan serial;
+  tst = tst_of s plan serial;
 }
 
 -- what waits for the signature of a reservation
-abbrev pub pending_of : Setting → PlanValue → ReservationValue → PendingValue
+abbrev pub pending_of : Setting → StampPlan → ReservationValue → PendingValue
 pending_of s plan r = record {
   serial = r.serial;
   tst = r.tst;
   certificate = plan.request.cert_req;
-  identity = s.identity;
-  algorithm = s.algorithm;
+  identity = s.in_force.identity;
+  algorithm = s.in_force.algorithm;
 }
 
 -- its token, once it is signed

@@ -1,11 +1,12 @@
 use crate::fault::Fault;
 use crate::reply::{Deposited, Reply};
 use book::{Calibration, Hold, Listed};
+use cms::{Algorithm, Identity};
 use policy::Account;
 
 /// What a desk may be asked, with the arguments of its call.
 #[derive(Clone, Copy, Debug)]
-pub enum Command<'a> {
+pub enum Command<'a, 'p> {
     /// `answer`.
     Stamp {
         /// Who asks, if anybody is known to.
@@ -86,6 +87,13 @@ pub enum Command<'a> {
     Calibrate(Calibration),
     /// Adds a hold, from a moment to a later one.
     Hold(Hold),
+    /// `succeed`.
+    Succeed {
+        /// Who signs from then on.
+        identity: &'p Identity,
+        /// Under which algorithm.
+        algorithm: &'p Algorithm,
+    },
 }
 
 /// What a desk answers to a command.
@@ -99,8 +107,11 @@ pub enum Answer {
     Shown(Vec<u8>),
     /// To `List`: the deposits that the account sees, by number.
     Listed(Vec<Listed>),
-    /// To `Grant`, `Revoke`, `GrantGroup`, `RevokeGroup`, `Calibrate` and `Hold`: it is done.
+    /// To `Grant`, `Revoke`, `GrantGroup`, `RevokeGroup` and `Succeed`: it is done.
     Done,
+    /// To `Calibrate` and `Hold`: it is added, and this is its number; calibrations count 1, 2, 3 and so on, and so do
+    /// holds.
+    Numbered(u64),
     /// To any but `Stamp`: why it is refused.
     Refused(Fault),
 }

@@ -27,8 +27,8 @@ use crate::opening::Opening;
 use crate::pending::Pending;
 use crate::refusal::Refusal;
 use crate::reply::{Begun, Deposited};
-use crate::reserving::{GREATEST, reserve_next};
-use book::{Book, StoreFault};
+use crate::reserving::reserve_next;
+use book::{Book, GREATEST_NUMBER, StoreFault};
 use cms::{Signer, token};
 use policy::{Account, Policy};
 use sha2::{Digest, Sha256};
@@ -91,7 +91,7 @@ fn octets_of(alloc: Global, planned: &Planned<'_, '_>) -> Result<Vec<u8>, Refusa
     ensures left { IfErr result (λ refusal. ((refusal ≡ Refusal.Spent) × (9223372036854775807 ≤ planned.now.last))
         ⊎ ((refusal ≡ Refusal.Growing) × (planned.now.last < 9223372036854775807))) }
 {
-    if planned.last >= GREATEST {
+    if planned.last >= GREATEST_NUMBER {
         return Err(Refusal::Spent);
     }
     match write_request(alloc, &planned.request) {

@@ -39,14 +39,11 @@ impl<'p, B: Book + Drop> Desk<'p, B> {
         bytes: &[u8],
         signer: &mut G,
     ) -> Result<Deposited, Fault>
-        ensures setting { self.new.setting ≡ self.old.setting }
         ensures honest { B.honest self.new.store → B.honest self.old.store }
         ensures large { 1048576 < length bytes.now
             → (result ≡ Err Fault.TooLarge) × (self.new ≡ self.old) × (signer.new ≡ signer.old) }
         ensures refusals { IfErr result IsOfDeposit }
-        ensures step { IsStep B.Standing (with_signer G.signs G.fault_count signer.old signer.new) self.old.setting
-            (Deposit (account_view account.now) reading reference.now bytes.now) self.old.store self.new.store
-            (answered deposited_as result) }
+        ensures step { IsStep B.Standing (with_signer G.signs G.fault_count signer.old signer.new) (Deposit (account_view account.now) reading reference.now bytes.now) self.old self.new (answered deposited_as result) }
     {
         steps_keep_their_promises();
         let opening = self.opening;
@@ -66,11 +63,10 @@ impl<'p, B: Book + Drop> Desk<'p, B> {
     /// group of the policy file, whose last right about it was granted.
     /// Any other is `NotHere`, as is a number that no deposit has. Refused also with `Memory` or `Store`.
     pub fn show(&mut self, account: &Account, number: u64) -> Result<Vec<u8>, Fault>
-        ensures setting { self.new.setting ≡ self.old.setting }
         ensures honest { B.honest self.new.store → B.honest self.old.store }
         ensures refusals { IfErr result IsOfSight }
-        ensures step { IsStep B.Standing no_signer self.old.setting (Show (account_view account.now) number)
-            self.old.store self.new.store (answered shown_as result) }
+        ensures step { IsStep B.Standing no_signer (Show (account_view account.now) number)
+            self.old self.new (answered shown_as result) }
     {
         steps_keep_their_promises();
         let opening = self.opening;
@@ -83,12 +79,10 @@ impl<'p, B: Book + Drop> Desk<'p, B> {
     /// The granted reply (RFC 3161 2.4.2) with the token of a deposit that is visible to the account. Refused as `show`
     /// is.
     pub fn token_of(&mut self, account: &Account, number: u64) -> Result<Vec<u8>, Fault>
-        ensures setting { self.new.setting ≡ self.old.setting }
         ensures honest { B.honest self.new.store → B.honest self.old.store }
         ensures refusals { IfErr result IsOfSight }
-        ensures step { IsStep B.Standing no_signer self.old.setting (Token (account_view account.now) number)
-            self.old.store
-            self.new.store (answered shown_as result) }
+        ensures step { IsStep B.Standing no_signer (Token (account_view account.now) number)
+            self.old self.new (answered shown_as result) }
     {
         steps_keep_their_promises();
         let opening = self.opening;
@@ -101,11 +95,9 @@ impl<'p, B: Book + Drop> Desk<'p, B> {
     /// The deposits that are visible to the account, by number: number, owner, reference and genTime in microseconds of
     /// each. Refused only with `Memory` or `Store`.
     pub fn list(&mut self, account: &Account) -> Result<Vec<Listed>, Fault>
-        ensures setting { self.new.setting ≡ self.old.setting }
         ensures honest { B.honest self.new.store → B.honest self.old.store }
         ensures refusals { IfErr result (λ fault. (fault ≡ Fault.Memory) ⊎ (fault ≡ Fault.Store)) }
-        ensures step { IsStep B.Standing no_signer self.old.setting (ListAll (account_view account.now)) self.old.store
-            self.new.store (answered listed_as result) }
+        ensures step { IsStep B.Standing no_signer (ListAll (account_view account.now)) self.old self.new (answered listed_as result) }
     {
         steps_keep_their_promises();
         let opening = self.opening;
@@ -122,11 +114,10 @@ impl<'p, B: Book + Drop> Desk<'p, B> {
     /// is another's, `UnknownReader` where the policy file has no account of that name, `SelfGrant` for the owner
     /// itself. `Memory` and `Store` come where they are met.
     pub fn grant(&mut self, account: &Account, number: u64, name: &str) -> Result<(), Fault>
-        ensures setting { self.new.setting ≡ self.old.setting }
         ensures honest { B.honest self.new.store → B.honest self.old.store }
         ensures refusals { IfErr result (IsOfRight (Named name.now)) }
-        ensures step { IsStep B.Standing no_signer self.old.setting (Grant (account_view account.now) number (Named name.now))
-            self.old.store self.new.store (answered done_as result) }
+        ensures step { IsStep B.Standing no_signer (Grant (account_view account.now) number (Named name.now))
+            self.old self.new (answered done_as result) }
     {
         steps_keep_their_promises();
         let opening = self.opening;
@@ -140,11 +131,10 @@ impl<'p, B: Book + Drop> Desk<'p, B> {
     /// Takes that right away, from now on; one that wasn't granted may be taken too, which changes nothing. A member of
     /// a group that has the right still sees the deposit. The right of an account that has left the policy file stays: it is `UnknownReader`. Refused as `grant` is.
     pub fn revoke(&mut self, account: &Account, number: u64, name: &str) -> Result<(), Fault>
-        ensures setting { self.new.setting ≡ self.old.setting }
         ensures honest { B.honest self.new.store → B.honest self.old.store }
         ensures refusals { IfErr result (IsOfRight (Named name.now)) }
-        ensures step { IsStep B.Standing no_signer self.old.setting (Revoke (account_view account.now) number (Named name.now))
-            self.old.store self.new.store (answered done_as result) }
+        ensures step { IsStep B.Standing no_signer (Revoke (account_view account.now) number (Named name.now))
+            self.old self.new (answered done_as result) }
     {
         steps_keep_their_promises();
         let opening = self.opening;
@@ -161,11 +151,10 @@ impl<'p, B: Book + Drop> Desk<'p, B> {
     /// is another's, `UnknownGroup` where the policy file has no group of that name. `Memory` and `Store` come where
     /// they are met.
     pub fn grant_group(&mut self, account: &Account, number: u64, name: &str) -> Result<(), Fault>
-        ensures setting { self.new.setting ≡ self.old.setting }
         ensures honest { B.honest self.new.store → B.honest self.old.store }
         ensures refusals { IfErr result (IsOfRight (Group name.now)) }
-        ensures step { IsStep B.Standing no_signer self.old.setting (Grant (account_view account.now) number (Group name.now))
-            self.old.store self.new.store (answered done_as result) }
+        ensures step { IsStep B.Standing no_signer (Grant (account_view account.now) number (Group name.now))
+            self.old self.new (answered done_as result) }
     {
         steps_keep_their_promises();
         let opening = self.opening;
@@ -180,11 +169,10 @@ impl<'p, B: Book + Drop> Desk<'p, B> {
     /// granted may be taken too, which changes nothing. That of a group that has left the policy file stays, and has no
     /// members: it is `UnknownGroup`. Refused as `grant_group` is.
     pub fn revoke_group(&mut self, account: &Account, number: u64, name: &str) -> Result<(), Fault>
-        ensures setting { self.new.setting ≡ self.old.setting }
         ensures honest { B.honest self.new.store → B.honest self.old.store }
         ensures refusals { IfErr result (IsOfRight (Group name.now)) }
-        ensures step { IsStep B.Standing no_signer self.old.setting (Revoke (account_view account.now) number (Group name.now))
-            self.old.store self.new.store (answered done_as result) }
+        ensures step { IsStep B.Standing no_signer (Revoke (account_view account.now) number (Group name.now))
+            self.old self.new (answered done_as result) }
     {
         steps_keep_their_promises();
         let opening = self.opening;

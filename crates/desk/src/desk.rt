@@ -1,7 +1,7 @@
 //! The calls of the counter.
 ghost use mir.Syntax.{named};
 ghost use Rattle.std.specs.Borrow.{Lends, sem};
-ghost use Rattle.std.specs.Prelude.{◌≡◌, ◌⊎◌, ◌≤◌, ℕ, List, [], length, IfErr};
+ghost use Rattle.std.specs.Prelude.{◌≡◌, ◌⊎◌, ◌≤◌, ℕ, List, [], length, IfOk, IfErr, MatchResult};
 ghost use Rattle.policy.specs.View.{policy_view};
 ghost use Rattle.tsp.specs.Rules.{IsFirstFailing};
 ghost use Rattle.tsp.specs.declared.rule.Rule.{Rule};
@@ -9,12 +9,12 @@ ghost use Rattle.decide.specs.View.{account_asked};
 ghost use Rattle.book.specs.History.{History};
 ghost use Rattle.book.specs.Stands.{Stands};
 ghost use Rattle.desk.specs.Answers.{begun_as, reply_as, answered};
-ghost use Rattle.desk.specs.Calls.{opening_view};
+ghost use Rattle.desk.specs.Calls.{setting_of};
 ghost use Rattle.desk.specs.Command.{Begin, Finish, Abandon, Stamp, Stamped, Rejected, Done};
 ghost use Rattle.desk.specs.Findings.{HoldsUnasked};
 ghost use Rattle.desk.specs.Replies.{IsGranted, IsRejected};
 ghost use Rattle.desk.specs.Runs.{IsProper};
-ghost use Rattle.desk.specs.Stepped.{IsStep, no_signer, with_signer, with_store};
+ghost use Rattle.desk.specs.Stepped.{HasOpened, StandsInForce, IsStep, no_signer, with_signer, with_store};
 ghost use Rattle.desk.specs.contracts.desk.Desk.{the_row as desk_row};
 
 use crate::answering::answer_with;
@@ -25,6 +25,7 @@ use crate::laws::steps_keep_their_promises;
 use crate::opening::{Opening, is_proper};
 use crate::pending::Pending;
 use crate::reply::{Begun, Reply};
+use crate::succeeding::install;
 use book::Book;
 use cms::{Algorithm, Identity, Signer};
 use policy::{Account, Policy};
@@ -58,33 +59,43 @@ impl<'p, B: Book + Drop> Model for Desk<'p, B> {
 }
 
 impl<'p, B: Book + Drop> Desk<'p, B> {
-    /// A desk over a store, by a policy file, whose tokens name the identity's certificate and the signer's algorithm.
-    /// It keeps the allocator for its answers. Takes no memory.
+    /// Opens a desk over a store, by a policy file; its tokens name the identity's certificate and the signer's
+    /// algorithm, and carry the identity's certificates where they are asked for. The identity is installed in the store,
+    /// unless it is the one that was installed last (certificate and chain are equal). The desk keeps the allocator for
+    /// its answers.
     ///
-    /// Its setting is proper, as what is promised of sound histories needs it; no call changes the setting.
-    pub fn new(
+    /// Refused with `Memory` or `Store`, where it is met: nothing is installed then, and the store is handed back. The
+    /// setting is proper, as what is promised of sound histories needs it.
+    pub fn open(
         alloc: Global,
         policy: &'p Policy,
         identity: &'p Identity,
         algorithm: &'p Algorithm,
-        store: B,
-    ) -> Desk<'p, B>
-        ensures made { result ≡ record {
-          setting = record { file = policy_view policy.now; identity = identity.now; algorithm = algorithm.now };
-          store = store;
-        } }
-        ensures proper { IsProper result.setting }
+        mut store: B,
+    ) -> Result<Desk<'p, B>, (Fault, B)>
+        ensures honest { MatchResult result (λ desk. B.honest desk.store → B.honest store)
+            (λ refusal. B.honest refusal.1 → B.honest store) }
+        ensures step { HasOpened B.Standing (setting_of policy.now identity.now algorithm.now) store result }
+        ensures in_force { IfOk result (λ desk. B.honest desk.store → (b : History) → Stands B.Standing b store
+            → StandsInForce B.Standing desk.setting.in_force b desk.store) }
+        ensures opened { IfOk result (λ desk. B.honest desk.store → B.is_open store) }
+        ensures proper { IsProper (setting_of policy.now identity.now algorithm.now) }
+        ensures refusals { IfErr result (λ refusal. (refusal.0 ≡ Fault.Memory) ⊎ (refusal.0 ≡ Fault.Store)) }
     {
+        steps_keep_their_promises();
         let opening = Opening {
             policy,
             identity,
             algorithm,
         };
         is_proper(opening);
-        Desk {
-            opening,
-            store,
-            alloc,
+        match install(&mut store, identity) {
+            Ok(()) => Ok(Desk {
+                opening,
+                store,
+                alloc,
+            }),
+            Err(obstacle) => Err((Fault::from(obstacle), store)),
         }
     }
 
@@ -95,7 +106,8 @@ impl<'p, B: Book + Drop> Desk<'p, B> {
         self.opening.policy
     }
 
-    /// The store, lent: what it becomes is what the desk's store is from then on. Takes no memory.
+    /// The store, lent: what it becomes is what the desk's store is from then on. Who installs an identity by it takes
+    /// away what is said of the identity in force. Takes no memory.
     pub fn store(&mut self) -> &mut B
         ensures* lends { sem 𝓛 (Lends (desk_row (record { mir = named 1; lft = [] }) B.row B.Standing)
             B.row self.entry result (with_store self.old)) }
@@ -131,11 +143,9 @@ impl<'p, B: Book + Drop> Desk<'p, B> {
         reading: i64,
         query: &[u8],
     ) -> Result<Begun<'p>, Fault>
-        ensures setting { self.new.setting ≡ self.old.setting }
         ensures honest { B.honest self.new.store → B.honest self.old.store }
-        ensures step { IsStep B.Standing no_signer self.old.setting
-            (Begin (account_asked account.entry) reading query.now)
-            self.old.store self.new.store (answered begun_as result) }
+        ensures step { IsStep B.Standing no_signer (Begin (account_asked account.entry) reading query.now)
+            self.old self.new (answered begun_as result) }
         ensures unasked { (rule : Rule)
             → IsFirstFailing (HoldsUnasked self.old.setting.file (account_asked account.entry)
             query.now) rule → (answered begun_as result ≡ Rejected rule) × (self.new ≡ self.old) }
@@ -163,11 +173,9 @@ impl<'p, B: Book + Drop> Desk<'p, B> {
     pub fn finish(&mut self, pending: Pending<'p>, signature: &[u8]) -> Result<Reply, Fault>
         requires some { 1 ≤ length signature.now }
         requires few { length signature.now ≤ 4096 }
-        ensures setting { self.new.setting ≡ self.old.setting }
         ensures honest { B.honest self.new.store → B.honest self.old.store }
         ensures refusals { IfErr result (λ fault. (fault ≡ Fault.Memory) ⊎ (fault ≡ Fault.Store)) }
-        ensures step { IsStep B.Standing no_signer self.old.setting (Finish pending.entry signature.now) self.old.store
-            self.new.store (answered reply_as result) }
+        ensures step { IsStep B.Standing no_signer (Finish pending.entry signature.now) self.old self.new (answered reply_as result) }
     {
         steps_keep_their_promises();
         match finish_with(&mut self.store, self.alloc, pending, signature) {
@@ -179,8 +187,8 @@ impl<'p, B: Book + Drop> Desk<'p, B> {
     /// Leaves the reservation of a pending stamp void. The caller's condition is that of `finish`. Takes no memory.
     pub fn abandon(&mut self, pending: Pending<'p>)
         ensures same { self.new ≡ self.old }
-        ensures step { IsStep B.Standing no_signer self.old.setting (Abandon pending.entry) self.old.store
-            self.new.store Done }
+        ensures step { IsStep B.Standing no_signer (Abandon pending.entry) self.old
+            self.new Done }
     {
         steps_keep_their_promises();
         pending.abandon();
@@ -198,7 +206,6 @@ impl<'p, B: Book + Drop> Desk<'p, B> {
         query: &[u8],
         signer: &mut G,
     ) -> Reply
-        ensures setting { self.new.setting ≡ self.old.setting }
         ensures honest { B.honest self.new.store → B.honest self.old.store }
         ensures unasked { (rule : Rule)
             → IsFirstFailing (HoldsUnasked self.old.setting.file (account_asked account.entry)
@@ -211,8 +218,7 @@ impl<'p, B: Book + Drop> Desk<'p, B> {
         ensures rejected { B.honest self.new.store → (b : History) → Stands B.Standing b self.old.store
             → (rule : Rule) → reply_as result ≡ Rejected rule
             → IsRejected self.old.setting (account_asked account.entry) reading query.now b rule }
-        ensures step { IsStep B.Standing (with_signer G.signs G.fault_count signer.old signer.new) self.old.setting
-            (Stamp (account_asked account.entry) reading query.now) self.old.store self.new.store (reply_as result) }
+        ensures step { IsStep B.Standing (with_signer G.signs G.fault_count signer.old signer.new) (Stamp (account_asked account.entry) reading query.now) self.old self.new (reply_as result) }
     {
         steps_keep_their_promises();
         let opening = self.opening;

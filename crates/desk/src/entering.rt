@@ -9,7 +9,7 @@ ghost use Rattle.desk.specs.Answers.{entered};
 ghost use Rattle.desk.specs.Calls.{IsOfStore};
 ghost use Rattle.desk.specs.Command.{Setting, Calibrate, Hold as AddHold};
 ghost use Rattle.desk.specs.Obstacles.{adding, outcome_with, told_with};
-ghost use Rattle.desk.specs.Shown.{done_as};
+ghost use Rattle.desk.specs.Shown.{numbered_as};
 ghost use Rattle.desk.specs.Stepped.{StepsBy, IsStep, no_signer};
 
 use crate::desk::Desk;
@@ -21,10 +21,10 @@ use book::{Book, Calibration, Hold, StoreFault};
 fn add_calibration<B: Book + Drop>(
     store: &mut B,
     calibration: &Calibration,
-) -> Result<(), StoreFault>
+) -> Result<u64, StoreFault>
     ensures honest { B.honest store.new → B.honest store.old }
     ensures step { (s : Setting) → StepsBy B.Standing no_signer s (Calibrate (calibration_view calibration.now))
-        (outcome_with (adding result)) store.old store.new (told_with done_as (adding result)) }
+        (outcome_with (adding result)) store.old store.new (told_with numbered_as (adding result)) }
     ensures backwards { B.honest store.new → (b : History) → Stands B.Standing b store.old
         → result ≡ Err StoreFault.Backwards
         → IsBackwards (calibration_view calibration.now) (latest_calibration b) }
@@ -32,20 +32,20 @@ fn add_calibration<B: Book + Drop>(
         ⊎ ((e ≡ StoreFault.Database) ⊎ (e ≡ StoreFault.Backwards))) }
 {
     match store.calibrate(calibration) {
-        Ok(()) => Ok(()),
+        Ok(number) => Ok(number),
         Err(fault) => Err(fault),
     }
 }
 
 /// Adds a hold, and tells why the store refuses it.
-fn add_hold<B: Book + Drop>(store: &mut B, hold: &Hold) -> Result<(), StoreFault>
+fn add_hold<B: Book + Drop>(store: &mut B, hold: &Hold) -> Result<u64, StoreFault>
     ensures honest { B.honest store.new → B.honest store.old }
     ensures step { (s : Setting) → StepsBy B.Standing no_signer s (AddHold (hold_view hold.now))
-        (outcome_with (adding result)) store.old store.new (told_with done_as (adding result)) }
+        (outcome_with (adding result)) store.old store.new (told_with numbered_as (adding result)) }
     ensures refusals { IfErr result IsOfStore }
 {
     match store.hold(hold) {
-        Ok(()) => Ok(()),
+        Ok(number) => Ok(number),
         Err(fault) => Err(fault),
     }
 }
@@ -54,38 +54,38 @@ fn add_hold<B: Book + Drop>(store: &mut B, hold: &Hold) -> Result<(), StoreFault
 pub(crate) fn calibrate_by<B: Book + Drop>(
     store: &mut B,
     calibration: &Calibration,
-) -> Result<(), Obstacle>
+) -> Result<u64, Obstacle>
     ensures honest { B.honest store.new → B.honest store.old }
     ensures step { (s : Setting) → StepsBy B.Standing no_signer s (Calibrate (calibration_view calibration.now))
-        (outcome_with result) store.old store.new (told_with done_as result) }
+        (outcome_with result) store.old store.new (told_with numbered_as result) }
 {
     match add_calibration(store, calibration) {
-        Ok(()) => Ok(()),
+        Ok(number) => Ok(number),
         Err(fault) => Err(Obstacle::Adding(fault)),
     }
 }
 
 /// Adds a hold.
-pub(crate) fn hold_by<B: Book + Drop>(store: &mut B, hold: &Hold) -> Result<(), Obstacle>
+pub(crate) fn hold_by<B: Book + Drop>(store: &mut B, hold: &Hold) -> Result<u64, Obstacle>
     ensures honest { B.honest store.new → B.honest store.old }
     ensures step { (s : Setting) → StepsBy B.Standing no_signer s (AddHold (hold_view hold.now)) (outcome_with result)
-        store.old store.new (told_with done_as result) }
+        store.old store.new (told_with numbered_as result) }
 {
     match add_hold(store, hold) {
-        Ok(()) => Ok(()),
+        Ok(number) => Ok(number),
         Err(fault) => Err(Obstacle::Adding(fault)),
     }
 }
 
 impl<'p, B: Book + Drop> Desk<'p, B> {
-    /// Adds a calibration of the clock, which is the latest from now on. The caller's condition is an uncertainty of at
+    /// Adds a calibration of the clock, which is the latest from now on, and answers its number: they count 1, 2, 3 and
+    /// so on. The caller's condition is an uncertainty of at
     /// most 10^12 microseconds. Refused with `Backwards` where its reading is before that of the latest, which the
     /// machine calls a refusal of the store; else with `Memory` or `Database`, where it is met.
-    pub fn calibrate(&mut self, calibration: &Calibration) -> Result<(), StoreFault>
-        ensures setting { self.new.setting ≡ self.old.setting }
+    pub fn calibrate(&mut self, calibration: &Calibration) -> Result<u64, StoreFault>
         ensures honest { B.honest self.new.store → B.honest self.old.store }
-        ensures step { IsStep B.Standing no_signer self.old.setting (Calibrate (calibration_view calibration.now))
-            self.old.store self.new.store (entered result) }
+        ensures step { IsStep B.Standing no_signer (Calibrate (calibration_view calibration.now))
+            self.old self.new (entered result) }
         ensures backwards { B.honest self.new.store → (b : History) → Stands B.Standing b self.old.store
             → result ≡ Err StoreFault.Backwards
             → IsBackwards (calibration_view calibration.now) (latest_calibration b) }
@@ -96,13 +96,12 @@ impl<'p, B: Book + Drop> Desk<'p, B> {
         add_calibration(&mut self.store, calibration)
     }
 
-    /// Adds a hold: moments at which no token is given, from now on. The caller's condition is that its first moment is
+    /// Adds a hold: moments at which no token is given, from now on; and answers its number: they count 1, 2, 3 and so
+    /// on. The caller's condition is that its first moment is
     /// before its end. Refused with `Memory` or `Database`, where it is met.
-    pub fn hold(&mut self, hold: &Hold) -> Result<(), StoreFault>
-        ensures setting { self.new.setting ≡ self.old.setting }
+    pub fn hold(&mut self, hold: &Hold) -> Result<u64, StoreFault>
         ensures honest { B.honest self.new.store → B.honest self.old.store }
-        ensures step { IsStep B.Standing no_signer self.old.setting (AddHold (hold_view hold.now)) self.old.store
-            self.new.store (entered result) }
+        ensures step { IsStep B.Standing no_signer (AddHold (hold_view hold.now)) self.old self.new (entered result) }
         ensures refusals { IfErr result IsOfStore }
     {
         steps_keep_their_promises();

@@ -13,7 +13,8 @@ ghost use Rattle.tsp.specs.declared.rule.Rule.{Rule};
 ghost use Rattle.desk.specs.Depositing.{FailsLate};
 ghost use Rattle.desk.specs.Findings.{HoldsUnasked, Finds, Fails};
 ghost use Rattle.desk.specs.Outcome.{faults_after};
-ghost use Rattle.desk.specs.Calls.{outcome_of, finding_of, count_for, IsOfLooks, HasRequest, IsReadFrom, HasLast};
+ghost use Rattle.desk.specs.Calls.{outcome_of, finding_of, count_for, IsOfLooks, IsSomebodys, HasRequest, IsReadFrom};
+ghost use Rattle.desk.specs.Calls.{HasLast};
 
 use crate::looking::{Looked, look};
 use crate::refusal::Refusal;
@@ -51,6 +52,7 @@ fn count<B: Book + Drop>(
     ensures looks { OnlyLooks B.Standing store.old store.new }
     ensures value { B.honest store.new → (b : History) → Stands B.Standing b store.old
         → IfOk result (λ count. count ≡ count_for (account_asked account.entry) (day_of gen_time) b) }
+    ensures somebody { IfErr result (λ _. account_asked account.entry ≡ None → ⊥) }
     ensures refusals { IfErr result (λ e. (e ≡ StoreFault.Memory) ⊎ (e ≡ StoreFault.Database)) }
     ensures faults { MatchResult result (λ _. B.fault_count store.new ≡ B.fault_count store.old)
         (λ e. B.fault_count store.new ≡ count_after e (B.fault_count store.old)) }
@@ -80,6 +82,7 @@ fn ask<'p, 'a, B: Book + Drop>(
     ensures late { HasVersionOne (request_view request.entry) → IfOk result FailsLate }
     ensures last { B.honest store.new → (b : History) → Stands B.Standing b store.old
         → IfOk result (HasLast (greatest_serial b)) }
+    ensures somebody { IfErr result (IsSomebodys (account_asked account.entry)) }
     ensures refusals { IfErr result IsOfLooks }
 {
     requests_have_one_reading();
@@ -128,6 +131,7 @@ pub(crate) fn judge<'p, 'a, B: Book + Drop>(
         → (rule : Rule) → IsFirstFailing (HoldsUnasked (policy_view policy.now) (account_asked account.entry) octets)
         rule
         → (finding_of result ≡ Fails rule) × (store.new ≡ store.old) }
+    ensures somebody { IfErr result (IsSomebodys (account_asked account.entry)) }
     ensures refusals { IfErr result IsOfLooks }
 {
     requests_have_one_reading();
@@ -158,6 +162,7 @@ pub(crate) fn find<'p, 'a, B: Book + Drop>(
     ensures unasked { (rule : Rule)
         → IsFirstFailing (HoldsUnasked (policy_view policy.now) (account_asked account.entry)
         query.now) rule → (finding_of result ≡ Fails rule) × (store.new ≡ store.old) }
+    ensures somebody { IfErr result (IsSomebodys (account_asked account.entry)) }
     ensures refusals { IfErr result IsOfLooks }
 {
     let request = match read_request(query) {

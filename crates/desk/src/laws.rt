@@ -1,5 +1,5 @@
 //! What holds of the machine, whatever it is asked and whatever store, signer and memory answer.
-ghost use Rattle.std.specs.Prelude.{◌≡◌, ℕ, ◌+◌, ◌<◌, ◌≤◌, ℤ, List, Option, Some};
+ghost use Rattle.std.specs.Prelude.{◌≡◌, ℕ, ◌+◌, ◌<◌, ◌≤◌, ℤ, List, [], Option, Some};
 ghost use Rattle.der.specs.Node.{encoding};
 ghost use Rattle.policy.specs.Record.{AccountValue};
 ghost use Rattle.tsp.specs.Rejection.{rejection};
@@ -10,12 +10,13 @@ ghost use Rattle.book.specs.Readers.{Reader};
 ghost use Rattle.book.specs.Rights.{is_reader};
 ghost use Rattle.book.specs.Sound.{IsSound, greatest_number};
 ghost use Rattle.desk.specs.Agreement.{Agree};
-ghost use Rattle.desk.specs.Command.{Setting, PendingValue, Command, Stamp, Answer, Stamped, Rejected, Begun};
+ghost use Rattle.desk.specs.Command.{InForce, Setting, PendingValue, Command, Stamp, Succeed, Answer, Stamped};
+ghost use Rattle.desk.specs.Command.{Rejected, Begun, Done};
 ghost use Rattle.desk.specs.Content.{IsSoundInFull};
 ghost use Rattle.desk.specs.Effects.{Effect};
 ghost use Rattle.desk.specs.Laws.{IsCommandOfOther, Concerns, StaysFor, IsGrant, IsRejection, IsReservedText};
 ghost use Rattle.desk.specs.Laws.{IsPendingOf, IsOfPlan, IsUnanswered, Continues, AreMet, AreCommandsOf, RunsAlike};
-ghost use Rattle.desk.specs.Findings.{PlanValue, IsAllowed, HoldsAt};
+ghost use Rattle.desk.specs.Findings.{StampPlan, IsAllowed, HoldsAt};
 ghost use Rattle.desk.specs.Outcome.{Outcome};
 ghost use Rattle.desk.specs.Promises.{KeepsPromises};
 ghost use Rattle.desk.specs.Readers.{rights_along};
@@ -23,6 +24,8 @@ ghost use Rattle.desk.specs.Runs.{IsProper, Told, Journey, HasProperties, Runs, 
 ghost use Rattle.desk.specs.Serials.{given_along, AreInOrder};
 ghost use Rattle.desk.specs.Sight.{ShowsExactly};
 ghost use Rattle.desk.specs.Steps.{HasEffect, IsMet};
+ghost use Rattle.desk.specs.Naming.{IsNameableFor};
+ghost use Rattle.desk.specs.Succession.{IsInForce, IsNameable};
 ghost use Rattle.desk.specs.Viewers.{viewer_in};
 
 use cms::Signer;
@@ -31,9 +34,11 @@ use tsp::requests_have_one_reading;
 /// A command leaves a sound history sound, and so does a stop in the midst of it.
 pub fn steps_leave_sound_histories()
     ensures whole { (s : Setting) (c : Command) (o : Outcome) (e : Effect) (b : History)
-        → IsProper s → IsSoundInFull b → IsMet c b → HasEffect s c o b e → IsSoundInFull (after e b) }
+        → IsProper s → IsNameableFor s c b → IsSoundInFull b → IsMet c b → HasEffect s c o b e
+        → IsSoundInFull (after e b) }
     ensures stopped { (s : Setting) (c : Command) (o : Outcome) (e : Effect) (b : History) (k : ℕ)
-        → IsProper s → IsSoundInFull b → IsMet c b → HasEffect s c o b e → IsSoundInFull (cut k e b) }
+        → IsProper s → IsNameableFor s c b → IsSoundInFull b → IsMet c b → HasEffect s c o b e
+        → IsSoundInFull (cut k e b) }
 {
     requests_have_one_reading();
 }
@@ -54,7 +59,7 @@ pub fn grants_are_of_their_plan()
         → HasEffect s (Stamp account reading octets) o b e → e.says ≡ Rejected rule
         → IsRejection s account reading octets o b rule }
     ensures grants { (s : Setting) (account : Option AccountValue) (reading : ℤ) (octets : List ℕ) (o : Outcome)
-        (b : History) (e : Effect) (plan : PlanValue)
+        (b : History) (e : Effect) (plan : StampPlan)
         → IsAllowed s.file account reading octets b plan → greatest_serial b < greatest_number → (IsUnanswered o → ⊥)
         → HasEffect s (Stamp account reading octets) o b e
         → (reply : List ℕ) × (e.says ≡ Stamped (greatest_serial b + 1) reply) }
@@ -68,6 +73,15 @@ pub fn grants_are_of_their_plan()
 {
     requests_have_one_reading();
 }
+
+/// After a succession that is done, and so after an opening, the identity that was installed last is the one that was
+/// brought (`brought`); where it was so before, nothing is installed again (`again`).
+pub fn successions_bring_their_identity()
+    ensures brought { (s : Setting) (next : InForce) (o : Outcome) (b : History) (e : Effect)
+        → HasEffect s (Succeed next) o b e → e.says ≡ Done → IsInForce next (after e b) }
+    ensures again { (s : Setting) (next : InForce) (o : Outcome) (b : History) (e : Effect) → IsInForce next b
+        → HasEffect s (Succeed next) o b e → e.adds ≡ [] }
+{}
 
 /// Under one outcome a command has one effect on a history, and so one answer.
 pub fn commands_have_one_effect()
@@ -109,19 +123,22 @@ pub fn rejections_tell_their_rule()
     ensures { (one other : Rule) → encoding (rejection one) ≡ encoding (rejection other) → one ≡ other }
 {}
 
-/// In each journey through openings, commands and stops, serial numbers rise and genTimes never fall, what was
+/// In each journey through openings, commands, successions, migrations and stops, serial numbers rise and genTimes never fall, what was
 /// acknowledged stands, and no deposit is without a sealed stamp of its hash. The serial numbers of the texts that it
 /// gave out to be signed rise, stops included, and none is above the greatest that the history has. Who reads a deposit
 /// after it is told by the rights that it acknowledged and that its stops left. So it is where a run goes on from it,
 /// to the run's end or to a stop in it.
 pub fn journeys_keep_their_promises()
-    ensures journey { (b : History) (w : List Told) → Journey b w → HasProperties b w }
-    ensures given { (b : History) (w : List Told) (j : Journey b w) → AreInOrder (given_along j) b }
-    ensures readers { (b : History) (w : List Told) (j : Journey b w) (number : ℕ) (reader : Reader)
-        → is_reader number reader b ≡ is_reader number reader (rights_along j) }
+    ensures journey { (b : History) (x : Option Setting) (w : List Told) → Journey b x w → HasProperties b w }
+    ensures open_by { (b : History) (s : Setting) (w : List Told) → Journey b (Some s) w
+        → IsProper s × IsNameable s b }
+    ensures given { (b : History) (x : Option Setting) (w : List Told) (j : Journey b x w)
+        → AreInOrder (given_along j) b }
+    ensures readers { (b : History) (x : Option Setting) (w : List Told) (j : Journey b x w) (number : ℕ)
+        (reader : Reader) → is_reader number reader b ≡ is_reader number reader (rights_along j) }
     ensures continued { (s : Setting) (cs : List Command) (os : List Outcome) (b : History) (w : List Told)
-        (b' : History) (w' : List Told)
-        → IsProper s → AreMet s cs os b → Journey b w → Continues s cs os b w b' w' → HasProperties b' w' }
+        (b' : History) (x' : Option Setting) (w' : List Told)
+        → AreMet s cs os b → Journey b (Some s) w → Continues s cs os b w b' x' w' → HasProperties b' w' }
 {
     requests_have_one_reading();
 }

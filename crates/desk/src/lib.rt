@@ -24,6 +24,7 @@ mod reserving;
 mod rights;
 mod running;
 mod showing;
+mod succeeding;
 
 pub use commands::{Answer, Command};
 pub use desk::Desk;
@@ -32,8 +33,9 @@ pub use laws::{
     accounts_are_isolated, accounts_disturb_little, commands_have_one_effect,
     deposits_are_shown_exactly, grants_are_of_their_plan, journeys_keep_their_promises,
     rejections_tell_their_rule, steps_keep_their_promises, steps_leave_sound_histories,
-    texts_are_reserved,
+    successions_bring_their_identity, texts_are_reserved,
 };
 pub use looking::Looked;
+pub use opening::has_subject;
 pub use pending::Pending;
 pub use reply::{Begun, Deposited, Reply};

@@ -1,16 +1,17 @@
-//! With what a desk is opened.
+//! By what a desk answers.
 ghost use Rattle.std.specs.Prelude.{◌≤◌, map};
 ghost use Rattle.std.specs.List.{AllByRecursion};
 ghost use Rattle.der.specs.ObjectIdentifier.{IsOid};
 ghost use Rattle.policy.specs.View.{tsa_policy_view};
 ghost use Rattle.desk.specs.Calls.{opening_view};
 ghost use Rattle.desk.specs.Runs.{IsProper};
+ghost use Rattle.desk.specs.Succession.{HasSubject};
 
 use cms::{Algorithm, Identity};
 use policy::{Counter, Policy, TsaPolicy};
 
-/// With what a desk is opened: the policy file, whose certificate its tokens name, and under which algorithm they are
-/// signed.
+/// By what a desk answers: the policy file, and what is in force, whose certificate its tokens name and under which
+/// algorithm they are signed.
 #[derive(Clone, Copy, Debug)]
 pub(crate) struct Opening<'p> {
     pub(crate) policy: &'p Policy,
@@ -35,11 +36,20 @@ fn has_object_identifiers(policies: &[TsaPolicy])
     }
 }
 
-/// What the laws need of accuracy and object identifiers, the policy's own types keep.
+/// The subject of an identity stands in its certificate, and a TSTInfo has room for it: each identity is such a one. So
+/// who asks for a succession in a list of commands meets its condition.
+pub fn has_subject(identity: &Identity)
+    ensures { HasSubject identity.now }
+{
+    let _name = identity.name();
+}
+
+/// What the laws need of accuracy, object identifiers and the identity, the types of policy and identity keep.
 pub(crate) fn is_proper(opening: Opening<'_>)
     ensures { IsProper (opening_view opening.entry) }
 {
     let policy = opening.policy;
     has_accuracy(&policy.counter);
     has_object_identifiers(&policy.policies);
+    has_subject(opening.identity);
 }

@@ -1,27 +1,27 @@
 //! How a stamp is reserved.
-ghost use Rattle.std.specs.Prelude.{◌≡◌, ◌≤◌, ◌+◌, length, Ok, IfOk, IfErr, OnOk};
+ghost use Rattle.std.specs.Prelude.{◌≡◌, ◌≤◌, ◌+◌, length, option_map, Ok, IfOk, IfErr, IfSome, OnOk};
 ghost use Rattle.gentime.specs.GenTime.{last_moment};
+ghost use Rattle.der.specs.DataValueView.{value_view};
 ghost use Rattle.tsp.specs.Request.{Spells};
+ghost use Rattle.tsp.specs.Tst.{IsTsaName};
 ghost use Rattle.tsp.specs.View.{request_view};
 ghost use Rattle.book.specs.History.{History, greatest_serial};
 ghost use Rattle.book.specs.Stands.{Stands};
 ghost use Rattle.desk.specs.Outcome.{faults_after};
 ghost use Rattle.desk.specs.Calls.{adding_refusal, outcome_of, plan_of, opening_view, IsPrepared, IsOfReserving};
 ghost use Rattle.desk.specs.Calls.{Reserves};
+ghost use Rattle.desk.specs.Succession.{tsa_of};
 
 use crate::finding::Planned;
 use crate::opening::Opening;
 use crate::pending::Pending;
 use crate::refusal::Refusal;
-use book::{Book, Reservation, StoreFault};
+use book::{Book, GREATEST_NUMBER, Reservation, StoreFault};
 use cms::attribute_text;
-use der::Oid;
+use der::{DataValue, Oid};
 use gentime::GenTime;
 use std::alloc::Global;
 use tsp::{ObjectIdentifier, requests_have_one_reading, write_tst};
-
-/// The greatest serial number, 2^63 - 1.
-pub(crate) const GREATEST: u64 = 9_223_372_036_854_775_807;
 
 /// A stamp whose texts are written.
 #[derive(Debug, Drop)]
@@ -42,6 +42,20 @@ fn micros_of(gen_time: GenTime) -> u64
     ensures within { gen_time ≤ last_moment }
 {
     gen_time.micros() as u64
+}
+
+/// Whom the TSTInfo names: the identity in force, where the policy file wants it (RFC 3161 2.4.2).
+fn name_in_force<'p>(opening: Opening<'p>) -> Option<DataValue<'p>>
+    ensures value { option_map value_view result ≡ tsa_of (opening_view opening.entry) }
+    ensures fitting { IfSome (option_map value_view result) IsTsaName }
+{
+    let policy = opening.policy;
+    let identity = opening.identity;
+    if policy.counter.tsa_name {
+        Some(identity.name())
+    } else {
+        None
+    }
 }
 
 /// Writes the TSTInfo and what is to be signed under the next serial number: all the memory that a reservation takes.
@@ -78,6 +92,7 @@ fn prepare<'p, 'a>(
         gen_time,
         counter.accuracy_us,
         counter.ordering,
+        name_in_force(opening),
     );
     let tst = match write_tst(alloc, &tst_info) {
         Ok(tst) => tst,
@@ -129,7 +144,7 @@ pub(crate) fn reserve_next<'p, 'a, B: Book + Drop>(
         store.new result }
     ensures refusals { IfErr result IsOfReserving }
 {
-    if planned.last >= GREATEST {
+    if planned.last >= GREATEST_NUMBER {
         return Err(Refusal::Spent);
     }
     let prepared = prepare(alloc, opening, planned, query)?;

@@ -2,12 +2,13 @@
 ghost use Rattle.std.specs.Prelude.{◌≡◌, List, IfOk, IfErr, OnErr};
 ghost use Rattle.desk.specs.Answers.{answered};
 ghost use Rattle.desk.specs.Asked.{command_view, answer_view, commands_view, answers_view};
-ghost use Rattle.desk.specs.Calls.{opening_view};
+ghost use Rattle.desk.specs.Calls.{opening_view, or_before, succeeded_as};
 ghost use Rattle.desk.specs.Obstacles.{told_with};
 ghost use Rattle.desk.specs.Outcome.{Outcome};
-ghost use Rattle.desk.specs.Ran.{AreSteps, IsRun};
-ghost use Rattle.desk.specs.Shown.{deposited_as, shown_as, listed_as, done_as};
-ghost use Rattle.desk.specs.Stepped.{IsBareStep, with_signer};
+ghost use Rattle.desk.specs.Ran.{AreSteps, IsRun, Obeys};
+ghost use Rattle.desk.specs.Shown.{deposited_as, shown_as, listed_as, done_as, numbered_as};
+ghost use Rattle.desk.specs.Runs.{IsProper};
+ghost use Rattle.desk.specs.Stepped.{desk_of};
 
 use crate::answering::answer_with;
 use crate::commands::{Answer, Command};
@@ -21,6 +22,7 @@ use crate::reader::Reader;
 use crate::reply::Deposited;
 use crate::rights::{grant_by, revoke_by};
 use crate::showing::{list_to, show_to, token_to};
+use crate::succeeding::succeed_by;
 use book::{Book, Listed};
 use cms::Signer;
 use std::alloc::Global;
@@ -53,6 +55,15 @@ fn listed(rows: Result<Vec<Listed>, Obstacle>) -> Answer
     }
 }
 
+fn numbered(outcome: Result<u64, Obstacle>) -> Answer
+    ensures { answer_view result ≡ told_with numbered_as outcome }
+{
+    match outcome {
+        Ok(number) => Answer::Numbered(number),
+        Err(obstacle) => Answer::Refused(Fault::from(obstacle)),
+    }
+}
+
 fn done(outcome: Result<(), Obstacle>) -> Answer
     ensures { answer_view result ≡ told_with done_as outcome }
 {
@@ -62,108 +73,160 @@ fn done(outcome: Result<(), Obstacle>) -> Answer
     }
 }
 
-/// Does what one command asks.
-pub(crate) fn obey<B: Book + Drop, G: Signer>(
+/// Brings what is in force by a succession: the answer, and with what the desk goes on.
+fn succeeded<'p>(
+    outcome: Result<Opening<'p>, Obstacle>,
+    before: Opening<'p>,
+) -> (Answer, Opening<'p>)
+    ensures answer { answer_view result.0 ≡ told_with succeeded_as outcome.entry }
+    ensures after { result.1 ≡ or_before outcome.entry before.entry }
+{
+    match outcome {
+        Ok(opening) => (Answer::Done, opening),
+        Err(obstacle) => (Answer::Refused(Fault::from(obstacle)), before),
+    }
+}
+
+/// Does what one command asks: the answer, and with what the desk goes on.
+pub(crate) fn obey<'p, B: Book + Drop, G: Signer>(
     store: &mut B,
     alloc: Global,
-    opening: Opening<'_>,
-    command: &Command<'_>,
+    opening: Opening<'p>,
+    command: &Command<'_, 'p>,
     signer: &mut G,
-) -> Answer
+) -> (Answer, Opening<'p>)
     ensures honest { B.honest store.new → B.honest store.old }
-    ensures step { IsBareStep B.Standing (with_signer G.signs G.fault_count signer.old signer.new)
-        (opening_view opening.entry) (command_view command.now) store.old store.new (answer_view result) }
+    ensures step { Obeys B.Standing G.signs G.fault_count (opening_view opening.entry) (command_view command.now)
+        store.old signer.old (opening_view result.1) store.new signer.new (answer_view result.0) }
 {
     match *command {
         Command::Stamp {
             account,
             reading,
             query,
-        } => Answer::Stamped(answer_with(store, alloc, opening, account, reading, query, signer)),
+        } => {
+            (
+                Answer::Stamped(answer_with(
+                    store, alloc, opening, account, reading, query, signer,
+                )),
+                opening,
+            )
+        }
         Command::Deposit {
             account,
             reading,
             reference,
             bytes,
-        } => kept(deposit_with(
-            store, alloc, opening, account, reading, reference, bytes, signer,
-        )),
-        Command::Show { account, number } => { shown(show_to(store, opening, account, number)) },
+        } => {
+            (
+                kept(deposit_with(
+                    store, alloc, opening, account, reading, reference, bytes, signer,
+                )),
+                opening,
+            )
+        }
+        Command::Show { account, number } => (
+            shown(show_to(store, opening, account, number)),
+            opening,
+        ),
         Command::Token { account, number } => {
-            shown(token_to(store, alloc, opening, account, number))
-        },
-        Command::List { account } => listed(list_to(store, opening, account)),
+            (
+                shown(token_to(store, alloc, opening, account, number)),
+                opening,
+            )
+        }
+        Command::List { account } => (listed(list_to(store, opening, account)), opening),
         Command::Grant {
             account,
             number,
             reader,
-        } => done(grant_by(store, opening, account, number, Reader::Account(reader))),
+        } => (
+            done(grant_by(store, opening, account, number, Reader::Account(reader))),
+            opening,
+        ),
         Command::Revoke {
             account,
             number,
             reader,
-        } => done(revoke_by(store, opening, account, number, Reader::Account(reader))),
+        } => (
+            done(revoke_by(store, opening, account, number, Reader::Account(reader))),
+            opening,
+        ),
         Command::GrantGroup {
             account,
             number,
             group,
-        } => done(grant_by(store, opening, account, number, Reader::Group(group))),
+        } => (
+            done(grant_by(store, opening, account, number, Reader::Group(group))),
+            opening,
+        ),
         Command::RevokeGroup {
             account,
             number,
             group,
-        } => done(revoke_by(store, opening, account, number, Reader::Group(group))),
-        Command::Calibrate(calibration) => done(calibrate_by(store, &calibration)),
-        Command::Hold(hold) => done(hold_by(store, &hold)),
+        } => (
+            done(revoke_by(store, opening, account, number, Reader::Group(group))),
+            opening,
+        ),
+        Command::Calibrate(calibration) => (numbered(calibrate_by(store, &calibration)), opening),
+        Command::Hold(hold) => (numbered(hold_by(store, &hold)), opening),
+        Command::Succeed {
+            identity,
+            algorithm,
+        } => succeeded(succeed_by(store, opening, identity, algorithm), opening),
     }
 }
 
-/// Does what each command asks, one after the other. Room for all the answers is taken first.
-pub(crate) fn obey_each<B: Book + Drop, G: Signer>(
+/// Does what each command asks, one after the other, each by what the one before it left in force: the answers, and with
+/// what the desk goes on. Room for all the answers is taken first.
+pub(crate) fn obey_each<'p, B: Book + Drop, G: Signer>(
     store: &mut B,
     alloc: Global,
-    opening: Opening<'_>,
-    commands: &[Command<'_>],
+    opening: Opening<'p>,
+    commands: &[Command<'_, 'p>],
     signer: &mut G,
-) -> Result<Vec<Answer>, Fault>
+) -> Result<(Vec<Answer>, Opening<'p>), Fault>
     ensures memory { IfErr result (λ fault. fault ≡ Fault.Memory) }
     ensures unmoved { OnErr result ((store.new ≡ store.old) × (signer.new ≡ signer.old)) }
-    ensures steps { IfOk result (λ answers. (os : List Outcome) × AreSteps B.Standing G.signs G.fault_count
-        (opening_view opening.entry) (commands_view commands.now) os (answers_view answers.items) store.old signer.old
-        store.new signer.new) }
+    ensures steps { IfOk result (λ done. (os : List Outcome) × AreSteps B.Standing G.signs G.fault_count
+        (opening_view opening.entry) (commands_view commands.now) os (answers_view done.0.items) store.old signer.old
+        (opening_view done.1) store.new signer.new) }
 {
     let mut answers = match Vec::with_capacity(alloc, commands.len()) {
         Ok(answers) => answers,
         Err(_) => return Err(Fault::Memory),
     };
+    let mut current = opening;
     for command in commands {
-        let answer = obey(store, alloc, opening, command, signer);
+        let (answer, after) = obey(store, alloc, current, command, signer);
+        current = after;
         match answers.push(answer) {
             Ok(()) => {}
             Err(_) => unreachable!(),
         }
     }
-    Ok(answers)
+    Ok((answers, current))
 }
 
-/// A run over a store.
-fn run_with<B: Book + Drop, G: Signer>(
+/// A run over a store: the answers, and with what the desk goes on.
+fn run_with<'p, B: Book + Drop, G: Signer>(
     store: &mut B,
     alloc: Global,
-    opening: Opening<'_>,
-    commands: &[Command<'_>],
+    opening: Opening<'p>,
+    commands: &[Command<'_, 'p>],
     signer: &mut G,
-) -> Result<Vec<Answer>, Fault>
+) -> Result<(Vec<Answer>, Opening<'p>), Fault>
     ensures honest { B.honest store.new → B.honest store.old }
     ensures memory { IfErr result (λ fault. fault ≡ Fault.Memory) }
     ensures unmoved { OnErr result ((store.new ≡ store.old) × (signer.new ≡ signer.old)) }
-    ensures run { IfOk result (λ answers. IsRun B.Standing G.signs G.fault_count (opening_view opening.entry)
-        (commands_view commands.now) (answers_view answers.items) store.old signer.old store.new signer.new) }
+    ensures run { IfOk result (λ done. IsRun B.Standing G.signs G.fault_count (commands_view commands.now)
+        (answers_view done.0.items) (desk_of (opening_view opening.entry) store.old) signer.old
+        (desk_of (opening_view done.1) store.new) signer.new) }
 {
     requests_have_one_reading();
     is_proper(opening);
     match obey_each(store, alloc, opening, commands, signer) {
-        Ok(answers) => Ok(answers),
+        Ok(done) => Ok(done),
         Err(fault) => Err(fault),
     }
 }
@@ -171,23 +234,32 @@ fn run_with<B: Book + Drop, G: Signer>(
 impl<'p, B: Book + Drop> Desk<'p, B> {
     /// Does what each command asks, one after the other: an answer for each, none for no command. A command that is
     /// refused doesn't stop those after it. The caller's conditions are those of the commands: an uncertainty of at
-    /// most 10^12 microseconds, and a hold that ends after its first moment.
+    /// most 10^12 microseconds, a hold that ends after its first moment, and an identity that has its subject, as each has (`has_subject`).
     ///
     /// Room for the answers is taken first: where it is refused, the answer is `Memory`, and nothing is done.
     pub fn run<G: Signer>(
         &mut self,
-        commands: &[Command<'_>],
+        commands: &[Command<'_, 'p>],
         signer: &mut G,
     ) -> Result<Vec<Answer>, Fault>
-        ensures setting { self.new.setting ≡ self.old.setting }
         ensures honest { B.honest self.new.store → B.honest self.old.store }
         ensures memory { IfErr result (λ fault. fault ≡ Fault.Memory) }
         ensures unmoved { OnErr result ((self.new ≡ self.old) × (signer.new ≡ signer.old)) }
-        ensures run { IfOk result (λ answers. IsRun B.Standing G.signs G.fault_count self.old.setting
-            (commands_view commands.now) (answers_view answers.items) self.old.store signer.old self.new.store
-            signer.new) }
+        ensures proper { IsProper self.new.setting }
+        ensures run { IfOk result (λ answers. IsRun B.Standing G.signs G.fault_count (commands_view commands.now)
+            (answers_view answers.items) self.old signer.old self.new signer.new) }
     {
         let opening = self.opening;
-        run_with(&mut self.store, self.alloc, opening, commands, signer)
+        match run_with(&mut self.store, self.alloc, opening, commands, signer) {
+            Ok((answers, after)) => {
+                is_proper(after);
+                self.opening = after;
+                Ok(answers)
+            }
+            Err(fault) => {
+                is_proper(opening);
+                Err(fault)
+            }
+        }
     }
 }

@@ -1,4 +1,4 @@
-use Rattle.std.proofs.Common.{[], Ok, Err, sym, subst, SFits, w64, to_z-of_z, rules, refl}
+use Rattle.std.proofs.Common.{[], Ok, Err, sym, subst, SFits, w64, to_z-of_z, rules}
 use Rattle.decide.specs.View.{account_asked}
 use Rattle.book.specs.History.{greatest_serial}
 use Rattle.desk.specs.Calls.{refused, opening_view, plan_of, finding_of, HasLast}
@@ -7,7 +7,7 @@ use Rattle.desk.specs.Findings.{Finds}
 use Rattle.desk.specs.Outcome.{all_fine}
 use Rattle.desk.specs.Stepped.{no_signer, StepsBy}
 use Rattle.desk.specs.declared.finding.Found.{Found}
-use Rattle.desk.proofs.Begins.{rejects, leaves_open, reserves_after}
+use Rattle.desk.proofs.Begins.{rejects, begin_calls, leaves_open, reserves_after}
 use Rattle.desk.proofs.beginning.begin_with.Goals as goal
 
 pub returns-in-Err-clause-step : goal.returns-in-Err-clause-step
@@ -16,7 +16,8 @@ returns-in-Err-clause-step g c =
     let s = opening_view c.args.opening in
     let account = account_asked c.args.account in
     leaves_open g.B.Standing s account c.args.reading c.args.query.now c.args.store.now c.find.new.store
-    c.in-Err.refusal c.in-Err.ensures.refusals c.in-Err.ensures.looks c.in-Err.ensures.counted
+    c.in-Err.refusal c.in-Err.ensures.refusals c.in-Err.ensures.somebody c.in-Err.ensures.looks
+    c.in-Err.ensures.counted
     (λ honest b st. subst (λ x. Finds s.file account x c.args.query.now (refused c.in-Err.refusal) b
     (finding_of (Err c.in-Err.refusal))) (to_z-of_z reading) (c.in-Err.ensures.finds honest b st))
 
@@ -29,7 +30,8 @@ returns-in-Ok-Fails-clause-step g c =
     subst (λ x. StepsBy g.B.Standing no_signer s (Begin account c.args.reading octets) (all_fine (Ok []))
     c.args.store.now c.find.new.store (Rejected x)) (sym c.of.ensures)
     (rejects g.B.Standing s account c.args.reading octets (all_fine (Ok [])) c.args.store.now c.find.new.store
-    c.in-Ok-Fails.rule (refl, (tt, tt)) c.in-Ok-Fails.ensures.looks c.in-Ok-Fails.ensures.counted
+    c.in-Ok-Fails.rule (begin_calls account c.args.reading octets) c.in-Ok-Fails.ensures.looks
+    c.in-Ok-Fails.ensures.counted
     (λ honest b st. subst (λ (f : Found). Finds s.file account c.args.reading octets (all_fine (Ok [])) b
     (finding_of (Ok f))) c.in-Ok-Fails.field-0-is
     (subst (λ x. Finds s.file account x octets (all_fine (Ok [])) b (finding_of (Ok c.in-Ok-Fails.field-0)))

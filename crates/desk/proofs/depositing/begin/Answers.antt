@@ -34,7 +34,8 @@ returns-in-Err-clause-step g c =
     (request_is s.file a c.args.bytes.now c.digest-digest.result c.gives_certificate.result r made.made
     c.digest-digest.ensures c.gives_certificate.ensures)
     (leaves_open g.B.Standing s (Some a) c.args.reading (octets_of r) c.args.store.now c.judge.new.store
-    c.in-Err.refusal c.in-Err.ensures.refusals c.in-Err.ensures.looks c.in-Err.ensures.counted
+    c.in-Err.refusal c.in-Err.ensures.refusals c.in-Err.ensures.somebody c.in-Err.ensures.looks
+    c.in-Err.ensures.counted
     (λ honest b st. subst (λ x. Finds s.file (Some a) x (octets_of r) o b (finding_of (Err c.in-Err.refusal)))
     (to_z-of_z reading) (c.in-Err.ensures.finds honest b st (octets_of r) made.spelled made.short)))
 

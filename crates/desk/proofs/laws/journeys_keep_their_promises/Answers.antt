@@ -1,7 +1,7 @@
 use Rattle.desk.proofs.Acknowledged.{readers_along}
 use Rattle.desk.proofs.Falling.{given_in_order}
 use Rattle.desk.proofs.Sound.{TextLaws}
-use Rattle.desk.proofs.Keeping.{journeys_have_properties}
+use Rattle.desk.proofs.Keeping.{journeys_have_properties, open_along}
 use Rattle.desk.proofs.Whole.{continued_properties}
 use Rattle.desk.proofs.laws.journeys_keep_their_promises.Goals as goal
 
@@ -11,6 +11,7 @@ returns c =
     let laws : TextLaws = record { one_request = law.one; lawful_answers = law.lawful } in
     record {
       journey = journeys_have_properties laws;
+      open_by = open_along laws;
       given = given_in_order laws;
       readers = readers_along;
       continued = continued_properties laws;

@@ -10,4 +10,5 @@ returns c = record {
   most_accuracy = c.has_accuracy.ensures.most;
   policies = subst (λ xs. AllByRecursion (λ p. IsOid p.oid) (map tsa_policy_view xs)) c.deref.ensures.value
       c.has_object_identifiers.ensures;
+  identity = c.has_subject.ensures;
 }

@@ -1,4 +1,5 @@
-use Rattle.std.proofs.Common.{◌+◌, sym, subst, arith}
+use Rattle.std.proofs.Common.{◌+◌, sym, subst, arith, option_map}
+use Rattle.der.specs.DataValueView.{value_view}
 use Rattle.der.specs.Node.{IsLawful}
 use Rattle.der.specs.ObjectIdentifier.{IsOid}
 use Rattle.tsp.specs.Tst.{tst_info}
@@ -12,5 +13,5 @@ write_tst-requires-clause-lawful c =
     subst (λ t. IsLawful (tst_info t)) (sym c.into_tst_info-tst_info.ensures)
     (c.requests_have_one_reading.ensures.answer c.args.query.now (request_view c.args.planned.request)
     c.requires.spelled c.requires.short c.of.result (c.args.planned.last + 1) c.args.planned.gen_time
-    counter.accuracy_us counter.ordering oid (omega arith) (omega arith) c.micros_of-micros.ensures.within
-    counter.accuracy_some counter.accuracy).1
+    counter.accuracy_us counter.ordering (option_map value_view c.name_in_force.result) oid (omega arith) (omega arith)
+    c.micros_of-micros.ensures.within counter.accuracy_some counter.accuracy c.name_in_force.ensures.fitting).1

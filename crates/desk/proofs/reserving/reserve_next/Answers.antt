@@ -52,7 +52,7 @@ returns-clause-reserves g c honest b st e =
     (next_is s c.args.account.now plan octets b c.args.planned.last _ _ _ _ _ _ e p.number p.moment
     (c.content.ensures.encoded ∙ ap oid_content p.policy_is) p.algorithm_is p.digest_is
     (c.deref.ensures.value ∙ p.tst_is))
-    (ap (λ t. waiting prepared.serial t prepared.certificate s.identity s.algorithm) (sym c.deref.ensures.value)
+    (ap (λ t. waiting prepared.serial t prepared.certificate s.in_force.identity s.in_force.algorithm) (sym c.deref.ensures.value)
     ∙ waits_for s plan r prepared.certificate p.certificate_is)
     honest (c.in-Ok.ensures.opened honest).1
     (c.in-Ok.ensures.ok b st (fits_next r b c.args.planned.last e p.number left p.moment_within))

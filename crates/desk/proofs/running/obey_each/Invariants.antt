@@ -12,5 +12,5 @@ invariant-loop-command g l = record {
   room : length l.commands ≤ vec_capacity l.answers;
   steps : (os : List Outcome) × AreSteps g.B.Standing g.G.Signer.signs g.G.Signer.fault_count (opening_view l.opening)
       (commands_view (take l.command-index l.commands)) os (answers_view l.answers.items) l.fn.store l.fn.signer
-      l.store l.signer;
+      (opening_view l.current) l.store l.signer;
 }

@@ -8,8 +8,8 @@ pub returns-in-Ok-clause-honest : goal.returns-in-Ok-clause-honest
 returns-in-Ok-clause-honest g c =
     let steps = c.in-Ok.ensures.steps in
     honest_before g.B.Standing g.G.Signer.signs g.G.Signer.fault_count (opening_view c.args.opening)
-    (commands_view c.args.commands.now) steps.0 (answers_view c.in-Ok.answers.items) c.args.store.now
-    c.args.signer.now c.obey_each.new.store c.obey_each.new.signer steps.1
+    (commands_view c.args.commands.now) steps.0 (answers_view c.in-Ok.done.0.items) c.args.store.now
+    c.args.signer.now (opening_view c.in-Ok.done.1) c.obey_each.new.store c.obey_each.new.signer steps.1
 
 pub returns-in-Ok-clause-run : goal.returns-in-Ok-clause-run
 returns-in-Ok-clause-run g c =
@@ -18,7 +18,7 @@ returns-in-Ok-clause-run g c =
     let laws : TextLaws = record { one_request = law.one; lawful_answers = law.lawful } in
     let steps = c.in-Ok.ensures.steps in (
       steps.0,
-      steps_run g.B.Standing g.G.Signer.signs g.G.Signer.fault_count laws s c.is_proper.ensures (commands_view c.args.commands.now)
-          steps.0 (answers_view c.in-Ok.answers.items) c.args.store.now c.args.signer.now c.obey_each.new.store
-          c.obey_each.new.signer steps.1,
+      steps_run g.B.Standing g.G.Signer.signs g.G.Signer.fault_count laws s c.is_proper.ensures
+          (commands_view c.args.commands.now) steps.0 (answers_view c.in-Ok.done.0.items) c.args.store.now
+          c.args.signer.now (opening_view c.in-Ok.done.1) c.obey_each.new.store c.obey_each.new.signer steps.1,
     )

@@ -7,9 +7,10 @@ use Rattle.desk.proofs.Opened.{promised}
 use Rattle.desk.proofs.desk.Desk.abandon.Goals as goal
 
 pub returns-clause-step : goal.returns-clause-step
-returns-clause-step g c = (
-  all_fine (Ok []),
-  promised g.B.Standing c.steps_keep_their_promises.ensures no_signer c.args.self.now.setting (Abandon c.args.pending)
+returns-clause-step g c = record {
+  setting = refl;
+  outcome = all_fine (Ok []);
+  by = promised g.B.Standing c.steps_keep_their_promises.ensures no_signer c.args.self.now.setting (Abandon c.args.pending)
       (all_fine (Ok [])) c.args.self.now.store c.args.self.now.store Done (record {
         fits = (refl, (tt, tt));
         counted = refl;
@@ -24,5 +25,5 @@ returns-clause-step g c = (
           stands = st;
           left = λ left r. inl (refl, r);
         };
-      }),
-)
+      });
+}

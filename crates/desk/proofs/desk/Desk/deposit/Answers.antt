@@ -11,12 +11,10 @@ pub returns-clause-step : goal.returns-clause-step
 returns-clause-step g c =
     let reading : SFits w64 c.args.reading = search rules in
     let a = account_view c.args.account.now in
-    let said = answered deposited_as c.deposit_with.result in (
-      c.deposit_with.ensures.step.0,
-      steps_opened g.B.Standing c.steps_keep_their_promises.ensures _
-          (record { setting = opening_view c.self.inside.opening; store = c.self.inside.store }) c.args.self.now _
-          (Deposit a c.args.reading c.args.reference.now c.args.bytes.now) c.deposit_with.ensures.step.0
-          c.deposit_with.new.store said said c.self.view_is
-          (ap (λ r. Deposit a r c.args.reference.now c.args.bytes.now) (to_z-of_z reading)) refl
-          c.deposit_with.ensures.step.1,
-    )
+    let said = answered deposited_as c.deposit_with.result in
+    steps_opened g.B.Standing c.steps_keep_their_promises.ensures _
+    (record { setting = opening_view c.self.inside.opening; store = c.self.inside.store }) c.args.self.now _
+    (Deposit a c.args.reading c.args.reference.now c.args.bytes.now) c.deposit_with.ensures.step.0
+    c.deposit_with.new.store said said (λ s a. refl) c.self.view_is
+    (ap (λ r. Deposit a r c.args.reference.now c.args.bytes.now) (to_z-of_z reading)) refl
+    c.deposit_with.ensures.step.1

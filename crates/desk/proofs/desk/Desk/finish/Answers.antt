@@ -14,12 +14,10 @@ returns-clause-step g c =
       | in-Ok w ↦ ap (answered reply_as) w.result-is ∙ sym (ap (told reply_as) w.in-Ok.is)
       | in-Err w ↦ ap (answered reply_as) w.result-is
           ∙ (ap Refused w.from.ensures ∙ sym (ap (told reply_as) w.in-Err.is))
-    ] in (
-      outcome_of c.finish_with.result,
-      steps_opened g.B.Standing c.steps_keep_their_promises.ensures no_signer
-          (record { setting = opening_view c.self.inside.opening; store = c.self.inside.store }) c.args.self.now
-          (Finish c.args.pending c.args.signature.now) (Finish c.args.pending c.args.signature.now)
-          (outcome_of c.finish_with.result) c.finish_with.new.store (told reply_as c.finish_with.result)
-          (answered reply_as c.match-finish_with.result) c.self.view_is refl same
-          (c.finish_with.ensures.step (opening_view c.self.inside.opening)),
-    )
+    ] in
+    steps_opened g.B.Standing c.steps_keep_their_promises.ensures no_signer
+    (record { setting = opening_view c.self.inside.opening; store = c.self.inside.store }) c.args.self.now
+    (Finish c.args.pending c.args.signature.now) (Finish c.args.pending c.args.signature.now)
+    (outcome_of c.finish_with.result) c.finish_with.new.store (told reply_as c.finish_with.result)
+    (answered reply_as c.match-finish_with.result) (λ s a. refl) c.self.view_is refl same
+    (c.finish_with.ensures.step (opening_view c.self.inside.opening))

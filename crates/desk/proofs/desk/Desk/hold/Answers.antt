@@ -4,7 +4,7 @@ use Rattle.desk.specs.Answers.{entered}
 use Rattle.desk.specs.Calls.{opening_view}
 use Rattle.desk.specs.Command.{Hold}
 use Rattle.desk.specs.Obstacles.{adding, outcome_with, told_with}
-use Rattle.desk.specs.Shown.{done_as}
+use Rattle.desk.specs.Shown.{numbered_as}
 use Rattle.desk.specs.Stepped.{no_signer}
 use Rattle.desk.proofs.Entered.{entered_as_told}
 use Rattle.desk.proofs.Opened.{steps_opened}
@@ -13,11 +13,9 @@ use Rattle.desk.proofs.desk.Desk.hold.Goals as goal
 pub returns-clause-step : goal.returns-clause-step
 returns-clause-step g c =
     let outcome = outcome_with (adding c.add_hold.result) in
-    let command = Hold (hold_view c.args.hold.now) in (
-      outcome,
-      steps_opened g.B.Standing c.steps_keep_their_promises.ensures no_signer
-          (record { setting = opening_view c.self.inside.opening; store = c.self.inside.store }) c.args.self.now
-          command command outcome c.add_hold.new.store (told_with done_as (adding c.add_hold.result))
-          (entered c.add_hold.result) c.self.view_is refl (entered_as_told c.add_hold.result)
-          (c.add_hold.ensures.step (opening_view c.self.inside.opening)),
-    )
+    let command = Hold (hold_view c.args.hold.now) in
+    steps_opened g.B.Standing c.steps_keep_their_promises.ensures no_signer
+    (record { setting = opening_view c.self.inside.opening; store = c.self.inside.store }) c.args.self.now
+    command command outcome c.add_hold.new.store (told_with numbered_as (adding c.add_hold.result))
+    (entered c.add_hold.result) (λ s a. refl) c.self.view_is refl (entered_as_told c.add_hold.result)
+    (c.add_hold.ensures.step (opening_view c.self.inside.opening))

@@ -18,11 +18,9 @@ returns-clause-step g c =
       | in-Err w ↦ ap (answered listed_as) w.result-is
           ∙ (ap Refused w.from.ensures ∙ sym (ap (told_with listed_as) w.in-Err.is))
     ] in
-    let command = (ListAll (account_view c.args.account.now)) in (
-      outcome_with c.list_to.result,
-      steps_opened g.B.Standing c.steps_keep_their_promises.ensures no_signer
-          (record { setting = opening_view c.self.inside.opening; store = c.self.inside.store }) c.args.self.now
-          command command (outcome_with c.list_to.result) c.list_to.new.store (told_with listed_as c.list_to.result)
-          (answered listed_as c.match-list_to.result) c.self.view_is refl same
-          c.list_to.ensures.step,
-    )
+    let command = (ListAll (account_view c.args.account.now)) in
+    steps_opened g.B.Standing c.steps_keep_their_promises.ensures no_signer
+    (record { setting = opening_view c.self.inside.opening; store = c.self.inside.store }) c.args.self.now
+    command command (outcome_with c.list_to.result) c.list_to.new.store (told_with listed_as c.list_to.result)
+    (answered listed_as c.match-list_to.result) (λ s a. refl) c.self.view_is refl same
+    c.list_to.ensures.step

@@ -19,10 +19,8 @@ returns-clause-step g c =
       | in-Err w ↦ ap (answered done_as) w.result-is
           ∙ (ap Refused w.from.ensures ∙ sym (ap (told_with done_as) w.in-Err.is))
     ] in
-    let command = (Revoke (account_view c.args.account.now) c.args.number (Group c.args.name.now)) in (
-      outcome_with c.revoke_by.result,
-      steps_opened g.B.Standing c.steps_keep_their_promises.ensures no_signer
-          (record { setting = opening_view c.self.inside.opening; store = c.self.inside.store }) c.args.self.now
-          command command (outcome_with c.revoke_by.result) c.revoke_by.new.store (told_with done_as c.revoke_by.result)
-          (answered done_as c.match-revoke_by.result) c.self.view_is refl same c.revoke_by.ensures.step,
-    )
+    let command = (Revoke (account_view c.args.account.now) c.args.number (Group c.args.name.now)) in
+    steps_opened g.B.Standing c.steps_keep_their_promises.ensures no_signer
+    (record { setting = opening_view c.self.inside.opening; store = c.self.inside.store }) c.args.self.now
+    command command (outcome_with c.revoke_by.result) c.revoke_by.new.store (told_with done_as c.revoke_by.result)
+    (answered done_as c.match-revoke_by.result) (λ s a. refl) c.self.view_is refl same c.revoke_by.ensures.step

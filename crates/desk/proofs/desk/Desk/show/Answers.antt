@@ -18,11 +18,9 @@ returns-clause-step g c =
       | in-Err w ↦ ap (answered shown_as) w.result-is
           ∙ (ap Refused w.from.ensures ∙ sym (ap (told_with shown_as) w.in-Err.is))
     ] in
-    let command = (Show (account_view c.args.account.now) c.args.number) in (
-      outcome_with c.show_to.result,
-      steps_opened g.B.Standing c.steps_keep_their_promises.ensures no_signer
-          (record { setting = opening_view c.self.inside.opening; store = c.self.inside.store }) c.args.self.now
-          command command (outcome_with c.show_to.result) c.show_to.new.store (told_with shown_as c.show_to.result)
-          (answered shown_as c.match-show_to.result) c.self.view_is refl same
-          c.show_to.ensures.step,
-    )
+    let command = (Show (account_view c.args.account.now) c.args.number) in
+    steps_opened g.B.Standing c.steps_keep_their_promises.ensures no_signer
+    (record { setting = opening_view c.self.inside.opening; store = c.self.inside.store }) c.args.self.now
+    command command (outcome_with c.show_to.result) c.show_to.new.store (told_with shown_as c.show_to.result)
+    (answered shown_as c.match-show_to.result) (λ s a. refl) c.self.view_is refl same
+    c.show_to.ensures.step
