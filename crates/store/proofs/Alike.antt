@@ -1,18 +1,19 @@
 -- Equal tables, up to the order of their rows, come from histories with equal views.
 use Rattle.std.proofs.Common.{◌≡◌, ℕ, ◌<◌, ◌≤◌, ◌==◌, max, Bool, false, List, [], ◌∷◌, map, find, filter_map}
 use Rattle.std.proofs.Common.{Option, Some, None, option_map, refl, sym, ap, ◌∙◌, subst₂, inl, inr, arith}
-use Rattle.std.proofs.Common.{Contains, IsPermutation}
+use Rattle.std.proofs.Common.{Contains, IsPermutation, reverse}
 use Rattle.std.proofs.lemmas.Bool.Decides.{eqb_tells}
 use Rattle.std.proofs.lemmas.List.Sorted.{Contains-permutation, IsPermutation-sym}
 use Rattle.std.proofs.Math.Nat.{le-max_left, le-max_right}
 use Rattle.std.specs.List.{AllByRecursion, list_any, range_with_len, cons_option}
-use Rattle.tables.specs.Tables.{StampRow, DepositRow, CalibrationRow, HoldRow, is_stamp, is_deposit}
+use Rattle.tables.specs.Tables.{StampRow, DepositRow, CalibrationRow, HoldRow, InstalledRow, is_stamp, is_deposit}
 use Rattle.tables.specs.Tables.{is_deposit_of, is_reader_row}
 use Rattle.store.specs.Alike.{HaveSameRows, AreAlike}
 use Rattle.book.specs.History.{History, ReservationValue, reservations, calibrations}
 use Rattle.book.specs.History.{holds, deposits, greatest_of, greatest_serial}
 use Rattle.book.specs.History.{token_of, stamp_of, stamps, stamp_at}
 use Rattle.book.specs.History.{deposit_at, deposit_under, first_of}
+use Rattle.book.specs.Identities.{installed_rows}
 use Rattle.book.specs.Readers.{Reader, Account, Group, Viewer, readers_as}
 use Rattle.book.specs.Rights.{is_reader, may_read, seen_by, listed, listed_at}
 use Rattle.book.specs.Sound.{IsSound}
@@ -22,6 +23,7 @@ use Rattle.store.proofs.Members.{IsFalling, IsSingle, member_here, member_after,
 use Rattle.store.proofs.Members.{some_pass, none_pass, fails_each, true_or_false, find_none, find_single, found_member}
 use Rattle.store.proofs.Falling.{stamps_fall}
 use Rattle.store.proofs.Numbered.{numbers_fall, calibrations_are, holds_are}
+use Rattle.store.proofs.Installed.{identities_are, rows_fall}
 use Rattle.store.proofs.Stamps.{stamps_are}
 use Rattle.store.proofs.DepositRows.{deposits_are, single_number, single_reference}
 use Rattle.store.proofs.Readers.{readers_are, group_readers_are}
@@ -180,6 +182,12 @@ module _ (b d : History) (sound : IsSound b) (other : IsSound d) (rows : HaveSam
       (holds b) (holds d)
       (subst₂ (λ (xs ys : List HoldRow). IsPermutation xs ys) (holds_are b) (holds_are d) rows.holds)
 
+  identities_same : installed_rows b ≡ installed_rows d
+  identities_same =
+      permuted_same (λ row. row.number) (installed_rows b) (installed_rows d) (rows_fall b) (rows_fall d)
+      (subst₂ (λ (xs ys : List InstalledRow). IsPermutation xs ys) (identities_are b sound) (identities_are d other)
+      rows.identities)
+
   deposits_permuted : IsPermutation (deposits b) (deposits d)
   deposits_permuted = subst₂ (λ (xs ys : List DepositRow). IsPermutation xs ys) (deposits_are b) (deposits_are d)
       rows.deposits
@@ -237,6 +245,7 @@ module _ (b d : History) (sound : IsSound b) (other : IsSound d) (rows : HaveSam
     reader = reader_same;
     seen = seen_same;
     list = listed_same;
+    identities = ap reverse identities_same;
   }
 
 -- the greatest serial number

@@ -162,6 +162,31 @@ adds_looked g entry step old mid new b looks ok same s fits =
     (subst (λ t. Keeps g t new) (step_is step entry b (fits, s.sound) (same b))
     (ok (tables_of b) (looks.stands b s).kept))
 
+-- a look-up of the store itself that a commit's step is of
+pub crash_told : {S : Type 0} (g : Ghosts S) (entry : Entry) (step : Tables → Tables) (old mid new : BaseValue S)
+    → OnlyLooks (over_tables g) old mid → (IsHonest g new → IsHonest g mid)
+    → (IsHonest g new → (db : Trees) → Recovers g new db → Recovers g mid db
+    ⊎ ((t : Tables) → Keeps g t mid → IsStored (step t) db))
+    → (IsHonest g mid → (b : History) → Stands (over_tables g) b old → step (replayed b) ≡ replayed (entry ∷ b))
+    → LeavesOrAdds (over_tables g) entry old new
+crash_told g entry step old mid new looks honest crash same h db r =
+    elim (crash h db r) [
+      | inl before ↦ inl (looks.leaves (honest h) db before)
+      | inr adds ↦ inr (λ b s fits. subst (λ t. IsStored t db) (step_is step entry b (fits, s.sound) (same (honest h) b s))
+          (adds (tables_of b) (looks.stands b s).kept))
+    ]
+
+pub adds_told : {S : Type 0} (g : Ghosts S) (entry : Entry) (step : Tables → Tables) (old mid new : BaseValue S)
+    (b : History)
+    → OnlyLooks (over_tables g) old mid → (IsHonest g new → IsHonest g mid)
+    → ((t : Tables) → Keeps g t mid → Keeps g (step t) new)
+    → (IsHonest g mid → (b : History) → Stands (over_tables g) b old → step (replayed b) ≡ replayed (entry ∷ b))
+    → Stands (over_tables g) b old → Fits entry b → Stands (over_tables g) (entry ∷ b) new
+adds_told g entry step old mid new b looks honest ok same s fits =
+    stands_for g (entry ∷ b) new (fits, s.sound)
+    (λ h is_open. subst (λ t. StandsFor t (state g new.conn)) (step_is step entry b (fits, s.sound) (same (honest h) b s))
+    (ok (tables_of b) (looks.stands b s).kept h is_open))
+
 -- a refusal is no success, and no answer
 pub no_success : {A E : Type 0} (r : Result A E) (P : Type 0) → IsErr r → OnOk r P
 no_success (Ok a) P refused = absurd cc

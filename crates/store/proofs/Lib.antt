@@ -8,6 +8,8 @@ pub mod DepositAnswers
 pub mod DepositRows
 pub mod Exactly
 pub mod Falling
+pub mod Gathering
+pub mod Installed
 pub mod Listing
 pub mod Making
 pub mod Members

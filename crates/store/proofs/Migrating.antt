@@ -39,7 +39,7 @@ pub histories_left : {E : Type 0} (old new : State) (r : Result (Unit {0}) E) �
     → LeavesOrMigrates old new
 histories_left old new r m clean db may = elim (m.crash clean db may) [
   | inl before ↦ inl before
-  | inr now ↦ inr (λ b found. now (tables_of b) found)
+  | inr now ↦ inr (λ v b found. now v (tables_of b) found)
 ]
 
 pub told_not_ours : (fault : OpenFault) → opening_fault_of fault ≡ NotOurs → fault ≡ opening.NotOurs

@@ -51,6 +51,12 @@ holds_are (Held h ∷ b) =
     rw (long, rest) refl
 holds_are (_ ∷ b) = holds_are b
 
+pub calibrations_count : (b : History) → length (replayed b).calibrations ≡ length (calibrations b)
+calibrations_count b = ap length (calibrations_are b) ∙ length_numbered calibration_row (calibrations b)
+
+pub holds_count : (b : History) → length (replayed b).holds ≡ length (holds b)
+holds_count b = ap length (holds_are b) ∙ length_numbered hold_row (holds b)
+
 calibration_of_first : (cs : List CalibrationValue) (answer : Option LatestCalibration)
     → IsFirstAs ShowsCalibration (numbered calibration_row cs) answer
     → (option_map calibration_from answer ≡ first_of cs)

@@ -15,6 +15,7 @@ use Rattle.store.specs.Replay.{replayed}
 use Rattle.store.specs.TablesOf.{tables_of, granted_in, group_granted_in, once, readers_of, group_readers_of}
 use Rattle.store.specs.TablesOf.{firsts, tally_of}
 use Rattle.store.proofs.DepositRows.{deposits_are}
+use Rattle.store.proofs.Installed.{identities_are}
 use Rattle.store.proofs.Members.{neither_true, true_or_false}
 use Rattle.store.proofs.Numbered.{calibrations_are, holds_are}
 use Rattle.store.proofs.Readers.{key_is, key_passes, other_kind}
@@ -269,6 +270,7 @@ replayed_is b sound =
       readers = (replayed b).readers;
       tallies = (replayed b).tallies;
       group_readers = (replayed b).group_readers;
+      identities = (replayed b).identities;
     } = refl in
     whole ∙ rw (
       stamps_are b sound,
@@ -278,4 +280,5 @@ replayed_is b sound =
       readers_replayed b,
       tallies_replayed b,
       group_readers_replayed b,
+      identities_are b sound,
     ) refl

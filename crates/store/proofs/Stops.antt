@@ -54,11 +54,11 @@ module _ (found : (t : Tables) (d : Database) → IsDatabase d → IsStored t d.
       ]
 
   pub old_or_migrated : {S D : Type 0} (g : store.Ghosts S) (files : Ghosts D) → FindsOldOrMigrated g files
-  old_or_migrated g files b sound old stopped was leaves clean left may held holds opened opens =
+  old_or_migrated g files v b sound old stopped was leaves clean left may held holds opened opens =
       elim (leaves clean left may) [
         | inl before ↦ inl before
         | inr migrated ↦
-            inr (opened_over b held left opened opens sound (migrated b was) (opens.found.holds left holds))
+            inr (opened_over b held left opened opens sound (migrated v b was) (opens.found.holds left holds))
       ]
 
   alone_found : {D : Type 0} {g : Ghosts D} (b : History) (held : Image) (opened : BaseValue (FileStore D g))

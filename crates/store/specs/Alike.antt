@@ -3,6 +3,7 @@ use Rattle.std.specs.Prelude.{◌≡◌, ℕ, ℤ, List, IsPermutation}
 use Rattle.tables.specs.Tables.{Tables}
 use Rattle.book.specs.History.{History, greatest_serial, last_gen_time, count_of_day, latest_calibration, is_held}
 use Rattle.book.specs.History.{stamp_at, stamps_between, deposit_at, deposit_under}
+use Rattle.book.specs.Identities.{identities}
 use Rattle.book.specs.Readers.{Reader, Viewer}
 use Rattle.book.specs.Rights.{is_reader, seen_by, listed, deposit_with_stamp}
 
@@ -15,6 +16,7 @@ pub record HaveSameRows (t u : Tables) : Type 0 where
   pub readers : IsPermutation t.readers u.readers
   pub tallies : IsPermutation t.tallies u.tallies
   pub group_readers : IsPermutation t.group_readers u.group_readers
+  pub identities : IsPermutation t.identities u.identities
 
 -- all that is looked up in one history is the same in the other
 pub record AreAlike (b d : History) : Type 0 where
@@ -31,3 +33,4 @@ pub record AreAlike (b d : History) : Type 0 where
   pub reader : (number : ℕ) (reader : Reader) → is_reader number reader b ≡ is_reader number reader d
   pub seen : (viewer : Viewer) (number : ℕ) → seen_by viewer number b ≡ seen_by viewer number d
   pub list : (viewer : Viewer) → listed viewer b ≡ listed viewer d
+  pub identities : identities b ≡ identities d

@@ -25,7 +25,8 @@ use Rattle.sqlite.specs.State.{State, HasCleanDisk}
 use Rattle.tables.specs.Asking.{Looks, StaysUsable}
 use Rattle.tables.specs.Base.{BaseValue, IsStored}
 use Rattle.tables.specs.Migrating.{Migrates}
-use Rattle.tables.specs.Opening.{IsFound, IsFoundIn, LooksOurs, LooksForeign}
+use Rattle.tables.specs.Opening.{IsFound, IsFoundIn, LooksOurs, LooksForeign, number_of}
+use Rattle.tables.specs.declared.opening.Version.{Version}
 use Rattle.tables.specs.Schema.{no_schema}
 use Rattle.book.specs.History.{History}
 use Rattle.book.specs.Sound.{IsSound}
@@ -47,12 +48,12 @@ LeavesOrMakes old new =
     HasCleanDisk new → (db : Trees) → new.may_leave db
     → old.may_leave db ⊎ (old.now.schema ≡ no_schema → IsStored (tables_of []) db)
 
--- what a crash in a migration, or at its end, may leave: what it could leave before or, of a history's tables in the
--- first version, its tables of now
+-- what a crash in a migration, or at its end, may leave: what it could leave before or, of a history's tables in any
+-- version, its tables of now
 abbrev pub LeavesOrMigrates : State → State → Type 0
 LeavesOrMigrates old new =
     HasCleanDisk new → (db : Trees) → new.may_leave db
-    → old.may_leave db ⊎ ((b : History) → IsFoundIn 1 (tables_of b) old → IsStored (tables_of b) db)
+    → old.may_leave db ⊎ ((v : Version) (b : History) → IsFoundIn (number_of v) (tables_of b) old → IsStored (tables_of b) db)
 
 -- a connection was opened over what the files held, and the store stands for each sound history whose tables it found
 -- there

@@ -11,7 +11,8 @@ use Rattle.sqlite.specs.Files.{over_files, image_of, HoldsDatabase}
 use Rattle.sqlite.specs.Held.{Held, state}
 use Rattle.sqlite.specs.State.{HasCleanDisk}
 use Rattle.tables.specs.Base.{BaseValue, IsHonest, IsOpen, Recovers}
-use Rattle.tables.specs.Opening.{IsFoundIn}
+use Rattle.tables.specs.Opening.{IsFoundIn, number_of}
+use Rattle.tables.specs.declared.opening.Version.{Version}
 use Rattle.tables.specs.Schema.{no_schema}
 use Rattle.book.specs.History.{Entry, History}
 use Rattle.book.specs.Sound.{Fits, IsSound}
@@ -52,7 +53,8 @@ FindsNothingOrEmpty {S} {D} g files =
 -- that is opened stands for the history.
 abbrev pub FindsOldOrMigrated : {S D : Type 0} → store.Ghosts S → Ghosts D → Type 0
 FindsOldOrMigrated {S} {D} g files =
-    (b : History) → IsSound b → (old stopped : Held S) → IsFoundIn 1 (tables_of b) (state g old)
+    (v : Version) (b : History) → IsSound b → (old stopped : Held S)
+    → IsFoundIn (number_of v) (tables_of b) (state g old)
     → LeavesOrMigrates (state g old) (state g stopped) → HasCleanDisk (state g stopped)
     → (left : Trees) → (state g stopped).may_leave left
     → (held : Image) → HoldsDatabase held left → (opened : BaseValue (FileStore D files)) → OpensFound held opened

@@ -6,6 +6,7 @@ use Rattle.tables.specs.Tables.{Tables, CalibrationRow, HoldRow, ReaderRow, Tall
 use Rattle.book.specs.History.{Entry, Granted, History}
 use Rattle.book.specs.History.{CalibrationValue, HoldValue, ReservationValue, stamps, calibrations, holds, deposits}
 use Rattle.book.specs.History.{reservations, day_of, is_of_day, count_of_day}
+use Rattle.book.specs.Identities.{installed_rows}
 use Rattle.book.specs.Readers.{Account, Group}
 use Rattle.book.specs.Rights.{is_reader}
 
@@ -64,4 +65,5 @@ tables_of b = record {
   readers = readers_of b;
   tallies = map (tally_of b) (firsts (reservations b));
   group_readers = group_readers_of b;
+  identities = installed_rows b;
 }

@@ -12,8 +12,8 @@ ghost use Rattle.store.specs.Stands.{over_tables};
 ghost use Rattle.store.specs.Steps.{IsNextSeen, IsNextReadable, IsCursor, AreCursors, AreNextReadable};
 ghost use Rattle.store.specs.Steps.{least_of, least_in, later_of};
 
-use crate::store::{GREATEST, Store};
-use book::StoreFault;
+use crate::store::Store;
+use book::{GREATEST_NUMBER, StoreFault};
 use sqlite::Alter;
 use std::alloc::Global;
 
@@ -186,7 +186,7 @@ fn next_of(owned: Option<u64>, readable: Option<u64>, after: u64) -> Option<u64>
     ensures rises { IfSome result (λ number. (after < number) × (number < 2 ^ 63)) }
 {
     match lesser(owned, readable) {
-        Some(n) if n > after && n <= GREATEST => Some(n),
+        Some(n) if n > after && n <= GREATEST_NUMBER => Some(n),
         _ => None,
     }
 }

@@ -11,8 +11,8 @@ ghost use Rattle.book.specs.Stands.{Stands, OnlyLooks};
 ghost use Rattle.store.specs.Stands.{over_tables};
 ghost use Rattle.store.specs.Steps.{IsAskedFor, listing_at};
 
-use crate::store::{GREATEST, Store};
-use book::{Listed, StoreFault};
+use crate::store::Store;
+use book::{GREATEST_NUMBER, Listed, StoreFault};
 use sqlite::Alter;
 
 impl<S: Alter + Drop> Store<S> {
@@ -102,7 +102,7 @@ impl<S: Alter + Drop> Store<S> {
 pub(crate) fn asked_for(number: u64) -> u64
     ensures { IsAskedFor number result }
 {
-    if number > GREATEST { 0 } else { number }
+    if number > GREATEST_NUMBER { 0 } else { number }
 }
 
 /// Adds a row, if there is one.

@@ -4,6 +4,7 @@
 mod cursors;
 mod deposits;
 mod finding;
+mod identities;
 mod laws;
 mod opening;
 mod path;

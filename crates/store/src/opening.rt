@@ -6,8 +6,9 @@ ghost use Rattle.sqlite.specs.Held.{state};
 ghost use Rattle.sqlite.specs.State.{HasCleanDisk};
 ghost use Rattle.tables.specs.Asking.{Looks};
 ghost use Rattle.tables.specs.Migrating.{Migrates};
-ghost use Rattle.tables.specs.Opening.{IsFound, IsFoundIn, LooksOurs, LooksFirst, LooksForeign, IsInTheWay};
-ghost use Rattle.tables.specs.Opening.{takes_name};
+ghost use Rattle.tables.specs.Opening.{IsFound, IsFoundIn, LooksOurs, LooksAs, LooksForeign, IsInTheWay};
+ghost use Rattle.tables.specs.Opening.{number_of, takes_name};
+ghost use Rattle.tables.specs.declared.opening.Version.{Version};
 ghost use Rattle.tables.specs.Schema.{no_schema};
 ghost use Rattle.book.specs.History.{History};
 ghost use Rattle.store.specs.Opening.{LeavesFiles, LeavesAsItWas, LeavesOrMakes, LeavesOrMigrates, told_closing};
@@ -88,11 +89,10 @@ impl<S: Alter + Drop> Store<S> {
         ensures migrates { Migrates (state S.Store conn.old) (state S.Store conn.new) result }
         ensures crash { LeavesOrMigrates (state S.Store conn.old) (state S.Store conn.new) }
         ensures ours { HasCleanDisk (state S.Store conn.new)
-            → OnOk result (LooksOurs (state S.Store conn.old) ⊎ LooksFirst (state S.Store conn.old)) }
+            → OnOk result ((v : Version) × LooksAs v (state S.Store conn.old)) }
         ensures not_ours { IfErr result (λ e. e ≡ StoreFault.NotOurs → HasCleanDisk (state S.Store conn.new)
-            → IsTrue (state S.Store conn.new).is_open → (b : History)
-            → (¬ IsFound (tables_of b) (state S.Store conn.old))
-            × (¬ IsFoundIn 1 (tables_of b) (state S.Store conn.old))) }
+            → IsTrue (state S.Store conn.new).is_open → (v : Version) (b : History)
+            → ¬ IsFoundIn (number_of v) (tables_of b) (state S.Store conn.old)) }
         ensures refusals { IfErr result (λ e. (e ≡ StoreFault.Memory)
             ⊎ ((e ≡ StoreFault.Database) ⊎ (e ≡ StoreFault.NotOurs))) }
     {

@@ -1,9 +1,12 @@
 //! The database at a path: how its store is opened, and how it is made.
-ghost use Rattle.std.specs.Prelude.{◌≡◌, ◌⊎◌, false, IfOk, IfErr};
+ghost use Rattle.std.specs.Prelude.{◌≡◌, ◌⊎◌, ◌↔◌, [], false, IfOk, IfErr, IsTrue};
 ghost use Rattle.sqlite_wal.specs.Files.{image_at};
-ghost use Rattle.sqlite.specs.Files.{file_state, IsOpened};
+ghost use Rattle.sqlite.specs.Files.{file_state, over_files, IsOpened};
+ghost use Rattle.sqlite.specs.Held.{state};
 ghost use Rattle.sqlite.specs.Start.{FindsIn};
 ghost use Rattle.sqlite.specs.State.{HasCleanDisk};
+ghost use Rattle.tables.specs.Schema.{no_schema};
+ghost use Rattle.store.specs.Stands.{Stands};
 ghost use Rattle.store.specs.Opening.{OpensFound, IsForeign, OpensNothing, IsMigrated, MigratesFound};
 ghost use Rattle.store.specs.Opening.{told_opening};
 ghost use Rattle.store.specs.Opening.{fault_where, fault_where_made};
@@ -36,13 +39,14 @@ impl<T: Start + Drop> Store<FileStore<FileFrom<T>>> {
     }
 
     /// Makes the tables in a new database at a path, where no file stands, one of no octets, or a database without
-    /// tables. Refused with `Memory`; with `Database` where the file can't be made, read or written; and with `NotOurs`
+    /// tables: the store stands for the empty history. Refused with `Memory`; with `Database` where the file can't be made, read or written; and with `NotOurs`
     /// where something else stands there, a database of the counter's too, which is left as it is.
     pub fn make(
         rt: &HostRuntime,
         path: &str,
         start: T,
     ) -> Result<Store<FileStore<FileFrom<T>>>, StoreFault>
+        ensures made { IfOk result (λ store. Stands over_files [] store) }
         ensures uncounted { IfOk result (λ store. store.faults ≡ 0) }
         ensures refusals { IfErr result (λ e. (e ≡ StoreFault.Memory)
             ⊎ ((e ≡ StoreFault.Database) ⊎ (e ≡ StoreFault.NotOurs))) }
@@ -168,12 +172,12 @@ fn create_or_drop<S: Alter + Drop>(
     conn: Connection<S>,
 ) -> Result<Store<S>, StoreFault>
     requires { conn.in_transaction ≡ false }
+    ensures made { IfOk result (λ store. Stands S.Store [] store) }
     ensures uncounted { IfOk result (λ store. store.faults ≡ 0) }
     ensures refusals { IfErr result (λ e. (e ≡ StoreFault.Memory)
         ⊎ ((e ≡ StoreFault.Database) ⊎ (e ≡ StoreFault.NotOurs))) }
 {
-    let mut conn = conn;
-    if !has_no_table(&mut conn)? {
+    if !has_no_table(&conn) {
         return Err(StoreFault::NotOurs);
     }
     match Store::create(alloc, conn) {
@@ -182,23 +186,10 @@ fn create_or_drop<S: Alter + Drop>(
     }
 }
 
-fn has_no_table<S: Alter>(conn: &mut Connection<S>) -> Result<bool, StoreFault>
-    requires { conn.old.in_transaction ≡ false }
-    ensures closed { conn.new.in_transaction ≡ false }
-    ensures refusals { IfErr result (λ e. (e ≡ StoreFault.Memory)
-        ⊎ ((e ≡ StoreFault.Database) ⊎ (e ≡ StoreFault.NotOurs))) }
+/// Whether a database has no table, index or view.
+fn has_no_table<S: Alter>(conn: &Connection<S>) -> bool
+    ensures { IsTrue result ↔ ((state S.Store conn.now).now.schema ≡ no_schema) }
 {
-    match count_of_objects(conn) {
-        Ok(count) => Ok(count == 0),
-        Err(error) => Err(opening_fault(error)),
-    }
-}
-
-/// How many tables, indexes and views a database has.
-fn count_of_objects<S: Alter>(conn: &mut Connection<S>) -> Result<i64, Error>
-    requires { conn.old.in_transaction ≡ false }
-    ensures { conn.new.in_transaction ≡ false }
-{
-    conn.query_row("SELECT count(*) FROM sqlite_schema", &[])?
-        .get(0)
+    let schema = conn.schema();
+    schema.tables.is_empty() && schema.indexes.is_empty() && schema.views.is_empty()
 }

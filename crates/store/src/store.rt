@@ -12,19 +12,13 @@ use crate::cursors::Cursors;
 use crate::deposits::{add_listed, asked_for};
 use crate::ranges::only_within;
 use book::{
-    Book, Calibration, Deposit, Hold, Last, Listed, Reservation, Stamp, StampedDeposit, Standing,
-    StoreFault,
+    Book, Calibration, Deposit, GREATEST_NUMBER, Hold, IdentityRow, Last, Listed, Reservation,
+    Stamp, StampedDeposit, Standing, StoreFault,
 };
 use sqlite::{Alter, Connection};
 use std::alloc::Global;
 use std::marker::Model;
 use tables::{Base, Change, LastStamp, LatestCalibration};
-
-/// The microseconds of a day.
-const DAY: u64 = 86_400_000_000;
-
-/// The greatest serial number, 2^63 - 1.
-pub(crate) const GREATEST: u64 = 9_223_372_036_854_775_807;
 
 /// The history of what the counter accepted, kept in tables. Each change is one commit.
 ///
@@ -73,7 +67,7 @@ impl<S: Alter + Drop> Book for Store<S> {
 
     fn count_of_day(&mut self, account: &str, day: u64) -> Result<u64, StoreFault> {
         // No genTime is on so late a day, and no column can have a later one.
-        let count = self.base.tally(account, day.min(GREATEST))?;
+        let count = self.base.tally(account, day.min(GREATEST_NUMBER))?;
         Ok(count.unwrap_or(0))
     }
 
@@ -89,20 +83,10 @@ impl<S: Alter + Drop> Book for Store<S> {
 
     fn reserve(&mut self, reservation: &Reservation<'_>) -> Result<(), StoreFault> {
         let last = self.last()?;
-        if last.serial == GREATEST {
+        if last.serial == GREATEST_NUMBER {
             return Err(StoreFault::Full);
         }
-        self.base.commit(&Change::Reserve {
-            serial: reservation.serial,
-            account: reservation.account,
-            day: reservation.gen_time / DAY,
-            gen_time: reservation.gen_time,
-            policy: reservation.policy,
-            algorithm: reservation.algorithm,
-            digest: reservation.digest,
-            request: reservation.request,
-            tst: reservation.tst,
-        })?;
+        self.base.commit(&Change::Reserve(*reservation))?;
         Ok(())
     }
 
@@ -203,7 +187,7 @@ impl<S: Alter + Drop> Book for Store<S> {
         Ok(())
     }
 
-    fn calibrate(&mut self, calibration: &Calibration) -> Result<(), StoreFault> {
+    fn calibrate(&mut self, calibration: &Calibration) -> Result<u64, StoreFault> {
         let latest = self.base.latest_calibration()?;
         if is_backwards(calibration, latest) {
             return Err(StoreFault::Backwards);
@@ -213,28 +197,46 @@ impl<S: Alter + Drop> Book for Store<S> {
             offset,
             uncertainty,
         } = *calibration;
+        let n = next_calibration(latest);
         self.base.commit(&Change::Calibrate {
-            n: next_calibration(latest),
+            n,
             reading,
             offset,
             uncertainty,
         })?;
-        Ok(())
+        Ok(n)
     }
 
-    fn hold(&mut self, hold: &Hold) -> Result<(), StoreFault> {
+    fn hold(&mut self, hold: &Hold) -> Result<u64, StoreFault> {
         let greatest = self.base.greatest_hold()?;
         let Hold { from, to } = *hold;
-        self.base.commit(&Change::Hold {
-            n: next_number(greatest),
-            from,
-            to,
+        let n = next_number(greatest);
+        self.base.commit(&Change::Hold { n, from, to })?;
+        Ok(n)
+    }
+
+    fn install(&mut self, certificate: &[u8], chain: &[u8]) -> Result<(), StoreFault> {
+        let last = self.last()?;
+        let number = self.next_identity()?;
+        self.base.commit(&Change::Install {
+            number,
+            after_serial: last.serial,
+            certificate,
+            chain,
         })?;
         Ok(())
     }
 
+    fn identities(&mut self) -> Result<Vec<IdentityRow>, StoreFault> {
+        let mut identities = Vec::new(self.alloc);
+        while let Some(identity) = self.identity_after(identities.len() as u64)? {
+            identities.push(identity)?;
+        }
+        Ok(identities)
+    }
+
     fn next_stamp(&mut self, from: u64, to: u64) -> Result<Option<Stamp>, StoreFault> {
-        let to = to.min(GREATEST);
+        let to = to.min(GREATEST_NUMBER);
         if from > to {
             return Ok(None);
         }
@@ -304,7 +306,7 @@ fn next_calibration(latest: Option<LatestCalibration>) -> u64
     }
 }
 
-fn next_number(greatest: Option<u64>) -> u64
+pub(crate) fn next_number(greatest: Option<u64>) -> u64
     requires { ForSome greatest (λ n. n < 2 ^ 63) }
     ensures { result ≡ next_number greatest }
 {

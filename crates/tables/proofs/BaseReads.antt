@@ -1,7 +1,7 @@
 -- What a query makes of a connection that keeps tables.
-use Rattle.std.proofs.Common.{◌≡◌, false, sym, ap, ◌∙◌, subst}
+use Rattle.std.proofs.Common.{◌≡◌, false, sym, subst}
 use Rattle.sqlite_trees.specs.declared.store.Store.{Ghosts}
-use Rattle.sqlite.specs.Effect.{Database, IsDatabase}
+use Rattle.sqlite.specs.Effect.{IsDatabase}
 use Rattle.sqlite.specs.Held.{state}
 use Rattle.tables.specs.Asking.{Looks}
 use Rattle.tables.specs.Base.{BaseValue, IsHonest, IsOpen, Keeps}

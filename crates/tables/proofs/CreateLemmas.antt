@@ -130,12 +130,12 @@ module _ {S : Type 0} (g : Ghosts S) where
 
 ours_new : AreNew no_schema makings
 unfolding everything
-ours_new = (refl, refl, (refl, refl, (refl, refl, (refl, refl, (refl, refl, (refl, refl, (refl, refl, (refl, refl, tt))))))))
+ours_new = (refl, refl, (refl, refl, (refl, refl, (refl, refl, (refl, refl, (refl, refl, (refl, refl, (refl, refl, (refl, refl, tt)))))))))
 
 -- ---- the row of `meta`, over tables with no row
 
 abbrev pub version_terms : List Term
-version_terms = lit Null ∷ lit (Int (pos 2)) ∷ []
+version_terms = lit Null ∷ lit (Int (pos 3)) ∷ []
 
 version_is : (command_of (understood the_schema insert_version) ≡ Insert 0 (Values version_terms 2))
     × IsPlain (understood the_schema insert_version)
@@ -143,7 +143,7 @@ unfolding understood everything
 version_is = (refl, (refl, refl))
 
 version_news : (db : Trees) → (edit_of db (placed 0 meta) [] Chosen 0 (value_rows [] 2 1 version_terms)).news
-    ≡ (Int (next_rowid (db 0)) ∷ version_cells 2) ∷ []
+    ≡ (Int (next_rowid (db 0)) ∷ version_cells 3) ∷ []
 version_news db = simp (cast_int, cast_null)
 
 pub empty_rows : {X : Type 0} (keyed : _) (cells : X → Row) (rows : List Row) → rows ≡ []
@@ -160,8 +160,8 @@ versioned limit text db out empty does =
     record {
       schema = made.1;
       holds = framed db out.1.trees no_rows no_rows name.Meta made.0.tables others
-          (inserted version_cells (λ x e. cc) false [] 2 (db 0) (out.1.trees 0) _ (Int (next_rowid (db 0))
-          ∷ version_cells 2) (empty_rows false version_cells (db 0) (none name.Meta)) made.0.keyed made.0.fresh
+          (inserted version_cells (λ x e. cc) false [] 3 (db 0) (out.1.trees 0) _ (Int (next_rowid (db 0))
+          ∷ version_cells 3) (empty_rows false version_cells (db 0) (none name.Meta)) made.0.keyed made.0.fresh
           made.0.rows (version_news db) refl) tt;
     }
   where

@@ -10,10 +10,11 @@ use Rattle.sqlite_rules.proofs.ListLemmas.{all_has, has_got}
 use Rattle.tables.specs.Names.{Name}
 use Rattle.tables.specs.Names as name
 use Rattle.tables.specs.Schema.{the_schema, the_version, placed, meta, stamp, calibration, hold, deposit, reader, tally}
-use Rattle.tables.specs.Schema.{group_reader}
-use Rattle.tables.specs.Tables.{Tables, StampRow, CalibrationRow, HoldRow, DepositRow, ReaderRow, TallyRow}
+use Rattle.tables.specs.Schema.{group_reader, identity}
+use Rattle.tables.specs.Tables.{Tables, StampRow, CalibrationRow, HoldRow, DepositRow, ReaderRow, TallyRow, InstalledRow}
 use Rattle.tables.specs.Holding.{AreRows, Holds, HoldsAt, cells_of, is_keyed, tree_of, rows_of, first_version}
 use Rattle.tables.specs.Holding.{stamp_cells, calibration_cells, hold_cells, deposit_cells, reader_cells, tally_cells}
+use Rattle.tables.specs.Holding.{identity_cells}
 
 -- ---- each table by its name
 
@@ -26,6 +27,7 @@ table_at name.Deposit = (placed 4 deposit, has_got the_schema.tables 4 _ refl, r
 table_at name.Reader = (placed 6 reader, has_got the_schema.tables 5 _ refl, refl)
 table_at name.Tally = (placed 8 tally, has_got the_schema.tables 6 _ refl, refl)
 table_at name.GroupReader = (placed 10 group_reader, has_got the_schema.tables 7 _ refl, refl)
+table_at name.Identity = (placed 12 identity, has_got the_schema.tables 8 _ refl, refl)
 
 -- what holds of each table of the schema holds of the tree of each name
 pub at_name : (P : ℕ → Type 0) → AllByRecursion (λ (table : Table). P table.tree) the_schema.tables → (n : Name)
@@ -43,6 +45,7 @@ is_current name.Deposit = refl
 is_current name.Reader = refl
 is_current name.Tally = refl
 is_current name.GroupReader = refl
+is_current name.Identity = refl
 
 -- a tree is one table's
 abbrev name_at : ℕ → Name
@@ -52,7 +55,8 @@ name_at tree =
     (cond (tree == 3) name.Hold
     (cond (tree == 4) name.Deposit
     (cond (tree == 6) name.Reader
-    (cond (tree == 8) name.Tally (cond (tree == 10) name.GroupReader name.Meta))))))
+    (cond (tree == 8) name.Tally
+    (cond (tree == 10) name.GroupReader (cond (tree == 12) name.Identity name.Meta)))))))
 
 named : (n : Name) → name_at (tree_of n) ≡ n
 named name.Meta = refl
@@ -63,6 +67,7 @@ named name.Deposit = refl
 named name.Reader = refl
 named name.Tally = refl
 named name.GroupReader = refl
+named name.Identity = refl
 
 either : (m n : Name) → (n ≡ m) ⊎ (tree_of m ≢ tree_of n)
 either m n = elim (cases_eq (tree_of m) (tree_of n)) [
@@ -150,4 +155,13 @@ module _ (db next : Trees) (t : Tables) (h : Holds t db) where
     where
       others : (m : Name) → tree_of m ≢ 10 → HoldsAt the_version m (record t { group_readers = xs }) db
       others name.GroupReader apart = absurd (apart refl)
+      others m apart = held m
+
+  pub with_identities : (xs : List InstalledRow) → OthersStay 12 db next → AreRows true identity_cells xs (next 12)
+      → Holds (record t { identities = xs }) next
+  with_identities xs stay rows =
+      framed db next t (record t { identities = xs }) name.Identity stay others rows h.counts
+    where
+      others : (m : Name) → tree_of m ≢ 12 → HoldsAt the_version m (record t { identities = xs }) db
+      others name.Identity apart = absurd (apart refl)
       others m apart = held m

@@ -21,16 +21,16 @@ use Rattle.sqlite.specs.Listing.{understood}
 use Rattle.sqlite.specs.State.{State, HasCleanDisk, Survives, ExecutesInside}
 use Rattle.sqlite.proofs.Callers.{IsPlain, command_of}
 use Rattle.tables.specs.Carrying.{Carries}
-use Rattle.tables.specs.Statements.{insert_stamp, insert_calibration, insert_hold, insert_deposit, insert_reader}
+use Rattle.tables.specs.Statements.{insert_stamp, insert_calibration, insert_hold, insert_deposit}
 use Rattle.tables.specs.Statements.{first_tally}
-use Rattle.tables.specs.Schema.{the_schema, stamp, calibration, hold, deposit, reader, tally, placed}
-use Rattle.tables.specs.Tables.{Tables, StampRow, CalibrationRow, HoldRow, DepositRow, ReaderRow, TallyRow}
+use Rattle.tables.specs.Schema.{the_schema, stamp, calibration, hold, deposit, tally, placed}
+use Rattle.tables.specs.Tables.{Tables, StampRow, CalibrationRow, HoldRow, DepositRow, TallyRow}
 use Rattle.tables.specs.Tables.{with_calibration, with_hold, with_deposit}
 use Rattle.tables.specs.Holding.{stamp_cells, calibration_cells, hold_cells}
-use Rattle.tables.specs.Holding.{deposit_cells, reader_cells, tally_cells}
+use Rattle.tables.specs.Holding.{deposit_cells, tally_cells}
 use Rattle.tables.specs.Names as name
 use Rattle.tables.proofs.CarryLemmas.{carried, Makes}
-use Rattle.tables.proofs.FrameLemmas.{with_stamps, with_calibrations, with_holds, with_deposits, with_readers}
+use Rattle.tables.proofs.FrameLemmas.{with_stamps, with_calibrations, with_holds, with_deposits}
 use Rattle.tables.proofs.FrameLemmas.{with_tallies}
 use Rattle.tables.proofs.WriteLemmas.{IsIdle, inserts}
 use Rattle.tables.proofs.ChangeLemmas.{inserted}
@@ -48,7 +48,7 @@ unfolding unary
 cast_int n = either _ (Int n)
 
 pub idle : IsIdle the_schema
-idle = (tt, (tt, (tt, (tt, (((refl, refl), tt), (((refl, refl), tt), (tt, (((refl, refl), tt), tt))))))))
+idle = (tt, (tt, (tt, (tt, (((refl, refl), tt), (((refl, refl), tt), (tt, (((refl, refl), tt), (tt, tt)))))))))
 
 -- ---- calibration
 

@@ -14,6 +14,7 @@ mod FoundLemmas
 mod FrameLemmas
 mod FreeLemmas
 mod GroupReaderLemmas
+mod IdentityLemmas
 mod InsertLemmas
 mod ListLemmas
 mod LookupLemmas

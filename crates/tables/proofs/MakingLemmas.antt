@@ -4,7 +4,7 @@ use Rattle.std.specs.List.{AllByRecursion}
 use Rattle.sqlite_tied.specs.Compute.{everything}
 use Rattle.sqlite.specs.Listing.{understood}
 use Rattle.tables.specs.Making.{make_meta, make_stamp, make_calibration, make_hold, make_deposit, make_reader}
-use Rattle.tables.specs.Making.{make_tally, make_group_reader, makings, insert_version}
+use Rattle.tables.specs.Making.{make_tally, make_group_reader, make_identity, makings, insert_version}
 use Rattle.tables.proofs.BatchLemmas.{AreCut}
 use Rattle.tables.proofs.NameLemmas.{IsMaking}
 
@@ -40,6 +40,10 @@ makes_group_reader : IsMaking make_group_reader
 unfolding understood everything
 makes_group_reader = record { depends = λ s. refl; alone = (refl, refl, (refl, refl)); uncounted = refl }
 
+makes_identity : IsMaking make_identity
+unfolding understood everything
+makes_identity = record { depends = λ s. refl; alone = (refl, refl, (refl, refl)); uncounted = refl }
+
 pub are_makings : AllByRecursion IsMaking makings
 are_makings = (
   makes_meta,
@@ -55,7 +59,7 @@ are_makings = (
             makes_reader,
             (
               makes_tally,
-              (makes_group_reader, tt),
+              (makes_group_reader, (makes_identity, tt)),
             ),
           ),
         ),
@@ -74,7 +78,10 @@ are_cut = (
       (refl, refl, refl),
       (
         (refl, refl, refl),
-        ((refl, refl, refl), ((refl, refl, refl), ((refl, refl, refl), ((refl, refl, refl), (refl, refl, refl))))),
+        (
+          (refl, refl, refl),
+          ((refl, refl, refl), ((refl, refl, refl), ((refl, refl, refl), ((refl, refl, refl), (refl, refl, refl))))),
+        ),
       ),
     ),
   ),

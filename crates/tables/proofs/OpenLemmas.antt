@@ -1,5 +1,5 @@
 -- Whether tables are ours, and of which version.
-use Rattle.std.proofs.Common.{◌≡◌, ◌↔◌, Bool, codes, ℕ, ◌+◌, None, Option, pos, true, false, List, [], ◌∷◌}
+use Rattle.std.proofs.Common.{◌≡◌, ◌↔◌, Bool, codes, ℕ, ◌+◌, None, Some, Option, pos, true, false, List, [], ◌∷◌}
 use Rattle.std.proofs.Common.{Result, Ok, Err, IfErr, IfOk, IsTrue, refl, sym, ap, ◌∙◌, subst, inl, inr}
 use Rattle.std.proofs.Common.{arith}
 use Rattle.sqlite_value.specs.declared.value.Value.TheVariants.{Int}
@@ -28,11 +28,14 @@ use Rattle.std.proofs.lemmas.Bool.{cases_Bool}
 use Rattle.sqlite.specs.State.{State, HasCleanDisk, Survives, IsUnchanged, IsNotRun, store_error}
 use Rattle.sqlite.proofs.Callers.{command_of, one_permutation}
 use Rattle.tables.specs.Schema.{schema_of, the_schema}
+use Rattle.tables.specs.declared.opening.Version.{Version}
+use Rattle.tables.specs.declared.opening.Version.TheVariants as version
 use Rattle.tables.specs.Tables.{Tables}
-use Rattle.tables.specs.Holding.{AreRows, IsDatabaseOf, IsDatabaseIn, version_cells}
+use Rattle.tables.specs.Holding.{AreRows, IsDatabaseIn, version_cells}
 use Rattle.tables.specs.Names as name
 use Rattle.tables.specs.Asking.{IsQueryText, IsPlainIn, Answers, Looks}
-use Rattle.tables.specs.Opening.{all_columns, first_columns, version_query, IsUnderstood, IsVersion, LooksFirst}
+use Rattle.tables.specs.Opening.{all_columns, second_columns, first_columns, version_query, number_of}
+use Rattle.tables.specs.Opening.{IsUnderstood, IsKnownAs, IsVersion, LooksForeign, TellsVersion}
 use Rattle.tables.proofs.UsableLemmas.{survivor_usable}
 use Rattle.tables.proofs.ReadLemmas.{program_of, no_limit, passes, shows, answered}
 use Rattle.tables.proofs.ChangeLemmas.{found_are}
@@ -67,18 +70,49 @@ unprepared_looks old new sql e s err = record {
   usable = survivor_usable old new _ s;
 }
 
-pub columns_known : IsUnderstood (understood the_schema all_columns)
+-- which schema knows which columns
+all_in_third : IsUnderstood (understood the_schema all_columns)
 unfolding understood everything
-columns_known = tt
+all_in_third = tt
 
-pub first_columns_known : IsUnderstood (understood (schema_of 1) first_columns)
+second_in_second : IsUnderstood (understood (schema_of 2) second_columns)
 unfolding understood everything
-first_columns_known = tt
+second_in_second = tt
 
--- a database of the first version hasn't each table of now
-pub columns_unknown : ¬ IsUnderstood (understood (schema_of 1) all_columns)
+first_in_first : IsUnderstood (understood (schema_of 1) first_columns)
+unfolding understood everything
+first_in_first = tt
+
+all_not_in_second : ¬ IsUnderstood (understood (schema_of 2) all_columns)
 unfolding understood everything listing_schema
-columns_unknown known = known
+all_not_in_second known = known
+
+all_not_in_first : ¬ IsUnderstood (understood (schema_of 1) all_columns)
+unfolding understood everything listing_schema
+all_not_in_first known = known
+
+second_not_in_first : ¬ IsUnderstood (understood (schema_of 1) second_columns)
+unfolding understood everything listing_schema
+second_not_in_first known = known
+
+known_in : (v : Version) (found : Option Version) → IsKnownAs found (schema_of (number_of v)) → found ≡ Some v
+known_in version.First None known = absurd (known.2 first_in_first)
+known_in version.First (Some version.First) known = refl
+known_in version.First (Some version.Second) known = absurd (second_not_in_first known.1)
+known_in version.First (Some version.Current) known = absurd (all_not_in_first known)
+known_in version.Second None known = absurd (known.1 second_in_second)
+known_in version.Second (Some version.First) known = absurd (known.1 second_in_second)
+known_in version.Second (Some version.Second) known = refl
+known_in version.Second (Some version.Current) known = absurd (all_not_in_second known)
+known_in version.Current None known = absurd (known.0 all_in_third)
+known_in version.Current (Some version.First) known = absurd (known.0 all_in_third)
+known_in version.Current (Some version.Second) known = absurd (known.0 all_in_third)
+known_in version.Current (Some version.Current) known = refl
+
+-- tables are known as those of their own version
+pub known_as : (v : Version) (t : Tables) (d : Database) → IsDatabaseIn (number_of v) t d → (found : Option Version)
+    → IsKnownAs found d.schema → found ≡ Some v
+known_as v t d is found known = known_in v found (subst (IsKnownAs found) is.schema known)
 
 no_input_error : (cause : StoreError) (f : CompileError) → ¬ (SqlInputError f ≡ store_error cause)
 no_input_error OutOfMemory f e = cc
@@ -114,6 +148,10 @@ version_command : command_of (understood the_schema version_query) ≡ version_s
 unfolding understood everything
 version_command = refl
 
+second_command : command_of (understood (schema_of 2) version_query) ≡ version_select
+unfolding understood everything
+second_command = refl
+
 first_command : command_of (understood (schema_of 1) version_query) ≡ version_select
 unfolding understood everything
 first_command = refl
@@ -121,6 +159,10 @@ first_command = refl
 pub version_text : IsQueryText version_query
 unfolding understood everything
 version_text = record { plain = (refl, refl); unlisted = refl }
+
+second_unlisted : reads_listing (schema_of 2) version_query ≡ false
+unfolding understood everything
+second_unlisted = refl
 
 first_unlisted : reads_listing (schema_of 1) version_query ≡ false
 unfolding understood everything
@@ -144,14 +186,13 @@ version_row s is unlisted version d has held rows (c, known, source, from, reads
     (λ y. refl) (shows (col 1 1 ∷ []) []) version_cells (λ y. refl) rows shown) in
     (Int (pos version) ∷ [], one, refl)
 
-pub version_now : (t : Tables) (d : Database) → IsDatabaseOf t d → (rows : List Row) → Answers version_query [] d rows
-    → IsVersion 2 rows
-version_now t d is = version_row the_schema version_command version_text.unlisted 2 d is.schema
+pub version_of : (v : Version) (t : Tables) (d : Database) → IsDatabaseIn (number_of v) t d → (rows : List Row)
+    → Answers version_query [] d rows → IsVersion (number_of v) rows
+version_of version.First t d is = version_row (schema_of 1) first_command first_unlisted 1 d is.schema
     (is.holds.rows name.Meta refl)
-
-pub version_first : (t : Tables) (d : Database) → IsDatabaseIn 1 t d → (rows : List Row)
-    → Answers version_query [] d rows → IsVersion 1 rows
-version_first t d is = version_row (schema_of 1) first_command first_unlisted 1 d is.schema
+version_of version.Second t d is = version_row (schema_of 2) second_command second_unlisted 2 d is.schema
+    (is.holds.rows name.Meta refl)
+version_of version.Current t d is = version_row the_schema version_command version_text.unlisted 3 d is.schema
     (is.holds.rows name.Meta refl)
 
 -- ---- what was told
@@ -159,48 +200,51 @@ version_first t d is = version_row (schema_of 1) first_command first_unlisted 1 
 abbrev pub TellsColumns : List ℕ → Database → Bool → Type 0
 TellsColumns asked d found = IsTrue found ↔ IsUnderstood (understood d.schema asked)
 
-abbrev pub TellsNumber : ℕ → Database → Bool → Type 0
-TellsNumber number d found = (rows : List Row) × Answers version_query [] d rows × (IsTrue found ↔ IsVersion number rows)
-
 pub unknown_if : (asked : List ℕ) (d : Database) (found : Bool) → TellsColumns asked d found → found ≡ false
     → ¬ IsUnderstood (understood d.schema asked)
 unknown_if asked d found told isnt known = let y = told.1 known in cc
 
-pub not_now : (d : Database) (found : Bool) → TellsColumns all_columns d found → found ≡ false → (t : Tables)
-    → ¬ IsDatabaseOf t d
-not_now d found told isnt t is =
-    unknown_if all_columns d found told isnt (subst (λ s. IsUnderstood (understood s all_columns)) (sym is.schema)
-    columns_known)
-
-pub not_first : (d : Database) (found : Bool) → TellsColumns all_columns d found → found ≡ true → (t : Tables)
-    → ¬ IsDatabaseIn 1 t d
-not_first d found told y t is =
-    columns_unknown (subst (λ s. IsUnderstood (understood s all_columns)) is.schema (told.0 y))
-
 -- what was told of the database as it was before
-module _ (old mid : Database) (same : mid ≡ old) (found : Bool) where
-  pub first_unknown : TellsColumns first_columns mid found → found ≡ false → (t : Tables) → ¬ IsDatabaseIn 1 t old
-  first_unknown told isnt t is =
-      unknown_if first_columns mid found told isnt
-      (subst (λ s. IsUnderstood (understood s first_columns)) (sym (ap (λ (d : Database). d.schema) same ∙ is.schema))
-      first_columns_known)
+pub told_before : (asked : List ℕ) (old mid : Database) → mid ≡ old → (found : Bool) → TellsColumns asked mid found
+    → TellsColumns asked old found
+told_before asked old mid same found told = subst (λ d. TellsColumns asked d found) same told
 
-  pub number_now : TellsNumber 2 mid found → found ≡ false → (t : Tables) → ¬ IsDatabaseOf t old
-  number_now (rows, answer, told) isnt t is =
-      let y = told.1 (version_now t mid (subst (IsDatabaseOf t) (sym same) is) rows answer) in cc
+abbrev pub TellsNumber : ℕ → Database → Bool → Type 0
+TellsNumber number d found = (rows : List Row) × Answers version_query [] d rows × (IsTrue found ↔ IsVersion number rows)
 
-  pub number_first : TellsNumber 1 mid found → found ≡ false → (t : Tables) → ¬ IsDatabaseIn 1 t old
-  number_first (rows, answer, told) isnt t is =
-      let y = told.1 (version_first t mid (subst (IsDatabaseIn 1 t) (sym same) is) rows answer) in cc
+-- a version that is known, and that `meta` says
+pub shown_as : (v : Version) (s : State) → IsKnownAs (Some v) s.now.schema → (found : Bool)
+    → TellsNumber (number_of v) s.now found → found ≡ true → TellsVersion (Some v) s
+shown_as version.First s known found (rows, answer, told) y =
+    (record { columns = known.2; version = (rows, answer, told.0 y) }, inl known.0)
+shown_as version.Second s known found (rows, answer, told) y =
+    (record { columns = known.1; version = (rows, answer, told.0 y) }, inl known.0)
+shown_as version.Current s known found (rows, answer, told) y =
+    record { columns = known; version = (rows, answer, told.0 y) }
 
--- both told of the first version
-pub looks_first : (old mid last : State) → mid.now ≡ old.now → last.now ≡ mid.now → (known found : Bool)
-    → TellsColumns first_columns mid.now known → known ≡ true → TellsNumber 1 last.now found → found ≡ true
-    → LooksFirst old
-looks_first old mid last same later known found told k (rows, answer, number) y = record {
-  columns = subst (λ (d : Database). IsUnderstood (understood d.schema first_columns)) same (told.0 k);
-  version = (rows, subst (λ d. Answers version_query [] d rows) (later ∙ same) answer, number.0 y);
-}
+-- one that it doesn't say
+pub shown_foreign : (v : Version) (s : State) → IsKnownAs (Some v) s.now.schema → (found : Bool)
+    → TellsNumber (number_of v) s.now found → found ≡ false → LooksForeign s
+shown_foreign version.First s known found told n = inl known.0
+shown_foreign version.Second s known found told n = inl known.0
+shown_foreign version.Current s known found (rows, answer, told) n =
+    inr (rows, answer, (λ is. let y = told.1 is in cc))
+
+-- tables of a version have `meta` say it
+said : (v : Version) (t : Tables) (d : Database) → IsDatabaseIn (number_of v) t d → (found : Bool)
+    → TellsNumber (number_of v) d found → found ≡ true
+said v t d is found (rows, answer, told) = told.1 (version_of v t d is rows answer)
+
+-- so a version that is known and that `meta` doesn't say is none of theirs
+pub not_said : (v version : Version) (t : Tables) (old mid : Database) → mid ≡ old → IsDatabaseIn (number_of v) t old
+    → (found : Option Version) → IsKnownAs found old.schema → found ≡ Some version → (found_it : Bool)
+    → TellsNumber (number_of version) mid found_it → found_it ≡ false → ⊥
+not_said v version t old mid same is found known some found_it told unsaid =
+    let both : Some version ≡ Some v = sym some ∙ known_as v t old is found known in
+    let one : version ≡ v = cc in
+    let here = subst (λ w. TellsNumber (number_of w) old found_it) one
+    (subst (λ d. TellsNumber (number_of version) d found_it) same told) in
+    let it = said v t old is found_it here in cc
 
 pub outlined : (r : Result Compiled CompileError) (s : Outline) → Outlines r s → IsUnderstood r
 outlined (Ok c) s h = tt

@@ -1,5 +1,5 @@
 -- The rights of accounts.
-use Rattle.std.proofs.Common.{◌≡◌, ℕ, not, List, [], ◌∷◌, filter, codes, Option, Result, IsTrue, refl}
+use Rattle.std.proofs.Common.{◌≡◌, ℕ, not, List, ◌∷◌, filter, codes, Option, Result, IsTrue, refl}
 use Rattle.sqlite_value.specs.Order.{Row}
 use Rattle.sqlite_trees.specs.Tree.{Trees}
 use Rattle.sqlite_tied.specs.Compute.{everything}

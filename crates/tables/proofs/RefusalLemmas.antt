@@ -292,7 +292,7 @@ ours_apart = (
     (λ tree. refl),
     (
       (λ tree. refl),
-      ((λ tree. refl), ((λ tree. refl), ((λ tree. refl), ((λ tree. refl), ((λ tree. refl), tt))))),
+      ((λ tree. refl), ((λ tree. refl), ((λ tree. refl), ((λ tree. refl), ((λ tree. refl), ((λ tree. refl), tt)))))),
     ),
   ),
 )
@@ -386,32 +386,31 @@ all_turn g old new r s b has ran =
     (still_has_meta later_makings (created s meta) (made_meta s b.free.0)) mid made
     (turn g insert_version insert_version [] (cut_last makings insert_version are_cut) mid new r others)) ran
 
+-- the indexes of all of them
+abbrev all_indexes : List Making → List Index
+all_indexes [] = []
+all_indexes (m ∷ more) = indexes_of m.table ++ all_indexes more
+
+indexes_free : (s : Schema) (indexes later : List Index) (names : List (List ℕ))
+    → AllByRecursion (λ (i : Index). is_used s i.name ≡ false) (indexes ++ later)
+    → (AllByRecursion (λ (i : Index). is_used s i.name ≡ false) later → AreFree s names)
+    → AreFree s (map (λ (i : Index). i.name) indexes ++ names)
+indexes_free s [] later names all next = next all
+indexes_free s (i ∷ indexes) later names all next = (all.0, indexes_free s indexes later names all.1 next)
+
+each_name_free : (s : Schema) (ms : List Making) → AllByRecursion (λ (m : Making). is_used s m.table.name ≡ false) ms
+    → AllByRecursion (λ (i : Index). is_used s i.name ≡ false) (all_indexes ms) → AreFree s (names_of ms)
+each_name_free s [] tables indexes = tt
+each_name_free s (m ∷ more) tables indexes = (
+  tables.0,
+  indexes_free s (indexes_of m.table) (all_indexes more) (names_of more) indexes (each_name_free s more tables.1),
+)
+
 all_free : (s : Schema) → takes_name s ≡ false → takes_index s ≡ false → AreFree s (names_of makings)
 unfolding everything
 all_free s names indexes =
-    let t = none_any (λ (table : Table). is_used s table.name) the_schema.tables names in
-    let i = none_any (λ (index : Index). is_used s index.name) the_schema.indexes indexes in (
-      t.0,
-      (
-        t.1.0,
-        (
-          t.1.1.0,
-          (
-            t.1.1.1.0,
-            (
-              t.1.1.1.1.0,
-              (
-                i.0,
-                (
-                  t.1.1.1.1.1.0,
-                  (i.1.0, (t.1.1.1.1.1.1.0, (i.1.1.0, (t.1.1.1.1.1.1.1.0, (i.1.1.1.0, tt))))),
-                ),
-              ),
-            ),
-          ),
-        ),
-      ),
-    )
+    each_name_free s makings (none_any (λ (table : Table). is_used s table.name) the_schema.tables names)
+    (none_any (λ (index : Index). is_used s index.name) the_schema.indexes indexes)
 
 -- the batch is refused for a name only where something stands in its way
 pub in_the_way : {S : Type 0} (g : Ghosts S) (old new : Held S) (r : Result (Unit {0}) Error)

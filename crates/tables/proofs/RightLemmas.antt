@@ -1,7 +1,6 @@
 -- What the statements and look-ups of a table of rights do, said once of any such table.
-use Rattle.std.proofs.Common.{◌≡◌, ◌&&◌, ℕ, pos, Bool, false, not, List, [], ◌∷◌, filter, slice_get, Option, None, Some}
-use Rattle.std.proofs.Common.{Ok, refl, ap₂, ◌∙◌, codes, nat_lt, ◌==◌}
-use Rattle.std.specs.Str.{bytes_eq}
+use Rattle.std.proofs.Common.{◌≡◌, ◌&&◌, ℕ, pos, false, not, List, [], ◌∷◌, filter, slice_get, Option, None, Some}
+use Rattle.std.proofs.Common.{Ok, refl, ap₂, ◌∙◌, codes}
 use Rattle.sqlite_value.specs.declared.value.Value.{Value}
 use Rattle.sqlite_value.specs.declared.value.Value.TheVariants.{Null, Int, Text}
 use Rattle.sqlite_value.specs.declared.keys.Collation.TheVariants.{Binary}

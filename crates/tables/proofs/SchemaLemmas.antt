@@ -1,12 +1,12 @@
 -- Trees that list a version of our schema list no other.
-use Rattle.std.proofs.Common.{◌≡◌, ◌⊎◌, ℕ, zero, suc, ◌+◌, pos, true, codes, List, [], ◌∷◌, filter, Option, Some, None}
-use Rattle.std.proofs.Common.{Result, Ok, Err, refl, sym, ap, ◌∙◌, subst, inl, inr, arith, unwrap_or, length, nat_le}
+use Rattle.std.proofs.Common.{◌≡◌, ℕ, zero, suc, ◌+◌, pos, true, List, [], ◌∷◌, filter, Option, Some}
+use Rattle.std.proofs.Common.{Result, Ok, Err, refl, sym, ap, ◌∙◌, subst, arith, unwrap_or, length, nat_le}
 use Rattle.std.specs.List.{AllByRecursion, AllZip, find, slice_get, list_all}
 use Rattle.std.specs.Str.{bytes_eq}
 use Rattle.sqlite_value.specs.declared.value.Value.{Value}
 use Rattle.sqlite_value.specs.declared.value.Value.TheVariants.{Null, Int, Real, Text, Blob}
 use Rattle.sqlite_value.specs.Order.{Row, column}
-use Rattle.sqlite_trees.specs.Tree.{Trees, rowid}
+use Rattle.sqlite_trees.specs.Tree.{rowid}
 use Rattle.sqlite_trees.specs.Objects.{catalog_tree}
 use Rattle.sqlite_schema.specs.declared.schema.Table.{Table}
 use Rattle.sqlite_schema.specs.declared.schema.Index.{Index}
@@ -14,12 +14,15 @@ use Rattle.sqlite_schema.specs.declared.schema.Schema.{Schema}
 use Rattle.sqlite_schema.specs.declared.schema.View.{View}
 use Rattle.sqlite_rules.specs.Lists.{Has}
 use Rattle.sqlite_rules.proofs.ListLemmas.{all_has, test_has}
-use Rattle.sqlite_catalog.specs.Listing.{IsTableRow, IsIndexRow, IsViewRow, IsDefined, AreListed, IsSound, automatic}
+use Rattle.sqlite_catalog.specs.Listing.{IsTableRow, IsIndexRow, IsViewRow, IsDefined, AreListed}
 use Rattle.sqlite_catalog.specs.Listing.{is_table_row, is_index_row, is_view_row}
 use Rattle.sqlite.specs.Effect.{Database, IsDatabase}
 use Rattle.tables.specs.Schema.{schema_of, the_schema, meta}
 use Rattle.tables.specs.Tables.{Tables}
 use Rattle.tables.specs.Holding.{IsStored, IsDatabaseOf, IsStoredIn, IsDatabaseIn}
+use Rattle.tables.specs.Opening.{number_of}
+use Rattle.tables.specs.declared.opening.Version.{Version}
+use Rattle.tables.specs.declared.opening.Version.TheVariants as version
 
 -- lists that stand for the same rows, where a row stands for one thing alone
 zipped_once : {A B : Type 0} (R : A → B → Type 0) → ((a : A) (x y : B) → R a x → R a y → x ≡ y)
@@ -123,10 +126,13 @@ module _ (ours : Schema) (named : AllByRecursion (λ (t : Table). table_called o
       one ∙ rw (tables, indexes, views) (sym whole)
 
 ours_named : AllByRecursion (λ (t : Table). table_called the_schema t.name ≡ t) the_schema.tables
-ours_named = (refl, (refl, (refl, (refl, (refl, (refl, (refl, (refl, tt))))))))
+ours_named = (refl, (refl, (refl, (refl, (refl, (refl, (refl, (refl, (refl, tt)))))))))
 
 first_named : AllByRecursion (λ (t : Table). table_called (schema_of 1) t.name ≡ t) (schema_of 1).tables
 first_named = (refl, (refl, (refl, (refl, (refl, (refl, (refl, tt)))))))
+
+second_named : AllByRecursion (λ (t : Table). table_called (schema_of 2) t.name ≡ t) (schema_of 2).tables
+second_named = (refl, (refl, (refl, (refl, (refl, (refl, (refl, (refl, tt))))))))
 
 -- a database in whose trees the tables are stored is one of them
 pub database_of_stored : (t : Tables) (d : Database) → IsDatabase d → IsStored t d.trees → IsDatabaseOf t d
@@ -136,9 +142,22 @@ database_of_stored t d sound stored = record {
   holds = stored.holds;
 }
 
-pub first_of_stored : (t : Tables) (d : Database) → IsDatabase d → IsStoredIn 1 t d.trees → IsDatabaseIn 1 t d
-first_of_stored t d sound stored = record {
+pub earlier_of_stored : (v : Version) (t : Tables) (d : Database) → IsDatabase d → IsStoredIn (number_of v) t d.trees
+    → IsDatabaseIn (number_of v) t d
+earlier_of_stored version.First t d sound stored = record {
   schema = schema_once (schema_of 1) first_named refl refl (d.trees catalog_tree) d.schema stored.listed.lists.listed
+      sound.lists.listed;
+  holds = stored.holds;
+  later = stored.later;
+}
+earlier_of_stored version.Second t d sound stored = record {
+  schema = schema_once (schema_of 2) second_named refl refl (d.trees catalog_tree) d.schema stored.listed.lists.listed
+      sound.lists.listed;
+  holds = stored.holds;
+  later = stored.later;
+}
+earlier_of_stored version.Current t d sound stored = record {
+  schema = schema_once the_schema ours_named refl refl (d.trees catalog_tree) d.schema stored.listed.lists.listed
       sound.lists.listed;
   holds = stored.holds;
   later = stored.later;

@@ -1,5 +1,5 @@
 -- The statements that change or delete rows, over the schema.
-use Rattle.std.proofs.Common.{◌≡◌, ◌<◌, ◌^◌, ◌+◌, ◌&&◌, ℕ, pos, Bool, true, false, not, cond, List, []}
+use Rattle.std.proofs.Common.{◌≡◌, ◌<◌, ◌^◌, ◌+◌, ◌&&◌, ℕ, pos, Bool, true, false, cond, List, []}
 use Rattle.std.proofs.Common.{◌∷◌, map, filter, Option, Some, None, Ok, Result, IsTrue, refl, sym, ap, ap₂, ◌∙◌, subst}
 use Rattle.std.proofs.Common.{arith}
 use Rattle.std.specs.Prelude.{unwrap_or}
@@ -24,7 +24,7 @@ use Rattle.sqlite_rules.specs.Cast.{cast, cast_row}
 use Rattle.sqlite_sql.specs.Ops.{unary, binary}
 use Rattle.sqlite_sql.specs.Term.{Term, lit, col, op2}
 use Rattle.sqlite_schema.specs.declared.command.Command.{Command}
-use Rattle.sqlite_schema.specs.declared.command.Command.TheVariants.{Update, Delete}
+use Rattle.sqlite_schema.specs.declared.command.Command.TheVariants.{Update}
 use Rattle.sqlite.specs.Effect.{Database}
 use Rattle.sqlite.specs.Does.{Tally, Does}
 use Rattle.sqlite_tied.specs.Compute.{everything}
@@ -33,19 +33,19 @@ use Rattle.sqlite.specs.Listing.{understood}
 use Rattle.sqlite.specs.State.{State, HasCleanDisk, Survives, ExecutesInside}
 use Rattle.sqlite.proofs.Callers.{IsPlain, command_of}
 use Rattle.tables.specs.Carrying.{Carries}
-use Rattle.tables.specs.Statements.{set_token, raise_tally, delete_reader}
+use Rattle.tables.specs.Statements.{set_token, raise_tally}
 use Rattle.tables.specs.Schema.{the_schema, placed, tally}
-use Rattle.tables.specs.Tables.{Tables, StampRow, ReaderRow, TallyRow, is_stamp, is_tally_of, is_reader_row, sealed_row}
-use Rattle.tables.specs.Tables.{raised_row, with_token, without_reader}
+use Rattle.tables.specs.Tables.{Tables, StampRow, TallyRow, is_stamp, is_tally_of, sealed_row}
+use Rattle.tables.specs.Tables.{raised_row, with_token}
 use Rattle.tables.specs.Steps.{with_raised}
-use Rattle.tables.specs.Holding.{Holds, IsDatabaseOf, stamp_cells, reader_cells, tally_cells}
+use Rattle.tables.specs.Holding.{Holds, IsDatabaseOf, stamp_cells, tally_cells}
 use Rattle.tables.specs.Names as name
 use Rattle.tables.proofs.CarryLemmas.{carried, did, Makes}
-use Rattle.tables.proofs.FrameLemmas.{with_stamps, with_readers, with_tallies}
+use Rattle.tables.proofs.FrameLemmas.{with_stamps, with_tallies}
 use Rattle.tables.proofs.InsertLemmas.{cast_int, cast_null, idle}
 use Rattle.tables.proofs.ReadLemmas.{program_of, no_limit, passes, shows}
 use Rattle.tables.proofs.TestLemmas.{test_number, test_text}
-use Rattle.tables.proofs.UpdateLemmas.{updates_rows, updates_typed, updates_count, deletes_rows}
+use Rattle.tables.proofs.UpdateLemmas.{updates_rows, updates_typed, updates_count}
 use Rattle.tables.proofs.WriteLemmas.{plain_mode}
 use Rattle.tables.proofs.ChangeLemmas.{raw}
 

@@ -14,7 +14,7 @@ use Rattle.sqlite.specs.Effect.{Database}
 use Rattle.tables.specs.Names.{Name}
 use Rattle.tables.specs.Names as name
 use Rattle.tables.specs.Schema.{schema_of, the_schema, the_version}
-use Rattle.tables.specs.Tables.{StampRow, CalibrationRow, HoldRow, DepositRow, ReaderRow, TallyRow, Tables}
+use Rattle.tables.specs.Tables.{StampRow, CalibrationRow, HoldRow, DepositRow, ReaderRow, TallyRow, InstalledRow, Tables}
 
 abbrev pub token_cell : Option (List ℕ) → Value
 token_cell None = Null
@@ -44,6 +44,10 @@ reader_cells r = Int (pos r.serial) ∷ Text r.name ∷ []
 abbrev pub tally_cells : TallyRow → Row
 tally_cells t = Text t.account ∷ Int (pos t.day) ∷ Int (pos t.count) ∷ []
 
+abbrev pub identity_cells : InstalledRow → Row
+identity_cells i =
+    Int (pos i.number) ∷ Null ∷ Int (pos i.after_serial) ∷ Blob i.certificate ∷ Blob i.chain ∷ []
+
 -- what a row says: all of it where its rowid is the key, and what comes after its rowid else
 abbrev pub said : Bool → Row → Row
 said true row = row
@@ -66,6 +70,7 @@ RowOf name.Deposit = DepositRow
 RowOf name.Reader = ReaderRow
 RowOf name.Tally = TallyRow
 RowOf name.GroupReader = ReaderRow
+RowOf name.Identity = InstalledRow
 
 -- what such a row says
 abbrev pub cells_of : (n : Name) → RowOf n → Row
@@ -77,6 +82,7 @@ cells_of name.Deposit = deposit_cells
 cells_of name.Reader = reader_cells
 cells_of name.Tally = tally_cells
 cells_of name.GroupReader = reader_cells
+cells_of name.Identity = identity_cells
 
 -- whether its rowid is its key
 abbrev pub is_keyed : Name → Bool
@@ -88,6 +94,7 @@ is_keyed name.Deposit = true
 is_keyed name.Reader = false
 is_keyed name.Tally = false
 is_keyed name.GroupReader = false
+is_keyed name.Identity = true
 
 -- the tree of its rows: 5, 7, 9 and 11 are of the indexes of the tables before them
 abbrev pub tree_of : Name → ℕ
@@ -99,6 +106,7 @@ tree_of name.Deposit = 4
 tree_of name.Reader = 6
 tree_of name.Tally = 8
 tree_of name.GroupReader = 10
+tree_of name.Identity = 12
 
 -- the version of the schema that has it first
 abbrev pub first_version : Name → ℕ
@@ -110,6 +118,7 @@ first_version name.Deposit = 1
 first_version name.Reader = 1
 first_version name.Tally = 1
 first_version name.GroupReader = 2
+first_version name.Identity = 3
 
 -- its rows where the schema has this version
 abbrev pub rows_of : ℕ → (n : Name) → Tables → List (RowOf n)
@@ -121,6 +130,7 @@ rows_of version name.Deposit t = t.deposits
 rows_of version name.Reader t = t.readers
 rows_of version name.Tally t = t.tallies
 rows_of version name.GroupReader t = t.group_readers
+rows_of version name.Identity t = t.identities
 
 -- the table of a name holds its rows
 abbrev pub HoldsAt : ℕ → Name → Tables → Trees → Type 0
@@ -159,3 +169,11 @@ pub record IsDatabaseIn (version : ℕ) (t : Tables) (d : Database) : Type 0 whe
   pub schema : d.schema ≡ schema_of version
   pub holds : HoldsIn version t d.trees
   pub later : HoldsNoLater version t
+
+-- on the way to a later version: its tables are made, and `meta` says another's number
+pub record IsOnTheWay (version : ℕ) (t : Tables) (d : Database) : Type 0 where
+  pub schema : d.schema ≡ schema_of version
+  pub says : ℕ
+  pub rows : (n : Name) → IsTrue (nat_le (first_version n) version) → HoldsAt says n t d.trees
+  pub later : HoldsNoLater version t
+  pub counts : AllByRecursion (λ row. row.count < 2 ^ 63) t.tallies

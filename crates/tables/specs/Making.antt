@@ -2,7 +2,7 @@
 -- further tables is one more such list.
 use Rattle.std.specs.Prelude.{ℕ, List, [], ◌∷◌, ◌++◌, codes}
 use Rattle.sqlite_schema.specs.declared.schema.Table.{Table}
-use Rattle.tables.specs.Schema.{meta, stamp, calibration, hold, deposit, reader, tally, group_reader}
+use Rattle.tables.specs.Schema.{meta, stamp, calibration, hold, deposit, reader, tally, group_reader, identity}
 
 pub record Making : Type 0 where
   pub text : List ℕ
@@ -61,22 +61,28 @@ make_group_reader = record {
   table = group_reader;
 }
 
+abbrev pub make_identity : Making
+make_identity = record {
+  text = codes "CREATE TABLE identity (n INTEGER PRIMARY KEY, after_serial INTEGER NOT NULL, certificate BLOB NOT NULL, chain BLOB NOT NULL) STRICT;";
+  table = identity;
+}
+
 -- the tables after `meta`
 abbrev pub later_makings : List Making
 later_makings = make_stamp ∷ make_calibration ∷ make_hold ∷ make_deposit ∷ make_reader ∷ make_tally
-    ∷ make_group_reader ∷ []
+    ∷ make_group_reader ∷ make_identity ∷ []
 
 abbrev pub makings : List Making
 makings = make_meta ∷ later_makings
 
 -- the one row of `meta`
 abbrev pub insert_version : List ℕ
-insert_version = codes "INSERT INTO meta (version) VALUES (2)"
+insert_version = codes "INSERT INTO meta (version) VALUES (3)"
 
 -- all tables, and that row
 abbrev pub make_all : List ℕ
 make_all = joined makings insert_version
 
--- that row in a database of the first version, once `group_reader` is made
+-- that row in a database of an earlier version, once the tables of the later ones are made
 abbrev pub set_version : List ℕ
-set_version = codes "UPDATE meta SET version = 2"
+set_version = codes "UPDATE meta SET version = 3"

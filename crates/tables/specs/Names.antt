@@ -9,3 +9,4 @@ pub data Name : Type 0 where
   Reader : Name
   Tally : Name
   GroupReader : Name
+  Identity : Name

@@ -23,13 +23,29 @@ use Rattle.tables.specs.Holding.{IsDatabaseOf, IsDatabaseIn}
 use Rattle.tables.specs.declared.opening.Version.{Version}
 use Rattle.tables.specs.declared.opening.Version.TheVariants as version
 
--- a query over each table and each column
+-- a query over each table and each column of the version of now
 abbrev pub all_columns : List ℕ
-all_columns = codes "SELECT meta.version, stamp.serial, stamp.account, stamp.day, stamp.gen, stamp.policy, stamp.algorithm, stamp.digest, stamp.request, stamp.tst, stamp.token, calibration.n, calibration.reading, calibration.offset_us, calibration.uncertainty, hold.n, hold.from_us, hold.to_us, deposit.serial, deposit.owner, deposit.reference, deposit.bytes, reader.serial, reader.account, tally.account, tally.day, tally.count, group_reader.serial, group_reader.name FROM meta, stamp, calibration, hold, deposit, reader, tally, group_reader"
+all_columns = codes "SELECT meta.version, stamp.serial, stamp.account, stamp.day, stamp.gen, stamp.policy, stamp.algorithm, stamp.digest, stamp.request, stamp.tst, stamp.token, calibration.n, calibration.reading, calibration.offset_us, calibration.uncertainty, hold.n, hold.from_us, hold.to_us, deposit.serial, deposit.owner, deposit.reference, deposit.bytes, reader.serial, reader.account, tally.account, tally.day, tally.count, group_reader.serial, group_reader.name, identity.n, identity.after_serial, identity.certificate, identity.chain FROM meta, stamp, calibration, hold, deposit, reader, tally, group_reader, identity"
 
--- the same of the first version
+-- the same of the second version
+abbrev pub second_columns : List ℕ
+second_columns = codes "SELECT meta.version, stamp.serial, stamp.account, stamp.day, stamp.gen, stamp.policy, stamp.algorithm, stamp.digest, stamp.request, stamp.tst, stamp.token, calibration.n, calibration.reading, calibration.offset_us, calibration.uncertainty, hold.n, hold.from_us, hold.to_us, deposit.serial, deposit.owner, deposit.reference, deposit.bytes, reader.serial, reader.account, tally.account, tally.day, tally.count, group_reader.serial, group_reader.name FROM meta, stamp, calibration, hold, deposit, reader, tally, group_reader"
+
+-- and of the first
 abbrev pub first_columns : List ℕ
 first_columns = codes "SELECT meta.version, stamp.serial, stamp.account, stamp.day, stamp.gen, stamp.policy, stamp.algorithm, stamp.digest, stamp.request, stamp.tst, stamp.token, calibration.n, calibration.reading, calibration.offset_us, calibration.uncertainty, hold.n, hold.from_us, hold.to_us, deposit.serial, deposit.owner, deposit.reference, deposit.bytes, reader.serial, reader.account, tally.account, tally.day, tally.count FROM meta, stamp, calibration, hold, deposit, reader, tally"
+
+-- that of a version
+abbrev pub columns_of : Version → List ℕ
+columns_of version.First = first_columns
+columns_of version.Second = second_columns
+columns_of version.Current = all_columns
+
+-- its number, as the one row of `meta` says it
+abbrev pub number_of : Version → ℕ
+number_of version.First = 1
+number_of version.Second = 2
+number_of version.Current = 3
 
 -- the one row of `meta` is asked for
 abbrev pub version_query : List ℕ
@@ -39,11 +55,22 @@ abbrev pub IsUnderstood : Result Compiled CompileError → Type 0
 IsUnderstood (Ok c) = ⊤
 IsUnderstood (Err e) = ⊥
 
+-- what a schema knows of such queries: the latest version whose tables and columns it has, if there is one
+abbrev pub IsKnownAs : Option Version → Schema → Type 0
+IsKnownAs None s = (¬ IsUnderstood (understood s all_columns)) × (¬ IsUnderstood (understood s second_columns))
+    × (¬ IsUnderstood (understood s first_columns))
+IsKnownAs (Some version.First) s =
+    (¬ IsUnderstood (understood s all_columns)) × (¬ IsUnderstood (understood s second_columns))
+    × IsUnderstood (understood s first_columns)
+IsKnownAs (Some version.Second) s =
+    (¬ IsUnderstood (understood s all_columns)) × IsUnderstood (understood s second_columns)
+IsKnownAs (Some version.Current) s = IsUnderstood (understood s all_columns)
+
 -- what was found: these tables, in trees that list their schema, with nothing that isn't committed
 abbrev pub IsFound : Tables → State → Type 0
 IsFound t s = IsDatabaseOf t s.now × (s.now ≡ s.committed) × IsDatabase s.now
 
--- the same of an earlier version
+-- the same of a version by its number
 abbrev pub IsFoundIn : ℕ → Tables → State → Type 0
 IsFoundIn version t s = IsDatabaseIn version t s.now × (s.now ≡ s.committed) × IsDatabase s.now
 
@@ -63,22 +90,22 @@ LooksOtherThan asked number s =
     (¬ IsUnderstood (understood s.now.schema asked))
     ⊎ ((rows : List Row) × Answers version_query [] s.now rows × (¬ IsVersion number rows))
 
+abbrev pub LooksAs : Version → State → Type 0
+LooksAs v = LooksIn (columns_of v) (number_of v)
+
 -- a connection to be taken
 abbrev pub LooksOurs : State → Type 0
-LooksOurs = LooksIn all_columns the_version
+LooksOurs = LooksAs version.Current
 
 -- a connection not to be taken
 abbrev pub LooksForeign : State → Type 0
 LooksForeign = LooksOtherThan all_columns the_version
 
--- one whose tables are of the first version
-abbrev pub LooksFirst : State → Type 0
-LooksFirst = LooksIn first_columns 1
-
 -- what is told of a connection's tables
 abbrev pub TellsVersion : Option Version → State → Type 0
 TellsVersion None s = LooksForeign s
-TellsVersion (Some version.First) s = LooksFirst s × LooksForeign s
+TellsVersion (Some version.First) s = LooksAs version.First s × LooksForeign s
+TellsVersion (Some version.Second) s = LooksAs version.Second s × LooksForeign s
 TellsVersion (Some version.Current) s = LooksOurs s
 
 -- a table, an index or a view has the name of one of our tables

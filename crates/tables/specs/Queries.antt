@@ -5,12 +5,14 @@ use Rattle.sqlite_trees.specs.Tree.{Trees}
 use Rattle.sqlite_trees.specs.declared.store.Store.{Ghosts}
 use Rattle.tables.specs.Asking.{StaysUsable}
 use Rattle.tables.specs.Tables.{Tables, StampRow, CalibrationRow, HoldRow, TallyRow, DepositRow, ReaderRow}
+use Rattle.tables.specs.Tables.{InstalledRow}
 use Rattle.tables.specs.Base.{BaseValue, IsHonest, Keeps, Recovers}
 use Rattle.tables.specs.declared.rows.LastStamp.{LastStamp}
 use Rattle.tables.specs.declared.rows.LatestCalibration.{LatestCalibration}
 use Rattle.book.specs.declared.rows.Stamp.{Stamp}
 use Rattle.book.specs.declared.rows.Deposit.{Deposit}
-pub use Rattle.book.specs.Values.{stamp_view, deposit_view}
+use Rattle.book.specs.declared.rows.IdentityRow.{IdentityRow}
+pub use Rattle.book.specs.Values.{stamp_view, deposit_view, identity_view}
 use Rattle.tables.specs.declared.rows.Label.{Label}
 use Rattle.tables.specs.declared.rows.Origin.{Origin}
 
@@ -50,6 +52,12 @@ ShowsLabel row label = (string_bytes label.owner ≡ row.owner) × (string_bytes
 -- whose stamp it is, and of when
 abbrev pub ShowsOrigin : StampRow → Origin → Type 0
 ShowsOrigin row origin = (string_bytes origin.account ≡ row.account) × (origin.gen_time ≡ row.gen_time)
+
+abbrev pub ShowsIdentity : InstalledRow → IdentityRow → Type 0
+ShowsIdentity row i = identity_view i ≡ row
+
+abbrev pub ShowsIdentityNumber : InstalledRow → ℕ → Type 0
+ShowsIdentityNumber row number = number ≡ row.number
 
 abbrev pub ShowsDepositSerial : DepositRow → ℕ → Type 0
 ShowsDepositSerial row serial = serial ≡ row.serial

@@ -106,6 +106,13 @@ tally = table_of (codes "tally") (required (codes "account") Text ∷ required (
 abbrev pub group_reader : Table
 group_reader = right_table (codes "group_reader") (codes "name")
 
+-- since the third
+abbrev pub identity : Table
+identity = table_of (codes "identity")
+    (key (codes "n") ∷ required (codes "after_serial") Integer ∷ required (codes "certificate") Blob
+    ∷ required (codes "chain") Blob ∷ [])
+    (Some 0) (0 ∷ []) [] [] []
+
 -- the schema, as it is after each of these tables is made
 
 abbrev pub no_schema : Schema
@@ -119,14 +126,14 @@ schema_after (table ∷ more) before = schema_after more (created before table)
 abbrev pub tables_by_version : List (ℕ × Table)
 tables_by_version =
     (1, meta) ∷ (1, stamp) ∷ (1, calibration) ∷ (1, hold) ∷ (1, deposit) ∷ (1, reader) ∷ (1, tally) ∷ (2, group_reader)
-    ∷ []
+    ∷ (3, identity) ∷ []
 
 abbrev pub schema_of : ℕ → Schema
 schema_of version = schema_after (map (λ p. p.1) (filter (λ p. nat_le p.0 version) tables_by_version)) no_schema
 
 -- the version of now, as the one row of `meta` says it
 abbrev pub the_version : ℕ
-the_version = 2
+the_version = 3
 
 abbrev pub the_schema : Schema
 the_schema = schema_of the_version

@@ -3,7 +3,7 @@ use Rattle.std.specs.Prelude.{pos, [], ◌∷◌}
 use Rattle.sqlite_value.specs.declared.value.Value.TheVariants.{Int, Text, Blob}
 use Rattle.sqlite_value.specs.Order.{Row}
 use Rattle.tables.specs.Holding.{token_cell}
-use Rattle.tables.specs.Tables.{StampRow, DepositRow, ReaderRow}
+use Rattle.tables.specs.Tables.{StampRow, DepositRow, ReaderRow, InstalledRow}
 
 abbrev pub stamp_shown : StampRow → Row
 stamp_shown s =
@@ -25,3 +25,9 @@ number_shown d = Int (pos d.serial) ∷ []
 
 abbrev pub readable_shown : ReaderRow → Row
 readable_shown r = Int (pos r.serial) ∷ []
+
+abbrev pub identity_shown : InstalledRow → Row
+identity_shown i = Int (pos i.number) ∷ Int (pos i.after_serial) ∷ Blob i.certificate ∷ Blob i.chain ∷ []
+
+abbrev pub identity_number_shown : InstalledRow → Row
+identity_number_shown i = Int (pos i.number) ∷ []

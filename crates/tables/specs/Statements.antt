@@ -29,6 +29,9 @@ insert_reader = codes "INSERT INTO reader (serial, account) VALUES (?1, ?2)"
 abbrev pub delete_reader : List ℕ
 delete_reader = codes "DELETE FROM reader WHERE serial = ?1 AND account = ?2"
 
+abbrev pub insert_identity : List ℕ
+insert_identity = codes "INSERT INTO identity (n, after_serial, certificate, chain) VALUES (?1, ?2, ?3, ?4)"
+
 abbrev pub insert_group_reader : List ℕ
 insert_group_reader = codes "INSERT INTO group_reader (serial, name) VALUES (?1, ?2)"
 

@@ -4,7 +4,7 @@
 use Rattle.std.specs.Prelude.{ℕ, ◌+◌, ℤ, Bool, not, ◌&&◌, ◌==◌, if◌then◌else◌, List, [], ◌∷◌, map, filter, bytes_eq}
 use Rattle.std.specs.Prelude.{Some}
 use Rattle.std.specs.List.{list_any}
-pub use Rattle.book.specs.Rows.{StampRow, DepositRow}
+pub use Rattle.book.specs.Rows.{StampRow, DepositRow, InstalledRow}
 
 pub record CalibrationRow : Type 0 where
   pub n : ℕ
@@ -40,6 +40,8 @@ pub record Tables : Type 0 where
   pub tallies : List TallyRow
   -- groups, whose members read
   pub group_readers : List ReaderRow
+  -- who signed, in turn
+  pub identities : List InstalledRow
 
 abbrev pub no_rows : Tables
 no_rows = record {
@@ -50,6 +52,7 @@ no_rows = record {
   readers = [];
   tallies = [];
   group_readers = [];
+  identities = [];
 }
 
 -- ---- which row
@@ -65,6 +68,9 @@ is_reader_row serial name row = (row.serial == serial) && bytes_eq row.name name
 
 abbrev pub is_deposit : ℕ → DepositRow → Bool
 is_deposit serial row = row.serial == serial
+
+abbrev pub is_identity : ℕ → InstalledRow → Bool
+is_identity number row = row.number == number
 
 abbrev pub is_deposit_of : List ℕ → List ℕ → DepositRow → Bool
 is_deposit_of owner reference row = bytes_eq row.owner owner && bytes_eq row.reference reference
@@ -98,6 +104,9 @@ with_calibration row t = record t { calibrations = row ∷ t.calibrations }
 
 abbrev pub with_hold : HoldRow → Tables → Tables
 with_hold row t = record t { holds = row ∷ t.holds }
+
+abbrev pub with_identity : InstalledRow → Tables → Tables
+with_identity row t = record t { identities = row ∷ t.identities }
 
 abbrev pub without_reader : ℕ → List ℕ → Tables → Tables
 without_reader serial account t =

@@ -1,5 +1,6 @@
 //! Queries, each asked in a transaction of its own that is undone.
-ghost use Rattle.std.specs.Prelude.{◌≡◌, ◌<◌, ◌^◌, pos, false, IfOk, IfSome, OnOk, IsTrue, string_bytes, option_map};
+ghost use Rattle.std.specs.Prelude.{◌≡◌, ◌≢◌, ◌<◌, ◌^◌, ℕ, pos, false, length, IfOk, IfErr, IfSome, OnOk, IsTrue};
+ghost use Rattle.std.specs.Prelude.{string_bytes, option_map};
 ghost use Rattle.sqlite_value.specs.Order.{column};
 ghost use Rattle.sqlite_value.specs.declared.value.Value.TheVariants.{Int, Text, Blob};
 ghost use Rattle.sqlite.specs.Held.{state};
@@ -10,10 +11,7 @@ ghost use Rattle.tables.specs.Schema.{the_schema};
 ghost use Rattle.tables.specs.Asking.{IsQueryText, IsPlainIn, Answers, TellsRows, TellsFirst, TellsFirstAs, Looks};
 
 use sqlite::types::ValueRef;
-use sqlite::{Alter, Connection, Error, Row};
-
-/// What an SQL INTEGER can hold.
-pub(crate) const GREATEST: u64 = 9_223_372_036_854_775_807;
+use sqlite::{Alter, Connection, Error, ErrorCode, Row};
 
 /// The rows that a query answers.
 pub(crate) fn rows_of<S: Alter>(
@@ -88,6 +86,8 @@ pub(crate) fn first_number<S: Alter>(
 pub(crate) fn number(row: &Row, at: usize) -> Result<u64, Error>
     ensures read { IfOk result (λ n. column row.now at ≡ Int (pos n)) }
     ensures small { IfOk result (λ n. n < 2 ^ 63) }
+    ensures refused { IfErr result (λ e. e ≢ Error.SqliteFailure ErrorCode.OutOfMemory → at < length row.now
+        → (n : ℕ) → column row.now at ≢ Int (pos n)) }
 {
     let number: i64 = row.get(at)?;
     match u64::try_from(number) {

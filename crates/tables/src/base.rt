@@ -13,6 +13,7 @@ ghost use Rattle.tables.specs.Changes.{applied, IsCounted};
 ghost use Rattle.tables.specs.Faults.{told, told_adopting, told_creating};
 
 mod groups;
+mod identities;
 mod lookups;
 mod queries;
 
@@ -104,6 +105,7 @@ impl<S: Alter + Drop> Base<S> {
             Ok(Some(Version::Current)) => Ok(Base { conn, faults: 0 }),
             // `migrate` takes these to the version of now
             Ok(Some(Version::First)) => Err((OpenFault::NotOurs, conn)),
+            Ok(Some(Version::Second)) => Err((OpenFault::NotOurs, conn)),
             Ok(None) => Err((OpenFault::NotOurs, conn)),
             Err(error) => Err((open_fault(error), conn)),
         }

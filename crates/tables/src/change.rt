@@ -1,18 +1,10 @@
+use book::Reservation;
+
 /// A change of the tables, committed at once.
 #[derive(Clone, Copy, Debug)]
 pub enum Change<'a> {
-    /// A stamp without a token, counted on its day.
-    Reserve {
-        serial: u64,
-        account: &'a str,
-        day: u64,
-        gen_time: u64,
-        policy: &'a [u8],
-        algorithm: &'a [u8],
-        digest: &'a [u8],
-        request: &'a [u8],
-        tst: &'a [u8],
-    },
+    /// A stamp without a token, counted on its UTC day.
+    Reserve(Reservation<'a>),
     /// The token of a stamp.
     Seal {
         serial: u64,
@@ -58,5 +50,12 @@ pub enum Change<'a> {
     RevokeGroup {
         serial: u64,
         name: &'a str,
+    },
+    /// An identity.
+    Install {
+        number: u64,
+        after_serial: u64,
+        certificate: &'a [u8],
+        chain: &'a [u8],
     },
 }

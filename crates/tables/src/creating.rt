@@ -25,7 +25,9 @@ const MAKE_ALL: &str = "CREATE TABLE meta (version INTEGER NOT NULL) STRICT;\
     day)) STRICT;\
     CREATE TABLE group_reader (serial INTEGER NOT NULL REFERENCES deposit (serial), name TEXT NOT NULL, PRIMARY KEY \
     (serial, name)) STRICT;\
-    INSERT INTO meta (version) VALUES (2)";
+    CREATE TABLE identity (n INTEGER PRIMARY KEY, after_serial INTEGER NOT NULL, certificate BLOB NOT NULL, chain BLOB \
+    NOT NULL) STRICT;\
+    INSERT INTO meta (version) VALUES (3)";
 
 fn make_all<S: Alter>(tx: &mut Transaction<'_, S>) -> Result<(), Error>
     ensures same_reference { tx.new.conn.ghost_name ≡ tx.old.conn.ghost_name }

@@ -12,7 +12,8 @@ ghost use Rattle.tables.specs.Queries.{ShowsReaderSerial, is_readable_after};
 ghost use Rattle.tables.specs.Steps.{with_group_reader_alone};
 ghost use Rattle.tables.specs.Tables.{Tables, is_reader_row, without_group_reader};
 
-use crate::asking::{GREATEST, first_number, first_row};
+use crate::asking::{first_number, first_row};
+use book::GREATEST_NUMBER;
 use sqlite::types::ValueRef;
 use sqlite::{Alter, Connection, Error, Transaction};
 
@@ -76,7 +77,7 @@ pub(crate) fn is_group_reader<S: Alter>(
     ensures value { HasCleanDisk (state S.Store conn.new) → (t : Tables) → IsDatabaseOf t (state S.Store conn.old).now
         → IfOk result (λ reader. reader ≡ list_any (is_reader_row serial name.now) t.group_readers) }
 {
-    if serial > GREATEST {
+    if serial > GREATEST_NUMBER {
         return Err(Error::IntegralValueOutOfRange(0));
     }
     let found = first_row(
@@ -105,7 +106,7 @@ pub(crate) fn next_group_readable<S: Alter>(
         (is_readable_after name.now after) t.group_readers found) }
     ensures small { IfOk result (λ found. IfSome found (λ number. number < 2 ^ 63)) }
 {
-    if after > GREATEST {
+    if after > GREATEST_NUMBER {
         return Err(Error::IntegralValueOutOfRange(0));
     }
     first_number(

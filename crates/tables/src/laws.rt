@@ -1,7 +1,9 @@
 //! What an opening finds of the tables.
 ghost use Rattle.sqlite.specs.Effect.{Database, IsDatabase};
 ghost use Rattle.tables.specs.Holding.{IsStored, IsDatabaseOf, IsStoredIn, IsDatabaseIn};
+ghost use Rattle.tables.specs.Opening.{number_of};
 ghost use Rattle.tables.specs.Tables.{Tables};
+ghost use Rattle.tables.specs.declared.opening.Version.{Version};
 
 /// Trees in which tables are stored list the counter's schema and no other: a database that is found in them has these
 /// tables.
@@ -9,7 +11,8 @@ pub fn stored_tables_are_found()
     ensures { (t : Tables) (d : Database) → IsDatabase d → IsStored t d.trees → IsDatabaseOf t d }
 {}
 
-/// The same of tables of the first version.
-pub fn first_tables_are_found()
-    ensures { (t : Tables) (d : Database) → IsDatabase d → IsStoredIn 1 t d.trees → IsDatabaseIn 1 t d }
+/// The same of tables of each version.
+pub fn earlier_tables_are_found()
+    ensures { (v : Version) (t : Tables) (d : Database) → IsDatabase d → IsStoredIn (number_of v) t d.trees
+        → IsDatabaseIn (number_of v) t d }
 {}

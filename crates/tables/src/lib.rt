@@ -4,23 +4,28 @@
 
 mod asking;
 mod base;
+mod calibrations;
 mod change;
 mod creating;
+mod deposits;
 mod fault;
 mod group_readers;
+mod holds;
+mod identities;
 mod laws;
-mod lookups;
 mod migrating;
 mod opening;
-mod reading;
+mod readers;
 mod rows;
+mod stamps;
+mod tallies;
 mod writing;
 
 pub use base::Base;
-pub use book::{Deposit, Stamp};
+pub use book::{Deposit, IdentityRow, Stamp};
 pub use change::Change;
 pub use fault::{OpenFault, TableFault};
-pub use laws::{first_tables_are_found, stored_tables_are_found};
+pub use laws::{earlier_tables_are_found, stored_tables_are_found};
 pub use migrating::migrate;
 pub use opening::Version;
 pub use rows::{Label, LastStamp, LatestCalibration, Origin};

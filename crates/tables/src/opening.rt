@@ -5,8 +5,8 @@ ghost use Rattle.sqlite.specs.Held.{state};
 ghost use Rattle.sqlite.specs.Listing.{understood};
 ghost use Rattle.sqlite.specs.State.{HasCleanDisk};
 ghost use Rattle.tables.specs.Asking.{Answers, Looks};
-ghost use Rattle.tables.specs.Holding.{IsDatabaseOf, IsDatabaseIn};
-ghost use Rattle.tables.specs.Opening.{version_query, IsUnderstood, IsVersion, TellsVersion};
+ghost use Rattle.tables.specs.Holding.{IsDatabaseIn};
+ghost use Rattle.tables.specs.Opening.{version_query, IsUnderstood, IsKnownAs, IsVersion, TellsVersion, number_of};
 ghost use Rattle.tables.specs.Tables.{Tables};
 
 use crate::asking::rows_of;
@@ -14,6 +14,14 @@ use sqlite::types::ValueRef;
 use sqlite::{Alter, Connection, Error, Row};
 
 const ALL_COLUMNS: &str =
+    "SELECT meta.version, stamp.serial, stamp.account, stamp.day, stamp.gen, stamp.policy, stamp.algorithm, \
+    stamp.digest, stamp.request, stamp.tst, stamp.token, calibration.n, calibration.reading, calibration.offset_us, \
+    calibration.uncertainty, hold.n, hold.from_us, hold.to_us, deposit.serial, deposit.owner, deposit.reference, \
+    deposit.bytes, reader.serial, reader.account, tally.account, tally.day, tally.count, group_reader.serial, \
+    group_reader.name, identity.n, identity.after_serial, identity.certificate, identity.chain FROM meta, stamp, \
+    calibration, hold, deposit, reader, tally, group_reader, identity";
+
+const SECOND_COLUMNS: &str =
     "SELECT meta.version, stamp.serial, stamp.account, stamp.day, stamp.gen, stamp.policy, stamp.algorithm, \
     stamp.digest, stamp.request, stamp.tst, stamp.token, calibration.n, calibration.reading, calibration.offset_us, \
     calibration.uncertainty, hold.n, hold.from_us, hold.to_us, deposit.serial, deposit.owner, deposit.reference, \
@@ -34,8 +42,34 @@ const VERSION: &str = "SELECT version FROM meta";
 pub enum Version {
     /// 1, without the rights of groups.
     First,
-    /// 2, that of now.
+    /// 2, without identities.
+    Second,
+    /// 3, that of now.
     Current,
+}
+
+impl Version {
+    /// Its number, as the one row of `meta` says it.
+    fn number(self) -> u8
+        ensures { result ≡ number_of self }
+    {
+        match self {
+            Version::First => 1,
+            Version::Second => 2,
+            Version::Current => 3,
+        }
+    }
+
+    /// Whether it is that of now.
+    pub(crate) fn is_current(self) -> bool
+        ensures { IsTrue result ↔ (self ≡ Version.Current) }
+    {
+        match self {
+            Version::First => false,
+            Version::Second => false,
+            Version::Current => true,
+        }
+    }
 }
 
 /// Whether a query is understood. It is never run.
@@ -81,31 +115,46 @@ fn has_version<S: Alter>(conn: &mut Connection<S>, number: u8) -> Result<bool, E
     Ok(is_version(rows.as_slice(), number))
 }
 
-/// The version that a connection's tables are of: that whose tables and columns are there, and which the one row of
-/// `meta` says.
+/// The latest version of which all tables and columns are there.
+fn known_version<S: Alter>(conn: &mut Connection<S>) -> Result<Option<Version>, Error>
+    requires { conn.old.in_transaction ≡ false }
+    ensures closed { conn.new.in_transaction ≡ false }
+    ensures looks { Looks (state S.Store conn.old) (state S.Store conn.new) }
+    ensures opened { HasCleanDisk (state S.Store conn.new) → OnOk result (IsTrue (state S.Store conn.old).is_open) }
+    ensures same { HasCleanDisk (state S.Store conn.new)
+        → OnOk result ((state S.Store conn.new).now ≡ (state S.Store conn.old).now) }
+    ensures known { HasCleanDisk (state S.Store conn.new)
+        → IfOk result (λ found. IsKnownAs found (state S.Store conn.old).now.schema) }
+{
+    if understands(conn, ALL_COLUMNS)? {
+        return Ok(Some(Version::Current));
+    }
+    if understands(conn, SECOND_COLUMNS)? {
+        return Ok(Some(Version::Second));
+    }
+    if understands(conn, FIRST_COLUMNS)? {
+        return Ok(Some(Version::First));
+    }
+    Ok(None)
+}
+
+/// The version that a connection's tables are of: the latest whose tables and columns are there, if the one row of
+/// `meta` says it.
 pub(crate) fn found_version<S: Alter>(conn: &mut Connection<S>) -> Result<Option<Version>, Error>
     requires { conn.old.in_transaction ≡ false }
     ensures closed { conn.new.in_transaction ≡ false }
     ensures looks { Looks (state S.Store conn.old) (state S.Store conn.new) }
     ensures opened { HasCleanDisk (state S.Store conn.new) → OnOk result (IsTrue (state S.Store conn.old).is_open) }
-    ensures current { HasCleanDisk (state S.Store conn.new) → (t : Tables) → IsDatabaseOf t (state S.Store conn.old).now
-        → IfOk result (λ found. found ≡ Some Version.Current) }
-    ensures first { HasCleanDisk (state S.Store conn.new) → (t : Tables)
-        → IsDatabaseIn 1 t (state S.Store conn.old).now → IfOk result (λ found. found ≡ Some Version.First) }
+    ensures found { HasCleanDisk (state S.Store conn.new) → (v : Version) (t : Tables)
+        → IsDatabaseIn (number_of v) t (state S.Store conn.old).now → IfOk result (λ found. found ≡ Some v) }
     ensures shown { HasCleanDisk (state S.Store conn.new)
         → IfOk result (λ found. TellsVersion found (state S.Store conn.old)) }
 {
-    if understands(conn, ALL_COLUMNS)? {
-        if has_version(conn, 2)? {
-            return Ok(Some(Version::Current));
-        }
+    let Some(version) = known_version(conn)? else {
         return Ok(None);
-    }
-    if !understands(conn, FIRST_COLUMNS)? {
-        return Ok(None);
-    }
-    if has_version(conn, 1)? {
-        return Ok(Some(Version::First));
+    };
+    if has_version(conn, version.number())? {
+        return Ok(Some(version));
     }
     Ok(None)
 }

@@ -14,8 +14,8 @@ ghost use Rattle.tables.specs.Changes.{IsCounted};
 
 use super::Base;
 use crate::fault::TableFault;
-use crate::lookups;
 use crate::rows::{Label, Origin};
+use crate::{deposits, readers, stamps};
 use book::{Deposit, Stamp};
 use sqlite::Alter;
 
@@ -29,7 +29,7 @@ impl<S: Alter + Drop> Base<S> {
         ensures counted { IfErr result (λ e. IsCounted e self.old.faults self.new.faults) }
         ensures uncounted { OnOk result (self.new.faults ≡ self.old.faults) }
     {
-        match lookups::stamp(&mut self.conn, serial) {
+        match stamps::stamp(&mut self.conn, serial) {
             Ok(found) => Ok(found),
             Err(error) => Err(self.fault(error)),
         }
@@ -44,7 +44,7 @@ impl<S: Alter + Drop> Base<S> {
         ensures counted { IfErr result (λ e. IsCounted e self.old.faults self.new.faults) }
         ensures uncounted { OnOk result (self.new.faults ≡ self.old.faults) }
     {
-        match lookups::origin(&mut self.conn, serial) {
+        match stamps::origin(&mut self.conn, serial) {
             Ok(found) => Ok(found),
             Err(error) => Err(self.fault(error)),
         }
@@ -59,7 +59,7 @@ impl<S: Alter + Drop> Base<S> {
         ensures counted { IfErr result (λ e. IsCounted e self.old.faults self.new.faults) }
         ensures uncounted { OnOk result (self.new.faults ≡ self.old.faults) }
     {
-        match lookups::next_stamp(&mut self.conn, from, to) {
+        match stamps::next_stamp(&mut self.conn, from, to) {
             Ok(found) => Ok(found),
             Err(error) => Err(self.fault(error)),
         }
@@ -74,7 +74,7 @@ impl<S: Alter + Drop> Base<S> {
         ensures counted { IfErr result (λ e. IsCounted e self.old.faults self.new.faults) }
         ensures uncounted { OnOk result (self.new.faults ≡ self.old.faults) }
     {
-        match lookups::deposit(&mut self.conn, serial) {
+        match deposits::deposit(&mut self.conn, serial) {
             Ok(found) => Ok(found),
             Err(error) => Err(self.fault(error)),
         }
@@ -93,7 +93,7 @@ impl<S: Alter + Drop> Base<S> {
         ensures counted { IfErr result (λ e. IsCounted e self.old.faults self.new.faults) }
         ensures uncounted { OnOk result (self.new.faults ≡ self.old.faults) }
     {
-        match lookups::deposit_under(&mut self.conn, owner, reference) {
+        match deposits::deposit_under(&mut self.conn, owner, reference) {
             Ok(found) => Ok(found),
             Err(error) => Err(self.fault(error)),
         }
@@ -109,7 +109,7 @@ impl<S: Alter + Drop> Base<S> {
         ensures counted { IfErr result (λ e. IsCounted e self.old.faults self.new.faults) }
         ensures uncounted { OnOk result (self.new.faults ≡ self.old.faults) }
     {
-        match lookups::label(&mut self.conn, serial, owner) {
+        match deposits::label(&mut self.conn, serial, owner) {
             Ok(found) => Ok(found),
             Err(error) => Err(self.fault(error)),
         }
@@ -124,7 +124,7 @@ impl<S: Alter + Drop> Base<S> {
         ensures counted { IfErr result (λ e. IsCounted e self.old.faults self.new.faults) }
         ensures uncounted { OnOk result (self.new.faults ≡ self.old.faults) }
     {
-        match lookups::is_owner(&mut self.conn, serial, account) {
+        match deposits::is_owner(&mut self.conn, serial, account) {
             Ok(found) => Ok(found),
             Err(error) => Err(self.fault(error)),
         }
@@ -139,7 +139,7 @@ impl<S: Alter + Drop> Base<S> {
         ensures counted { IfErr result (λ e. IsCounted e self.old.faults self.new.faults) }
         ensures uncounted { OnOk result (self.new.faults ≡ self.old.faults) }
     {
-        match lookups::is_reader(&mut self.conn, serial, account) {
+        match readers::is_reader(&mut self.conn, serial, account) {
             Ok(found) => Ok(found),
             Err(error) => Err(self.fault(error)),
         }
@@ -156,7 +156,7 @@ impl<S: Alter + Drop> Base<S> {
         ensures counted { IfErr result (λ e. IsCounted e self.old.faults self.new.faults) }
         ensures uncounted { OnOk result (self.new.faults ≡ self.old.faults) }
     {
-        match lookups::next_owned(&mut self.conn, account, after) {
+        match deposits::next_owned(&mut self.conn, account, after) {
             Ok(found) => Ok(found),
             Err(error) => Err(self.fault(error)),
         }
@@ -174,7 +174,7 @@ impl<S: Alter + Drop> Base<S> {
         ensures counted { IfErr result (λ e. IsCounted e self.old.faults self.new.faults) }
         ensures uncounted { OnOk result (self.new.faults ≡ self.old.faults) }
     {
-        match lookups::next_readable(&mut self.conn, account, after) {
+        match readers::next_readable(&mut self.conn, account, after) {
             Ok(found) => Ok(found),
             Err(error) => Err(self.fault(error)),
         }

@@ -10,8 +10,8 @@ ghost use Rattle.tables.specs.Changes.{IsCounted};
 
 use super::Base;
 use crate::fault::TableFault;
-use crate::reading;
 use crate::rows::{LastStamp, LatestCalibration};
+use crate::{calibrations, holds, stamps, tallies};
 use sqlite::Alter;
 
 impl<S: Alter + Drop> Base<S> {
@@ -24,7 +24,7 @@ impl<S: Alter + Drop> Base<S> {
         ensures counted { IfErr result (λ e. IsCounted e self.old.faults self.new.faults) }
         ensures uncounted { OnOk result (self.new.faults ≡ self.old.faults) }
     {
-        match reading::greatest_stamp(&mut self.conn) {
+        match stamps::greatest_stamp(&mut self.conn) {
             Ok(found) => Ok(found),
             Err(error) => Err(self.fault(error)),
         }
@@ -39,7 +39,7 @@ impl<S: Alter + Drop> Base<S> {
         ensures counted { IfErr result (λ e. IsCounted e self.old.faults self.new.faults) }
         ensures uncounted { OnOk result (self.new.faults ≡ self.old.faults) }
     {
-        match reading::tally(&mut self.conn, account, day) {
+        match tallies::tally(&mut self.conn, account, day) {
             Ok(found) => Ok(found),
             Err(error) => Err(self.fault(error)),
         }
@@ -54,7 +54,7 @@ impl<S: Alter + Drop> Base<S> {
         ensures counted { IfErr result (λ e. IsCounted e self.old.faults self.new.faults) }
         ensures uncounted { OnOk result (self.new.faults ≡ self.old.faults) }
     {
-        match reading::latest_calibration(&mut self.conn) {
+        match calibrations::latest_calibration(&mut self.conn) {
             Ok(found) => Ok(found),
             Err(error) => Err(self.fault(error)),
         }
@@ -70,7 +70,7 @@ impl<S: Alter + Drop> Base<S> {
         ensures counted { IfErr result (λ e. IsCounted e self.old.faults self.new.faults) }
         ensures uncounted { OnOk result (self.new.faults ≡ self.old.faults) }
     {
-        match reading::greatest_hold(&mut self.conn) {
+        match holds::greatest_hold(&mut self.conn) {
             Ok(found) => Ok(found),
             Err(error) => Err(self.fault(error)),
         }
@@ -85,7 +85,7 @@ impl<S: Alter + Drop> Base<S> {
         ensures counted { IfErr result (λ e. IsCounted e self.old.faults self.new.faults) }
         ensures uncounted { OnOk result (self.new.faults ≡ self.old.faults) }
     {
-        match reading::held_at(&mut self.conn, &now) {
+        match holds::held_at(&mut self.conn, &now) {
             Ok(found) => Ok(found),
             Err(error) => Err(self.fault(error)),
         }

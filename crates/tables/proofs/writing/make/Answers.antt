@@ -1,11 +1,17 @@
-use Rattle.tables.proofs.CountLemmas.{chained}
+use Rattle.std.proofs.Common.{ap}
+use Rattle.book.specs.History.{day_of}
+use Rattle.tables.specs.Steps.{with_count}
+use Rattle.tables.proofs.CountLemmas.{chained, reworded}
 use Rattle.tables.proofs.writing.make.Goals as goal
 
 pub returns-in_ok-put_stamp-in-Reserve-clause-carries :
     goal.returns-in_ok-put_stamp-in-Reserve-clause-carries
 returns-in_ok-put_stamp-in-Reserve-clause-carries g c =
-    rw c.in-Reserve.is (chained _ _ _ _ _ _ _ c.in_ok-put_stamp-in-Reserve.ensures.carries
-    c.count_stamp.ensures.carries)
+    let account = c.in-Reserve.reservation.account.now in
+    let counted =
+    reworded _ (with_count account (day_of c.in-Reserve.reservation.gen_time)) _ _ _ c.count_stamp.ensures.carries
+    (λ clean inside t d. ap (λ day. with_count account day t) c.day_of.ensures.value) in
+    rw c.in-Reserve.is (chained _ _ _ _ _ _ _ c.in_ok-put_stamp-in-Reserve.ensures.carries counted)
 
 pub returns-in-Seal-clause-carries : goal.returns-in-Seal-clause-carries
 returns-in-Seal-clause-carries g c = rw c.in-Seal.is c.set_token.ensures.carries
@@ -39,3 +45,6 @@ returns-in_ok-drop_group_reader-in-GrantGroup-clause-carries g c =
 pub returns-in-RevokeGroup-clause-carries : goal.returns-in-RevokeGroup-clause-carries
 returns-in-RevokeGroup-clause-carries g c =
     rw c.in-RevokeGroup.is c.drop_group_reader-in-RevokeGroup.ensures.carries
+
+pub returns-in-Install-clause-carries : goal.returns-in-Install-clause-carries
+returns-in-Install-clause-carries g c = rw c.in-Install.is c.put_identity.ensures.carries

@@ -16,5 +16,5 @@ pub returns-in-Err-clause-crash : goal.returns-in-Err-clause-crash
 returns-in-Err-clause-crash g c = histories_left _ _ _ c.in-Err.ensures.migrates
 
 pub returns-in-Err-clause-not_ours : goal.returns-in-Err-clause-not_ours
-returns-in-Err-clause-not_ours g c told clean is_open b =
-    c.in-Err.ensures.not_ours (told_not_ours c.in-Err.fault (sym c.from.ensures ∙ told)) clean is_open (tables_of b)
+returns-in-Err-clause-not_ours g c told clean is_open v b =
+    c.in-Err.ensures.not_ours (told_not_ours c.in-Err.fault (sym c.from.ensures ∙ told)) clean is_open v (tables_of b)

@@ -1,10 +1,10 @@
-use Rattle.std.proofs.Common.{◌∙◌, rules, SFits, w64, to_z, of_z, to_z-of_z, sym, subst}
+use Rattle.std.proofs.Common.{ℕ, ◌+◌, ◌∙◌, rules, SFits, w64, to_z, of_z, to_z-of_z, sym, ap, subst}
 use Rattle.tables.specs.Tables.{with_calibration}
 use Rattle.book.specs.History.{Calibrated}
 use Rattle.book.specs.Sound.{IsBackwards}
 use Rattle.book.specs.Values.{calibration_view}
 use Rattle.store.proofs.Calls.{reads_now, kept_seen, crash_after, adds_after, err_after, looks_now, on_err, no_success}
-use Rattle.store.proofs.Numbered.{calibration_view_of, calibration_step}
+use Rattle.store.proofs.Numbered.{calibration_view_of, calibration_step, calibrations_count}
 use Rattle.store.proofs.store.StoreBook.calibrate.Goals as goal
 
 -- the history's latest calibration is the one that was read
@@ -21,7 +21,7 @@ returns-in_err-commit-clause-crash g c =
     let offset : SFits w64 c.args.calibration.now.offset = search rules in
     crash_after g.S.Store (Calibrated (calibration_view c.args.calibration.now))
     (λ t. with_calibration record {
-      n = c.next_calibration.result;
+      n = c.next_calibration-n.result;
       reading = to_z w64 (of_z w64 c.args.calibration.now.reading);
       offset = to_z w64 (of_z w64 c.args.calibration.now.offset);
       uncertainty = c.args.calibration.now.uncertainty;
@@ -31,7 +31,7 @@ returns-in_err-commit-clause-crash g c =
     c.in_err-commit.ensures.honest c.in_err-commit.ensures.crash
     (λ honest b s. calibration_step b (calibration_view c.args.calibration.now) _ _ _ (to_z-of_z reading)
     (to_z-of_z offset)
-    (c.next_calibration.ensures
+    (c.next_calibration-n.ensures
     ∙ (calibration_view_of b _ (c.in_ok-latest.ensures.value honest _ (kept_seen g.S.Store _ _ b c.self.view_is s))).1))
 
 pub returns-clause-ok : goal.returns-clause-ok
@@ -40,7 +40,7 @@ returns-clause-ok g c b =
     let offset : SFits w64 c.args.calibration.now.offset = search rules in
     adds_after g.S.Store (Calibrated (calibration_view c.args.calibration.now))
     (λ t. with_calibration record {
-      n = c.next_calibration.result;
+      n = c.next_calibration-n.result;
       reading = to_z w64 (of_z w64 c.args.calibration.now.reading);
       offset = to_z w64 (of_z w64 c.args.calibration.now.offset);
       uncertainty = c.args.calibration.now.uncertainty;
@@ -50,7 +50,7 @@ returns-clause-ok g c b =
     c.in_ok-commit.ensures.honest c.in_ok-commit.ensures.ok
     (λ honest b s. calibration_step b (calibration_view c.args.calibration.now) _ _ _ (to_z-of_z reading)
     (to_z-of_z offset)
-    (c.next_calibration.ensures
+    (c.next_calibration-n.ensures
     ∙ (calibration_view_of b _ (c.in_ok-latest.ensures.value honest _ (kept_seen g.S.Store _ _ b c.self.view_is s))).1))
 
 pub returns-clause-crash : goal.returns-clause-crash
@@ -59,7 +59,7 @@ returns-clause-crash g c =
     let offset : SFits w64 c.args.calibration.now.offset = search rules in
     crash_after g.S.Store (Calibrated (calibration_view c.args.calibration.now))
     (λ t. with_calibration record {
-      n = c.next_calibration.result;
+      n = c.next_calibration-n.result;
       reading = to_z w64 (of_z w64 c.args.calibration.now.reading);
       offset = to_z w64 (of_z w64 c.args.calibration.now.offset);
       uncertainty = c.args.calibration.now.uncertainty;
@@ -69,7 +69,7 @@ returns-clause-crash g c =
     c.in_ok-commit.ensures.honest c.in_ok-commit.ensures.crash
     (λ honest b s. calibration_step b (calibration_view c.args.calibration.now) _ _ _ (to_z-of_z reading)
     (to_z-of_z offset)
-    (c.next_calibration.ensures
+    (c.next_calibration-n.ensures
     ∙ (calibration_view_of b _ (c.in_ok-latest.ensures.value honest _ (kept_seen g.S.Store _ _ b c.self.view_is s))).1))
 
 pub returns-in_err-commit-clause-refused : goal.returns-in_err-commit-clause-refused
@@ -106,3 +106,10 @@ returns-in_err-latest-clause-err g c b s =
 pub returns-then-is_backwards-clause-err : goal.returns-then-is_backwards-clause-err
 returns-then-is_backwards-clause-err g c b s =
     (looks_now g.S.Store _ _ _ c.self.view_is c.in_ok-latest.ensures.reads).stands b s
+
+pub returns-clause-number : goal.returns-clause-number
+returns-clause-number g c honest b s =
+    c.next_calibration-n.ensures
+    ∙ (calibration_view_of b _ (c.in_ok-latest.ensures.value (c.in_ok-commit.ensures.honest honest) _
+    (kept_seen g.S.Store _ _ b c.self.view_is s))).1
+    ∙ ap (λ (k : ℕ). k + 1) (calibrations_count b)

@@ -1,9 +1,9 @@
-use Rattle.std.proofs.Common.{◌∙◌, rules, SFits, w64, to_z, of_z, to_z-of_z}
+use Rattle.std.proofs.Common.{ℕ, ◌+◌, ◌∙◌, rules, SFits, w64, to_z, of_z, to_z-of_z, ap}
 use Rattle.tables.specs.Tables.{with_hold}
 use Rattle.book.specs.History.{Held}
 use Rattle.book.specs.Values.{hold_view}
 use Rattle.store.proofs.Calls.{reads_now, kept_seen, crash_after, adds_after, err_after, looks_now, on_err}
-use Rattle.store.proofs.Numbered.{hold_number, hold_step}
+use Rattle.store.proofs.Numbered.{hold_number, hold_step, holds_count}
 use Rattle.store.proofs.store.StoreBook.hold.Goals as goal
 
 pub returns-in_err-commit-clause-crash : goal.returns-in_err-commit-clause-crash
@@ -12,7 +12,7 @@ returns-in_err-commit-clause-crash g c =
     let to : SFits w64 c.args.hold.now.to = search rules in
     crash_after g.S.Store (Held (hold_view c.args.hold.now))
     (λ t. with_hold record {
-      n = c.next_number.result;
+      n = c.next_number-n.result;
       from = to_z w64 (of_z w64 c.args.hold.now.from);
       to = to_z w64 (of_z w64 c.args.hold.now.to);
     } t)
@@ -20,7 +20,7 @@ returns-in_err-commit-clause-crash g c =
     (reads_now g.S.Store _ _ _ c.self.view_is c.in_ok-greatest.ensures.reads)
     c.in_err-commit.ensures.honest c.in_err-commit.ensures.crash
     (λ honest b s. hold_step b (hold_view c.args.hold.now) _ _ _ (to_z-of_z from) (to_z-of_z to)
-    (c.next_number.ensures
+    (c.next_number-n.ensures
     ∙ hold_number b _ (c.in_ok-greatest.ensures.value honest _ (kept_seen g.S.Store _ _ b c.self.view_is s))))
 
 pub returns-clause-ok : goal.returns-clause-ok
@@ -29,7 +29,7 @@ returns-clause-ok g c b =
     let to : SFits w64 c.args.hold.now.to = search rules in
     adds_after g.S.Store (Held (hold_view c.args.hold.now))
     (λ t. with_hold record {
-      n = c.next_number.result;
+      n = c.next_number-n.result;
       from = to_z w64 (of_z w64 c.args.hold.now.from);
       to = to_z w64 (of_z w64 c.args.hold.now.to);
     } t)
@@ -37,7 +37,7 @@ returns-clause-ok g c b =
     (reads_now g.S.Store _ _ _ c.self.view_is c.in_ok-greatest.ensures.reads)
     c.in_ok-commit.ensures.honest c.in_ok-commit.ensures.ok
     (λ honest b s. hold_step b (hold_view c.args.hold.now) _ _ _ (to_z-of_z from) (to_z-of_z to)
-    (c.next_number.ensures
+    (c.next_number-n.ensures
     ∙ hold_number b _ (c.in_ok-greatest.ensures.value honest _ (kept_seen g.S.Store _ _ b c.self.view_is s))))
 
 pub returns-clause-crash : goal.returns-clause-crash
@@ -46,7 +46,7 @@ returns-clause-crash g c =
     let to : SFits w64 c.args.hold.now.to = search rules in
     crash_after g.S.Store (Held (hold_view c.args.hold.now))
     (λ t. with_hold record {
-      n = c.next_number.result;
+      n = c.next_number-n.result;
       from = to_z w64 (of_z w64 c.args.hold.now.from);
       to = to_z w64 (of_z w64 c.args.hold.now.to);
     } t)
@@ -54,7 +54,7 @@ returns-clause-crash g c =
     (reads_now g.S.Store _ _ _ c.self.view_is c.in_ok-greatest.ensures.reads)
     c.in_ok-commit.ensures.honest c.in_ok-commit.ensures.crash
     (λ honest b s. hold_step b (hold_view c.args.hold.now) _ _ _ (to_z-of_z from) (to_z-of_z to)
-    (c.next_number.ensures
+    (c.next_number-n.ensures
     ∙ hold_number b _ (c.in_ok-greatest.ensures.value honest _ (kept_seen g.S.Store _ _ b c.self.view_is s))))
 
 pub returns-in_err-commit-clause-err : goal.returns-in_err-commit-clause-err
@@ -65,3 +65,10 @@ returns-in_err-commit-clause-err g c b s =
 pub returns-in_err-greatest-clause-err : goal.returns-in_err-greatest-clause-err
 returns-in_err-greatest-clause-err g c b s =
     on_err _ _ ((looks_now g.S.Store _ _ _ c.self.view_is c.in_err-greatest.ensures.reads).stands b s)
+
+pub returns-clause-number : goal.returns-clause-number
+returns-clause-number g c honest b s =
+    c.next_number-n.ensures
+    ∙ hold_number b _ (c.in_ok-greatest.ensures.value (c.in_ok-commit.ensures.honest honest) _
+    (kept_seen g.S.Store _ _ b c.self.view_is s))
+    ∙ ap (λ (k : ℕ). k + 1) (holds_count b)

@@ -1,0 +1,73 @@
+-- The identities are gathered one after the other.
+use Rattle.std.proofs.Common.{◌≡◌, ℕ, zero, suc, List, [], ◌∷◌, ◌++◌, length, map, take, slice_get, Some, None}
+use Rattle.std.proofs.Common.{refl, sym, ap, ◌∙◌, subst}
+use Rattle.sqlite_trees.specs.declared.store.Store.{Ghosts}
+use Rattle.tables.specs.Base.{BaseValue, IsHonest, IsOpen}
+use Rattle.tables.specs.Tables.{InstalledRow}
+use Rattle.book.specs.History.{History}
+use Rattle.book.specs.Identities.{identities}
+use Rattle.book.specs.Stands.{Stands, OnlyLooks}
+use Rattle.store.specs.Stands.{over_tables}
+use Rattle.store.proofs.Installed.{get_none}
+use Rattle.store.proofs.Walk.{looks_after}
+
+take_next : {X : Type 0} (xs : List X) (k : ℕ) (x : X) → slice_get xs k ≡ Some x
+    → take (suc k) xs ≡ take k xs ++ x ∷ []
+take_next [] k x got = absurd (let apart = sym (get_none k) ∙ got in cc)
+take_next (y ∷ xs) zero x got = let same : y ≡ x = cc in ap (λ z. z ∷ []) same
+take_next (y ∷ xs) (suc k) x got = ap (λ rest. y ∷ rest) (take_next xs k x got)
+
+take_whole : {X : Type 0} (xs : List X) (k : ℕ) → slice_get xs k ≡ None → take k xs ≡ xs
+take_whole [] zero none = refl
+take_whole [] (suc k) none = refl
+take_whole (x ∷ xs) zero none = absurd (let apart = none in cc)
+take_whole (x ∷ xs) (suc k) none = ap (λ rest. x ∷ rest) (take_whole xs k none)
+
+-- the rows are the first of the identities, and nothing has changed
+pub record HasGathered {S : Type 0} (g : Ghosts S) (old now : BaseValue S) (rows : List InstalledRow) : Type 0 where
+  pub looks : OnlyLooks (over_tables g) old now
+  pub faults : now.faults ≡ old.faults
+  pub opened : IsHonest g now → IsOpen g now → IsOpen g old
+  pub gathered : IsHonest g now → (b : History) → Stands (over_tables g) b old → rows ≡ take (length rows) (identities b)
+
+pub nothing_gathered : {S : Type 0} (g : Ghosts S) (old : BaseValue S) → HasGathered g old old []
+nothing_gathered g old = record {
+  looks = record { honest = λ h. h; stands = λ b s. s; leaves = λ h db r. r };
+  faults = refl;
+  opened = λ h o. o;
+  gathered = λ h b s. refl;
+}
+
+pub one_more : {X Y : Type 0} (f : X → Y) (xs : List X) (x : X) → map f (xs ++ x ∷ []) ≡ map f xs ++ f x ∷ []
+one_more f [] x = refl
+one_more f (y ∷ xs) x = ap (λ rest. f y ∷ rest) (one_more f xs x)
+
+longer : {X : Type 0} (xs : List X) (y : X) → length (xs ++ y ∷ []) ≡ suc (length xs)
+longer [] y = refl
+longer (x ∷ xs) y = ap suc (longer xs y)
+
+pub one_gathered : {S : Type 0} (g : Ghosts S) (old now new : BaseValue S) (rows : List InstalledRow)
+    (row : InstalledRow) (count : ℕ) → count ≡ length rows
+    → HasGathered g old now rows
+    → OnlyLooks (over_tables g) now new → new.faults ≡ now.faults → (IsHonest g new → IsOpen g now)
+    → (IsHonest g new → (b : History) → Stands (over_tables g) b now → Some row ≡ slice_get (identities b) count)
+    → HasGathered g old new (rows ++ row ∷ [])
+one_gathered g old now new rows row count is before looks still is_open found = record {
+  looks = looks_after g old now new before.looks looks;
+  faults = still ∙ before.faults;
+  opened = λ h o. before.opened (looks.honest h) (is_open h);
+  gathered = λ h b s.
+      let here = subst (λ k. Some row ≡ slice_get (identities b) k) is (found h b (before.looks.stands b s)) in
+      ap (λ l. l ++ row ∷ []) (before.gathered (looks.honest h) b s)
+      ∙ sym (take_next (identities b) (length rows) row (sym here))
+      ∙ ap (λ k. take k (identities b)) (sym (longer rows row));
+}
+
+pub all_gathered : {S : Type 0} (g : Ghosts S) (old now new : BaseValue S) (rows : List InstalledRow) (count : ℕ)
+    → count ≡ length rows
+    → HasGathered g old now rows → OnlyLooks (over_tables g) now new
+    → (IsHonest g new → (b : History) → Stands (over_tables g) b now → None ≡ slice_get (identities b) count)
+    → IsHonest g new → (b : History) → Stands (over_tables g) b old → rows ≡ identities b
+all_gathered g old now new rows count is before looks none h b s =
+    let here = subst (λ k. None ≡ slice_get (identities b) k) is (none h b (before.looks.stands b s)) in
+    before.gathered (looks.honest h) b s ∙ take_whole (identities b) (length rows) (sym here)

@@ -1,0 +1,14 @@
+use Rattle.std.proofs.Common.{refl}
+use Rattle.tables.proofs.FoundLemmas.{greatest_as}
+use Rattle.tables.proofs.IdentityLemmas.{greatest_identity_found, greatest_identity_text}
+use Rattle.tables.proofs.QueryLemmas.{number_of}
+use Rattle.tables.proofs.identities.greatest_identity.Goals as goal
+
+pub first_number-requires-clause-text : goal.first_number-requires-clause-text
+first_number-requires-clause-text g c = greatest_identity_text
+
+pub returns-clause-value : goal.returns-clause-value
+returns-clause-value g c honest t d =
+    greatest_as _ _ _ (λ x row n is read. number_of _ _ 0 _ _ is read refl) _ _ _ t.identities _ _
+    (λ row told. greatest_identity_found t _ _ row d.holds refl told)
+    (c.first_number.ensures.told honest d.schema)

@@ -1,0 +1,236 @@
+//! The table of stamps: the statements that change it, inside a transaction, and the look-ups.
+
+ghost use Rattle.std.specs.Prelude.{◌≡◌, ◌<◌, ◌^◌, false, IsTrue, IfOk, None, OnOk};
+ghost use Rattle.sqlite.specs.Held.{state};
+ghost use Rattle.sqlite.specs.State.{HasCleanDisk};
+ghost use Rattle.sqlite.specs.Values.{bound};
+ghost use Rattle.book.specs.History.{day_of, stamp_of};
+ghost use Rattle.book.specs.Values.{reservation_view};
+ghost use Rattle.tables.specs.Asking.{IsQueryText, Looks, TellsFirstAs};
+ghost use Rattle.tables.specs.Carrying.{Carries};
+ghost use Rattle.tables.specs.Found.{IsFoundAs, IsLeastAs, IsGreatestAs};
+ghost use Rattle.tables.specs.Holding.{IsDatabaseOf};
+ghost use Rattle.tables.specs.Queries.{ShowsStamp, ShowsOrigin, stamp_view, is_within, ShowsLast};
+ghost use Rattle.tables.specs.Schema.{the_schema};
+ghost use Rattle.tables.specs.Shown.{stamp_shown, origin_shown};
+ghost use Rattle.tables.specs.Steps.{with_stamp_alone};
+ghost use Rattle.tables.specs.Tables.{Tables, with_token, StampRow, is_stamp};
+
+use crate::asking::{first_row, number, octets, octets_or_none, text};
+use crate::rows::{LastStamp, Origin};
+use book::{DAY, GREATEST_NUMBER, Reservation, Stamp};
+use sqlite::types::ValueRef;
+use sqlite::{Alter, Connection, Error, Row, Transaction};
+
+const INSERT_STAMP: &str =
+    "INSERT INTO stamp (serial, account, day, gen, policy, algorithm, digest, request, tst) VALUES (?1, ?2, ?3, ?4, \
+    ?5, ?6, ?7, ?8, ?9)";
+
+const SET_TOKEN: &str = "UPDATE stamp SET token = ?2 WHERE serial = ?1";
+
+const STAMP: &str =
+    "SELECT serial, account, day, gen, policy, algorithm, digest, request, tst, token FROM stamp WHERE serial = ?1";
+
+const ORIGIN: &str = "SELECT account, gen FROM stamp WHERE serial = ?1";
+
+const NEXT_STAMP: &str =
+    "SELECT serial, account, day, gen, policy, algorithm, digest, request, tst, token FROM stamp WHERE serial >= ?1 \
+    AND serial <= ?2 ORDER BY serial LIMIT 1";
+
+const LAST_STAMP: &str = "SELECT serial, gen FROM stamp ORDER BY serial DESC LIMIT 1";
+
+/// The UTC day of a genTime, counted from 1970-01-01.
+pub(crate) fn day_of(gen_time: u64) -> u64
+    ensures value { result ≡ day_of gen_time }
+    ensures small { gen_time < 2 ^ 63 → result < 2 ^ 63 }
+{
+    gen_time / DAY
+}
+
+pub(crate) fn put_stamp<S: Alter>(
+    tx: &mut Transaction<'_, S>,
+    reservation: &Reservation<'_>,
+) -> Result<usize, Error>
+    requires serial { reservation.now.serial < 2 ^ 63 }
+    requires gen_time { reservation.now.gen_time < 2 ^ 63 }
+    ensures same_reference { tx.new.conn.ghost_name ≡ tx.old.conn.ghost_name }
+    ensures carries { Carries (with_stamp_alone (stamp_of None (reservation_view reservation.now)))
+        (state S.Store tx.old.conn.now) (state S.Store tx.new.conn.now) result }
+{
+    let day = day_of(reservation.gen_time);
+    tx.execute(
+        INSERT_STAMP,
+        &[
+            ValueRef::Int(reservation.serial as i64),
+            ValueRef::Text(reservation.account.as_bytes()),
+            ValueRef::Int(day as i64),
+            ValueRef::Int(reservation.gen_time as i64),
+            ValueRef::Blob(reservation.policy),
+            ValueRef::Blob(reservation.algorithm),
+            ValueRef::Blob(reservation.digest),
+            ValueRef::Blob(reservation.request),
+            ValueRef::Blob(reservation.tst),
+        ],
+    )
+}
+
+pub(crate) fn set_token<S: Alter>(
+    tx: &mut Transaction<'_, S>,
+    serial: u64,
+    token: &[u8],
+) -> Result<usize, Error>
+    requires { serial < 2 ^ 63 }
+    ensures same_reference { tx.new.conn.ghost_name ≡ tx.old.conn.ghost_name }
+    ensures carries { Carries (with_token serial token.now) (state S.Store tx.old.conn.now)
+        (state S.Store tx.new.conn.now) result }
+{
+    tx.execute(
+        SET_TOKEN,
+        &[ValueRef::Int(serial as i64), ValueRef::Blob(token)],
+    )
+}
+
+/// The stamp of a row.
+fn stamp_of(row: &Row) -> Result<Stamp, Error>
+    ensures { IfOk result (λ s. (x : StampRow) → row.now ≡ stamp_shown x → stamp_view s ≡ x) }
+{
+    let serial = number(row, 0)?;
+    let account = text(row, 1)?;
+    let day = number(row, 2)?;
+    let gen_time = number(row, 3)?;
+    let policy = octets(row, 4)?;
+    let algorithm = octets(row, 5)?;
+    let digest = octets(row, 6)?;
+    let request = octets(row, 7)?;
+    let tst = octets(row, 8)?;
+    let token = octets_or_none(row, 9)?;
+    Ok(Stamp {
+        serial,
+        account,
+        day,
+        gen_time,
+        policy,
+        algorithm,
+        digest,
+        request,
+        tst,
+        token,
+    })
+}
+
+/// The account and the genTime of a row.
+fn origin_of(row: &Row) -> Result<Origin, Error>
+    ensures { IfOk result (λ origin. (x : StampRow) → row.now ≡ origin_shown x → ShowsOrigin x origin) }
+{
+    let account = text(row, 0)?;
+    let gen_time = number(row, 1)?;
+    Ok(Origin { account, gen_time })
+}
+
+/// The stamp of the first row that a query answers, if there is a row.
+fn first_stamp<S: Alter>(
+    conn: &mut Connection<S>,
+    sql: &str,
+    params: &[ValueRef<'_>],
+) -> Result<Option<Stamp>, Error>
+    requires autocommit { conn.old.in_transaction ≡ false }
+    requires text { IsQueryText sql.now }
+    ensures closed { conn.new.in_transaction ≡ false }
+    ensures looks { Looks (state S.Store conn.old) (state S.Store conn.new) }
+    ensures opened { HasCleanDisk (state S.Store conn.new) → OnOk result (IsTrue (state S.Store conn.old).is_open) }
+    ensures told { HasCleanDisk (state S.Store conn.new) → (state S.Store conn.old).now.schema ≡ the_schema
+        → IfOk result (λ found. TellsFirstAs (λ row s. (x : StampRow) → row ≡ stamp_shown x → stamp_view s ≡ x)
+        sql.now (bound params.now) (state S.Store conn.old).now.trees found) }
+{
+    let found = first_row(conn, sql, params)?;
+    match found {
+        Some(row) => {
+            let stamp = stamp_of(&row)?;
+            Ok(Some(stamp))
+        }
+        None => Ok(None),
+    }
+}
+
+/// The stamp with the serial number.
+pub(crate) fn stamp<S: Alter>(conn: &mut Connection<S>, serial: u64) -> Result<Option<Stamp>, Error>
+    requires { conn.old.in_transaction ≡ false }
+    ensures closed { conn.new.in_transaction ≡ false }
+    ensures looks { Looks (state S.Store conn.old) (state S.Store conn.new) }
+    ensures opened { HasCleanDisk (state S.Store conn.new) → OnOk result (IsTrue (state S.Store conn.old).is_open) }
+    ensures value { HasCleanDisk (state S.Store conn.new) → (t : Tables) → IsDatabaseOf t (state S.Store conn.old).now
+        → IfOk result (λ found. IsFoundAs ShowsStamp (is_stamp serial) t.stamps found) }
+{
+    if serial > GREATEST_NUMBER {
+        return Err(Error::IntegralValueOutOfRange(0));
+    }
+    first_stamp(conn, STAMP, &[ValueRef::Int(serial as i64)])
+}
+
+/// The account and the genTime of the stamp with the serial number.
+pub(crate) fn origin<S: Alter>(
+    conn: &mut Connection<S>,
+    serial: u64,
+) -> Result<Option<Origin>, Error>
+    requires { conn.old.in_transaction ≡ false }
+    ensures closed { conn.new.in_transaction ≡ false }
+    ensures looks { Looks (state S.Store conn.old) (state S.Store conn.new) }
+    ensures opened { HasCleanDisk (state S.Store conn.new) → OnOk result (IsTrue (state S.Store conn.old).is_open) }
+    ensures value { HasCleanDisk (state S.Store conn.new) → (t : Tables) → IsDatabaseOf t (state S.Store conn.old).now
+        → IfOk result (λ found. IsFoundAs ShowsOrigin (is_stamp serial) t.stamps found) }
+{
+    if serial > GREATEST_NUMBER {
+        return Err(Error::IntegralValueOutOfRange(0));
+    }
+    let found = first_row(conn, ORIGIN, &[ValueRef::Int(serial as i64)])?;
+    match found {
+        Some(row) => {
+            let origin = origin_of(&row)?;
+            Ok(Some(origin))
+        }
+        None => Ok(None),
+    }
+}
+
+/// The stamp with the least serial number from `from` on and up to `to`.
+pub(crate) fn next_stamp<S: Alter>(
+    conn: &mut Connection<S>,
+    from: u64,
+    to: u64,
+) -> Result<Option<Stamp>, Error>
+    requires { conn.old.in_transaction ≡ false }
+    ensures closed { conn.new.in_transaction ≡ false }
+    ensures looks { Looks (state S.Store conn.old) (state S.Store conn.new) }
+    ensures opened { HasCleanDisk (state S.Store conn.new) → OnOk result (IsTrue (state S.Store conn.old).is_open) }
+    ensures value { HasCleanDisk (state S.Store conn.new) → (t : Tables) → IsDatabaseOf t (state S.Store conn.old).now
+        → IfOk result (λ found. IsLeastAs ShowsStamp (λ row. row.serial) (is_within from to) t.stamps found) }
+{
+    if from > GREATEST_NUMBER || to > GREATEST_NUMBER {
+        return Err(Error::IntegralValueOutOfRange(0));
+    }
+    first_stamp(
+        conn,
+        NEXT_STAMP,
+        &[ValueRef::Int(from as i64), ValueRef::Int(to as i64)],
+    )
+}
+
+/// The stamp with the greatest serial number.
+pub(crate) fn greatest_stamp<S: Alter>(conn: &mut Connection<S>) -> Result<Option<LastStamp>, Error>
+    requires { conn.old.in_transaction ≡ false }
+    ensures closed { conn.new.in_transaction ≡ false }
+    ensures looks { Looks (state S.Store conn.old) (state S.Store conn.new) }
+    ensures opened { HasCleanDisk (state S.Store conn.new) → OnOk result (IsTrue (state S.Store conn.old).is_open) }
+    ensures value { HasCleanDisk (state S.Store conn.new) → (t : Tables) → IsDatabaseOf t (state S.Store conn.old).now
+        → IfOk result (λ last. IsGreatestAs ShowsLast (λ row. row.serial) t.stamps last) }
+{
+    let found = first_row(conn, LAST_STAMP, &[])?;
+    match found {
+        Some(row) => {
+            let serial = number(&row, 0)?;
+            let gen_time = number(&row, 1)?;
+            Ok(Some(LastStamp { serial, gen_time }))
+        }
+        None => Ok(None),
+    }
+}
