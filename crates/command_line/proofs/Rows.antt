@@ -133,6 +133,15 @@ pub exchange_by_a_session_is_taken : AreTaken (exchange_words (codes "--signer=d
 unfolding clap_on_literals
 exchange_by_a_session_is_taken = (refl, refl)
 
+pub chain_is_taken : AreTaken (exchange_words (codes "--signing-key=d" ∷ codes "--chain=e" ∷ []))
+unfolding clap_on_literals
+chain_is_taken = (refl, refl)
+
+pub chain_stands_once : fault_of counter_command (exchange_words (codes "--chain=e" ∷ codes "--chain=f" ∷ []))
+    ≡ ArgumentConflict ∷ []
+unfolding clap_on_literals
+chain_stands_once = refl
+
 pub no_signer_is_refused : MixSigners (exchange_words [])
 unfolding clap_on_literals
 no_signer_is_refused = (refl, refl)

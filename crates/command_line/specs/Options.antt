@@ -112,6 +112,10 @@ hold_options = database_option ∷ from_option ∷ to_option ∷ []
 abbrev pub certificate_option : Rule
 certificate_option = text_option (codes "certificate")
 
+-- further certificates
+abbrev pub chain_option : Rule
+chain_option = optional_text_option (codes "chain")
+
 abbrev pub signing_key_option : Rule
 signing_key_option = optional_text_option (codes "signing-key")
 
@@ -127,6 +131,7 @@ desk_options =
     database_option
     ∷ rules_option
     ∷ certificate_option
+    ∷ chain_option
     ∷ signing_key_option
     ∷ signer_option
     ∷ signer_algorithm_option

@@ -101,6 +101,7 @@ pub record StatesDesk (rows : List Row) (words : DeskWords) : Type 0 where
   pub db : first_of (codes "db") rows ≡ Some words.db.now
   pub rules : first_of (codes "rules") rows ≡ Some words.rules.now
   pub certificate : first_of (codes "certificate") rows ≡ Some words.certificate.now
+  pub chain : first_of (codes "chain") rows ≡ option_map (λ s. s.now) words.chain
   pub signer : StatesSigner rows words.signer
 
 pub record StatesAnswer (rows : List Row) (words : AnswerWords) : Type 0 where

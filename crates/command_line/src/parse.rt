@@ -185,6 +185,7 @@ fn desk_words<'a>(matches: &ArgMatches<'a>) -> Option<DeskWords<'a>>
         db: matches.get_str("db")?,
         rules: matches.get_str("rules")?,
         certificate: matches.get_str("certificate")?,
+        chain: matches.get_str("chain"),
         signer: signer_words(matches)?,
     })
 }

@@ -86,6 +86,13 @@ const CERTIFICATE: OptionRow = OptionRow {
     help: "The certificate, a DER file",
 };
 
+const CHAIN: OptionRow = OptionRow {
+    name: "chain",
+    value: Value::Text,
+    required: false,
+    help: "Up to three further certificates, DER one after the other in a file",
+};
+
 const SIGNING_KEY: OptionRow = OptionRow {
     name: "signing-key",
     value: Value::Text,
@@ -229,6 +236,7 @@ pub const ANSWER: SubcommandRow = SubcommandRow {
         DATABASE,
         RULES,
         CERTIFICATE,
+        CHAIN,
         SIGNING_KEY,
         SIGNER,
         SIGNER_ALGORITHM,
@@ -250,6 +258,7 @@ pub const EXCHANGE: SubcommandRow = SubcommandRow {
         DATABASE,
         RULES,
         CERTIFICATE,
+        CHAIN,
         SIGNING_KEY,
         SIGNER,
         SIGNER_ALGORITHM,
@@ -265,6 +274,7 @@ pub const SERVE: SubcommandRow = SubcommandRow {
         DATABASE,
         RULES,
         CERTIFICATE,
+        CHAIN,
         SIGNING_KEY,
         SIGNER,
         SIGNER_ALGORITHM,
@@ -278,7 +288,7 @@ pub const SERVE: SubcommandRow = SubcommandRow {
             name: "connections",
             value: Value::Number(CONNECTIONS),
             required: true,
-            help: "How many connections are served, one after the other",
+            help: "How many connections are served; their requests are answered one at a time",
         },
     ],
 };

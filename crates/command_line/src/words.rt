@@ -48,6 +48,8 @@ pub struct DeskWords<'a> {
     pub rules: &'a str,
     /// The certificate's path.
     pub certificate: &'a str,
+    /// The path of its chain, further certificates, where one is stated.
+    pub chain: Option<&'a str>,
     /// Who signs.
     pub signer: SignerWords<'a>,
 }

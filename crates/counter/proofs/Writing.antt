@@ -22,12 +22,6 @@ keeps_beginning (Some xs) None new text appended kept = absurd appended
 keeps_beginning (Some xs) (Some ys) None text appended kept = absurd kept
 keeps_beginning (Some xs) (Some ys) (Some zs) text appended kept = kept ∙ appended
 
--- what one more write leaves
-pub begins_more : (old mid new : Option (List ℕ)) (sent more : ℕ) (text : List ℕ) → Appends old mid (take sent text)
-    → Appends mid new (take more (drop sent text)) → Appends old new (take (sent + more) text)
-begins_more old mid new sent more text one two =
-    rw (take-add sent more text) (Appends-trans old mid new (take sent text) (take more (drop sent text)) one two)
-
 -- a beginning of the second text after the first is one of both
 pub begins_after : (old mid new : Option (List ℕ)) (first second : List ℕ) → Appends old mid first
     → Begins mid new second
@@ -48,19 +42,6 @@ begins_before old new first second one =
     ∙ take_min one.0 first in
     (n, rw same one.1)
 
--- what a write of the rest leaves, where some was taken
-pub sends_more : {E : Type 0} (old mid new : Option (List ℕ)) (sent : ℕ) (text : List ℕ) (written : Result ℕ E)
-    → Appends old mid (take sent text) → WriteAppends mid new written (drop sent text)
-    → (result_unwrap_or written 0 ≡ 0 → ⊥)
-    → Appends old new (take (sent + result_unwrap_or written 0) text)
-sends_more {E} old mid new sent text (Ok n) one two some = begins_more old mid new sent n text one two
-sends_more {E} old mid new sent text (Err e) one two some = absurd (some refl)
-
-pub sends_within : {E : Type 0} (written : Result ℕ E) (most : ℕ) → IfOk written (λ n. n ≤ most)
-    → result_unwrap_or written 0 ≤ most
-sends_within {E} (Ok n) most bound = bound
-sends_within {E} (Err e) most bound = omega arith
-
 -- whatever a write answers, it left a beginning
 pub begins_whatever : {T E : Type 0} (old new : Option (List ℕ)) (text : List ℕ) (written : Result T E)
     → OnOk written (Appends old new text)
@@ -75,3 +56,7 @@ digit_line number digit is small = rw (is, decimal_digit digit small) refl
 pub ten_line : (number : ℕ) → number ≡ 10 → 49 ∷ 48 ∷ 10 ∷ [] ≡ decimal number ++ 10 ∷ []
 unfolding digits
 ten_line number is = rw is refl
+
+pub eleven_line : (number : ℕ) → number ≡ 11 → 49 ∷ 49 ∷ 10 ∷ [] ≡ decimal number ++ 10 ∷ []
+unfolding digits
+eleven_line number is = rw is refl

@@ -1,8 +1,14 @@
 -- What the words of an operator add to the history.
-use Rattle.std.specs.Prelude.{ℤ, Bool, true, false, ℕ, pos, neg_ℤ}
+use Rattle.std.specs.Prelude.{◌≡◌, ℤ, Ok, Bool, true, false, ℕ, pos, neg_ℤ}
 use Rattle.book.specs.History.{CalibrationValue, HoldValue}
+use Rattle.book.specs.Values.{calibration_view, hold_view}
+use Rattle.book.specs.declared.values.Calibration.{Calibration}
+use Rattle.book.specs.declared.values.Hold.{Hold}
 use Rattle.command_line.specs.declared.words.CalibrateWords.{CalibrateWords}
 use Rattle.command_line.specs.declared.words.HoldWords.{HoldWords}
+use Rattle.operations.specs.OverFiles.{IsAddedOver}
+use Rattle.operations.specs.declared.adding.Addition.TheVariants as addition
+use Rattle.operations.specs.Machine.{Machine}
 
 -- a number of microseconds, or minus that number
 abbrev pub offset_of : Bool → ℕ → ℤ
@@ -18,3 +24,16 @@ calibration_of words = record {
 
 abbrev pub hold_of : HoldWords → HoldValue
 hold_of words = record { from = pos words.from; to = pos words.to }
+
+-- it was added to the history that the database keeps
+pub record AddsCalibration {D X C : Type 0} (m : Machine D X C) (words : CalibrateWords) : Type 0 where
+  pub calibration : Calibration
+  pub number : ℕ
+  pub stated : calibration_view calibration ≡ calibration_of words
+  pub added : IsAddedOver m.disk m.held (addition.Calibration calibration) (Ok number)
+
+pub record AddsHold {D X C : Type 0} (m : Machine D X C) (words : HoldWords) : Type 0 where
+  pub hold : Hold
+  pub number : ℕ
+  pub stated : hold_view hold ≡ hold_of words
+  pub added : IsAddedOver m.disk m.held (addition.Hold hold) (Ok number)

@@ -1,11 +1,16 @@
 -- What `exchange` writes.
-use Rattle.std.specs.Prelude.{◌≡◌, ◌⊎◌, pos, ℤ, ℕ, List, [], Option, Ok}
+use Rattle.std.specs.Prelude.{◌⊎◌, pos, ℤ, ℕ, List, [], Option}
 use Rattle.std.specs.Io.KnownBytes.{Consumes, IsAtEnd}
-use Rattle.policy.specs.Meaning.{meaning_of}
 use Rattle.policy.specs.Record.{PolicyValue}
+use Rattle.desk.specs.Command.{Setting}
 use Rattle.service.specs.Answers.{AnswerValue, answer_text}
+use Rattle.service.specs.declared.served.Served.{Served}
 use Rattle.operations.specs.Exchanges.{AsksExtract, IsAnswerFor}
+use Rattle.operations.specs.OverFiles.{IsServedOver}
+use Rattle.operations.specs.Signing.{algorithm_of}
 use Rattle.command_line.specs.declared.words.ExchangeWords.{ExchangeWords}
+use Rattle.counter.specs.Desks.{IsSettingOf}
+use Rattle.operations.specs.Machine.{Machine}
 
 -- The input is at its end, and nothing is written; or it is a request, and what is written is an answer's text; or it
 -- asks for an extract that may be given, of which the database alone tells what is written.
@@ -15,10 +20,15 @@ WritesAnswer policy reading old new IsWritten =
     ⊎ (((answer : AnswerValue) × IsAnswerFor policy reading old new answer × IsWritten (answer_text answer))
     ⊎ (AsksExtract policy reading old new × ((octets : List ℕ) × IsWritten octets)))
 
--- Some text means a policy, and by it the input, which is left as `old` and then as `new`, is answered at the reading
--- that the words state.
-pub record Exchanges (words : ExchangeWords) (old new : Option (List ℕ)) (IsWritten : List ℕ → Type 0) : Type 0 where
-  pub rules : List ℕ
-  pub policy : PolicyValue
-  pub meant : meaning_of rules ≡ Ok policy
-  pub writes : WritesAnswer policy (pos words.reading) old new IsWritten
+-- The desk is set as the words tell, and by its policy the input, which is left as `old` and then as `new`, is answered
+-- at the reading that the words state. The output was `out`: until it is flushed, the request is served as by the
+-- machine, over the store of the words' database.
+pub record Exchanges {D X C O : Type 0} (m : Machine D X C) (contents : O → Option (List ℕ)) (out : O)
+    (words : ExchangeWords) (old new : Option (List ℕ)) (IsWritten : List ℕ → Type 0) : Type 0 where
+  pub setting : Setting
+  pub set : IsSettingOf words.desk setting
+  pub writes : WritesAnswer setting.file (pos words.reading) old new IsWritten
+  pub written : O
+  pub outcome : Served
+  pub served : IsServedOver m.disk m.held m.signs setting (algorithm_of set.signing) contents (pos words.reading) old
+      new out written outcome

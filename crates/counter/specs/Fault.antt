@@ -5,6 +5,7 @@ use Rattle.audit.specs.Fault as audit
 use Rattle.cms.specs.Fault as cms
 use Rattle.cms.specs.declared.fault.CmsFault.{CmsFault}
 use Rattle.der.specs.Fault as der
+use Rattle.desk.specs.Fault as desk
 use Rattle.hex.specs.declared.error.FromHexError.{FromHexError}
 use Rattle.hex.specs.declared.error.FromHexError.TheVariants.{InvalidHexCharacter, OddLength, InvalidStringLength}
 use Rattle.hex.specs.declared.error.FromHexError.TheVariants.{OutOfMemory}
@@ -14,7 +15,7 @@ use Rattle.book.specs.Fault as store
 use Rattle.book.specs.declared.fault.StoreFault.{StoreFault}
 use Rattle.tsp.specs.Fault as tsp
 use Rattle.counter.specs.declared.fault.Fault.{Fault}
-use Rattle.counter.specs.declared.fault.Fault.TheVariants.{Der, Tsp, Cms, Policy, Store, Audit, Input}
+use Rattle.counter.specs.declared.fault.Fault.TheVariants.{Der, Tsp, Cms, Policy, Store, Desk, Audit, Input}
 use Rattle.counter.specs.declared.fault.InputFault.{InputFault}
 use Rattle.counter.specs.declared.fault.InputFault.TheVariants.{NotHexadecimal, File, Hold, Account, Failed, Address}
 use Rattle.counter.specs.declared.fault.InputFault.TheVariants.{Memory, Signer}
@@ -49,6 +50,7 @@ fault_of_audit (auditing.Extract fault) = Audit fault
 -- what a refusal of an operation over the database is to the program
 abbrev pub fault_of_operation : OperationFault → Fault
 fault_of_operation (operation.Store fault) = Store fault
+fault_of_operation (operation.Desk fault) = Desk fault
 fault_of_operation operation.Unreached = Input Signer
 fault_of_operation operation.Unheard = Input Address
 fault_of_operation operation.Clock = Input Failed
@@ -59,6 +61,7 @@ number_of_fault (Tsp fault) = tsp.number_of fault
 number_of_fault (Cms fault) = cms.number_of fault
 number_of_fault (Policy fault) = policy.number_of fault
 number_of_fault (Store fault) = store.number_of fault
+number_of_fault (Desk fault) = desk.number_of fault
 number_of_fault (Audit fault) = audit.number_of fault
 number_of_fault (Input fault) = number_of fault
 
@@ -69,6 +72,7 @@ line_beginning (Tsp fault) = codes "counter: tsp "
 line_beginning (Cms fault) = codes "counter: cms "
 line_beginning (Policy fault) = codes "counter: policy "
 line_beginning (Store fault) = codes "counter: store "
+line_beginning (Desk fault) = codes "counter: desk "
 line_beginning (Audit fault) = codes "counter: audit "
 line_beginning (Input fault) = codes "counter: input "
 

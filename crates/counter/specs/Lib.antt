@@ -2,6 +2,7 @@ pub mod Accounts
 pub mod Additions
 pub mod Audits
 pub mod Counts
+pub mod Desks
 pub mod Answers
 pub mod Fault
 pub mod Hexadecimal

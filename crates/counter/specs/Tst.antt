@@ -1,12 +1,12 @@
 -- The reply to a request where no account, policy file or clock is asked: the TSTInfo of the request, or the rejection
 -- by the first rule that fails (RFC 3161 2.4.2).
-use Rattle.std.specs.Prelude.{◌≡◌, ℕ, ◌⊎◌, List, unwrap_or}
+use Rattle.std.specs.Prelude.{◌≡◌, ℕ, ◌⊎◌, List, None, IfSome, unwrap_or}
 use Rattle.der.specs.Node.{encoding, IsLawful}
 use Rattle.gentime.specs.GenTime.{round_down}
 use Rattle.tsp.specs.Request.{RequestValue, Spells}
 use Rattle.tsp.specs.Rejection.{rejection}
 use Rattle.tsp.specs.Rules.{HoldsOfOctets, HasVersionOne, HasKnownAlgorithm, HasAlgorithmLength, IsFirstFailing}
-use Rattle.tsp.specs.Tst.{TstValue, IsTst, tst_info}
+use Rattle.tsp.specs.Tst.{TstValue, IsTst, IsTsaName, tst_info}
 use Rattle.tsp.specs.declared.fault.TspFault.TheVariants as tsp
 use Rattle.tsp.specs.declared.rule.Rule.{Rule}
 use Rattle.tsp.specs.declared.rule.Rule.TheVariants.{Spelling, Version, Account, Algorithm, HashLength, Policy}
@@ -17,7 +17,8 @@ use Rattle.counter.specs.declared.fault.Fault.{Fault}
 use Rattle.counter.specs.declared.fault.Fault.TheVariants.{Tsp, Input}
 use Rattle.counter.specs.declared.fault.InputFault.TheVariants.{Memory}
 
--- the TSTInfo of a request: its policy is the request's where it states one, and its genTime the moment rounded down
+-- the TSTInfo of a request: its policy is the request's where it states one, its genTime the moment rounded down, and it
+-- names no authority
 abbrev pub tst_of : SettingsValue → RequestValue → TstValue
 tst_of settings r = record {
   policy = unwrap_or r.policy settings.policy;
@@ -27,14 +28,15 @@ tst_of settings r = record {
   accuracy = settings.accuracy;
   ordering = settings.ordering;
   nonce = r.nonce;
+  tsa = None;
   extensions = r.extensions;
 }
 
--- each TSTInfo with the request's imprint, nonce and extensions is a lawful value
+-- each TSTInfo with the request's imprint, nonce and extensions is a lawful value, unless its tsa leaves no room
 abbrev pub HasLawfulAnswers : RequestValue → Type 0
 HasLawfulAnswers r =
     (t : TstValue) → IsTst t → t.imprint ≡ r.imprint → t.nonce ≡ r.nonce → t.extensions ≡ r.extensions
-    → IsLawful (tst_info t)
+    → IfSome t.tsa IsTsaName → IsLawful (tst_info t)
 
 -- Which rules hold of a request. Those that speak of the request and of hash algorithms alone are judged; the others
 -- hold here.

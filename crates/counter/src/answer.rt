@@ -1,27 +1,32 @@
 //! The word `answer`.
 ghost use Rattle.std.specs.Prelude.{◌≡◌, IfOk, IfSome};
 ghost use Rattle.counter.specs.Answers.{RepliesTo};
+ghost use Rattle.operations.specs.Machine.{machine_of};
 ghost use Rattle.counter.specs.Replies.{octets_of};
 
 use crate::accounts::account_of;
 use crate::fault::Fault;
 use crate::files::{Files, read_files};
 use crate::hexadecimal::read_octets;
+use cms::Signer;
 use command_line::AnswerWords;
+use connections::{Clock, SystemClock};
 use desk::Reply;
-use operations::{Question, Terms};
+use operations::{Disk, FileFrom, HostSigner, Question, Start, Terms};
 use std::io::Read;
 use std::rt::HostRuntime;
 
 /// Reads a request, and answers it by a token that is stored, or by a rejection. The files are read first, then the
 /// request, and the database last.
-pub fn answer<I: Read>(
+pub fn answer<F: Start + Drop, I: Read>(
     rt: &HostRuntime,
     words: &AnswerWords<'_>,
+    start: F,
     input: &mut I,
 ) -> Result<Reply, Fault>
-    ensures { IfOk result (λ reply. IfSome (I.remaining input.old) (λ text.
-        RepliesTo words.now text (octets_of reply))) }
+    ensures { IfOk result (λ reply. IfSome (I.remaining input.old) (λ text. RepliesTo
+        (machine_of ⟦<FileFrom<F> as Disk>⟧ F.Start ⟦<HostSigner<'static> as Signer>⟧
+        ⟦<SystemClock<'static, HostRuntime> as Clock>⟧) words.now text (octets_of reply))) }
 {
     let Files {
         policy,
@@ -41,7 +46,7 @@ pub fn answer<I: Read>(
         reading: words.reading as i64,
         query: query.as_slice(),
     };
-    Ok(operations::answer(rt, words.desk.db, terms, signing, &question)?)
+    Ok(operations::answer(rt, words.desk.db, start, terms, signing, &question)?)
 }
 
 /// The reply's octets.

@@ -1,14 +1,18 @@
 //! The words `exchange` and `serve`.
-ghost use Rattle.std.specs.Prelude.{◌≡◌, ◌⊎◌, OnOk, IfErr};
+ghost use Rattle.std.specs.Prelude.{◌≡◌, ◌⊎◌, Ok, OnOk, IfErr};
 ghost use Rattle.std.specs.Io.KnownBytes.{Appends, Keeps};
+ghost use Rattle.counter.specs.Desks.{ServesConnections};
 ghost use Rattle.counter.specs.Exchange.{Exchanges};
 ghost use Rattle.counter.specs.Fault.{IsServeFault};
+ghost use Rattle.operations.specs.Machine.{machine_of};
 ghost use Rattle.counter.specs.Writing.{Begins};
 
 use crate::fault::{Fault, InputFault};
 use crate::files::{Files, read_files};
+use cms::Signer;
 use command_line::{ExchangeWords, ServeWords};
-use operations::Terms;
+use connections::{Clock, SystemClock};
+use operations::{Disk, FileFrom, HostSigner, Start, Terms};
 use service::Served;
 use std::io::{Read, Write};
 use std::rt::HostRuntime;
@@ -16,19 +20,22 @@ use std::rt::HostRuntime;
 /// Reads one HTTP request and writes its answer; nothing where the input ends before any octet. The files are read
 /// first, then the database is opened, the key holder reached, and the request read last. `input` 5 where a read or a
 /// write fails, or the database or memory in the middle of an extract.
-pub fn exchange<I: Read, O: Write>(
+pub fn exchange<F: Start + Drop, I: Read, O: Write>(
     rt: &HostRuntime,
     words: &ExchangeWords<'_>,
+    start: F,
     input: &mut I,
     output: &mut O,
 ) -> Result<(), Fault>
-    ensures answered { OnOk result (Exchanges words.now (I.remaining input.old) (I.remaining input.new)
+    ensures answered { OnOk result (Exchanges (machine_of ⟦<FileFrom<F> as Disk>⟧ F.Start ⟦<HostSigner<'static> as Signer>⟧
+        ⟦<SystemClock<'static, HostRuntime> as Clock>⟧) O.contents output.old words.now (I.remaining input.old) (I.remaining input.new)
         (Appends (O.contents output.old) (O.contents output.new))) }
 
     // Before a fault nothing is written, but where there is an answer and writing it fails.
     ensures kept { IfErr result (λ fault. (O.contents output.new ≡ O.contents output.old)
         ⊎ ((fault ≡ Fault.Input InputFault.Failed)
-        × Exchanges words.now (I.remaining input.old) (I.remaining input.new)
+        × Exchanges (machine_of ⟦<FileFrom<F> as Disk>⟧ F.Start ⟦<HostSigner<'static> as Signer>⟧
+        ⟦<SystemClock<'static, HostRuntime> as Clock>⟧) O.contents output.old words.now (I.remaining input.old) (I.remaining input.new)
         (Begins (O.contents output.old) (O.contents output.new)))) }
 {
     let Files {
@@ -43,7 +50,8 @@ pub fn exchange<I: Read, O: Write>(
         algorithm: &algorithm,
     };
     let reading = words.reading as i64;
-    let served = operations::exchange(rt, words.desk.db, terms, signing, reading, input, output)?;
+    let db = words.desk.db;
+    let served = operations::exchange(rt, db, start, terms, signing, reading, input, output)?;
     match served {
         Served::Closed => Ok(()),
         Served::Answered(_) => Ok(flush(output)?),
@@ -65,7 +73,13 @@ fn flush<O: Write>(output: &mut O) -> Result<(), InputFault>
 /// Serves HTTP connections at an address. The files are read first, then the database is opened, the key holder
 /// reached, and the address listened on. It reads and writes no stream of the process. Refused as `read_files` and
 /// `operations::serve`.
-pub fn serve(rt: &HostRuntime, words: &ServeWords<'_>) -> Result<(), Fault>
+pub fn serve<F: Start + Drop>(
+    rt: &HostRuntime,
+    words: &ServeWords<'_>,
+    start: F,
+) -> Result<(), Fault>
+    ensures served { OnOk result (ServesConnections (machine_of ⟦<FileFrom<F> as Disk>⟧ F.Start ⟦<HostSigner<'static> as Signer>⟧
+        ⟦<SystemClock<'static, HostRuntime> as Clock>⟧) words.now (Ok tt)) }
     ensures faults { IfErr result IsServeFault }
 {
     let Files {
@@ -82,6 +96,7 @@ pub fn serve(rt: &HostRuntime, words: &ServeWords<'_>) -> Result<(), Fault>
     Ok(operations::serve(
         rt,
         words.desk.db,
+        start,
         terms,
         signing,
         words.listen,

@@ -8,16 +8,17 @@ use crate::accounts::account_named;
 use crate::check::read_policy;
 use crate::fault::Fault;
 use command_line::AuditWords;
-use operations::Inquiry;
+use operations::{Inquiry, Start};
 use std::io::Write;
 use std::rt::HostRuntime;
 
 /// Writes the extract that the words ask for, and checks its stamps where they ask for that, with a line for each that
 /// fails: whether there is none. The policy file is read first, then the account looked for, and the database opened
 /// last.
-pub fn audit<O: Write, E: Write>(
+pub fn audit<F: Start + Drop, O: Write, E: Write>(
     rt: &HostRuntime,
     words: &AuditWords<'_>,
+    start: F,
     output: &mut O,
     errors: &mut E,
 ) -> Result<bool, Fault>
@@ -38,5 +39,5 @@ pub fn audit<O: Write, E: Write>(
         to: words.to,
         check: words.check,
     };
-    Ok(operations::audit(rt, words.db, &inquiry, output, errors)?)
+    Ok(operations::audit(rt, words.db, start, &inquiry, output, errors)?)
 }

@@ -29,6 +29,8 @@ pub enum Fault {
     Policy(PolicyFault),
     /// The database refused, or isn't the counter's.
     Store(StoreFault),
+    /// An identity can't be installed.
+    Desk(desk::Fault),
     /// An extract is refused.
     Audit(ExtractFault),
     /// The inputs of the program itself.
@@ -62,6 +64,7 @@ impl Fault {
             Fault::Cms(_) => "counter: cms ",
             Fault::Policy(_) => "counter: policy ",
             Fault::Store(_) => "counter: store ",
+            Fault::Desk(_) => "counter: desk ",
             Fault::Audit(_) => "counter: audit ",
             Fault::Input(_) => "counter: input ",
         }
@@ -70,7 +73,7 @@ impl Fault {
     /// The refusal's number.
     fn number(self) -> u8
         ensures number { result ≡ number_of_fault self }
-        ensures most { result ≤ 10 }
+        ensures most { result ≤ 11 }
     {
         match self {
             Fault::Der(fault) => fault.number(),
@@ -78,6 +81,7 @@ impl Fault {
             Fault::Cms(fault) => fault.number(),
             Fault::Policy(fault) => fault.number(),
             Fault::Store(fault) => fault.number(),
+            Fault::Desk(fault) => fault.number(),
             Fault::Audit(fault) => fault.number(),
             Fault::Input(fault) => fault.number(),
         }
@@ -141,6 +145,7 @@ impl From<OperationFault> for Fault {
     fn from(fault: OperationFault) -> Fault {
         match fault {
             OperationFault::Store(fault) => Fault::Store(fault),
+            OperationFault::Desk(fault) => Fault::Desk(fault),
             OperationFault::Unreached => Fault::Input(InputFault::Signer),
             OperationFault::Unheard => Fault::Input(InputFault::Address),
             OperationFault::Clock => Fault::Input(InputFault::Failed),
@@ -158,7 +163,7 @@ impl From<InputFault> for Fault {
 
 /// The number in decimal, and LF.
 fn line_end(number: u8) -> &'static str
-    requires { number ≤ 10 }
+    requires { number ≤ 11 }
     ensures { result.now ≡ decimal number ++ 0x0a ∷ [] }
 {
     match number {
@@ -172,7 +177,8 @@ fn line_end(number: u8) -> &'static str
         7 => "7\n",
         8 => "8\n",
         9 => "9\n",
-        _ => "10\n",
+        10 => "10\n",
+        _ => "11\n",
     }
 }
 

@@ -1,8 +1,9 @@
 //! The files that say by what requests are answered, and who signs.
-ghost use Rattle.std.specs.Prelude.{◌≡◌, ◌⊎◌, ◌≤◌, List, ℕ, length, Ok, IfOk, IfErr};
-ghost use Rattle.cms.specs.Certificate.{CertificateParts, IsAlgorithm, IsCertificate, identity_of};
+ghost use Rattle.std.specs.Prelude.{◌≡◌, ◌⊎◌, ◌≤◌, List, ℕ, [], length, Ok, None, IfOk, IfErr};
+ghost use Rattle.cms.specs.Certificate.{IsAlgorithm};
 ghost use Rattle.policy.specs.Meaning.{meaning_of};
 ghost use Rattle.policy.specs.View.{policy_view};
+ghost use Rattle.counter.specs.Desks.{IsIdentity};
 ghost use Rattle.counter.specs.Fault.{IsFileFault, IsSettingFault};
 ghost use Rattle.operations.specs.Signing.{algorithm_of};
 ghost use Rattle.counter.specs.Signers.{SignsAs};
@@ -23,6 +24,10 @@ const BEYOND_A_CERTIFICATE: u64 = 16_385;
 /// One octet more than an AlgorithmIdentifier may have.
 const BEYOND_AN_ALGORITHM: u64 = 257;
 
+/// So many octets of a chain decide how it is refused: two certificates, one value more of the most contents that a
+/// value has, and an octet behind that.
+const MOST_OF_A_CHAIN: u64 = 2 * 16_384 + 5 + 16_777_215 + 1;
+
 /// The most octets of a signing key.
 const MOST_OF_A_KEY: usize = 256;
 
@@ -39,17 +44,19 @@ pub struct Files<'a> {
     pub algorithm: Algorithm,
 }
 
-/// Reads the policy file, the certificate and the signer's file, in this order. Refused as `read_policy`,
+/// Reads the policy file, the certificate, its chain and the signer's file, in this order. Refused as `read_policy`,
 /// `read_identity` and `read_signing`.
 pub fn read_files<'a>(rt: &HostRuntime, words: &DeskWords<'a>) -> Result<Files<'a>, Fault>
     // No contract says what a file holds. So the policy is the meaning of some text.
     ensures meant { IfOk result (λ files. (text : List ℕ) × (meaning_of text ≡ Ok (policy_view files.policy))) }
+    ensures identity { IfOk result (λ files. IsIdentity files.identity) }
+    ensures alone { words.now.chain ≡ None → IfOk result (λ files. files.identity.chain ≡ []) }
     ensures signs { IfOk result (λ files. SignsAs words.now.signer files.signing) }
     ensures algorithm { IfOk result (λ files. files.algorithm ≡ algorithm_of files.signing) }
     ensures faults { IfErr result IsSettingFault }
 {
     let policy = read_policy(rt, words.rules)?;
-    let identity = read_identity(rt, words.certificate)?;
+    let identity = read_identity(rt, words.certificate, words.chain)?;
     let signing = read_signing(rt, words.signer)?;
     let algorithm = Algorithm::from_bytes(rt.alloc(), signing.algorithm().as_slice())?;
     Ok(Files {
@@ -60,17 +67,32 @@ pub fn read_files<'a>(rt: &HostRuntime, words: &DeskWords<'a>) -> Result<Files<'
     })
 }
 
-/// Reads a certificate. A file that can't be read is `input` 2, and one that is no certificate, or one of more than
-/// 16,384 octets, `cms` with the number of its refusal. Where memory runs out it is `input` 7 over the file, and `cms`
-/// 3 over the certificate.
-pub fn read_identity(rt: &HostRuntime, path: &str) -> Result<Identity, Fault>
-    // No contract says what a file holds. So the identity is that of some certificate.
-    ensures found { IfOk result (λ identity. (octets : List ℕ) × (p : CertificateParts)
-        × IsCertificate octets p × (identity ≡ identity_of octets p)) }
+/// Reads a certificate, and then its chain, where a file is named for one. A file that can't be read is `input` 2. One
+/// that is no certificate or no chain of some, or that has a certificate of more than 16,384 octets, more than three in
+/// the chain, or one twice, is `cms` with the number of its refusal. Where memory runs out it is `input` 7 over a file,
+/// and `cms` 3 over what it has.
+pub fn read_identity(rt: &HostRuntime, path: &str, chain: Option<&str>) -> Result<Identity, Fault>
+    // No contract says what a file holds. So the identity is that of some certificate and some chain.
+    ensures found { IfOk result IsIdentity }
+    ensures alone { chain.entry ≡ None → IfOk result (λ identity. identity.chain ≡ []) }
     ensures faults { IfErr result IsFileFault }
 {
-    let octets = read_beginning(rt, path, BEYOND_A_CERTIFICATE)?;
-    Ok(Identity::from_certificate(rt.alloc(), octets.as_slice())?)
+    let certificate = read_beginning(rt, path, BEYOND_A_CERTIFICATE)?;
+    let chain = read_chain(rt, certificate.as_slice(), chain)?;
+    Ok(Identity::from_parts(rt.alloc(), certificate.as_slice(), chain.as_slice())?)
+}
+
+/// Reads the chain of a certificate, none where no file is named. What is wrong with the certificate is told before the
+/// file is looked for.
+fn read_chain(rt: &HostRuntime, certificate: &[u8], path: Option<&str>) -> Result<Vec<u8>, Fault>
+    ensures none { path.entry ≡ None → IfOk result (λ octets. octets.items ≡ []) }
+    ensures faults { IfErr result IsFileFault }
+{
+    let Some(path) = path else {
+        return Ok(Vec::new(rt.alloc()));
+    };
+    Identity::from_certificate(rt.alloc(), certificate)?;
+    Ok(read_beginning(rt, path, MOST_OF_A_CHAIN)?)
 }
 
 /// Reads the key of the stand-in signer. A file that can't be read, or hasn't 1 to 256 octets, is `input` 2. Where

@@ -1,46 +1,66 @@
 //! What the words of an operator do to the database.
 ghost use Rattle.std.specs.Prelude.{◌≡◌, ◌<◌, ◌≤◌, Err, IfOk, IfErr};
 ghost use Rattle.book.specs.Values.{calibration_view, hold_view};
-ghost use Rattle.counter.specs.Additions.{calibration_of, hold_of};
+ghost use Rattle.operations.specs.Machine.{image_at};
+ghost use Rattle.operations.specs.OverFiles.{IsMigratedOver};
+ghost use Rattle.counter.specs.Additions.{AddsCalibration, AddsHold, calibration_of, hold_of};
 ghost use Rattle.counter.specs.Fault.{IsStoreFault};
+ghost use Rattle.operations.specs.Machine.{machine_of};
 
 use crate::fault::{Fault, InputFault};
 use book::{Calibration, Hold};
+use cms::Signer;
 use command_line::{CalibrateWords, HoldWords, InitWords, MigrateWords};
-use operations::Addition;
+use connections::{Clock, SystemClock};
+use operations::{Addition, Disk, FileFrom, HostSigner, Start};
 use std::rt::HostRuntime;
 
 /// Makes the tables of a new database.
-pub fn init(rt: &HostRuntime, words: &InitWords<'_>) -> Result<(), Fault>
+pub fn init<F: Start + Drop>(rt: &HostRuntime, words: &InitWords<'_>, start: F) -> Result<(), Fault>
     ensures { IfErr result IsStoreFault }
 {
-    Ok(operations::init(rt, words.db)?)
+    Ok(operations::init(rt, words.db, start)?)
 }
 
 /// Takes a database of an older schema over.
-pub fn migrate(rt: &HostRuntime, words: &MigrateWords<'_>) -> Result<(), Fault>
-    ensures { IfErr result IsStoreFault }
+pub fn migrate<F: Start + Drop>(
+    rt: &HostRuntime,
+    words: &MigrateWords<'_>,
+    start: F,
+) -> Result<(), Fault>
+    ensures migrated { IfOk result (λ _. IsMigratedOver ⟦<FileFrom<F> as Disk>⟧ (image_at F.Start)) }
+    ensures faults { IfErr result IsStoreFault }
 {
-    Ok(operations::migrate(rt, words.db)?)
+    Ok(operations::migrate(rt, words.db, start)?)
 }
 
 /// Adds the calibration that the words state.
-pub fn calibrate(rt: &HostRuntime, words: &CalibrateWords<'_>) -> Result<(), Fault>
-    ensures { IfErr result IsStoreFault }
+pub fn calibrate<F: Start + Drop>(
+    rt: &HostRuntime,
+    words: &CalibrateWords<'_>,
+    start: F,
+) -> Result<(), Fault>
+    ensures added { IfOk result (λ _. AddsCalibration (machine_of ⟦<FileFrom<F> as Disk>⟧ F.Start ⟦<HostSigner<'static> as Signer>⟧
+        ⟦<SystemClock<'static, HostRuntime> as Clock>⟧) words.now) }
+    ensures faults { IfErr result IsStoreFault }
 {
     let calibration = calibration_of(words);
-    Ok(operations::add(rt, words.db, &Addition::Calibration(calibration))?)
+    operations::add(rt, words.db, start, &Addition::Calibration(calibration))?;
+    Ok(())
 }
 
 /// Adds the hold that the words state. One that doesn't begin before it ends is `input` 3, before the database is
 /// looked at.
-pub fn hold(rt: &HostRuntime, words: &HoldWords<'_>) -> Result<(), Fault>
+pub fn hold<F: Start + Drop>(rt: &HostRuntime, words: &HoldWords<'_>, start: F) -> Result<(), Fault>
+    ensures added { IfOk result (λ _. AddsHold (machine_of ⟦<FileFrom<F> as Disk>⟧ F.Start ⟦<HostSigner<'static> as Signer>⟧
+        ⟦<SystemClock<'static, HostRuntime> as Clock>⟧) words.now) }
     ensures some { IfOk result (λ _. words.now.from < words.now.to) }
     ensures none { words.now.to ≤ words.now.from → result ≡ Err (Fault.Input InputFault.Hold) }
     ensures faults { words.now.from < words.now.to → IfErr result IsStoreFault }
 {
     let hold = hold_of(words)?;
-    Ok(operations::add(rt, words.db, &Addition::Hold(hold))?)
+    operations::add(rt, words.db, start, &Addition::Hold(hold))?;
+    Ok(())
 }
 
 /// The calibration that the words state: the offset is minus their number where the flag is there.

@@ -8,6 +8,7 @@ ghost use Rattle.counter.specs.Audits.{FailsStamps, IsNoAudit, LeavesCut, Leaves
 ghost use Rattle.counter.specs.Counts.{Counts};
 ghost use Rattle.counter.specs.Fault.{fault_line};
 ghost use Rattle.counter.specs.Hexadecimal.{line};
+ghost use Rattle.operations.specs.Machine.{machine_of};
 ghost use Rattle.counter.specs.Writing.{Begins};
 
 use crate::answer::{answer, octets_of};
@@ -20,7 +21,10 @@ use crate::history::{calibrate, hold, init, migrate};
 use crate::output::write_text;
 use crate::settings::Settings;
 use crate::tst::tst_reply;
+use cms::Signer;
 use command_line::{AnswerWords, AuditWords, CheckWords, Refusal, TstWords, Word};
+use connections::{Clock, SystemClock};
+use operations::{Disk, FileFrom, HostSigner, Start, Unknown};
 use std::alloc::Global;
 use std::io::{Read, Write};
 use std::rt::HostRuntime;
@@ -75,6 +79,7 @@ pub fn run(rt: &HostRuntime) -> u8
         Ok(words) => run_words(
             rt,
             words.as_slice(),
+            Unknown,
             &mut rt.stdin(),
             &mut rt.stdout(),
             &mut rt.stderr(),
@@ -109,9 +114,10 @@ fn process_words(rt: &HostRuntime) -> io::Result<Vec<String>> {
 /// Where the status isn't 0 nothing is written to `output`, but where writing an answer or help fails, or an extract is
 /// refused on the way: then a beginning of it stands there; and where a check fails or is stopped: then the whole
 /// extract.
-pub fn run_words<I: Read, O: Write, E: Write>(
+pub fn run_words<F: Start + Drop, I: Read, O: Write, E: Write>(
     rt: &HostRuntime,
     words: &[String],
+    start: F,
     input: &mut I,
     output: &mut O,
     errors: &mut E,
@@ -120,7 +126,8 @@ pub fn run_words<I: Read, O: Write, E: Write>(
 
     // Where all is done, what the words ask for is written, or they ask for help.
     ensures done { result ≡ 0 → ((word : Word) × Asks (texts_of words.now) word
-        × Does word (I.remaining input.old) (I.remaining input.new)
+        × Does (machine_of ⟦<FileFrom<F> as Disk>⟧ F.Start ⟦<HostSigner<'static> as Signer>⟧
+        ⟦<SystemClock<'static, HostRuntime> as Clock>⟧) O.contents output.old word (I.remaining input.old) (I.remaining input.new)
         (Appends (O.contents output.old) (O.contents output.new)))
         ⊎ AsksHelp (texts_of words.now) }
 
@@ -144,7 +151,8 @@ pub fn run_words<I: Read, O: Write, E: Write>(
     ensures kept { result ≡ 1 → (O.contents output.new ≡ O.contents output.old)
         ⊎ (AsksHelp (texts_of words.now)
         ⊎ (((word : Word) × Asks (texts_of words.now) word
-        × Does word (I.remaining input.old) (I.remaining input.new)
+        × Does (machine_of ⟦<FileFrom<F> as Disk>⟧ F.Start ⟦<HostSigner<'static> as Signer>⟧
+        ⟦<SystemClock<'static, HostRuntime> as Clock>⟧) O.contents output.old word (I.remaining input.old) (I.remaining input.new)
         (Begins (O.contents output.old) (O.contents output.new))
         × Begins (E.contents errors.old) (E.contents errors.new) (fault_line (Fault.Input InputFault.Failed)))
         ⊎ ((audited : AuditWords) × Asks (texts_of words.now) (Word.Audit audited)
@@ -152,7 +160,7 @@ pub fn run_words<I: Read, O: Write, E: Write>(
         (E.contents errors.new)))) }
 {
     match Word::parse(rt.alloc(), words) {
-        Ok(word) => match run_word(rt, &word, input, output, errors) {
+        Ok(word) => match run_word(rt, &word, start, input, output, errors) {
             Ok(outcome) => outcome.status(),
             Err(fault) => report(fault, errors),
         },
@@ -161,15 +169,17 @@ pub fn run_words<I: Read, O: Write, E: Write>(
 }
 
 /// Does what a word asks for.
-fn run_word<I: Read, O: Write, E: Write>(
+fn run_word<F: Start + Drop, I: Read, O: Write, E: Write>(
     rt: &HostRuntime,
     word: &Word<'_>,
+    start: F,
     input: &mut I,
     output: &mut O,
     errors: &mut E,
 ) -> Result<Outcome, Fault>
     ensures done { IfOk result (λ outcome. outcome ≢ Outcome.Failing
-        → Does word.now (I.remaining input.old) (I.remaining input.new)
+        → Does (machine_of ⟦<FileFrom<F> as Disk>⟧ F.Start ⟦<HostSigner<'static> as Signer>⟧
+        ⟦<SystemClock<'static, HostRuntime> as Clock>⟧) O.contents output.old word.now (I.remaining input.old) (I.remaining input.new)
         (Appends (O.contents output.old) (O.contents output.new))) }
     ensures silent { IfOk result (λ outcome. outcome ≢ Outcome.Failing
         → E.contents errors.new ≡ E.contents errors.old) }
@@ -182,7 +192,8 @@ fn run_word<I: Read, O: Write, E: Write>(
     // Before a fault nothing is written, but where there is an answer and writing it fails.
     ensures kept { IsNoAudit word.now → IfErr result (λ fault. (O.contents output.new ≡ O.contents output.old)
         ⊎ ((fault ≡ Fault.Input InputFault.Failed)
-        × Does word.now (I.remaining input.old) (I.remaining input.new)
+        × Does (machine_of ⟦<FileFrom<F> as Disk>⟧ F.Start ⟦<HostSigner<'static> as Signer>⟧
+        ⟦<SystemClock<'static, HostRuntime> as Clock>⟧) O.contents output.old word.now (I.remaining input.old) (I.remaining input.new)
         (Begins (O.contents output.old) (O.contents output.new)))) }
     ensures untold { IsNoAudit word.now → IfErr result (λ _. E.contents errors.new ≡ E.contents errors.old) }
 
@@ -200,35 +211,35 @@ fn run_word<I: Read, O: Write, E: Write>(
             Ok(Outcome::Counted)
         }
         Word::Init(words) => {
-            init(rt, words)?;
+            init(rt, words, start)?;
             Ok(Outcome::Changed)
         }
         Word::Migrate(words) => {
-            migrate(rt, words)?;
+            migrate(rt, words, start)?;
             Ok(Outcome::Changed)
         }
         Word::Calibrate(words) => {
-            calibrate(rt, words)?;
+            calibrate(rt, words, start)?;
             Ok(Outcome::Changed)
         }
         Word::Hold(words) => {
-            hold(rt, words)?;
+            hold(rt, words, start)?;
             Ok(Outcome::Changed)
         }
         Word::Answer(words) => {
-            answer_request(rt, words, input, output)?;
+            answer_request(rt, words, start, input, output)?;
             Ok(Outcome::Replied)
         }
         Word::Exchange(words) => {
-            exchange(rt, words, input, output)?;
+            exchange(rt, words, start, input, output)?;
             Ok(Outcome::Exchanged)
         }
         Word::Serve(words) => {
-            serve(rt, words)?;
+            serve(rt, words, start)?;
             Ok(Outcome::Served)
         }
         Word::Audit(words) => {
-            if audit(rt, words, output, errors)? {
+            if audit(rt, words, start, output, errors)? {
                 Ok(Outcome::Extracted)
             } else {
                 Ok(Outcome::Failing)
@@ -278,23 +289,26 @@ fn tst<I: Read, O: Write>(
 }
 
 /// Reads a request, answers it over the database, and writes the reply.
-fn answer_request<I: Read, O: Write>(
+fn answer_request<F: Start + Drop, I: Read, O: Write>(
     rt: &HostRuntime,
     words: &AnswerWords<'_>,
+    start: F,
     input: &mut I,
     output: &mut O,
 ) -> Result<(), Fault>
     ensures answered { OnOk result (IfSome (I.remaining input.old) (λ text.
-        (reply : List ℕ) × RepliesTo words.now text reply
+        (reply : List ℕ) × RepliesTo (machine_of ⟦<FileFrom<F> as Disk>⟧ F.Start ⟦<HostSigner<'static> as Signer>⟧
+        ⟦<SystemClock<'static, HostRuntime> as Clock>⟧) words.now text reply
         × Appends (O.contents output.old) (O.contents output.new) (line reply))) }
 
     // Before a fault nothing is written, but where there is a reply and writing it fails.
     ensures kept { IfErr result (λ fault. (O.contents output.new ≡ O.contents output.old)
         ⊎ ((fault ≡ Fault.Input InputFault.Failed) × IfSome (I.remaining input.old) (λ text.
-        (reply : List ℕ) × RepliesTo words.now text reply
+        (reply : List ℕ) × RepliesTo (machine_of ⟦<FileFrom<F> as Disk>⟧ F.Start ⟦<HostSigner<'static> as Signer>⟧
+        ⟦<SystemClock<'static, HostRuntime> as Clock>⟧) words.now text reply
         × Begins (O.contents output.old) (O.contents output.new) (line reply)))) }
 {
-    let reply = answer(rt, words, input)?;
+    let reply = answer(rt, words, start, input)?;
     write_octets(rt.alloc(), octets_of(&reply), output)?;
     Ok(())
 }

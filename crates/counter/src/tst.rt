@@ -59,6 +59,7 @@ fn write_reply(
         gen_time,
         settings.accuracy,
         settings.ordering,
+        None,
     );
     write_tst(alloc, &tst)
 }

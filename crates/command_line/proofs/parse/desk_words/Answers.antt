@@ -1,7 +1,7 @@
 use Rattle.std.proofs.Common.{codes, refl}
 use Rattle.clap.specs.Words.{found_of, rows_of}
 use Rattle.command_line.proofs.Signers.{untold_signer}
-use Rattle.command_line.proofs.Stated.{reads_text, unread_text}
+use Rattle.command_line.proofs.Stated.{reads_some_text, reads_text, unread_text}
 use Rattle.command_line.proofs.parse.desk_words.Goals as goal
 
 pub returns-clause-found : goal.returns-clause-found
@@ -13,6 +13,7 @@ returns-clause-found c =
           c.in_ok-get_str-2.was;
       certificate = reads_text found (codes "certificate") c.get_str-3.result c.in_ok-get_str-3.field-0
           c.get_str-3.ensures c.in_ok-get_str-3.was;
+      chain = reads_some_text found (codes "chain") c.get_str-4.result c.get_str-4.ensures;
       signer = c.in_ok-signer_words.ensures.found;
     }
 

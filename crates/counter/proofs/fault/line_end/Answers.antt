@@ -1,5 +1,5 @@
 use Rattle.std.proofs.Common.{arith}
-use Rattle.counter.proofs.Writing.{digit_line, ten_line}
+use Rattle.counter.proofs.Writing.{digit_line, eleven_line, ten_line}
 use Rattle.counter.proofs.fault.line_end.Goals as goal
 
 pub returns-in-0 : goal.returns-in-0
@@ -32,5 +32,8 @@ returns-in-8 c = digit_line c.args.number 8 c.in-8.is (omega arith)
 pub returns-in-9 : goal.returns-in-9
 returns-in-9 c = digit_line c.args.number 9 c.in-9.is (omega arith)
 
+pub returns-in-10 : goal.returns-in-10
+returns-in-10 c = ten_line c.args.number c.in-10.is
+
 pub returns-in_default : goal.returns-in_default
-returns-in_default c = ten_line c.args.number (omega (arith, c.requires, c.in_default))
+returns-in_default c = eleven_line c.args.number (omega (arith, c.requires, c.in_default))

@@ -5,6 +5,12 @@ use Rattle.counter.specs.Replies.{octets_of}
 use Rattle.counter.specs.declared.fault.Fault.TheVariants.{Input}
 use Rattle.counter.proofs.run.answer_request.Goals as goal
 
+pub returns-clause-answered : goal.returns-clause-answered
+returns-clause-answered g c =
+    let written = rw c.octets_of.ensures at c.in_ok-write_octets.ensures.written in
+    IfSome_then (g.I.Read.remaining c.args.input.now) c.in_ok-reply.ensures
+    (λ text replies. (octets_of c.in_ok-reply.reply, replies, written))
+
 pub returns-in_err-write_octets-clause-kept : goal.returns-in_err-write_octets-clause-kept
 returns-in_err-write_octets-clause-kept g c =
     let failing = err_from_is_err_and c.from_residual-in_err-write_octets.result
