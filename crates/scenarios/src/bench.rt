@@ -32,7 +32,7 @@ pub struct Bench<'p> {
     pub desk: Option<Counter<'p>>,
     pub tables: Option<Base<Place>>,
     pub signer: Holder,
-    pub commands: Option<Vec<Command<'p>>>,
+    pub commands: Option<Vec<Command<'p, 'p>>>,
     /// The octets of a request.
     pub request: Vec<u8>,
     /// What takes answers.

@@ -13,7 +13,7 @@ pub struct Reader<'p> {
     pub setting: &'p Setting,
 }
 
-fn stamp<'p>(reader: Reader<'p>, words: &mut Words<'p>) -> Command<'p> {
+fn stamp<'p>(reader: Reader<'p>, words: &mut Words<'p>) -> Command<'p, 'p> {
     Command::Stamp {
         account: reader.setting.account(words.next()),
         reading: words.signed(),
@@ -21,7 +21,7 @@ fn stamp<'p>(reader: Reader<'p>, words: &mut Words<'p>) -> Command<'p> {
     }
 }
 
-fn deposit<'p>(reader: Reader<'p>, account: &'p Account, words: &mut Words<'p>) -> Command<'p> {
+fn deposit<'p>(reader: Reader<'p>, account: &'p Account, words: &mut Words<'p>) -> Command<'p, 'p> {
     Command::Deposit {
         account,
         reading: words.signed(),
@@ -30,7 +30,11 @@ fn deposit<'p>(reader: Reader<'p>, account: &'p Account, words: &mut Words<'p>) 
     }
 }
 
-fn of_account<'p>(reader: Reader<'p>, word: &str, words: &mut Words<'p>) -> Option<Command<'p>> {
+fn of_account<'p>(
+    reader: Reader<'p>,
+    word: &str,
+    words: &mut Words<'p>,
+) -> Option<Command<'p, 'p>> {
     let account = reader.setting.account(words.next())?;
     Some(match word {
         "deposit" => deposit(reader, account, words),
@@ -67,7 +71,7 @@ fn of_account<'p>(reader: Reader<'p>, word: &str, words: &mut Words<'p>) -> Opti
     })
 }
 
-fn calibrate<'p>(words: &mut Words<'_>) -> Command<'p> {
+fn calibrate<'p>(words: &mut Words<'_>) -> Command<'p, 'p> {
     Command::Calibrate(Calibration {
         reading: words.signed(),
         offset: words.signed(),
@@ -75,11 +79,18 @@ fn calibrate<'p>(words: &mut Words<'_>) -> Command<'p> {
     })
 }
 
-fn hold<'p>(words: &mut Words<'_>) -> Command<'p> {
+fn hold<'p>(words: &mut Words<'_>) -> Command<'p, 'p> {
     Command::Hold(Hold {
         from: words.signed(),
         to: words.signed(),
     })
+}
+
+fn succeed<'p>(reader: Reader<'p>) -> Command<'p, 'p> {
+    Command::Succeed {
+        identity: &reader.setting.next,
+        algorithm: &reader.setting.algorithm,
+    }
 }
 
 /// The command that the words spell; none where they spell none, or name an account that no file has.
@@ -87,11 +98,12 @@ pub fn command_of<'p>(
     reader: Reader<'p>,
     word: &str,
     words: &mut Words<'p>,
-) -> Option<Command<'p>> {
+) -> Option<Command<'p, 'p>> {
     match word {
         "stamp" => Some(stamp(reader, words)),
         "calibrate" => Some(calibrate(words)),
         "hold" => Some(hold(words)),
+        "succeed" => Some(succeed(reader)),
         _ => of_account(reader, word, words),
     }
 }

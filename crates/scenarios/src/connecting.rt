@@ -1,7 +1,7 @@
 //! Connections, and the stores that are made and taken over them.
 use crate::bench::{Bench, Counter, Kept, Place};
 use crate::setting::Setting;
-use desk::Desk;
+use desk::{Desk, Fault};
 use sqlite::{Connection, Error};
 use std::alloc::Global;
 use store::{Store, StoreFault};
@@ -22,8 +22,8 @@ fn adopt(alloc: Global, conn: Connection<Place>) -> Opened {
     Store::adopt(alloc, conn)
 }
 
-fn desk_over(alloc: Global, setting: &Setting, store: Kept) -> Counter<'_> {
-    Desk::new(
+fn desk_over(alloc: Global, setting: &Setting, store: Kept) -> Result<Counter<'_>, (Fault, Kept)> {
+    Desk::open(
         alloc,
         &setting.policy,
         &setting.identity,
@@ -40,10 +40,21 @@ pub fn connect(bench: &mut Bench<'_>) {
     }
 }
 
+/// Keeps a desk over a store, or the connection and why the desk was refused.
+fn keep_over(bench: &mut Bench<'_>, store: Kept) {
+    match desk_over(bench.alloc, bench.setting, store) {
+        Ok(desk) => bench.desk = Some(desk),
+        Err((fault, store)) => {
+            bench.printer.tell(&fault);
+            bench.conn = Some(store.into_connection());
+        }
+    }
+}
+
 /// Keeps a desk over the store that was opened, or the connection and why it was refused.
 fn keep(bench: &mut Bench<'_>, opened: Opened) {
     match opened {
-        Ok(store) => bench.desk = Some(desk_over(bench.alloc, bench.setting, store)),
+        Ok(store) => keep_over(bench, store),
         Err((fault, conn)) => {
             bench.printer.tell(&fault);
             bench.conn = Some(conn);

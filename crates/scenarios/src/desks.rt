@@ -1,7 +1,7 @@
 //! Calls of the desk.
 use crate::bench::{Counter, Holder};
 use crate::printing::Printer;
-use cms::Signer;
+use cms::{Algorithm, Identity, Signer};
 use desk::{Answer, Begun, Command, Deposited, Fault, Pending, Reply};
 use policy::Account;
 use store::Listed;
@@ -93,8 +93,16 @@ fn revoke_group(
     desk.revoke_group(account, number, group)
 }
 
-/// Makes the call of a deposit's command, and tells of it.
-fn call_about_deposits(printer: Printer<'_>, desk: &mut Counter<'_>, command: Command<'_>) {
+fn succeed<'p>(
+    desk: &mut Counter<'p>,
+    identity: &'p Identity,
+    algorithm: &'p Algorithm,
+) -> Result<(), Fault> {
+    desk.succeed(identity, algorithm)
+}
+
+/// Makes the call of a command on deposits, or of a succession, and tells of it.
+fn call_about_deposits<'p>(printer: Printer<'_>, desk: &mut Counter<'p>, command: Command<'_, 'p>) {
     match command {
         Command::Show { account, number } => tell_shown(printer, show(desk, account, number)),
         Command::Token { account, number } => tell_shown(printer, token(desk, account, number)),
@@ -119,15 +127,19 @@ fn call_about_deposits(printer: Printer<'_>, desk: &mut Counter<'_>, command: Co
             number,
             group,
         } => printer.tell(&revoke_group(desk, account, number, group)),
+        Command::Succeed {
+            identity,
+            algorithm,
+        } => printer.tell(&succeed(desk, identity, algorithm)),
         _ => printer.line("  no such call"),
     }
 }
 
 /// Makes the call of a command, and tells of it. Calibrations and holds are calls of the store.
-pub fn call(
+pub fn call<'p>(
     printer: Printer<'_>,
-    desk: &mut Counter<'_>,
-    command: Command<'_>,
+    desk: &mut Counter<'p>,
+    command: Command<'_, 'p>,
     signer: &mut Holder,
 ) {
     match command {
@@ -146,9 +158,9 @@ pub fn call(
     }
 }
 
-fn run(
-    desk: &mut Counter<'_>,
-    commands: &[Command<'_>],
+fn run<'p>(
+    desk: &mut Counter<'p>,
+    commands: &[Command<'_, 'p>],
     signer: &mut Holder,
 ) -> Result<Vec<Answer>, Fault> {
     desk.run(commands, signer)
@@ -164,10 +176,10 @@ fn tell_answer(printer: Printer<'_>, answer: &Answer) {
 }
 
 /// Runs a list of commands, and tells of each answer.
-pub fn run_all(
+pub fn run_all<'p>(
     printer: Printer<'_>,
-    desk: &mut Counter<'_>,
-    commands: &[Command<'_>],
+    desk: &mut Counter<'p>,
+    commands: &[Command<'_, 'p>],
     signer: &mut Holder,
 ) {
     match run(desk, commands, signer) {

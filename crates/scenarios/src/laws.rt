@@ -5,7 +5,7 @@ use desk::{
     Fault, accounts_are_isolated, accounts_disturb_little, commands_have_one_effect,
     deposits_are_shown_exactly, grants_are_of_their_plan, journeys_keep_their_promises,
     rejections_tell_their_rule, steps_keep_their_promises, steps_leave_sound_histories,
-    texts_are_reserved,
+    successions_bring_their_identity, texts_are_reserved,
 };
 use sqlite_disk::Memory;
 use store::{
@@ -51,6 +51,7 @@ pub fn call_of_desk() {
     deposits_are_shown_exactly();
     steps_keep_their_promises();
     rejections_tell_their_rule();
+    successions_bring_their_identity();
     texts_are_reserved();
     journeys_keep_their_promises();
     accounts_are_isolated::<cms::KeyedHash>();

@@ -120,12 +120,12 @@ fn call_desk<'p>(bench: &mut Bench<'p>, word: &str, words: &mut Words<'p>) {
     }
 }
 
-fn collect<'p>(commands: &mut Vec<Command<'p>>, command: Command<'p>) {
+fn collect<'p>(commands: &mut Vec<Command<'p, 'p>>, command: Command<'p, 'p>) {
     let _ = commands.push(command);
 }
 
 /// Makes the call of a command, or collects it where a run has begun.
-fn perform<'p>(bench: &mut Bench<'p>, command: Command<'p>) {
+fn perform<'p>(bench: &mut Bench<'p>, command: Command<'p, 'p>) {
     if let Some(commands) = &mut bench.commands {
         collect(commands, command);
     } else if let Some(desk) = &mut bench.desk {
@@ -161,7 +161,7 @@ fn call_command<'p>(bench: &mut Bench<'p>, word: &str, words: &mut Words<'p>) {
 fn call<'p>(bench: &mut Bench<'p>, line: &'p str) {
     let mut words = Words { rest: line };
     match words.next() {
-        "#" | "policy" | "other" | "signer" => {}
+        "#" | "policy" | "other" | "signer" | "identity" | "next" => {}
         "connect" => connect(bench),
         "create" => make(bench),
         "adopt" => take(bench),

@@ -6,12 +6,14 @@ use counter_fakes::FailingSigner;
 use policy::{Account, EXAMPLE, Policy};
 use std::alloc::Global;
 
-/// The record of a policy file, that of another, the certificate and the algorithm.
+/// The record of a policy file, that of another, the identities and the algorithm.
 #[derive(Drop)]
 pub struct Setting {
     pub policy: Policy,
     pub other: Policy,
     pub identity: Identity,
+    /// Another identity, for successions.
+    pub next: Identity,
     pub algorithm: Algorithm,
 }
 
@@ -50,8 +52,16 @@ fn policy_by(alloc: Global, names: &Names, line: Option<&str>) -> Option<Policy>
     }
 }
 
-fn identity_of(alloc: Global, names: &Names) -> Option<Identity> {
-    Identity::from_certificate(alloc, names.octets("CERTIFICATE")).ok()
+/// The identity of a certificate and a chain that a line may name; without it, of the certificate of all scenarios.
+fn identity_by(alloc: Global, names: &Names, line: Option<&str>) -> Option<Identity> {
+    let mut words = Words {
+        rest: line.unwrap_or("CERTIFICATE"),
+    };
+    let certificate = names.octets(words.next());
+    match words.next() {
+        "" => Identity::from_certificate(alloc, certificate).ok(),
+        chain => Identity::from_parts(alloc, certificate, names.octets(chain)).ok(),
+    }
 }
 
 fn algorithm_of(alloc: Global, names: &Names) -> Option<Algorithm> {
@@ -63,7 +73,8 @@ pub fn setting_of(alloc: Global, names: &Names, scenario: &str) -> Option<Settin
     Some(Setting {
         policy: policy_by(alloc, names, rest_of(scenario, "policy"))?,
         other: policy_by(alloc, names, rest_of(scenario, "other"))?,
-        identity: identity_of(alloc, names)?,
+        identity: identity_by(alloc, names, rest_of(scenario, "identity"))?,
+        next: identity_by(alloc, names, rest_of(scenario, "next"))?,
         algorithm: algorithm_of(alloc, names)?,
     })
 }

@@ -3,6 +3,7 @@ use crate::bench::Kept;
 use crate::printing::Printer;
 use crate::words::Words;
 use audit::check_row;
+use book::IdentityRow;
 use store::{Book, Stamp, StampsBetween, StoreFault};
 
 /// Tells of a stamp.
@@ -57,15 +58,27 @@ pub fn walk(printer: Printer<'_>, store: &mut Kept, words: &mut Words<'_>) {
     }
 }
 
-/// Tells whether the octets of so many stamps of a range say what their rows say.
-pub fn check(printer: Printer<'_>, store: &mut Kept, words: &mut Words<'_>) {
-    let count = words.number();
-    let mut stamps = between(store, words);
+/// Tells whether the octets of so many stamps say what their rows say, and what the rows of identities do.
+fn check_all(
+    printer: Printer<'_>,
+    stamps: &mut StampsBetween<'_, Kept>,
+    identities: &[IdentityRow],
+    count: u64,
+) {
     for _ in 0..count {
-        match next(&mut stamps) {
-            Ok(Some(stamp)) => printer.tell(&(stamp.serial, check_row(&stamp))),
+        match next(stamps) {
+            Ok(Some(stamp)) => printer.tell(&(stamp.serial, check_row(&stamp, identities))),
             _ => return,
         }
+    }
+}
+
+/// The same of stamps of a range.
+pub fn check(printer: Printer<'_>, store: &mut Kept, words: &mut Words<'_>) {
+    let count = words.number();
+    match store.identities() {
+        Ok(identities) => check_all(printer, &mut between(store, words), &identities, count),
+        Err(fault) => printer.tell(&fault),
     }
 }
 
@@ -98,7 +111,7 @@ fn flip_all(printer: Printer<'_>, stamp: &mut Stamp, word: &str) {
             printer.number("octets", place as u64);
             return;
         }
-        if check_row(stamp) != Ok(false) {
+        if check_row(stamp, &[]) != Ok(false) {
             printer.number("untold", place as u64);
         }
         is_flipped(stamp, word, place);
@@ -112,6 +125,6 @@ pub fn flip(printer: Printer<'_>, store: &mut Kept, words: &mut Words<'_>) {
     if let Ok(Some(stamp)) = next(&mut stamps) {
         let mut stamp = stamp;
         flip_all(printer, &mut stamp, word);
-        printer.tell(&check_row(&stamp));
+        printer.tell(&check_row(&stamp, &[]));
     }
 }

@@ -16,7 +16,7 @@ fn calibrate(store: &mut Kept, words: &mut Words<'_>) -> Ending {
         offset: words.signed(),
         uncertainty: words.number(),
     };
-    store.calibrate(&calibration)
+    store.calibrate(&calibration).map(|_number| ())
 }
 
 fn hold(store: &mut Kept, words: &mut Words<'_>) -> Ending {
@@ -24,7 +24,7 @@ fn hold(store: &mut Kept, words: &mut Words<'_>) -> Ending {
         from: words.signed(),
         to: words.signed(),
     };
-    store.hold(&hold)
+    store.hold(&hold).map(|_number| ())
 }
 
 /// What is reserved under a serial number.

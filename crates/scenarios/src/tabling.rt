@@ -4,6 +4,7 @@ use crate::names::Names;
 use crate::printing::Printer;
 use crate::stamps::tell_stamp;
 use crate::words::Words;
+use book::Reservation;
 use sqlite::Connection;
 use tables::{
     Base, Change, Deposit, Label, LastStamp, LatestCalibration, OpenFault, Origin, Stamp,
@@ -60,17 +61,16 @@ fn part(bench: &mut Bench<'_>) {
 
 fn reserve<'w>(names: &'w Names, words: Words<'w>) -> Change<'w> {
     let mut words = words;
-    Change::Reserve {
+    Change::Reserve(Reservation {
         serial: words.number(),
         account: words.next(),
-        day: words.number(),
         gen_time: words.number(),
         policy: names.octets(words.next()),
         algorithm: names.octets(words.next()),
         digest: names.octets(words.next()),
         request: names.octets(words.next()),
         tst: names.octets(words.next()),
-    }
+    })
 }
 
 fn deposit<'w>(names: &'w Names, words: Words<'w>) -> Change<'w> {
