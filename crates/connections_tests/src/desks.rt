@@ -30,7 +30,10 @@ fn keep(book: &mut MemoryBook) -> Result<(), StoreFault> {
     book.seal_deposit(1, b"", "alice", "plan-7", b"abc")
 }
 
-/// A book with alice's deposit 1, by its first two calls, of which this one is refused.
+/// The calls by which a book is made, and a desk opened over it.
+const CALLS: u64 = 4;
+
+/// A book with alice's deposit 1, of whose calls this one is refused.
 fn book_with_deposit(alloc: Global, refused: u64) -> Result<MemoryBook, Fail> {
     let mut chosen = Vec::new(alloc);
     chosen.push(refused)?;
@@ -55,9 +58,9 @@ fn show(desk: &mut MemoryDesk<'_>, account: &Account) -> Result<Vec<u8>, Fault> 
     desk.show(account, 1)
 }
 
-fn run(
-    desk: &mut MemoryDesk<'_>,
-    commands: &[Command<'_>],
+fn run<'p>(
+    desk: &mut MemoryDesk<'p>,
+    commands: &[Command<'_, 'p>],
     signer: &mut KeyedHash,
 ) -> Result<Vec<Answer>, Fault> {
     desk.run(commands, signer)
@@ -75,8 +78,8 @@ fn rows(listed: Result<Vec<Listed>, Fault>) -> Result<usize, Fault> {
 fn tells_a_refused_list_as_the_stores(rt: HostRuntime) -> Result<(), Fail> {
     let setting = example(rt.alloc())?;
     let alice = alice(&setting)?;
-    let book = book_with_deposit(rt.alloc(), 3)?;
-    let mut desk = desk_of(rt.alloc(), &setting, book);
+    let book = book_with_deposit(rt.alloc(), CALLS + 1)?;
+    let mut desk = desk_of(rt.alloc(), &setting, book)?;
     assert_eq!(rt; rows(list(&mut desk, alice)), Err(Fault::Store));
     assert_eq!(rt; rows(list(&mut desk, alice)), Ok(1));
     Ok(())
@@ -87,9 +90,9 @@ fn tells_a_refused_list_as_the_stores(rt: HostRuntime) -> Result<(), Fail> {
 fn tells_a_refused_deposit_as_the_stores(rt: HostRuntime) -> Result<(), Fail> {
     let setting = example(rt.alloc())?;
     let alice = alice(&setting)?;
-    for refused in 3..5 {
+    for refused in CALLS + 1..CALLS + 3 {
         let book = book_with_deposit(rt.alloc(), refused)?;
-        let mut desk = desk_of(rt.alloc(), &setting, book);
+        let mut desk = desk_of(rt.alloc(), &setting, book)?;
         match show(&mut desk, alice) {
             Ok(_) => return Err(Fail::new("a refused call is answered")),
             Err(fault) => assert_eq!(rt; fault, Fault::Store),
@@ -108,7 +111,7 @@ fn answers_a_long_list_of_commands(rt: HostRuntime) -> Result<(), Fail> {
     let setting = example(rt.alloc())?;
     let account = alice(&setting)?;
     let book = book_with_deposit(rt.alloc(), 0)?;
-    let mut desk = desk_of(rt.alloc(), &setting, book);
+    let mut desk = desk_of(rt.alloc(), &setting, book)?;
     let mut commands = Vec::new(rt.alloc());
     for number in 0..1001 {
         commands.push(Command::Show { account, number })?;

@@ -39,7 +39,7 @@ pub fn example(alloc: Global) -> Result<Setting, Fail> {
     })
 }
 
-fn calibrate(book: &mut MemoryBook) -> Result<(), StoreFault> {
+fn calibrate(book: &mut MemoryBook) -> Result<u64, StoreFault> {
     book.calibrate(&Calibration {
         reading: 0,
         offset: 0,
@@ -48,21 +48,27 @@ fn calibrate(book: &mut MemoryBook) -> Result<(), StoreFault> {
 }
 
 /// A desk over a book.
-pub fn desk_of(alloc: Global, setting: &Setting, book: MemoryBook) -> Desk<'_, MemoryBook> {
-    Desk::new(
-        alloc,
-        &setting.policy,
-        &setting.identity,
-        &setting.algorithm,
-        book,
-    )
+pub fn desk_of(
+    alloc: Global,
+    setting: &Setting,
+    book: MemoryBook,
+) -> Result<Desk<'_, MemoryBook>, Fail> {
+    let Setting {
+        policy,
+        identity,
+        algorithm,
+    } = setting;
+    match Desk::open(alloc, policy, identity, algorithm, book) {
+        Ok(desk) => Ok(desk),
+        Err((fault, _)) => Err(Fail::from(fault)),
+    }
 }
 
 /// A desk over a book with one calibration, of a clock that is right.
 pub fn calibrated(alloc: Global, setting: &Setting) -> Result<Desk<'_, MemoryBook>, Fail> {
     let mut book = MemoryBook::new(alloc, Vec::new(alloc));
     calibrate(&mut book)?;
-    Ok(desk_of(alloc, setting, book))
+    desk_of(alloc, setting, book)
 }
 
 /// An empty time-stamp request.

@@ -3,6 +3,7 @@ use crate::journey::OCTETS;
 use crate::ledger::{Ledger, Sight};
 use crate::setting::{Setting, VOID_EXTRACT};
 use audit::{check_row, extract};
+use book::IdentityRow;
 use cms::attribute_text;
 use desk::{Desk, Fault};
 use std::alloc::{AllocError, Global};
@@ -33,18 +34,36 @@ fn stamps_of<B: Book>(alloc: Global, book: &mut B) -> Result<Option<Vec<Stamp>>,
 }
 
 /// Whether serial numbers rise, genTimes don't fall, and rows agree with their octets.
-fn are_in_order(stamps: &[Stamp]) -> bool {
+fn are_in_order(stamps: &[Stamp], rows: &[IdentityRow]) -> bool {
     let rise = stamps.windows(2).all(|two| two[0].serial < two[1].serial
         && two[0].gen_time <= two[1].gen_time);
-    rise && stamps.iter().all(|stamp| check_row(stamp) == Ok(true))
+    rise && stamps
+        .iter()
+        .all(|stamp| check_row(stamp, rows) == Ok(true))
 }
 
-/// The serial number of the stamp that a text is of.
-fn serial_of(alloc: Global, setting: &Setting, stamps: &[Stamp], text: &[u8]) -> Option<u64> {
+/// Whether the identity under which a serial number was reserved is the second; before the first of them it is not.
+fn is_successors(setting: &Setting, rows: &[IdentityRow], serial: u64) -> bool {
+    let mut is_successors = false;
+    for row in rows {
+        if row.after_serial < serial {
+            is_successors = row.certificate.as_slice() == setting.successor.certificate();
+        }
+    }
+    is_successors
+}
+
+/// The serial number of the stamp that a text is of, under the identity of that number.
+fn serial_of(
+    alloc: Global,
+    setting: &Setting,
+    rows: &[IdentityRow],
+    stamps: &[Stamp],
+    text: &[u8],
+) -> Option<u64> {
     for stamp in stamps {
-        if attribute_text(alloc, &setting.identity, &stamp.tst).is_ok_and(|of| of.as_slice()
-            == text)
-        {
+        let identity = setting.identity_after(is_successors(setting, rows, stamp.serial));
+        if attribute_text(alloc, identity, &stamp.tst).is_ok_and(|of| of.as_slice() == text) {
             return Some(stamp.serial);
         }
     }
@@ -52,10 +71,16 @@ fn serial_of(alloc: Global, setting: &Setting, stamps: &[Stamp], text: &[u8]) ->
 }
 
 /// Whether each text that was given out is of a stamp, under a serial number above those of the texts before it.
-fn are_reserved(alloc: Global, setting: &Setting, stamps: &[Stamp], texts: &[Vec<u8>]) -> bool {
+fn are_reserved(
+    alloc: Global,
+    setting: &Setting,
+    rows: &[IdentityRow],
+    stamps: &[Stamp],
+    texts: &[Vec<u8>],
+) -> bool {
     let mut last = 0;
     for text in texts {
-        match serial_of(alloc, setting, stamps, text) {
+        match serial_of(alloc, setting, rows, stamps, text) {
             Some(serial) if serial > last => last = serial,
             _ => return false,
         }
@@ -157,6 +182,19 @@ fn are_counted<B: Book>(book: &mut B, stamps: &[Stamp], account: &str) -> bool {
     true
 }
 
+/// Looks whether a succession that was acknowledged stands, before an opening installs an identity.
+pub fn check_succession<B: Book>(setting: &Setting, book: &mut B, ledger: &mut Ledger) {
+    if !ledger.is_succeeded {
+        return;
+    }
+    let is_last = match book.identities() {
+        Ok(rows) => rows.last().is_some_and(|row| row.certificate.as_slice()
+            == setting.successor.certificate()),
+        Err(_) => false,
+    };
+    ledger.expect(is_last, "a succession is lost");
+}
+
 /// Looks at the history of a desk's book.
 pub fn check<B: Book + Drop>(
     alloc: Global,
@@ -168,9 +206,13 @@ pub fn check<B: Book + Drop>(
         ledger.expect(false, "stamps aren't answered");
         return Ok(());
     };
-    ledger.expect(are_in_order(&stamps), "stamps aren't in order");
+    let Ok(rows) = desk.store().identities() else {
+        ledger.expect(false, "identities aren't answered");
+        return Ok(());
+    };
+    ledger.expect(are_in_order(&stamps, &rows), "stamps aren't in order");
     let is_reserved = match ledger.signer.texts() {
-        Some(texts) => are_reserved(alloc, setting, &stamps, texts),
+        Some(texts) => are_reserved(alloc, setting, &rows, &stamps, texts),
         None => true,
     };
     ledger.expect(

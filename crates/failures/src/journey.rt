@@ -1,7 +1,7 @@
 //! A journey: what is asked of a desk, one step after the other.
 use crate::ledger::{Ledger, Sight, Step};
 use crate::opening::Look;
-use crate::setting::{REQUEST, RULE_12};
+use crate::setting::{REQUEST, RULE_12, Setting};
 use desk::{Begun, Desk, Fault, Reply};
 use policy::Account;
 use store::{Book, Calibration, StoreFault};
@@ -26,7 +26,7 @@ fn calibrate<B: Book + Drop>(desk: &mut Desk<'_, B>, ledger: &mut Ledger) -> boo
         uncertainty: 0,
     };
     match desk.store().calibrate(&calibration) {
-        Ok(()) => true,
+        Ok(_) => true,
         Err(fault) => {
             ledger.expect(
                 fault == StoreFault::Database,
@@ -132,9 +132,29 @@ fn set_right<B: Book + Drop>(desk: &mut Desk<'_, B>, ledger: &mut Ledger, is_giv
     }
 }
 
+/// Has the other identity succeed.
+fn succeed<'p, B: Book + Drop>(
+    desk: &mut Desk<'p, B>,
+    setting: &'p Setting,
+    ledger: &mut Ledger,
+) -> bool {
+    match desk.succeed(&setting.successor, &setting.algorithm) {
+        Ok(()) => {
+            ledger.is_succeeded = true;
+            true
+        }
+        Err(fault) => is_stores(ledger, fault),
+    }
+}
+
 /// Takes the step that isn't acknowledged yet, and tells whether it is then. Where it is looked at, no call of the disk
 /// may count.
-fn take_step<B: Book + Drop>(desk: &mut Desk<'_, B>, ledger: &mut Ledger, look: Look) -> bool {
+fn take_step<'p, B: Book + Drop>(
+    desk: &mut Desk<'p, B>,
+    setting: &'p Setting,
+    ledger: &mut Ledger,
+    look: Look,
+) -> bool {
     match ledger.step {
         Step::Calibrate => calibrate(desk, ledger),
         Step::Stamp => stamp(desk, ledger, 0, look),
@@ -142,20 +162,22 @@ fn take_step<B: Book + Drop>(desk: &mut Desk<'_, B>, ledger: &mut Ledger, look: 
         Step::Deposit => deposit(desk, ledger),
         Step::Grant => set_right(desk, ledger, true),
         Step::Revoke => set_right(desk, ledger, false),
-        Step::StampLater => stamp(desk, ledger, LATER, look),
+        Step::Succeed => succeed(desk, setting, ledger),
+        Step::StampLater | Step::StampUnder => stamp(desk, ledger, LATER, look),
         Step::Nothing => true,
     }
 }
 
 /// Tries a step so many times: after which of them it was acknowledged, from 0 on.
-fn tries_of<B: Book + Drop>(
-    desk: &mut Desk<'_, B>,
+fn tries_of<'p, B: Book + Drop>(
+    desk: &mut Desk<'p, B>,
+    setting: &'p Setting,
     ledger: &mut Ledger,
     tries: u64,
     look: Look,
 ) -> Option<u64> {
     for again in 0..tries {
-        if take_step(desk, ledger, look) {
+        if take_step(desk, setting, ledger, look) {
             return Some(again);
         }
     }
@@ -164,8 +186,9 @@ fn tries_of<B: Book + Drop>(
 
 /// Takes so many of the steps that aren't acknowledged yet, each as many times as `tries` says until it is: how many
 /// refusals there were, or none where a step is refused each time.
-pub fn go_on<B: Book + Drop>(
-    desk: &mut Desk<'_, B>,
+pub fn go_on<'p, B: Book + Drop>(
+    desk: &mut Desk<'p, B>,
+    setting: &'p Setting,
     ledger: &mut Ledger,
     steps: u64,
     tries: u64,
@@ -176,7 +199,7 @@ pub fn go_on<B: Book + Drop>(
         if ledger.step == Step::Nothing {
             break;
         }
-        let again = tries_of(desk, ledger, tries, look)?;
+        let again = tries_of(desk, setting, ledger, tries, look)?;
         refusals = refusals.saturating_add(again);
         ledger.step = ledger.step.next();
     }

@@ -1,4 +1,5 @@
 //! What those who ask the counter were told, and what was given out to be signed.
+use crate::dump::Dump;
 use crate::noting::NotingSigner;
 use cms::{CmsFault, KeyedHash};
 use std::alloc::{AllocError, Global};
@@ -20,13 +21,20 @@ pub enum Step {
     Revoke,
     /// A request a day later.
     StampLater,
+    /// Another identity succeeds.
+    Succeed,
+    /// A request under it.
+    StampUnder,
     /// Nothing more.
     Nothing,
 }
 
 impl Step {
     /// How many steps there are.
-    pub const COUNT: u64 = 7;
+    pub const COUNT: u64 = 9;
+
+    /// How many there are before the succession, as programs of earlier versions knew them.
+    pub const BEFORE_SUCCESSION: u64 = 7;
 
     /// The step behind it.
     pub fn next(self) -> Step {
@@ -37,7 +45,9 @@ impl Step {
             Step::Deposit => Step::Grant,
             Step::Grant => Step::Revoke,
             Step::Revoke => Step::StampLater,
-            Step::StampLater | Step::Nothing => Step::Nothing,
+            Step::StampLater => Step::Succeed,
+            Step::Succeed => Step::StampUnder,
+            Step::StampUnder | Step::Nothing => Step::Nothing,
         }
     }
 }
@@ -51,6 +61,17 @@ pub enum Sight {
     SeesNot,
     /// A command that gives or takes the right was cut.
     Either,
+}
+
+/// What was told of the tables.
+#[derive(Drop)]
+pub enum Tables {
+    /// Nothing.
+    Unmade,
+    /// That they are there, in the version of now.
+    Made,
+    /// That they hold this in an earlier version, and not that they were taken to that of now.
+    Earlier(Dump),
 }
 
 /// A token that was given.
@@ -68,14 +89,26 @@ pub struct Ledger {
     pub signer: NotingSigner<KeyedHash>,
     /// The step that isn't acknowledged yet.
     pub step: Step,
-    /// Whether the making of the tables was acknowledged.
-    pub is_made: bool,
+    pub tables: Tables,
     pub grants: Vec<Granted>,
     /// The number of the deposit, once it was acknowledged.
     pub deposit: Option<u64>,
     pub sight: Sight,
+    /// Whether the succession was acknowledged.
+    pub is_succeeded: bool,
     /// What was found wrong first.
     wrong: Option<&'static str>,
+}
+
+impl Tables {
+    /// The same once more.
+    fn copied(&self, alloc: Global) -> Result<Tables, AllocError> {
+        match self {
+            Tables::Unmade => Ok(Tables::Unmade),
+            Tables::Made => Ok(Tables::Made),
+            Tables::Earlier(dump) => Ok(Tables::Earlier(dump.copied(alloc)?)),
+        }
+    }
 }
 
 fn make_signer(alloc: Global) -> Result<NotingSigner<KeyedHash>, CmsFault> {
@@ -90,10 +123,11 @@ impl Ledger {
             alloc,
             signer: make_signer(alloc)?,
             step: Step::Calibrate,
-            is_made: false,
+            tables: Tables::Unmade,
             grants: Vec::new(alloc),
             deposit: None,
             sight: Sight::SeesNot,
+            is_succeeded: false,
             wrong: None,
         })
     }
@@ -108,9 +142,10 @@ impl Ledger {
             copy.keep(granted.serial, &granted.reply)?;
         }
         copy.step = self.step;
-        copy.is_made = self.is_made;
+        copy.tables = self.tables.copied(self.alloc)?;
         copy.deposit = self.deposit;
         copy.sight = self.sight;
+        copy.is_succeeded = self.is_succeeded;
         copy.wrong = self.wrong;
         Ok(copy)
     }

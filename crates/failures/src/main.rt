@@ -5,6 +5,7 @@ mod calls;
 mod checks;
 mod dump;
 mod fields;
+mod filling;
 mod growths;
 mod journey;
 mod ledger;
@@ -17,16 +18,20 @@ mod refusing;
 mod setting;
 mod soundness;
 mod stopping;
+mod trial;
+mod versions;
 
 use setting::{Setting, make_setting};
 use std::{env, fs};
 
-/// Does what a word asks for: `stops`, or to refuse the growths of the calls in a file.
+/// Does what a word asks for, or refuses the growths of the calls in a file.
 fn try_word(rt: &HostRuntime, setting: &Setting, word: &str) -> anyhow::Result<()> {
     match word {
         "stops" => stopping::stop_each(rt, setting),
+        "migrations-2" => stopping::stop_migrations(rt, setting, 2),
+        "migrations-1" => stopping::stop_migrations(rt, setting, 1),
         "memory" => stopping::stop_memory(rt, setting),
-        "full" => stopping::fill_each(rt, setting),
+        "full" => filling::fill_each(rt, setting),
         "pieces" => pieces::try_pieces(rt, setting),
         path => {
             let text = fs::read_to_string(rt, path)?;

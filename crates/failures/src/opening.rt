@@ -1,11 +1,13 @@
 //! A counter over two files, from their opening to a stop.
-use crate::checks::{check, check_void};
+use crate::checks::{check, check_succession, check_void};
+use crate::dump::{Dump, dump_of};
 use crate::journey;
-use crate::ledger::Ledger;
+use crate::ledger::{Ledger, Tables};
 use crate::platter::{Fate, Outcome, Platter, Reading};
 use crate::setting::Setting;
 use crate::soundness::are_sound;
-use desk::Desk;
+use crate::versions::take_back;
+use desk::{Desk, Fault};
 use sqlite::{Alter, Connection, FileStore, Options};
 use sqlite_disk::{Crash, Files, Fuse};
 use std::alloc::Global;
@@ -136,7 +138,52 @@ fn connect<D: Platter>(
     }
 }
 
-/// A store over the connection, whose tables are made where none are there and none were said to be made.
+/// Whether the tables are what a migration makes of those of an earlier version or, unless it is done, these still.
+fn are_kept<S: Alter + Drop>(
+    alloc: Global,
+    tables: &Tables,
+    conn: &mut Connection<S>,
+    is_done: bool,
+) -> anyhow::Result<bool> {
+    let Tables::Earlier(earlier) = tables else {
+        return Ok(true);
+    };
+    let found = dump_of(alloc, conn)?;
+    Ok(found.is_migrated(earlier) || !is_done && found == *earlier)
+}
+
+/// Takes tables of an earlier version to that of now, unless that was told: whether it is then.
+fn migrate<S: Alter + Drop>(
+    course: Course<'_>,
+    ledger: &mut Ledger,
+    conn: &mut Connection<S>,
+) -> anyhow::Result<bool> {
+    if !matches!(&ledger.tables, Tables::Earlier(_)) {
+        return Ok(true);
+    }
+    if course.look != Look::None {
+        let are_kept = are_kept(course.alloc, &ledger.tables, conn, false)?;
+        ledger.expect(are_kept, "a stop leaves other tables");
+    }
+    if !conn.is_autocommit() {
+        return Ok(false);
+    }
+    if let Err(fault) = Store::migrate(conn) {
+        ledger.expect(
+            fault == StoreFault::Database,
+            "another refusal of a migration",
+        );
+        return Ok(false);
+    }
+    if course.look != Look::None {
+        let are_kept = are_kept(course.alloc, &ledger.tables, conn, true)?;
+        ledger.expect(are_kept, "a migration makes other tables");
+    }
+    ledger.tables = Tables::Made;
+    Ok(true)
+}
+
+/// A store over the connection, whose tables are made where none are there and none were told of.
 fn store_over<S: Alter + Drop>(
     alloc: Global,
     conn: Connection<S>,
@@ -159,20 +206,33 @@ fn go_on<B: Book + Drop>(
     book: B,
 ) -> anyhow::Result<(B, Progress)> {
     let (alloc, setting) = (course.alloc, course.setting);
-    let mut desk = Desk::new(
-        alloc,
-        &setting.policy,
-        &setting.identity,
-        &setting.algorithm,
-        book,
-    );
+    let mut book = book;
+    if course.look != Look::None {
+        check_succession(setting, &mut book, ledger);
+    }
+    let identity = setting.identity_after(ledger.is_succeeded);
+    let opened = Desk::open(alloc, &setting.policy, identity, &setting.algorithm, book);
+    let mut desk = match opened {
+        Ok(desk) => desk,
+        Err((fault, book)) => {
+            ledger.expect(fault == Fault::Store, "another refusal of a desk");
+            return Ok((book, UNOPENED));
+        }
+    };
     if course.look == Look::Void {
         check_void(alloc, &mut desk, ledger);
     }
     if course.look != Look::None {
         check(alloc, setting, &mut desk, ledger)?;
     }
-    let refusals = journey::go_on(&mut desk, ledger, course.steps, course.tries, course.look);
+    let refusals = journey::go_on(
+        &mut desk,
+        setting,
+        ledger,
+        course.steps,
+        course.tries,
+        course.look,
+    );
     if course.look != Look::None {
         check(alloc, setting, &mut desk, ledger)?;
     }
@@ -189,9 +249,14 @@ fn go_on_over<S: Alter + Drop>(
     ledger: &mut Ledger,
     conn: Connection<S>,
 ) -> anyhow::Result<(Connection<S>, Progress)> {
-    match store_over(course.alloc, conn, ledger.is_made) {
+    let mut conn = conn;
+    if !migrate(course, ledger, &mut conn)? {
+        return Ok((conn, UNOPENED));
+    }
+    let is_made = matches!(&ledger.tables, Tables::Made);
+    match store_over(course.alloc, conn, is_made) {
         Ok(store) => {
-            ledger.is_made = true;
+            ledger.tables = Tables::Made;
             let (store, progress) = go_on(course, ledger, store)?;
             let mut conn = store.into_connection();
             if course.look != Look::None {
@@ -228,4 +293,32 @@ pub fn run<D: Platter>(
         is_opened: progress.is_opened,
         refusals: progress.refusals,
     })
+}
+
+fn taken_back<S: Alter + Drop>(
+    alloc: Global,
+    conn: Connection<S>,
+    version: i64,
+) -> anyhow::Result<(Connection<S>, Dump)> {
+    let mut conn = conn;
+    take_back(&mut conn, version)?;
+    let dump = dump_of(alloc, &mut conn)?;
+    Ok((conn, dump))
+}
+
+/// Takes the tables in files that hold what the image says back to an earlier version: what the files hold then, and
+/// what the tables do.
+pub fn age<D: Platter>(
+    course: Course<'_>,
+    image: &Image,
+    version: i64,
+) -> anyhow::Result<(Image, Dump)> {
+    let files: Files<Fuse<D>> = files_of(course, image)?;
+    match connect(course.alloc, files) {
+        Ok(conn) => {
+            let (conn, dump) = taken_back(course.alloc, conn, version)?;
+            Ok((image_left(course, conn.into_store().close())?, dump))
+        }
+        Err(_files) => anyhow::bail!("the files aren't opened"),
+    }
 }

@@ -1,5 +1,5 @@
 //! Ends that give and take few octets at a time, and limits that lines just fill.
-use crate::setting::{ALGORITHM, REQUEST, Setting};
+use crate::setting::{ALGORITHM, REQUEST, Setting, open_desk};
 use audit::{ExtractFault, Extracted, extract, write_extract};
 use cms::{Algorithm, FramedSigner, KeyedHash, Signer};
 use desk::Desk;
@@ -268,13 +268,7 @@ fn tell(rt: &HostRuntime, what: &str, tally: Tally) -> io::Result<()> {
 fn try_over<B: Book + Drop>(rt: &HostRuntime, setting: &Setting, book: B) -> anyhow::Result<()> {
     let alloc = rt.alloc();
     let mut signer = KeyedHash::new(alloc, b"k")?;
-    let mut desk = Desk::new(
-        alloc,
-        &setting.policy,
-        &setting.identity,
-        &setting.algorithm,
-        book,
-    );
+    let mut desk = open_desk(alloc, setting, book)?;
     fill(&mut desk, &mut signer)?;
     let mut whole = Vec::new(alloc);
     if !extracted(alloc, &mut desk, &mut whole) {

@@ -24,6 +24,36 @@ pub struct Reading {
     pub outcome: Outcome,
 }
 
+impl Reading {
+    /// Each reading, with what each stop leaves.
+    pub const ALL: [Reading; 6] = [
+        Reading {
+            mixes: true,
+            outcome: Outcome::Written,
+        },
+        Reading {
+            mixes: true,
+            outcome: Outcome::Synced,
+        },
+        Reading {
+            mixes: true,
+            outcome: Outcome::Torn,
+        },
+        Reading {
+            mixes: false,
+            outcome: Outcome::Written,
+        },
+        Reading {
+            mixes: false,
+            outcome: Outcome::Synced,
+        },
+        Reading {
+            mixes: false,
+            outcome: Outcome::Torn,
+        },
+    ];
+}
+
 /// When a file fails.
 #[derive(Clone, Copy, Debug)]
 pub struct Fate {

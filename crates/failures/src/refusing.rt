@@ -1,9 +1,9 @@
 //! Calls of which each growth of memory is refused in turn.
 use crate::calls::{Call, Kind, Told, make};
-use crate::dump::dump_of;
+use crate::dump::{Dump, dump_of};
 use crate::fields::word;
 use crate::growths::{Refused, end, refuse};
-use crate::setting::{REQUEST, Setting};
+use crate::setting::{REQUEST, Setting, open_desk};
 use cms::{KeyedHash, Signer};
 use counter_fakes::FailingSigner;
 use desk::{Begun, Desk, Fault};
@@ -36,7 +36,7 @@ struct Fared {
     told: Told,
     was_refused: bool,
     /// What the tables hold then.
-    dump: Vec<u8>,
+    dump: Dump,
     /// What the same call tells after that, with memory.
     again: Told,
 }
@@ -47,17 +47,6 @@ fn signer_of(course: Course<'_>) -> anyhow::Result<FailingSigner<KeyedHash>> {
         chosen.push(1)?;
     }
     Ok(FailingSigner::new(KeyedHash::new(course.alloc, b"k")?, chosen))
-}
-
-fn desk_over<B: Book + Drop>(course: Course<'_>, book: B) -> Desk<'_, B> {
-    let setting = course.setting;
-    Desk::new(
-        course.alloc,
-        &setting.policy,
-        &setting.identity,
-        &setting.algorithm,
-        book,
-    )
 }
 
 /// A void stamp, and a deposit of alice's that bob may see.
@@ -76,7 +65,7 @@ fn fill<B: Book + Drop, G: Signer>(desk: &mut Desk<'_, B>, signer: &mut G) -> Re
 /// Fills a book.
 fn filled<B: Book + Drop>(course: Course<'_>, book: B) -> anyhow::Result<B> {
     let mut signer = KeyedHash::new(course.alloc, b"k")?;
-    let mut desk = desk_over(course, book);
+    let mut desk = open_desk(course.alloc, course.setting, book)?;
     let calibration = Calibration {
         reading: 0,
         offset: 0,
@@ -94,7 +83,7 @@ fn called<B: Book + Drop>(
     room: Vec<u8>,
 ) -> anyhow::Result<(B, Told, bool)> {
     let mut signer = signer_of(course)?;
-    let mut desk = desk_over(course, book);
+    let mut desk = open_desk(course.alloc, course.setting, book)?;
     if course.growth > 0 {
         refuse(course.alloc, course.refused, course.growth);
     }
@@ -165,16 +154,13 @@ fn call_in_memory(course: Course<'_>) -> anyhow::Result<Fared> {
 #[derive(Drop)]
 struct Whole {
     told: Told,
-    dump: Vec<u8>,
-    before: Vec<u8>,
-    void: Vec<u8>,
+    dump: Dump,
+    before: Dump,
+    void: Dump,
 }
 
 /// What the tables hold before the call.
-fn dump_before<S: Alter + Drop>(
-    course: Course<'_>,
-    conn: Connection<S>,
-) -> anyhow::Result<Vec<u8>> {
+fn dump_before<S: Alter + Drop>(course: Course<'_>, conn: Connection<S>) -> anyhow::Result<Dump> {
     let store = filled(course, opened(create(course.alloc, conn))?)?;
     let mut conn = store.into_connection();
     dump_of(course.alloc, &mut conn)

@@ -1,11 +1,20 @@
 //! By what requests are answered.
 use cms::{Algorithm, Identity};
+use desk::Desk;
 use policy::{EXAMPLE, Policy};
 use std::alloc::Global;
+use store::Book;
 
 /// A certificate of 102 octets, by hand; its keys are none.
 const CERTIFICATE: &[u8] =
     b"\x30\x64\x30\x57\x02\x01\x07\x30\x05\x06\x03\x88\x37\x09\x30\x0e\x31\x0c\x30\x0a\x06\x03\x55\x04\x03\x0c\x03\
+    \x54\x53\x41\x30\x1e\x17\x0d\x37\x30\x30\x31\x30\x31\x30\x30\x30\x30\x30\x30\x5a\x17\x0d\x34\x39\x31\x32\x33\
+    \x31\x32\x33\x35\x39\x35\x39\x5a\x30\x0e\x31\x0c\x30\x0a\x06\x03\x55\x04\x03\x0c\x03\x54\x53\x41\x30\x0b\x30\
+    \x05\x06\x03\x88\x37\x09\x03\x02\x00\x01\x30\x05\x06\x03\x88\x37\x09\x03\x02\x00\x01";
+
+/// The same certificate under the serial number 6.
+const SECOND_CERTIFICATE: &[u8] =
+    b"\x30\x64\x30\x57\x02\x01\x06\x30\x05\x06\x03\x88\x37\x09\x30\x0e\x31\x0c\x30\x0a\x06\x03\x55\x04\x03\x0c\x03\
     \x54\x53\x41\x30\x1e\x17\x0d\x37\x30\x30\x31\x30\x31\x30\x30\x30\x30\x30\x30\x5a\x17\x0d\x34\x39\x31\x32\x33\
     \x31\x32\x33\x35\x39\x35\x39\x5a\x30\x0e\x31\x0c\x30\x0a\x06\x03\x55\x04\x03\x0c\x03\x54\x53\x41\x30\x0b\x30\
     \x05\x06\x03\x88\x37\x09\x03\x02\x00\x01\x30\x05\x06\x03\x88\x37\x09\x03\x02\x00\x01";
@@ -28,24 +37,59 @@ pub const VOID_EXTRACT: &[u8] = b"serial,genTime,account,policy,algorithm,digest
 pub const RULE_12: &[u8] =
     b"\x30\x17\x30\x15\x02\x01\x02\x30\x09\x0c\x07rule 12\x03\x05\x06\x00\x00\x00\x40";
 
-/// A policy file's record, the certificate, and the signer's algorithm.
+/// What a policy file says of groups.
+const GROUPS: &str = "[[group]]\nname = \"staff\"\nmembers = [\"bob\", \"carol\"]\n";
+
+/// A policy file's record, the certificate, the one that succeeds it, and the signer's algorithm.
 #[derive(Drop)]
 pub struct Setting {
     pub policy: Policy,
     pub identity: Identity,
+    pub successor: Identity,
     pub algorithm: Algorithm,
 }
 
-/// The example of a policy file, with an auditor who is an operator too.
+impl Setting {
+    /// The certificate in force, before the succession or after it.
+    pub fn identity_after(&self, is_succeeded: bool) -> &Identity {
+        if is_succeeded {
+            &self.successor
+        } else {
+            &self.identity
+        }
+    }
+}
+
+/// The example of a policy file, with an auditor who is an operator too, and a group.
 pub fn make_setting(alloc: Global) -> anyhow::Result<Setting> {
-    let rules = EXAMPLE.replace(
+    let mut rules = EXAMPLE.replace(
         alloc,
         "auditor = true\n",
         "auditor = true\noperator = true\n",
     )?;
+    rules.push_str(GROUPS)?;
     Ok(Setting {
         policy: Policy::from_text(alloc, &rules)?,
         identity: Identity::from_certificate(alloc, CERTIFICATE)?,
+        successor: Identity::from_certificate(alloc, SECOND_CERTIFICATE)?,
         algorithm: Algorithm::from_bytes(alloc, ALGORITHM)?,
     })
+}
+
+/// A desk over a book, before the succession.
+pub fn open_desk<B: Book + Drop>(
+    alloc: Global,
+    setting: &Setting,
+    book: B,
+) -> anyhow::Result<Desk<'_, B>> {
+    match Desk::open(
+        alloc,
+        &setting.policy,
+        &setting.identity,
+        &setting.algorithm,
+        book,
+    ) {
+        Ok(desk) => Ok(desk),
+        Err((fault, _book)) => Err(fault.into()),
+    }
 }

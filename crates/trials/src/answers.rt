@@ -17,12 +17,13 @@ const PHRASES: [(u16, &str); 12] = [
 ];
 
 /// The bodies of refusals where store, signer and memory answer.
-const REFUSALS: [&str; 20] = [
+const REFUSALS: [&str; 21] = [
     "400 BadLength\n",
     "400 BadRange\n",
     "400 BadReference\n",
     "400 BadRequest\n",
     "400 SelfGrant\n",
+    "400 UnknownGroup\n",
     "400 UnknownReader\n",
     "403 NoAccount\n",
     "403 NotAuditor\n",

@@ -2,7 +2,7 @@
 use crate::answers::is_answer;
 use crate::changes::{Subject, Tally, try_all};
 use crate::fields::{text_octets, word};
-use crate::setting::Setting;
+use crate::setting::{Setting, open_desk};
 use cms::Signer;
 use desk::Desk;
 use service::{Served, serve_one};
@@ -64,8 +64,7 @@ pub fn try_over<B: Book + Drop, G: Signer + Drop>(
 ) -> anyhow::Result<Tally> {
     let (name, text) = word(line);
     let mut octets = text_octets(rt.alloc(), text)?;
-    let (policy, identity) = (&setting.policy, &setting.identity);
-    let mut desk = Desk::new(rt.alloc(), policy, identity, &setting.algorithm, book);
+    let mut desk = open_desk(rt.alloc(), setting, book)?;
     if !deposit(&mut desk, &mut signer) {
         anyhow::bail!("no deposit");
     }

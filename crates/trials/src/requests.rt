@@ -1,7 +1,7 @@
 //! Time-stamp requests, through the desk.
 use crate::changes::{Subject, Tally, try_all};
 use crate::fields::{octets, word};
-use crate::setting::Setting;
+use crate::setting::{Setting, open_desk};
 use cms::Signer;
 use desk::{Desk, Reply};
 use policy::Account;
@@ -117,11 +117,10 @@ pub fn try_over<B: Book + Drop, G: Signer + Drop>(
     let (account, rest) = word(line);
     let (name, digits) = word(rest);
     let mut query = octets(rt.alloc(), digits)?;
-    let (policy, identity) = (&setting.policy, &setting.identity);
     let mut asked = Asked {
-        desk: Desk::new(rt.alloc(), policy, identity, &setting.algorithm, book),
+        desk: open_desk(rt.alloc(), setting, book)?,
         signer,
-        account: policy.account_named(account),
+        account: setting.policy.account_named(account),
         granted: 0,
         rejected: [0; RULES],
     };

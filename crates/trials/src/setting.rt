@@ -2,6 +2,7 @@
 use crate::changes::Tally;
 use crate::{heads, requests};
 use cms::{Algorithm, Identity, KeyedHash, Signer};
+use desk::Desk;
 use policy::{EXAMPLE, Policy};
 use sqlite::{Alter, Connection, MemStore};
 use std::alloc::Global;
@@ -17,6 +18,9 @@ pub const CERTIFICATE: &[u8] =
 /// The AlgorithmIdentifier of the stand-in signer, 2.999.9.
 pub const ALGORITHM: &[u8] = b"\x30\x05\x06\x03\x88\x37\x09";
 
+/// What a policy file says of groups.
+const GROUPS: &str = "[[group]]\nname = \"staff\"\nmembers = [\"bob\", \"carol\"]\n";
+
 /// A policy file's record, the certificate, and the signer's algorithm.
 #[derive(Drop)]
 pub struct Setting {
@@ -25,14 +29,33 @@ pub struct Setting {
     pub algorithm: Algorithm,
 }
 
-/// The example of a policy file, with quotas that aren't used up.
+/// The example of a policy file, with quotas that aren't used up, and a group.
 pub fn make_setting(alloc: Global) -> anyhow::Result<Setting> {
-    let rules = EXAMPLE.replace(alloc, "daily_quota = 1000\n", "daily_quota = 1000000\n")?;
+    let mut rules = EXAMPLE.replace(alloc, "daily_quota = 1000\n", "daily_quota = 1000000\n")?;
+    rules.push_str(GROUPS)?;
     Ok(Setting {
         policy: Policy::from_text(alloc, &rules)?,
         identity: Identity::from_certificate(alloc, CERTIFICATE)?,
         algorithm: Algorithm::from_bytes(alloc, ALGORITHM)?,
     })
+}
+
+/// A desk over a book.
+pub fn open_desk<B: Book + Drop>(
+    alloc: Global,
+    setting: &Setting,
+    book: B,
+) -> anyhow::Result<Desk<'_, B>> {
+    match Desk::open(
+        alloc,
+        &setting.policy,
+        &setting.identity,
+        &setting.algorithm,
+        book,
+    ) {
+        Ok(desk) => Ok(desk),
+        Err((fault, _book)) => Err(fault.into()),
+    }
 }
 
 /// A store that was made over a connection, with a calibration at the reading 0.

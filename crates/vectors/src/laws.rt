@@ -1,4 +1,5 @@
 //! The laws, each called once.
+use cms::sets_are_ascending;
 use decide::{gen_times_are_one, verdicts_are_of_octets, verdicts_are_one};
 use der::{
     elements_have_one_beginning, encodings_are_bounded, encodings_are_read,
@@ -30,6 +31,7 @@ fn call_of_messages() {
     texts_are_rounded();
     octets_fail_as_their_request::<Lenient>();
     tst_infos_have_one_reading();
+    sets_are_ascending();
 }
 
 /// Calls the laws.

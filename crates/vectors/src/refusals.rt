@@ -35,7 +35,7 @@ static OF_FILES: [PolicyFault; 7] = [
     PolicyFault::Memory,
 ];
 
-static FIELDS: [Field; 33] = [
+static FIELDS: [Field; 34] = [
     Field::Key,
     Field::Counter,
     Field::CounterAccuracyUs,
@@ -44,6 +44,7 @@ static FIELDS: [Field; 33] = [
     Field::CounterDriftPpb,
     Field::CounterMaxAgeUs,
     Field::CounterAnonymous,
+    Field::CounterTsaName,
     Field::Algorithm,
     Field::AlgorithmName,
     Field::AlgorithmOid,
@@ -88,6 +89,8 @@ fn tell_of_messages(printer: Printer<'_>) {
         CmsFault::NotCertificate,
         CmsFault::TooLarge,
         CmsFault::Memory,
+        CmsFault::TooMany,
+        CmsFault::Repeated,
     ] {
         printer.show(u64::from(fault.number()), fault);
     }

@@ -1,8 +1,12 @@
 //! TSTInfo, as they are read, and as they answer requests.
-ghost use Rattle.std.specs.Prelude.{◌<◌, ◌≤◌, ◌^◌};
+ghost use Rattle.std.specs.Prelude.{◌<◌, ◌≤◌, ◌^◌, IfSome, option_map};
+ghost use Rattle.der.specs.DataValueView.{value_view};
+ghost use Rattle.tsp.specs.Tst.{IsTsaName};
 
 use crate::requests::{tell_extension, tell_written};
-use der::{DerFault, Oid};
+use crate::tokens::identity_of;
+use cms::Identity;
+use der::{DataValue, DerFault, Oid};
 use gentime::GenTime;
 use std::alloc::{AllocError, Global};
 use transcript::{Printer, Words};
@@ -21,6 +25,9 @@ fn tell_parts(printer: Printer<'_>, tst: &TstInfo<'_>) {
     match &tst.nonce {
         Some(nonce) => printer.digits("nonce", nonce.content()),
         None => printer.line("  nonce None"),
+    }
+    if let Some(name) = &tst.tsa {
+        printer.digits("tsa", name.octets());
     }
     for extension in tst.extensions.again() {
         tell_extension(printer, &extension);
@@ -42,10 +49,11 @@ fn read(alloc: Global, printer: Printer<'_>, octets: &[u8]) {
     }
 }
 
-/// The TSTInfo that answers the request of those octets.
+/// The TSTInfo that answers the request of those octets, in the name of an identity where there is one.
 fn answer(
     alloc: Global,
     octets: &[u8],
+    identity: Option<&Identity>,
     policy: &Oid,
     serial: u64,
     gen_time: GenTime,
@@ -65,8 +73,19 @@ fn answer(
         gen_time,
         accuracy,
         ordering,
+        name_of(identity),
     );
     write_tst(alloc, &tst)
+}
+
+/// The name of an identity, where there is one.
+fn name_of(identity: Option<&Identity>) -> Option<DataValue<'_>>
+    ensures { IfSome (option_map value_view result) IsTsaName }
+{
+    match identity {
+        Some(identity) => Some(identity.name()),
+        None => None,
+    }
 }
 
 fn policy_of(alloc: Global, text: &str) -> Result<Oid, DerFault> {
@@ -82,9 +101,14 @@ fn some(number: u64, most: u64) -> u64
     number.min(most).max(1)
 }
 
-/// Tells of the TSTInfo that answers a request: the policy, the serial number, the moment, the accuracy, the ordering
-/// and the request's octets.
-fn tell_answer(alloc: Global, printer: Printer<'_>, words: Words<'_>) -> Result<(), AllocError> {
+/// Tells of the TSTInfo that answers a request, in the name of an identity where there is one: the policy, the serial
+/// number, the moment, the accuracy, the ordering and the request's octets.
+fn tell_answer(
+    alloc: Global,
+    printer: Printer<'_>,
+    identity: Option<&Identity>,
+    words: Words<'_>,
+) -> Result<(), AllocError> {
     let mut words = words;
     let policy = policy_of(alloc, words.next());
     let serial = some(words.number(), i64::MAX as u64);
@@ -94,12 +118,26 @@ fn tell_answer(alloc: Global, printer: Printer<'_>, words: Words<'_>) -> Result<
     let octets = printer.names.octets_of(words.rest)?;
     match (policy, moment) {
         (Ok(policy), Ok(moment)) => {
-            let tst = answer(alloc, &octets, &policy, serial, moment, accuracy, ordering);
+            let tst = answer(
+                alloc, &octets, identity, &policy, serial, moment, accuracy, ordering,
+            );
             tell_written(printer, tst, &[]);
         }
         (policy, moment) => printer.tell(&(policy.err(), moment.err())),
     }
     Ok(())
+}
+
+/// The same in the name of the subject of a certificate, which stands before the others.
+fn tell_named(alloc: Global, printer: Printer<'_>, words: Words<'_>) -> Result<(), AllocError> {
+    let mut words = words;
+    match identity_of(alloc, printer.names.octets(words.next())) {
+        Ok(identity) => tell_answer(alloc, printer, Some(&identity), words),
+        Err(fault) => {
+            printer.tell(&fault);
+            Ok(())
+        }
+    }
 }
 
 /// Makes the call that the words name.
@@ -110,6 +148,7 @@ pub fn call(alloc: Global, printer: Printer<'_>, words: Words<'_>) -> Result<(),
             read(alloc, printer, &printer.names.octets_of(words.rest)?);
             Ok(())
         }
-        _ => tell_answer(alloc, printer, words),
+        "named" => tell_named(alloc, printer, words),
+        _ => tell_answer(alloc, printer, None, words),
     }
 }

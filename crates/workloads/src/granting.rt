@@ -2,7 +2,7 @@
 use crate::setting::{CERTIFICATE, REQUEST, Setting, setting_of};
 use book::Book;
 use cms::{KeyedHash, Signer};
-use desk::{Desk, Reply};
+use desk::{Desk, Fault, Reply};
 use policy::Account;
 use sqlite::Alter;
 use sqlite_disk::Unknown;
@@ -17,10 +17,11 @@ pub fn grants(rt: &HostRuntime, path: &str, count: u64) -> anyhow::Result<u64> {
     let store = Store::open(rt, path, Unknown)?;
     let (store, granted) = granted_over(alloc, store, &setting, &mut signer, count);
     let _files = store.close()?;
-    Ok(granted)
+    Ok(granted?)
 }
 
-/// Answers the request as many times over a store, which it gives back, and tells how many times by a token. It takes
+/// Answers the request as many times over a store, which it gives back, and tells how many times by a token, unless the
+/// identity can't be installed. It takes
 /// a store over any storage for a book, so that the types of one over files aren't compared with a book's.
 fn granted_over<S: Alter + Drop, G: Signer>(
     alloc: Global,
@@ -28,7 +29,7 @@ fn granted_over<S: Alter + Drop, G: Signer>(
     setting: &Setting,
     signer: &mut G,
     count: u64,
-) -> (Store<S>, u64) {
+) -> (Store<S>, Result<u64, Fault>) {
     granted_by(alloc, store, setting, signer, count)
 }
 
@@ -39,16 +40,19 @@ fn granted_by<B: Book + Drop, G: Signer>(
     setting: &Setting,
     signer: &mut G,
     count: u64,
-) -> (B, u64) {
-    let mut desk = Desk::new(
-        alloc,
-        &setting.policy,
-        &setting.identity,
-        &setting.algorithm,
-        book,
-    );
-    let granted = answered(&mut desk, setting.policy.anonymous(), signer, count);
-    (desk.into_store(), granted)
+) -> (B, Result<u64, Fault>) {
+    let Setting {
+        policy,
+        identity,
+        algorithm,
+    } = setting;
+    match Desk::open(alloc, policy, identity, algorithm, book) {
+        Ok(mut desk) => {
+            let granted = answered(&mut desk, policy.anonymous(), signer, count);
+            (desk.into_store(), Ok(granted))
+        }
+        Err((fault, book)) => (book, Err(fault)),
+    }
 }
 
 fn answered<B: Book + Drop, G: Signer>(

@@ -1,14 +1,16 @@
 //! Work for the repository's scripts to time or to read: readings, replies and tokens of one request, exchanges over
-//! loopback, and a database.
+//! loopback, long heads, and a database.
 #![tactic(auto)]
 
 mod granting;
+mod heads;
 mod reading;
 mod replying;
 mod sample;
 mod serving;
 mod setting;
 
+use service::MOST_OCTETS;
 use setting::CERTIFICATE;
 use std::env;
 use std::fs::File;
@@ -29,6 +31,15 @@ fn times_done(rt: &HostRuntime, words: &[String]) -> anyhow::Result<u64> {
         [what, count, path] if what.as_str() == "grant" => {
             granting::grants(rt, path.as_str(), number_of(count))
         }
+        [what, count, fields] if what.as_str() == "head" => {
+            heads::heads(rt.alloc(), number_of(count), size_of(fields), MOST_OCTETS)
+        }
+        [what, count, fields, octets] if what.as_str() == "head" => heads::heads(
+            rt.alloc(),
+            number_of(count),
+            size_of(fields),
+            size_of(octets),
+        ),
         _ => Ok(0),
     }
 }
@@ -38,10 +49,16 @@ fn number_of(word: &String) -> u64 {
     word.parse().unwrap_or(0)
 }
 
+/// The same, of octets or fields.
+fn size_of(word: &String) -> usize {
+    word.parse().unwrap_or(0)
+}
+
 /// Writes a database for `sqlite3` to read (`sample PATH`), serves connections over loopback (`serve COUNT`), or prints
 /// how many times a request was read (`read COUNT`), and how many times there was a reply with a token: of so many
 /// without store and signer (`reply COUNT`), by a certificate in a file (`reply COUNT FILE`), or over the database at a
-/// path (`grant COUNT PATH`).
+/// path (`grant COUNT PATH`). Or how many times a head of so many fields was read that is as long as heads may be
+/// (`head COUNT FIELDS`), or has so many octets (`head COUNT FIELDS OCTETS`).
 fn main(rt: HostRuntime) -> anyhow::Result<()> {
     let mut words = Vec::new(rt.alloc());
     for word in env::args(&rt)?.skip(1) {

@@ -77,11 +77,11 @@ fn reply(alloc: Global, setting: &Setting, query: &[u8]) -> Option<Vec<u8>> {
 }
 
 /// The TSTInfo by the plan, under serial number 1.
-fn tst_of(
+fn tst_of<'r>(
     alloc: Global,
     policy: &Policy,
-    request: Request<'_>,
-    plan: Plan<'_>,
+    request: Request<'r>,
+    plan: Plan<'r>,
     query: &[u8],
 ) -> Option<Vec<u8>>
     requires spelled { Spells query.now (request_view request) }
@@ -97,6 +97,7 @@ fn tst_of(
         plan.gen_time,
         counter.accuracy_us,
         counter.ordering,
+        None,
     );
     write_tst(alloc, &tst_info).ok()
 }

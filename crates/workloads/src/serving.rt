@@ -1,5 +1,5 @@
 //! Exchanges over loopback, with the database in memory.
-use crate::setting::{CERTIFICATE, setting_of};
+use crate::setting::{CERTIFICATE, Setting, setting_of};
 use cms::KeyedHash;
 use connections::{CONNECTION_SECONDS, Clock, Listening, SystemClock, serve_connections};
 use desk::Desk;
@@ -10,7 +10,7 @@ use std::time::Duration;
 use store::{Book, Calibration, Store};
 
 /// A store in memory with one calibration, at that reading, of a clock that is right.
-fn calibrated(alloc: Global, reading: i64) -> anyhow::Result<Store<MemStore>> {
+pub fn calibrated(alloc: Global, reading: i64) -> anyhow::Result<Store<MemStore>> {
     let conn = Connection::open_in_memory(alloc)?;
     if !conn.is_autocommit() {
         anyhow::bail!("a transaction is open");
@@ -34,13 +34,15 @@ fn serve_at(rt: &HostRuntime, listener: &TcpListener, count: u32) -> anyhow::Res
     let mut signer = KeyedHash::new(alloc, b"k")?;
     let mut clock = SystemClock { machine: rt };
     let store = calibrated(alloc, clock.reading()?)?;
-    let mut desk = Desk::new(
-        alloc,
-        &setting.policy,
-        &setting.identity,
-        &setting.algorithm,
-        store,
-    );
+    let Setting {
+        policy,
+        identity,
+        algorithm,
+    } = &setting;
+    let mut desk = match Desk::open(alloc, policy, identity, algorithm, store) {
+        Ok(desk) => desk,
+        Err((fault, _)) => return Err(fault.into()),
+    };
     let limit = Duration::from_secs(CONNECTION_SECONDS);
     let mut listening = Listening::new(rt, alloc, listener)?;
     serve_connections(

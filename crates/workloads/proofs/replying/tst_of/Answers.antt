@@ -1,4 +1,4 @@
-use Rattle.std.proofs.Common.{sym, subst, arith}
+use Rattle.std.proofs.Common.{None, sym, subst, arith}
 use Rattle.der.specs.Node.{IsLawful}
 use Rattle.der.specs.ObjectIdentifier.{IsOid}
 use Rattle.tsp.specs.Tst.{tst_info}
@@ -12,5 +12,5 @@ write_tst-requires-clause-lawful c =
     subst (λ t. IsLawful (tst_info t)) (sym c.into_tst_info-tst_info.ensures)
     (c.requests_have_one_reading.ensures.answer c.args.query.now (request_view c.args.request)
     c.requires.spelled c.requires.short c.of.result 1 c.args.plan.gen_time
-    counter.accuracy_us counter.ordering oid (omega arith) (omega arith) c.micros-micros.ensures.bound
-    counter.accuracy_some counter.accuracy).1
+    counter.accuracy_us counter.ordering None oid (omega arith) (omega arith) c.micros-micros.ensures.bound
+    counter.accuracy_some counter.accuracy tt).1
