@@ -1,22 +1,29 @@
 //! Whether a stamp's octets say what its row says.
-ghost use Rattle.std.specs.Prelude.{◌≡◌, ◌↔◌, IsTrue, MatchResult, option_map};
+ghost use Rattle.std.specs.Prelude.{◌≡◌, ◌↔◌, IsTrue, MatchResult, option_map, map};
+ghost use Rattle.der.specs.DataValueView.{value_view};
 ghost use Rattle.der.specs.ObjectIdentifier.{oid_content};
-ghost use Rattle.book.specs.Values.{stamp_view};
+ghost use Rattle.book.specs.Identities.{identity_before};
+ghost use Rattle.book.specs.Values.{identity_view, stamp_view};
+ghost use Rattle.cms.specs.Certificate.{IsSubject};
 ghost use Rattle.tsp.specs.View.{imprint_view, request_view, tst_view};
-ghost use Rattle.audit.specs.Consistent.{Agree, IsConsistent};
+ghost use Rattle.audit.specs.Consistent.{Agree, IsConsistent, IsOwnName};
 
 use crate::fault::ExtractFault;
-use book::Stamp;
-use der::{encodings_are_read, oids_have_one_content_and_text};
+use book::{IdentityRow, Stamp};
+use cms::subject_of;
+use der::{DataValue, encodings_are_read, oids_have_one_content_and_text};
 use tsp::{MessageImprint, Request, TstInfo, read_request, read_tst};
 
 /// Whether a stamp's octets say what its row says: the TSTInfo is one, and carries the row's serial number, genTime and
 /// policy (RFC 3161 2.4.2); its imprint is that of the stored request, which is one of at most 65,536 octets and has
-/// the row's algorithm and digest (RFC 3161 2.4.1). The token isn't looked at.
+/// the row's algorithm and digest (RFC 3161 2.4.1). A name of the authority, where the TSTInfo has one, is the subject
+/// of the certificate of the serial number's identity (RFC 3161 2.4.2), which is the last one of `identities`, given by
+/// number, that was installed before. The token isn't looked at.
 ///
 /// Takes no memory and is never refused; the type leaves room for `Memory`.
-pub fn check_row(stamp: &Stamp) -> Result<bool, ExtractFault>
-    ensures { MatchResult result (λ yes. IsTrue yes ↔ IsConsistent (stamp_view stamp.now)) (λ _. ⊥) }
+pub fn check_row(stamp: &Stamp, identities: &[IdentityRow]) -> Result<bool, ExtractFault>
+    ensures { MatchResult result (λ yes. IsTrue yes
+        ↔ IsConsistent (stamp_view stamp.now) (map identity_view identities.now)) (λ _. ⊥) }
 {
     let Ok(tst) = read_tst(&stamp.tst) else {
         return Ok(false);
@@ -24,17 +31,61 @@ pub fn check_row(stamp: &Stamp) -> Result<bool, ExtractFault>
     let Ok(request) = read_request(&stamp.request) else {
         return Ok(false);
     };
-    Ok(agree(stamp, &tst, &request))
+    let identity = identity_at(identities, stamp.serial);
+    Ok(agree(stamp, identity, &tst, &request))
+}
+
+/// The identity that was in force when a serial number was reserved; none before the first.
+fn identity_at(identities: &[IdentityRow], serial: u64) -> Option<&IdentityRow>
+    ensures { option_map (λ i. identity_view i.now) result
+        ≡ identity_before serial (map identity_view identities.now) }
+{
+    identities
+        .iter()
+        .rev()
+        .find(|identity| identity.after_serial < serial)
 }
 
 /// Whether a TSTInfo and a request agree with the row and with each other.
-fn agree(stamp: &Stamp, tst: &TstInfo<'_>, request: &Request<'_>) -> bool
-    ensures { IsTrue result ↔ Agree (stamp_view stamp.now) (tst_view tst.now) (request_view request.now) }
+fn agree(
+    stamp: &Stamp,
+    identity: Option<&IdentityRow>,
+    tst: &TstInfo<'_>,
+    request: &Request<'_>,
+) -> bool
+    ensures { IsTrue result ↔ Agree (stamp_view stamp.now) (option_map (λ i. identity_view i.now) identity.entry)
+        (tst_view tst.now) (request_view request.now) }
 {
     let says = says_row(stamp, tst);
+    let named = has_own_name(identity, &tst.tsa);
     let asks = asks_row(stamp, request);
     let same = has_imprint(&tst.imprint, request);
-    says && asks && same
+    says && named && asks && same
+}
+
+/// Whether a name, where there is one, is the subject of the identity's certificate (RFC 5280 4.1.2.6).
+fn has_own_name(identity: Option<&IdentityRow>, tsa: &Option<DataValue<'_>>) -> bool
+    ensures { IsTrue result ↔ IsOwnName (option_map (λ i. identity_view i.now) identity.entry)
+        (option_map value_view tsa.now) }
+{
+    let Some(name) = tsa else {
+        return true;
+    };
+    let Some(identity) = identity else {
+        return false;
+    };
+    is_subject(&identity.certificate, name)
+}
+
+/// Whether a value is the subject of the certificate that octets are.
+fn is_subject(certificate: &[u8], name: &DataValue<'_>) -> bool
+    ensures { IsTrue result ↔ IsSubject certificate.now (value_view name.now) }
+{
+    encodings_are_read();
+    match subject_of(certificate) {
+        Some(subject) => subject.octets() == name.octets(),
+        None => false,
+    }
 }
 
 /// Whether a TSTInfo says what the row says.

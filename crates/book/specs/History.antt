@@ -32,6 +32,11 @@ pub record HoldValue : Type 0 where
   pub from : ℤ
   pub to : ℤ
 
+-- who signs: the signer's certificate (RFC 5280 4.1), and the further ones of its chain, one after the other
+pub record InstalledValue : Type 0 where
+  pub certificate : List ℕ
+  pub chain : List ℕ
+
 -- a deposit under its number, which is its stamp's serial number
 abbrev pub DepositValue : Type 0
 DepositValue = DepositRow
@@ -48,6 +53,8 @@ pub data Entry : Type 0 where
   Granted : ℕ → Reader → Entry
   -- it may not any more
   Revoked : ℕ → Reader → Entry
+  -- this identity is in force from then on
+  Installed : InstalledValue → Entry
 
 abbrev pub History : Type 0
 History = List Entry
@@ -81,6 +88,10 @@ right_in (Granted number reader) = Some record { number = number; reader = reade
 right_in (Revoked number reader) = Some record { number = number; reader = reader; is_given = false }
 right_in _ = None
 
+abbrev pub installed_in : Entry → Option InstalledValue
+installed_in (Installed i) = Some i
+installed_in _ = None
+
 -- the newest of each kind first
 abbrev pub reservations : History → List ReservationValue
 reservations b = filter_map reservation_in b
@@ -96,6 +107,9 @@ deposits b = filter_map deposit_in b
 
 abbrev pub rights : History → List RightValue
 rights b = filter_map right_in b
+
+abbrev pub installations : History → List InstalledValue
+installations b = filter_map installed_in b
 
 -- the greatest serial number, 0 where none is reserved
 abbrev pub greatest_of : List ReservationValue → ℕ

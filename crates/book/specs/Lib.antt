@@ -1,5 +1,6 @@
 pub mod Fault
 pub mod History
+pub mod Identities
 pub mod Ranges
 pub mod Readers
 pub mod Rights

@@ -1,4 +1,4 @@
--- What is known of a stamp and of a deposit. Moments are whole microseconds from 1970-01-01T00:00:00Z, days whole days
+-- What is known of a stamp, of a deposit and of an identity. Moments are whole microseconds from 1970-01-01T00:00:00Z, days whole days
 -- from it, and texts, object identifiers and blobs are their octets.
 use Rattle.std.specs.Prelude.{ℕ, List, Option}
 
@@ -22,3 +22,11 @@ pub record DepositRow : Type 0 where
   pub owner : List ℕ
   pub reference : List ℕ
   pub bytes : List ℕ
+
+pub record InstalledRow : Type 0 where
+  -- 1, 2, 3 and so on in the order in which they were installed
+  pub number : ℕ
+  -- the greatest serial number that was reserved before
+  pub after_serial : ℕ
+  pub certificate : List ℕ
+  pub chain : List ℕ

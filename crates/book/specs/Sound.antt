@@ -2,7 +2,8 @@
 -- it says of DER texts and hashes stands above.
 use Rattle.std.specs.Prelude.{◌≡◌, ℕ, ◌<◌, ◌≤◌, ◌<ℤ◌, [], ◌∷◌, Option, Some, None}
 use Rattle.book.specs.Rows.{DepositRow}
-use Rattle.book.specs.History.{Entry, Reserved, Sealed, Deposited, Calibrated, Held, Granted, Revoked, History}
+use Rattle.book.specs.History.{Entry, Reserved, Sealed, Deposited, Calibrated, Held, Granted, Revoked, Installed}
+use Rattle.book.specs.History.{History}
 use Rattle.book.specs.History.{ReservationValue, CalibrationValue, greatest_serial, token_of}
 use Rattle.book.specs.History.{reservation_at, deposit_at, deposit_under}
 
@@ -49,6 +50,7 @@ Fits (Calibrated c) b = c.uncertainty ≤ 1_000_000_000_000
 Fits (Held h) b = h.from <ℤ h.to
 Fits (Granted number reader) b = FitsRight number b
 Fits (Revoked number reader) b = FitsRight number b
+Fits (Installed i) b = Unit {0}
 
 abbrev pub IsSound : History → Type 0
 IsSound b = Along Fits b

@@ -1,9 +1,11 @@
 -- The calls' arguments and answers, as the entries and views of a history.
 use Rattle.std.specs.Prelude.{ℕ, List, Option, option_map, string_bytes}
-use Rattle.book.specs.Rows.{DepositRow, StampRow}
+use Rattle.book.specs.Rows.{DepositRow, StampRow, InstalledRow}
 use Rattle.book.specs.declared.rows.Deposit.{Deposit}
 use Rattle.book.specs.declared.rows.Stamp.{Stamp}
-use Rattle.book.specs.History.{ReservationValue, CalibrationValue, HoldValue, History, greatest_serial, last_gen_time}
+use Rattle.book.specs.declared.rows.IdentityRow.{IdentityRow}
+use Rattle.book.specs.History.{ReservationValue, CalibrationValue, HoldValue, InstalledValue, History}
+use Rattle.book.specs.History.{greatest_serial, last_gen_time}
 use Rattle.book.specs.declared.values.Reservation.{Reservation}
 use Rattle.book.specs.declared.values.Calibration.{Calibration}
 use Rattle.book.specs.declared.values.Hold.{Hold}
@@ -30,6 +32,9 @@ calibration_view c = record { reading = c.reading; offset = c.offset; uncertaint
 
 abbrev pub hold_view : Hold → HoldValue
 hold_view h = record { from = h.from; to = h.to }
+
+abbrev pub installed_of : List ℕ → List ℕ → InstalledValue
+installed_of certificate chain = record { certificate = certificate; chain = chain }
 
 -- an account that asks, and its groups
 abbrev pub viewer_of : List ℕ → List (List ℕ) → Viewer
@@ -76,4 +81,12 @@ listed_view l = record {
   owner = string_bytes l.owner;
   reference = string_bytes l.reference;
   gen_time = l.gen_time;
+}
+
+abbrev pub identity_view : IdentityRow → InstalledRow
+identity_view i = record {
+  number = i.number;
+  after_serial = i.after_serial;
+  certificate = i.certificate.items;
+  chain = i.chain.items;
 }

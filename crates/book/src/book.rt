@@ -1,19 +1,22 @@
 //! The book: each change of the history is one commit, each look-up answers a view of it.
-ghost use Rattle.std.specs.Prelude.{◌≡◌, ◌⊎◌, ◌∷◌, ◌<◌, ◌^◌, true, false, map, option_map, Err, IfOk, IfErr, IfSome};
-ghost use Rattle.std.specs.Prelude.{IsErr, OnOk, OnErr, MatchResult};
+ghost use Rattle.std.specs.Prelude.{◌≡◌, ◌⊎◌, ◌∷◌, ◌+◌, ◌<◌, ◌^◌, true, false, map, length, option_map, Err, IfOk};
+ghost use Rattle.std.specs.Prelude.{IfErr, IfSome, IsErr, OnOk, OnErr, MatchResult};
 ghost use Rattle.book.specs.History.{History, Reserved, Sealed, Deposited, Calibrated, Held, Granted, Revoked};
-ghost use Rattle.book.specs.History.{count_of_day, latest_calibration, is_held, deposit_under};
+ghost use Rattle.book.specs.History.{Installed, count_of_day, calibrations, holds, latest_calibration, is_held};
+ghost use Rattle.book.specs.History.{deposit_under};
+ghost use Rattle.book.specs.Identities.{identities};
 ghost use Rattle.book.specs.Readers.{Account, Group};
 ghost use Rattle.book.specs.Rights.{is_reader, is_visible, listed, deposit_with_stamp};
 ghost use Rattle.book.specs.Sound.{Fits, IsSpent, IsBackwards};
 ghost use Rattle.book.specs.Stands.{Stands, OnlyLooks, LeavesOrAdds, LeavesAsBefore};
 ghost use Rattle.book.specs.Fault.{count_after};
 ghost use Rattle.book.specs.Values.{reservation_view, calibration_view, hold_view, last_of, calibration_option};
-ghost use Rattle.book.specs.Values.{deposit_of, stamped_view, listed_view, deposit_view, viewer_of};
+ghost use Rattle.book.specs.Values.{deposit_of, stamped_view, listed_view, deposit_view, viewer_of, installed_of};
+ghost use Rattle.book.specs.Values.{identity_view};
 ghost use Rattle.book.specs.Ranges.{IsNextStamp, IsWithin};
 
 use crate::fault::StoreFault;
-use crate::rows::{Deposit, Stamp};
+use crate::rows::{Deposit, IdentityRow, Stamp};
 use crate::standing::Standing;
 use crate::values::{Calibration, Hold, Last, Listed, Reservation, StampedDeposit};
 
@@ -225,8 +228,9 @@ pub trait Book: Standing {
             (λ e. Self.fault_count self.new ≡ count_after e (Self.fault_count self.old)) };
 
     /// Adds a calibration, which is the latest from now on. The caller's condition is an uncertainty of at most 10^12.
-    /// Refused with `Backwards` where its reading is before that of the latest.
-    fn calibrate(&mut self, calibration: &Calibration) -> Result<(), StoreFault>
+    /// Refused with `Backwards` where its reading is before that of the latest. The answer is its number: calibrations
+    /// count 1, 2, 3 and so on.
+    fn calibrate(&mut self, calibration: &Calibration) -> Result<u64, StoreFault>
         ensures honest { Self.honest self.new → Self.honest self.old }
         ensures opened { Self.honest self.new → OnOk result (Self.is_open self.old × Self.is_open self.new) }
         ensures ok { (b : History) → Stands Self.Standing b self.old
@@ -234,6 +238,8 @@ pub trait Book: Standing {
             → OnOk result (Stands Self.Standing (Calibrated (calibration_view calibration.now) ∷ b) self.new) }
         ensures err { (b : History) → Stands Self.Standing b self.old → OnErr result (Stands Self.Standing b self.new) }
         ensures crash { LeavesOrAdds Self.Standing (Calibrated (calibration_view calibration.now)) self.old self.new }
+        ensures number { Self.honest self.new → (b : History) → Stands Self.Standing b self.old
+            → IfOk result (λ number. number ≡ length (calibrations b) + 1) }
         ensures backwards { Self.honest self.new → (b : History) → Stands Self.Standing b self.old
             → result ≡ Err StoreFault.Backwards
             → IsBackwards (calibration_view calibration.now) (latest_calibration b) }
@@ -245,14 +251,41 @@ pub trait Book: Standing {
         ensures faults { MatchResult result (λ _. Self.fault_count self.new ≡ Self.fault_count self.old)
             (λ e. Self.fault_count self.new ≡ count_after e (Self.fault_count self.old)) };
 
-    /// Adds a hold. The caller's condition is that its first moment is before its end.
-    fn hold(&mut self, hold: &Hold) -> Result<(), StoreFault>
+    /// Adds a hold. The caller's condition is that its first moment is before its end. The answer is its number: holds
+    /// count 1, 2, 3 and so on.
+    fn hold(&mut self, hold: &Hold) -> Result<u64, StoreFault>
         ensures honest { Self.honest self.new → Self.honest self.old }
         ensures opened { Self.honest self.new → OnOk result (Self.is_open self.old × Self.is_open self.new) }
         ensures ok { (b : History) → Stands Self.Standing b self.old → Fits (Held (hold_view hold.now)) b
             → OnOk result (Stands Self.Standing (Held (hold_view hold.now) ∷ b) self.new) }
         ensures err { (b : History) → Stands Self.Standing b self.old → OnErr result (Stands Self.Standing b self.new) }
         ensures crash { LeavesOrAdds Self.Standing (Held (hold_view hold.now)) self.old self.new }
+        ensures number { Self.honest self.new → (b : History) → Stands Self.Standing b self.old
+            → IfOk result (λ number. number ≡ length (holds b) + 1) }
+        ensures refusals { IfErr result (λ e. (e ≡ StoreFault.Memory) ⊎ (e ≡ StoreFault.Database)) }
+        ensures faults { MatchResult result (λ _. Self.fault_count self.new ≡ Self.fault_count self.old)
+            (λ e. Self.fault_count self.new ≡ count_after e (Self.fault_count self.old)) };
+
+    /// Installs an identity, which is in force from now on: the signer's certificate, and the further certificates of
+    /// its chain, one after the other. They are kept as they are handed in.
+    fn install(&mut self, certificate: &[u8], chain: &[u8]) -> Result<(), StoreFault>
+        ensures honest { Self.honest self.new → Self.honest self.old }
+        ensures opened { Self.honest self.new → OnOk result (Self.is_open self.old × Self.is_open self.new) }
+        ensures ok { (b : History) → Stands Self.Standing b self.old
+            → OnOk result (Stands Self.Standing (Installed (installed_of certificate.now chain.now) ∷ b) self.new) }
+        ensures err { (b : History) → Stands Self.Standing b self.old → OnErr result (Stands Self.Standing b self.new) }
+        ensures crash { LeavesOrAdds Self.Standing (Installed (installed_of certificate.now chain.now)) self.old
+            self.new }
+        ensures refusals { IfErr result (λ e. (e ≡ StoreFault.Memory) ⊎ (e ≡ StoreFault.Database)) }
+        ensures faults { MatchResult result (λ _. Self.fault_count self.new ≡ Self.fault_count self.old)
+            (λ e. Self.fault_count self.new ≡ count_after e (Self.fault_count self.old)) };
+
+    /// The identities that were installed, by number.
+    fn identities(&mut self) -> Result<Vec<IdentityRow>, StoreFault>
+        ensures looks { OnlyLooks Self.Standing self.old self.new }
+        ensures opened { Self.honest self.new → OnOk result (Self.is_open self.old) }
+        ensures value { Self.honest self.new → (b : History) → Stands Self.Standing b self.old
+            → IfOk result (λ rows. map identity_view rows.items ≡ identities b) }
         ensures refusals { IfErr result (λ e. (e ≡ StoreFault.Memory) ⊎ (e ≡ StoreFault.Database)) }
         ensures faults { MatchResult result (λ _. Self.fault_count self.new ≡ Self.fault_count self.old)
             (λ e. Self.fault_count self.new ≡ count_after e (Self.fault_count self.old)) };

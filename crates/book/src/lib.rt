@@ -3,6 +3,8 @@
 
 mod book;
 mod fault;
+mod laws;
+mod limits;
 mod ranges;
 mod rows;
 mod standing;
@@ -10,7 +12,9 @@ mod values;
 
 pub use book::Book;
 pub use fault::StoreFault;
+pub use laws::identities_tell_who_signed;
+pub use limits::{DAY, GREATEST_NUMBER};
 pub use ranges::StampsBetween;
-pub use rows::{Deposit, Stamp};
+pub use rows::{Deposit, IdentityRow, Stamp};
 pub use standing::Standing;
 pub use values::{Calibration, Hold, Last, Listed, Reservation, StampedDeposit};

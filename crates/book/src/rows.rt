@@ -28,3 +28,16 @@ pub struct Deposit {
     pub reference: String,
     pub bytes: Vec<u8>,
 }
+
+/// An identity that was installed: who signs from then on.
+#[derive(Debug, Drop)]
+pub struct IdentityRow {
+    /// 1, 2, 3 and so on in the order in which they were installed.
+    pub number: u64,
+    /// The greatest serial number that was reserved before, 0 where none was.
+    pub after_serial: u64,
+    /// The signer's certificate, a whole DER text (RFC 5280 4.1).
+    pub certificate: Vec<u8>,
+    /// The further certificates of its chain, one after the other.
+    pub chain: Vec<u8>,
+}

@@ -1,7 +1,10 @@
+pub mod Ascending
+pub mod Chains
 pub mod Digits
 pub mod FramePieces
 pub mod Identifiers
 pub mod Members
+pub mod Names
 pub mod Outlines
 pub mod Places
 pub mod Texts

@@ -1,18 +1,24 @@
 -- A certificate's and an algorithm's values are read as their parts, and what is read so is such a value.
 use Rattle.std.proofs.Common.{◌≡◌, ℕ, Bool, true, false, cond, ◌&&◌, List, Option, Some, None, refl, sym, ap, ◌∙◌}
-use Rattle.std.proofs.Common.{subst, eqb, arith}
+use Rattle.std.proofs.Common.{◌≤◌, suc, leb, subst, eqb, arith}
 use Rattle.std.specs.Option.{option_map, is_some, IfSome, MatchOption}
+use Rattle.std.specs.Prelude.{◌↔◌, Result, Ok, Err, is_ok}
+use Rattle.std.proofs.lemmas.List.{append-nil}
+use Rattle.der.specs.DataValue.{AreEncodings, values_in}
+use Rattle.der.specs.declared.fault.DerFault.{DerFault}
 use Rattle.std.proofs.lemmas.Option.{option_and_then_some, cond_some, none-some, same_Some}
-use Rattle.std.proofs.lemmas.Bool.{eqb-true}
+use Rattle.std.proofs.lemmas.Bool.{eqb-true, leb-true}
+use Rattle.std.proofs.lemmas.Bool.Decides.{nat_tests}
 use Rattle.der.specs.Node.{Node, primitive, constructed, Nodes, no_nodes, node, contents_of, components_of}
-use Rattle.der.specs.Node.{identifier_of, first_of, IsFormed, AreFormed, IsLawful, encoding}
+use Rattle.der.specs.Node.{identifier_of, first_of, levels, levels_of, IsFormed, AreFormed, IsLawful, encoding}
+use Rattle.der.specs.Node.{encodings}
 use Rattle.der.specs.Number.{is_shortest}
 use Rattle.der.specs.ObjectIdentifier.{oid_of, oid_content, IsOid}
-use Rattle.cms.specs.Certificate.{CertificateParts, with_version, serial_number, after_serial}
+use Rattle.cms.specs.Certificate.{CertificateParts, with_version, serial_number, subject_name, after_serial}
 use Rattle.cms.specs.Certificate.{after_issuer, certificate, IsCertificate, optional}
 use Rattle.cms.specs.Certificate.{algorithm_identifier, IsAlgorithm}
-use Rattle.cms.specs.Outline.{Outline, outline, sequence_at, serial_at, after_version, outline_of, is_optional}
-use Rattle.cms.specs.Outline.{algorithm_of}
+use Rattle.cms.specs.Outline.{Outline, outline, sequence_at, subject_at, serial_at, after_version, outline_of}
+use Rattle.cms.specs.Outline.{is_optional, algorithm_of}
 
 contents_takes : (tag : ℕ) (n : Node) (c : List ℕ) → contents_of tag n ≡ Some c → n ≡ primitive tag c
 contents_takes tag (primitive t d) c e =
@@ -44,6 +50,61 @@ sequence_takes ns found e = option_and_then_some _ (first_of ns) found e (λ fir
       front ∙ ap (λ n. node n first.1) is ∙ ap (λ (f : Node × Nodes). node (constructed 48 inside) f.1) same,
       sym (ap (λ (f : Node × Nodes). f.0) same) ∙ is,
     )))
+
+subject_takes : (ns : Nodes) (found : Node × Nodes) → subject_at ns ≡ Some found
+    → (inside : Nodes) × (ns ≡ node (constructed 48 inside) found.1) × (found.0 ≡ constructed 48 inside)
+    × (levels (constructed 48 inside) ≤ 29)
+unfolding subject_at
+subject_takes ns found e = option_and_then_some _ (sequence_at ns) found e (λ first e1 r1.
+    let test = cond_some (leb (levels first.0) 29) first found r1 in
+    let (inside, front, at) = sequence_takes ns first e1 in (
+      inside,
+      front ∙ ap (λ (f : Node × Nodes). node (constructed 48 inside) f.1) test.1,
+      sym (ap (λ (f : Node × Nodes). f.0) test.1) ∙ at,
+      subst (λ n. levels n ≤ 29) at (leb-true (levels first.0) 29 test.0),
+    ))
+
+-- ---- how many levels a value has, by its octets
+
+deep_of_octets : (octets : List ℕ) (n : Node) → IsLawful n → octets ≡ encoding n
+    → ((ns : Nodes) → AreFormed ns → levels_of ns ≤ 32 → values_in (encodings ns) ≡ ns) → AreEncodings 29 octets
+    → levels n ≤ 29
+deep_of_octets octets n lawful is law e =
+    let one : Nodes = node n no_nodes in
+    let same : e.values ≡ one = sym (law e.values e.formed (omega (arith, e.depth)))
+    ∙ ap values_in (sym e.encoded ∙ is ∙ sym (append-nil (encoding n)))
+    ∙ law one (lawful.formed, tt) (omega (arith, lawful.depth)) in
+    let depth : levels_of one ≤ 29 = subst (λ ns. levels_of ns ≤ 29) same e.depth in
+    omega (arith, depth)
+
+octets_of_shallow : (octets : List ℕ) (n : Node) → IsLawful n → octets ≡ encoding n → levels n ≤ 29
+    → AreEncodings 29 octets
+octets_of_shallow octets n lawful is few = record {
+  values = node n no_nodes;
+  formed = (lawful.formed, tt);
+  depth = omega (arith, few);
+  encoded = is ∙ sym (append-nil (encoding n));
+}
+
+is_unit : {E : Type 0} (r : Result (Unit {0}) E) → is_ok r ≡ true → r ≡ Ok tt
+is_unit (Ok u) e = refl
+is_unit (Err f) e = cc
+
+-- what a check of its octets tells
+pub shallow_told : (octets : List ℕ) (n : Node) (r : Result (Unit {0}) DerFault) → IsLawful n → octets ≡ encoding n
+    → ((ns : Nodes) → AreFormed ns → levels_of ns ≤ 32 → values_in (encodings ns) ≡ ns)
+    → (r ≡ Ok tt) ↔ AreEncodings 29 octets → is_ok r ≡ leb (levels n) 29
+shallow_told octets n r lawful is law told = by_test (is_ok r) (leb (levels n) 29) refl refl
+  where
+    by_test : (a b : Bool) → is_ok r ≡ a → leb (levels n) 29 ≡ b → a ≡ b
+    by_test true true e g = refl
+    by_test false false e g = refl
+    by_test true false e g =
+        let few = deep_of_octets octets n lawful is law (told.0 (is_unit r e)) in
+        let test : leb (levels n) 29 ≡ true = grind (arith, nat_tests) in
+        sym test ∙ g
+    by_test false true e g =
+        sym e ∙ ap is_ok (told.1 (octets_of_shallow octets n lawful is (leb-true (levels n) 29 g)))
 
 serial_takes : (ns : Nodes) (found : Node × Nodes) → serial_at ns ≡ Some found
     → (octets : List ℕ) × (ns ≡ node (primitive 2 octets) found.1) × (found.0 ≡ primitive 2 octets)
@@ -82,6 +143,7 @@ version_takes (node first others) formed =
 -- What is read as an outline is the outline of a certificate's parts.
 pub outline_takes : (n : Node) (found : Outline) → IsFormed n → outline_of n ≡ Some found
     → (p : CertificateParts) × (n ≡ certificate p) × (is_shortest p.serial ≡ true) × (found ≡ outline p)
+    × (levels (subject_name p) ≤ 29)
 unfolding outline_of
 outline_takes n found formed e = option_and_then_some _ (components_of 48 n) found e (λ members e1 r1.
     option_and_then_some _ (first_of members) found r1 (λ tbs e2 r2.
@@ -90,7 +152,7 @@ outline_takes n found formed e = option_and_then_some _ (components_of 48 n) fou
     option_and_then_some _ (sequence_at serial.1) found r4 (λ signature e5 r5.
     option_and_then_some _ (sequence_at signature.1) found r5 (λ issuer e6 r6.
     option_and_then_some _ (sequence_at issuer.1) found r6 (λ validity e7 r7.
-    option_and_then_some _ (sequence_at validity.1) found r7 (λ subject e8 r8.
+    option_and_then_some _ (subject_at validity.1) found r7 (λ subject e8 r8.
     let outer = components_takes 48 n members e1 in
     let front = front_takes members tbs e2 in
     let within = components_takes 48 tbs.0 inside e3 in
@@ -102,7 +164,7 @@ outline_takes n found formed e = option_and_then_some _ (components_of 48 n) fou
     let (in_signature, is_signature, at_signature) = sequence_takes serial.1 signature e5 in
     let (in_issuer, is_issuer, at_issuer) = sequence_takes signature.1 issuer e6 in
     let (in_validity, is_validity, at_validity) = sequence_takes issuer.1 validity e7 in
-    let (in_subject, is_subject, at_subject) = sequence_takes validity.1 subject e8 in
+    let (in_subject, is_subject, at_subject, shallow) = subject_takes validity.1 subject e8 in
     let p : CertificateParts = record {
       version = version.0;
       serial = digits;
@@ -128,22 +190,28 @@ outline_takes n found formed e = option_and_then_some _ (components_of 48 n) fou
       after_serial = serial.1;
       issuer = issuer.0;
       after_issuer = issuer.1;
+      subject = subject.0;
+      after_subject = subject.1;
       after = tbs.1;
     } in
     let found_is : read ≡ found = cc in
     let outline_is : read ≡ outline p = cc in
-    (p, certificate_is, shortest, sym found_is ∙ outline_is)))))))))
+    (p, certificate_is, shortest, sym found_is ∙ outline_is, shallow)))))))))
 
 outline_version : (p : CertificateParts) (version : Option Nodes) → is_shortest p.serial ≡ true
+    → leb (suc (levels_of p.subject)) 29 ≡ true
     → outline_of (constructed 48 (node (constructed 48 (with_version version (node (serial_number p) (after_serial p))))
     p.after)) ≡ Some (outline p)
-unfolding outline_of serial_at sequence_at after_version
-outline_version p None shortest = rw shortest refl
-outline_version p (Some inside) shortest = rw shortest refl
+unfolding outline_of serial_at sequence_at subject_at after_version
+outline_version p None shortest shallow = rw (shortest, shallow) refl
+outline_version p (Some inside) shortest shallow = rw (shortest, shallow) refl
 
-pub outline_of-certificate : (p : CertificateParts) → is_shortest p.serial ≡ true
+pub outline_of-certificate : (p : CertificateParts) → is_shortest p.serial ≡ true → levels (subject_name p) ≤ 29
     → outline_of (certificate p) ≡ Some (outline p)
-outline_of-certificate p shortest = outline_version p p.version shortest
+outline_of-certificate p shortest shallow =
+    let few : suc (levels_of p.subject) ≤ 29 = shallow in
+    let test : leb (suc (levels_of p.subject)) 29 ≡ true = grind (arith, nat_tests) in
+    outline_version p p.version shortest test
 
 optional_takes : (ns : Nodes) → is_optional ns ≡ true → (parameters : Option Node) × (ns ≡ optional parameters)
 unfolding is_optional
@@ -195,18 +263,24 @@ outline_found view (Some a) octets n e lawful is =
     let read = outline_takes n (view a) lawful.formed (sym e) in (
       read.0,
       (
-        record { lawful = subst IsLawful read.1 lawful; encoded = is ∙ ap encoding read.1; shortest = read.2 },
+        record {
+          lawful = subst IsLawful read.1 lawful;
+          encoded = is ∙ ap encoding read.1;
+          shortest = read.2;
+          shallow = read.4;
+        },
         read.3,
       ),
     )
 
 pub outline_only : {A : Type 0} (view : A → Outline) (r : Option A) (n : Node) (p : CertificateParts)
     → option_map view r ≡ outline_of n → n ≡ certificate p
-    → is_shortest p.serial ≡ true → MatchOption r ⊥ (λ found. view found ≡ outline p)
-outline_only view None n p e is shortest = let all = e ∙ ap outline_of is ∙ outline_of-certificate p shortest in
-    none-some (outline p) all
-outline_only view (Some a) n p e is shortest = let all = e ∙ ap outline_of is ∙ outline_of-certificate p shortest in
-    same_Some (view a) (outline p) all
+    → is_shortest p.serial ≡ true → levels (subject_name p) ≤ 29
+    → MatchOption r ⊥ (λ found. view found ≡ outline p)
+outline_only view None n p e is shortest shallow =
+    let all = e ∙ ap outline_of is ∙ outline_of-certificate p shortest shallow in none-some (outline p) all
+outline_only view (Some a) n p e is shortest shallow =
+    let all = e ∙ ap outline_of is ∙ outline_of-certificate p shortest shallow in same_Some (view a) (outline p) all
 
 -- ---- algorithms
 

@@ -1,4 +1,4 @@
--- Where a certificate's issuer and serial number stand in its octets.
+-- Where a certificate's issuer, serial number and subject stand in its octets.
 use Rattle.std.proofs.Common.{◌≡◌, ℕ, ◌+◌, ◌-◌, ◌≤◌, List, [], ◌∷◌, ◌++◌, Option, Some, None, length, take, drop}
 use Rattle.std.proofs.Common.{slice_range, refl, sym, ap, ◌∙◌, append_assoc, arith}
 use Rattle.std.proofs.lemmas.List.{length-append}
@@ -6,8 +6,8 @@ use Rattle.std.proofs.Math.Seq.{take-append_seam, drop-append_seam}
 use Rattle.der.specs.Node.{Node, constructed, Nodes, node, encoding, encodings, length_octets}
 use Rattle.cms.specs.Place.{IsPlace}
 use Rattle.cms.specs.declared.place.Place.{Place}
-use Rattle.cms.specs.Certificate.{CertificateParts, with_version, serial_number, issuer_name, after_serial}
-use Rattle.cms.specs.Certificate.{after_issuer, certificate}
+use Rattle.cms.specs.Certificate.{CertificateParts, with_version, serial_number, issuer_name, subject_name}
+use Rattle.cms.specs.Certificate.{after_serial, after_issuer, certificate}
 
 -- octets stand where those before and after them say
 pub slice_of_part : (whole front part back : List ℕ) (start end : ℕ) → whole ≡ front ++ (part ++ back)
@@ -61,6 +61,16 @@ issuer_stands p =
       front = serial.front ++ (encoding (serial_number p) ++ encoding (constructed 48 p.signature));
       is = serial.is ∙ regroup_later serial.front (encoding (serial_number p)) (encoding (constructed 48 p.signature))
           (encoding (issuer_name p)) (encodings (after_issuer p)) (encodings p.after);
+    }
+
+pub subject_stands : (p : CertificateParts)
+    → StandsIn (encoding (subject_name p)) (encodings p.further ++ encodings p.after) (encoding (certificate p))
+subject_stands p =
+    let issuer = issuer_stands p in
+    record {
+      front = issuer.front ++ (encoding (issuer_name p) ++ encoding (constructed 48 p.validity));
+      is = issuer.is ∙ regroup_later issuer.front (encoding (issuer_name p)) (encoding (constructed 48 p.validity))
+          (encoding (subject_name p)) (encodings p.further) (encodings p.after);
     }
 
 total_of : (octets whole later last : List ℕ) (n : Node) (a b : Nodes) → octets ≡ whole

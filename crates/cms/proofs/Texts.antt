@@ -120,16 +120,16 @@ signer_info_text identity algorithm tst signature =
     (under_zero (signed_attributes identity tst)) algorithm (octet_string signature) (ap (element 2) (sym one_content))
     refl refl refl refl refl)
 
-joined-append : (xs ys : List (List ℕ)) → joined (xs ++ ys) ≡ joined xs ++ joined ys
+pub joined-append : (xs ys : List (List ℕ)) → joined (xs ++ ys) ≡ joined xs ++ joined ys
 joined-append [] ys = refl
 joined-append (x ∷ xs) ys =
     ap (λ octets. x ++ octets) (joined-append xs ys) ∙ sym (append_assoc x (joined xs) (joined ys))
 
 pub certificates_text : (identity : IdentityValue)
-    → joined (certificates true identity) ≡ element 160 identity.certificate
+    → joined (certificates true identity) ≡ element 160 identity.certificates
 unfolding certificates
 certificates_text identity =
-    append-nil (under_zero (identity.certificate ∷ [])) ∙ ap (element 160) (append-nil identity.certificate)
+    append-nil (under_zero (identity.certificates ∷ [])) ∙ ap (element 160) (append-nil identity.certificates)
 
 pub no_certificates_text : (identity : IdentityValue) → joined (certificates false identity) ≡ []
 unfolding certificates

@@ -1,4 +1,6 @@
 pub mod Certificate
+pub mod Chain
+pub mod ChainView
 pub mod Fault
 pub mod Framed
 pub mod Grammar
@@ -7,5 +9,6 @@ pub mod KeyedHash
 pub mod Outline
 pub mod OutlineView
 pub mod Place
+pub mod SetOf
 pub mod SignedData
 pub mod Signer

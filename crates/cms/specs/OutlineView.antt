@@ -9,5 +9,7 @@ outline_view o = record {
   after_serial = values_view o.after_serial;
   issuer = value_view o.issuer;
   after_issuer = values_view o.after_issuer;
+  subject = value_view o.subject;
+  after_subject = values_view o.after_subject;
   after = values_view o.after;
 }

@@ -89,9 +89,10 @@ encapsulated_content_info tst =
     ∷ under_zero (octet_string tst ∷ [])
     ∷ [])
 
--- the certificates of SignedData, left away where none is asked for (RFC 5652 5.1, RFC 3161 2.4.1 on certReq)
+-- the certificates of SignedData, a SET OF in ascending order under [0], left away where none is asked for (RFC 5652
+-- 5.1, X.690 11.6, RFC 3161 2.4.1 on certReq)
 unfoldable pub certificates : Bool → IdentityValue → List (List ℕ)
-certificates with_certificate identity = if with_certificate then under_zero (identity.certificate ∷ []) ∷ [] else []
+certificates with_certificate identity = if with_certificate then under_zero (identity.certificates ∷ []) ∷ [] else []
 
 -- SignedData of version 3, since its content isn't plain data (RFC 5652 5.1)
 unfoldable pub signed_data : IdentityValue → List ℕ → List ℕ → List ℕ → Bool → List ℕ
@@ -111,7 +112,7 @@ content_info content =
     ∷ [])
 
 -- a time-stamp token: of which identity, under which algorithm, over which TSTInfo, with which signature, and whether
--- with the certificate
+-- with the certificates
 unfoldable pub token : IdentityValue → List ℕ → List ℕ → List ℕ → Bool → List ℕ
 token identity algorithm tst signature with_certificate =
     content_info (signed_data identity algorithm tst signature with_certificate)

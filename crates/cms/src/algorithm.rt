@@ -1,6 +1,6 @@
-ghost use Rattle.std.specs.Prelude.{◌≡◌, ◌<◌, ◌≤◌, ◌↔◌, length, Err, OnOk, IfOk, IfErr};
+ghost use Rattle.std.specs.Prelude.{◌≡◌, ◌⊎◌, ◌<◌, ◌≤◌, ◌↔◌, length, Err, OnOk, IfOk, IfErr};
 ghost use Rattle.cms.specs.Certificate.{IsAlgorithm};
-ghost use Rattle.cms.specs.declared.fault.CmsFault.TheVariants.{TooLarge, Memory};
+ghost use Rattle.cms.specs.declared.fault.CmsFault.TheVariants.{NotCertificate, TooLarge, Memory};
 
 use crate::fault::CmsFault;
 use crate::outline::is_algorithm;
@@ -36,6 +36,7 @@ impl Algorithm {
         ensures only { IsAlgorithm octets.now → length octets.now ≤ 256 → IfErr result (λ fault. fault ≡ Memory) }
         ensures too_large { (result ≡ Err TooLarge) ↔ (256 < length octets.now) }
         ensures memory { result ≡ Err Memory → IsAlgorithm octets.now }
+        ensures refusals { IfErr result (λ fault. (fault ≡ NotCertificate) ⊎ ((fault ≡ TooLarge) ⊎ (fault ≡ Memory))) }
     {
         if octets.len() > MAX_ALGORITHM {
             return Err(CmsFault::TooLarge);

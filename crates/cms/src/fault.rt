@@ -4,18 +4,24 @@ ghost use Rattle.cms.specs.declared.fault.CmsFault.TheVariants.{Memory};
 use std::alloc::{AllocError, AllocFailed};
 use thiserror::Error;
 
-/// Why a certificate or an algorithm is refused. Each refusal has a number, which the program prints.
+/// Why a certificate, a chain or an algorithm is refused. Each refusal has a number, which the program prints.
 #[derive(Clone, Copy, Debug, PartialEq, Eq, Error)]
 pub enum CmsFault {
     /// The octets are no certificate (RFC 5280 4.1), or no AlgorithmIdentifier (RFC 5280 4.1.1.2).
     #[error("the octets are no certificate or algorithm")]
     NotCertificate = 1,
-    /// More octets than are read, which is judged first.
+    /// More octets of one certificate or algorithm than are read, which is judged first.
     #[error("there are too many octets")]
     TooLarge = 2,
     /// Memory ran out.
     #[error("out of memory")]
     Memory = 3,
+    /// More than three further certificates in a chain.
+    #[error("there are too many certificates")]
+    TooMany = 4,
+    /// A certificate that stands twice among the signer's and those of its chain.
+    #[error("a certificate stands twice")]
+    Repeated = 5,
 }
 
 impl From<AllocError> for CmsFault {
@@ -37,7 +43,7 @@ impl<T: Drop> From<AllocFailed<T>> for CmsFault {
 impl CmsFault {
     ghost use Rattle.cms.specs.Fault.{number_of};
 
-    /// The refusal's number, 1 to 3.
+    /// The refusal's number, 1 to 5.
     pub fn number(self) -> u8
         ensures { result ≡ number_of self }
     {

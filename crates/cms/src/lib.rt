@@ -2,6 +2,7 @@
 #![tactic(auto)]
 
 mod algorithm;
+mod chain;
 mod encode;
 mod fault;
 mod framed_signer;
@@ -15,9 +16,11 @@ mod signer;
 mod tags;
 
 pub use algorithm::Algorithm;
+pub use chain::sets_are_ascending;
 pub use fault::CmsFault;
 pub use framed_signer::FramedSigner;
 pub use identity::Identity;
 pub use keyed_hash::KeyedHash;
+pub use outline::subject_of;
 pub use signed_data::{attribute_text, token};
 pub use signer::{Signer, SignerFault};

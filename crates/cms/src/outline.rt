@@ -1,25 +1,31 @@
-//! Where issuer and serial number stand in a certificate.
-ghost use Rattle.std.specs.Prelude.{◌≡◌, MatchOption, IfSome, option_map, ◌↔◌, IsTrue};
+//! Where issuer, serial number and subject stand in a certificate.
+ghost use Rattle.std.specs.Prelude.{◌≡◌, MatchOption, IfSome, option_map, ◌↔◌, IsTrue, nat_le};
 ghost use Rattle.der.specs.DataValueView.{value_view, values_view};
-ghost use Rattle.cms.specs.Certificate.{CertificateParts, IsCertificate, IsAlgorithm};
-ghost use Rattle.cms.specs.Outline.{sequence_at, serial_at, after_version, outline_of, outline, is_optional};
-ghost use Rattle.cms.specs.Outline.{algorithm_of};
+ghost use Rattle.der.specs.Node.{Node, levels};
+ghost use Rattle.cms.specs.Certificate.{CertificateParts, IsCertificate, IsSubject, IsAlgorithm};
+ghost use Rattle.cms.specs.Outline.{sequence_at, subject_at, serial_at, after_version, outline_of, outline};
+ghost use Rattle.cms.specs.Outline.{is_optional, algorithm_of};
 ghost use Rattle.cms.specs.OutlineView.{outline_view};
 
 use crate::tags::UNDER_ZERO;
 use der::{
-    DataValue, DataValues, Tag, is_number_content, is_oid_content, oids_have_one_content_and_text,
-    read_value,
+    DataValue, DataValues, Tag, check_values, encodings_are_read, is_number_content,
+    is_oid_content, oids_have_one_content_and_text, read_value,
 };
 
-/// The serial number and the issuer of a certificate, what follows each of them in its TBSCertificate, and what follows
-/// that.
+/// The most levels of a subject: three stand above it in a TSTInfo, which has 32 at most.
+const MAX_SUBJECT_LEVELS: u8 = 29;
+
+/// The serial number, the issuer and the subject of a certificate, what follows each of them in its TBSCertificate, and
+/// what follows that.
 #[derive(Clone, Copy)]
 pub(crate) struct Outline<'a> {
     pub serial: DataValue<'a>,
     pub after_serial: DataValues<'a>,
     pub issuer: DataValue<'a>,
     pub after_issuer: DataValues<'a>,
+    pub subject: DataValue<'a>,
+    pub after_subject: DataValues<'a>,
     pub after: DataValues<'a>,
 }
 
@@ -32,6 +38,28 @@ fn sequence<'a>(members: &mut DataValues<'a>) -> Option<DataValue<'a>>
     let first = members.next()?;
     first.components_under(Tag::SEQUENCE)?;
     Some(first)
+}
+
+/// Whether a value has at most 29 levels.
+fn is_shallow(value: &DataValue<'_>) -> bool
+    ensures { result ≡ nat_le (levels (value_view value.now)) 29 }
+{
+    encodings_are_read();
+    check_values(MAX_SUBJECT_LEVELS, value.octets()).is_ok()
+}
+
+/// Takes a subject off, a SEQUENCE of at most 29 levels.
+#[tactic(auto, unfolding(crate::specs::Outline::subject_at))]
+fn subject<'a>(members: &mut DataValues<'a>) -> Option<DataValue<'a>>
+    ensures { option_map (λ value. (value_view value, values_view members.new)) result
+        ≡ subject_at (values_view members.old) }
+{
+    let first = sequence(members)?;
+    if is_shallow(&first) {
+        Some(first)
+    } else {
+        None
+    }
 }
 
 /// Takes a serial number off, an INTEGER in the shortest form.
@@ -71,12 +99,15 @@ fn outline_from(certificate: DataValue<'_>) -> Option<Outline<'_>>
     let issuer = sequence(&mut members)?;
     let after_issuer = members;
     let _validity = sequence(&mut members)?;
-    let _subject = sequence(&mut members)?;
+    let subject = subject(&mut members)?;
+    let after_subject = members;
     Some(Outline {
         serial,
         after_serial,
         issuer,
         after_issuer,
+        subject,
+        after_subject,
         after,
     })
 }
@@ -92,6 +123,17 @@ pub(crate) fn outline_in(octets: &[u8]) -> Option<Outline<'_>>
         Ok(value) => outline_from(value),
         Err(_) => None,
     }
+}
+
+/// The subject of the certificate that octets are (RFC 5280 4.1.2.6), of any length; none where they are no
+/// certificate. Takes no memory.
+pub fn subject_of(certificate: &[u8]) -> Option<DataValue<'_>>
+    ensures found { IfSome result (λ name. IsSubject certificate.now (value_view name)) }
+    ensures only { (name : Node) → IsSubject certificate.now name
+        → MatchOption result ⊥ (λ found. value_view found ≡ name) }
+{
+    let outline = outline_in(certificate)?;
+    Some(outline.subject)
 }
 
 /// Whether one value at most is left.

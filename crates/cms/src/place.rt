@@ -13,11 +13,12 @@ pub(crate) struct Place {
     pub end: usize,
 }
 
-/// Where a certificate's issuer and serial number stand in its octets.
+/// Where a certificate's issuer, serial number and subject stand in its octets.
 #[derive(Clone, Copy)]
 pub(crate) struct Places {
     pub issuer: Place,
     pub serial: Place,
+    pub subject: Place,
 }
 
 /// The place of a value in so many octets, with values after it that end them.
@@ -41,9 +42,9 @@ fn place_of(
 /// The places in the certificate that octets are; none where they are none.
 pub(crate) fn places_in(octets: &[u8]) -> Option<Places>
     ensures found { IfSome result (λ found. (p : CertificateParts)
-        × (IsCertificate octets.now p × ArePlaces octets.now p found.issuer found.serial)) }
+        × (IsCertificate octets.now p × ArePlaces octets.now p found.issuer found.serial found.subject)) }
     ensures only { (p : CertificateParts) → IsCertificate octets.now p
-        → MatchOption result ⊥ (λ found. ArePlaces octets.now p found.issuer found.serial) }
+        → MatchOption result ⊥ (λ found. ArePlaces octets.now p found.issuer found.serial found.subject) }
 {
     let outline = outline_in(octets)?;
     encodings_are_read();
@@ -58,6 +59,12 @@ pub(crate) fn places_in(octets: &[u8]) -> Option<Places>
             octets.len(),
             &outline.serial,
             &outline.after_serial,
+            &outline.after,
+        ),
+        subject: place_of(
+            octets.len(),
+            &outline.subject,
+            &outline.after_subject,
             &outline.after,
         ),
     })

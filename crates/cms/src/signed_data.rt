@@ -149,7 +149,7 @@ fn append_certificates(
     ensures { OnOk result (octets.new.items ≡ octets.old.items ++ joined (certificates with_certificate identity.now)) }
 {
     if with_certificate {
-        append_element(octets, UNDER_ZERO, identity.certificate())?;
+        append_element(octets, UNDER_ZERO, identity.certificates())?;
     }
     Ok(())
 }
@@ -188,8 +188,8 @@ pub fn attribute_text(alloc: Global, identity: &Identity, tst: &[u8]) -> Result<
     Ok(element_of(alloc, Tag::SET, &attributes)?)
 }
 
-/// A time-stamp token (RFC 3161 2.4.2, RFC 5652 5): the TSTInfo, signed under an algorithm, with the certificate where
-/// it is asked for. `tst` is the TSTInfo's encoding, and the signature has 1 to 4,096 octets. Refused only for want of
+/// A time-stamp token (RFC 3161 2.4.2, RFC 5652 5): the TSTInfo, signed under an algorithm, with all certificates of
+/// the identity, in ascending order, where they are asked for. `tst` is the TSTInfo's encoding, and the signature has 1 to 4,096 octets. Refused only for want of
 /// memory, as `Memory`.
 pub fn token(
     alloc: Global,

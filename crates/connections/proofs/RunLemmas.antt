@@ -1,5 +1,5 @@
 -- Connections are a run of the machine.
-use Rattle.std.proofs.Common.{◌≡◌, ℕ, ◌<◌, ℤ, List, [], ◌∷◌, ◌++◌, Option, Result, Ok, Err, refl, ap, subst}
+use Rattle.std.proofs.Common.{◌≡◌, ◌∙◌, ℕ, ◌<◌, ℤ, List, [], ◌∷◌, ◌++◌, Option, Some, Result, Ok, Err, refl, ap, subst}
 use Rattle.std.proofs.Common.{sym, inl, inr}
 use Rattle.book.specs.declared.standing.Standing.{Ghosts}
 use Rattle.book.specs.History.{History}
@@ -7,7 +7,7 @@ use Rattle.book.specs.Sound.{IsSound}
 use Rattle.book.specs.Stands.{Stands}
 use Rattle.cms.specs.declared.signer.SignerFault.{SignerFault}
 use Rattle.desk.specs.Command.{Setting, Command, Stamp, Begin, Finish, Abandon, Deposit, Show, Token, ListAll, Grant}
-use Rattle.desk.specs.Command.{Revoke, Calibrate, Hold, Answer, Listed}
+use Rattle.desk.specs.Command.{Revoke, Calibrate, Hold, Succeed, Answer, Listed, setting_after}
 use Rattle.desk.specs.Effects.{Effect}
 use Rattle.desk.specs.Agreement.{Agree}
 use Rattle.desk.specs.Laws.{AreMet, AreCommandsOf, Continues, RunsAlike}
@@ -32,52 +32,56 @@ use Rattle.connections.proofs.TurnsLemmas.{leads_honest}
 
 met_anywhere : (s : Setting) (cs : List Command) (os : List Outcome) (b : History) → AreMetAnywhere cs
     → AreMet s cs os b
-met_anywhere s (c ∷ cs) (o ∷ os) b met = (met.0 b, λ e has. met_anywhere s cs os (after e b) met.1)
+met_anywhere s (c ∷ cs) (o ∷ os) b met =
+    (met.0 b, λ e has. met_anywhere (setting_after s c e.says) cs os (after e b) met.1)
 met_anywhere s [] os b met = tt
 met_anywhere s (c ∷ cs) [] b met = tt
 
 -- a step of the desk, from a history for which the store stood
 record OneStep {B X : Type 0} (g : Ghosts B) (signs : X → List ℕ → Result (List ℕ) SignerFault → X → Type 0)
-    (s : Setting) (c : Command) (reply : Answer) (b : History) (new : B) (x x' : X) : Type 0 where
+    (s : Setting) (c : Command) (reply : Answer) (b : History) (new : DeskValue B) (x x' : X) : Type 0 where
   outcome : Outcome
   effect : Effect
   has : HasEffect s c outcome b effect
   moves : Moves signs effect.asks outcome.signing x x'
   says : reply ≡ effect.says
-  stands : Stands g (after effect b) new
+  stands : Stands g (after effect b) new.store
+  setting : new.setting ≡ setting_after s c reply
 
 module _ {B X : Type 0} (g : Ghosts B) (signs : X → List ℕ → Result (List ℕ) SignerFault → X → Type 0) (count : X → ℕ)
     (old new : DeskValue B) (x x' : X) (b : History) (reply : Answer) (honest : g.honest new.store)
     (stood : Stands g b old.store) where
-  signed : (c : Command) → IsStep g (with_signer signs count x x') old.setting c old.store new.store reply → IsMet c b
-      → OneStep g signs old.setting c reply b new.store x x'
+  signed : (c : Command) → IsStep g (with_signer signs count x x') c old new reply → IsMet c b
+      → OneStep g signs old.setting c reply b new x x'
   signed c step met =
-      let h = step.1.step.steps honest b stood met in
+      let h = step.by.step.steps honest b stood met in
       record {
-        outcome = step.0;
+        outcome = step.outcome;
         effect = h.effect;
         has = h.has;
         moves = h.moves;
         says = h.says;
         stands = h.stands;
+        setting = step.setting;
       }
 
-  unsigned : (c : Command) → IsStep g no_signer old.setting c old.store new.store reply → x' ≡ x → IsMet c b
-      → OneStep g signs old.setting c reply b new.store x x'
+  unsigned : (c : Command) → IsStep g no_signer c old new reply → x' ≡ x → IsMet c b
+      → OneStep g signs old.setting c reply b new x x'
   unsigned c step same met =
-      let h = step.1.step.steps honest b stood met in
-      let P : Option (List ℕ) → Type 0 = λ asked. Moves signs asked step.0.signing x x' in
+      let h = step.by.step.steps honest b stood met in
+      let P : Option (List ℕ) → Type 0 = λ asked. Moves signs asked step.outcome.signing x x' in
       record {
-        outcome = step.0;
+        outcome = step.outcome;
         effect = h.effect;
         has = h.has;
         moves = subst P (sym h.moves) same;
         says = h.says;
         stands = h.stands;
+        setting = step.setting;
       }
 
   one_step : (c : Command) → Steps g signs count old new x x' c reply → IsMet c b
-      → OneStep g signs old.setting c reply b new.store x x'
+      → OneStep g signs old.setting c reply b new x x'
   one_step (Stamp account reading octets) t met = signed (Stamp account reading octets) t.0 met
   one_step (Deposit a reading reference bytes) t met = signed (Deposit a reading reference bytes) t met
   one_step (Begin account reading octets) t met = unsigned (Begin account reading octets) t.0 t.1 met
@@ -90,6 +94,7 @@ module _ {B X : Type 0} (g : Ghosts B) (signs : X → List ℕ → Result (List 
   one_step (Revoke a n reader) t met = unsigned (Revoke a n reader) t.0 t.1 met
   one_step (Calibrate c) t met = unsigned (Calibrate c) t.0 t.1 met
   one_step (Hold h) t met = unsigned (Hold h) t.0 t.1 met
+  one_step (Succeed n) t met = unsigned (Succeed n) t.0 t.1 met
 
 module _ {C B X : Type 0} (reads : C → Result ℤ ClockFailed → C → Type 0) (g : Ghosts B)
     (signs : X → List ℕ → Result (List ℕ) SignerFault → X → Type 0) (count : X → ℕ) where
@@ -131,10 +136,12 @@ module _ {C B X : Type 0} (reads : C → Result ℤ ClockFailed → C → Type 0
         let Q : Setting → Type 0 = λ s.
         Runs signs s (commands_of later) r.outcomes (after h.effect b) next.signer (answers_of later) r.history
         new.signer in
+        let after_it : next.desk.setting ≡ setting_after old.desk.setting c h.effect.says =
+        h.setting ∙ ap (setting_after old.desk.setting c) h.says in
         record {
           outcomes = h.outcome ∷ r.outcomes;
           history = r.history;
-          runs = (h.effect, next.signer, (h.has, h.moves, h.says, subst Q setting r.runs));
+          runs = (h.effect, next.signer, (h.has, h.moves, h.says, subst Q after_it r.runs));
           stands = r.stands;
         }
 
@@ -205,7 +212,8 @@ module _ {C B X : Type 0} (reads : C → Result ℤ ClockFailed → C → Type 0
       (stops, run_along old before.after last before.leads)
 
   module _ (journeys : (s : Setting) (cs : List Command) (os : List Outcome) (b : History) (w : List Told) (b' : History)
-      (w' : List Told) → IsProper s → AreMet s cs os b → Journey b w → Continues s cs os b w b' w' → HasProperties b' w')
+      (x' : Option Setting) (w' : List Told) → AreMet s cs os b → Journey b (Some s) w
+      → Continues s cs os b w b' x' w' → HasProperties b' w')
       (isolated : (account : List ℕ) (s : Setting) (cs : List Command) (os : List Outcome) (b c : History) (x : X)
       (answers : List Answer) (b' : History) (x' : X) → IsProper s → AreCommandsOf account cs → IsSound b → IsSound c
       → Agree (viewer_in s.file account) b c → Runs signs s cs os b x answers b' x'
@@ -217,8 +225,8 @@ module _ {C B X : Type 0} (reads : C → Result ℤ ClockFailed → C → Type 0
         let asked = told_along reads g signs count old served.after new served.leads in (
           r,
           λ proper. record {
-            journeys = λ w journey os b' w' goes.
-                journeys old.desk.setting (commands_of asked) os b w b' w' proper
+            journeys = λ w journey os b' x' w' goes.
+                journeys old.desk.setting (commands_of asked) os b w b' x' w'
                 (met_anywhere old.desk.setting (commands_of asked) os b met) journey goes;
             isolated = λ account own c sound agree.
                 isolated account old.desk.setting (commands_of asked) r.outcomes b c old.signer (answers_of asked)

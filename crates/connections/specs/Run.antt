@@ -1,6 +1,6 @@
 -- Connections are a run of the machine: those that asked for a command, over these commands in their order, with the
 -- desk's replies. The others leave the history.
-use Rattle.std.specs.Prelude.{ℕ, ℤ, List, [], ◌∷◌, ◌++◌, map, None, Result, Ok, Err}
+use Rattle.std.specs.Prelude.{ℕ, ℤ, List, [], ◌∷◌, ◌++◌, map, Option, None, Some, Result, Ok, Err}
 use Rattle.std.proofs.Common.{inl, inr}
 use Rattle.book.specs.declared.standing.Standing.{Ghosts}
 use Rattle.book.specs.History.{History}
@@ -95,13 +95,14 @@ module _ {C B X : Type 0} (reads : C → Result ℤ ClockFailed → C → Type 0
     pub runs : Runs signs s (commands_of told) outcomes b old.signer (answers_of told) history new.signer
     pub stands : Stands g history new.desk.store
 
-  -- Each journey that ends in that history goes on by these commands, to their end or to a stop in one of them, and
-  -- keeps its promises there. Where they are one account's, they would be answered so from each history that agrees with
+  -- Each journey that ends in that history, with a desk of that setting open, goes on by these commands, to their end or
+  -- to a stop in one of them, and keeps its promises there. Where they are one account's, they would be answered so from each history that agrees with
   -- that one for it, and the histories that follow agree again.
   pub record KeepsItsPromises (s : Setting) (told : List Told) (b : History) (old new : State C B X)
       (run : IsRunOver s told b old new) : Type 0 where
-    pub journeys : (w : List Told) → Journey b w → (outcomes : List Outcome) (b' : History) (w' : List Told)
-        → Continues s (commands_of told) outcomes b w b' w' → HasProperties b' w'
+    pub journeys : (w : List Told) → Journey b (Some s) w → (outcomes : List Outcome) (b' : History)
+        (x' : Option Setting) (w' : List Told) → Continues s (commands_of told) outcomes b w b' x' w'
+        → HasProperties b' w'
     pub isolated : (account : List ℕ) → AreCommandsOf account (commands_of told) → (c : History) → IsSound c
         → Agree (viewer_in s.file account) b c
         → RunsAlike signs account s (commands_of told) run.outcomes c old.signer (answers_of told) run.history

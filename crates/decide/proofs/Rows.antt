@@ -22,6 +22,7 @@ counter accuracy = record {
   drift_ppb = 1000;
   max_age_us = 86400000000;
   anonymous = None;
+  tsa_name = false;
 }
 
 abbrev calibration : Calibration

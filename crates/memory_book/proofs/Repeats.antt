@@ -1,9 +1,10 @@
 -- A history without repeated entries on rights says what the history says.
-use Rattle.std.proofs.Common.{◌≡◌, ℕ, ◌==◌, ◌&&◌, Bool, true, false, List, [], ◌∷◌, cond, refl, sym, ap, ◌∙◌}
+use Rattle.std.proofs.Common.{◌≡◌, ℕ, ◌==◌, ◌&&◌, Bool, true, false, [], ◌∷◌, cond, reverse, refl, sym, ap, ◌∙◌}
 use Rattle.std.proofs.lemmas.Bool.{eqb-true}
 use Rattle.std.proofs.lemmas.Slice.Eq.{bytes_eq-Decides}
-use Rattle.book.specs.History.{Reserved, Sealed, Deposited, Calibrated, Held, Granted, Revoked, History}
-use Rattle.book.specs.History.{reservations, calibrations, holds, deposits, token_of}
+use Rattle.book.specs.History.{Reserved, Sealed, Deposited, Calibrated, Held, Granted, Revoked, Installed, History}
+use Rattle.book.specs.History.{reservations, calibrations, holds, deposits, installations, token_of}
+use Rattle.book.specs.Identities.{installed_row, installed_rows, identities}
 use Rattle.book.specs.Readers.{Reader, Account, Group, is_same}
 use Rattle.book.specs.Rights.{is_reader}
 use Rattle.book.proofs.Rights.{reader_after_grant, reader_after_revocation}
@@ -57,6 +58,35 @@ same_deposits (Revoked n r ∷ b) =
     either (λ d. deposits d ≡ deposits b) (Revoked n r ∷ without_repeats b) (without_repeats b)
     (is_reader n r b) (same_deposits b) (same_deposits b)
 same_deposits (_ ∷ b) = same_deposits b
+
+pub same_installations : (b : History) → installations (without_repeats b) ≡ installations b
+same_installations [] = refl
+same_installations (Installed x ∷ b) = ap (λ rest. x ∷ rest) (same_installations b)
+same_installations (Granted n r ∷ b) =
+    either (λ d. installations d ≡ installations b) (without_repeats b) (Granted n r ∷ without_repeats b)
+    (is_reader n r b) (same_installations b) (same_installations b)
+same_installations (Revoked n r ∷ b) =
+    either (λ d. installations d ≡ installations b) (Revoked n r ∷ without_repeats b) (without_repeats b)
+    (is_reader n r b) (same_installations b) (same_installations b)
+same_installations (_ ∷ b) = same_installations b
+
+same_rows : (b : History) → installed_rows (without_repeats b) ≡ installed_rows b
+same_rows [] = refl
+same_rows (Installed x ∷ b) =
+    let row : installed_row x (without_repeats b) ≡ installed_row x b =
+    rw (same_installations b, same_reservations b) refl in
+    ap (λ first. first ∷ installed_rows (without_repeats b)) row
+    ∙ ap (λ rest. installed_row x b ∷ rest) (same_rows b)
+same_rows (Granted n r ∷ b) =
+    either (λ d. installed_rows d ≡ installed_rows b) (without_repeats b) (Granted n r ∷ without_repeats b)
+    (is_reader n r b) (same_rows b) (same_rows b)
+same_rows (Revoked n r ∷ b) =
+    either (λ d. installed_rows d ≡ installed_rows b) (Revoked n r ∷ without_repeats b) (without_repeats b)
+    (is_reader n r b) (same_rows b) (same_rows b)
+same_rows (_ ∷ b) = same_rows b
+
+pub same_identities : (b : History) → identities (without_repeats b) ≡ identities b
+same_identities b = ap reverse (same_rows b)
 
 pub same_tokens : (serial : ℕ) (b : History) → token_of serial (without_repeats b) ≡ token_of serial b
 same_tokens serial [] = refl

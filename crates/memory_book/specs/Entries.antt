@@ -1,10 +1,11 @@
 -- Entries that own their octets, as those of a history; and what one entry says.
 use Rattle.std.specs.Prelude.{ℕ, ◌==◌, ◌&&◌, Bool, true, false, List, map, Option, Some, None, string_bytes}
 use Rattle.std.specs.Prelude.{if◌then◌else◌}
-use Rattle.book.specs.History.{Entry, Reserved, Sealed, Deposited, Calibrated, Held, Granted, Revoked, History}
+use Rattle.book.specs.History.{Entry, Reserved, Sealed, Deposited, Calibrated, Held, Granted, Revoked, Installed}
+use Rattle.book.specs.History.{History}
 use Rattle.book.specs.History.{ReservationValue}
 use Rattle.book.specs.Readers.{Reader, Account, Group, is_same}
-use Rattle.book.specs.Values.{calibration_view, hold_view, deposit_view}
+use Rattle.book.specs.Values.{calibration_view, hold_view, deposit_view, installed_of}
 use Rattle.memory_book.specs.declared.entry.OwnedReservation.{OwnedReservation}
 use Rattle.memory_book.specs.declared.entry.OwnedReader.{OwnedReader}
 use Rattle.memory_book.specs.declared.entry.OwnedReader.TheVariants as owned
@@ -12,7 +13,7 @@ use Rattle.memory_book.specs.declared.entry.ReaderName.{ReaderName}
 use Rattle.memory_book.specs.declared.entry.ReaderName.TheVariants as named
 use Rattle.memory_book.specs.declared.entry.OwnedEntry.{OwnedEntry}
 use Rattle.memory_book.specs.declared.entry.OwnedEntry.TheVariants.{Reservation, Seal, Deposit, Calibration, Hold}
-use Rattle.memory_book.specs.declared.entry.OwnedEntry.TheVariants.{Grant, Revocation}
+use Rattle.memory_book.specs.declared.entry.OwnedEntry.TheVariants.{Grant, Revocation, Installation}
 
 abbrev pub reservation_value : OwnedReservation → ReservationValue
 reservation_value r = record {
@@ -42,6 +43,7 @@ entry_view (Calibration c) = Calibrated (calibration_view c)
 entry_view (Hold h) = Held (hold_view h)
 entry_view (Grant number reader) = Granted number (reader_view reader)
 entry_view (Revocation number reader) = Revoked number (reader_view reader)
+entry_view (Installation certificate chain) = Installed (installed_of certificate.items chain.items)
 
 -- a list of entries, the newest first
 abbrev pub history_of : List OwnedEntry → History

@@ -5,11 +5,8 @@ ghost use Rattle.book.specs.Values.{reservation_view, stamp_view, deposit_view};
 ghost use Rattle.memory_book.specs.Entries.{reservation_value, entry_view, history_of};
 
 use crate::entry::{OwnedEntry, OwnedReservation};
-use book::{Deposit, Reservation, Stamp, StoreFault};
+use book::{DAY, Deposit, Reservation, Stamp, StoreFault};
 use std::alloc::Global;
-
-/// The microseconds of a day.
-pub(crate) const DAY: u64 = 86_400_000_000;
 
 pub(crate) fn octets_of(alloc: Global, octets: &[u8]) -> Result<Vec<u8>, StoreFault>
     ensures { MatchResult result (λ v. v.items ≡ octets.now) (λ e. e ≡ StoreFault.Memory) }

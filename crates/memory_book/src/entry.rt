@@ -1,7 +1,7 @@
 //! Entries that own their octets.
 ghost use Rattle.std.specs.Prelude.{◌≡◌, option_map};
-ghost use Rattle.book.specs.History.{reservation_in, calibration_in, hold_in, deposit_in};
-ghost use Rattle.book.specs.Values.{calibration_view, hold_view, deposit_view};
+ghost use Rattle.book.specs.History.{reservation_in, calibration_in, hold_in, deposit_in, installed_in};
+ghost use Rattle.book.specs.Values.{calibration_view, hold_view, deposit_view, installed_of};
 ghost use Rattle.book.specs.Readers.{is_same};
 ghost use Rattle.memory_book.specs.Entries.{reservation_value, reader_view, reader_named, entry_view, token_in};
 ghost use Rattle.memory_book.specs.Entries.{right_about};
@@ -62,6 +62,8 @@ pub(crate) enum OwnedEntry {
     Grant(u64, OwnedReader),
     /// A deposit's number, and who may not read it any more.
     Revocation(u64, OwnedReader),
+    /// An identity: the signer's certificate, and the further ones of its chain.
+    Installation(Vec<u8>, Vec<u8>),
 }
 
 impl OwnedEntry {
@@ -97,6 +99,19 @@ impl OwnedEntry {
     {
         match self {
             OwnedEntry::Hold(hold) => Some(hold),
+            _ => None,
+        }
+    }
+
+    /// The certificate and the chain of an identity.
+    pub(crate) fn installation(&self) -> Option<(&[u8], &[u8])>
+        ensures { option_map (λ i. installed_of i.0.now i.1.now) result ≡ installed_in (entry_view self.now) }
+    {
+        match self {
+            OwnedEntry::Installation(certificate, chain) => Some((
+                certificate.as_slice(),
+                chain.as_slice(),
+            )),
             _ => None,
         }
     }

@@ -4,6 +4,7 @@
 mod calls;
 mod copies;
 mod entry;
+mod identities;
 mod laws;
 mod listing;
 mod memory_book;

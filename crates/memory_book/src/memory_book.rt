@@ -6,19 +6,18 @@ ghost use Rattle.book.specs.Stands.{Stands};
 use crate::calls::Calls;
 use crate::copies::{add, octets_of, reservation_of, stamp_of, text_of};
 use crate::entry::{OwnedEntry, ReaderName};
+use crate::identities::identities;
 use crate::listing::{by_reference, is_backwards, is_visible, listed, stamped_deposit};
 use crate::rights::{grant, revoke};
 use crate::views::{
-    count_of_day, greatest_serial, is_held, last_of, latest_calibration, oldest_within, token_of,
+    count_of_calibrations, count_of_day, count_of_holds, greatest_serial, is_held, last_of,
+    latest_calibration, oldest_within, token_of,
 };
 use book::{
-    Book, Calibration, Deposit, Hold, Last, Listed, Reservation, Stamp, StampedDeposit, Standing,
-    StoreFault,
+    Book, Calibration, Deposit, GREATEST_NUMBER, Hold, IdentityRow, Last, Listed, Reservation,
+    Stamp, StampedDeposit, Standing, StoreFault,
 };
 use std::alloc::Global;
-
-/// The greatest serial number, 2^63 - 1.
-const GREATEST: u64 = 9_223_372_036_854_775_807;
 
 /// A history in memory. It refuses a call with `Database` where the call is chosen, and with `Memory` where a growth is
 /// refused; a call so refused changes nothing else.
@@ -90,7 +89,7 @@ impl Book for MemoryBook {
 
     fn reserve(&mut self, reservation: &Reservation<'_>) -> Result<(), StoreFault> {
         self.calls.begin()?;
-        if greatest_serial(self.entries.as_slice()) == GREATEST {
+        if greatest_serial(self.entries.as_slice()) == GREATEST_NUMBER {
             return Err(StoreFault::Full);
         }
         let reservation = reservation_of(self.alloc, reservation)?;
@@ -170,23 +169,40 @@ impl Book for MemoryBook {
         revoke(self.alloc, &mut self.entries, number, from)
     }
 
-    fn calibrate(&mut self, calibration: &Calibration) -> Result<(), StoreFault> {
+    fn calibrate(&mut self, calibration: &Calibration) -> Result<u64, StoreFault> {
         self.calls.begin()?;
         if is_backwards(calibration, latest_calibration(self.entries.as_slice())) {
             return Err(StoreFault::Backwards);
         }
-        add(&mut self.entries, OwnedEntry::Calibration(*calibration))
+        add(&mut self.entries, OwnedEntry::Calibration(*calibration))?;
+        Ok(count_of_calibrations(self.entries.as_slice()))
     }
 
-    fn hold(&mut self, hold: &Hold) -> Result<(), StoreFault> {
+    fn hold(&mut self, hold: &Hold) -> Result<u64, StoreFault> {
         self.calls.begin()?;
-        add(&mut self.entries, OwnedEntry::Hold(*hold))
+        add(&mut self.entries, OwnedEntry::Hold(*hold))?;
+        Ok(count_of_holds(self.entries.as_slice()))
+    }
+
+    fn install(&mut self, certificate: &[u8], chain: &[u8]) -> Result<(), StoreFault> {
+        self.calls.begin()?;
+        let certificate = octets_of(self.alloc, certificate)?;
+        let chain = octets_of(self.alloc, chain)?;
+        add(
+            &mut self.entries,
+            OwnedEntry::Installation(certificate, chain),
+        )
+    }
+
+    fn identities(&mut self) -> Result<Vec<IdentityRow>, StoreFault> {
+        self.calls.begin()?;
+        identities(self.alloc, self.entries.as_slice())
     }
 
     fn next_stamp(&mut self, from: u64, to: u64) -> Result<Option<Stamp>, StoreFault> {
         self.calls.begin()?;
         let entries = self.entries.as_slice();
-        let Some(reservation) = oldest_within(entries, from, to.min(GREATEST)) else {
+        let Some(reservation) = oldest_within(entries, from, to.min(GREATEST_NUMBER)) else {
             return Ok(None);
         };
         let token = token_of(entries, reservation.serial);

@@ -1,15 +1,15 @@
 //! What a list of entries says, the newest first.
-ghost use Rattle.std.specs.Prelude.{◌≡◌, option_map, IfSome};
+ghost use Rattle.std.specs.Prelude.{◌≡◌, ◌≤◌, length, option_map, IfSome};
 ghost use Rattle.book.specs.History.{reservations, reservation_at, token_of, deposit_at, deposit_under, first_of};
-ghost use Rattle.book.specs.History.{latest_calibration, is_held, count_of_day, greatest_serial};
+ghost use Rattle.book.specs.History.{latest_calibration, is_held, count_of_day, greatest_serial, calibrations, holds};
+ghost use Rattle.book.specs.History.{installations};
 ghost use Rattle.book.specs.Ranges.{IsWithin};
 ghost use Rattle.book.specs.Values.{calibration_option, deposit_view, last_of};
 ghost use Rattle.memory_book.specs.Entries.{history_of, reservation_value};
 ghost use Rattle.memory_book.specs.Ranges.{oldest_within};
 
-use crate::copies::DAY;
 use crate::entry::{OwnedEntry, OwnedReservation};
-use book::{Calibration, Deposit, Last};
+use book::{Calibration, DAY, Deposit, Last};
 
 /// The reservation that was made last.
 pub(crate) fn newest_reservation(entries: &[OwnedEntry]) -> Option<&OwnedReservation>
@@ -165,4 +165,44 @@ pub(crate) fn oldest_within(entries: &[OwnedEntry], from: u64, to: u64) -> Optio
         }
     }
     oldest
+}
+
+/// How many calibrations there are.
+pub(crate) fn count_of_calibrations(entries: &[OwnedEntry]) -> u64
+    ensures { result ≡ length (calibrations (history_of entries.now)) }
+{
+    let mut count = 0;
+    for entry in entries {
+        if entry.calibration().is_some() {
+            count += 1;
+        }
+    }
+    count
+}
+
+/// How many holds there are.
+pub(crate) fn count_of_holds(entries: &[OwnedEntry]) -> u64
+    ensures { result ≡ length (holds (history_of entries.now)) }
+{
+    let mut count = 0;
+    for entry in entries {
+        if entry.hold().is_some() {
+            count += 1;
+        }
+    }
+    count
+}
+
+/// How many identities were installed.
+pub(crate) fn count_of_installations(entries: &[OwnedEntry]) -> u64
+    ensures value { result ≡ length (installations (history_of entries.now)) }
+    ensures most { result ≤ length entries.now }
+{
+    let mut count = 0;
+    for entry in entries {
+        if entry.installation().is_some() {
+            count += 1;
+        }
+    }
+    count
 }

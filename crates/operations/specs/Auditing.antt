@@ -1,5 +1,5 @@
 -- What an audit writes.
-use Rattle.std.specs.Prelude.{◌≡◌, ◌≢◌, ◌⊎◌, ℕ, ◌<◌, Bool, true, false, List, [], ◌∷◌, ◌++◌, IfErr, IfOk}
+use Rattle.std.specs.Prelude.{◌≡◌, ◌≢◌, ◌⊎◌, ℕ, ◌<◌, Bool, true, false, List, [], ◌∷◌, ◌++◌, IfErr, IfOk, OnOk}
 use Rattle.std.specs.Prelude.{Option, Result, codes, length, take}
 use Rattle.std.specs.Fmt.{decimal}
 use Rattle.std.specs.Io.KnownBytes.{Appends}
@@ -7,12 +7,16 @@ use Rattle.std.specs.List.{flat_map}
 use Rattle.audit.specs.Auditor.{IsAllowed, IsMet}
 use Rattle.audit.specs.Auditor as auditor
 use Rattle.audit.specs.Consistent.{IsConsistent}
-use Rattle.audit.specs.Extract.{header_text, stamps_text}
+use Rattle.audit.specs.Extract.{extract_text, header_text, stamps_text}
 use Rattle.audit.specs.declared.fault.ExtractFault.{ExtractFault}
 use Rattle.audit.specs.declared.fault.ExtractFault.TheVariants as extract
 use Rattle.policy.specs.View.{account_view, policy_view}
 use Rattle.book.specs.declared.fault.StoreFault.TheVariants as store
-use Rattle.book.specs.Rows.{StampRow}
+use Rattle.book.specs.declared.standing.Standing.{Ghosts}
+use Rattle.book.specs.History.{History, stamps_between}
+use Rattle.book.specs.Identities.{identities}
+use Rattle.book.specs.Rows.{InstalledRow, StampRow}
+use Rattle.book.specs.Stands.{OnlyLooks, Stands}
 use Rattle.operations.specs.declared.auditing.AuditFault.{AuditFault}
 use Rattle.operations.specs.declared.auditing.AuditFault.TheVariants as fault
 use Rattle.operations.specs.declared.auditing.Inquiry.{Inquiry}
@@ -28,24 +32,27 @@ failing_line serial = codes "row " ++ (decimal serial ++ codes " fails\n")
 abbrev pub failing_lines : List ℕ → List ℕ
 failing_lines serials = flat_map failing_line serials
 
--- these are the serial numbers of those stamps whose octets don't say what their rows say, in their order
-abbrev pub AreFailing : List StampRow → List ℕ → Type 0
-AreFailing [] serials = serials ≡ []
-AreFailing (stamp ∷ stamps) serials =
-    (IsConsistent stamp × AreFailing stamps serials)
-    ⊎ ((¬ IsConsistent stamp) × ((others : List ℕ) × (serials ≡ stamp.serial ∷ others) × AreFailing stamps others))
+-- these are the serial numbers of those stamps whose octets don't say what their rows and these identities say, in
+-- their order
+abbrev pub AreFailing : List InstalledRow → List StampRow → List ℕ → Type 0
+AreFailing installed [] serials = serials ≡ []
+AreFailing installed (stamp ∷ stamps) serials =
+    (IsConsistent stamp installed × AreFailing installed stamps serials)
+    ⊎ ((¬ IsConsistent stamp installed)
+    × ((others : List ℕ) × (serials ≡ stamp.serial ∷ others) × AreFailing installed stamps others))
 
 -- a beginning of the text was written, and not all of it
 abbrev pub IsCutOff : Option (List ℕ) → Option (List ℕ) → List ℕ → Type 0
 IsCutOff old new text = (n : ℕ) × (n < length text) × Appends old new (take n text)
 
 -- Each stamp was checked, and those that fail are told; but where a write fails the stamps after it aren't looked at.
-pub record Checks (stamps : List StampRow) (old new : Option (List ℕ)) (agree : Bool) : Type 0 where
+pub record Checks (installed : List InstalledRow) (stamps : List StampRow) (old new : Option (List ℕ)) (agree : Bool)
+    : Type 0 where
   pub checked : List StampRow
   pub left : List StampRow
   pub parts : stamps ≡ checked ++ left
   pub serials : List ℕ
-  pub failing : AreFailing checked serials
+  pub failing : AreFailing installed checked serials
   pub told : ((left ≡ []) × Appends old new (failing_lines serials)) ⊎ IsCutOff old new (failing_lines serials)
   pub agreed : agree ≡ true → (serials ≡ []) × (left ≡ [])
   pub failed : agree ≡ false → serials ≢ []
@@ -107,3 +114,13 @@ IsAudited inquiry out out' told told' done =
     × (agree ≡ true → told' ≡ told)
     × (agree ≡ false → (inquiry.check ≡ true) × TellsSome told told'))
     × IfErr done (λ refused. ComesWhere inquiry refused × Leaves inquiry out out' told told' refused)
+
+-- An audit of a book: it changes nowhere, and while it returns what was written, an answer comes with the extract of
+-- each history that it stood for, and, where that is asked, the check of its stamps.
+pub record IsAuditOf {B : Type 0} (g : Ghosts B) (inquiry : Inquiry) (old new : B)
+    (out out' told told' : Option (List ℕ)) (done : Result Bool AuditFault) : Type 0 where
+  pub looks : OnlyLooks g old new
+  pub whole : g.honest new → (b : History) → Stands g b old
+      → OnOk done (Appends out out' (extract_text inquiry.from inquiry.to b))
+  pub checked : g.honest new → (b : History) → Stands g b old → inquiry.check ≡ true
+      → IfOk done (Checks (identities b) (stamps_between inquiry.from inquiry.to b) told told')

@@ -3,5 +3,9 @@ pub mod Auditing
 pub mod Opening
 pub mod Exchanges
 pub mod Judged
+pub mod Machine
+pub mod OverFiles
+pub mod Reached
 pub mod Serving
 pub mod Signing
+pub mod Visits

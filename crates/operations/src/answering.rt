@@ -5,17 +5,24 @@ ghost use Rattle.decide.specs.View.{account_asked};
 ghost use Rattle.desk.specs.Answers.{reply_as};
 ghost use Rattle.desk.specs.Command.{Stamp};
 ghost use Rattle.desk.specs.Stepped.{IsStep, with_signer};
+ghost use Rattle.store.specs.Opening.{image_at};
 ghost use Rattle.operations.specs.Judged.{IsJudgedReply};
 ghost use Rattle.operations.specs.Opening.{IsStartingFault};
+ghost use Rattle.operations.specs.Signing.{algorithm_of};
+ghost use Rattle.operations.specs.OverFiles.{IsAnsweredOver};
+ghost use Rattle.operations.specs.Visits.{setting_of};
 
 use crate::desk_operation::{DeskOperation, perform_at_desk};
 use crate::fault::OperationFault;
+use crate::reached::HostSigner;
 use crate::signing::{Renewal, Signing};
 use crate::terms::Terms;
 use book::Book;
 use cms::Signer;
 use desk::{Desk, Reply};
 use policy::Account;
+use sqlite::{FileFrom, Start};
+use sqlite_disk::Disk;
 
 /// A request, and who asks when.
 #[derive(Clone, Copy, Debug)]
@@ -31,11 +38,24 @@ pub struct Question<'a> {
 impl DeskOperation<(), ()> for Question<'_> {
     type Answer = Reply;
 
+    type Means = ();
+
+    ghost lacks = { λ _. ⊥ };
+
     ghost answers = { λ question file _ _ _ _ reply. IsJudgedReply file (account_asked question.account)
         question.query.now (reply_as reply) };
 
+    ghost moves = { λ _ _ g signs question visit reply. IsStep g (with_signer signs.signs signs.fault_count visit.signer
+        visit.signer_after) (Stamp (account_asked question.account) question.reading question.query.now) visit.desk
+        visit.desk_after (reply_as reply) };
+
+    fn prepare(&self, _rt: &HostRuntime) -> Result<(), OperationFault> {
+        Ok(())
+    }
+
     fn perform<B: Book + Drop, G: Signer>(
         self,
+        _means: (),
         _rt: &HostRuntime,
         desk: &mut Desk<'_, B>,
         signer: &mut G,
@@ -49,9 +69,10 @@ impl DeskOperation<(), ()> for Question<'_> {
 /// Answers the request as `Desk::answer` does, over the history that the database at the path keeps. Refused with
 /// `Memory`, with `Database` where no file stands there, and with `NotOurs` where it isn't a database of the counter's;
 /// then with `Unreached` where the key holder can't be reached. After that there is a reply.
-pub fn answer(
+pub fn answer<F: Start + Drop>(
     rt: &HostRuntime,
     path: &str,
+    start: F,
     terms: Terms<'_>,
     signing: Signing<'_>,
     question: &Question<'_>,
@@ -59,11 +80,18 @@ pub fn answer(
     // A request that fails a rule of 1 to 9 is rejected by the first of them, whatever the database holds.
     ensures judged { IfOk result (λ reply. IsJudgedReply (policy_view terms.entry.policy.now)
         (account_asked question.now.account) question.now.query.now (reply_as reply)) }
+
+    // Whatever the files hold: it is the answer of the machine's step, at a desk over the store that was opened over
+    // them.
+    ensures stepped { IfOk result (λ reply. IsAnsweredOver ⟦<FileFrom<F> as Disk>⟧ (image_at F.Start)
+        ⟦<HostSigner<'static> as Signer>⟧ (setting_of terms.entry) (algorithm_of signing.entry)
+        (account_asked question.now.account) question.now.reading question.now.query.now (reply_as reply)) }
     ensures refusals { IfErr result IsStartingFault }
 {
     perform_at_desk(
         rt,
         path,
+        start,
         terms,
         signing,
         Renewal::Never,
@@ -81,9 +109,9 @@ fn answer_with<B: Book + Drop, G: Signer>(
 ) -> Reply
     ensures judged { IsJudgedReply desk.old.setting.file (account_asked question.now.account) question.now.query.now
         (reply_as result) }
-    ensures step { IsStep B.Standing (with_signer G.signs G.fault_count signer.old signer.new) desk.old.setting
-        (Stamp (account_asked question.now.account) question.now.reading question.now.query.now) desk.old.store
-        desk.new.store (reply_as result) }
+    ensures step { IsStep B.Standing (with_signer G.signs G.fault_count signer.old signer.new)
+        (Stamp (account_asked question.now.account) question.now.reading question.now.query.now) desk.old desk.new
+        (reply_as result) }
 {
     desk.answer(question.account, question.reading, question.query, signer)
 }

@@ -1,17 +1,25 @@
 //! How the stamps that the database at a path keeps are extracted and checked.
-ghost use Rattle.std.specs.Prelude.{◌≡◌, ◌⊎◌, true, false, IfOk, IfErr, OnOk, OnErr, string_bytes};
+ghost use Rattle.std.specs.Prelude.{◌≡◌, ◌⊎◌, true, false, map, IfOk, IfErr, OnOk, OnErr, string_bytes};
 ghost use Rattle.std.specs.Io.KnownBytes.{Appends};
+ghost use Rattle.audit.specs.Extract.{extract_text};
 ghost use Rattle.book.specs.History.{History, stamps_between};
+ghost use Rattle.book.specs.Identities.{identities};
 ghost use Rattle.book.specs.Stands.{OnlyLooks, Stands};
+ghost use Rattle.book.specs.Values.{identity_view};
+ghost use Rattle.store.specs.Opening.{image_at};
 ghost use Rattle.operations.specs.Auditing.{Allows, BeginsExtract, Checks, ComesWhere, IsCutOff, IsExtractFault};
 ghost use Rattle.operations.specs.declared.auditing.AuditFault.TheVariants.{Extract, Store};
-ghost use Rattle.operations.specs.Auditing.{IsAudited, Leaves, TellsFailing, TellsSome, WritesExtract, failing_line};
+ghost use Rattle.operations.specs.Auditing.{IsAudited, IsAuditOf, Leaves, TellsFailing, TellsSome, WritesExtract};
+ghost use Rattle.operations.specs.Auditing.{failing_line};
+ghost use Rattle.operations.specs.OverFiles.{IsAuditedOver};
 
 use crate::opening::perform_at;
 use crate::operation::Operation;
 use audit::{ExtractFault, check_row, extract, write_octets};
-use book::{Book, StampsBetween, StoreFault};
+use book::{Book, IdentityRow, StampsBetween, StoreFault};
 use policy::{Account, Policy};
+use sqlite::{FileFrom, Start};
+use sqlite_disk::Disk;
 use std::alloc::{AllocError, Global};
 use std::io::Write;
 
@@ -61,7 +69,8 @@ impl<O: Write, E: Write> Operation<O, E> for Inquiry<'_> {
     ghost answers = { λ inquiry out out' told told' done. IsAudited inquiry (O.contents out) (O.contents out')
         (E.contents told) (E.contents told') done };
 
-    ghost moves = { λ _ _ _ _ _ _. Unit {0} };
+    ghost moves = { λ _ g inquiry old new out out' told told' done. IsAuditOf g inquiry old new (O.contents out)
+        (O.contents out') (E.contents told) (E.contents told') done };
 
     fn perform<B: Book + Drop>(
         self,
@@ -80,15 +89,20 @@ impl<O: Write, E: Write> Operation<O, E> for Inquiry<'_> {
 /// is asked, checks each stamp as `check_stamps` does: whether all agree. Refused with `Store` where the database can't
 /// be opened, and with `Extract` as `audit::extract`; nothing is checked then. Where the check is refused it is
 /// `Extract` for want of memory, and else `Store`; the whole extract is written then.
-pub fn audit<O: Write, E: Write>(
+pub fn audit<F: Start + Drop, O: Write, E: Write>(
     rt: &HostRuntime,
     path: &str,
+    start: F,
     inquiry: &Inquiry<'_>,
     output: &mut O,
     errors: &mut E,
 ) -> Result<bool, AuditFault>
     ensures allowed { IfOk result (λ _. Allows inquiry.now) }
     ensures extracted { OnOk result (WritesExtract (O.contents output.old) (O.contents output.new)) }
+
+    // Whatever the files hold: the store that was opened over them is audited.
+    ensures audited { IfOk result (λ _. IsAuditedOver ⟦<FileFrom<F> as Disk>⟧ (image_at F.Start) inquiry.now
+        (O.contents output.old) (O.contents output.new) (E.contents errors.old) (E.contents errors.new) result) }
     ensures agreed { IfOk result (λ agree. agree ≡ true → E.contents errors.new ≡ E.contents errors.old) }
     ensures failed { IfOk result (λ agree. agree ≡ false
         → (inquiry.now.check ≡ true) × TellsSome (E.contents errors.old) (E.contents errors.new)) }
@@ -96,7 +110,7 @@ pub fn audit<O: Write, E: Write>(
     ensures refused { IfErr result (Leaves inquiry.now (O.contents output.old) (O.contents output.new)
         (E.contents errors.old) (E.contents errors.new)) }
 {
-    perform_at(rt, path, *inquiry, output, errors)?
+    perform_at(rt, path, start, *inquiry, output, errors)?
 }
 
 /// Writes the extract of a book, and then checks its stamps where that is asked.
@@ -107,6 +121,12 @@ fn audit_book<B: Book + Drop, O: Write, E: Write>(
     output: &mut O,
     errors: &mut E,
 ) -> Result<bool, AuditFault>
+    ensures looks { OnlyLooks B.Standing book.old book.new }
+    ensures whole { B.honest book.new → (b : History) → Stands B.Standing b book.old → OnOk result (Appends
+        (O.contents output.old) (O.contents output.new) (extract_text inquiry.now.from inquiry.now.to b)) }
+    ensures checked { B.honest book.new → (b : History) → Stands B.Standing b book.old → inquiry.now.check ≡ true
+        → IfOk result (Checks (identities b) (stamps_between inquiry.now.from inquiry.now.to b) (E.contents errors.old)
+        (E.contents errors.new)) }
     ensures allowed { IfOk result (λ _. Allows inquiry.now) }
     ensures extracted { OnOk result (WritesExtract (O.contents output.old) (O.contents output.new)) }
     ensures agreed { IfOk result (λ agree. agree ≡ true → E.contents errors.new ≡ E.contents errors.old) }
@@ -135,6 +155,9 @@ fn write_extract<B: Book + Drop, O: Write>(
     inquiry: &Inquiry<'_>,
     output: &mut O,
 ) -> Result<(), AuditFault>
+    ensures looks { OnlyLooks B.Standing book.old book.new }
+    ensures whole { B.honest book.new → (b : History) → Stands B.Standing b book.old → OnOk result (Appends
+        (O.contents output.old) (O.contents output.new) (extract_text inquiry.now.from inquiry.now.to b)) }
     ensures allowed { IfOk result (λ _. Allows inquiry.now) }
     ensures extracted { OnOk result (WritesExtract (O.contents output.old) (O.contents output.new)) }
     ensures comes { IfErr result (ComesWhere inquiry.now) }
@@ -157,9 +180,9 @@ fn write_extract<B: Book + Drop, O: Write>(
 }
 
 /// Checks each stamp of the range from its octets, and writes a line `row N fails` for each whose octets don't say what
-/// its row says, N being its serial number: whether there is none. Where a line can't be written the stamps after it
-/// aren't looked at. Refused with `Memory` and `Store`, where they are met; the lines that were written stand. The
-/// book changes nowhere, and no stamp is kept.
+/// its row and the identity of its serial number say, N being that number: whether there is none. Where a line can't be
+/// written the stamps after it aren't looked at. Refused with `Memory` and `Store`, where they are met; the lines that
+/// were written stand. The book changes nowhere, and no stamp is kept.
 pub fn check_stamps<B: Book + Drop, E: Write>(
     alloc: Global,
     book: &mut B,
@@ -169,7 +192,33 @@ pub fn check_stamps<B: Book + Drop, E: Write>(
 ) -> Result<bool, ExtractFault>
     ensures looks { OnlyLooks B.Standing book.old book.new }
     ensures checked { B.honest book.new → (b : History) → Stands B.Standing b book.old
-        → IfOk result (Checks (stamps_between from to b) (E.contents errors.old) (E.contents errors.new)) }
+        → IfOk result (Checks (identities b) (stamps_between from to b) (E.contents errors.old)
+        (E.contents errors.new)) }
+    ensures agreed { IfOk result (λ agree. agree ≡ true → E.contents errors.new ≡ E.contents errors.old) }
+    ensures failed { IfOk result (λ agree. agree ≡ false
+        → TellsSome (E.contents errors.old) (E.contents errors.new)) }
+    ensures told { OnErr result (TellsFailing (E.contents errors.old) (E.contents errors.new)) }
+    ensures refusals { IfErr result (λ e. (e ≡ ExtractFault.Memory) ⊎ (e ≡ ExtractFault.Store)) }
+{
+    match book.identities() {
+        Ok(identities) => check_against(alloc, book, identities.as_slice(), from, to, errors),
+        Err(fault) => Err(ExtractFault::from(fault)),
+    }
+}
+
+/// Checks the stamps against the identities that were installed, which are given by number.
+fn check_against<B: Book + Drop, E: Write>(
+    alloc: Global,
+    book: &mut B,
+    identities: &[IdentityRow],
+    from: u64,
+    to: u64,
+    errors: &mut E,
+) -> Result<bool, ExtractFault>
+    ensures looks { OnlyLooks B.Standing book.old book.new }
+    ensures checked { B.honest book.new → (b : History) → Stands B.Standing b book.old
+        → IfOk result (Checks (map identity_view identities.now) (stamps_between from to b) (E.contents errors.old)
+        (E.contents errors.new)) }
     ensures agreed { IfOk result (λ agree. agree ≡ true → E.contents errors.new ≡ E.contents errors.old) }
     ensures failed { IfOk result (λ agree. agree ≡ false
         → TellsSome (E.contents errors.old) (E.contents errors.new)) }
@@ -179,7 +228,7 @@ pub fn check_stamps<B: Book + Drop, E: Write>(
     let mut agree = true;
     let mut walk = StampsBetween::of(book, from, to);
     while let Some(stamp) = walk.next()? {
-        if !check_row(&stamp)? {
+        if !check_row(&stamp, identities)? {
             agree = false;
             if !tell(alloc, stamp.serial, errors)? {
                 return Ok(false);

@@ -1,17 +1,29 @@
 //! What is done at a desk over the database at a path.
-ghost use Rattle.std.specs.Prelude.{◌≡◌, IfOk, IfErr, OnErr};
+ghost use Rattle.std.specs.Prelude.{◌≡◌, ◌⊎◌, IfOk, IfErr, OnErr};
+ghost use Rattle.book.specs.declared.standing.Standing.{Ghosts};
+ghost use Rattle.cms.specs.declared.signer.Signer.{Ghosts as Signs};
 ghost use Rattle.policy.specs.Record.{PolicyValue};
 ghost use Rattle.policy.specs.View.{policy_view};
-ghost use Rattle.operations.specs.Opening.{IsStartingFault, IsUnreached};
+ghost use Rattle.sqlite.specs.Files.{over_files};
+ghost use Rattle.store.specs.Opening.{image_at};
+ghost use Rattle.store.specs.Stands.{over_tables};
+ghost use Rattle.operations.specs.Opening.{IsStartingFault, IsUnready, IsUnreached};
+ghost use Rattle.operations.specs.Signing.{algorithm_of};
+ghost use Rattle.operations.specs.OverFiles.{IsVisitedOver};
+ghost use Rattle.operations.specs.Visits.{IsUnopened, IsVisited, Visit, setting_of, visit_of};
+ghost use Rattle.operations.specs.declared.fault.OperationFault.{OperationFault as SpecFault};
 
 use crate::fault::OperationFault;
 use crate::opening::perform_at;
 use crate::operation::Operation;
-use crate::signing::{Renewal, Signing, reach, reach_again};
+use crate::reached::HostSigner;
+use crate::signing::{Renewal, Signing};
 use crate::terms::Terms;
 use book::Book;
 use cms::Signer;
 use desk::Desk;
+use sqlite::{FileFrom, Start};
+use sqlite_disk::Disk;
 
 /// What is done at a desk with a signer, over any book. Input and output are what it reads from and writes to; `()`
 /// where it does neither.
@@ -19,19 +31,36 @@ pub(crate) trait DeskOperation<I, O>: Drop {
     /// What it answers.
     type Answer;
 
+    /// What it needs besides, and gets before there is a desk.
+    type Means: Drop;
+
+    // how it can be refused what it needs
+    ghost lacks: { SpecFault → Type 0 };
+
     // by a policy, what input and output are before it and after it, and what it answers
     ghost answers: { Self → PolicyValue → I → I → O → O → Self.Answer → Type 0 };
+
+    // by what is known of a book and of a signer: how it moves desk and signer, and input and output, and what it
+    // answers
+    ghost moves: { (B X : Type 0) → Ghosts B → Signs X → Self → Visit I O B X → Self.Answer → Type 0 };
+
+    /// What it needs besides desk and signer.
+    fn prepare(&self, rt: &HostRuntime) -> Result<Self::Means, OperationFault>
+        ensures { IfErr result lacks };
 
     /// Does it.
     fn perform<B: Book + Drop, G: Signer>(
         self,
+        means: Self::Means,
         rt: &HostRuntime,
         desk: &mut Desk<'_, B>,
         signer: &mut G,
         input: &mut I,
         output: &mut O,
     ) -> Self::Answer
-        ensures { answers self desk.old.setting.file input.old input.new output.old output.new result };
+        ensures answered { answers self desk.old.setting.file input.old input.new output.old output.new result }
+        ensures moved { moves B G B.Standing G.Signer self (visit_of input.old input.new output.old output.new desk.old
+            desk.new signer.old signer.new) result };
 }
 
 /// What is done at a desk, by whom its tokens are signed, and by what requests are judged.
@@ -49,9 +78,14 @@ impl<I, O, T: DeskOperation<I, O>> Operation<I, O> for AtDesk<'_, T> {
     ghost answers = { λ work input input' output output' done. IfOk done (T.answers work.operation
         (policy_view work.terms.policy.now) input input' output output')
         × OnErr done ((input' ≡ input) × (output' ≡ output))
-        × IfErr done IsUnreached };
+        × IfErr done (λ fault. IsUnready fault ⊎ T.lacks fault) };
 
-    ghost moves = { λ _ _ _ _ _ _. Unit {0} };
+    ghost moves = { λ B g work old new input input' output output' done.
+        IfOk done (λ answer. IsVisited g (setting_of work.terms) (algorithm_of work.signing)
+        ⟦<HostSigner<'static> as Signer>⟧.algorithm_octets old new (λ desk desk' signer signer'.
+        T.moves B _ g ⟦<HostSigner<'static> as Signer>⟧ work.operation
+        (visit_of input input' output output' desk desk' signer signer') answer))
+        × IfErr done (IsUnopened g (setting_of work.terms) old new) };
 
     fn perform<B: Book + Drop>(
         self,
@@ -66,58 +100,47 @@ impl<I, O, T: DeskOperation<I, O>> Operation<I, O> for AtDesk<'_, T> {
             renewal,
             operation,
         } = self;
-        let mut desk = Desk::new(
-            rt.alloc(),
-            terms.policy,
-            terms.identity,
-            terms.algorithm,
-            book,
-        );
-        let answer = perform_signed(rt, &mut desk, signing, renewal, operation, input, output);
-        (desk.into_store(), answer)
+        let (means, mut signer) = match ready(rt, &operation, signing, renewal) {
+            Ok(ready) => ready,
+            Err(fault) => return (book, Err(fault)),
+        };
+        let (policy, identity, algorithm) = (terms.policy, terms.identity, terms.algorithm);
+        match Desk::open(rt.alloc(), policy, identity, algorithm, book) {
+            Ok(desk) => {
+                let mut desk = desk;
+                let answer = operation.perform(means, rt, &mut desk, &mut signer, input, output);
+                (desk.into_store(), Ok(answer))
+            }
+            Err((fault, book)) => (book, Err(OperationFault::Desk(fault))),
+        }
     }
 }
 
-/// Does it at a desk, whoever signs. `Unreached` where the key holder can't be reached; nothing is done then.
-fn perform_signed<B: Book + Drop, I, O, T: DeskOperation<I, O>>(
-    rt: &HostRuntime,
-    desk: &mut Desk<'_, B>,
-    signing: Signing<'_>,
+/// Reaches who signs, and then gets what the operation needs besides.
+fn ready<'a, I, O, T: DeskOperation<I, O>>(
+    rt: &'a HostRuntime,
+    operation: &T,
+    signing: Signing<'a>,
     renewal: Renewal,
-    operation: T,
-    input: &mut I,
-    output: &mut O,
-) -> Result<T::Answer, OperationFault>
-    ensures answered { IfOk result (T.answers operation desk.old.setting.file input.old input.new output.old
-        output.new) }
-    ensures unread { OnErr result (input.new ≡ input.old) }
-    ensures unwritten { OnErr result (output.new ≡ output.old) }
-    ensures refusals { IfErr result IsUnreached }
+) -> Result<(T::Means, HostSigner<'a>), OperationFault>
+    ensures algorithm { IfOk result (λ ready. ⟦<HostSigner<'static> as Signer>⟧.algorithm_octets ready.1
+        ≡ algorithm_of signing.entry) }
+    ensures refusals { IfErr result (λ fault. IsUnreached fault ⊎ T.lacks fault) }
 {
-    match signing {
-        Signing::Keyed(signer) => {
-            let mut signer = signer;
-            Ok(operation.perform(rt, desk, &mut signer, input, output))
-        }
-        Signing::Session { address, algorithm } => match renewal {
-            Renewal::Never => {
-                let mut signer = reach(rt, address, algorithm)?;
-                Ok(operation.perform(rt, desk, &mut signer, input, output))
-            }
-            Renewal::AfterLoss => {
-                let mut signer = reach_again(rt, address, algorithm)?;
-                Ok(operation.perform(rt, desk, &mut signer, input, output))
-            }
-        },
-    }
+    let signer = signing.reach(rt, renewal)?;
+    let means = operation.prepare(rt)?;
+    Ok((means, signer))
 }
 
 /// Does it at a desk over the history that the database at the path keeps, with the signer's answers. Refused with
 /// `Memory`, with `Database` where no file stands there, and with `NotOurs` where it isn't a database of the counter's;
-/// then with `Unreached` where the key holder can't be reached. Nothing is done then.
-pub(crate) fn perform_at_desk<I, O, T: DeskOperation<I, O>>(
+/// then with `Unreached` where the key holder can't be reached, and as what it needs besides. Last the identity is
+/// installed, unless it is the one that was installed last: refused with `Desk` where memory runs out, or the database
+/// refuses it. Nothing is done then.
+pub(crate) fn perform_at_desk<F: Start + Drop, I, O, T: DeskOperation<I, O>>(
     rt: &HostRuntime,
     path: &str,
+    start: F,
     terms: Terms<'_>,
     signing: Signing<'_>,
     renewal: Renewal,
@@ -127,9 +150,15 @@ pub(crate) fn perform_at_desk<I, O, T: DeskOperation<I, O>>(
 ) -> Result<T::Answer, OperationFault>
     ensures answered { IfOk result (T.answers operation (policy_view terms.entry.policy.now) input.old input.new
         output.old output.new) }
+
+    // Whatever the files hold: it was done at a desk over the store that was opened over them.
+    ensures moved { IfOk result (λ answer. IsVisitedOver ⟦<FileFrom<F> as Disk>⟧ (image_at F.Start)
+        ⟦<HostSigner<'static> as Signer>⟧ (setting_of terms.entry) (algorithm_of signing.entry)
+        (λ desk desk' signer signer'. T.moves _ _ (over_tables over_files) ⟦<HostSigner<'static> as Signer>⟧ operation
+        (visit_of input.old input.new output.old output.new desk desk' signer signer') answer)) }
     ensures unread { OnErr result (input.new ≡ input.old) }
     ensures unwritten { OnErr result (output.new ≡ output.old) }
-    ensures refusals { IfErr result IsStartingFault }
+    ensures refusals { IfErr result (λ fault. IsStartingFault fault ⊎ T.lacks fault) }
 {
     let at_desk = AtDesk {
         terms,
@@ -137,5 +166,5 @@ pub(crate) fn perform_at_desk<I, O, T: DeskOperation<I, O>>(
         renewal,
         operation,
     };
-    perform_at(rt, path, at_desk, input, output)?
+    perform_at(rt, path, start, at_desk, input, output)?
 }

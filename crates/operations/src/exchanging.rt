@@ -2,17 +2,24 @@
 ghost use Rattle.std.specs.Prelude.{◌≡◌, IfOk, IfErr, OnErr};
 ghost use Rattle.policy.specs.View.{policy_view};
 ghost use Rattle.service.specs.Served.{Serves};
+ghost use Rattle.store.specs.Opening.{image_at};
 ghost use Rattle.operations.specs.Exchanges.{Exchanges};
 ghost use Rattle.operations.specs.Opening.{IsStartingFault};
+ghost use Rattle.operations.specs.Signing.{algorithm_of};
+ghost use Rattle.operations.specs.OverFiles.{IsServedOver};
+ghost use Rattle.operations.specs.Visits.{setting_of, turn_of};
 
 use crate::desk_operation::{DeskOperation, perform_at_desk};
 use crate::fault::OperationFault;
+use crate::reached::HostSigner;
 use crate::signing::{Renewal, Signing};
 use crate::terms::Terms;
 use book::Book;
 use cms::Signer;
 use desk::Desk;
 use service::{Served, serve_one};
+use sqlite::{FileFrom, Start};
+use sqlite_disk::Disk;
 use std::alloc::Global;
 use std::io::{Read, Write};
 
@@ -26,11 +33,23 @@ struct OneRequest {
 impl<R: Read, W: Write> DeskOperation<R, W> for OneRequest {
     type Answer = Served;
 
+    type Means = ();
+
+    ghost lacks = { λ _. ⊥ };
+
     ghost answers = { λ exchange file reader reader' writer writer' served. Exchanges file exchange.reading
         (R.remaining reader) (R.remaining reader') (W.contents writer) (W.contents writer') served };
 
+    ghost moves = { λ _ _ g signs exchange visit served. Serves g signs.signs signs.fault_count W.contents
+        exchange.reading (turn_of R.remaining visit) served };
+
+    fn prepare(&self, _rt: &HostRuntime) -> Result<(), OperationFault> {
+        Ok(())
+    }
+
     fn perform<B: Book + Drop, G: Signer>(
         self,
+        _means: (),
         rt: &HostRuntime,
         desk: &mut Desk<'_, B>,
         signer: &mut G,
@@ -43,9 +62,10 @@ impl<R: Read, W: Write> DeskOperation<R, W> for OneRequest {
 
 /// Reads one HTTP request and answers it as `serve_one` does, over the history that the database at the path keeps; the
 /// reading is the clock's, in microseconds. Refused as `answer`; nothing is read or written then.
-pub fn exchange<R: Read, W: Write>(
+pub fn exchange<F: Start + Drop, R: Read, W: Write>(
     rt: &HostRuntime,
     path: &str,
+    start: F,
     terms: Terms<'_>,
     signing: Signing<'_>,
     reading: i64,
@@ -54,20 +74,30 @@ pub fn exchange<R: Read, W: Write>(
 ) -> Result<Served, OperationFault>
     ensures exchanged { IfOk result (Exchanges (policy_view terms.entry.policy.now) reading
         (R.remaining reader.old) (R.remaining reader.new) (W.contents writer.old) (W.contents writer.new)) }
+
+    // Whatever the files hold: the request is served at a desk over the store that was opened over them.
+    ensures served { IfOk result (IsServedOver ⟦<FileFrom<F> as Disk>⟧ (image_at F.Start)
+        ⟦<HostSigner<'static> as Signer>⟧ (setting_of terms.entry) (algorithm_of signing.entry) W.contents reading
+        (R.remaining reader.old) (R.remaining reader.new) writer.old writer.new) }
     ensures unread { OnErr result (R.remaining reader.new ≡ R.remaining reader.old) }
     ensures unwritten { OnErr result (W.contents writer.new ≡ W.contents writer.old) }
     ensures refusals { IfErr result IsStartingFault }
 {
-    perform_at_desk(
+    let served = perform_at_desk(
         rt,
         path,
+        start,
         terms,
         signing,
         Renewal::Never,
         OneRequest { reading },
         reader,
         writer,
-    )
+    );
+    match served {
+        Ok(served) => Ok(served),
+        Err(fault) => Err(fault),
+    }
 }
 
 /// Answers one HTTP request by a desk and a signer.

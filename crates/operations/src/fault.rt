@@ -3,12 +3,15 @@ ghost use Rattle.std.specs.Prelude.{◌≡◌};
 ghost use Rattle.operations.specs.declared.fault.OperationFault.TheVariants.{Store};
 
 use book::StoreFault;
+use desk::Fault;
 
 /// Why nothing is answered.
 #[derive(Clone, Copy, Debug, PartialEq, Eq)]
 pub enum OperationFault {
     /// The database refused, or isn't the counter's.
     Store(StoreFault),
+    /// The identity can't be installed: the database refused, or memory ran out.
+    Desk(Fault),
     /// The key holder can't be reached.
     Unreached,
     /// The address can't be listened on.

@@ -11,8 +11,9 @@ pub(crate) trait Operation<I, O>: Drop {
     // what input and output are before it and after it, and what it answers
     ghost answers: { Self → I → I → O → O → Self.Answer → Type 0 };
 
-    // by what is known of a book, how it moves it, and what it answers
-    ghost moves: { (X : Type 0) → Ghosts X → Self → X → X → Self.Answer → Type 0 };
+    // by what is known of a book: how it moves the book, what input and output are before it and after it, and what it
+    // answers
+    ghost moves: { (B : Type 0) → Ghosts B → Self → B → B → I → I → O → O → Self.Answer → Type 0 };
 
     /// Does it, and gives the book back.
     fn perform<B: Book + Drop>(
@@ -23,5 +24,5 @@ pub(crate) trait Operation<I, O>: Drop {
         output: &mut O,
     ) -> (B, Self::Answer)
         ensures answered { answers self input.old input.new output.old output.new result.1 }
-        ensures moved { moves B B.Standing self book result.0 result.1 };
+        ensures moved { moves B B.Standing self book result.0 input.old input.new output.old output.new result.1 };
 }

@@ -1,16 +1,23 @@
 //! How HTTP connections are served over the database at a path.
-ghost use Rattle.std.specs.Prelude.{◌≡◌, IfErr};
-ghost use Rattle.operations.specs.Opening.{IsServingFault};
-ghost use Rattle.operations.specs.Serving.{ServesAt};
+ghost use Rattle.std.specs.Prelude.{◌≡◌, ◌⊎◌, Err, IfErr, IfOk, Ok};
+ghost use Rattle.store.specs.Opening.{image_at};
+ghost use Rattle.operations.specs.Opening.{IsServingFault, IsUnheard};
+ghost use Rattle.operations.specs.Serving.{ServesAt, state_after, state_before};
+ghost use Rattle.operations.specs.Signing.{algorithm_of};
+ghost use Rattle.operations.specs.OverFiles.{AreServedOver};
+ghost use Rattle.operations.specs.Visits.{setting_of};
 
 use crate::desk_operation::{DeskOperation, perform_at_desk};
 use crate::fault::OperationFault;
+use crate::reached::HostSigner;
 use crate::signing::{Renewal, Signing};
 use crate::terms::Terms;
 use book::Book;
 use cms::Signer;
 use connections::{CONNECTION_SECONDS, Clock, Listening, SystemClock, serve_connections};
 use desk::Desk;
+use sqlite::{FileFrom, Start};
+use sqlite_disk::Disk;
 use std::net::TcpListener;
 use std::time::Duration;
 
@@ -24,10 +31,27 @@ struct Serving<'a> {
 impl DeskOperation<(), ()> for Serving<'_> {
     type Answer = Result<(), OperationFault>;
 
+    type Means = TcpListener;
+
+    ghost lacks = { IsUnheard };
+
     ghost answers = { λ _ _ _ _ _ _ done. IfErr done IsServingFault };
+
+    ghost moves = { λ _ _ g signs serving visit done. (clock clock' : _)
+        × ServesAt ⟦<SystemClock<'static, HostRuntime> as Clock>⟧.reads g signs.signs signs.fault_count
+        serving.connections (state_before clock visit) (state_after clock' visit) done };
+
+    /// Listens on the address.
+    fn prepare(&self, rt: &HostRuntime) -> Result<TcpListener, OperationFault> {
+        match TcpListener::bind(rt, self.address) {
+            Ok(listener) => Ok(listener),
+            Err(_) => Err(OperationFault::Unheard),
+        }
+    }
 
     fn perform<B: Book + Drop, G: Signer>(
         self,
+        listener: TcpListener,
         rt: &HostRuntime,
         desk: &mut Desk<'_, B>,
         signer: &mut G,
@@ -35,47 +59,62 @@ impl DeskOperation<(), ()> for Serving<'_> {
         _output: &mut (),
     ) -> Result<(), OperationFault> {
         let mut clock = SystemClock { machine: rt };
-        listen(rt, desk, signer, &mut clock, self.address, self.connections)
+        serve_at(rt, &listener, desk, signer, &mut clock, self.connections)
     }
 }
 
-/// Serves that many connections at the address, one after the other, over the history that the database at the path
-/// keeps; readings are the machine's clock's. One that fails counts too. Refused as `answer`, then with `Unheard` where
-/// the address can't be listened on or the system can't wait for several connections at once, and with `Clock` where the
-/// clock fails; those that were served before stand.
-pub fn serve(
+/// Serves that many connections at the address, over the history that the database at the path keeps; readings are the
+/// machine's clock's. Connections are read side by side, and requests answered one at a time. One that fails counts
+/// too. Refused as `answer`, then with `Unheard` where the address can't be listened on or the system can't wait for
+/// several connections at once, and with `Clock` where the clock fails; those that were served before stand.
+pub fn serve<F: Start + Drop>(
     rt: &HostRuntime,
     path: &str,
+    start: F,
     terms: Terms<'_>,
     signing: Signing<'_>,
     address: &str,
     connections: u32,
 ) -> Result<(), OperationFault>
-    ensures { IfErr result IsServingFault }
+    // Whatever the files hold: the connections are served at a desk over the store that was opened over them.
+    ensures served { IfOk result (λ _. AreServedOver ⟦<FileFrom<F> as Disk>⟧ (image_at F.Start)
+        ⟦<HostSigner<'static> as Signer>⟧ (setting_of terms.entry) (algorithm_of signing.entry)
+        ⟦<SystemClock<'static, HostRuntime> as Clock>⟧.reads connections result) }
+
+    // So are those before the clock failed.
+    ensures stopped { result ≡ Err OperationFault.Clock → AreServedOver ⟦<FileFrom<F> as Disk>⟧ (image_at F.Start)
+        ⟦<HostSigner<'static> as Signer>⟧ (setting_of terms.entry) (algorithm_of signing.entry)
+        ⟦<SystemClock<'static, HostRuntime> as Clock>⟧.reads connections result }
+    ensures refusals { IfErr result IsServingFault }
 {
     let serving = Serving {
         address,
         connections,
     };
-    perform_at_desk(
+    let served = perform_at_desk(
         rt,
         path,
+        start,
         terms,
         signing,
         Renewal::AfterLoss,
         serving,
         &mut (),
         &mut (),
-    )?
+    );
+    match served {
+        Ok(done) => done,
+        Err(fault) => Err(fault),
+    }
 }
 
-/// Listens on the address, and serves connections.
-fn listen<B: Book + Drop, G: Signer, C: Clock>(
+/// Serves connections of a listener.
+fn serve_at<B: Book + Drop, G: Signer, C: Clock>(
     rt: &HostRuntime,
+    listener: &TcpListener,
     desk: &mut Desk<'_, B>,
     signer: &mut G,
     clock: &mut C,
-    address: &str,
     connections: u32,
 ) -> Result<(), OperationFault>
     // The connections that were served are a run of the machine, which goes on from journeys and is isolated.
@@ -86,10 +125,7 @@ fn listen<B: Book + Drop, G: Signer, C: Clock>(
     ensures honest { B.honest desk.new.store → B.honest desk.old.store }
     ensures refusals { IfErr result IsServingFault }
 {
-    let Ok(listener) = TcpListener::bind(rt, address) else {
-        return Err(OperationFault::Unheard);
-    };
-    let Ok(mut listening) = Listening::new(rt, rt.alloc(), &listener) else {
+    let Ok(mut listening) = Listening::new(rt, rt.alloc(), listener) else {
         return Err(OperationFault::Unheard);
     };
     let limit = Duration::from_secs(CONNECTION_SECONDS);

@@ -1,9 +1,10 @@
 //! Who signs.
-ghost use Rattle.std.specs.Prelude.{◌≡◌, IfErr};
+ghost use Rattle.std.specs.Prelude.{◌≡◌, IfErr, IfOk};
 ghost use Rattle.operations.specs.Opening.{IsUnreached};
 ghost use Rattle.operations.specs.Signing.{algorithm_of};
 
 use crate::fault::OperationFault;
+use crate::reached::{HostSigner, ReachedSigner};
 use cms::{Algorithm, KeyedHash, Signer};
 use connections::{KeyHolderSigner, SIGNER_SECONDS, Session, connect_renewed, connect_signer};
 use std::io::Stderr;
@@ -24,7 +25,16 @@ pub enum Signing<'a> {
     },
 }
 
-impl Signing<'_> {
+/// Whether another session with a key holder is opened where one was lost.
+#[derive(Clone, Copy, Debug, PartialEq, Eq)]
+pub(crate) enum Renewal {
+    /// One session is kept to the end.
+    Never,
+    /// Another is opened when the next signature is asked for.
+    AfterLoss,
+}
+
+impl<'a> Signing<'a> {
     /// The algorithm of the signatures. Takes no memory.
     pub fn algorithm(&self) -> &Algorithm
         ensures { result.now ≡ algorithm_of self.now }
@@ -37,24 +47,38 @@ impl Signing<'_> {
             } => algorithm,
         }
     }
-}
 
-/// Whether another session with a key holder is opened where one was lost.
-#[derive(Clone, Copy, Debug, PartialEq, Eq)]
-pub(crate) enum Renewal {
-    /// One session is kept to the end.
-    Never,
-    /// Another is opened when the next signature is asked for.
-    AfterLoss,
+    /// Reaches who signs: by a connection to a key holder, and the stand-in as it is. `Unreached` where the key holder
+    /// can't be reached.
+    pub(crate) fn reach(
+        self,
+        rt: &'a HostRuntime,
+        renewal: Renewal,
+    ) -> Result<HostSigner<'a>, OperationFault>
+        ensures algorithm { IfOk result (λ signer. ⟦<HostSigner<'static> as Signer>⟧.algorithm_octets signer
+            ≡ algorithm_of self.entry) }
+        ensures refusals { IfErr result IsUnreached }
+    {
+        match self {
+            Signing::Keyed(signer) => Ok(ReachedSigner::Keyed(signer)),
+            Signing::Session { address, algorithm } => match renewal {
+                Renewal::Never => Ok(ReachedSigner::Session(reach_once(rt, address, algorithm)?)),
+                Renewal::AfterLoss => Ok(ReachedSigner::Renewed(reach_again(
+                    rt, address, algorithm,
+                )?)),
+            },
+        }
+    }
 }
 
 /// A session with the key holder. `Unreached` where there is none.
-pub(crate) fn reach<'a>(
+fn reach_once<'a>(
     rt: &'a HostRuntime,
     address: &str,
     algorithm: Algorithm,
 ) -> Result<Session<'a, HostRuntime>, OperationFault>
-    ensures { IfErr result IsUnreached }
+    ensures algorithm { IfOk result (λ signer. signer.algorithm ≡ algorithm) }
+    ensures refusals { IfErr result IsUnreached }
 {
     match connect_signer(rt, address, Duration::from_secs(SIGNER_SECONDS), algorithm) {
         Ok(signer) => Ok(signer),
@@ -63,12 +87,13 @@ pub(crate) fn reach<'a>(
 }
 
 /// Sessions with the key holder, of which standard error tells. `Unreached` where there is none.
-pub(crate) fn reach_again<'a>(
+fn reach_again<'a>(
     rt: &'a HostRuntime,
     address: &'a str,
     algorithm: Algorithm,
 ) -> Result<KeyHolderSigner<'a, HostRuntime, Stderr>, OperationFault>
-    ensures { IfErr result IsUnreached }
+    ensures algorithm { IfOk result (λ signer. signer.algorithm ≡ algorithm) }
+    ensures refusals { IfErr result IsUnreached }
 {
     let limit = Duration::from_secs(SIGNER_SECONDS);
     match connect_renewed(rt, address, limit, algorithm, rt.stderr()) {

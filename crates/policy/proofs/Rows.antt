@@ -70,6 +70,7 @@ meant = record {
     drift_ppb = 50;
     max_age_us = 86400000000;
     anonymous = Some (codes "guest");
+    tsa_name = false;
   };
   algorithms = record { name = codes "sha256"; oid = 96 ∷ 840 ∷ 1 ∷ 101 ∷ 3 ∷ 4 ∷ 2 ∷ 1 ∷ []; length = 32 } ∷ [];
   extensions = [];

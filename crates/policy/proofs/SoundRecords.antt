@@ -470,7 +470,7 @@ unfolding counter_in counter_of
 is_counter d counter e =
     let t = bound (given field.Counter (as_table d)) _ counter e in
     let a = bound (only (codes "accuracy_us" ∷ codes "fraction_digits" ∷ codes "ordering" ∷ codes "drift_ppb" ∷ codes
-    "max_age_us" ∷ codes "anonymous" ∷ []) t.value) _ counter t.after in
+    "max_age_us" ∷ codes "anonymous" ∷ codes "tsa_name" ∷ []) t.value) _ counter t.after in
     let accuracy = bound (wanted field.CounterAccuracyUs (number_in field.CounterAccuracyUs 1 1000000)
     (get_member (codes "accuracy_us") t.value)) _ counter a.after in
     let digits = bound (wanted field.CounterFractionDigits (number_in field.CounterFractionDigits 0 6)
@@ -483,6 +483,8 @@ is_counter d counter e =
     (get_member (codes "max_age_us") t.value)) _ counter drift.after in
     let anonymous = bound (optional None (some_name_in field.CounterAnonymous) (get_member (codes "anonymous") t.value))
     _ counter age.after in
+    let tsa_name = bound (optional false (truth_in field.CounterTsaName) (get_member (codes "tsa_name") t.value)) _
+    counter anonymous.after in
     let accuracy_range = from_wanted (λ n. (1 ≤ n) × (n ≤ 1000000)) field.CounterAccuracyUs
     (number_in field.CounterAccuracyUs 1 1000000) (in_range field.CounterAccuracyUs 1 1000000)
     (get_member (codes "accuracy_us") t.value) accuracy.value accuracy.is in
@@ -503,8 +505,9 @@ is_counter d counter e =
       drift_ppb = drift.value;
       max_age_us = age.value;
       anonymous = anonymous.value;
+      tsa_name = tsa_name.value;
     }) counter
-    anonymous.after) (record {
+    tsa_name.after) (record {
       accuracy_some = accuracy_range.0;
       accuracy = accuracy_range.1;
       fraction_digits = digits_range.1;

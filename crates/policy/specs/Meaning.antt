@@ -27,7 +27,7 @@ lengths_of content = one_length_or_any (find (λ a. bytes_eq (oid_content a.oid)
 unfoldable pub counter_of : Members → Result CounterValue PolicyFault
 counter_of ms = do
   known ← only (codes "accuracy_us" ∷ codes "fraction_digits" ∷ codes "ordering" ∷ codes "drift_ppb"
-      ∷ codes "max_age_us" ∷ codes "anonymous" ∷ []) ms
+      ∷ codes "max_age_us" ∷ codes "anonymous" ∷ codes "tsa_name" ∷ []) ms
   accuracy_us ← wanted field.CounterAccuracyUs (number_in field.CounterAccuracyUs 1 1000000)
       (get_member (codes "accuracy_us") ms)
   fraction_digits ← wanted field.CounterFractionDigits (number_in field.CounterFractionDigits 0 6)
@@ -38,6 +38,7 @@ counter_of ms = do
   max_age_us ← wanted field.CounterMaxAgeUs (number_in field.CounterMaxAgeUs 1 31536000000000)
       (get_member (codes "max_age_us") ms)
   anonymous ← optional None (some_name_in field.CounterAnonymous) (get_member (codes "anonymous") ms)
+  tsa_name ← optional false (truth_in field.CounterTsaName) (get_member (codes "tsa_name") ms)
   Ok (record {
     accuracy_us = accuracy_us;
     fraction_digits = fraction_digits;
@@ -45,6 +46,7 @@ counter_of ms = do
     drift_ppb = drift_ppb;
     max_age_us = max_age_us;
     anonymous = anonymous;
+    tsa_name = tsa_name;
   })
 
 unfoldable pub counter_in : Data → Result CounterValue PolicyFault

@@ -40,6 +40,7 @@ pub record CounterValue : Type 0 where
   pub drift_ppb : ℕ
   pub max_age_us : ℕ
   pub anonymous : Option (List ℕ)
+  pub tsa_name : Bool
 
 pub record PolicyValue : Type 0 where
   pub counter : CounterValue

@@ -22,6 +22,7 @@ counter_view counter = record {
   drift_ppb = counter.drift_ppb;
   max_age_us = counter.max_age_us;
   anonymous = option_map string_bytes counter.anonymous;
+  tsa_name = counter.tsa_name;
 }
 
 abbrev pub algorithm_view : Algorithm → AlgorithmValue

@@ -48,6 +48,7 @@ fn counter_of(alloc: Global, table: &Table) -> Result<Counter, PolicyFault>
             "drift_ppb",
             "max_age_us",
             "anonymous",
+            "tsa_name",
         ],
     )?;
     let accuracy_us = number(table, "accuracy_us", Field::CounterAccuracyUs, 1, 1_000_000)?;
@@ -62,6 +63,7 @@ fn counter_of(alloc: Global, table: &Table) -> Result<Counter, PolicyFault>
         31_536_000_000_000,
     )?;
     let anonymous = optional_name(alloc, table, "anonymous", Field::CounterAnonymous)?;
+    let tsa_name = optional_truth(table, "tsa_name", Field::CounterTsaName, false)?;
     Ok(Counter {
         accuracy_us: accuracy_us as u32,
         fraction_digits: fraction_digits as u8,
@@ -69,6 +71,7 @@ fn counter_of(alloc: Global, table: &Table) -> Result<Counter, PolicyFault>
         drift_ppb: drift_ppb as u32,
         max_age_us,
         anonymous,
+        tsa_name,
     })
 }
 

@@ -18,6 +18,8 @@ pub struct Counter {
     pub max_age_us: u64,
     /// The name of the account of those that show no key, if any.
     pub anonymous: Option<String>,
+    /// Whether tokens name the authority: the subject of its certificate (RFC 3161 2.4.2, tsa).
+    pub tsa_name: bool,
     ghost accuracy_some: { 1 ≤ accuracy_us },
     ghost accuracy: { accuracy_us ≤ 1_000_000 },
     ghost digits: { fraction_digits ≤ 6 },

@@ -19,6 +19,8 @@ pub enum Field {
     CounterMaxAgeUs,
     /// `anonymous` of `counter`.
     CounterAnonymous,
+    /// `tsa_name` of `counter`.
+    CounterTsaName,
     /// The array `algorithm`.
     Algorithm,
     /// `name` of an algorithm.
@@ -83,6 +85,7 @@ impl Field {
             Field::CounterDriftPpb => "counter.drift_ppb",
             Field::CounterMaxAgeUs => "counter.max_age_us",
             Field::CounterAnonymous => "counter.anonymous",
+            Field::CounterTsaName => "counter.tsa_name",
             Field::Algorithm => "algorithm",
             Field::AlgorithmName => "algorithm.name",
             Field::AlgorithmOid => "algorithm.oid",

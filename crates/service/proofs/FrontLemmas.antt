@@ -1,21 +1,19 @@
 -- Octets that came in pieces: what a beginning of them is, all of them are.
-use Rattle.std.proofs.Common.{◌≡◌, ◌∙◌, ℕ, ◌+◌, ◌<◌, ◌≤◌, List, [], ◌++◌, All, Ok, Err, length, take, drop, refl, sym, ap}
-use Rattle.std.proofs.Common.{subst, append_assoc, append-nil, length-append, length-take-le, arith, inl, inr}
+use Rattle.std.proofs.Common.{◌≡◌, ◌∙◌, ℕ, ◌+◌, ◌<◌, ◌≤◌, List, [], ◌++◌, All, length, take, drop, refl, sym, ap}
+use Rattle.std.proofs.Common.{subst, append_assoc, append-nil, length-append, length-take-le, arith}
 use Rattle.std.proofs.lemmas.List.{take-append-drop, take-append-le, take_all, take_at, length-take, length-map}
 use lib.Seq.{take-add}
 use Rattle.std.proofs.lemmas.List.Elements.{All-weaker}
-use Rattle.httparse.specs.Grammar.{RequestHead, print_request, HasNoRequest, MayBecomeRequest, ReadsRequest}
-use Rattle.httparse.specs.Spans.{IsRequestWithin, IsRequestAt, IsRequestOf, RequestOverflows, header_bytes}
+use Rattle.httparse.specs.Grammar.{RequestHead, print_request, HasNoRequest, ReadsRequest}
+use Rattle.httparse.specs.Spans.{IsRequestWithin, IsRequestOf, RequestOverflows, header_bytes}
 use Rattle.httparse.specs.Spans.{IsHeaderWithin, name_and_value}
 use Rattle.httparse.specs.declared.spans.HeaderSpan.{HeaderSpan}
 use Rattle.httparse.specs.declared.spans.RequestSpans.{RequestSpans}
 use Rattle.httparse.proofs.GrammarLemmas.{ReadsRequest-append, request_unique}
-use Rattle.service.specs.Checks.{WantedValue, wanted_by}
 use Rattle.service.specs.Fronts.{first_octets, BeginsAt}
 use Rattle.service.specs.Heads.{most_octets, most_fields, BeginsWith, HasNoHead, NeverHasHead, MayBegin, IsBegun}
-use Rattle.service.specs.Heads.{IsHeadless, IsHead, head_value}
-use Rattle.service.specs.declared.refusal.Refusal.{Refusal}
-use Rattle.service.proofs.HeadLemmas.{begun, never_after_limit, never_with_overflow}
+use Rattle.service.specs.Heads.{IsHeadless}
+use Rattle.service.proofs.HeadLemmas.{begun, never_with_overflow}
 
 -- a shorter front is that of a front
 pub take_less : (n m : ℕ) (octets : List ℕ) → n ≤ m → m ≤ length octets → take n (take m octets) ≡ take n octets

@@ -1,7 +1,10 @@
 pub mod ExtractLemmas
 pub mod FrontLemmas
+pub mod HandledLemmas
 pub mod HeadLemmas
 pub mod Joined
+pub mod LineLemmas
 pub mod Operators
 pub mod Rows
 pub mod ServingLemmas
+pub mod TargetLemmas

@@ -1,5 +1,5 @@
 -- What an operator's form has, and what is answered to it.
-use Rattle.std.proofs.Common.{◌≡◌, ◌∙◌, ◌⊎◌, ℕ, ℤ, List, ◌∷◌, true, false, Option, Some, Result, Ok, Err, refl, ap, inl, inr}
+use Rattle.std.proofs.Common.{◌≡◌, ◌∙◌, ℕ, ℤ, List, ◌∷◌, true, false, Option, Some, Result, Ok, Err, refl, ap, inl, inr}
 use Rattle.std.specs.Prelude.{IfErr}
 use Rattle.std.specs.Str.{bytes_eq}
 use Rattle.book.specs.declared.fault.StoreFault.{StoreFault}
@@ -55,11 +55,11 @@ status_told g contents w w' old new counter file_counter reading asked looked st
 module _ {B X : Type 0} (g : Ghosts B) (signs : X → List ℕ → Result (List ℕ) SignerFault → X → Type 0) (count : X → ℕ)
     (old new : DeskValue B) (a : AnswerValue) where
   -- what is told of a calibration
-  pub calibration_told : (x : CalibrationValue) (outcome : Result (Unit {0}) StoreFault)
+  pub calibration_told : (x : CalibrationValue) (outcome : Result ℕ StoreFault)
       → (g.honest new.store → (b : History) → Stands g b old.store → outcome ≡ Err store.Backwards
       → IsBackwards x (latest_calibration b))
       → a ≡ added_answer outcome → Tells g signs count old new (Calibrate x) (entered outcome) a
-  calibration_told x (Ok done) behind is = plainly is
+  calibration_told x (Ok number) behind is = plainly is
   calibration_told x (Err store.Memory) behind is = plainly is
   calibration_told x (Err store.Database) behind is = plainly is
   calibration_told x (Err store.NotOurs) behind is = plainly is
@@ -68,9 +68,9 @@ module _ {B X : Type 0} (g : Ghosts B) (signs : X → List ℕ → Result (List 
       backwards x refl refl (λ honest b stands. behind honest b stands refl) is
 
   -- what is told of a hold
-  pub hold_told : (x : HoldValue) (outcome : Result (Unit {0}) StoreFault) → IfErr outcome IsOfStore
+  pub hold_told : (x : HoldValue) (outcome : Result ℕ StoreFault) → IfErr outcome IsOfStore
       → a ≡ added_answer outcome → Tells g signs count old new (Hold x) (entered outcome) a
-  hold_told x (Ok done) of is = plainly is
+  hold_told x (Ok number) of is = plainly is
   hold_told x (Err store.Memory) of is = plainly is
   hold_told x (Err store.Database) of is = plainly is
   hold_told x (Err store.NotOurs) of is = plainly is

@@ -9,7 +9,7 @@ use Rattle.service.specs.Answers.{answer_text, refusal_answer, crlf, line_feed, 
 use Rattle.service.specs.Checks.{wanted_by, wanted_at, type_in}
 use Rattle.service.specs.Heads.{HeadValue}
 use Rattle.service.specs.Numbers.{is_digits, length_in, number_in}
-use Rattle.service.specs.Routes.{place_of, number_part, name_part, from_part, to_part, routes}
+use Rattle.service.specs.Routes.{place_of, parameter, routes}
 use Rattle.service.specs.declared.refusal.Refusal.TheVariants as refusal
 use Rattle.service.specs.declared.routes.Action.TheVariants as action
 use Rattle.service.specs.declared.routes.Place.TheVariants as place
@@ -83,17 +83,34 @@ at_audit : place_of (codes "/audit/1/2") ≡ Some place.Audit
 unfolding routes matchit_on_literals
 at_audit = refl
 
-part_of_number : number_part (codes "/deposits/12/readers/bob") ≡ codes "12"
+-- what the names in their routes took of them
+part_of_number : parameter (codes "number") (codes "/deposits/12/readers/bob") ≡ codes "12"
+unfolding routes matchit_on_literals
 part_of_number = refl
 
-part_of_name : name_part (codes "/deposits/12/readers/bob") ≡ codes "bob"
+part_of_name : parameter (codes "name") (codes "/deposits/12/readers/bob") ≡ codes "bob"
+unfolding routes matchit_on_literals
 part_of_name = refl
 
-first_part : from_part (codes "/audit/12/34") ≡ codes "12"
+part_of_group : parameter (codes "name") (codes "/deposits/1/groups/staff") ≡ codes "staff"
+unfolding routes matchit_on_literals
+part_of_group = refl
+
+part_before_token : parameter (codes "number") (codes "/deposits/12/token") ≡ codes "12"
+unfolding routes matchit_on_literals
+part_before_token = refl
+
+first_part : parameter (codes "from") (codes "/audit/12/34") ≡ codes "12"
+unfolding routes matchit_on_literals
 first_part = refl
 
-last_part : to_part (codes "/audit/12/34") ≡ codes "34"
+last_part : parameter (codes "to") (codes "/audit/12/34") ≡ codes "34"
+unfolding routes matchit_on_literals
 last_part = refl
+
+no_part : parameter (codes "name") (codes "/audit/12/34") ≡ []
+unfolding routes matchit_on_literals
+no_part = refl
 
 -- numbers
 shown_number : number_in (codes "9223372036854775807") ≡ Some 9223372036854775807

@@ -1,14 +1,13 @@
 -- What is written, and why.
-use Rattle.std.proofs.Common.{◌≡◌, ◌∙◌, ℕ, ℤ, List, Option, Result, Ok, Err, map}
-use Rattle.std.proofs.Common.{refl, ap, inl, inr, subst}
+use Rattle.std.proofs.Common.{◌≡◌, ℕ, ℤ, List, Option, Result, Ok, Err}
+use Rattle.std.proofs.Common.{refl, inl, inr, subst}
 use Rattle.book.specs.declared.standing.Standing.{Ghosts}
 use Rattle.cms.specs.declared.signer.SignerFault.{SignerFault}
 use Rattle.book.specs.Rights.{ListedValue}
-use Rattle.book.specs.Values.{listed_view}
 use Rattle.desk.specs.Command.{Command, Answer, Calibrate, ListAll, Listed}
 use Rattle.desk.specs.Stepped.{DeskValue}
 use Rattle.policy.specs.Record.{AccountValue}
-use Rattle.service.specs.Answers.{AnswerValue, answer_to, refusal_answer, success}
+use Rattle.service.specs.Answers.{AnswerValue, refusal_answer, success}
 use Rattle.service.specs.Refusals.{refusal_of_extract}
 use Rattle.service.specs.Extracting.{ServesExtract, extracted, kept_back, too_long}
 use Rattle.service.specs.Requests.{Step, Extract, Status, IsEarly}
@@ -18,9 +17,6 @@ use Rattle.service.specs.Served.{turns_back, Tells, plainly, backwards, tells_st
 use Rattle.service.specs.Telling.{ServesStatus}
 use Rattle.service.specs.declared.answer.Media.TheVariants as media
 use Rattle.service.specs.Served.{Extracts, Serves}
-use Rattle.service.specs.Views.{performed_answer, Responds, IsOfList}
-use Rattle.service.specs.declared.performing.Performed.{Performed}
-use Rattle.service.specs.declared.performing.Performed.TheVariants as performed
 use Rattle.service.specs.declared.refusal.Refusal.{Refusal}
 use Rattle.service.specs.declared.served.Served.{Served}
 use Rattle.service.specs.declared.served.Served.TheVariants as served
@@ -49,7 +45,7 @@ module _ {W B X : Type 0} (g : Ghosts B) (signs : X → List ℕ → Result (Lis
   sends a served.ReadFailed why sent = absurd sent
   sends a (served.WriteFailed status taken) why sent = inl (record { answer = a; is = why; sent = sent })
 
-  either : (a : AnswerValue) (outcome : Served) → IsAnswer g signs count reading t a
+  pub either : (a : AnswerValue) (outcome : Served) → IsAnswer g signs count reading t a
       → IsAnswer g signs count reading t unavailable → SendsOrWants contents t.writer t.writer_after a outcome
       → Serves g signs count contents reading t outcome
   either a outcome why wants (inl sent) = sends a outcome why sent
@@ -61,7 +57,7 @@ module _ {W B X : Type 0} (g : Ghosts B) (signs : X → List ℕ → Result (Lis
   refusing r outcome reads idle sent = sends (refusal_answer r) outcome (refuses r reads idle refl) sent
 
   -- a reply that is told plainly, and one to a calibration that is before the latest
-  why_told : (c : Command) → Reads reading t (Ok (Step c)) → (reply : Answer) → Takes g signs count t c reply
+  pub why_told : (c : Command) → Reads reading t (Ok (Step c)) → (reply : Answer) → Takes g signs count t c reply
       → (a : AnswerValue) → Tells g signs count t.desk t.desk_after c reply a → IsAnswer g signs count reading t a
   why_told c reads reply takes a (plainly is) = replies c reads reply takes is
   why_told c reads reply takes a (backwards x calibrates turns behind is) =
@@ -71,7 +67,7 @@ module _ {W B X : Type 0} (g : Ghosts B) (signs : X → List ℕ → Result (Lis
       turns_back x reads (subst Q turns taken) behind is
 
   -- memory is wanting for a list
-  wanting_list : (rows : List ListedValue) (c : Command) (reply : Answer) → Reads reading t (Ok (Step c))
+  pub wanting_list : (rows : List ListedValue) (c : Command) (reply : Answer) → Reads reading t (Ok (Step c))
       → Takes g signs count t c reply → (account : AccountValue) → c ≡ ListAll account → reply ≡ Listed rows
       → IsAnswer g signs count reading t unavailable
   wanting_list rows c reply reads takes account lists told =
@@ -79,28 +75,6 @@ module _ {W B X : Type 0} (g : Ghosts B) (signs : X → List ℕ → Result (Lis
       let (reads, taken) = subst P lists (reads, takes) in
       let Q : Answer → Type 0 = λ r. Takes g signs count t (ListAll account) r in
       wants_list account reads rows (subst Q told taken) refl
-
-  module _ (c : Command) (outcome : Served) (reads : Reads reading t (Ok (Step c))) (reply : Answer)
-      (takes : Takes g signs count t c reply) where
-    plain : (a : AnswerValue) → Tells g signs count t.desk t.desk_after c reply a
-        → Sends contents t.writer t.writer_after a outcome → Serves g signs count contents reading t outcome
-    plain a told sent = sends a outcome (why_told c reads reply takes a told) sent
-
-    pub replying : (p : Performed) → Tells g signs count t.desk t.desk_after c reply (performed_answer p)
-        → IsOfList p c reply → Responds contents t.writer t.writer_after p outcome
-        → Serves g signs count contents reading t outcome
-    replying (performed.Stamped r) told list sent = plain (performed_answer (performed.Stamped r)) told sent
-    replying (performed.Kept d) told list sent = plain (performed_answer (performed.Kept d)) told sent
-    replying (performed.Shown b) told list sent = plain (performed_answer (performed.Shown b)) told sent
-    replying (performed.Token b) told list sent = plain (performed_answer (performed.Token b)) told sent
-    replying (performed.Listed rows) told (account, lists, is) sent =
-        either (performed_answer (performed.Listed rows)) outcome
-        (why_told c reads reply takes (performed_answer (performed.Listed rows)) told)
-        (wanting_list (map listed_view rows.items) c reply reads takes account lists is) sent
-    replying performed.Done told list sent = plain (performed_answer performed.Done) told sent
-    replying performed.Added told list sent = plain (performed_answer performed.Added) told sent
-    replying performed.TurnedBack told list sent = plain (performed_answer performed.TurnedBack) told sent
-    replying (performed.Refused f) told list sent = plain (performed_answer (performed.Refused f)) told sent
 
   pub wanting_early : (outcome : Served) → IsEarly t.input t.input_after → IsIdle t
       → Sends contents t.writer t.writer_after unavailable outcome → Serves g signs count contents reading t outcome

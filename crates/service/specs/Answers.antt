@@ -9,8 +9,8 @@ use Rattle.tsp.specs.Rejection.{rejection}
 use Rattle.book.specs.History.{History}
 use Rattle.book.specs.Rights.{ListedValue}
 use Rattle.audit.specs.Extract.{extract_text}
-use Rattle.desk.specs.Command.{Command, Show, Calibrate, Hold}
-use Rattle.desk.specs.Command.{Answer, Stamped, Rejected, Begun, Kept, Shown, Listed, Done, Refused}
+use Rattle.desk.specs.Command.{Command, Show}
+use Rattle.desk.specs.Command.{Answer, Stamped, Rejected, Begun, Kept, Numbered, Shown, Listed, Done, Refused}
 use Rattle.service.specs.Refusals.{status_of, word_of, refusal_of}
 use Rattle.service.specs.Routes.{methods_of}
 use Rattle.service.specs.declared.answer.Media.{Media}
@@ -93,21 +93,20 @@ abbrev pub media_shown : Command → Media
 media_shown (Show a n) = media.Octets
 media_shown other = media.Reply
 
--- what is done: a calibration or a hold is created (RFC 9110 15.3.2)
-abbrev pub status_done : Command → ℕ
-status_done (Calibrate c) = 201
-status_done (Hold h) = 201
-status_done other = 200
+-- what is created under a number, which stands on a line (RFC 9110 15.3.2)
+abbrev pub created : ℕ → AnswerValue
+created number = success 201 media.Text (decimal number ++ line_feed)
 
 -- the answer to a command for a desk's answer
 abbrev pub answer_to : Command → Answer → AnswerValue
 answer_to c (Stamped serial octets) = success 200 media.Reply octets
 answer_to c (Rejected rule) = success 200 media.Reply (encoding (rejection rule))
-answer_to c (Kept number true) = success 201 media.Text (decimal number ++ line_feed)
+answer_to c (Kept number true) = created number
 answer_to c (Kept number false) = success 200 media.Text (decimal number ++ line_feed)
 answer_to c (Shown octets) = success 200 (media_shown c) octets
 answer_to c (Listed rows) = success 200 media.Text (flat_map listed_line rows)
-answer_to c Done = success (status_done c) media.Text []
+answer_to c (Numbered number) = created number
+answer_to c Done = success 200 media.Text []
 answer_to c (Refused fault) = refusal_answer (refusal_of fault)
 -- no request asks for what begins a stamp alone
 answer_to c (Begun p) = refusal_answer refusal.Unavailable

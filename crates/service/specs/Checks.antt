@@ -9,7 +9,7 @@ use Rattle.policy.specs.Record.{AccountValue, PolicyValue}
 use Rattle.service.specs.Fields.{Stated, Never, Once, Twice, stated, same_letters}
 use Rattle.service.specs.Heads.{HeadValue}
 use Rattle.service.specs.Numbers.{length_in, number_in, is_reference}
-use Rattle.service.specs.Routes.{place_of, action_of, number_part, from_part, to_part}
+use Rattle.service.specs.Routes.{place_of, action_of, parameter}
 use Rattle.service.specs.declared.refusal.Refusal.{Refusal}
 use Rattle.service.specs.declared.refusal.Refusal.TheVariants as refusal
 use Rattle.service.specs.declared.routes.Action.{Action}
@@ -161,13 +161,13 @@ watcher_shown file h = do
 
 -- The target's number is one.
 abbrev pub number_stated : HeadValue → Result ℕ Refusal
-number_stated h = given_or refusal.NotHere (number_in (number_part h.target))
+number_stated h = given_or refusal.NotHere (number_in (parameter (codes "number") h.target))
 
 -- The target's two numbers are ones: the first serial number of a range, and the last.
 abbrev pub range_stated : HeadValue → Result (ℕ × ℕ) Refusal
 range_stated h = do
-  from ← given_or refusal.BadRange (number_in (from_part h.target))
-  to ← given_or refusal.BadRange (number_in (to_part h.target))
+  from ← given_or refusal.BadRange (number_in (parameter (codes "from") h.target))
+  to ← given_or refusal.BadRange (number_in (parameter (codes "to") h.target))
   Ok (from, to)
 
 -- One field tells the reference.

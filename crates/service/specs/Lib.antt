@@ -4,7 +4,9 @@ pub mod Extracting
 pub mod Fields
 pub mod Forms
 pub mod Fronts
+pub mod Handling
 pub mod Heads
+pub mod Lines
 pub mod Numbers
 pub mod Reading
 pub mod Refusals

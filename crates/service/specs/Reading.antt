@@ -2,15 +2,18 @@
 -- that doesn't tell them.
 use Rattle.std.specs.Prelude.{◌≡◌, ℕ, ◌<◌, List, [], ◌∷◌, length, take, Option}
 use Rattle.std.specs.Io.KnownBytes.{Consumes, IsAtEnd}
-use Rattle.httparse.specs.Grammar.{RequestHead, print_request}
-use Rattle.httparse.specs.Spans.{IsRequestWithin, IsRequestAt}
+use Rattle.httparse.specs.Grammar.{RequestHead, print_request, HasNoRequest, MayBecomeRequest}
+use Rattle.httparse.specs.Spans.{IsRequestWithin, IsRequestAt, IsRequestOf, RequestOverflows}
 use Rattle.httparse.specs.declared.spans.HeaderSpan.{HeaderSpan}
 use Rattle.httparse.specs.declared.spans.RequestSpans.{RequestSpans}
-use Rattle.service.specs.Heads.{IsHead, IsBegun, IsHeadless}
+use Rattle.service.specs.Heads.{most_fields, IsHead, IsBegun, IsHeadless}
+use Rattle.service.specs.Lines.{IsAt}
 use Rattle.service.specs.declared.reading.OctetRead.{OctetRead}
 use Rattle.service.specs.declared.reading.OctetRead.TheVariants as octet
 use Rattle.service.specs.declared.reading.HeadRead.{HeadRead}
 use Rattle.service.specs.declared.reading.HeadRead.TheVariants as head
+use Rattle.service.specs.declared.reading.Look.{Look}
+use Rattle.service.specs.declared.reading.Look.TheVariants as look
 use Rattle.service.specs.declared.reading.BodyRead.{BodyRead}
 use Rattle.service.specs.declared.reading.BodyRead.TheVariants as body
 
@@ -38,6 +41,12 @@ pub record IsWhole (old new : Option (List ℕ)) (room : List ℕ) (headers : Li
   pub read : RequestHead
   pub lies : LiesAt room headers spans read
   pub consumed : Consumes old new (print_request read)
+
+-- what the octets of a head so far are
+abbrev pub Finds : List ℕ → List HeaderSpan → Look → Type 0
+Finds octets headers (look.Open line) = IsAt line octets × HasNoRequest octets × MayBecomeRequest octets
+Finds octets headers look.Refused = RequestOverflows most_fields octets
+Finds octets headers (look.Whole spans) = IsRequestWithin octets headers spans × IsRequestOf octets headers spans
 
 abbrev pub ReadsHead : Option (List ℕ) → Option (List ℕ) → List ℕ → List HeaderSpan → HeadRead → Type 0
 ReadsHead old new room headers head.Closed = Consumes old new [] × IsAtEnd new

@@ -1,15 +1,16 @@
 -- What a request asks for: a command for the desk, an extract for an auditor or the counter's state, or it is refused.
-use Rattle.std.specs.Prelude.{◌≡◌, ℕ, ◌<◌, ℤ, List, [], ◌++◌, length, Option, Result, Ok, Err}
+use Rattle.std.specs.Prelude.{◌≡◌, ℕ, ◌<◌, ℤ, List, [], ◌++◌, length, codes, Option, Result, Ok, Err}
 use Rattle.std.specs.Io.KnownBytes.{Consumes, IsAtEnd}
 use Rattle.httparse.specs.Grammar.{RequestHead, print_request}
 use Rattle.policy.specs.Record.{AccountValue, PolicyValue}
+use Rattle.book.specs.History.{CalibrationValue, HoldValue}
 use Rattle.book.specs.Readers as readers
 use Rattle.desk.specs.Command.{Command, Stamp, Deposit, Show, Token, ListAll, Grant, Revoke, Calibrate, Hold}
 use Rattle.service.specs.Checks.{◌>>=◌, WantedValue, wanted_by, account_shown, active_account, number_stated}
 use Rattle.service.specs.Checks.{reference_stated, range_stated, operator_shown, watcher_shown}
 use Rattle.service.specs.Forms.{calibration_stated, hold_stated}
 use Rattle.service.specs.Heads.{HeadValue, head_value, IsHead, IsBegun, IsHeadless}
-use Rattle.service.specs.Routes.{name_part}
+use Rattle.service.specs.Routes.{parameter}
 use Rattle.service.specs.declared.refusal.Refusal.{Refusal}
 use Rattle.service.specs.declared.refusal.Refusal.TheVariants as refusal
 use Rattle.service.specs.declared.routes.Action.{Action}
@@ -21,6 +22,13 @@ pub data Asked : Type 0 where
   Step : Command → Asked
   Extract : AccountValue → ℕ → ℕ → Asked
   Status : Asked
+
+-- an active account and the reference of its deposit
+abbrev pub account_and_reference : PolicyValue → HeadValue → Result (AccountValue × List ℕ) Refusal
+account_and_reference file h = do
+  account ← active_account file h
+  reference ← reference_stated h
+  Ok (account, reference)
 
 -- an active account and the target's number
 abbrev pub account_and_number : PolicyValue → HeadValue → Result (AccountValue × ℕ) Refusal
@@ -36,14 +44,25 @@ account_and_range file h = do
   (from, to) ← range_stated h
   Ok (account, from, to)
 
+-- the calibration that an operator's form states
+abbrev pub calibration_asked : PolicyValue → HeadValue → List ℕ → Result CalibrationValue Refusal
+calibration_asked file h form = do
+  account ← operator_shown file h
+  calibration_stated form
+
+-- the hold that an operator's form states
+abbrev pub hold_asked : PolicyValue → HeadValue → List ℕ → Result HoldValue Refusal
+hold_asked file h form = do
+  account ← operator_shown file h
+  hold_stated form
+
 -- The checks of a whole request, and what it asks for; the reading is the clock's, in microseconds.
 abbrev pub asked_by : PolicyValue → ℤ → HeadValue → List ℕ → Action → Result Asked Refusal
 asked_by file reading h body action.Stamp = do
   account ← account_shown file h
   Ok (Step (Stamp account reading body))
 asked_by file reading h body action.Keep = do
-  account ← active_account file h
-  reference ← reference_stated h
+  (account, reference) ← account_and_reference file h
   Ok (Step (Deposit account reading reference body))
 asked_by file reading h body action.List = do
   account ← active_account file h
@@ -56,26 +75,24 @@ asked_by file reading h body action.Token = do
   Ok (Step (Token account number))
 asked_by file reading h body action.Grant = do
   (account, number) ← account_and_number file h
-  Ok (Step (Grant account number (readers.Account (name_part h.target))))
+  Ok (Step (Grant account number (readers.Account (parameter (codes "name") h.target))))
 asked_by file reading h body action.Revoke = do
   (account, number) ← account_and_number file h
-  Ok (Step (Revoke account number (readers.Account (name_part h.target))))
+  Ok (Step (Revoke account number (readers.Account (parameter (codes "name") h.target))))
 asked_by file reading h body action.GrantGroup = do
   (account, number) ← account_and_number file h
-  Ok (Step (Grant account number (readers.Group (name_part h.target))))
+  Ok (Step (Grant account number (readers.Group (parameter (codes "name") h.target))))
 asked_by file reading h body action.RevokeGroup = do
   (account, number) ← account_and_number file h
-  Ok (Step (Revoke account number (readers.Group (name_part h.target))))
+  Ok (Step (Revoke account number (readers.Group (parameter (codes "name") h.target))))
 asked_by file reading h body action.Extract = do
   (account, from, to) ← account_and_range file h
   Ok (Extract account from to)
 asked_by file reading h body action.Calibrate = do
-  account ← operator_shown file h
-  calibration ← calibration_stated body
+  calibration ← calibration_asked file h body
   Ok (Step (Calibrate calibration))
 asked_by file reading h body action.Hold = do
-  account ← operator_shown file h
-  hold ← hold_stated body
+  hold ← hold_asked file h body
   Ok (Step (Hold hold))
 asked_by file reading h body action.Status = do
   account ← watcher_shown file h

@@ -1,8 +1,8 @@
 -- Which targets there are, and what the methods do there. What matches a route, `matchit` says.
-use Rattle.std.specs.Prelude.{ℕ, ◌==◌, List, [], codes, Option, Some, None, option_map, Result, Ok, Err, if◌then◌else◌}
-use Rattle.std.specs.List.{before_first, after_first}
+use Rattle.std.specs.Prelude.{ℕ, List, [], codes, Option, Some, None, option_map, unwrap_or, Result, Ok, Err, if◌then◌else◌}
 use Rattle.std.specs.Str.{bytes_eq}
 use Rattle.matchit.specs.Order.{placed}
+use Rattle.matchit.specs.Params.{walk, named}
 use Rattle.matchit.specs.Route.{Scan, parse_route}
 use Rattle.matchit.specs.Router.{RouteOf, route_from}
 use Rattle.matchit.specs.Rows.{RowsOf}
@@ -41,6 +41,18 @@ routes =
 abbrev pub place_of : List ℕ → Option Place
 place_of target = option_map (λ route. route.value) (first routes target)
 
+-- what the names in its route's text took of a target
+abbrev pub taken_by : Option (RouteOf Place) → List ℕ → List (List ℕ × List ℕ)
+taken_by None target = []
+taken_by (Some route) target = walk route.pattern route.text target route.names 0 0
+
+abbrev pub taken_of : List ℕ → List (List ℕ × List ℕ)
+taken_of target = taken_by (first routes target) target
+
+-- the segment of a target that a name took, or nothing where its route has no such name
+abbrev pub parameter : List ℕ → List ℕ → List ℕ
+parameter name target = unwrap_or (named name (taken_of target)) []
+
 -- the methods of a place, as `Allow` tells them (RFC 9110 10.2.1)
 abbrev pub methods_of : Place → List ℕ
 methods_of place.Tsp = codes "POST"
@@ -72,27 +84,3 @@ action_of place.Audit method = action_where method (codes "GET") action.Extract 
 action_of place.Calibrations method = action_where method (codes "POST") action.Calibrate None
 action_of place.Holds method = action_where method (codes "POST") action.Hold None
 action_of place.Status method = action_where method (codes "GET") action.Status None
-
--- what stands behind the first slash
-abbrev pub behind_slash : List ℕ → List ℕ
-behind_slash text = after_first (λ octet. octet == 0x2F) text
-
--- what stands before the first slash, or all where there is none
-abbrev pub before_slash : List ℕ → List ℕ
-before_slash text = before_first (λ octet. octet == 0x2F) text
-
--- the segment that stands for {number}, behind `/deposits/`
-abbrev pub number_part : List ℕ → List ℕ
-number_part target = before_slash (behind_slash (behind_slash target))
-
--- the segment that stands for {name}, behind `/deposits/{number}/readers/` or `/deposits/{number}/groups/`
-abbrev pub name_part : List ℕ → List ℕ
-name_part target = behind_slash (behind_slash (behind_slash (behind_slash target)))
-
--- the segment that stands for {from}, behind `/audit/`
-abbrev pub from_part : List ℕ → List ℕ
-from_part target = before_slash (behind_slash (behind_slash target))
-
--- the segment that stands for {to}, behind `/audit/{from}/`
-abbrev pub to_part : List ℕ → List ℕ
-to_part target = behind_slash (behind_slash (behind_slash target))

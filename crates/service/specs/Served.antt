@@ -94,16 +94,14 @@ module _ {B X : Type 0} (g : Ghosts B) (signs : X → List ℕ → Result (List 
   -- the desk takes the command's step and no other; the signer moves by it, and stays where the step asks none
   abbrev pub Steps : DeskValue B → DeskValue B → X → X → Command → Answer → Type 0
   Steps old new signer signer' (Stamp account reading octets) answer =
-      IsStep g (with_signer signs count signer signer') old.setting (Stamp account reading octets) old.store new.store
-      answer
+      IsStep g (with_signer signs count signer signer') (Stamp account reading octets) old new answer
       -- one of the rules 1 to 9 rejects it whatever store and signer do
       × ((rule : Rule) → IsFirstFailing (HoldsUnasked old.setting.file account octets) rule
       → (answer ≡ Rejected rule) × (new ≡ old) × (signer' ≡ signer))
   Steps old new signer signer' (Deposit account reading reference octets) answer =
-      IsStep g (with_signer signs count signer signer') old.setting (Deposit account reading reference octets)
-      old.store new.store answer
+      IsStep g (with_signer signs count signer signer') (Deposit account reading reference octets) old new answer
   Steps old new signer signer' other answer =
-      IsStep g no_signer old.setting other old.store new.store answer × (signer' ≡ signer)
+      IsStep g no_signer other old new answer × (signer' ≡ signer)
 
   abbrev pub Takes : {W : Type 0} → Turn W B X → Command → Answer → Type 0
   Takes t c answer = Steps t.desk t.desk_after t.signer t.signer_after c answer

@@ -2,17 +2,19 @@
 #![tactic(auto)]
 
 mod answer;
-mod demand;
+mod checks;
+mod context;
 mod extent;
 mod extracting;
 mod fields;
 mod form;
 mod front;
+mod handlers;
 mod head;
+mod line;
 mod listing;
 mod numbers;
 mod octets;
-mod performing;
 mod reading;
 mod refusal;
 mod responding;

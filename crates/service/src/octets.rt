@@ -7,15 +7,16 @@ ghost use Rattle.service.specs.Heads.{most_octets};
 ghost use Rattle.service.specs.Served.{Serves};
 ghost use Rattle.service.specs.Views.{IsInPlace};
 
+use crate::context::Context;
 use crate::fields::{Found, stated};
 use crate::front::{Front, first_octets, front_of, spoiled_after};
+use crate::handlers::handle;
 use crate::head::{Head, head_in};
 use crate::reading::{MOST_FIELDS, MOST_OCTETS};
 use crate::refusal::Refusal;
 use crate::responding::{refuse, wanting};
 use crate::routes::{Action, Routes};
 use crate::served::Served;
-use crate::serving::serve_whole;
 use crate::wanted::wanted_by;
 use book::Book;
 use cms::Signer;
@@ -116,9 +117,15 @@ fn serve_front<W: Write, B: Book + Drop, G: Signer>(
     let body = rest.split_at(count).0;
     let action = wanted.action;
     let is_whole = is_all(head, action);
-    let served = serve_whole(alloc, writer, desk, reading, signer, head, action, body);
+    let context = Context {
+        alloc,
+        routes,
+        reading,
+        head,
+        body,
+    };
     Exchanged {
-        served,
+        served: handle(action, context, desk, signer, writer),
         taken: spans.len + count,
         is_whole,
     }

@@ -1,21 +1,18 @@
 //! Answers that are written.
-ghost use Rattle.std.specs.Prelude.{◌≡◌, ◌≤◌, ◌++◌, [], length, Option, option_map, IfSome};
-ghost use Rattle.std.specs.Fmt.{decimal};
+ghost use Rattle.std.specs.Prelude.{◌≡◌, ◌≤◌, ◌++◌, length, Option, option_map, IfSome};
 ghost use Rattle.http.specs.StatusCode.{reason_phrase};
-ghost use Rattle.service.specs.Answers.{line_feed, phrase_of, refusal_answer, success};
-ghost use Rattle.service.specs.Served.{SendsText, Sends, SendsOrWants, unavailable};
-ghost use Rattle.service.specs.Views.{stamp_answer, status_kept, Responds};
-ghost use Rattle.service.specs.declared.answer.Media.TheVariants.{Text};
+ghost use Rattle.service.specs.Answers.{created, phrase_of, refusal_answer, success};
+ghost use Rattle.service.specs.Served.{SendsText, Sends, unavailable};
+ghost use Rattle.service.specs.Views.{stamp_answer, status_kept, kept_answer, done_answer, added_answer};
 
 use crate::answer::{Media, head_text};
-use crate::listing::{listed_lines, number_line};
-use crate::performing::Performed;
+use crate::listing::number_line;
 use crate::refusal::Refusal;
 use crate::served::Served;
 use crate::writing::write_both;
-use desk::{Deposited, Reply};
+use book::StoreFault;
+use desk::{Deposited, Fault, Reply};
 use http::StatusCode;
-use std::alloc::Global;
 use std::io::Write;
 
 /// Writes an answer's head and its body.
@@ -80,15 +77,8 @@ pub(crate) fn succeed<W: Write>(writer: &mut W, media: Media, body: &[u8]) -> Se
     send(writer, StatusCode::OK, media, None, body)
 }
 
-/// Writes the answer that a calibration or a hold is added.
-fn create<W: Write>(writer: &mut W) -> Served
-    ensures { Sends W.contents writer.old writer.new (success 201 Text []) result }
-{
-    send(writer, StatusCode::CREATED, Media::Text, None, b"")
-}
-
-/// Writes the answer to a time-stamp request.
-fn answer_stamp<W: Write>(writer: &mut W, reply: &Reply) -> Served
+/// Writes the reply to a time-stamp request.
+pub(crate) fn write_reply<W: Write>(writer: &mut W, reply: &Reply) -> Served
     ensures { Sends W.contents writer.old writer.new (stamp_answer reply.now) result }
 {
     match reply {
@@ -109,10 +99,9 @@ fn status_kept(is_new: bool) -> StatusCode
     }
 }
 
-/// Writes the answer to a deposit.
-fn answer_deposit<W: Write>(writer: &mut W, deposited: Deposited) -> Served
-    ensures { Sends W.contents writer.old writer.new
-        (success (status_kept deposited.is_new) Text (decimal deposited.number ++ line_feed)) result }
+/// Writes the answer to a deposit: its number.
+pub(crate) fn write_deposited<W: Write>(writer: &mut W, deposited: Deposited) -> Served
+    ensures { Sends W.contents writer.old writer.new (kept_answer deposited) result }
 {
     let line = number_line(deposited.number);
     send(
@@ -124,22 +113,37 @@ fn answer_deposit<W: Write>(writer: &mut W, deposited: Deposited) -> Served
     )
 }
 
-/// Writes the answer of which the desk's is told. The lines of a list take memory, and nothing else does.
-pub(crate) fn respond<W: Write>(alloc: Global, writer: &mut W, performed: &Performed) -> Served
-    ensures { Responds W.contents writer.old writer.new performed.now result }
+/// Writes the answer where a right is given or taken, or why it isn't.
+pub(crate) fn write_done<W: Write>(writer: &mut W, outcome: Result<(), Fault>) -> Served
+    ensures { Sends W.contents writer.old writer.new (done_answer outcome) result }
 {
-    match performed {
-        Performed::Stamped(reply) => answer_stamp(writer, reply),
-        Performed::Kept(deposited) => answer_deposit(writer, *deposited),
-        Performed::Shown(bytes) => succeed(writer, Media::Octets, bytes),
-        Performed::Token(bytes) => succeed(writer, Media::Reply, bytes),
-        Performed::Listed(rows) => match listed_lines(alloc, rows) {
-            Some(lines) => succeed(writer, Media::Text, &lines),
-            None => wanting(writer),
-        },
-        Performed::Done => succeed(writer, Media::Text, b""),
-        Performed::Added => create(writer),
-        Performed::TurnedBack => refuse(writer, Refusal::Backwards),
-        Performed::Refused(fault) => refuse(writer, Refusal::from(*fault)),
+    match outcome {
+        Ok(()) => succeed(writer, Media::Text, b""),
+        Err(fault) => refuse(writer, Refusal::from(fault)),
+    }
+}
+
+/// Writes the answer that something is created under a number.
+fn create<W: Write>(writer: &mut W, number: u64) -> Served
+    ensures { Sends W.contents writer.old writer.new (created number) result }
+{
+    let line = number_line(number);
+    send(
+        writer,
+        StatusCode::CREATED,
+        Media::Text,
+        None,
+        line.as_str().as_bytes(),
+    )
+}
+
+/// Writes the answer where a calibration or a hold is added: its number, or why it isn't.
+pub(crate) fn write_added<W: Write>(writer: &mut W, outcome: Result<u64, StoreFault>) -> Served
+    ensures { Sends W.contents writer.old writer.new (added_answer outcome) result }
+{
+    match outcome {
+        Ok(number) => create(writer, number),
+        Err(StoreFault::Backwards) => refuse(writer, Refusal::Backwards),
+        Err(_) => wanting(writer),
     }
 }

@@ -1,7 +1,7 @@
 //! Targets, and what methods do there.
 ghost use Rattle.std.specs.Prelude.{◌≡◌, ◌≤◌, length, Option, IfOk, OnOk};
 ghost use Rattle.std.specs.Str.{bytes_eq};
-ghost use Rattle.service.specs.Routes.{with_route, routes, place_of, methods_of, action_of};
+ghost use Rattle.service.specs.Routes.{with_route, routes, place_of, parameter, methods_of, action_of};
 
 use matchit::{InsertError, Router};
 use std::alloc::{AllocError, Global};
@@ -165,6 +165,20 @@ impl Routes {
         match self.router.at(target) {
             Ok(found) => Some(*found.value),
             Err(_) => None,
+        }
+    }
+
+    /// What a name in its route's text took of a target, as it was sent. It is empty where no route has the target, or
+    /// its route no such name.
+    pub(crate) fn parameter<'t>(&self, target: &'t str, name: &str) -> &'t str
+        ensures { result.now ≡ parameter name.now target.now }
+    {
+        match self.router.at(target) {
+            Ok(found) => match found.params.get(name) {
+                Some(value) => value,
+                None => "",
+            },
+            Err(_) => "",
         }
     }
 }

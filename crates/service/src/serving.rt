@@ -3,20 +3,17 @@ ghost use Rattle.std.specs.Prelude.{◌≡◌, ℕ, List, Option};
 ghost use Rattle.std.specs.Io.KnownBytes.{Consumes};
 ghost use Rattle.httparse.specs.Grammar.{RequestHead, print_request};
 ghost use Rattle.service.specs.Heads.{IsHead, head_value};
-ghost use Rattle.service.specs.Requests.{IsRequest, asked_by};
 ghost use Rattle.service.specs.Served.{Serves};
 ghost use Rattle.service.specs.Views.{head_view, IsInPlace};
 
-use crate::demand::{Asked, asked_by};
-use crate::extracting::serve_extract;
+use crate::context::Context;
+use crate::handlers::handle;
 use crate::head::{Head, head_at};
-use crate::performing::perform;
 use crate::reading::{BodyRead, HeadRead, MOST_FIELDS, MOST_OCTETS, read_body, read_head};
 use crate::refusal::Refusal;
-use crate::responding::{refuse, respond, wanting};
-use crate::routes::{Action, Routes};
+use crate::responding::{refuse, wanting};
+use crate::routes::Routes;
 use crate::served::Served;
-use crate::status::serve_status;
 use crate::wanted::wanted_by;
 use book::Book;
 use cms::Signer;
@@ -24,47 +21,6 @@ use desk::Desk;
 use httparse::spans::EMPTY_HEADER_SPAN;
 use std::alloc::Global;
 use std::io::{Read, Write};
-
-/// Answers a whole request.
-pub(crate) fn serve_whole<W: Write, B: Book + Drop, G: Signer>(
-    alloc: Global,
-    writer: &mut W,
-    desk: &mut Desk<'_, B>,
-    reading: i64,
-    signer: &mut G,
-    head: Head<'_>,
-    action: Action,
-    body: &[u8],
-) -> Served
-    requires { IsInPlace head }
-    ensures setting { desk.new.setting ≡ desk.old.setting }
-    ensures honest { B.honest desk.new.store → B.honest desk.old.store }
-    ensures served { (before after : Option (List ℕ))
-        → IsRequest desk.old.setting.file reading before after
-        (asked_by desk.old.setting.file reading (head_view head.entry) body.now action)
-        → Serves B.Standing G.signs G.fault_count W.contents reading (record {
-          input = before;
-          input_after = after;
-          writer = writer.old;
-          writer_after = writer.new;
-          desk = desk.old;
-          desk_after = desk.new;
-          signer = signer.old;
-          signer_after = signer.new;
-        }) result }
-{
-    match asked_by(desk.policy(), head, action, body) {
-        Err(refusal) => refuse(writer, refusal),
-        Ok(Asked::Step(demand)) => {
-            let performed = perform(desk, demand, reading, signer);
-            respond(alloc, writer, &performed)
-        }
-        Ok(Asked::Extract { account, from, to }) => {
-            serve_extract(alloc, writer, desk, account, from, to)
-        }
-        Ok(Asked::Status) => serve_status(alloc, writer, desk, reading, signer.faults()),
-    }
-}
 
 /// Reads the body of a request whose head was read, and answers it.
 fn serve_head<R: Read, W: Write, B: Book + Drop, G: Signer>(
@@ -105,16 +61,14 @@ fn serve_head<R: Read, W: Write, B: Book + Drop, G: Signer>(
         BodyRead::Cut => return refuse(writer, Refusal::BadRequest),
         BodyRead::Failed => return Served::ReadFailed,
     }
-    serve_whole(
+    let context = Context {
         alloc,
-        writer,
-        desk,
+        routes,
         reading,
-        signer,
         head,
-        wanted.action,
-        &body,
-    )
+        body: &body,
+    };
+    handle(wanted.action, context, desk, signer, writer)
 }
 
 /// Reads one request, has the desk take the one step that it asks for, and writes one answer (RFC 9112, RFC 3161 3.4).

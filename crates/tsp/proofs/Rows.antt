@@ -1,6 +1,6 @@
 -- The definitions, computed on octets that OpenSSL writes for the same values.
-use Rattle.std.proofs.Common.{◌≡◌, pos, true, false, [], ◌∷◌, refl, Some}
-use Rattle.der.specs.Node.{encoding, length_octets, primitive}
+use Rattle.std.proofs.Common.{◌≡◌, pos, true, false, [], ◌∷◌, refl, Some, None}
+use Rattle.der.specs.Node.{Node, primitive, constructed, no_nodes, node, encoding, length_octets}
 use Rattle.der.specs.Number.{number_content}
 use Rattle.der.specs.ObjectIdentifier.{subidentifier_octets}
 use Rattle.gentime.specs.Calendar.{civil_date}
@@ -40,7 +40,7 @@ unfolding length_octets number_content subidentifier_octets
 request_octets = refl
 
 -- 1999-06-09T00:13:26.34352Z, 1,500 microseconds, ordering
-tst_info_octets : encoding (tst_info (answer asked (1079 ∷ 1 ∷ []) 128 928887206343520 1500 true)) ≡
+tst_info_octets : encoding (tst_info (answer asked (1079 ∷ 1 ∷ []) 128 928887206343520 1500 true None)) ≡
     48 ∷ 85 ∷ 2 ∷ 1 ∷ 1 ∷ 6 ∷ 3 ∷ 136 ∷ 55 ∷ 1 ∷ 48 ∷ 20 ∷ 48 ∷ 13 ∷ 6 ∷ 9 ∷ 96 ∷ 134 ∷ 72 ∷ 1 ∷ 101 ∷ 3 ∷ 4 ∷ 2 ∷ 1 ∷ 5
     ∷ 0 ∷ 4 ∷ 3 ∷ 1 ∷
     2 ∷ 3 ∷ 2 ∷ 2 ∷ 0 ∷ 128 ∷ 24 ∷ 21 ∷ 49 ∷ 57 ∷ 57 ∷ 57 ∷ 48 ∷ 54 ∷ 48 ∷ 57 ∷ 48 ∷ 48 ∷ 49 ∷ 51 ∷ 50 ∷ 54 ∷ 46 ∷ 51
@@ -49,3 +49,36 @@ tst_info_octets : encoding (tst_info (answer asked (1079 ∷ 1 ∷ []) 128 92888
     ∷ 7 ∷ 4 ∷ 1 ∷ 42 ∷ []
 unfolding length_octets number_content subidentifier_octets text_of spelling time_of civil_date
 tst_info_octets = refl
+
+-- a Name: commonName TSA, in one relative distinguished name of one attribute
+abbrev name : Node
+name =
+    constructed 48 (node (constructed 49 (node (constructed 48 (node (primitive 6 (85 ∷ 4 ∷ 3 ∷ []))
+    (node (primitive 12 (84 ∷ 83 ∷ 65 ∷ [])) no_nodes))) no_nodes)) no_nodes)
+
+-- SHA-256 of abc, and nothing else asked for
+abbrev plain : RequestValue
+plain = record {
+  version = pos 1;
+  imprint = record {
+    algorithm = 96 ∷ 840 ∷ 1 ∷ 101 ∷ 3 ∷ 4 ∷ 2 ∷ 1 ∷ [];
+    parameters = Some (primitive 5 []);
+    hash =
+        186 ∷ 120 ∷ 22 ∷ 191 ∷ 143 ∷ 1 ∷ 207 ∷ 234 ∷ 65 ∷ 65 ∷ 64 ∷ 222 ∷ 93 ∷ 174 ∷ 34 ∷ 35 ∷ 176 ∷ 3 ∷ 97 ∷ 163 ∷ 150
+        ∷ 23 ∷ 122 ∷ 156 ∷ 180 ∷ 16 ∷ 255 ∷ 97 ∷ 242 ∷ 0 ∷ 21 ∷ 173 ∷ [];
+  };
+  policy = None;
+  nonce = None;
+  cert_req = false;
+  extensions = [];
+}
+
+-- with the authority's name, 1970-01-01T00:00:00Z, one second
+named_octets : encoding (tst_info (answer plain (1079 ∷ 1 ∷ []) 1 0 1000000 false (Some name))) ≡
+    48 ∷ 104 ∷ 2 ∷ 1 ∷ 1 ∷ 6 ∷ 3 ∷ 136 ∷ 55 ∷ 1 ∷ 48 ∷ 49 ∷ 48 ∷ 13 ∷ 6 ∷ 9 ∷ 96 ∷ 134 ∷ 72 ∷ 1 ∷ 101 ∷ 3 ∷ 4 ∷ 2 ∷ 1
+    ∷ 5 ∷ 0 ∷ 4 ∷ 32 ∷ 186 ∷ 120 ∷ 22 ∷ 191 ∷ 143 ∷ 1 ∷ 207 ∷ 234 ∷ 65 ∷ 65 ∷ 64 ∷ 222 ∷ 93 ∷ 174 ∷ 34 ∷ 35 ∷ 176 ∷ 3
+    ∷ 97 ∷ 163 ∷ 150 ∷ 23 ∷ 122 ∷ 156 ∷ 180 ∷ 16 ∷ 255 ∷ 97 ∷ 242 ∷ 0 ∷ 21 ∷ 173 ∷ 2 ∷ 1 ∷ 1 ∷ 24 ∷ 15 ∷ 49 ∷ 57 ∷ 55
+    ∷ 48 ∷ 48 ∷ 49 ∷ 48 ∷ 49 ∷ 48 ∷ 48 ∷ 48 ∷ 48 ∷ 48 ∷ 48 ∷ 90 ∷ 48 ∷ 3 ∷ 2 ∷ 1 ∷ 1 ∷ 160 ∷ 18 ∷ 164 ∷ 16 ∷ 48 ∷ 14
+    ∷ 49 ∷ 12 ∷ 48 ∷ 10 ∷ 6 ∷ 3 ∷ 85 ∷ 4 ∷ 3 ∷ 12 ∷ 3 ∷ 84 ∷ 83 ∷ 65 ∷ []
+unfolding length_octets number_content subidentifier_octets text_of spelling time_of civil_date
+named_octets = refl

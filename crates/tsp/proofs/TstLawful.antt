@@ -1,8 +1,10 @@
 -- The TSTInfo that answers a request of at most 65,536 octets is lawful.
 use Rattle.std.proofs.Common.{◌≡◌, ℕ, suc, ◌+◌, ◌/◌, ◌%◌, ◌<◌, ◌≤◌, ◌^◌, Bool, true, false, cond, eqb, pos, List, []}
-use Rattle.std.proofs.Common.{◌∷◌, ◌++◌, length, ◌⊎◌, inl, inr, refl, sym, ap, ◌∙◌, subst, arith, length-append}
+use Rattle.std.proofs.Common.{◌∷◌, ◌++◌, length, ◌⊎◌, Option, Some, None, inl, inr, refl, sym, ap, ◌∙◌, subst}
+use Rattle.std.proofs.Common.{arith, length-append}
 use Rattle.der.specs.Node.{Node, primitive, constructed, Nodes, no_nodes, node, element, encoding, encodings, AreOctets}
 use Rattle.der.specs.Node.{IsLawful}
+use Rattle.std.specs.Option.{IfSome}
 use Rattle.der.specs.Tree.{nodes}
 use Rattle.der.specs.Number.{number_content}
 use Rattle.der.specs.ObjectIdentifier.{IsOid, oid_content}
@@ -14,7 +16,8 @@ use Rattle.tsp.specs.Grammar.{integer, boolean, octet_string, object_identifier,
 use Rattle.tsp.specs.Request.{ExtensionValue, RequestValue, IsRequest, Stated, Spells, sha256_identifier}
 use Rattle.tsp.specs.Request.{sha256_request, message_imprint, extension, extension_nodes, extensions_under, unstated}
 use Rattle.tsp.specs.Request.{time_stamp_req}
-use Rattle.tsp.specs.Tst.{TstValue, IsTst, accuracy_part, accuracy, generalized_time, tst_info, answer}
+use Rattle.tsp.specs.Tst.{TstValue, IsTst, IsTsaName, accuracy_part, accuracy, generalized_time, tsa, tst_info}
+use Rattle.tsp.specs.Tst.{IsName, answer}
 use Rattle.tsp.proofs.ObjectIdentifiers.{sha256_is_oid}
 use Rattle.tsp.proofs.Components.{before, nodes-append}
 use Rattle.tsp.proofs.Sizes.{IsWithin, AreWithin, wider, within_none, within_node, within_before, within_primitive}
@@ -165,53 +168,73 @@ repeats s r lawful short =
 
 -- the optional components of a TSTInfo, one after the other
 pub tst_tail : (t : TstValue) → nodes (false_by_default false t.ordering
-    ++ (optional integer t.nonce ++ extensions_under 161 [] t.extensions))
+    ++ (optional integer t.nonce ++ (optional tsa t.tsa ++ extensions_under 161 [] t.extensions)))
     ≡ before (false_by_default false t.ordering)
-    (before (optional integer t.nonce) (nodes (extensions_under 161 [] t.extensions)))
-tst_tail t = nodes-append _ _ ∙ ap (before (false_by_default false t.ordering)) (nodes-append _ _)
+    (before (optional integer t.nonce) (before (optional tsa t.tsa) (nodes (extensions_under 161 [] t.extensions))))
+tst_tail t = nodes-append _ _ ∙ ap (before (false_by_default false t.ordering))
+    (nodes-append _ _ ∙ ap (before (optional integer t.nonce)) (nodes-append _ _))
+
+-- the field tsa of a name for which there is room
+within_tsa : (name : Option Node) → IfSome name IsTsaName → AreWithin 31 65546 (nodes (optional tsa name))
+within_tsa None h = record { formed = tt; deep = omega arith; long = omega arith }
+within_tsa (Some n) h =
+    let name : IsWithin 29 65536 n = record { formed = h.formed; deep = h.depth; long = h.short } in
+    let alone = within_node 29 65536 0 n no_nodes name (within_none 29) in
+    let directory = within_constructed 164 29 65536 (node n no_nodes) (omega arith, omega arith) refl alone
+    (omega arith) in
+    let inside = within_node 30 65541 0 (constructed 164 (node n no_nodes)) no_nodes directory (within_none 30) in
+    let field = within_constructed 160 30 65541 _ (omega arith, omega arith) refl inside (omega arith) in
+    within_node 31 65546 0 (tsa n) no_nodes field (within_none 31)
 
 deeper : (depth more size : ℕ) (ns : Nodes) → AreWithin depth size ns → depth ≤ more → AreWithin more size ns
 deeper depth more size ns h d = record { formed = h.formed; deep = omega (arith, h.deep); long = h.long }
 
 tst_within : (t : TstValue) → IsTst t → IsWithin 31 65536 (message_imprint t.imprint)
     → AreWithin 31 65536 (nodes (optional integer t.nonce))
-    → AreWithin 31 65541 (nodes (extensions_under 161 [] t.extensions)) → IsLawful (tst_info t)
-tst_within t h imprint nonce extensions =
-    let tail = subst (AreWithin 31 131083) (sym (tst_tail t))
-    (within_before 31 6 131077 (false_by_default false t.ordering) _
+    → AreWithin 31 65541 (nodes (extensions_under 161 [] t.extensions)) → IfSome t.tsa IsTsaName → IsLawful (tst_info t)
+tst_within t h imprint nonce extensions name =
+    let tail = subst (AreWithin 31 196629) (sym (tst_tail t))
+    (within_before 31 6 196623 (false_by_default false t.ordering) _
     (deeper 1 31 6 _ (within_flag false t.ordering) (omega arith))
-    (within_before 31 65536 65541 (optional integer t.nonce) _ nonce extensions)) in
+    (within_before 31 65536 131087 (optional integer t.nonce) _ nonce
+    (within_before 31 65546 65541 (optional tsa t.tsa) _ (within_tsa t.tsa name) extensions))) in
     let after_accuracy = nodes (false_by_default false t.ordering
-    ++ (optional integer t.nonce ++ extensions_under 161 [] t.extensions)) in
+    ++ (optional integer t.nonce ++ (optional tsa t.tsa ++ extensions_under 161 [] t.extensions))) in
     let after_time = node (accuracy t.accuracy) after_accuracy in
     let after_serial = node (generalized_time t.gen_time) after_time in
     let after_imprint = node (integer (pos t.serial)) after_serial in
     let after_policy = node (message_imprint t.imprint) after_imprint in
     let after_version = node (object_identifier t.policy) after_policy in
     let up = λ (n : Node) (size : ℕ) (w : IsWithin 1 size n). wider 1 size 31 size n w (omega arith) (omega arith) in
-    let a = within_node 31 44 131083 (accuracy t.accuracy) after_accuracy
+    let a = within_node 31 44 196629 (accuracy t.accuracy) after_accuracy
     (wider 2 44 31 44 (accuracy t.accuracy) (within_accuracy t.accuracy h.most_accuracy) (omega arith)
     (omega arith)) tail in
-    let b = within_node 31 27 131127 (generalized_time t.gen_time) after_time
+    let b = within_node 31 27 196673 (generalized_time t.gen_time) after_time
     (up (generalized_time t.gen_time) 27 (within_time t.gen_time h.gen_time)) a in
-    let c = within_node 31 13 131154 (integer (pos t.serial)) after_serial
+    let c = within_node 31 13 196700 (integer (pos t.serial)) after_serial
     (up (integer (pos t.serial)) 13 (within_number 2 t.serial (inl refl) (omega (arith, h.last_serial)))) b in
-    let d = within_node 31 65536 131167 (message_imprint t.imprint) after_imprint imprint c in
-    let e = within_node 31 613 196703 (object_identifier t.policy) after_policy
+    let d = within_node 31 65536 196713 (message_imprint t.imprint) after_imprint imprint c in
+    let e = within_node 31 613 262249 (object_identifier t.policy) after_policy
     (up (object_identifier t.policy) 613 (within_oid t.policy h.policy)) d in
-    let f = within_node 31 13 197316 (integer (pos 1)) after_version
+    let f = within_node 31 13 262862 (integer (pos 1)) after_version
     (up (integer (pos 1)) 13 (within_number 2 1 (inl refl) (omega arith))) e in
-    let whole = within_constructed 48 31 197329 (node (integer (pos 1)) after_version) (omega arith, omega arith) refl f
+    let whole = within_constructed 48 31 262875 (node (integer (pos 1)) after_version) (omega arith, omega arith) refl f
     (omega arith) in
     record { formed = whole.formed; depth = whole.deep }
 
 pub tst_is_lawful : (octets : List ℕ) (r : RequestValue) (t : TstValue) → Spells octets r → length octets ≤ 65536
-    → IsTst t → t.imprint ≡ r.imprint → t.nonce ≡ r.nonce → t.extensions ≡ r.extensions → IsLawful (tst_info t)
-tst_is_lawful octets r t spells short h i n x =
+    → IsTst t → t.imprint ≡ r.imprint → t.nonce ≡ r.nonce → t.extensions ≡ r.extensions → IfSome t.tsa IsTsaName
+    → IsLawful (tst_info t)
+tst_is_lawful octets r t spells short h i n x name =
     let parts = repeats spells.stated r spells.lawful (omega (arith, short, ap length spells.spelled)) in
     tst_within t h (subst (λ v. IsWithin 31 65536 (message_imprint v)) (sym i) parts.imprint)
     (subst (λ v. AreWithin 31 65536 (nodes (optional integer v))) (sym n) parts.nonce)
-    (subst (λ v. AreWithin 31 65541 (nodes (extensions_under 161 [] v))) (sym x) parts.extensions)
+    (subst (λ v. AreWithin 31 65541 (nodes (extensions_under 161 [] v))) (sym x) parts.extensions) name
+
+-- a name for which there is room is a Name
+fitting_is_name : (name : Option Node) → IfSome name IsTsaName → IfSome name IsName
+fitting_is_name None h = tt
+fitting_is_name (Some n) h = h.name
 
 -- what writing a part of an accuracy adds
 pub part_adds : (t n : ℕ) (old new : List ℕ) → n < 4294967296 → new ≡ old ++ encodings (nodes (accuracy_part t n))
@@ -234,12 +257,12 @@ part_adds t n old new small e = by_test (eqb n 0) e
 
 -- what answers a request is within its ranges, and lawful
 pub answer_is_lawful : (octets : List ℕ) (r : RequestValue) → Spells octets r → length octets ≤ 65536
-    → (policy : List ℕ) (serial gen_time accuracy : ℕ) (ordering : Bool) → IsOid policy → 1 ≤ serial → serial < 2 ^ 63
-    → gen_time ≤ last_moment → 1 ≤ accuracy → accuracy ≤ 1000000
-    → IsTst (answer r policy serial gen_time accuracy ordering)
-    × IsLawful (tst_info (answer r policy serial gen_time accuracy ordering))
-answer_is_lawful octets r spells short policy serial gen_time accuracy ordering p s1 s2 g a1 a2 =
-    let ranges : IsTst (answer r policy serial gen_time accuracy ordering) = record {
+    → (policy : List ℕ) (serial gen_time accuracy : ℕ) (ordering : Bool) (tsa : Option Node) → IsOid policy
+    → 1 ≤ serial → serial < 2 ^ 63 → gen_time ≤ last_moment → 1 ≤ accuracy → accuracy ≤ 1000000 → IfSome tsa IsTsaName
+    → IsTst (answer r policy serial gen_time accuracy ordering tsa)
+    × IsLawful (tst_info (answer r policy serial gen_time accuracy ordering tsa))
+answer_is_lawful octets r spells short policy serial gen_time accuracy ordering tsa p s1 s2 g a1 a2 n =
+    let ranges : IsTst (answer r policy serial gen_time accuracy ordering tsa) = record {
       policy = p;
       algorithm = spells.proper.algorithm;
       some_serial = s1;
@@ -247,11 +270,12 @@ answer_is_lawful octets r spells short policy serial gen_time accuracy ordering 
       gen_time = g;
       some_accuracy = a1;
       most_accuracy = a2;
+      tsa = fitting_is_name tsa n;
       extensions = spells.proper.extensions;
     } in (
       ranges,
-      tst_is_lawful octets r (answer r policy serial gen_time accuracy ordering) spells short ranges refl refl
-          refl,
+      tst_is_lawful octets r (answer r policy serial gen_time accuracy ordering tsa) spells short ranges refl refl
+          refl n,
     )
 
 -- the extensions of a request, without stated FALSEs

@@ -8,7 +8,7 @@ use Rattle.der.specs.ObjectIdentifier.{IsOid}
 use Rattle.gentime.specs.GenTime.{last_moment, text_of}
 use Rattle.der.proofs.ReadingNodes.{encoding_ends}
 use Rattle.gentime.proofs.Moments.{same_text}
-use Rattle.tsp.specs.Tst.{TstValue, IsTst, SpellsTst, tst_info}
+use Rattle.tsp.specs.Tst.{TstValue, IsName, IsTst, SpellsTst, tst_info}
 use Rattle.tsp.specs.TstReading.{TstParts, parts_of, parts_in, info_of}
 use Rattle.tsp.specs.TstView.{parts_view}
 use Rattle.tsp.specs.View.{tst_view}
@@ -22,8 +22,9 @@ pub written_from_read : (n : Node) (p : TstParts) (t : TstValue) → IsFormed n 
 written_from_read n p t formed e same bound =
     let found = parts_takes n p formed e in
     let head : IsHead (parts_in t).head = subst (λ (x : TstParts). IsHead x.head) (sym same) found.0 in
+    let named : IfSome t.tsa IsName = subst (λ (x : TstParts). IfSome x.tsa IsName) (sym same) found.1.0 in
     let oids : AllByRecursion (λ x. IsOid x.identifier) t.extensions =
-    subst (λ (x : TstParts). AllByRecursion (λ y. IsOid y.identifier) x.extensions) (sym same) found.1.0 in
+    subst (λ (x : TstParts). AllByRecursion (λ y. IsOid y.identifier) x.extensions) (sym same) found.1.1.0 in
     let ranges : IsTst t = record {
       policy = head.policy;
       algorithm = head.algorithm;
@@ -32,9 +33,10 @@ written_from_read n p t formed e same bound =
       gen_time = bound;
       some_accuracy = head.some_accuracy;
       most_accuracy = head.most_accuracy;
+      tsa = named;
       extensions = oids;
     } in
-    (ranges, found.1.1 ∙ ap info_of (sym same))
+    (ranges, found.1.1.1 ∙ ap info_of (sym same))
 
 pub read_from_written : (n : Node) (t : TstValue) → IsTst t → n ≡ tst_info t → parts_of n ≡ Some (parts_in t)
 read_from_written n t h is =
@@ -46,7 +48,7 @@ read_from_written n t h is =
       some_accuracy = h.some_accuracy;
       most_accuracy = h.most_accuracy;
     } in
-    ap parts_of is ∙ parts_of-info_of (parts_in t) head h.extensions
+    ap parts_of is ∙ parts_of-info_of (parts_in t) head h.tsa h.extensions
 
 rebuilt : TstParts → ℕ → TstValue
 rebuilt p moment = record {
@@ -57,6 +59,7 @@ rebuilt p moment = record {
   accuracy = p.head.accuracy;
   ordering = p.ordering;
   nonce = p.nonce;
+  tsa = p.tsa;
   extensions = p.extensions;
 }
 

@@ -1,21 +1,22 @@
 -- What the grammar gives for a TSTInfo is read as its parts.
 use Rattle.std.proofs.Common.{◌≡◌, ℕ, zero, suc, ◌+◌, ◌*◌, ◌/◌, ◌%◌, ◌<◌, ◌≤◌, true, false, ltb, leb, pos, [], ◌∷◌}
-use Rattle.std.proofs.Common.{◌++◌, Some, refl, sym, ap, ◌∙◌, arith}
+use Rattle.std.proofs.Common.{◌++◌, Option, Some, None, refl, sym, ap, ◌∙◌, arith}
 use Rattle.std.specs.List.{AllByRecursion}
+use Rattle.std.specs.Option.{IfSome}
 use Rattle.std.proofs.lemmas.Bool.Decides.{nat_tests}
 use Rattle.std.proofs.lemmas.Bool.{eq-eqb}
 use borrow.Author.Tests.{ne_eqb}
-use Rattle.der.specs.Node.{primitive, Nodes, no_nodes, node}
+use Rattle.der.specs.Node.{Node, primitive, Nodes, no_nodes, node}
 use Rattle.der.specs.Tree.{nodes}
 use Rattle.der.specs.Number.{number_content}
 use Rattle.der.specs.ObjectIdentifier.{IsOid}
 use Rattle.der.proofs.NumberContents.{twos_value-number_content, is_shortest-number_content}
 use Rattle.tsp.specs.Grammar.{integer, object_identifier, optional, false_by_default}
 use Rattle.tsp.specs.Request.{message_imprint, extensions_under}
-use Rattle.tsp.specs.Tst.{accuracy_part, accuracy}
+use Rattle.tsp.specs.Tst.{IsName, accuracy_part, accuracy, tsa}
 use Rattle.tsp.specs.Reading.{integer_value_of, integer_of, only, end_of}
 use Rattle.tsp.specs.TstReading.{TstHead, TstParts, natural, natural_of, up_to, number_in, part_at, accuracy_of}
-use Rattle.tsp.specs.TstReading.{head_of, parts_of, info_of}
+use Rattle.tsp.specs.TstReading.{head_of, explicit_of, name_of, tsa_of, parts_of, info_of}
 use Rattle.tsp.proofs.Components.{before, nodes-append}
 use Rattle.tsp.proofs.RequestReads.{before-none, integer_of-integer, oid_in-object_identifier}
 use Rattle.tsp.proofs.RequestReads.{imprint_of-message_imprint, optional_at-some, optional_at-none}
@@ -114,29 +115,47 @@ head_of-head_before h rest is =
     rw (one, policy, imprint, serial, accurate) refl
 
 pub tail_parts : (p : TstParts) → nodes (false_by_default false p.ordering
-    ++ (optional integer p.nonce ++ extensions_under 161 [] p.extensions))
+    ++ (optional integer p.nonce ++ (optional tsa p.tsa ++ extensions_under 161 [] p.extensions)))
     ≡ before (false_by_default false p.ordering)
-    (before (optional integer p.nonce) (nodes (extensions_under 161 [] p.extensions)))
-tail_parts p = nodes-append _ _ ∙ ap (before (false_by_default false p.ordering)) (nodes-append _ _)
+    (before (optional integer p.nonce) (before (optional tsa p.tsa) (nodes (extensions_under 161 [] p.extensions))))
+tail_parts p = nodes-append _ _ ∙ ap (before (false_by_default false p.ordering))
+    (nodes-append _ _ ∙ ap (before (optional integer p.nonce)) (nodes-append _ _))
 
-pub parts_of-info_of : (p : TstParts) → IsHead p.head → AllByRecursion (λ e. IsOid e.identifier) p.extensions
-    → parts_of (info_of p) ≡ Some p
+-- a Name under its tags is read as that Name
+tsa_of-tsa : (n : Node) → IsName n → tsa_of (tsa n) ≡ Some n
+unfolding tsa_of explicit_of name_of only end_of
+tsa_of-tsa n h = rw (h.sequence) refl
+
+names_are_read : (name : Option Node) → IfSome name IsName → IfSome name (λ n. tsa_of (tsa n) ≡ Some n)
+names_are_read None h = tt
+names_are_read (Some n) h = tsa_of-tsa n h
+
+pub parts_of-info_of : (p : TstParts) → IsHead p.head → IfSome p.tsa IsName
+    → AllByRecursion (λ e. IsOid e.identifier) p.extensions → parts_of (info_of p) ≡ Some p
 unfolding parts_of only end_of
-parts_of-info_of p is oids =
+parts_of-info_of p is named oids =
     let ext = nodes (extensions_under 161 [] p.extensions) in
-    let nonces = before (optional integer p.nonce) ext in
-    let none_two : StartsApart 2 ext = apart-extensions_under 2 161 [] p.extensions (λ q. absurd (omega (arith, q))) in
+    let names = before (optional tsa p.tsa) ext in
+    let nonces = before (optional integer p.nonce) names in
+    let none_tsa : StartsApart 160 ext =
+    apart-extensions_under 160 161 [] p.extensions (λ q. absurd (omega (arith, q))) in
+    let none_two : StartsApart 2 names =
+    apart-optional 2 160 tsa p.tsa ext (λ x. refl) (λ q. absurd (omega (arith, q)))
+    (apart-extensions_under 2 161 [] p.extensions (λ q. absurd (omega (arith, q)))) in
     let none_one : StartsApart 1 nonces =
-    apart-optional 1 2 integer p.nonce ext (λ x. refl) (λ q. absurd (omega (arith, q)))
-    (apart-extensions_under 1 161 [] p.extensions (λ q. absurd (omega (arith, q)))) in
+    apart-optional 1 2 integer p.nonce names (λ x. refl) (λ q. absurd (omega (arith, q)))
+    (apart-optional 1 160 tsa p.tsa ext (λ x. refl) (λ q. absurd (omega (arith, q)))
+    (apart-extensions_under 1 161 [] p.extensions (λ q. absurd (omega (arith, q))))) in
     let flag = flag_at-false_by_default false false p.ordering nonces (never false) none_one in
-    let nonce = optional_at-optional 2 integer_of integer p.nonce ext (λ x. refl)
+    let nonce = optional_at-optional 2 integer_of integer p.nonce names (λ x. refl)
     (any (λ x. integer_of (integer x) ≡ Some x) p.nonce integer_of-integer) none_two in
+    let name = optional_at-optional 160 tsa_of tsa p.tsa ext (λ x. refl) (names_are_read p.tsa named) none_tsa in
     let extensions = extensions_at-extensions_under false 161 [] p.extensions tt oids in
     rw (
       tail_parts p,
       head_of-head_before p.head (before (false_by_default false p.ordering) nonces) is,
       flag,
       nonce,
+      name,
       extensions,
     ) refl

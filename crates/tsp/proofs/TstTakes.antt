@@ -1,7 +1,7 @@
 -- What is read as a TSTInfo's parts is what the grammar gives for them.
 use Rattle.std.proofs.Common.{◌≡◌, ℕ, ◌+◌, ◌*◌, ◌/◌, ◌%◌, ◌≤◌, Bool, true, false, ltb, leb, ◌&&◌, ℤ, pos, negsuc, List}
 use Rattle.std.proofs.Common.{[], ◌∷◌, ◌++◌, Option, Some, None, ◌⊎◌, inl, inr, refl, sym, ap, ◌∙◌, subst, arith}
-use Rattle.std.specs.Option.{option_and_then, unwrap_or}
+use Rattle.std.specs.Option.{option_and_then, unwrap_or, IfSome}
 use Rattle.std.specs.List.{AllByRecursion}
 use Rattle.std.proofs.lemmas.Option.{option_and_then_some, cond_some}
 use Rattle.std.proofs.lemmas.Bool.{leb-true}
@@ -12,11 +12,11 @@ use Rattle.der.specs.Number.{number_content}
 use Rattle.der.specs.ObjectIdentifier.{IsOid}
 use Rattle.tsp.specs.Grammar.{integer, object_identifier, sequence, optional, false_by_default}
 use Rattle.tsp.specs.Request.{ExtensionValue, message_imprint, extension, extension_nodes, extensions_under}
-use Rattle.tsp.specs.Tst.{accuracy_part, accuracy}
+use Rattle.tsp.specs.Tst.{IsName, accuracy_part, accuracy, tsa}
 use Rattle.tsp.specs.Reading.{integer_value_of, integer_of, oid_in, only, imprint_of, optional_at, flag_at}
 use Rattle.tsp.specs.Reading.{extensions_at}
 use Rattle.tsp.specs.TstReading.{TstHead, TstParts, natural, natural_of, up_to, number_in, part_at, accuracy_of}
-use Rattle.tsp.specs.TstReading.{head_of, parts_of, info_of}
+use Rattle.tsp.specs.TstReading.{head_of, explicit_of, name_of, tsa_of, parts_of, info_of}
 use Rattle.tsp.proofs.Components.{before, contents_takes, components_takes, front_takes}
 use Rattle.tsp.proofs.RequestReads.{before-none, IsAllowed}
 use Rattle.tsp.proofs.RequestTakes.{number_takes, integer_takes, oid_takes, imprint_takes, only_takes}
@@ -206,15 +206,44 @@ strict_extensions tag stated [] allowed = refl
 strict_extensions tag stated (e ∷ es) allowed =
     ap (λ xs. constructed tag (nodes xs) ∷ []) (strict_nodes stated (e ∷ es) allowed)
 
+explicit_takes : (tag : ℕ) (n m : Node) → explicit_of tag n ≡ Some m → n ≡ constructed tag (node m no_nodes)
+unfolding explicit_of
+explicit_takes tag n m e =
+    option_and_then_some _ (components_of tag n) m e (λ members e1 r1.
+    option_and_then_some _ (first_of members) m r1 (λ first e2 r2.
+    let end = only_takes first.1 first.0 m r2 in
+    components_takes tag n members e1 ∙ ap (constructed tag) (front_takes members first e2
+    ∙ ap (node first.0) end.0 ∙ ap (λ x. node x no_nodes) end.1)))
+
+name_takes : (n m : Node) → name_of n ≡ Some m → (n ≡ m) × IsName m
+unfolding name_of
+name_takes n m e =
+    option_and_then_some _ (components_of 48 n) m e (λ components e1 r1.
+    let same : n ≡ m = cc in
+    (same, subst IsName same (record { components = components; sequence = components_takes 48 n components e1 })))
+
+-- what is read as a name under tsa is such a name, under its tags
+pub tsa_takes : (n m : Node) → tsa_of n ≡ Some m → IsName m × (n ≡ tsa m)
+unfolding tsa_of
+tsa_takes n m e =
+    option_and_then_some _ (explicit_of 160 n) m e (λ general_name e1 r1.
+    option_and_then_some _ (explicit_of 164 general_name) m r1 (λ name e2 r2.
+    let is = name_takes name m r2 in (
+      is.1,
+      explicit_takes 160 n general_name e1 ∙ ap (λ x. constructed 160 (node x no_nodes))
+          (explicit_takes 164 general_name name e2 ∙ ap (λ x. constructed 164 (node x no_nodes)) is.0),
+    )))
+
 pub parts_takes : (n : Node) (p : TstParts) → IsFormed n → parts_of n ≡ Some p → IsHead p.head
-    × (AllByRecursion (λ x. IsOid x.identifier) p.extensions × (n ≡ info_of p))
+    × (IfSome p.tsa IsName × (AllByRecursion (λ x. IsOid x.identifier) p.extensions × (n ≡ info_of p)))
 unfolding parts_of
 parts_takes n p formed e =
     option_and_then_some _ (components_of 48 n) p e (λ members e1 r1.
     option_and_then_some _ (head_of members) p r1 (λ head e2 r2.
     option_and_then_some _ (flag_at false head.1) p r2 (λ ordering e3 r3.
     option_and_then_some _ (optional_at 2 integer_of ordering.1) p r3 (λ nonce e4 r4.
-    option_and_then_some _ (extensions_at false 161 nonce.1) p r4 (λ extensions e5 r5.
+    option_and_then_some _ (optional_at 160 tsa_of nonce.1) p r4 (λ name e5 r5.
+    option_and_then_some _ (extensions_at false 161 name.1) p r5 (λ extensions e6 r6.
     let is_n = components_takes 48 n members e1 in
     let formed_members : AreFormed members = (subst IsFormed is_n formed).2 in
     let of_head = head_takes members head formed_members e2 in
@@ -225,12 +254,14 @@ parts_takes n p formed e =
     (subst AreFormed of_flag.1.1 formed_rest) in
     let of_nonce = optional_takes 2 integer_of integer (λ x. Unit {0}) ordering.1 nonce e4
     (λ m x q r. (tt, integer_takes m x (subst AreFormed q formed_flag).0 r)) in
-    let of_extensions = extensions_at_takes false 161 nonce.1 extensions e5 in
-    let end = only_takes extensions.1 _ p r5 in
+    let of_name = optional_takes 160 tsa_of tsa IsName nonce.1 name e5 (λ m x q r. tsa_takes m x r) in
+    let of_extensions = extensions_at_takes false 161 name.1 extensions e6 in
+    let end = only_takes extensions.1 _ p r6 in
     let found : TstParts = record {
       head = head.0;
       ordering = ordering.0;
       nonce = nonce.0;
+      tsa = name.0;
       extensions =
           extensions.0;
     } in
@@ -239,14 +270,18 @@ parts_takes n p formed e =
     ∙ ap (head_before head.0) (of_flag.1.1
     ∙ ap (λ s. before (false_by_default s ordering.0) ordering.1) (none_stated of_flag.0 of_flag.1.0)
     ∙ ap (before (false_by_default false ordering.0))
-    (of_nonce.1 ∙ ap (before (optional integer nonce.0)) (of_extensions.1.1.1
+    (of_nonce.1 ∙ ap (before (optional integer nonce.0)) (of_name.1 ∙ ap (before (optional tsa name.0))
+    (of_extensions.1.1.1
     ∙ ap (λ xs. before xs extensions.1) (strict_extensions 161 of_extensions.1.0 extensions.0 of_extensions.1.1.0)
-    ∙ ap (before (extensions_under 161 [] extensions.0)) end.0 ∙ before-none (extensions_under 161 [] extensions.0)))
+    ∙ ap (before (extensions_under 161 [] extensions.0)) end.0 ∙ before-none (extensions_under 161 [] extensions.0))))
     ∙ sym (tail_parts found))) in (
       subst (λ (x : TstParts). IsHead x.head) end.1 of_head.0,
       (
-        subst (λ (x : TstParts). AllByRecursion (λ y. IsOid y.identifier) x.extensions) end.1 of_extensions.0,
-        whole
-            ∙ ap info_of end.1,
+        subst (λ (x : TstParts). IfSome x.tsa IsName) end.1 of_name.0,
+        (
+          subst (λ (x : TstParts). AllByRecursion (λ y. IsOid y.identifier) x.extensions) end.1 of_extensions.0,
+          whole
+              ∙ ap info_of end.1,
+        ),
       ),
-    ))))))
+    )))))))

@@ -7,7 +7,7 @@ use Rattle.tsp.specs.Grammar.{sequence, integer, object_identifier, optional, fa
 use Rattle.tsp.specs.Reading.{◌>>=◌, only, optional_at, integer_value_of, integer_of, oid_in, imprint_of, flag_at}
 use Rattle.tsp.specs.Reading.{extensions_at}
 use Rattle.tsp.specs.Request.{ImprintValue, ExtensionValue, message_imprint, extensions_under}
-use Rattle.tsp.specs.Tst.{TstValue, accuracy}
+use Rattle.tsp.specs.Tst.{TstValue, accuracy, tsa}
 
 -- the first five parts of a TSTInfo after its version, of which the time is still its octets
 pub record TstHead : Type 0 where
@@ -71,7 +71,26 @@ pub record TstParts : Type 0 where
   pub head : TstHead
   pub ordering : Bool
   pub nonce : Option ℤ
+  pub tsa : Option Node
   pub extensions : List ExtensionValue
+
+-- the one value under an explicit tag
+unfoldable pub explicit_of : ℕ → Node → Option Node
+explicit_of tag n = do
+  members ← components_of tag n
+  first ← first_of members
+  only first.1 first.0
+
+-- a Name: a SEQUENCE
+unfoldable pub name_of : Node → Option Node
+name_of n = components_of 0x30 n >>= λ components. Some n
+
+-- the Name under directoryName under tsa
+unfoldable pub tsa_of : Node → Option Node
+tsa_of n = do
+  general_name ← explicit_of 0xa0 n
+  name ← explicit_of 0xa4 general_name
+  name_of name
 
 unfoldable pub parts_of : Node → Option TstParts
 parts_of n = do
@@ -79,8 +98,15 @@ parts_of n = do
   head ← head_of members
   ordering ← flag_at false head.1
   nonce ← optional_at 0x02 integer_of ordering.1
-  extensions ← extensions_at false 0xa1 nonce.1
-  only extensions.1 (record { head = head.0; ordering = ordering.0; nonce = nonce.0; extensions = extensions.0 })
+  tsa ← optional_at 0xa0 tsa_of nonce.1
+  extensions ← extensions_at false 0xa1 tsa.1
+  only extensions.1 (record {
+    head = head.0;
+    ordering = ordering.0;
+    nonce = nonce.0;
+    tsa = tsa.0;
+    extensions = extensions.0;
+  })
 
 -- the TSTInfo of its parts
 abbrev pub info_of : TstParts → Node
@@ -93,7 +119,8 @@ info_of p =
     ∷ accuracy p.head.accuracy
     ∷ (false_by_default false p.ordering
     ++ (optional integer p.nonce
-    ++ extensions_under 0xa1 [] p.extensions)))
+    ++ (optional tsa p.tsa
+    ++ extensions_under 0xa1 [] p.extensions))))
 
 -- the parts of a TSTInfo, with the time as its octets
 abbrev pub parts_in : TstValue → TstParts
@@ -107,5 +134,6 @@ parts_in t = record {
   };
   ordering = t.ordering;
   nonce = t.nonce;
+  tsa = t.tsa;
   extensions = t.extensions;
 }

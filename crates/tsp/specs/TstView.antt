@@ -1,4 +1,6 @@
 -- What the parts of a TSTInfo stand for while it is read.
+use Rattle.std.specs.Prelude.{option_map}
+use Rattle.der.specs.DataValueView.{value_view}
 use Rattle.tsp.specs.TstReading.{TstHead, TstParts}
 use Rattle.tsp.specs.View.{imprint_view}
 use Rattle.tsp.specs.declared.tst_reading.Head.{Head}
@@ -18,5 +20,6 @@ parts_view parts = record {
   head = head_view parts.head;
   ordering = parts.ordering;
   nonce = parts.nonce;
+  tsa = option_map value_view parts.tsa;
   extensions = parts.extensions;
 }

@@ -41,5 +41,6 @@ tst_view tst = record {
   accuracy = tst.accuracy;
   ordering = tst.ordering;
   nonce = tst.nonce;
+  tsa = option_map value_view tst.tsa;
   extensions = tst.extensions;
 }

@@ -1,6 +1,6 @@
 ghost use Rattle.std.specs.Prelude.{◌≡◌, ◌↔◌, ◌<◌, ◌≤◌, ◌^◌, ℕ, Bool, List, [], Option, Some, None, Err};
-ghost use Rattle.std.specs.Prelude.{option_map, length, IfOk, IfErr, IsTrue, ◌⊎◌, MatchResult};
-ghost use Rattle.der.specs.Node.{primitive, encoding, AreOctets, IsLawful};
+ghost use Rattle.std.specs.Prelude.{option_map, length, IfOk, IfErr, IfSome, IsTrue, ◌⊎◌, MatchResult};
+ghost use Rattle.der.specs.Node.{Node, primitive, encoding, AreOctets, IsLawful};
 ghost use Rattle.der.specs.Number.{number_content};
 ghost use Rattle.der.specs.ObjectIdentifier.{IsOid, oid_content};
 ghost use Rattle.der.specs.DataValueView.{value_view};
@@ -9,7 +9,7 @@ ghost use Rattle.tsp.specs.Reading.{request_of, only};
 ghost use Rattle.tsp.specs.Request.{RequestValue, IsRequest, unstated, time_stamp_req, sha256_request, Spells};
 ghost use Rattle.tsp.specs.Rules.{HasVersionOne, HasPlainParameters};
 ghost use Rattle.tsp.specs.Spellings.{HasNoFalse, AreRequest};
-ghost use Rattle.tsp.specs.Tst.{TstValue, IsTst, tst_info, answer};
+ghost use Rattle.tsp.specs.Tst.{TstValue, IsTst, IsTsaName, tst_info, answer};
 ghost use Rattle.tsp.specs.View.{request_view, tst_view};
 ghost use Rattle.tsp.specs.declared.fault.TspFault.TheVariants.{Form, TooLong};
 
@@ -137,8 +137,9 @@ impl<'a> Request<'a> {
     }
 
     /// The TSTInfo that answers the request (RFC 3161 2.4.2): imprint, nonce and extensions as they stand in it, and
-    /// the policy, serial number, genTime, accuracy (in microseconds) and ordering that are given. Each is taken as it
-    /// is: that the accuracy can be stated, and the serial number is a new one, is the caller's.
+    /// the policy, serial number, genTime, accuracy (in microseconds), ordering and name of the authority that are
+    /// given. Each is taken as it is: that the accuracy can be stated, the serial number is a new one, and the name is
+    /// a Name, is the caller's.
     pub fn into_tst_info(
         self,
         policy: ObjectIdentifier<'a>,
@@ -146,8 +147,10 @@ impl<'a> Request<'a> {
         gen_time: GenTime,
         accuracy: u32,
         ordering: bool,
+        tsa: Option<DataValue<'a>>,
     ) -> TstInfo<'a>
-        ensures { tst_view result ≡ answer (request_view self.entry) policy.entry serial gen_time accuracy ordering }
+        ensures { tst_view result ≡ answer (request_view self.entry) policy.entry serial gen_time accuracy ordering
+            (option_map value_view tsa.entry) }
     {
         TstInfo {
             policy,
@@ -157,6 +160,7 @@ impl<'a> Request<'a> {
             accuracy,
             ordering,
             nonce: self.nonce,
+            tsa,
             extensions: self.extensions,
         }
     }
@@ -191,7 +195,7 @@ fn sha256_parts(digest: &[u8; 32], cert_req: bool) -> Request<'_>
 }
 
 /// Requests and what is said of them: octets spell one request; the TSTInfo that answers a request of at most 65,536
-/// octets is lawful, so that `write_tst` writes it.
+/// octets is lawful, so that `write_tst` writes it; the authority's name in it has at most 29 levels and 65,536 octets.
 pub fn requests_have_one_reading()
     ensures one { (octets : List ℕ) (r s : RequestValue) → Spells octets r → Spells octets s → r ≡ s }
 
@@ -211,12 +215,13 @@ pub fn requests_have_one_reading()
         → Spells (encoding (time_stamp_req unstated (sha256_request digest cert_req))) (sha256_request digest cert_req)
         × (length (encoding (time_stamp_req unstated (sha256_request digest cert_req))) ≤ 65536) }
     ensures lawful { (octets : List ℕ) (r : RequestValue) (t : TstValue) → Spells octets r → length octets ≤ 65536
-        → IsTst t → t.imprint ≡ r.imprint → t.nonce ≡ r.nonce → t.extensions ≡ r.extensions → IsLawful (tst_info t) }
+        → IsTst t → t.imprint ≡ r.imprint → t.nonce ≡ r.nonce → t.extensions ≡ r.extensions → IfSome t.tsa IsTsaName
+        → IsLawful (tst_info t) }
     ensures answer { (octets : List ℕ) (r : RequestValue) → Spells octets r → length octets ≤ 65536
-        → (policy : List ℕ) (serial gen_time accuracy : ℕ) (ordering : Bool) → IsOid policy → 1 ≤ serial
-        → serial < 2 ^ 63 → gen_time ≤ last_moment → 1 ≤ accuracy → accuracy ≤ 1000000
-        → IsTst (answer r policy serial gen_time accuracy ordering)
-        × IsLawful (tst_info (answer r policy serial gen_time accuracy ordering)) }
+        → (policy : List ℕ) (serial gen_time accuracy : ℕ) (ordering : Bool) (tsa : Option Node) → IsOid policy
+        → 1 ≤ serial → serial < 2 ^ 63 → gen_time ≤ last_moment → 1 ≤ accuracy → accuracy ≤ 1000000
+        → IfSome tsa IsTsaName → IsTst (answer r policy serial gen_time accuracy ordering tsa)
+        × IsLawful (tst_info (answer r policy serial gen_time accuracy ordering tsa)) }
 {}
 
 /// Reads a TimeStampReq (RFC 3161 2.4.1) in its distinguished encoding where it lies, but that certReq's and each

@@ -2,10 +2,11 @@ use crate::extensions::Extensions;
 use crate::imprint::MessageImprint;
 use crate::integer::Integer;
 use crate::object_identifier::ObjectIdentifier;
+use der::DataValue;
 use gentime::GenTime;
 
-/// What a token says (RFC 3161 2.4.2, TSTInfo), of version 1 and without the field tsa. Its parts lie in a request, or
-/// in the octets that `read_tst` read.
+/// What a token says (RFC 3161 2.4.2, TSTInfo), of version 1. Its parts lie in a request, in a certificate, or in the
+/// octets that `read_tst` read.
 #[derive(Debug, Drop)]
 pub struct TstInfo<'a> {
     /// The policy under which the token was given.
@@ -22,6 +23,8 @@ pub struct TstInfo<'a> {
     pub ordering: bool,
     /// The request's nonce.
     pub nonce: Option<Integer<'a>>,
+    /// The authority's name, a Name (RFC 5280 4.1.2.4); as the field tsa it is a GeneralName of the kind directoryName.
+    pub tsa: Option<DataValue<'a>>,
     /// The request's extensions, in their order.
     pub extensions: Extensions<'a>,
 }

@@ -8,7 +8,7 @@ ghost use Rattle.gentime.specs.GenTime.{last_moment, text_of};
 ghost use Rattle.tsp.specs.Reading.{only, optional_at};
 ghost use Rattle.tsp.specs.Tst.{TstValue, IsTst, SpellsTst, tst_info};
 ghost use Rattle.tsp.specs.TstReading.{parts_in, natural, natural_of, up_to, number_in, part_at, accuracy_of, head_of};
-ghost use Rattle.tsp.specs.TstReading.{parts_of};
+ghost use Rattle.tsp.specs.TstReading.{explicit_of, name_of, tsa_of, parts_of};
 ghost use Rattle.tsp.specs.TstView.{head_view, parts_view};
 ghost use Rattle.tsp.specs.View.{tst_view};
 ghost use Rattle.tsp.specs.declared.fault.TspFault.TheVariants.{Form};
@@ -19,7 +19,7 @@ use crate::imprint::MessageImprint;
 use crate::integer::Integer;
 use crate::object_identifier::ObjectIdentifier;
 use crate::reading::{end, extensions, flag, imprint_from, oid_from, optional_integer};
-use crate::tags::{MICROS, MILLIS, TST_EXTENSIONS};
+use crate::tags::{DIRECTORY_NAME, MICROS, MILLIS, TSA, TST_EXTENSIONS};
 use crate::tst::TstInfo;
 use der::{DataValue, DataValues, Tag, is_number_content, read_value};
 
@@ -39,11 +39,13 @@ struct Parts<'a> {
     head: Head<'a>,
     ordering: bool,
     nonce: Option<Integer<'a>>,
+    tsa: Option<DataValue<'a>>,
     extensions: Extensions<'a>,
 }
 
 /// Reads a TSTInfo (RFC 3161 2.4.2) where it lies: accepts exactly what `write_tst` writes, of any length. It takes no
-/// memory. Refused only as `Form`, where no TSTInfo has these octets.
+/// memory. Refused only as `Form`, where no TSTInfo has these octets; a field tsa of another kind than directoryName,
+/// or whose name is no SEQUENCE, is such a case.
 pub fn read_tst(octets: &[u8]) -> Result<TstInfo<'_>, TspFault>
     ensures found { IfOk result (λ tst. SpellsTst octets.now (tst_view tst)) }
     ensures only { (t : TstValue) → SpellsTst octets.now t → MatchResult result (λ tst. tst_view tst ≡ t) (λ fault. ⊥) }
@@ -81,6 +83,7 @@ fn tst_from(parts: Parts<'_>) -> Option<TstInfo<'_>>
         head,
         ordering,
         nonce,
+        tsa,
         extensions,
     } = parts;
     let gen_time = gentime::read(head.time).ok()?;
@@ -93,6 +96,7 @@ fn tst_from(parts: Parts<'_>) -> Option<TstInfo<'_>>
         accuracy: head.accuracy,
         ordering,
         nonce,
+        tsa,
         extensions,
     })
 }
@@ -194,6 +198,48 @@ fn read_head<'a>(members: &mut DataValues<'a>) -> Option<Head<'a>>
     })
 }
 
+/// The one value under an explicit tag.
+#[tactic(auto, unfolding(crate::specs::TstReading::explicit_of, crate::specs::Reading::only))]
+fn explicit(tag: Tag, value: DataValue<'_>) -> Option<DataValue<'_>>
+    ensures { option_map value_view result ≡ explicit_of tag.octet (value_view value.entry) }
+{
+    let mut members = value.components_under(tag)?;
+    let first = members.next()?;
+    end(&members)?;
+    Some(first)
+}
+
+/// A Name, which is a SEQUENCE (RFC 5280 4.1.2.4).
+#[tactic(auto, unfolding(crate::specs::TstReading::name_of))]
+fn name_from(value: DataValue<'_>) -> Option<DataValue<'_>>
+    ensures { option_map value_view result ≡ name_of (value_view value.entry) }
+{
+    let _components = value.components_under(Tag::SEQUENCE)?;
+    Some(value)
+}
+
+/// The Name that the field tsa has: a GeneralName of the kind directoryName (RFC 5280 4.2.1.6).
+#[tactic(auto, unfolding(crate::specs::TstReading::tsa_of))]
+fn tsa_from(value: DataValue<'_>) -> Option<DataValue<'_>>
+    ensures { option_map value_view result ≡ tsa_of (value_view value.entry) }
+{
+    let general_name = explicit(TSA, value)?;
+    let name = explicit(DIRECTORY_NAME, general_name)?;
+    name_from(name)
+}
+
+/// The field tsa, where it stands.
+#[tactic(auto, unfolding(crate::specs::Reading::optional_at))]
+fn optional_tsa<'a>(members: &mut DataValues<'a>) -> Option<Option<DataValue<'a>>>
+    ensures { option_map (λ found. (option_map value_view found, values_view members.new)) result
+        ≡ optional_at 0xa0 tsa_of (values_view members.old) }
+{
+    match members.next_under(TSA) {
+        None => Some(None),
+        Some(value) => Some(Some(tsa_from(value)?)),
+    }
+}
+
 #[tactic(auto, unfolding(crate::specs::TstReading::parts_of, crate::specs::Reading::only))]
 fn parts_from(value: DataValue<'_>) -> Option<Parts<'_>>
     ensures { option_map parts_view result ≡ parts_of (value_view value.entry) }
@@ -202,12 +248,14 @@ fn parts_from(value: DataValue<'_>) -> Option<Parts<'_>>
     let head = read_head(&mut members)?;
     let ordering = flag(false, &mut members)?;
     let nonce = optional_integer(&mut members)?;
+    let tsa = optional_tsa(&mut members)?;
     let extensions = extensions(false, TST_EXTENSIONS, &mut members)?;
     end(&members)?;
     Some(Parts {
         head,
         ordering,
         nonce,
+        tsa,
         extensions,
     })
 }

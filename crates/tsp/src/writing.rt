@@ -1,11 +1,12 @@
 //! From messages to octets, from the inside outwards.
-ghost use Rattle.std.specs.Prelude.{◌≡◌, ◌≤◌, ◌<◌, ◌^◌, ◌++◌, false, [], length, OnOk, IfOk, IfErr};
+ghost use Rattle.std.specs.Prelude.{◌≡◌, ◌≤◌, ◌<◌, ◌^◌, ◌++◌, false, [], length, option_map, OnOk, IfOk, IfErr};
 ghost use Rattle.der.specs.Node.{element, encoding, encodings, IsFormed, AreFormed, IsLawful};
+ghost use Rattle.der.specs.DataValueView.{value_view};
 ghost use Rattle.der.specs.Tree.{nodes};
 ghost use Rattle.tsp.specs.Grammar.{integer, object_identifier, optional, false_by_default};
 ghost use Rattle.tsp.specs.Request.{time_stamp_req, unstated, algorithm_identifier, message_imprint, extension};
 ghost use Rattle.tsp.specs.Request.{extension_nodes, extensions_under};
-ghost use Rattle.tsp.specs.Tst.{IsTst, accuracy, accuracy_part, tst_info};
+ghost use Rattle.tsp.specs.Tst.{IsTst, accuracy, accuracy_part, tsa, tst_info};
 ghost use Rattle.tsp.specs.View.{request_view, imprint_view, extension_view, tst_view};
 ghost use Rattle.tsp.specs.declared.fault.TspFault.TheVariants.{Memory};
 
@@ -16,9 +17,9 @@ use crate::integer::Integer;
 use crate::message::Message;
 use crate::object_identifier::ObjectIdentifier;
 use crate::request::Request;
-use crate::tags::{MICROS, MILLIS, REQUEST_EXTENSIONS, TST_EXTENSIONS};
+use crate::tags::{DIRECTORY_NAME, MICROS, MILLIS, REQUEST_EXTENSIONS, TSA, TST_EXTENSIONS};
 use crate::tst::TstInfo;
-use der::Tag;
+use der::{DataValue, Tag};
 use std::alloc::Global;
 
 /// Appends a part of an accuracy where it isn't zero.
@@ -139,6 +140,22 @@ fn append_nonce(writer: &mut Message, nonce: &Option<Integer<'_>>) -> Result<(),
     }
 }
 
+/// Appends the field tsa where there is one: the Name as directoryName of a GeneralName (RFC 3161 2.4.2, RFC 5280
+/// 4.2.1.6).
+fn append_tsa(writer: &mut Message, name: &Option<DataValue<'_>>) -> Result<(), TspFault>
+    requires { AreFormed (nodes (optional tsa (option_map value_view name.now))) }
+    ensures ok { OnOk result (writer.new
+        ≡ writer.old ++ encodings (nodes (optional tsa (option_map value_view name.now)))) }
+    ensures memory { IfErr result (λ fault. fault ≡ Memory) }
+{
+    let Some(name) = name else {
+        return Ok(());
+    };
+    let mut general_name = writer.inner();
+    general_name.append_value(DIRECTORY_NAME, name.octets())?;
+    writer.append_value(TSA, general_name.as_slice())
+}
+
 /// Appends the components of a TSTInfo to a message without octets: its contents octets (RFC 3161 2.4.2).
 fn append_tst(members: &mut Message, tst: &TstInfo<'_>) -> Result<(), TspFault>
     requires empty { members.old ≡ [] }
@@ -156,11 +173,12 @@ fn append_tst(members: &mut Message, tst: &TstInfo<'_>) -> Result<(), TspFault>
     append_accuracy(members, tst.accuracy)?;
     append_flag(members, tst.ordering)?;
     append_nonce(members, &tst.nonce)?;
+    append_tsa(members, &tst.tsa)?;
     append_extensions(members, TST_EXTENSIONS, tst.extensions.again())?;
     Ok(())
 }
 
-/// Writes a TSTInfo in its one encoding (RFC 3161 2.4.2): the accuracy is always stated, and ordering, nonce and
+/// Writes a TSTInfo in its one encoding (RFC 3161 2.4.2): the accuracy is always stated, and ordering, nonce, tsa and
 /// extensions only where there is one, `critical` only where it is TRUE. The caller hands in parts within their ranges,
 /// of which the TSTInfo is a lawful value; `requests_have_one_reading` says so of what answers a request. Refused only
 /// for want of memory, as `Memory`.

@@ -14,7 +14,7 @@ returns-in-Ok-clause-found c =
 pub returns-in-Ok-clause-only : goal.returns-in-Ok-clause-only
 returns-in-Ok-clause-only c = λ p is.
     outline_only outline_view c.outline_from.result (value_view c.in-Ok.value) p c.outline_from.ensures
-    (c.in-Ok.ensures.only (certificate p) is.lawful is.encoded) is.shortest
+    (c.in-Ok.ensures.only (certificate p) is.lawful is.encoded) is.shortest is.shallow
 
 pub returns-in-Err-clause-only : goal.returns-in-Err-clause-only
 returns-in-Err-clause-only c = λ p is. c.in-Err.ensures.only (certificate p) is.lawful is.encoded

@@ -78,3 +78,19 @@ returns-in_err-anonymous c =
       ← c.in_ok-max_age_us.ensures.value,
     )
     (step_refused c.in_err-anonymous.field-0.0 _ _ c.in_err-anonymous.ensures))
+
+pub returns-in_err-tsa_name : goal.returns-in_err-tsa_name
+unfolding counter_of
+returns-in_err-tsa_name c =
+    answers_fault _ c.from_residual-in_err-tsa_name.result c.in_err-tsa_name.field-0.0 _
+    c.from_residual-in_err-tsa_name.ensures.1
+    (fault_is_first c.in_err-tsa_name.field-0.0 _ (rw (
+      ← c.in_ok-only.ensures,
+      ← c.in_ok-accuracy_us.ensures.value,
+      ← c.in_ok-fraction_digits.ensures.value,
+      ← c.in_ok-ordering.ensures,
+      ← c.in_ok-drift_ppb.ensures.value,
+      ← c.in_ok-max_age_us.ensures.value,
+      c.in_ok-anonymous.ensures,
+      ← c.in_err-tsa_name.ensures,
+    ) refl))

@@ -1,10 +1,9 @@
 use Rattle.std.proofs.Common.{◌≡◌, ◌∙◌, ℕ, List, ◌++◌, Ok, Err, ap, arith, drop, inl, inr, refl, subst, sym}
-use Rattle.service.specs.Checks.{WantedValue, wanted_by}
+use Rattle.service.specs.Checks.{wanted_by}
 use Rattle.service.specs.Fronts.{BeginsAt, IsFront, first_octets}
-use Rattle.service.specs.Heads.{BeginsWith, NeverHasHead, most_fields, most_octets, head_value}
+use Rattle.service.specs.Heads.{BeginsWith, most_fields, most_octets, head_value}
 use Rattle.service.specs.Views.{wanted_view}
 use Rattle.service.specs.declared.front.Front.TheVariants as front
-use Rattle.service.specs.declared.refusal.Refusal.{Refusal}
 use Rattle.service.proofs.FrontLemmas.{begins_all, begins_with, begun_all, never_all}
 use Rattle.service.proofs.HeadLemmas.{never_after_limit, never_with_overflow}
 use Rattle.service.proofs.extent.extent_of.Goals as goal

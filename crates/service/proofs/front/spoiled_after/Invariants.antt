@@ -1,5 +1,5 @@
 -- A head may begin the octets up to the lower place, and none those up to the higher.
-use Rattle.std.proofs.Common.{◌≡◌, ◌<◌, ◌≤◌, ◌-◌, ◌⊎◌, length, take}
+use Rattle.std.proofs.Common.{◌≤◌, ◌-◌, length, take}
 use Rattle.httparse.specs.Spans.{RequestOverflows}
 use Rattle.service.specs.Heads.{most_fields, MayBegin}
 use Rattle.service.proofs.front.spoiled_after.Given as goal

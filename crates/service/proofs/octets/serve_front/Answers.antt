@@ -1,4 +1,4 @@
-use Rattle.std.proofs.Common.{◌≡◌, ◌∙◌, ℕ, ◌+◌, ◌<◌, ◌≤◌, ℤ, List, ◌++◌, Option, Ok, Err, length, take, drop}
+use Rattle.std.proofs.Common.{◌≡◌, ◌∙◌, ℕ, ◌<◌, ◌≤◌, ℤ, List, ◌++◌, Option, Ok, Err, length, take, drop}
 use Rattle.std.proofs.Common.{ap, arith, length-take-le, refl, rules, subst, sym, SFits, w64, to_z-of_z}
 use Rattle.std.specs.Io.KnownBytes.{Consumes}
 use Rattle.httparse.specs.Grammar.{print_request}
@@ -112,8 +112,8 @@ returns-clause-served g c = λ before after read ended.
     let Q : ℤ → Type 0 = λ r. (b a : Option (List ℕ))
     → IsRequest file r b a (asked_by file r (head_view c.head_in-head.result) body c.in-Ok.wanted.action)
     → Serves g.B.Standing g.G.Signer.signs g.G.Signer.fault_count g.W.Write.contents r
-    (turn b a c.args.writer.now c.serve_whole-served.new.writer c.args.desk.now c.serve_whole-served.new.desk
-    c.args.signer.now c.serve_whole-served.new.signer) c.serve_whole-served.result in
-    let served : Q c.args.reading = subst Q (to_z-of_z fits) c.serve_whole-served.ensures.served in
+    (turn b a c.args.writer.now c.handle.new.writer c.args.desk.now c.handle.new.desk
+    c.args.signer.now c.handle.new.signer) c.handle.result in
+    let served : Q c.args.reading = subst Q (to_z-of_z fits) c.handle.ensures.served in
     served before after
     (whole h is.head w wanted body long consumed (ap (λ v. asked_by file c.args.reading v body w.action) same))

@@ -89,9 +89,9 @@ returns-clause-served g c = λ before h is same consumed.
     let P : ℤ → Type 0 = λ r. (b a : Option (List ℕ))
     → IsRequest file r b a (asked_by file r (head_view c.args.head) body c.in-Ok.wanted.action)
     → Serves g.B.Standing g.G.Signer.signs g.G.Signer.fault_count g.W.Write.contents r
-    (turn b a c.args.writer.now c.serve_whole.new.writer c.args.desk.now c.serve_whole.new.desk c.args.signer.now
-    c.serve_whole.new.signer) c.serve_whole.result in
-    let served : P c.args.reading = subst P (to_z-of_z fits) c.serve_whole.ensures.served in
+    (turn b a c.args.writer.now c.handle.new.writer c.args.desk.now c.handle.new.desk c.args.signer.now
+    c.handle.new.signer) c.handle.result in
+    let served : P c.args.reading = subst P (to_z-of_z fits) c.handle.ensures.served in
     served before (g.R.Read.remaining c.read_body.new.reader)
     (whole h is w wanted body long (Consumes-trans _ _ _ _ _ consumed behind)
     (ap (λ v. asked_by file c.args.reading v body w.action) same))

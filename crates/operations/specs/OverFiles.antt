@@ -1,0 +1,86 @@
+-- What is done over the files at a path, whatever they held: a store is opened over them, and moves.
+use Rattle.std.specs.Prelude.{ℕ, ℤ, Bool, List, Option, Result}
+use Rattle.sqlite_disk.specs.declared.Disk.{Ghosts}
+use Rattle.sqlite_store.specs.declared.store.FileStore.{FileStore}
+use Rattle.sqlite_wal.specs.Recovery.{Image}
+use Rattle.sqlite.specs.Files.{over_files}
+use Rattle.policy.specs.Record.{AccountValue}
+use Rattle.cms.specs.declared.signer.Signer.{Ghosts as Signs}
+use Rattle.book.specs.declared.fault.StoreFault.{StoreFault}
+use Rattle.tables.specs.Base.{BaseValue}
+use Rattle.store.specs.Opening.{MigratesFound, OpensThen}
+use Rattle.store.specs.Stands.{over_tables}
+use Rattle.desk.specs.Command.{Answer, Setting, Stamp}
+use Rattle.desk.specs.Stepped.{DeskValue, IsStep, with_signer}
+use Rattle.service.specs.Served.{Serves}
+use Rattle.service.specs.declared.served.Served.{Served}
+use Rattle.connections.specs.declared.clock.ClockFailed.{ClockFailed}
+use Rattle.operations.specs.Addition.{IsAdded}
+use Rattle.operations.specs.Auditing.{IsAuditOf}
+use Rattle.operations.specs.Serving.{ServesAt}
+use Rattle.operations.specs.Visits.{IsUnopened, IsVisited}
+use Rattle.operations.specs.declared.adding.Addition.{Addition}
+use Rattle.operations.specs.declared.auditing.AuditFault.{AuditFault}
+use Rattle.operations.specs.declared.auditing.Inquiry.{Inquiry}
+use Rattle.operations.specs.declared.fault.OperationFault.{OperationFault}
+
+module _ {D : Type 0} (disk : Ghosts D) (held : Image) where
+  -- a store was opened over what the files held, and this was done to it
+  abbrev pub IsDoneOver : (BaseValue (FileStore D disk) → BaseValue (FileStore D disk) → Type 0) → Type 0
+  IsDoneOver Does = OpensThen disk held (λ opened. (left : BaseValue (FileStore D disk)) × Does opened left)
+
+  -- its tables were taken to the schema of now
+  abbrev pub IsMigratedOver : Type 0
+  IsMigratedOver = MigratesFound disk held
+
+  -- this was added to its history
+  abbrev pub IsAddedOver : Addition → Result ℕ StoreFault → Type 0
+  IsAddedOver addition done = IsDoneOver (λ opened left. IsAdded (over_tables over_files) addition opened left done)
+
+  -- its stamps were extracted and checked
+  abbrev pub IsAuditedOver : Inquiry → (out out' told told' : Option (List ℕ)) → Result Bool AuditFault → Type 0
+  IsAuditedOver inquiry out out' told told' done =
+      IsDoneOver (λ opened left. IsAuditOf (over_tables over_files) inquiry opened left out out' told told' done)
+
+  module _ {X : Type 0} (signs : Signs X) (setting : Setting) (algorithm : List ℕ) where
+    -- this was done at a desk over it of that setting, with a signer of that algorithm
+    abbrev pub IsVisitedOver : ((desk desk' : DeskValue (BaseValue (FileStore D disk))) (signer signer' : X) → Type 0)
+        → Type 0
+    IsVisitedOver Does =
+        IsDoneOver (λ opened left. IsVisited (over_tables over_files) setting algorithm signs.algorithm_octets opened
+        left Does)
+
+    -- no desk could be opened over it
+    abbrev pub IsUnopenedOver : OperationFault → Type 0
+    IsUnopenedOver fault = IsDoneOver (λ opened left. IsUnopened (over_tables over_files) setting opened left fault)
+
+    -- a time-stamp request was answered by the machine's step
+    abbrev pub IsAnsweredOver : Option AccountValue → ℤ → List ℕ → Answer → Type 0
+    IsAnsweredOver account reading query answer =
+        IsVisitedOver (λ desk desk' signer signer'. IsStep (over_tables over_files)
+        (with_signer signs.signs signs.fault_count signer signer') (Stamp account reading query) desk desk' answer)
+
+    -- an HTTP request was served, of an input that was left as `old` and then as `new`
+    abbrev pub IsServedOver : {W : Type 0} → (W → Option (List ℕ)) → ℤ → (old new : Option (List ℕ)) → W → W → Served
+        → Type 0
+    IsServedOver contents reading old new writer writer' served =
+        IsVisitedOver (λ desk desk' signer signer'. Serves (over_tables over_files) signs.signs signs.fault_count
+        contents reading (record {
+          input = old;
+          input_after = new;
+          writer = writer;
+          writer_after = writer';
+          desk = desk;
+          desk_after = desk';
+          signer = signer;
+          signer_after = signer';
+        }) served)
+
+    -- so many connections were served, or fewer: a run of the machine
+    abbrev pub AreServedOver : {C : Type 0} → (C → Result ℤ ClockFailed → C → Type 0) → ℕ
+        → Result (Unit {0}) OperationFault → Type 0
+    AreServedOver {C} reads connections done =
+        IsVisitedOver (λ desk desk' signer signer'. (clock clock' : C)
+        × ServesAt reads (over_tables over_files) signs.signs signs.fault_count connections
+        (record { clock = clock; desk = desk; signer = signer })
+        (record { clock = clock'; desk = desk'; signer = signer' }) done)

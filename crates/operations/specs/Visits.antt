@@ -1,0 +1,76 @@
+-- What is done at a desk with a signer, over the history of a book.
+use Rattle.std.specs.Prelude.{◌≡◌, ◌⊎◌, ℕ, List, Option, Ok, Err}
+use Rattle.book.specs.declared.standing.Standing.{Ghosts}
+use Rattle.book.specs.History.{History}
+use Rattle.book.specs.Stands.{Stands}
+use Rattle.desk.specs.Calls.{setting_of as by_parts}
+use Rattle.desk.specs.declared.fault.Fault.{Fault}
+use Rattle.desk.specs.Command.{Setting}
+use Rattle.desk.specs.Stepped.{DeskValue, HasOpened, StandsInForce}
+use Rattle.service.specs.Served.{Turn}
+use Rattle.operations.specs.declared.fault.OperationFault.{OperationFault}
+use Rattle.operations.specs.declared.fault.OperationFault.TheVariants as operation
+use Rattle.operations.specs.declared.terms.Terms.{Terms}
+
+-- by what a desk is opened
+abbrev pub setting_of : Terms → Setting
+setting_of terms = by_parts terms.policy.now terms.identity.now terms.algorithm.now
+
+-- input, output, desk and signer before something is done, and after it
+pub record Visit (I O B X : Type 0) : Type 0 where
+  pub input : I
+  pub input_after : I
+  pub output : O
+  pub output_after : O
+  pub desk : DeskValue B
+  pub desk_after : DeskValue B
+  pub signer : X
+  pub signer_after : X
+
+abbrev pub visit_of : {I O B X : Type 0} → I → I → O → O → DeskValue B → DeskValue B → X → X → Visit I O B X
+visit_of input input' output output' desk desk' signer signer' = record {
+  input = input;
+  input_after = input';
+  output = output;
+  output_after = output';
+  desk = desk;
+  desk_after = desk';
+  signer = signer;
+  signer_after = signer';
+}
+
+-- the turn of the service in it, of a reader and a writer
+abbrev pub turn_of : {I O B X : Type 0} → (I → Option (List ℕ)) → Visit I O B X → Turn O B X
+turn_of remaining visit = record {
+  input = remaining visit.input;
+  input_after = remaining visit.input_after;
+  writer = visit.output;
+  writer_after = visit.output_after;
+  desk = visit.desk;
+  desk_after = visit.desk_after;
+  signer = visit.signer;
+  signer_after = visit.signer_after;
+}
+
+-- A desk was opened over a book by that setting, and what is in force there is the identity that was installed last.
+pub record Opens {B : Type 0} (g : Ghosts B) (setting : Setting) (old : B) (desk : DeskValue B) : Type 0 where
+  pub step : HasOpened g setting old (Ok desk)
+  pub in_force : g.honest desk.store → (b : History) → Stands g b old
+      → StandsInForce g desk.setting.in_force b desk.store
+
+-- A desk was opened so, this was done there with a signer of that algorithm, and the book is what it left.
+pub record IsVisited {B X : Type 0} (g : Ghosts B) (setting : Setting) (algorithm : List ℕ) (algorithm_of : X → List ℕ)
+    (old new : B) (Does : (desk desk' : DeskValue B) (signer signer' : X) → Type 0) : Type 0 where
+  pub desk : DeskValue B
+  pub opens : Opens g setting old desk
+  pub signer : X
+  pub signs_so : algorithm_of signer ≡ algorithm
+  pub signer_after : X
+  pub desk_after : DeskValue B
+  pub left : new ≡ desk_after.store
+  pub done : Does desk desk_after signer signer_after
+
+-- No desk was opened: it wasn't tried, or the opening was refused, and nothing was installed.
+abbrev pub IsUnopened : {B : Type 0} → Ghosts B → Setting → B → B → OperationFault → Type 0
+IsUnopened g setting old new fault =
+    (new ≡ old) ⊎ ((refusal : Fault) × (fault ≡ operation.Desk refusal) × HasOpened g setting old (Err (refusal, new)))

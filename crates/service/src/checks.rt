@@ -1,0 +1,208 @@
+//! The checks of a whole request.
+ghost use Rattle.std.specs.Prelude.{◌≡◌};
+ghost use Rattle.book.specs.Values.{calibration_view, hold_view};
+ghost use Rattle.policy.specs.View.{account_view, policy_view};
+ghost use Rattle.decide.specs.View.{account_asked};
+ghost use Rattle.service.specs.Checks.{account_shown, active, active_account, number_stated, range_stated};
+ghost use Rattle.service.specs.Checks.{reference_stated, operator_shown, watcher_shown};
+ghost use Rattle.service.specs.Requests.{account_and_reference, account_and_number, account_and_range};
+ghost use Rattle.service.specs.Requests.{calibration_asked, hold_asked};
+ghost use Rattle.service.specs.Views.{head_view, IsInPlace, octets_given, result_by, account_given, account_found};
+
+use crate::context::Context;
+use crate::fields::{Found, stated};
+use crate::form::{calibration_stated, hold_stated};
+use crate::head::Head;
+use crate::numbers::{is_reference, number_in};
+use crate::refusal::Refusal;
+use crate::routes::Routes;
+use crate::wanted::once;
+use book::{Calibration, Hold};
+use policy::{Account, Policy};
+use std::str;
+
+/// The number in a target.
+fn number_stated(routes: &Routes, head: Head<'_>) -> Result<u64, Refusal>
+    ensures { result ≡ number_stated (head_view head.entry) }
+{
+    match number_in(routes.parameter(head.target, "number").as_bytes()) {
+        Some(number) => Ok(number),
+        None => Err(Refusal::NotHere),
+    }
+}
+
+/// The two serial numbers in a target.
+fn range_stated(routes: &Routes, head: Head<'_>) -> Result<(u64, u64), Refusal>
+    ensures { result ≡ range_stated (head_view head.entry) }
+{
+    let Some(from) = number_in(routes.parameter(head.target, "from").as_bytes()) else {
+        return Err(Refusal::BadRange);
+    };
+    match number_in(routes.parameter(head.target, "to").as_bytes()) {
+        Some(to) => Ok((from, to)),
+        None => Err(Refusal::BadRange),
+    }
+}
+
+/// The account whose key is shown, or the anonymous one, or none.
+pub(crate) fn account_shown<'a>(
+    policy: &'a Policy,
+    head: Head<'_>,
+) -> Result<Option<&'a Account>, Refusal>
+    requires { IsInPlace head }
+    ensures { account_found result ≡ account_shown (policy_view policy.now) (head_view head.entry) }
+{
+    match stated(head.octets, head.headers, b"counter-key") {
+        Found::Never => Ok(policy.anonymous()),
+        Found::Once(key) => Ok(policy.account_of_key(key)),
+        Found::Twice => Err(Refusal::BadRequest),
+    }
+}
+
+/// There is an account, and it is active.
+fn active(account: Option<&Account>) -> Result<&Account, Refusal>
+    ensures { account_given result ≡ active (account_asked account.entry) }
+{
+    match account {
+        Some(account) if account.active => Ok(account),
+        _ => Err(Refusal::NoAccount),
+    }
+}
+
+/// The active account whose key is shown, or the anonymous one.
+pub(crate) fn active_account<'a>(policy: &'a Policy, head: Head<'_>) -> Result<&'a Account, Refusal>
+    requires { IsInPlace head }
+    ensures { account_given result ≡ active_account (policy_view policy.now) (head_view head.entry) }
+{
+    match account_shown(policy, head) {
+        Ok(account) => active(account),
+        Err(refusal) => Err(refusal),
+    }
+}
+
+/// The active account whose key is shown, or the anonymous one, where it is an operator's.
+fn operator_shown<'a>(policy: &'a Policy, head: Head<'_>) -> Result<&'a Account, Refusal>
+    requires { IsInPlace head }
+    ensures { account_given result ≡ operator_shown (policy_view policy.now) (head_view head.entry) }
+{
+    match active_account(policy, head) {
+        Ok(account) if account.operator => Ok(account),
+        Ok(_) => Err(Refusal::NotOperator),
+        Err(refusal) => Err(refusal),
+    }
+}
+
+/// The active account whose key is shown, or the anonymous one, where it is an operator's or an auditor's.
+pub(crate) fn watcher_shown<'a>(policy: &'a Policy, head: Head<'_>) -> Result<&'a Account, Refusal>
+    requires { IsInPlace head }
+    ensures { account_given result ≡ watcher_shown (policy_view policy.now) (head_view head.entry) }
+{
+    match active_account(policy, head) {
+        Ok(account) if account.operator || account.auditor => Ok(account),
+        Ok(_) => Err(Refusal::NotOperator),
+        Err(refusal) => Err(refusal),
+    }
+}
+
+/// The reference, as one field tells it.
+fn reference_stated<'b>(head: Head<'b>) -> Result<&'b str, Refusal>
+    requires { IsInPlace head }
+    ensures { octets_given result ≡ reference_stated (head_view head.entry) }
+{
+    let found = stated(head.octets, head.headers, b"deposit-reference");
+    let reference = match once(Refusal::BadReference, Refusal::BadReference, found) {
+        Ok(reference) => reference,
+        Err(refusal) => return Err(refusal),
+    };
+    if !is_reference(reference) {
+        return Err(Refusal::BadReference);
+    }
+    match str::from_utf8(reference) {
+        Ok(text) => Ok(text),
+        Err(_) => Err(Refusal::BadReference),
+    }
+}
+
+/// An active account, and the reference of its deposit.
+pub(crate) fn account_and_reference<'a>(
+    policy: &'a Policy,
+    head: Head<'a>,
+) -> Result<(&'a Account, &'a str), Refusal>
+    requires { IsInPlace head }
+    ensures { result_by (λ p. (account_view p.0.now, p.1.now)) result
+        ≡ account_and_reference (policy_view policy.now) (head_view head.entry) }
+{
+    let account = match active_account(policy, head) {
+        Ok(account) => account,
+        Err(refusal) => return Err(refusal),
+    };
+    match reference_stated(head) {
+        Ok(reference) => Ok((account, reference)),
+        Err(refusal) => Err(refusal),
+    }
+}
+
+/// An active account, and the target's number.
+pub(crate) fn account_and_number<'a>(
+    policy: &'a Policy,
+    context: Context<'_>,
+) -> Result<(&'a Account, u64), Refusal>
+    requires { IsInPlace context.head }
+    ensures { result_by (λ p. (account_view p.0.now, p.1)) result
+        ≡ account_and_number (policy_view policy.now) (head_view context.entry.head) }
+{
+    let account = match active_account(policy, context.head) {
+        Ok(account) => account,
+        Err(refusal) => return Err(refusal),
+    };
+    match number_stated(context.routes, context.head) {
+        Ok(number) => Ok((account, number)),
+        Err(refusal) => Err(refusal),
+    }
+}
+
+/// An active account, and the target's two serial numbers.
+pub(crate) fn account_and_range<'a>(
+    policy: &'a Policy,
+    context: Context<'_>,
+) -> Result<(&'a Account, u64, u64), Refusal>
+    requires { IsInPlace context.head }
+    ensures { result_by (λ p. (account_view p.0.now, p.1, p.2)) result
+        ≡ account_and_range (policy_view policy.now) (head_view context.entry.head) }
+{
+    let account = match active_account(policy, context.head) {
+        Ok(account) => account,
+        Err(refusal) => return Err(refusal),
+    };
+    match range_stated(context.routes, context.head) {
+        Ok((from, to)) => Ok((account, from, to)),
+        Err(refusal) => Err(refusal),
+    }
+}
+
+/// The calibration that an operator's form states.
+pub(crate) fn calibration_asked(
+    policy: &Policy,
+    head: Head<'_>,
+    form: &[u8],
+) -> Result<Calibration, Refusal>
+    requires { IsInPlace head }
+    ensures { result_by calibration_view result
+        ≡ calibration_asked (policy_view policy.now) (head_view head.entry) form.now }
+{
+    match operator_shown(policy, head) {
+        Ok(_) => calibration_stated(form),
+        Err(refusal) => Err(refusal),
+    }
+}
+
+/// The hold that an operator's form states.
+pub(crate) fn hold_asked(policy: &Policy, head: Head<'_>, form: &[u8]) -> Result<Hold, Refusal>
+    requires { IsInPlace head }
+    ensures { result_by hold_view result ≡ hold_asked (policy_view policy.now) (head_view head.entry) form.now }
+{
+    match operator_shown(policy, head) {
+        Ok(_) => hold_stated(form),
+        Err(refusal) => Err(refusal),
+    }
+}

@@ -1,0 +1,67 @@
+//! `/deposits`: what is deposited.
+ghost use Rattle.std.specs.Prelude.{◌≡◌};
+ghost use Rattle.service.specs.Handling.{Handles};
+ghost use Rattle.service.specs.Views.{request_view, IsInPlace};
+ghost use Rattle.service.specs.declared.routes.Action.TheVariants.{Keep, List};
+
+use crate::answer::Media;
+use crate::checks::{account_and_reference, active_account};
+use crate::context::Context;
+use crate::listing::listed_lines;
+use crate::refusal::Refusal;
+use crate::responding::{refuse, succeed, wanting, write_deposited};
+use crate::served::Served;
+use book::Book;
+use cms::Signer;
+use desk::Desk;
+use std::io::Write;
+
+/// Takes a deposit.
+pub(crate) fn keep<W: Write, B: Book + Drop, G: Signer>(
+    context: Context<'_>,
+    desk: &mut Desk<'_, B>,
+    signer: &mut G,
+    writer: &mut W,
+) -> Served
+    requires { IsInPlace context.head }
+    ensures setting { desk.new.setting ≡ desk.old.setting }
+    ensures honest { B.honest desk.new.store → B.honest desk.old.store }
+    ensures served { Handles B.Standing G.signs G.fault_count W.contents (request_view context.entry) Keep
+        writer.old writer.new desk.old desk.new signer.old signer.new result }
+{
+    let (account, reference) = match account_and_reference(desk.policy(), context.head) {
+        Ok(asked) => asked,
+        Err(refusal) => return refuse(writer, refusal),
+    };
+    match desk.deposit(account, context.reading, reference, context.body, signer) {
+        Ok(deposited) => write_deposited(writer, deposited),
+        Err(fault) => refuse(writer, Refusal::from(fault)),
+    }
+}
+
+/// Lists deposits. Their lines take memory.
+pub(crate) fn list<W: Write, B: Book + Drop, G: Signer>(
+    context: Context<'_>,
+    desk: &mut Desk<'_, B>,
+    _signer: &mut G,
+    writer: &mut W,
+) -> Served
+    requires { IsInPlace context.head }
+    ensures setting { desk.new.setting ≡ desk.old.setting }
+    ensures honest { B.honest desk.new.store → B.honest desk.old.store }
+    ensures served { Handles B.Standing G.signs G.fault_count W.contents (request_view context.entry) List
+        writer.old writer.new desk.old desk.new _signer.old _signer.new result }
+{
+    let account = match active_account(desk.policy(), context.head) {
+        Ok(asked) => asked,
+        Err(refusal) => return refuse(writer, refusal),
+    };
+    let rows = match desk.list(account) {
+        Ok(rows) => rows,
+        Err(fault) => return refuse(writer, Refusal::from(fault)),
+    };
+    match listed_lines(context.alloc, &rows) {
+        Some(lines) => succeed(writer, Media::Text, &lines),
+        None => wanting(writer),
+    }
+}

@@ -1,0 +1,58 @@
+//! `/deposits/{number}/readers/{name}`: the accounts that may see a deposit.
+ghost use Rattle.std.specs.Prelude.{◌≡◌};
+ghost use Rattle.service.specs.Handling.{Handles};
+ghost use Rattle.service.specs.Views.{request_view, IsInPlace};
+ghost use Rattle.service.specs.declared.routes.Action.TheVariants.{Grant, Revoke};
+
+use crate::checks::account_and_number;
+use crate::context::Context;
+use crate::responding::{refuse, write_done};
+use crate::served::Served;
+use book::Book;
+use cms::Signer;
+use desk::Desk;
+use std::io::Write;
+
+/// Lets an account see a deposit.
+pub(crate) fn grant<W: Write, B: Book + Drop, G: Signer>(
+    context: Context<'_>,
+    desk: &mut Desk<'_, B>,
+    _signer: &mut G,
+    writer: &mut W,
+) -> Served
+    requires { IsInPlace context.head }
+    ensures setting { desk.new.setting ≡ desk.old.setting }
+    ensures honest { B.honest desk.new.store → B.honest desk.old.store }
+    ensures served { Handles B.Standing G.signs G.fault_count W.contents (request_view context.entry) Grant
+        writer.old writer.new desk.old desk.new _signer.old _signer.new result }
+{
+    let (account, number) = match account_and_number(desk.policy(), context) {
+        Ok(asked) => asked,
+        Err(refusal) => return refuse(writer, refusal),
+    };
+    let name = context.routes.parameter(context.head.target, "name");
+    let outcome = desk.grant(account, number, name);
+    write_done(writer, outcome)
+}
+
+/// Takes that right away.
+pub(crate) fn revoke<W: Write, B: Book + Drop, G: Signer>(
+    context: Context<'_>,
+    desk: &mut Desk<'_, B>,
+    _signer: &mut G,
+    writer: &mut W,
+) -> Served
+    requires { IsInPlace context.head }
+    ensures setting { desk.new.setting ≡ desk.old.setting }
+    ensures honest { B.honest desk.new.store → B.honest desk.old.store }
+    ensures served { Handles B.Standing G.signs G.fault_count W.contents (request_view context.entry) Revoke
+        writer.old writer.new desk.old desk.new _signer.old _signer.new result }
+{
+    let (account, number) = match account_and_number(desk.policy(), context) {
+        Ok(asked) => asked,
+        Err(refusal) => return refuse(writer, refusal),
+    };
+    let name = context.routes.parameter(context.head.target, "name");
+    let outcome = desk.revoke(account, number, name);
+    write_done(writer, outcome)
+}
