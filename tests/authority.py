@@ -86,9 +86,9 @@ class Authority:
     def __init__(self, folder, kind, is_example=False, policy=None, is_calibrated=True):
         self.folder, self.kind = folder, kind
         self.rules, self.db = self.path("rules.toml"), self.path("counter.db")
-        issuer = CertificationAuthority(folder, kind)
-        self.certified = issuer.certified("tsa")
-        self.ca, self.pem, self.certificate = issuer.pem, self.certified.pem, self.certified.der
+        self.root = CertificationAuthority(folder, kind)
+        self.ca = self.root.pem
+        self.use(self.root.certified("tsa"))
         self.algorithm = self.write("tsa.algorithm", ALGORITHMS[kind])
         with open(policy or EXAMPLE, encoding="utf-8") as file:
             rules = file.read()
@@ -112,6 +112,10 @@ class Authority:
     def words(self, *words):
         subprocess.run([PROGRAM, *words], check=True)
 
+    def use(self, certified, chain=None):
+        """From now on it is this key that signs, and the certificates of this file go with its own, if one is named."""
+        self.certified, self.pem, self.certificate, self.chain = certified, certified.pem, certified.der, chain
+
     def key_holder(self, port=0):
         return KeyHolder(self.certified, port=port)
 
@@ -119,7 +123,8 @@ class Authority:
         """The options of the words that give tokens: with a signer's; one word alone is a key holder's address."""
         if len(signer) == 1:
             signer = ["--signer", *signer, "--signer-algorithm", self.algorithm]
-        return ["--db", self.db, "--rules", self.rules, "--certificate", self.certificate, *signer]
+        chain = ["--chain", self.chain] if self.chain else []
+        return ["--db", self.db, "--rules", self.rules, "--certificate", self.certificate, *chain, *signer]
 
     def serve_words(self, *signer):
         words = [PROGRAM, "serve", *self.desk_words(*signer)]

@@ -12,6 +12,8 @@ ALGORITHMS = {
 }
 # the extensions of a certificate for time-stamps (RFC 3161 2.3)
 USAGE = "keyUsage=critical,digitalSignature", "extendedKeyUsage=critical,timeStamping"
+# and those of an authority that certifies no further one (RFC 5280 4.2.1.3, 4.2.1.9)
+CERTIFYING = "basicConstraints=critical,CA:TRUE,pathlen:0", "keyUsage=critical,keyCertSign"
 
 
 def made(*words):
@@ -28,13 +30,22 @@ class Certified:
 
 
 class CertificationAuthority:
-    """One in a folder, with a key of that kind."""
+    """One in a folder, with keys of that kind: a root of its own, or one whose key another certified."""
 
-    def __init__(self, folder, kind):
+    def __init__(self, folder, kind, certified=None):
         self.folder, self.kind = folder, kind
-        self.pem, self.key = os.path.join(folder, "ca.pem"), os.path.join(folder, "ca.key")
-        subject = ["-subj", "/O=Example/CN=CA"]
-        made("req", "-newkey", *KINDS[kind], "-nodes", "-x509", *subject, "-keyout", self.key, "-out", self.pem)
+        own = certified or self.root()
+        self.key, self.pem, self.der = own.key, own.pem, own.der
+
+    def root(self):
+        new, words = Certified(self.folder, "ca"), ["-nodes", "-x509", "-subj", "/O=Example/CN=CA"]
+        made("req", "-newkey", *KINDS[self.kind], *words, "-keyout", new.key, "-out", new.pem)
+        made("x509", "-in", new.pem, "-outform", "DER", "-out", new.der)
+        return new
+
+    def intermediate(self, name):
+        """Another authority, which it certifies."""
+        return CertificationAuthority(self.folder, self.kind, self.certified(name, extensions=CERTIFYING))
 
     def certified(self, name, *options, newkey=None, extensions=USAGE):
         """A new key that it certifies for that name, with these extensions and options of `openssl x509`."""

@@ -1,6 +1,7 @@
 """The programs that the tests run, and what is found wrong of them: the counter and the crates' other programs, OpenSSL
 and sqlite3."""
 
+import functools
 import json
 import os
 import re
@@ -25,6 +26,19 @@ CERTIFICATE = bytes.fromhex(
     "3064 3057 020107 {0} {1} {2} {1} 300b {0} 03020001 {0} 03020001".format(ALGORITHM.hex(), NAME, VALIDITY)
 )
 
+# gets a token by the client, which verifies it where that is an RSA key's, and writes it to standard output
+CLIENT = """
+import sys, rfc3161ng
+url, certificate, document, algorithm, nonce = sys.argv[1:]
+certificate = open(certificate, "rb").read() if certificate else None
+client = rfc3161ng.RemoteTimestamper(url, certificate=certificate, hashname=algorithm, include_tsa_certificate=True)
+data = open(document, "rb").read()
+token = client(data=data, nonce=int(nonce) if nonce else None)
+if certificate and not rfc3161ng.check_timestamp(token, certificate=certificate, data=data, hashname=algorithm):
+    sys.exit("not verified")
+print(rfc3161ng.get_timestamp(token), file=sys.stderr)
+sys.stdout.buffer.write(token)
+"""
 
 # where rows have their mark, behind which memory is refused: an allocation of so many octets
 BEHIND_MARK = {"REFUSED_AFTER": "1000003"}
@@ -114,9 +128,15 @@ def ended_runs(what, begun):
     return len(wrong) > 0
 
 
+@functools.cache
 def has_client():
     """Whether the RFC 3161 client rfc3161ng is installed."""
     return subprocess.run([PYTHON, "-c", "import rfc3161ng"], stderr=subprocess.DEVNULL).returncode == 0
+
+
+def asked_by_client(url, certificate, document, algorithm="sha256", nonce=""):
+    """How the client ended that asked for a token of a document, with the token on its standard output."""
+    return subprocess.run([PYTHON, "-c", CLIENT, url, certificate, document, algorithm, nonce], capture_output=True)
 
 
 def openssl(*words, **how):
