@@ -8,7 +8,8 @@ use Rattle.std.proofs.Math.Nat.{le-max_left, le-max_right}
 use Rattle.book.specs.Rows.{InstalledRow}
 use Rattle.book.specs.History.{Reserved, Installed, InstalledValue, ReservationValue, History}
 use Rattle.book.specs.History.{reservations, reservation_at, greatest_of, greatest_serial}
-use Rattle.book.specs.Identities.{latest_identity, identity_of, installed_rows, identities, identity_before, installed_as}
+use Rattle.book.specs.Identities.{latest_identity, identity_at_reservation, installed_rows, identities, identity_before}
+use Rattle.book.specs.Identities.{installed_as}
 use Rattle.book.specs.Sound.{IsSound}
 
 -- of rows with the newest first
@@ -38,7 +39,7 @@ newest_found (Reserved r ∷ b) serial above =
 newest_found (_ ∷ b) serial above = newest_found b serial above
 
 found_among : (b : History) (serial : ℕ) (r : ReservationValue) → IsSound b → reservation_at serial b ≡ Some r
-    → identity_among serial (installed_rows b) ≡ identity_of serial b
+    → identity_among serial (installed_rows b) ≡ identity_at_reservation serial b
 found_among [] serial r sound reserved = cc
 found_among (Reserved x ∷ b) serial r sound reserved =
     let rises : greatest_serial b < x.serial = sound.0.rises in
@@ -53,6 +54,6 @@ found_among (Installed i ∷ b) serial r sound reserved =
 found_among (_ ∷ b) serial r sound reserved = found_among b serial r sound.1 reserved
 
 pub found_before : (b : History) (serial : ℕ) (r : ReservationValue) → IsSound b → reservation_at serial b ≡ Some r
-    → option_map installed_as (identity_before serial (identities b)) ≡ identity_of serial b
+    → option_map installed_as (identity_before serial (identities b)) ≡ identity_at_reservation serial b
 found_before b serial r sound reserved =
     ap (identity_among serial) (reverse-reverse (installed_rows b)) ∙ found_among b serial r sound reserved

@@ -1,7 +1,7 @@
 -- The definitions of identities, computed on a worked history.
 use Rattle.std.proofs.Common.{◌≡◌, ℕ, [], ◌∷◌, refl, Some, None}
 use Rattle.book.specs.History.{Reserved, Installed, InstalledValue, ReservationValue, History}
-use Rattle.book.specs.Identities.{latest_identity, identity_of, identities, identity_before}
+use Rattle.book.specs.Identities.{latest_identity, identity_at_reservation, identities, identity_before}
 
 abbrev reserved : ℕ → ReservationValue
 reserved serial = record {
@@ -36,16 +36,16 @@ identities_worked = refl
 latest_worked : latest_identity worked ≡ Some second
 latest_worked = refl
 
-none_worked : identity_of 1 worked ≡ None
+none_worked : identity_at_reservation 1 worked ≡ None
 none_worked = refl
 
-first_worked : identity_of 2 worked ≡ Some first
+first_worked : identity_at_reservation 2 worked ≡ Some first
 first_worked = refl
 
-second_worked : identity_of 4 worked ≡ Some second
+second_worked : identity_at_reservation 4 worked ≡ Some second
 second_worked = refl
 
-unreserved_worked : identity_of 3 worked ≡ None
+unreserved_worked : identity_at_reservation 3 worked ≡ None
 unreserved_worked = refl
 
 -- the second of the two rows that stand after 2

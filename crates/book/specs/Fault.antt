@@ -1,5 +1,6 @@
 -- The refusals, their numbers, and the count of those that the storage gave for another cause than memory.
-use Rattle.std.specs.Prelude.{ℕ, ◌+◌, ◌%◌, ◌^◌}
+use Rattle.std.specs.Prelude.{ℕ}
+use Rattle.std.specs.Hash.DefaultHasher.{wrapping_add}
 use Rattle.book.specs.declared.fault.StoreFault.{StoreFault}
 use Rattle.book.specs.declared.fault.StoreFault.TheVariants.{Memory, Database, NotOurs, Full, Backwards}
 
@@ -10,14 +11,10 @@ number_of NotOurs = 3
 number_of Full = 4
 number_of Backwards = 5
 
--- the next count of faults
-abbrev pub next_count : ℕ → ℕ
-next_count n = (n + 1) % 2 ^ 64
-
--- the count of faults after a refusal: one more after the storage's, else the same
+-- the count of faults after a refusal: one more after the storage's, modulo 2^64, else the same
 abbrev pub count_after : StoreFault → ℕ → ℕ
 count_after Memory n = n
-count_after Database n = next_count n
+count_after Database n = wrapping_add n 1
 count_after NotOurs n = n
 count_after Full n = n
 count_after Backwards n = n

@@ -1,10 +1,11 @@
 -- The history of what the counter accepted, newest entry first, and what it says: views are filters and searches of
 -- this one list.
-use Rattle.std.specs.Prelude.{ℕ, ◌/◌, ◌==◌, ◌&&◌, max, nat_le, ℤ, int_le, int_lt, Bool, true, false, List, []}
+use Rattle.std.specs.Prelude.{ℕ, ◌==◌, ◌&&◌, max, nat_le, ℤ, int_le, int_lt, Bool, true, false, List, []}
 use Rattle.std.specs.Prelude.{◌∷◌, map, filter, filter_map, find, count_by, reverse, Option, Some, None, option_map}
 use Rattle.std.specs.Prelude.{if◌then◌else◌}
 use Rattle.std.specs.List.{list_any}
 use Rattle.std.specs.Str.{bytes_eq}
+pub use Rattle.gentime.specs.GenTime.{day_of}
 use Rattle.book.specs.Rows.{StampRow, DepositRow}
 use Rattle.book.specs.Readers.{Reader}
 
@@ -36,10 +37,6 @@ pub record HoldValue : Type 0 where
 pub record InstalledValue : Type 0 where
   pub certificate : List ℕ
   pub chain : List ℕ
-
--- a deposit under its number, which is its stamp's serial number
-abbrev pub DepositValue : Type 0
-DepositValue = DepositRow
 
 pub data Entry : Type 0 where
   Reserved : ReservationValue → Entry
@@ -127,10 +124,6 @@ first_of (x ∷ xs) = Some x
 -- the genTime that was reserved last
 abbrev pub last_gen_time : History → Option ℕ
 last_gen_time b = option_map (λ r. r.gen_time) (first_of (reservations b))
-
--- the UTC day of a moment, counted from 1970-01-01
-abbrev pub day_of : ℕ → ℕ
-day_of moment = moment / 86_400_000_000
 
 abbrev pub is_of_day : List ℕ → ℕ → ReservationValue → Bool
 is_of_day account day r = bytes_eq r.account account && (day_of r.gen_time == day)

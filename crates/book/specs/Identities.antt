@@ -9,10 +9,11 @@ abbrev pub latest_identity : History → Option InstalledValue
 latest_identity b = first_of (installations b)
 
 -- the identity in force when a serial number was reserved: the last that was installed before
-abbrev pub identity_of : ℕ → History → Option InstalledValue
-identity_of serial [] = None
-identity_of serial (Reserved r ∷ b) = if r.serial == serial then latest_identity b else identity_of serial b
-identity_of serial (_ ∷ b) = identity_of serial b
+abbrev pub identity_at_reservation : ℕ → History → Option InstalledValue
+identity_at_reservation serial [] = None
+identity_at_reservation serial (Reserved r ∷ b) =
+    if r.serial == serial then latest_identity b else identity_at_reservation serial b
+identity_at_reservation serial (_ ∷ b) = identity_at_reservation serial b
 
 -- an identity that follows a history
 abbrev pub installed_row : InstalledValue → History → InstalledRow

@@ -17,6 +17,7 @@ pub record StampRow : Type 0 where
   pub tst : List ℕ
   pub token : Option (List ℕ)
 
+-- a deposit under its number, which is its stamp's serial number
 pub record DepositRow : Type 0 where
   pub serial : ℕ
   pub owner : List ℕ

@@ -1,6 +1,7 @@
 -- Which entries fit a history, and sound histories: what the counter may accept, of what the history alone says. What
 -- it says of DER texts and hashes stands above.
-use Rattle.std.specs.Prelude.{◌≡◌, ℕ, ◌<◌, ◌≤◌, ◌<ℤ◌, [], ◌∷◌, Option, Some, None}
+use Rattle.std.specs.Prelude.{◌≡◌, ℕ, ◌<◌, ◌≤◌, ◌<ℤ◌, int_lt, Bool, false, IsTrue, [], ◌∷◌, Option, Some, None}
+use Rattle.gentime.specs.GenTime.{last_moment}
 use Rattle.book.specs.Rows.{DepositRow}
 use Rattle.book.specs.History.{Entry, Reserved, Sealed, Deposited, Calibrated, Held, Granted, Revoked, Installed}
 use Rattle.book.specs.History.{History}
@@ -12,10 +13,7 @@ abbrev pub Along : (Entry → History → Type 0) → History → Type 0
 Along P [] = Unit {0}
 Along P (entry ∷ b) = P entry b × Along P b
 
--- the last moment that a genTime can state, 9999-12-31T23:59:59.999999Z
-abbrev pub last_moment : ℕ
-last_moment = 253402300799999999
-
+-- the greatest number of 63 bits: of serial numbers, and of microseconds
 abbrev pub greatest_number : ℕ
 greatest_number = 9223372036854775807
 
@@ -60,6 +58,9 @@ abbrev pub IsSpent : History → Type 0
 IsSpent b = greatest_serial b ≡ greatest_number
 
 -- the reading is before that of the latest calibration
+abbrev pub is_backwards : CalibrationValue → Option CalibrationValue → Bool
+is_backwards c None = false
+is_backwards c (Some latest) = int_lt c.reading latest.reading
+
 abbrev pub IsBackwards : CalibrationValue → Option CalibrationValue → Type 0
-IsBackwards c None = ⊥
-IsBackwards c (Some latest) = c.reading <ℤ latest.reading
+IsBackwards c latest = IsTrue (is_backwards c latest)

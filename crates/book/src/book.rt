@@ -68,7 +68,7 @@ pub trait Book: Standing {
             (λ e. Self.fault_count self.new ≡ count_after e (Self.fault_count self.old)) };
 
     /// Reserves a stamp, which counts on its UTC day from now on, whether it is sealed or not. The caller's condition
-    /// is that its serial number is the greatest plus one, where that is at most 2^63 - 1. Refused with `Full`, and
+    /// is that its serial number is above the greatest, where that is less than 2^63 - 1. Refused with `Full`, and
     /// nothing is added, where the greatest is 2^63 - 1.
     fn reserve(&mut self, reservation: &Reservation<'_>) -> Result<(), StoreFault>
         ensures honest { Self.honest self.new → Self.honest self.old }

@@ -11,7 +11,8 @@ use Rattle.std.proofs.lemmas.List.{length-map, get_or-map}
 use Rattle.std.proofs.lemmas.List.Elements.{Contains-append_right, Contains-push_cases}
 use Rattle.der.specs.Node.{element, encodings, node, IsLowTag}
 use Rattle.cms.specs.Certificate.{CertificateParts, IsCertificate, identity_of, identity_with, tbs_certificate}
-use Rattle.cms.specs.Chain.{IsShortCertificate, AreApart, AreFurther, IsElement, BeginsWith, IsRefused, IsChainFault}
+use Rattle.cms.specs.Chain.{IsShortCertificate, AreApart, AreFurtherCertificates, IsElement, BeginsWith, IsRefused}
+use Rattle.cms.specs.Chain.{IsChainFault}
 use Rattle.cms.specs.Chain.{IsFirstFault}
 use Rattle.cms.specs.ChainView.{IsTaken}
 use Rattle.cms.specs.Grammar.{joined}
@@ -158,7 +159,7 @@ refused_not law before later c rest Repeated h apart few is (left, (first, front
 refused_not law before later c rest Memory h apart few is refused = absurd refused
 
 left_over : OneBeginning → (signer : List ℕ) (further before later : List (List ℕ)) (rest : List ℕ) (fault : CmsFault)
-    → AreFurther signer further → further ≡ before ++ later → rest ≡ joined later → (rest ≡ [] → ⊥)
+    → AreFurtherCertificates signer further → further ≡ before ++ later → rest ≡ joined later → (rest ≡ [] → ⊥)
     → IsRefused (signer ∷ before) rest fault → ⊥
 left_over law signer further before [] rest fault fits is left some refused = some left
 left_over law signer further before (c ∷ later) rest fault fits is left some refused =
@@ -170,7 +171,7 @@ left_over law signer further before (c ∷ later) rest fault fits is left some r
 
 -- a chain of certificates that go with a signer's has no fault
 pub no_chain_fault : OneBeginning → (signer chain : List ℕ) (further : List (List ℕ)) (fault : CmsFault)
-    → AreFurther signer further → chain ≡ joined further → IsChainFault signer chain fault → ⊥
+    → AreFurtherCertificates signer further → chain ≡ joined further → IsChainFault signer chain fault → ⊥
 no_chain_fault law signer chain further fault fits is k =
     let (later, same, left) = prefix_of law k.further further k.rest k.fitting.each fits.each (sym is ∙ k.split) in
     left_over law signer further k.further later k.rest fault fits same left k.left k.refused
@@ -180,7 +181,7 @@ no_chain_fault law signer chain further fault fits is k =
 -- certificates behind the signer's, and the octets of a chain that are left
 pub record HaveTaken (signer chain : List ℕ) (certificates : List (List ℕ)) (rest : List ℕ) : Type 0 where
   pub further : List (List ℕ)
-  pub fits : AreFurther signer further
+  pub fits : AreFurtherCertificates signer further
   pub split : chain ≡ joined further ++ rest
   pub are : certificates ≡ signer ∷ further
 
@@ -241,7 +242,8 @@ refused_so signer chain (Err own) fault is h =
 
 -- where the chain has no fault, memory ran out
 pub only_memory : {X : Type 0} (P : X → Type 0) (signer chain : List ℕ) (further : List (List ℕ))
-    (r : Result X CmsFault) (fault : CmsFault) → OneBeginning → AreFurther signer further → chain ≡ joined further
+    (r : Result X CmsFault) (fault : CmsFault) → OneBeginning → AreFurtherCertificates signer further
+    → chain ≡ joined further
     → IsErrAnd r (λ own. own ≡ fault) → (fault ≡ Memory) ⊎ IsChainFault signer chain fault
     → MatchResult r P (λ own. own ≡ Memory)
 only_memory P signer chain further (Ok x) fault law fits is own h = absurd own
@@ -261,7 +263,7 @@ at_this_entry signer chain before rest fault h left told =
 
 -- the whole chain was taken
 pub all_taken : (signer chain : List ℕ) (certificates further : List (List ℕ)) (rest : List ℕ) → OneBeginning
-    → HaveTaken signer chain certificates rest → true ≡ (length rest == 0) → AreFurther signer further
+    → HaveTaken signer chain certificates rest → true ≡ (length rest == 0) → AreFurtherCertificates signer further
     → chain ≡ joined further → certificates ≡ signer ∷ further
 all_taken signer chain certificates further [] law h end fits is =
     let whole : joined further ≡ joined h.further = sym is ∙ h.split ∙ append_nothing (joined h.further) in
@@ -289,13 +291,13 @@ first_fault signer chain (Err own) fault is short h =
     subst (IsFirstFault signer chain) (sym is) (behind_signer signer chain fault short h)
 
 -- an empty chain has no certificates
-pub alone : (signer : List ℕ) → AreFurther signer []
+pub alone : (signer : List ℕ) → AreFurtherCertificates signer []
 unfolding none_taken
 alone signer = (none_taken signer []).fits
 
 pub found_alone : (octets : List ℕ) (r : Result IdentityValue CmsFault)
     → IfOk r (λ identity. (p : CertificateParts) × (further : List (List ℕ)) × IsCertificate octets p
-    × (length octets ≤ 16384) × AreFurther octets further × ([] ≡ joined further)
+    × (length octets ≤ 16384) × AreFurtherCertificates octets further × ([] ≡ joined further)
     × (identity ≡ identity_with octets further p))
     → IfOk r (λ identity. (p : CertificateParts) × (IsCertificate octets p × (identity ≡ identity_of octets p)))
 found_alone octets (Ok identity) h =

@@ -20,7 +20,7 @@ AreApart [] = Unit {0}
 AreApart (first ∷ others) = (Contains others first → ⊥) × AreApart others
 
 -- These go with a signer's certificate: three at most, each of them one, none of them twice, and none the signer's.
-pub record AreFurther (signer : List ℕ) (further : List (List ℕ)) : Type 0 where
+pub record AreFurtherCertificates (signer : List ℕ) (further : List (List ℕ)) : Type 0 where
   pub few : length further ≤ 3
   pub each : AllByRecursion IsShortCertificate further
   pub apart : AreApart (signer ∷ further)
@@ -28,7 +28,7 @@ pub record AreFurther (signer : List ℕ) (further : List (List ℕ)) : Type 0 w
 -- The certificates of an identity are its signer's and those of its chain, in ascending order, one after the other.
 pub record AreAll (signer chain certificates : List ℕ) : Type 0 where
   pub further : List (List ℕ)
-  pub fitting : AreFurther signer further
+  pub fitting : AreFurtherCertificates signer further
   pub split : chain ≡ joined further
   pub all : certificates ≡ joined (ascending (signer ∷ further))
 
@@ -64,19 +64,19 @@ IsRefused certificates octets Memory = ⊥
 pub record IsChainFault (signer chain : List ℕ) (fault : CmsFault) : Type 0 where
   pub further : List (List ℕ)
   pub rest : List ℕ
-  pub fitting : AreFurther signer further
+  pub fitting : AreFurtherCertificates signer further
   pub split : chain ≡ joined further ++ rest
   pub left : rest ≡ [] → ⊥
   pub refused : IsRefused (signer ∷ further) rest fault
 
 -- why octets are no signer's certificate
-abbrev pub IsSignerFault : List ℕ → CmsFault → Type 0
-IsSignerFault signer TooLarge = 16384 < length signer
-IsSignerFault signer NotCertificate = (length signer ≤ 16384) × (IsShortCertificate signer → ⊥)
-IsSignerFault signer fault = ⊥
+abbrev pub IsSignerCertificateFault : List ℕ → CmsFault → Type 0
+IsSignerCertificateFault signer TooLarge = 16384 < length signer
+IsSignerCertificateFault signer NotCertificate = (length signer ≤ 16384) × (IsShortCertificate signer → ⊥)
+IsSignerCertificateFault signer fault = ⊥
 
 -- The first fault of a signer's certificate and of its chain. Want of memory is met behind the certificate.
 abbrev pub IsFirstFault : List ℕ → List ℕ → CmsFault → Type 0
 IsFirstFault signer chain Memory = IsShortCertificate signer
 IsFirstFault signer chain fault =
-    IsSignerFault signer fault ⊎ (IsShortCertificate signer × IsChainFault signer chain fault)
+    IsSignerCertificateFault signer fault ⊎ (IsShortCertificate signer × IsChainFault signer chain fault)

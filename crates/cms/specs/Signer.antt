@@ -1,5 +1,6 @@
 -- What a signer answers.
-use Rattle.std.specs.Prelude.{ℕ, ◌+◌, ◌%◌, ◌^◌, List, Result, Ok, Err, Vec}
+use Rattle.std.specs.Prelude.{ℕ, List, Result, Ok, Err, Vec}
+use Rattle.std.specs.Hash.DefaultHasher.{wrapping_add}
 use Rattle.cms.specs.declared.signer.SignerFault.{SignerFault}
 use Rattle.cms.specs.declared.signer.SignerFault.TheVariants.{Failed, Memory}
 
@@ -13,12 +14,8 @@ abbrev pub signed_by : {A : Type 0} → Result (Vec ℕ A) SignerFault → Resul
 signed_by (Ok signature) = Ok signature.items
 signed_by (Err fault) = Err fault
 
--- a count of faults after one more, of 64 bits
-abbrev pub next_count : ℕ → ℕ
-next_count count = (count + 1) % 2 ^ 64
-
--- the count of faults after a call: only a failed one counts
+-- the count of faults after a call: one more after a failed one, modulo 2^64, else the same
 abbrev pub count_after : {A : Type 0} → Result A SignerFault → ℕ → ℕ
 count_after (Ok signature) count = count
-count_after (Err Failed) count = next_count count
+count_after (Err Failed) count = wrapping_add count 1
 count_after (Err Memory) count = count

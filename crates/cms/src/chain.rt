@@ -1,7 +1,7 @@
 //! The further certificates that go with a signer's.
 ghost use Rattle.std.specs.Prelude.{◌≡◌, ◌⊎◌, ◌↔◌, ℕ, List, ◌∷◌, map, Contains, IsTrue, IfOk, IfErr, OnOk};
 ghost use Rattle.std.specs.Prelude.{MatchResult};
-ghost use Rattle.cms.specs.Chain.{AreFurther, BeginsWith, IsChainFault, IsRefused, IsShortCertificate};
+ghost use Rattle.cms.specs.Chain.{AreFurtherCertificates, BeginsWith, IsChainFault, IsRefused, IsShortCertificate};
 ghost use Rattle.cms.specs.ChainView.{IsFrontFault, IsTaken};
 ghost use Rattle.cms.specs.Grammar.{joined};
 ghost use Rattle.cms.specs.SetOf.{comes_before, inserted, ascending, IsAscending};
@@ -69,9 +69,9 @@ pub(crate) fn certificates_of<'a>(
     signer: &'a [u8],
     chain: &'a [u8],
 ) -> Result<Vec<&'a [u8]>, CmsFault>
-    ensures ok { IfOk result (λ certificates. (further : List (List ℕ)) × AreFurther signer.now further
+    ensures ok { IfOk result (λ certificates. (further : List (List ℕ)) × AreFurtherCertificates signer.now further
         × (chain.now ≡ joined further) × (map (λ o. o.now) certificates.items ≡ signer.now ∷ further)) }
-    ensures only { (further : List (List ℕ)) → AreFurther signer.now further → chain.now ≡ joined further
+    ensures only { (further : List (List ℕ)) → AreFurtherCertificates signer.now further → chain.now ≡ joined further
         → MatchResult result (λ certificates. map (λ o. o.now) certificates.items ≡ signer.now ∷ further)
         (λ fault. fault ≡ Memory) }
     ensures err { IfErr result (λ fault. (fault ≡ Memory) ⊎ IsChainFault signer.now chain.now fault) }

@@ -5,7 +5,7 @@ ghost use Rattle.der.specs.DataValueView.{value_view};
 ghost use Rattle.sha2.specs.Sha256.{sha256};
 ghost use Rattle.cms.specs.Certificate.{CertificateParts, IsCertificate, IsSubject, IsSubjectName};
 ghost use Rattle.cms.specs.Certificate.{identity_of, identity_with};
-ghost use Rattle.cms.specs.Chain.{AreAll, AreFurther, IsFirstFault, IsSignerFault};
+ghost use Rattle.cms.specs.Chain.{AreAll, AreFurtherCertificates, IsFirstFault, IsSignerCertificateFault};
 ghost use Rattle.cms.specs.Grammar.{joined};
 ghost use Rattle.cms.specs.Place.{ArePlaces};
 ghost use Rattle.cms.specs.declared.fault.CmsFault.TheVariants.{TooLarge, Memory};
@@ -62,7 +62,7 @@ fn signer_places(certificate: &[u8]) -> Result<Places, CmsFault>
         × ArePlaces certificate.now p found.issuer found.serial found.subject)) }
     ensures only { (p : CertificateParts) → IsCertificate certificate.now p → length certificate.now ≤ 16384
         → MatchResult result (λ found. ArePlaces certificate.now p found.issuer found.serial found.subject) (λ fault. ⊥) }
-    ensures err { IfErr result (IsSignerFault certificate.now) }
+    ensures err { IfErr result (IsSignerCertificateFault certificate.now) }
 {
     if certificate.len() > MAX_CERTIFICATE {
         return Err(CmsFault::TooLarge);
@@ -109,10 +109,11 @@ impl Identity {
     pub fn from_parts(alloc: Global, certificate: &[u8], chain: &[u8]) -> Result<Identity, CmsFault>
         ensures found { IfOk result (λ identity. (p : CertificateParts) × (further : List (List ℕ))
             × IsCertificate certificate.now p × (length certificate.now ≤ 16384)
-            × AreFurther certificate.now further × (chain.now ≡ joined further)
+            × AreFurtherCertificates certificate.now further × (chain.now ≡ joined further)
             × (identity ≡ identity_with certificate.now further p)) }
         ensures only { (p : CertificateParts) (further : List (List ℕ)) → IsCertificate certificate.now p
-            → length certificate.now ≤ 16384 → AreFurther certificate.now further → chain.now ≡ joined further
+            → length certificate.now ≤ 16384 → AreFurtherCertificates certificate.now further
+            → chain.now ≡ joined further
             → MatchResult result (λ identity. identity ≡ identity_with certificate.now further p)
             (λ fault. fault ≡ Memory) }
         ensures refusals { IfErr result (IsFirstFault certificate.now chain.now) }

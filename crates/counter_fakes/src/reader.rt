@@ -2,7 +2,7 @@ ghost use Rattle.std.specs.Prelude.{◌≡◌, IsErr, Contains};
 ghost use Rattle.std.specs.Io.{ReadsAtMost};
 ghost use Rattle.std.specs.Io.KnownBytes.{ReadConsumes};
 ghost use Rattle.std.specs.Io.Take.{take_limit, take_inner, take_remaining};
-ghost use Rattle.cms.specs.Signer.{next_count};
+ghost use Rattle.std.specs.Hash.DefaultHasher.{wrapping_add};
 
 use std::io::{self, ErrorKind, Read, Take};
 
@@ -40,9 +40,9 @@ impl<R: Read> Read for FailingReader<R> {
         ensures bound { ReadsAtMost result buf.new }
         ensures bytes { ReadConsumes (take_remaining R.remaining self.old.reader)
             (take_remaining R.remaining self.new.reader) result buf.new }
-        ensures calls { self.new.calls ≡ next_count self.old.calls }
+        ensures calls { self.new.calls ≡ wrapping_add self.old.calls 1 }
         ensures same_choice { self.new.chosen ≡ self.old.chosen }
-        ensures chosen { Contains self.old.chosen.items (next_count self.old.calls) → IsErr result }
+        ensures chosen { Contains self.old.chosen.items (wrapping_add self.old.calls 1) → IsErr result }
         ensures octets { take_limit self.old.reader ≡ 0 → IsErr result }
     {
         self.calls = self.calls.wrapping_add(1);

@@ -1,7 +1,7 @@
 ghost use Rattle.std.specs.Prelude.{◌≡◌, ◌+◌, IfOk, OnErr, IsErr, Contains};
 ghost use Rattle.std.specs.Io.{WritesAtMost};
 ghost use Rattle.std.specs.Io.KnownBytes.{Keeps, WriteAppends};
-ghost use Rattle.cms.specs.Signer.{next_count};
+ghost use Rattle.std.specs.Hash.DefaultHasher.{wrapping_add};
 
 use std::io::{self, ErrorKind, Write};
 
@@ -38,9 +38,9 @@ impl<W: Write> Write for FailingWriter<W> {
     fn write(&mut self, buf: &[u8]) -> io::Result<usize>
         ensures bound { WritesAtMost result buf.now }
         ensures bytes { WriteAppends (W.contents self.old.writer) (W.contents self.new.writer) result buf.now }
-        ensures calls { self.new.calls ≡ next_count self.old.calls }
+        ensures calls { self.new.calls ≡ wrapping_add self.old.calls 1 }
         ensures same_choice { self.new.chosen ≡ self.old.chosen }
-        ensures chosen { Contains self.old.chosen.items (next_count self.old.calls) → IsErr result }
+        ensures chosen { Contains self.old.chosen.items (wrapping_add self.old.calls 1) → IsErr result }
         ensures octets { self.old.octets ≡ 0 → IsErr result }
         ensures taken { IfOk result (λ taken. self.new.octets + taken ≡ self.old.octets) }
         ensures refused { OnErr result (self.new.octets ≡ self.old.octets) }

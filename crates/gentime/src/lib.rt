@@ -9,4 +9,4 @@ mod reading;
 
 pub use fault::GenTimeFault;
 pub use laws::{texts_are_distinct, texts_are_rounded, texts_are_short};
-pub use moment::{GenTime, read};
+pub use moment::{GenTime, LAST_MOMENT, read};

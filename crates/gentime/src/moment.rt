@@ -9,8 +9,8 @@ use crate::fault::GenTimeFault;
 use std::alloc::Global;
 use std::marker::Model;
 
-/// 9999-12-31T23:59:59.999999Z.
-const LAST: i64 = 253_402_300_799_999_999;
+/// The last moment that a genTime can state, 9999-12-31T23:59:59.999999Z, in microseconds since 1970-01-01T00:00:00Z.
+pub const LAST_MOMENT: i64 = 253_402_300_799_999_999;
 
 /// A moment from 1970-01-01T00:00:00Z to 9999-12-31T23:59:59.999999Z: whole microseconds since the first, without leap
 /// seconds.
@@ -61,7 +61,7 @@ impl GenTime {
         ensures value { IfOk result (λ moment. pos moment ≡ micros) }
         ensures range { IfErr result (λ fault. fault ≡ GenTimeFault.Range) }
     {
-        if micros < 0 || micros > LAST {
+        if micros < 0 || micros > LAST_MOMENT {
             return Err(GenTimeFault::Range);
         }
         Ok(GenTime {

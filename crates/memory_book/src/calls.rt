@@ -1,5 +1,5 @@
 ghost use Rattle.std.specs.Prelude.{◌≡◌, MatchResult};
-ghost use Rattle.book.specs.Fault.{next_count};
+ghost use Rattle.std.specs.Hash.DefaultHasher.{wrapping_add};
 
 use book::StoreFault;
 
@@ -19,10 +19,10 @@ impl Calls {
 
     /// Counts one call, which is refused with `Database` if it is chosen. Takes no memory.
     pub(crate) fn begin(&mut self) -> Result<(), StoreFault>
-        ensures counted { self.new.count ≡ next_count self.old.count }
+        ensures counted { self.new.count ≡ wrapping_add self.old.count 1 }
         ensures same_choice { self.new.chosen ≡ self.old.chosen }
         ensures faults { MatchResult result (λ _. self.new.faults ≡ self.old.faults)
-            (λ e. self.new.faults ≡ next_count self.old.faults) }
+            (λ e. self.new.faults ≡ wrapping_add self.old.faults 1) }
         ensures chosen { MatchResult result (λ _. IsNextChosen self.old → ⊥)
             (λ e. IsNextChosen self.old × (e ≡ StoreFault.Database)) }
     {

@@ -1,6 +1,7 @@
 use Rattle.std.proofs.Common.{◌≡◌, ◌+◌, ◌∷◌, min, ap, sym, subst, ◌∙◌}
 use Rattle.book.specs.Rows.{StampRow}
 use Rattle.book.specs.History.{History, reservations, stamps_between, stamp_of, token_of}
+use Rattle.book.specs.Sound.{greatest_number}
 use Rattle.memory_book.specs.Entries.{history_of, reservation_value}
 use Rattle.memory_book.specs.Ranges.{oldest_within}
 use Rattle.memory_book.proofs.Repeats.{same_reservations, same_tokens}
@@ -10,7 +11,7 @@ use Rattle.memory_book.proofs.memory_book.MemoryBookBook.next_stamp.Goals as goa
 
 pub returns-in_default-clause-value : goal.returns-in_default-clause-value
 returns-in_default-clause-value c honest b s =
-    let cap = min c.args.to 9223372036854775807 in
+    let cap = min c.args.to greatest_number in
     let kept = ap history_of c.as_slice-entries.ensures.value ∙ s.kept in
     next_none b c.args.from c.args.to s.sound
     (sym (c.in_default.ensures.value
@@ -20,7 +21,7 @@ returns-in_default-clause-value c honest b s =
 
 pub returns-clause-value : goal.returns-clause-value
 returns-clause-value c honest b s =
-    let cap = min c.args.to 9223372036854775807 in
+    let cap = min c.args.to greatest_number in
     let kept = ap history_of c.as_slice-entries.ensures.value ∙ s.kept in
     let x = reservation_value c.in-Some.reservation.now in
     let next = next_some b c.args.from c.args.to x s.sound
