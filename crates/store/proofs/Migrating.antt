@@ -5,7 +5,7 @@ use Rattle.tables.specs.Faults.{opening_fault_of}
 use Rattle.tables.specs.Migrating.{Migrates}
 use Rattle.tables.specs.declared.fault.OpenFault.{OpenFault}
 use Rattle.tables.specs.declared.fault.OpenFault.TheVariants as opening
-use Rattle.book.specs.declared.fault.StoreFault.TheVariants.{NotOurs}
+use Rattle.book.specs.declared.fault.StoreFault.TheVariants.{Database, NotOurs}
 use Rattle.store.specs.Opening.{LeavesOrMigrates}
 use Rattle.store.specs.TablesOf.{tables_of}
 
@@ -15,6 +15,7 @@ migrated_as old new m = record {
   reopens = m.reopens;
   opened = m.opened;
   ok = m.ok;
+  done = m.done;
   err = m.err;
   crash = m.crash;
   same = m.same;
@@ -28,6 +29,7 @@ refused_as e f old new m = record {
   reopens = m.reopens;
   opened = m.opened;
   ok = m.ok;
+  done = m.done;
   err = m.err;
   crash = m.crash;
   same = m.same;
@@ -46,3 +48,8 @@ pub told_not_ours : (fault : OpenFault) → opening_fault_of fault ≡ NotOurs �
 told_not_ours opening.Memory is = absurd (let apart = is in cc)
 told_not_ours opening.Database is = absurd (let apart = is in cc)
 told_not_ours opening.NotOurs is = refl
+
+pub told_database : (fault : OpenFault) → opening_fault_of fault ≡ Database → fault ≡ opening.Database
+told_database opening.Memory is = absurd (let apart = is in cc)
+told_database opening.Database is = refl
+told_database opening.NotOurs is = absurd (let apart = is in cc)

@@ -1,6 +1,7 @@
 -- What the store at a path stands for once it is opened, why it isn't, and what it leaves in its files once it is
 -- closed.
-use Rattle.std.specs.Prelude.{◌≡◌, ◌⊎◌, [], IsTrue, Result, Ok, Err}
+use Rattle.std.specs.Prelude.{◌≡◌, ◌==◌, ◌⊎◌, ℕ, Bool, true, false, if◌then◌else◌, List, [], ◌∷◌, ◌++◌, codes}
+use Rattle.std.specs.Prelude.{IsTrue, Result, Ok, Err}
 use Rattle.sqlite_disk.specs.declared.Disk.{Ghosts}
 use Rattle.sqlite_disk.specs.declared.Files.{Files}
 use Rattle.sqlite_trees.specs.Tree.{Trees}
@@ -10,10 +11,8 @@ use Rattle.sqlite_wal.specs.Recovery.{Image}
 use Rattle.sqlite_store.specs.declared.store.FileStore.{FileStore}
 use Rattle.sqlite_trees.specs.declared.store.Store as store
 use Rattle.sqlite.specs.declared.error.Error.{Error}
-use Rattle.sqlite.specs.declared.error.Error.TheVariants.{SqliteFailure}
-use Rattle.sqlite.specs.declared.error.ErrorCode.TheVariants as code
 use Rattle.book.specs.declared.fault.StoreFault.{StoreFault}
-use Rattle.book.specs.declared.fault.StoreFault.TheVariants.{Memory, Database, NotOurs}
+use Rattle.book.specs.declared.fault.StoreFault.TheVariants.{Database, NotOurs}
 use Rattle.store.specs.declared.finding.Found.{Found}
 use Rattle.store.specs.declared.finding.Found.TheVariants as found
 use Rattle.sqlite.specs.Closing.{HoldsAlone}
@@ -24,8 +23,10 @@ use Rattle.sqlite.specs.Start.{FindsIn}
 use Rattle.sqlite.specs.State.{State, HasCleanDisk}
 use Rattle.tables.specs.Asking.{Looks, StaysUsable}
 use Rattle.tables.specs.Base.{BaseValue, IsStored}
+use Rattle.tables.specs.Faults.{fault_of, opening_fault_of, told, told_using}
 use Rattle.tables.specs.Migrating.{Migrates}
 use Rattle.tables.specs.Opening.{IsFound, IsFoundIn, LooksOurs, LooksForeign, number_of}
+use Rattle.tables.specs.declared.fault.Task.TheVariants.{Open}
 use Rattle.tables.specs.declared.opening.Version.{Version}
 use Rattle.tables.specs.Schema.{no_schema}
 use Rattle.book.specs.History.{History}
@@ -33,7 +34,8 @@ use Rattle.book.specs.Sound.{IsSound}
 use Rattle.store.specs.Stands.{Stands}
 use Rattle.store.specs.TablesOf.{tables_of}
 
--- what a refused making of the tables leaves: all as it was, on a connection that is as usable
+-- what a refused making of the tables leaves, on a connection that is as usable: what is seen, while it is open; of
+-- what a crash leaves it says nothing
 pub record LeavesAsItWas (old new : State) : Type 0 where
   pub clean : HasCleanDisk new → HasCleanDisk old
   pub reopens : HasCleanDisk new → IsTrue new.is_open → IsTrue old.is_open
@@ -113,6 +115,15 @@ OpensNothing {D} g held =
 abbrev pub IsForeign : {D : Type 0} → Ghosts D → Image → Type 0
 IsForeign g held = OpensNothing g held ⊎ OpensForeign g held
 
+-- how a database begins
+abbrev pub beginning : List ℕ
+beginning = codes "SQLite format 3" ++ 0 ∷ []
+
+-- what a file is, by whether it begins so or its log holds octets, and by its length
+abbrev pub found_as : Bool → ℕ → Found
+found_as true len = found.Database
+found_as false len = if len == 0 then found.Empty else found.Other
+
 -- the refusal of an opening, by what stands at its path: no file, one of no octets, a database, another
 abbrev pub fault_where : Found → Result (Unit {0}) StoreFault
 fault_where found.Nothing = Err Database
@@ -127,13 +138,10 @@ fault_where_made found.Empty = Ok tt
 fault_where_made found.Database = Ok tt
 fault_where_made found.Other = Err NotOurs
 
--- by the database's error: want of memory is told of its own alone, and what it finds no database is another's
+-- by the database's error, where its files are opened
 abbrev pub told_opening : Error → StoreFault
-told_opening (SqliteFailure code.OutOfMemory) = Memory
-told_opening (SqliteFailure code.NotADatabase) = NotOurs
-told_opening _ = Database
+told_opening error = opening_fault_of (told error Open)
 
--- the refusal of a closing
+-- and where they are closed
 abbrev pub told_closing : Error → StoreFault
-told_closing (SqliteFailure code.OutOfMemory) = Memory
-told_closing _ = Database
+told_closing error = fault_of (told_using error)

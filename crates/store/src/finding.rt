@@ -1,5 +1,6 @@
 //! What stands at a path, found without changing it.
-ghost use Rattle.std.specs.Prelude.{◌≡◌, ◌⊎◌, IfErr};
+ghost use Rattle.std.specs.Prelude.{◌≡◌, ◌⊎◌, ◌↔◌, IfOk, IfErr, IsTrue};
+ghost use Rattle.store.specs.Opening.{beginning, found_as};
 
 use book::StoreFault;
 use std::fs;
@@ -22,13 +23,21 @@ pub(crate) enum Found {
 /// How a database begins.
 const BEGINNING: &[u8; 16] = b"SQLite format 3\0";
 
+/// A path, and what was found there.
+#[derive(Clone, Copy, Debug)]
+pub(crate) struct Place<'path> {
+    pub(crate) path: &'path str,
+    pub(crate) found: Found,
+}
+
 /// What stands at the path. Refused with `Database` where it can't be read or isn't a file, and with `Memory` where
 /// memory runs out.
-pub(crate) fn find(rt: &HostRuntime, path: &str) -> Result<Found, StoreFault>
-    ensures { IfErr result (λ e. (e ≡ StoreFault.Memory) ⊎ (e ≡ StoreFault.Database)) }
+pub(crate) fn find<'path>(rt: &HostRuntime, path: &'path str) -> Result<Place<'path>, StoreFault>
+    ensures there { IfOk result (λ place. place.path.now ≡ path.now) }
+    ensures refusals { IfErr result (λ e. (e ≡ StoreFault.Memory) ⊎ (e ≡ StoreFault.Database)) }
 {
     match look(rt, path) {
-        Ok(found) => Ok(found),
+        Ok(found) => Ok(Place { path, found }),
         Err(error) if error.kind() == ErrorKind::OutOfMemory => Err(StoreFault::Memory),
         Err(_) => Err(StoreFault::Database),
     }
@@ -43,21 +52,35 @@ fn look(rt: &HostRuntime, path: &str) -> io::Result<Found> {
     if !file.is_file() {
         return Err(ErrorKind::Unsupported.into());
     }
-    if begins_as_database(rt, real.as_str())? || has_log(rt, real.as_str())? {
-        return Ok(Found::Database);
-    }
-    Ok(if file.len() == 0 {
+    let is_database = begins_as_database(rt, real.as_str())? || has_log(rt, real.as_str())?;
+    Ok(found_as(is_database, file.len()))
+}
+
+/// What a file is, by whether it begins as a database or its log holds octets, and by its length.
+fn found_as(is_database: bool, len: u64) -> Found
+    ensures { result ≡ found_as is_database len }
+{
+    if is_database {
+        Found::Database
+    } else if len == 0 {
         Found::Empty
     } else {
         Found::Other
-    })
+    }
 }
 
 fn begins_as_database(rt: &HostRuntime, path: &str) -> io::Result<bool> {
     let mut beginning = [0; 16];
     let mut file = File::open(rt, path)?;
     let count = file.read(&mut beginning)?;
-    Ok(count == BEGINNING.len() && beginning == *BEGINNING)
+    Ok(is_beginning(count, &beginning))
+}
+
+/// Whether so many octets were read, and they are how a database begins.
+fn is_beginning(count: usize, octets: &[u8; 16]) -> bool
+    ensures { IsTrue result ↔ ((count ≡ 16) × (octets.now ≡ beginning)) }
+{
+    count == BEGINNING.len() && *octets == *BEGINNING
 }
 
 /// Whether the log beside a file holds octets: where a first opening was cut short, the file may be in the log alone.

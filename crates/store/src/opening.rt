@@ -7,7 +7,7 @@ ghost use Rattle.sqlite.specs.State.{HasCleanDisk};
 ghost use Rattle.tables.specs.Asking.{Looks};
 ghost use Rattle.tables.specs.Migrating.{Migrates};
 ghost use Rattle.tables.specs.Opening.{IsFound, IsFoundIn, LooksOurs, LooksAs, LooksForeign, IsInTheWay};
-ghost use Rattle.tables.specs.Opening.{number_of, takes_name};
+ghost use Rattle.tables.specs.Opening.{IsUntold, number_of, takes_name};
 ghost use Rattle.tables.specs.declared.opening.Version.{Version};
 ghost use Rattle.tables.specs.Schema.{no_schema};
 ghost use Rattle.book.specs.History.{History};
@@ -18,10 +18,10 @@ ghost use Rattle.store.specs.TablesOf.{tables_of};
 
 use crate::store::Store;
 use book::StoreFault;
-use sqlite::{Alter, Connection, Error, ErrorCode, FileStore};
+use sqlite::{Alter, Connection, Error, FileStore};
 use sqlite_disk::{Disk, Files};
 use std::alloc::Global;
-use tables::{Base, migrate};
+use tables::{Base, TableFault, migrate};
 
 impl<S: Alter + Drop> Store<S> {
     /// Makes all tables in an empty database, in one commit. The caller's condition is a connection outside any
@@ -34,6 +34,8 @@ impl<S: Alter + Drop> Store<S> {
         ensures stands { IfOk result (λ store. (state S.Store conn).now.schema ≡ no_schema → Stands S.Store [] store) }
         ensures unused { IfOk result (λ store. HasCleanDisk (state S.Store store.conn)
             → takes_name (state S.Store conn).now.schema ≡ false) }
+        ensures opened { IfOk result (λ store. HasCleanDisk (state S.Store store.conn)
+            → IsTrue (state S.Store conn).is_open × IsTrue (state S.Store store.conn).is_open) }
         ensures kept { IfErr result (λ e. LeavesAsItWas (state S.Store conn) (state S.Store e.1)) }
         ensures crash { MatchResult result (λ store. LeavesOrMakes (state S.Store conn) (state S.Store store.conn))
             (λ e. LeavesOrMakes (state S.Store conn) (state S.Store e.1)) }
@@ -67,6 +69,8 @@ impl<S: Alter + Drop> Store<S> {
             → (b : History) → ¬ IsFound (tables_of b) (state S.Store conn)) }
         ensures foreign { IfErr result (λ e. e.0 ≡ StoreFault.NotOurs → HasCleanDisk (state S.Store e.1)
             → LooksForeign (state S.Store conn)) }
+        ensures untold { IfErr result (λ e. e.0 ≡ StoreFault.Database → HasCleanDisk (state S.Store e.1)
+            → IsUntold (state S.Store conn) (state S.Store e.1)) }
         ensures closed { IfErr result (λ e. e.1.in_transaction ≡ false) }
         ensures uncounted { IfOk result (λ store. store.faults ≡ 0) }
         ensures refusals { IfErr result (λ e. (e.0 ≡ StoreFault.Memory)
@@ -82,7 +86,7 @@ impl<S: Alter + Drop> Store<S> {
 impl<S: Alter + Drop> Store<S> {
     /// Takes tables of an earlier version to those of now, in one commit, and keeps each row; tables of now stay as they
     /// are. The caller's condition is a connection outside any transaction. Refused with `Memory`, `Database`, or
-    /// `NotOurs` where the tables are of no version of the counter's; all is as it was then.
+    /// `NotOurs` where the tables are of no version of the counter's; what is seen is as it was then.
     pub fn migrate(conn: &mut Connection<S>) -> Result<(), StoreFault>
         requires { conn.old.in_transaction ≡ false }
         ensures closed { conn.new.in_transaction ≡ false }
@@ -93,6 +97,9 @@ impl<S: Alter + Drop> Store<S> {
         ensures not_ours { IfErr result (λ e. e ≡ StoreFault.NotOurs → HasCleanDisk (state S.Store conn.new)
             → IsTrue (state S.Store conn.new).is_open → (v : Version) (b : History)
             → ¬ IsFoundIn (number_of v) (tables_of b) (state S.Store conn.old)) }
+        ensures untold { IfErr result (λ e. e ≡ StoreFault.Database → HasCleanDisk (state S.Store conn.new)
+            → IsUntold (state S.Store conn.old) (state S.Store conn.new)
+            ⊎ ((v : Version) × LooksAs v (state S.Store conn.old))) }
         ensures refusals { IfErr result (λ e. (e ≡ StoreFault.Memory)
             ⊎ ((e ≡ StoreFault.Database) ⊎ (e ≡ StoreFault.NotOurs))) }
     {
@@ -124,8 +131,5 @@ fn closing_fault(error: Error) -> StoreFault
     ensures value { result ≡ told_closing error }
     ensures refusals { (result ≡ StoreFault.Memory) ⊎ (result ≡ StoreFault.Database) }
 {
-    match error {
-        Error::SqliteFailure(ErrorCode::OutOfMemory) => StoreFault::Memory,
-        _ => StoreFault::Database,
-    }
+    StoreFault::from(TableFault::of(error))
 }

@@ -1,22 +1,24 @@
 //! The database at a path: how its store is opened, and how it is made.
-ghost use Rattle.std.specs.Prelude.{◌≡◌, ◌⊎◌, ◌↔◌, [], false, IfOk, IfErr, IsTrue};
+ghost use Rattle.std.specs.Prelude.{◌≡◌, ◌⊎◌, ◌↔◌, [], false, Ok, IfOk, IfErr, IsTrue};
 ghost use Rattle.sqlite_wal.specs.Files.{image_at};
-ghost use Rattle.sqlite.specs.Files.{file_state, over_files, IsOpened};
+ghost use Rattle.sqlite.specs.Files.{file_state, over_files, IsOpened, IsBlankAs};
 ghost use Rattle.sqlite.specs.Held.{state};
 ghost use Rattle.sqlite.specs.Start.{FindsIn};
 ghost use Rattle.sqlite.specs.State.{HasCleanDisk};
+ghost use Rattle.sqlite_store.specs.FileStore.{view};
 ghost use Rattle.tables.specs.Schema.{no_schema};
 ghost use Rattle.store.specs.Stands.{Stands};
 ghost use Rattle.store.specs.Opening.{OpensFound, IsForeign, OpensNothing, IsMigrated, MigratesFound};
 ghost use Rattle.store.specs.Opening.{told_opening};
 ghost use Rattle.store.specs.Opening.{fault_where, fault_where_made};
 
-use crate::finding::{Found, find};
+use crate::finding::{Found, Place, find};
 use crate::store::Store;
 use book::StoreFault;
 use sqlite::{Alter, Connection, Error, ErrorCode, FileFrom, FileStore, Start};
 use sqlite_disk::Disk;
 use std::alloc::Global;
+use tables::{OpenFault, Task};
 
 impl<T: Start + Drop> Store<FileStore<FileFrom<T>>> {
     /// Opens the counter's database at a path. Refused with `Memory`; with `Database` where no file stands there, or it
@@ -33,9 +35,8 @@ impl<T: Start + Drop> Store<FileStore<FileFrom<T>>> {
         ensures refusals { IfErr result (λ e. (e ≡ StoreFault.Memory)
             ⊎ ((e ≡ StoreFault.Database) ⊎ (e ≡ StoreFault.NotOurs))) }
     {
-        let found = find(rt, path)?;
-        may_open(found)?;
-        Store::open_files(rt, path, start)
+        let place = find_database(rt, path)?;
+        Store::open_files(rt, place, start)
     }
 
     /// Makes the tables in a new database at a path, where no file stands, one of no octets, or a database without
@@ -47,14 +48,15 @@ impl<T: Start + Drop> Store<FileStore<FileFrom<T>>> {
         start: T,
     ) -> Result<Store<FileStore<FileFrom<T>>>, StoreFault>
         ensures made { IfOk result (λ store. Stands over_files [] store) }
+        ensures opened { IfOk result (λ store. HasCleanDisk (file_state store.conn)
+            → IsTrue (file_state store.conn).is_open) }
         ensures uncounted { IfOk result (λ store. store.faults ≡ 0) }
         ensures refusals { IfErr result (λ e. (e ≡ StoreFault.Memory)
             ⊎ ((e ≡ StoreFault.Database) ⊎ (e ≡ StoreFault.NotOurs))) }
     {
-        let found = find(rt, path)?;
-        may_make(found)?;
-        let conn = connect(rt, path, start)?;
-        create_or_drop(rt.alloc(), conn)
+        let place = find(rt, path)?;
+        may_make(place.found)?;
+        Store::make_files(rt, place, start)
     }
 
     /// Takes the counter's database at a path to the schema of now, in one commit, and keeps each row; one of that
@@ -65,21 +67,17 @@ impl<T: Start + Drop> Store<FileStore<FileFrom<T>>> {
         ensures refusals { IfErr result (λ e. (e ≡ StoreFault.Memory)
             ⊎ ((e ≡ StoreFault.Database) ⊎ (e ≡ StoreFault.NotOurs))) }
     {
-        let found = find(rt, path)?;
-        may_open(found)?;
-        let conn = connect(rt, path, start)?;
-        match migrate_files(conn) {
-            Ok(()) => Ok(()),
-            Err(fault) => Err(fault),
-        }
+        let place = find_database(rt, path)?;
+        Store::migrate_at_place(rt, place, start)
     }
 
-    /// Opens the files at a path, where a database stands.
+    /// Opens the files at a place. The caller's condition is that a database was found there.
     fn open_files(
         rt: &HostRuntime,
-        path: &str,
+        place: Place<'_>,
         start: T,
     ) -> Result<Store<FileStore<FileFrom<T>>>, StoreFault>
+        requires { fault_where place.found ≡ Ok tt }
         ensures found { IfOk result (λ store. HasCleanDisk (file_state store.conn)
             → OpensFound (image_at T.Start) store) }
         ensures foreign { IfErr result (λ e. e ≡ StoreFault.NotOurs → IsForeign ⟦<FileFrom<T> as Disk>⟧ (image_at T.Start)) }
@@ -87,10 +85,43 @@ impl<T: Start + Drop> Store<FileStore<FileFrom<T>>> {
         ensures refusals { IfErr result (λ e. (e ≡ StoreFault.Memory)
             ⊎ ((e ≡ StoreFault.Database) ⊎ (e ≡ StoreFault.NotOurs))) }
     {
-        let conn = connect(rt, path, start)?;
+        let conn = connect(rt, place.path, start)?;
         match Store::adopt(rt.alloc(), conn) {
             Ok(store) => Ok(store),
             Err((fault, _conn)) => Err(fault),
+        }
+    }
+
+    /// Makes the tables at a place. The caller's condition is that no file was found there, one of no octets, or a
+    /// database.
+    fn make_files(
+        rt: &HostRuntime,
+        place: Place<'_>,
+        start: T,
+    ) -> Result<Store<FileStore<FileFrom<T>>>, StoreFault>
+        requires { fault_where_made place.found ≡ Ok tt }
+        ensures made { IfOk result (λ store. Stands over_files [] store) }
+        ensures opened { IfOk result (λ store. HasCleanDisk (file_state store.conn)
+            → IsTrue (file_state store.conn).is_open) }
+        ensures uncounted { IfOk result (λ store. store.faults ≡ 0) }
+        ensures refusals { IfErr result (λ e. (e ≡ StoreFault.Memory)
+            ⊎ ((e ≡ StoreFault.Database) ⊎ (e ≡ StoreFault.NotOurs))) }
+    {
+        let conn = connect(rt, place.path, start)?;
+        create_or_drop(rt.alloc(), conn)
+    }
+
+    /// Takes the tables at a place to the schema of now. The caller's condition is that a database was found there.
+    fn migrate_at_place(rt: &HostRuntime, place: Place<'_>, start: T) -> Result<(), StoreFault>
+        requires { fault_where place.found ≡ Ok tt }
+        ensures migrated { IfOk result (λ _. MigratesFound ⟦<FileFrom<T> as Disk>⟧ (image_at T.Start)) }
+        ensures refusals { IfErr result (λ e. (e ≡ StoreFault.Memory)
+            ⊎ ((e ≡ StoreFault.Database) ⊎ (e ≡ StoreFault.NotOurs))) }
+    {
+        let conn = connect(rt, place.path, start)?;
+        match migrate_files(conn) {
+            Ok(()) => Ok(()),
+            Err(fault) => Err(fault),
         }
     }
 }
@@ -108,6 +139,18 @@ fn migrate_files<D: Disk + Drop>(mut conn: Connection<FileStore<D>>) -> Result<(
         Ok(_files) => Ok(()),
         Err((_error, _left)) => Ok(()),
     }
+}
+
+/// The place of a database.
+fn find_database<'path>(rt: &HostRuntime, path: &'path str) -> Result<Place<'path>, StoreFault>
+    ensures found { IfOk result (λ place. fault_where place.found ≡ Ok tt) }
+    ensures there { IfOk result (λ place. place.path.now ≡ path.now) }
+    ensures refusals { IfErr result (λ e. (e ≡ StoreFault.Memory)
+        ⊎ ((e ≡ StoreFault.Database) ⊎ (e ≡ StoreFault.NotOurs))) }
+{
+    let place = find(rt, path)?;
+    may_open(place.found)?;
+    Ok(place)
 }
 
 /// Whether a store may be opened where this was found.
@@ -142,6 +185,8 @@ fn connect<T: Start + Drop>(
     ensures opened { IfOk result (λ conn. HasCleanDisk (file_state conn) → IsOpened conn) }
     ensures found { IfOk result (λ conn. HasCleanDisk (file_state conn)
         → FindsIn (image_at T.Start) (file_state conn)) }
+    ensures plain { IfOk result (λ conn. HasCleanDisk (file_state conn) → IsBlankAs false (image_at T.Start)
+        → (view conn.store).has_sums ≡ false) }
     ensures none { IfErr result (λ e. e ≡ StoreFault.NotOurs → OpensNothing ⟦<FileFrom<T> as Disk>⟧ (image_at T.Start)) }
     ensures refusals { IfErr result (λ e. (e ≡ StoreFault.Memory)
         ⊎ ((e ≡ StoreFault.Database) ⊎ (e ≡ StoreFault.NotOurs))) }
@@ -159,11 +204,7 @@ fn opening_fault(error: Error) -> StoreFault
     ensures refusals { (result ≡ StoreFault.Memory) ⊎ ((result ≡ StoreFault.Database)
         ⊎ (result ≡ StoreFault.NotOurs)) }
 {
-    match error {
-        Error::SqliteFailure(ErrorCode::OutOfMemory) => StoreFault::Memory,
-        Error::SqliteFailure(ErrorCode::NotADatabase) => StoreFault::NotOurs,
-        _ => StoreFault::Database,
-    }
+    StoreFault::from(OpenFault::of(error, Task::Open))
 }
 
 /// Makes the tables in a database that has none yet.
@@ -173,6 +214,8 @@ fn create_or_drop<S: Alter + Drop>(
 ) -> Result<Store<S>, StoreFault>
     requires { conn.in_transaction ≡ false }
     ensures made { IfOk result (λ store. Stands S.Store [] store) }
+    ensures opened { IfOk result (λ store. HasCleanDisk (state S.Store store.conn)
+        → IsTrue (state S.Store store.conn).is_open) }
     ensures uncounted { IfOk result (λ store. store.faults ≡ 0) }
     ensures refusals { IfErr result (λ e. (e ≡ StoreFault.Memory)
         ⊎ ((e ≡ StoreFault.Database) ⊎ (e ≡ StoreFault.NotOurs))) }

@@ -18,7 +18,7 @@ use book::{
 use sqlite::{Alter, Connection};
 use std::alloc::Global;
 use std::marker::Model;
-use tables::{Base, Change, LastStamp, LatestCalibration};
+use tables::{Base, Change, ColumnNumber, LastStamp, LatestCalibration};
 
 /// The history of what the counter accepted, kept in tables. Each change is one commit.
 ///
@@ -67,7 +67,7 @@ impl<S: Alter + Drop> Book for Store<S> {
 
     fn count_of_day(&mut self, account: &str, day: u64) -> Result<u64, StoreFault> {
         // No genTime is on so late a day, and no column can have a later one.
-        let count = self.base.tally(account, day.min(GREATEST_NUMBER))?;
+        let count = self.base.tally(account, ColumnNumber::at_most(day))?;
         Ok(count.unwrap_or(0))
     }
 
@@ -236,12 +236,13 @@ impl<S: Alter + Drop> Book for Store<S> {
     }
 
     fn next_stamp(&mut self, from: u64, to: u64) -> Result<Option<Stamp>, StoreFault> {
-        let to = to.min(GREATEST_NUMBER);
-        if from > to {
+        let last = ColumnNumber::at_most(to);
+        if from > last.value {
             return Ok(None);
         }
-        let found = self.base.next_stamp(from, to)?;
-        Ok(only_within(found, from, to))
+        let first = ColumnNumber::at_most(from);
+        let found = self.base.next_stamp(first, last)?;
+        Ok(only_within(found, from, last.value))
     }
 
     fn faults(&self) -> u64 {

@@ -1,17 +1,21 @@
 -- A query in a transaction that is undone.
 use Rattle.std.proofs.Common.{◌≡◌, ◌⊎◌, ℕ, List, None, Some, true, Result, Ok, Err, IfOk, IfErr, OnOk}
-use Rattle.std.proofs.Common.{IsTrue, refl, sym, ◌∙◌, subst, inl, inr, arith, append-nil}
-use Rattle.std.specs.Prelude.{Option}
+use Rattle.std.proofs.Common.{IsTrue, refl, sym, ◌∙◌, subst, inl, inr, arith, append-nil, ◌≢◌, ◌≤◌}
+use Rattle.std.specs.Prelude.{Option, IsSome}
 use Rattle.sqlite_value.specs.Order.{Row}
 use Rattle.sqlite_trees.specs.declared.store.Store.{Ghosts}
 use Rattle.sqlite.specs.declared.error.Error.{Error}
-use Rattle.sqlite.specs.Effect.{Reads}
+use Rattle.sqlite.specs.Effect.{Reads, RefusesToRead}
 use Rattle.sqlite_schema.specs.declared.command.Returning.{Returning}
 use Rattle.sqlite_resolve.specs.declared.compiled.Compiled.{Compiled}
 use Rattle.sqlite.specs.Held.{Held, state}
 use Rattle.sqlite.specs.Listing.{understood}
 use Rattle.sqlite.specs.State.{State, HasCleanDisk, Survives, IsRolledBack, IsUnchanged, KeepsCommit, IsNotRun}
-use Rattle.sqlite.specs.State.{FailsToQuery, FailsToShow, IsTooLate, Shown, ShowsRows}
+use Rattle.sqlite.specs.State.{Fails, FailsToQuery, FailsToShow, IsTooLate, Shown, ShowsRows}
+use Rattle.sqlite.specs.declared.error.Error.TheVariants.{SqliteFailure}
+use Rattle.sqlite.specs.declared.error.ErrorCode.TheVariants as code
+use Rattle.sqlite_trees.specs.declared.error.StoreError.TheVariants as stored
+use Rattle.tables.specs.Opening.{HasFailed, IsRefused, IsUnanswered, IsUnderstood}
 use Rattle.sqlite.proofs.Callers.{reads_as, command_of}
 use Rattle.tables.specs.Schema.{the_schema}
 use Rattle.tables.specs.Asking.{IsQueryText, IsPlainIn, Answers, TellsRows, Looks, StaysUsable}
@@ -22,6 +26,21 @@ unchanged_keeps old new u = record { was_open = λ o. u.0.was_open; committed = 
 
 rolled_keeps : (old new : State) → IsRolledBack old new → KeepsCommit old new
 rolled_keeps old new r = record { was_open = r.was_open; committed = λ o. (r.undone o).1 }
+
+-- a store that fails for another cause than memory was shut, or its disk failed or refused
+pub fails_so : (old new : State) (e : Error) → e ≢ SqliteFailure code.OutOfMemory → Fails old new ⊥ e
+    → HasFailed old new
+fails_so old new e other (stored.OutOfMemory, is, why, back, tells) = absurd (other is)
+fails_so old new e other (stored.Io, is, why, back, tells) = inr why
+fails_so old new e other (stored.Corrupt, is, why, back, tells) = inr why
+fails_so old new e other (stored.Full, is, why, back, tells) = inr why
+fails_so old new e other (stored.Broken, is, why, back, tells) = inl why
+fails_so old new e other (stored.Unstorable, is, why, back, tells) = absurd why
+
+-- what failed before a later moment failed before that
+pub failed_later : (old mid new : State) → mid.faults ≤ new.faults → HasFailed old mid → HasFailed old new
+failed_later old mid new more (inl shut) = inl shut
+failed_later old mid new more (inr failed) = inr (omega (arith, more, failed))
 
 module _ (sql : List ℕ) (params : Row) (old new : State) where
   shows_keeps : (c : Compiled) (given : Row) (rows : List Row) (returning : Option Returning)
@@ -75,6 +94,33 @@ module _ (sql : List ℕ) (params : Row) (old new : State) where
       let bare = plain h.0 h.1.is in
       let it = rw (bare.0, bare.1, append-nil params) at h.2 in
       (h.0, h.1.is, it.0, it.1, it.2)
+
+  refuses : (plain : IsPlainIn old.now.schema sql) (e : Error) (c : Compiled) (given : Row)
+      → understood old.now.schema sql ≡ Ok c → given ≡ params → (returning : Option Returning) → returning ≡ None
+      → FailsToShow old new sql c given e returning → IsRefused sql params old
+  refuses plain e c given is same None none h =
+      (c, is, h.0, h.1, e, subst (λ p. RefusesToRead old.step_limit c.command h.0 p e) same h.2)
+  refuses plain e c given is same (Some what) none h = absurd (let apart = none in cc)
+
+  -- a query that fails for another cause than memory
+  pub fails_unanswered : IsPlainIn old.now.schema sql → (e : Error) → e ≢ SqliteFailure code.OutOfMemory
+      → FailsToQuery sql params old new e → IsUnanswered sql params old new
+  unfolding FailsToQuery IsNotRun
+  fails_unanswered plain e other (inl (inl (inl fault, same))) =
+      inr (inl (λ known. subst IsUnderstood fault.1 known))
+  fails_unanswered plain e other (inl (inl (inr (c, is, inl many), same))) = inr (inr (inl (c, is, inl many.0)))
+  fails_unanswered plain e other (inl (inl (inr (c, is, inr (inl count)), same))) =
+      inr (inr (inl (c, is, inr (inl count.0))))
+  fails_unanswered plain e other (inl (inl (inr (c, is, inr (inr clock)), same))) =
+      inr (inr (inl (c, is, inr (inr clock.0))))
+  fails_unanswered plain e other (inl (inr fails)) = inl (fails_so old new e other fails)
+  fails_unanswered plain e other (inr h) =
+      let bare = plain h.0 h.1.is in
+      inr (inr (inr (refuses plain e h.0 _ h.1.is (rw bare.1 (append-nil params)) h.0.returning bare.0 h.2)))
+
+  pub late_unanswered : {X : Type 0} → IsPlainIn old.now.schema sql → (e : Error) → IsTooLate sql params old new e → X
+  late_unanswered plain e (c, it, some, out, is, same) =
+      absurd (let none = (plain c it.is).0 in let there = subst IsSome none some in cc)
 
 module _ {S R : Type 0} (g : Ghosts S) (items : R → List Row) (old mid last : Held S) (sql : List ℕ) (params : Row)
     (text : IsQueryText sql) (result : Result R Error)
@@ -152,6 +198,31 @@ module _ {S R : Type 0} (g : Ghosts S) (items : R → List Row) (old mid last : 
   pub answered : HasCleanDisk (state g last) → IsPlainIn (state g old).now.schema sql
       → IfOk result (λ rows. Answers sql params (state g old).now (items rows))
   answered clean plain = answers result plain (ok (middle clean))
+
+  misses : (r : Result R Error) → IsPlainIn (state g old).now.schema sql
+      → IfErr r (λ e. FailsToQuery sql params (state g (record old { in_transaction = true })) (state g mid) e
+      ⊎ IsTooLate sql params (state g (record old { in_transaction = true })) (state g mid) e)
+      → IfErr r (λ e. e ≢ SqliteFailure code.OutOfMemory → IsUnanswered sql params (state g old) (state g mid))
+  misses (Ok rows) plain err = tt
+  misses (Err e) plain (inl fails) =
+      λ other. fails_unanswered sql params (state g (record old { in_transaction = true })) (state g mid) plain e other
+      fails
+  misses (Err e) plain (inr late) =
+      late_unanswered sql params (state g (record old { in_transaction = true })) (state g mid) plain e late
+
+  later : IsUnanswered sql params (state g old) (state g mid) → IsUnanswered sql params (state g old) (state g last)
+  later (inl failed) = inl (failed_later (state g old) (state g mid) (state g last) then.counts failed)
+  later (inr why) = inr why
+
+  missed : (r : Result R Error)
+      → IfErr r (λ e. e ≢ SqliteFailure code.OutOfMemory → IsUnanswered sql params (state g old) (state g mid))
+      → IfErr r (λ e. e ≢ SqliteFailure code.OutOfMemory → IsUnanswered sql params (state g old) (state g last))
+  missed (Ok rows) why = tt
+  missed (Err e) why = λ other. later (why other)
+
+  pub unanswered : HasCleanDisk (state g last) → IsPlainIn (state g old).now.schema sql
+      → IfErr result (λ e. e ≢ SqliteFailure code.OutOfMemory → IsUnanswered sql params (state g old) (state g last))
+  unanswered clean plain = missed result (misses result plain (err (middle clean)))
 
   pub was_opened : HasCleanDisk (state g last) → OnOk result (IsTrue (state g old).is_open)
   was_opened clean = opens result (ok (middle clean))

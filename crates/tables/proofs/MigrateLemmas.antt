@@ -423,6 +423,8 @@ current_migrates old new looks opened only = record {
   opened = opened;
   ok = λ clean is_open v t found. still_found t old new looks clean is_open
       (found_now t old (subst (λ w. IsFoundIn (number_of w) t old) (only clean v t found.0) found));
+  done = λ clean v t found. inr (found_now t old
+      (subst (λ w. IsFoundIn (number_of w) t old) (only clean v t found.0) found));
   err = λ clean is_open settled. tt;
   crash = λ clean db may. inl (looks.leaves clean db may);
   same = λ clean t found. looks;
@@ -436,6 +438,7 @@ refused_migrates e old new looks = record {
   reopens = looks.reopens;
   opened = λ clean. tt;
   ok = λ clean is_open v t found. tt;
+  done = λ clean v t found. tt;
   err = looks.kept;
   crash = λ clean db may. inl (looks.leaves clean db may);
   same = λ clean t found. looks;
@@ -480,6 +483,8 @@ module _ (from : Version) (other : from ≢ version.Current) (old mid new : Stat
     ok = λ clean is_open v t found.
         let was : IsTrue mid.is_open = commits.reopens clean is_open in
         rw is at commits.ok clean t (seen clean was v t found);
+    done = λ clean v t found.
+        let both : IsTrue mid.is_open × IsTrue new.is_open = rw is at commits.opened clean in inl both.1;
     err = λ clean is_open settled. tt;
     crash = crashed;
     same = λ clean t found. absurd (not_now clean t found);
@@ -492,6 +497,7 @@ module _ (from : Version) (other : from ≢ version.Current) (old mid new : Stat
     reopens = reopened;
     opened = λ clean. tt;
     ok = λ clean is_open v t found. tt;
+    done = λ clean v t found. tt;
     err = λ clean is_open settled.
         let before = looks.kept (commits.clean clean) (commits.reopens clean is_open) settled in
         let after : (new.now ≡ mid.now) × (new.now ≡ new.committed) = rw is at commits.err clean is_open before.1 in

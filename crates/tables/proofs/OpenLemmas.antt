@@ -1,7 +1,7 @@
 -- Whether tables are ours, and of which version.
 use Rattle.std.proofs.Common.{◌≡◌, ◌↔◌, Bool, codes, ℕ, ◌+◌, None, Some, Option, pos, true, false, List, [], ◌∷◌}
-use Rattle.std.proofs.Common.{Result, Ok, Err, IfErr, IfOk, IsTrue, refl, sym, ap, ◌∙◌, subst, inl, inr}
-use Rattle.std.proofs.Common.{arith}
+use Rattle.std.proofs.Common.{Result, Ok, Err, IfErr, IfOk, OnOk, IsTrue, refl, sym, ap, ◌∙◌, subst, inl}
+use Rattle.std.proofs.Common.{inr, arith, ◌≢◌, ◌≤◌, length}
 use Rattle.sqlite_value.specs.declared.value.Value.TheVariants.{Int}
 use Rattle.sqlite_value.specs.Order.{Row}
 use Rattle.sqlite_trees.specs.declared.error.StoreError.{StoreError}
@@ -13,10 +13,11 @@ use Rattle.sqlite_resolve.specs.declared.compiled.Compiled.{Compiled}
 use Rattle.sqlite_resolve.specs.declared.error.CompileError.{CompileError}
 use Rattle.sqlite_tied.specs.Compute.{everything}
 use Rattle.sqlite.specs.declared.error.Error.{Error}
-use Rattle.sqlite.specs.declared.error.Error.TheVariants.{SqlInputError}
+use Rattle.sqlite.specs.declared.error.Error.TheVariants.{SqliteFailure, SqlInputError}
+use Rattle.sqlite.specs.declared.error.ErrorCode.TheVariants as code
 use Rattle.sqlite.specs.Outline.{Outline}
 use Rattle.sqlite.specs.Steps.{Outlines}
-use Rattle.sqlite.specs.Effect.{Database, Reads}
+use Rattle.sqlite.specs.Effect.{Database, Reads, RefusesToRead}
 use Rattle.sqlite.specs.Listing.{understood, reads_listing, listing_schema, if_select, IsSourceOf}
 use Rattle.sqlite_syntax.specs.declared.statement.Parsed.{Parsed}
 use Rattle.sqlite_schema.specs.declared.schema.Schema.{Schema}
@@ -33,9 +34,11 @@ use Rattle.tables.specs.declared.opening.Version.TheVariants as version
 use Rattle.tables.specs.Tables.{Tables}
 use Rattle.tables.specs.Holding.{AreRows, IsDatabaseIn, version_cells}
 use Rattle.tables.specs.Names as name
-use Rattle.tables.specs.Asking.{IsQueryText, IsPlainIn, Answers, Looks}
+use Rattle.tables.specs.Asking.{IsQueryText, IsPlainIn, Answers, Looks, StaysUsable}
 use Rattle.tables.specs.Opening.{all_columns, second_columns, first_columns, version_query, number_of}
 use Rattle.tables.specs.Opening.{IsUnderstood, IsKnownAs, IsVersion, LooksForeign, TellsVersion}
+use Rattle.tables.specs.Opening.{HasFailed, IsUnfit, IsRefused, IsUnprepared, IsUnanswered}
+use Rattle.tables.proofs.AskLemmas.{fails_so}
 use Rattle.tables.proofs.UsableLemmas.{survivor_usable}
 use Rattle.tables.proofs.ReadLemmas.{program_of, no_limit, passes, shows, answered}
 use Rattle.tables.proofs.ChangeLemmas.{found_are}
@@ -114,6 +117,50 @@ pub known_as : (v : Version) (t : Tables) (d : Database) → IsDatabaseIn (numbe
     → IsKnownAs found d.schema → found ≡ Some v
 known_as v t d is found known = known_in v found (subst (IsKnownAs found) is.schema known)
 
+-- a text that isn't prepared, for another cause than memory, and than that it isn't understood
+pub unprepared : (old new : State) (sql : List ℕ) (e : Error) → e ≢ SqliteFailure code.OutOfMemory
+    → ((f : CompileError) → e ≢ SqlInputError f) → IsNotRun old new sql [] e → IsUnprepared sql old new
+unfolding IsNotRun
+unprepared old new sql e other read (inl (inl fault, same)) = absurd (read fault.0 fault.2)
+unprepared old new sql e other read (inl (inr (c, is, inl many), same)) = inr (c, is, inl many.0)
+unprepared old new sql e other read (inl (inr (c, is, inr (inl count)), same)) = inr (c, is, inr (inl count.0))
+unprepared old new sql e other read (inl (inr (c, is, inr (inr clock)), same)) = inr (c, is, inr (inr clock.0))
+unprepared old new sql e other read (inr fails) = inl (fails_so old new e other fails)
+
+-- what failed after a look at a connection that was open failed since that
+module _ (old mid new : State) (usable : StaysUsable old mid) (clean : HasCleanDisk mid) (is_open : IsTrue old.is_open)
+    (counts : mid.faults ≤ new.faults) (same : mid.now ≡ old.now) where
+  failed_since : HasFailed mid new → HasFailed old new
+  failed_since (inl shut) = elim (usable.stays clean is_open) [
+    | inl still ↦ absurd (let apart = still in cc)
+    | inr failed ↦ inr (omega (arith, counts, failed))
+  ]
+  failed_since (inr failed) = let more = usable.counts in inr (omega (arith, more, failed))
+
+  pub unprepared_since : (sql : List ℕ) → IsUnprepared sql mid new → IsUnprepared sql old new
+  unprepared_since sql (inl failed) = inl (failed_since failed)
+  unprepared_since sql (inr unfit) = inr (subst (λ (d : Database). IsUnfit sql 0 d.schema) same unfit)
+
+  source_since : (sql : List ℕ) (params : Row) → mid.step_limit ≡ old.step_limit → IsRefused sql params mid
+      → IsRefused sql params old
+  source_since sql params limit refused =
+      subst (λ (d : Database). (c : Compiled) × (understood d.schema sql ≡ Ok c) × (source : Database)
+      × IsSourceOf (reads_listing d.schema sql) d source × (error : Error)
+      × RefusesToRead old.step_limit c.command source params error) same
+      (subst (λ limit. (c : Compiled) × (understood mid.now.schema sql ≡ Ok c) × (source : Database)
+      × IsSourceOf (reads_listing mid.now.schema sql) mid.now source × (error : Error)
+      × RefusesToRead limit c.command source params error) limit refused)
+
+  pub unanswered_since : (sql : List ℕ) (params : Row) → IsUnanswered sql params mid new
+      → IsUnanswered sql params old new
+  unanswered_since sql params (inl failed) = inl (failed_since failed)
+  unanswered_since sql params (inr (inl unknown)) =
+      inr (inl (subst (λ (d : Database). ¬ IsUnderstood (understood d.schema sql)) same unknown))
+  unanswered_since sql params (inr (inr (inl unfit))) =
+      inr (inr (inl (subst (λ (d : Database). IsUnfit sql (length params) d.schema) same unfit)))
+  unanswered_since sql params (inr (inr (inr refused))) =
+      inr (inr (inr (source_since sql params usable.limit refused)))
+
 no_input_error : (cause : StoreError) (f : CompileError) → ¬ (SqlInputError f ≡ store_error cause)
 no_input_error OutOfMemory f e = cc
 no_input_error Io f e = cc
@@ -138,6 +185,34 @@ pub unknown_same : (old new : State) (sql : List ℕ) (f : CompileError) → IsN
 unfolding IsNotRun
 unknown_same old new sql f (inl none) = (none.1.0.now_is, none.1.0.was_open)
 unknown_same old new sql f (inr fails) = absurd (no_input_error fails.0 f fails.1)
+
+-- what is answered to an error of a text that is prepared
+module _ (old new : State) (sql : List ℕ) (error : Error) (not_run : IsNotRun old new sql [] error) where
+  abbrev pub IsKnown : Bool → Type 0
+  IsKnown found = (found ≡ false) × ((f : CompileError) × (error ≡ SqlInputError f))
+
+  pub read_opened : (r : Result Bool Error) → IfOk r IsKnown → OnOk r (IsTrue old.is_open)
+  read_opened (Ok found) (answer, (f, is)) = (unknown_same old new sql f (subst (IsNotRun old new sql []) is not_run)).1
+  read_opened (Err e) known = tt
+
+  pub read_same : (r : Result Bool Error) → IfOk r IsKnown → OnOk r (new.now ≡ old.now)
+  read_same (Ok found) (answer, (f, is)) = (unknown_same old new sql f (subst (IsNotRun old new sql []) is not_run)).0
+  read_same (Err e) known = tt
+
+  pub read_told : (r : Result Bool Error) → IfOk r IsKnown
+      → IfOk r (λ found. IsTrue found ↔ IsUnderstood (understood old.now.schema sql))
+  read_told (Ok found) (answer, (f, is)) = (
+    (λ y. absurd (let apart = y in cc)),
+    (λ known. absurd (never_known old new sql f (subst (IsNotRun old new sql []) is not_run) known)),
+  )
+  read_told (Err e) known = tt
+
+  pub read_unprepared : (r : Result Bool Error)
+      → IfErr r (λ e. (e ≡ error) × ((f : CompileError) → error ≢ SqlInputError f))
+      → IfErr r (λ e. e ≢ SqliteFailure code.OutOfMemory → IsUnprepared sql old new)
+  read_unprepared (Ok found) read = tt
+  read_unprepared (Err e) (same, read) =
+      λ other. unprepared old new sql error (λ memory. other (same ∙ memory)) read not_run
 
 -- ---- the row of `meta`
 

@@ -1,5 +1,6 @@
 -- The changes, each committed at once.
 use Rattle.std.specs.Prelude.{◌≡◌, ℕ, ◌<◌, ◌^◌, None}
+use Rattle.std.specs.Hash.DefaultHasher.{wrapping_add}
 use Rattle.tables.specs.Tables.{Tables, with_stamp, with_token, with_deposit, with_calibration, with_hold, with_reader}
 use Rattle.tables.specs.Tables.{without_reader, with_group_reader, without_group_reader, with_identity}
 use Rattle.tables.specs.declared.change.Change.{Change}
@@ -7,7 +8,6 @@ use Rattle.tables.specs.declared.change.Change.TheVariants.{Reserve, Seal, Depos
 use Rattle.tables.specs.declared.change.Change.TheVariants.{GrantGroup, RevokeGroup, Install}
 use Rattle.tables.specs.declared.fault.TableFault.{TableFault}
 use Rattle.tables.specs.declared.fault.TableFault.TheVariants.{Memory, Database}
-use Rattle.book.specs.Fault.{next_count}
 use Rattle.book.specs.History.{stamp_of}
 use Rattle.book.specs.Values.{reservation_view}
 
@@ -33,7 +33,7 @@ applied (Install number after_serial certificate chain) t = with_identity record
 
 abbrev pub IsCounted : TableFault → ℕ → ℕ → Type 0
 IsCounted Memory old new = new ≡ old
-IsCounted Database old new = new ≡ next_count old
+IsCounted Database old new = new ≡ wrapping_add old 1
 
 -- a column of INTEGER can have its numbers
 abbrev pub FitsColumns : Change → Type 0

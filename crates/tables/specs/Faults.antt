@@ -6,6 +6,8 @@ use Rattle.tables.specs.declared.fault.TableFault.{TableFault}
 use Rattle.tables.specs.declared.fault.TableFault.TheVariants as table
 use Rattle.tables.specs.declared.fault.OpenFault.{OpenFault}
 use Rattle.tables.specs.declared.fault.OpenFault.TheVariants as opening
+use Rattle.tables.specs.declared.fault.Task.{Task}
+use Rattle.tables.specs.declared.fault.Task.TheVariants as task
 use Rattle.book.specs.declared.fault.StoreFault.{StoreFault}
 use Rattle.book.specs.declared.fault.StoreFault.TheVariants.{Memory, Database, NotOurs}
 
@@ -18,19 +20,19 @@ opening_fault_of opening.Memory = Memory
 opening_fault_of opening.Database = Database
 opening_fault_of opening.NotOurs = NotOurs
 
--- want of memory is told of the database's own alone
-abbrev pub told : Error → TableFault
-told (SqliteFailure code.OutOfMemory) = table.Memory
-told _ = table.Database
+-- an error as a refusal, by what was done: want of memory is told of the database's own alone; files that hold no
+-- database are another's, and so are a name that is taken and a statement that isn't understood where tables are made
+abbrev pub told : Error → Task → OpenFault
+told (SqliteFailure code.OutOfMemory) _ = opening.Memory
+told (SqliteFailure code.NotADatabase) task.Open = opening.NotOurs
+told (SqliteFailure code.NameTaken) task.Make = opening.NotOurs
+told (SqlInputError f) task.Make = opening.NotOurs
+told _ _ = opening.Database
 
--- the same of tables that are looked for
-abbrev pub told_adopting : Error → OpenFault
-told_adopting (SqliteFailure code.OutOfMemory) = opening.Memory
-told_adopting _ = opening.Database
+-- where tables are used there are no others
+abbrev pub used : OpenFault → TableFault
+used opening.Memory = table.Memory
+used _ = table.Database
 
--- and of tables that are made: a name that is taken, or a statement that isn't understood, is of another's database
-abbrev pub told_creating : Error → OpenFault
-told_creating (SqliteFailure code.OutOfMemory) = opening.Memory
-told_creating (SqliteFailure code.NameTaken) = opening.NotOurs
-told_creating (SqlInputError f) = opening.NotOurs
-told_creating _ = opening.Database
+abbrev pub told_using : Error → TableFault
+told_using error = used (told error task.Use)

@@ -15,6 +15,9 @@ pub record Migrates {E : Type 0} (old new : State) (result : Result (Unit {0}) E
   -- tables of any version are the same tables of now
   pub ok : HasCleanDisk new → IsTrue new.is_open → (v : Version) (t : Tables) → IsFoundIn (number_of v) t old
       → OnOk result (IsFound t new)
+  -- done, the connection is open still, where the tables weren't those of now
+  pub done : HasCleanDisk new → (v : Version) (t : Tables) → IsFoundIn (number_of v) t old
+      → OnOk result (IsTrue new.is_open ⊎ IsFound t old)
   pub err : HasCleanDisk new → IsTrue new.is_open → old.now ≡ old.committed
       → OnErr result ((new.now ≡ old.now) × (new.now ≡ new.committed))
   -- a crash leaves what it could leave before, or the tables as tables of now

@@ -1,6 +1,6 @@
 -- When a connection's tables are taken for ours.
 use Rattle.std.specs.Prelude.{◌≡◌, ◌⊎◌, ℕ, pos, Bool, true, false, List, [], ◌∷◌, codes, Result, Ok, Err, ⊤, IsTrue}
-use Rattle.std.specs.Prelude.{Option, None, Some}
+use Rattle.std.specs.Prelude.{Option, None, Some, ◌≢◌, ◌≤◌, length}
 use Rattle.std.specs.List.{list_any}
 use Rattle.sqlite_value.specs.declared.value.Value.TheVariants.{Int}
 use Rattle.sqlite_value.specs.Order.{Row, column}
@@ -9,8 +9,9 @@ use Rattle.sqlite_resolve.specs.declared.error.CompileError.{CompileError}
 use Rattle.sqlite_schema.specs.declared.schema.Schema.{Schema}
 use Rattle.sqlite_catalog.specs.Change.{is_used}
 use Rattle.sqlite.specs.Does.{lacks_sequence}
-use Rattle.sqlite.specs.Effect.{IsDatabase}
-use Rattle.sqlite.specs.Listing.{understood}
+use Rattle.sqlite_disk.specs.Disk.{MoreFaults}
+use Rattle.sqlite.specs.Effect.{Database, IsDatabase, RefusesToRead}
+use Rattle.sqlite.specs.Listing.{understood, reads_listing, IsSourceOf}
 use Rattle.sqlite.specs.State.{State}
 use Rattle.sqlite.specs.declared.error.Error.{Error}
 use Rattle.sqlite.specs.declared.error.Error.TheVariants.{SqliteFailure, SqlInputError}
@@ -100,6 +101,39 @@ LooksOurs = LooksAs version.Current
 -- a connection not to be taken
 abbrev pub LooksForeign : State → Type 0
 LooksForeign = LooksOtherThan all_columns the_version
+
+-- a query that is understood is more than one statement with so many parameters, or reads the time
+abbrev pub IsUnfit : List ℕ → ℕ → Schema → Type 0
+IsUnfit sql count s = (c : Compiled) × (understood s sql ≡ Ok c)
+    × ((¬ (length sql ≤ c.tail)) ⊎ ((count ≢ length c.names) ⊎ (c.formats ≢ [])))
+
+-- the database refuses to answer a query that it understands
+abbrev pub IsRefused : List ℕ → Row → State → Type 0
+IsRefused sql params s = (c : Compiled) × (understood s.now.schema sql ≡ Ok c)
+    × (source : Database) × IsSourceOf (reads_listing s.now.schema sql) s.now source
+    × (error : Error) × RefusesToRead s.step_limit c.command source params error
+
+-- why the database answers nothing, beside want of memory: it was shut, or its disk failed or refused meanwhile
+abbrev pub HasFailed : State → State → Type 0
+HasFailed old new = (old.is_open ≡ false) ⊎ MoreFaults old.faults new.faults
+
+-- or the query itself
+abbrev pub IsUnanswered : List ℕ → Row → State → State → Type 0
+IsUnanswered sql params old new =
+    HasFailed old new
+    ⊎ ((¬ IsUnderstood (understood old.now.schema sql))
+    ⊎ (IsUnfit sql (length params) old.now.schema ⊎ IsRefused sql params old))
+
+-- the same of whether a query is understood
+abbrev pub IsUnprepared : List ℕ → State → State → Type 0
+IsUnprepared sql old new = HasFailed old new ⊎ IsUnfit sql 0 old.now.schema
+
+-- why it isn't told of which version a connection's tables are, beside want of memory: where a version's tables and
+-- columns are known the row of `meta` may be refused
+abbrev pub IsUntold : State → State → Type 0
+IsUntold old new =
+    ((v : Version) × IsUnprepared (columns_of v) old new)
+    ⊎ ((v : Version) × IsKnownAs (Some v) old.now.schema × IsUnanswered version_query [] old new)
 
 -- what is told of a connection's tables
 abbrev pub TellsVersion : Option Version → State → Type 0

@@ -7,6 +7,7 @@ ghost use Rattle.sqlite.specs.Held.{state};
 ghost use Rattle.sqlite.specs.State.{HasCleanDisk};
 ghost use Rattle.sqlite.specs.Values.{bound};
 ghost use Rattle.tables.specs.Holding.{token_cell};
+ghost use Rattle.tables.specs.Opening.{IsUnanswered};
 ghost use Rattle.tables.specs.Schema.{the_schema};
 ghost use Rattle.tables.specs.Asking.{IsQueryText, IsPlainIn, Answers, TellsRows, TellsFirst, TellsFirstAs, Looks};
 
@@ -28,6 +29,9 @@ pub(crate) fn rows_of<S: Alter>(
         → IfOk result (λ rows. TellsRows sql.now (bound params.now) (state S.Store conn.old).now.trees rows.items) }
     ensures answered { HasCleanDisk (state S.Store conn.new) → IsPlainIn (state S.Store conn.old).now.schema sql.now
         → IfOk result (λ rows. Answers sql.now (bound params.now) (state S.Store conn.old).now rows.items) }
+    ensures unanswered { HasCleanDisk (state S.Store conn.new) → IsPlainIn (state S.Store conn.old).now.schema sql.now
+        → IfErr result (λ e. e ≢ Error.SqliteFailure ErrorCode.OutOfMemory
+        → IsUnanswered sql.now (bound params.now) (state S.Store conn.old) (state S.Store conn.new)) }
 {
     let mut tx = conn.transaction();
     let rows = tx.query_all(sql, params);

@@ -1,16 +1,16 @@
 //! A connection to the tables' database, with the count of its faults.
 
-ghost use Rattle.std.specs.Prelude.{◌≡◌, ◌≢◌, ◌⊎◌, true, false, Ok, Err, IfOk, IfErr, OnOk, OnErr};
+ghost use Rattle.std.specs.Prelude.{◌≡◌, ◌⊎◌, false, Ok, Err, IfOk, IfErr, OnOk, OnErr};
 ghost use Rattle.sqlite.specs.Held.{state};
 ghost use Rattle.sqlite.specs.State.{HasCleanDisk};
 ghost use Rattle.tables.specs.Asking.{Looks, StaysUsable};
-ghost use Rattle.tables.specs.Opening.{IsFound, LooksOurs, LooksForeign, Creates, IsInTheWay, takes_name, tells_taken};
+ghost use Rattle.tables.specs.Opening.{IsFound, LooksOurs, LooksForeign, Creates, IsInTheWay, IsUntold, takes_name};
 ghost use Rattle.tables.specs.Schema.{no_schema};
 ghost use Rattle.sqlite_trees.specs.Tree.{Trees};
 ghost use Rattle.tables.specs.Tables.{Tables, no_rows};
 ghost use Rattle.tables.specs.Base.{IsHonest, IsOpen, Keeps, Recovers, IsStored};
 ghost use Rattle.tables.specs.Changes.{applied, IsCounted};
-ghost use Rattle.tables.specs.Faults.{told, told_adopting, told_creating};
+ghost use Rattle.tables.specs.Faults.{told_using};
 
 mod groups;
 mod identities;
@@ -19,10 +19,10 @@ mod queries;
 
 use crate::change::Change;
 use crate::creating::make_tables;
-use crate::fault::{OpenFault, TableFault};
+use crate::fault::{OpenFault, TableFault, Task};
 use crate::opening::{Version, found_version};
 use crate::writing::commit_change;
-use sqlite::{Alter, Connection, Error, ErrorCode};
+use sqlite::{Alter, Connection, Error};
 use std::marker::Model;
 
 /// A connection, and how many of its calls were refused for another cause than memory.
@@ -45,27 +45,6 @@ impl<S: Alter + Drop> Model for Base<S> {
     ghost invariant = { λ b. b.conn.in_transaction ≡ false };
 }
 
-pub(crate) fn create_fault(error: Error) -> OpenFault
-    ensures value { result ≡ told_creating error }
-    ensures taken { result ≡ OpenFault.NotOurs → tells_taken error ≡ true }
-{
-    match error {
-        Error::SqliteFailure(ErrorCode::OutOfMemory) => OpenFault::Memory,
-        Error::SqliteFailure(ErrorCode::NameTaken) | Error::SqlInputError(_) => OpenFault::NotOurs,
-        _ => OpenFault::Database,
-    }
-}
-
-pub(crate) fn open_fault(error: Error) -> OpenFault
-    ensures value { result ≡ told_adopting error }
-    ensures never { result ≢ OpenFault.NotOurs }
-{
-    match error {
-        Error::SqliteFailure(ErrorCode::OutOfMemory) => OpenFault::Memory,
-        _ => OpenFault::Database,
-    }
-}
-
 impl<S: Alter + Drop> Base<S> {
     /// Makes the tables in a database that has none, all in one commit, and gives the connection back with a refusal.
     pub fn create(mut conn: Connection<S>) -> Result<Base<S>, (OpenFault, Connection<S>)>
@@ -83,7 +62,7 @@ impl<S: Alter + Drop> Base<S> {
     {
         match make_tables(&mut conn) {
             Ok(()) => Ok(Base { conn, faults: 0 }),
-            Err(error) => Err((create_fault(error), conn)),
+            Err(error) => Err((OpenFault::of(error, Task::Make), conn)),
         }
     }
 
@@ -99,6 +78,8 @@ impl<S: Alter + Drop> Base<S> {
             → ¬ IsFound t (state S.Store conn)) }
         ensures foreign { IfErr result (λ e. e.0 ≡ OpenFault.NotOurs → HasCleanDisk (state S.Store e.1)
             → LooksForeign (state S.Store conn)) }
+        ensures untold { IfErr result (λ e. e.0 ≡ OpenFault.Database → HasCleanDisk (state S.Store e.1)
+            → IsUntold (state S.Store conn) (state S.Store e.1)) }
         ensures closed { IfErr result (λ e. e.1.in_transaction ≡ false) }
     {
         match found_version(&mut conn) {
@@ -107,23 +88,22 @@ impl<S: Alter + Drop> Base<S> {
             Ok(Some(Version::First)) => Err((OpenFault::NotOurs, conn)),
             Ok(Some(Version::Second)) => Err((OpenFault::NotOurs, conn)),
             Ok(None) => Err((OpenFault::NotOurs, conn)),
-            Err(error) => Err((open_fault(error), conn)),
+            Err(error) => Err((OpenFault::of(error, Task::Use), conn)),
         }
     }
 
     /// Want of memory as it is, and any other refusal as a fault that is counted.
     fn fault(&mut self, error: Error) -> TableFault
-        ensures value { result ≡ told error }
+        ensures value { result ≡ told_using error }
         ensures same { self.new.conn ≡ self.old.conn }
         ensures counted { IsCounted result self.old.faults self.new.faults }
     {
-        match error {
-            Error::SqliteFailure(ErrorCode::OutOfMemory) => TableFault::Memory,
-            _ => {
-                self.faults = self.faults.wrapping_add(1);
-                TableFault::Database
-            }
+        let fault = TableFault::of(error);
+        match fault {
+            TableFault::Memory => {}
+            TableFault::Database => self.faults = self.faults.wrapping_add(1),
         }
+        fault
     }
 
     /// Makes the change in one commit.

@@ -1,17 +1,16 @@
 //! Tables of an earlier version of the schema, taken to that of now.
 
-ghost use Rattle.std.specs.Prelude.{◌≡◌, false, IfErr, OnOk, IsTrue};
+ghost use Rattle.std.specs.Prelude.{◌≡◌, ◌⊎◌, false, IfErr, OnOk, IsTrue};
 ghost use Rattle.sqlite.specs.Held.{state};
 ghost use Rattle.sqlite.specs.State.{HasCleanDisk};
 ghost use Rattle.tables.specs.Carrying.{LeadsOn, CommitsFrom};
 ghost use Rattle.tables.specs.Holding.{IsDatabaseOf, IsDatabaseIn, IsOnTheWay};
 ghost use Rattle.tables.specs.Migrating.{Migrates};
-ghost use Rattle.tables.specs.Opening.{IsFoundIn, LooksAs, number_of, tells_taken};
+ghost use Rattle.tables.specs.Opening.{IsFoundIn, IsUntold, LooksAs, number_of, tells_taken};
 ghost use Rattle.tables.specs.Tables.{Tables};
 ghost use Rattle.tables.specs.declared.opening.Version.{Version as Value};
 
-use crate::base::{create_fault, open_fault};
-use crate::fault::OpenFault;
+use crate::fault::{OpenFault, Task};
 use crate::opening::{Version, found_version};
 use sqlite::{Alter, Connection, Error, Transaction};
 
@@ -133,17 +132,20 @@ pub fn migrate<S: Alter>(conn: &mut Connection<S>) -> Result<(), OpenFault>
     ensures not_ours { IfErr result (λ e. e ≡ OpenFault.NotOurs → HasCleanDisk (state S.Store conn.new)
         → IsTrue (state S.Store conn.new).is_open → (v : Value) (t : Tables)
         → ¬ IsFoundIn (number_of v) t (state S.Store conn.old)) }
+    ensures untold { IfErr result (λ e. e ≡ OpenFault.Database → HasCleanDisk (state S.Store conn.new)
+        → IsUntold (state S.Store conn.old) (state S.Store conn.new)
+        ⊎ ((v : Value) × LooksAs v (state S.Store conn.old))) }
 {
     let version = match found_version(conn) {
         Ok(Some(version)) => version,
         Ok(None) => return Err(OpenFault::NotOurs),
-        Err(error) => return Err(open_fault(error)),
+        Err(error) => return Err(OpenFault::of(error, Task::Use)),
     };
     if version.is_current() {
         return Ok(());
     }
     match take_on(conn, version) {
         Ok(()) => Ok(()),
-        Err(error) => Err(create_fault(error)),
+        Err(error) => Err(OpenFault::of(error, Task::Make)),
     }
 }

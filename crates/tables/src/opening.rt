@@ -1,17 +1,19 @@
 //! Whether the tables of a connection are ours, and of which version of the schema.
 
-ghost use Rattle.std.specs.Prelude.{◌≡◌, ◌↔◌, [], Some, false, IsTrue, IfOk, OnOk};
+ghost use Rattle.std.specs.Prelude.{◌≡◌, ◌≢◌, ◌↔◌, [], Some, false, IsTrue, IfOk, IfErr, OnOk};
+ghost use Rattle.sqlite_resolve.specs.declared.error.CompileError.{CompileError};
 ghost use Rattle.sqlite.specs.Held.{state};
 ghost use Rattle.sqlite.specs.Listing.{understood};
 ghost use Rattle.sqlite.specs.State.{HasCleanDisk};
 ghost use Rattle.tables.specs.Asking.{Answers, Looks};
 ghost use Rattle.tables.specs.Holding.{IsDatabaseIn};
-ghost use Rattle.tables.specs.Opening.{version_query, IsUnderstood, IsKnownAs, IsVersion, TellsVersion, number_of};
+ghost use Rattle.tables.specs.Opening.{version_query, columns_of, number_of, IsUnderstood, IsKnownAs, IsVersion};
+ghost use Rattle.tables.specs.Opening.{IsUnprepared, IsUnanswered, IsUntold, TellsVersion};
 ghost use Rattle.tables.specs.Tables.{Tables};
 
 use crate::asking::rows_of;
 use sqlite::types::ValueRef;
-use sqlite::{Alter, Connection, Error, Row};
+use sqlite::{Alter, Connection, Error, ErrorCode, Row};
 
 const ALL_COLUMNS: &str =
     "SELECT meta.version, stamp.serial, stamp.account, stamp.day, stamp.gen, stamp.policy, stamp.algorithm, \
@@ -72,6 +74,17 @@ impl Version {
     }
 }
 
+/// That a text isn't understood, where an error says it; any other error is handed on.
+fn not_understood(error: Error) -> Result<bool, Error>
+    ensures known { IfOk result (λ yes. (yes ≡ false) × ((f : CompileError) × (error ≡ Error.SqlInputError f))) }
+    ensures other { IfErr result (λ e. (e ≡ error) × ((f : CompileError) → error ≢ Error.SqlInputError f)) }
+{
+    match error {
+        Error::SqlInputError(_) => Ok(false),
+        other => Err(other),
+    }
+}
+
 /// Whether a query is understood. It is never run.
 fn understands<S: Alter>(conn: &mut Connection<S>, sql: &str) -> Result<bool, Error>
     requires { conn.old.in_transaction ≡ false }
@@ -80,13 +93,15 @@ fn understands<S: Alter>(conn: &mut Connection<S>, sql: &str) -> Result<bool, Er
     ensures opened { HasCleanDisk (state S.Store conn.new) → OnOk result (IsTrue (state S.Store conn.old).is_open) }
     ensures same { HasCleanDisk (state S.Store conn.new)
         → OnOk result ((state S.Store conn.new).now ≡ (state S.Store conn.old).now) }
+    ensures unprepared { HasCleanDisk (state S.Store conn.new)
+        → IfErr result (λ e. e ≢ Error.SqliteFailure ErrorCode.OutOfMemory
+        → IsUnprepared sql.now (state S.Store conn.old) (state S.Store conn.new)) }
     ensures told { HasCleanDisk (state S.Store conn.new)
         → IfOk result (λ yes. IsTrue yes ↔ IsUnderstood (understood (state S.Store conn.old).now.schema sql.now)) }
 {
     match conn.prepare(sql) {
         Ok(_) => Ok(true),
-        Err(Error::SqlInputError(_)) => Ok(false),
-        Err(error) => Err(error),
+        Err(error) => not_understood(error),
     }
 }
 
@@ -108,6 +123,9 @@ fn has_version<S: Alter>(conn: &mut Connection<S>, number: u8) -> Result<bool, E
     ensures closed { conn.new.in_transaction ≡ false }
     ensures looks { Looks (state S.Store conn.old) (state S.Store conn.new) }
     ensures opened { HasCleanDisk (state S.Store conn.new) → OnOk result (IsTrue (state S.Store conn.old).is_open) }
+    ensures unanswered { HasCleanDisk (state S.Store conn.new)
+        → IfErr result (λ e. e ≢ Error.SqliteFailure ErrorCode.OutOfMemory
+        → IsUnanswered version_query [] (state S.Store conn.old) (state S.Store conn.new)) }
     ensures told { HasCleanDisk (state S.Store conn.new) → IfOk result (λ yes. (rows : _)
         × Answers version_query [] (state S.Store conn.old).now rows × (IsTrue yes ↔ IsVersion number rows)) }
 {
@@ -123,6 +141,9 @@ fn known_version<S: Alter>(conn: &mut Connection<S>) -> Result<Option<Version>, 
     ensures opened { HasCleanDisk (state S.Store conn.new) → OnOk result (IsTrue (state S.Store conn.old).is_open) }
     ensures same { HasCleanDisk (state S.Store conn.new)
         → OnOk result ((state S.Store conn.new).now ≡ (state S.Store conn.old).now) }
+    ensures unprepared { HasCleanDisk (state S.Store conn.new)
+        → IfErr result (λ e. e ≢ Error.SqliteFailure ErrorCode.OutOfMemory
+        → (v : Version) × IsUnprepared (columns_of v) (state S.Store conn.old) (state S.Store conn.new)) }
     ensures known { HasCleanDisk (state S.Store conn.new)
         → IfOk result (λ found. IsKnownAs found (state S.Store conn.old).now.schema) }
 {
@@ -149,6 +170,9 @@ pub(crate) fn found_version<S: Alter>(conn: &mut Connection<S>) -> Result<Option
         → IsDatabaseIn (number_of v) t (state S.Store conn.old).now → IfOk result (λ found. found ≡ Some v) }
     ensures shown { HasCleanDisk (state S.Store conn.new)
         → IfOk result (λ found. TellsVersion found (state S.Store conn.old)) }
+    ensures untold { HasCleanDisk (state S.Store conn.new)
+        → IfErr result (λ e. e ≢ Error.SqliteFailure ErrorCode.OutOfMemory
+        → IsUntold (state S.Store conn.old) (state S.Store conn.new)) }
 {
     let Some(version) = known_version(conn)? else {
         return Ok(None);

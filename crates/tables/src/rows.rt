@@ -1,4 +1,25 @@
-ghost use Rattle.std.specs.Prelude.{◌<◌, ◌^◌};
+ghost use Rattle.std.specs.Prelude.{◌≡◌, ◌<◌, ◌^◌, min};
+ghost use Rattle.book.specs.Sound.{greatest_number};
+
+use book::GREATEST_NUMBER;
+
+/// A number that a column of INTEGER can have.
+#[derive(Clone, Copy, Debug, PartialEq, Eq)]
+pub struct ColumnNumber {
+    pub value: u64,
+    ghost small: { value < 2 ^ 63 },
+}
+
+impl ColumnNumber {
+    /// The number, or the greatest that a column can have, whichever is less.
+    pub fn at_most(number: u64) -> ColumnNumber
+        ensures { result.value ≡ min number greatest_number }
+    {
+        ColumnNumber {
+            value: number.min(GREATEST_NUMBER),
+        }
+    }
+}
 
 /// What a look-up of the stamp with the greatest serial number shows.
 #[derive(Clone, Copy, Debug, PartialEq, Eq)]

@@ -17,7 +17,7 @@ ghost use Rattle.tables.specs.Steps.{with_stamp_alone};
 ghost use Rattle.tables.specs.Tables.{Tables, with_token, StampRow, is_stamp};
 
 use crate::asking::{first_row, number, octets, octets_or_none, text};
-use crate::rows::{LastStamp, Origin};
+use crate::rows::{ColumnNumber, LastStamp, Origin};
 use book::{DAY, GREATEST_NUMBER, Reservation, Stamp};
 use sqlite::types::ValueRef;
 use sqlite::{Alter, Connection, Error, Row, Transaction};
@@ -195,23 +195,23 @@ pub(crate) fn origin<S: Alter>(
 /// The stamp with the least serial number from `from` on and up to `to`.
 pub(crate) fn next_stamp<S: Alter>(
     conn: &mut Connection<S>,
-    from: u64,
-    to: u64,
+    from: ColumnNumber,
+    to: ColumnNumber,
 ) -> Result<Option<Stamp>, Error>
     requires { conn.old.in_transaction ≡ false }
     ensures closed { conn.new.in_transaction ≡ false }
     ensures looks { Looks (state S.Store conn.old) (state S.Store conn.new) }
     ensures opened { HasCleanDisk (state S.Store conn.new) → OnOk result (IsTrue (state S.Store conn.old).is_open) }
     ensures value { HasCleanDisk (state S.Store conn.new) → (t : Tables) → IsDatabaseOf t (state S.Store conn.old).now
-        → IfOk result (λ found. IsLeastAs ShowsStamp (λ row. row.serial) (is_within from to) t.stamps found) }
+        → IfOk result (λ found. IsLeastAs ShowsStamp (λ row. row.serial) (is_within from.value to.value) t.stamps found) }
 {
-    if from > GREATEST_NUMBER || to > GREATEST_NUMBER {
-        return Err(Error::IntegralValueOutOfRange(0));
-    }
     first_stamp(
         conn,
         NEXT_STAMP,
-        &[ValueRef::Int(from as i64), ValueRef::Int(to as i64)],
+        &[
+            ValueRef::Int(from.value as i64),
+            ValueRef::Int(to.value as i64),
+        ],
     )
 }
 

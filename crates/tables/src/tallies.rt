@@ -12,7 +12,7 @@ ghost use Rattle.tables.specs.Steps.{with_raised, with_first_tally, with_count};
 ghost use Rattle.tables.specs.Tables.{Tables, is_tally_of};
 
 use crate::asking::first_number;
-use book::GREATEST_NUMBER;
+use crate::rows::ColumnNumber;
 use sqlite::types::ValueRef;
 use sqlite::{Alter, Connection, Error, Transaction};
 
@@ -87,24 +87,21 @@ pub(crate) fn count_stamp<S: Alter>(
 pub(crate) fn tally<S: Alter>(
     conn: &mut Connection<S>,
     account: &str,
-    day: u64,
+    day: ColumnNumber,
 ) -> Result<Option<u64>, Error>
     requires { conn.old.in_transaction ≡ false }
     ensures closed { conn.new.in_transaction ≡ false }
     ensures looks { Looks (state S.Store conn.old) (state S.Store conn.new) }
     ensures opened { HasCleanDisk (state S.Store conn.new) → OnOk result (IsTrue (state S.Store conn.old).is_open) }
     ensures value { HasCleanDisk (state S.Store conn.new) → (t : Tables) → IsDatabaseOf t (state S.Store conn.old).now
-        → IfOk result (λ count. IsFoundAs ShowsCount (is_tally_of account.now day) t.tallies count) }
+        → IfOk result (λ count. IsFoundAs ShowsCount (is_tally_of account.now day.value) t.tallies count) }
 {
-    if day > GREATEST_NUMBER {
-        return Err(Error::IntegralValueOutOfRange(0));
-    }
     first_number(
         conn,
         TALLY,
         &[
             ValueRef::Text(account.as_bytes()),
-            ValueRef::Int(day as i64),
+            ValueRef::Int(day.value as i64),
         ],
     )
 }

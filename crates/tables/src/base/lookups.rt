@@ -14,7 +14,7 @@ ghost use Rattle.tables.specs.Changes.{IsCounted};
 
 use super::Base;
 use crate::fault::TableFault;
-use crate::rows::{Label, Origin};
+use crate::rows::{ColumnNumber, Label, Origin};
 use crate::{deposits, readers, stamps};
 use book::{Deposit, Stamp};
 use sqlite::Alter;
@@ -51,11 +51,15 @@ impl<S: Alter + Drop> Base<S> {
     }
 
     /// The stamp with the least serial number from `from` on and up to `to`.
-    pub fn next_stamp(&mut self, from: u64, to: u64) -> Result<Option<Stamp>, TableFault>
+    pub fn next_stamp(
+        &mut self,
+        from: ColumnNumber,
+        to: ColumnNumber,
+    ) -> Result<Option<Stamp>, TableFault>
         ensures reads { OnlyReads S.Store self.old self.new }
         ensures opened { IsHonest S.Store self.new → OnOk result (IsOpen S.Store self.old) }
         ensures value { IsHonest S.Store self.new → (t : Tables) → Keeps S.Store t self.old
-            → IfOk result (λ found. IsLeastAs ShowsStamp (λ row. row.serial) (is_within from to) t.stamps found) }
+            → IfOk result (λ found. IsLeastAs ShowsStamp (λ row. row.serial) (is_within from.value to.value) t.stamps found) }
         ensures counted { IfErr result (λ e. IsCounted e self.old.faults self.new.faults) }
         ensures uncounted { OnOk result (self.new.faults ≡ self.old.faults) }
     {

@@ -10,7 +10,7 @@ ghost use Rattle.tables.specs.Changes.{IsCounted};
 
 use super::Base;
 use crate::fault::TableFault;
-use crate::rows::{LastStamp, LatestCalibration};
+use crate::rows::{ColumnNumber, LastStamp, LatestCalibration};
 use crate::{calibrations, holds, stamps, tallies};
 use sqlite::Alter;
 
@@ -31,11 +31,11 @@ impl<S: Alter + Drop> Base<S> {
     }
 
     /// How many stamps the account has on the day, where a row says it.
-    pub fn tally(&mut self, account: &str, day: u64) -> Result<Option<u64>, TableFault>
+    pub fn tally(&mut self, account: &str, day: ColumnNumber) -> Result<Option<u64>, TableFault>
         ensures reads { OnlyReads S.Store self.old self.new }
         ensures opened { IsHonest S.Store self.new → OnOk result (IsOpen S.Store self.old) }
         ensures value { IsHonest S.Store self.new → (t : Tables) → Keeps S.Store t self.old
-            → IfOk result (λ count. IsFoundAs ShowsCount (is_tally_of account.now day) t.tallies count) }
+            → IfOk result (λ count. IsFoundAs ShowsCount (is_tally_of account.now day.value) t.tallies count) }
         ensures counted { IfErr result (λ e. IsCounted e self.old.faults self.new.faults) }
         ensures uncounted { OnOk result (self.new.faults ≡ self.old.faults) }
     {

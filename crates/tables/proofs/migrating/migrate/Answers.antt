@@ -1,4 +1,4 @@
-use Rattle.std.proofs.Common.{◌≡◌, ◌≢◌}
+use Rattle.std.proofs.Common.{◌≡◌, ◌≢◌, inl, refl}
 use Rattle.sqlite.specs.Held.{state}
 use Rattle.tables.specs.declared.opening.Version.TheVariants as version
 use Rattle.tables.proofs.MigrateLemmas.{current_migrates, earlier_migrates, earlier_refused, earlier_ours}
@@ -41,7 +41,7 @@ returns-in-Err-take_on-clause-migrates g c =
     (λ clean v t is.
     let some = c.in-Ok-Some.ensures.found clean v t is in
     let found = c.in-Ok-Some.field-0-is in
-    cc) c.take_on.result c.take_on.ensures.commits c.create_fault.result c.in-Err-take_on.error c.in-Err-take_on.is
+    cc) c.take_on.result c.take_on.ensures.commits c.of-in-Err-take_on.result c.in-Err-take_on.error c.in-Err-take_on.is
 
 pub returns-in-Err-take_on-clause-not_ours : goal.returns-in-Err-take_on-clause-not_ours
 returns-in-Err-take_on-clause-not_ours g c told clean is_open v t found =
@@ -54,4 +54,7 @@ returns-in-Err-take_on-clause-not_ours g c told clean is_open v t found =
     let some = c.in-Ok-Some.ensures.found clean v t is in
     let found = c.in-Ok-Some.field-0-is in
     cc) c.take_on.result c.take_on.ensures.commits c.in-Err-take_on.error c.in-Err-take_on.is
-    c.take_on.ensures.taken (c.create_fault.ensures.taken told) clean is_open v t found
+    c.take_on.ensures.taken (c.of-in-Err-take_on.ensures.taken refl told) clean is_open v t found
+
+pub returns-in-Err-clause-untold : goal.returns-in-Err-clause-untold
+returns-in-Err-clause-untold g c told clean = inl (c.in-Err.ensures.untold clean (c.of.ensures.memory told))

@@ -1,8 +1,9 @@
-use Rattle.std.proofs.Common.{◌∙◌, sym, subst}
+use Rattle.std.proofs.Common.{◌∙◌, sym, subst, inr, []}
+use Rattle.std.proofs.lemmas.Result.{err_from_is_err_and}
 use Rattle.sqlite.specs.Held.{state}
 use Rattle.sqlite.specs.Effect.{Database}
-use Rattle.tables.specs.Opening.{IsKnownAs, number_of}
-use Rattle.tables.proofs.OpenLemmas.{known_as, not_said, shown_foreign, TellsNumber}
+use Rattle.tables.specs.Opening.{IsKnownAs, number_of, version_query}
+use Rattle.tables.proofs.OpenLemmas.{known_as, not_said, shown_foreign, unanswered_since, TellsNumber}
 use Rattle.tables.proofs.opening.found_version.Goals as goal
 
 pub returns-in_default-clause-found : goal.returns-in_default-clause-found
@@ -31,3 +32,19 @@ returns-clause-shown g c clean =
     (subst (λ (d : Database). TellsNumber (number_of c.in-Some.version) d c.in_ok-has_version.field-0)
     (c.in_ok-version.ensures.same before)
     (rw (sym c.number.ensures) (c.in_ok-has_version.ensures.told clean))) c.if-branch.false
+
+pub returns-in_err-has_version-clause-untold : goal.returns-in_err-has_version-clause-untold
+returns-in_err-has_version-clause-untold g c clean =
+    let it = c.from_residual-in_err-has_version in
+    let failing = err_from_is_err_and it.result it.ensures.1 in
+    let last = c.in_err-has_version.ensures in
+    let before = last.looks.clean clean in
+    let known = c.in_ok-version.ensures in
+    let s = state g.S.Store c.args.conn.now in
+    rw (failing.1, failing.2) (λ other. inr (
+      c.in-Some.version,
+      subst (λ found. IsKnownAs found s.now.schema) c.in-Some.is (known.known before),
+      unanswered_since s (state g.S.Store c.known_version.new.conn) (state g.S.Store c.has_version.new.conn)
+          known.looks.usable before (known.opened before) last.looks.usable.counts (known.same before) version_query []
+          (last.unanswered clean other),
+    ))

@@ -1,7 +1,10 @@
 use Rattle.std.proofs.Common.{◌∙◌}
+use Rattle.std.proofs.lemmas.Result.{err_from_is_err_and}
 use Rattle.sqlite.specs.Held.{state}
 use Rattle.tables.specs.Opening.{all_columns, second_columns, first_columns}
-use Rattle.tables.proofs.OpenLemmas.{unknown_if, told_before}
+use Rattle.tables.specs.declared.opening.Version.TheVariants as version
+use Rattle.tables.proofs.UsableLemmas.{looks_in_turn}
+use Rattle.tables.proofs.OpenLemmas.{unknown_if, told_before, unprepared_since}
 use Rattle.tables.proofs.opening.known_version.Goals as goal
 
 pub returns-then-branch-2-clause-known : goal.returns-then-branch-2-clause-known
@@ -47,3 +50,41 @@ returns-clause-known g c clean =
           (told_before first_columns old _ second c.in_ok-understands-3.field-0
           (c.in_ok-understands-3.ensures.told clean)) c.if-branch-3.false,
     )
+
+pub returns-in_err-understands-clause-unprepared : goal.returns-in_err-understands-clause-unprepared
+returns-in_err-understands-clause-unprepared g c clean =
+    let failing = err_from_is_err_and c.from_residual.result c.from_residual.ensures.1 in
+    rw (failing.1, failing.2) (λ other. (version.Current, c.in_err-understands.ensures.unprepared clean other))
+
+pub returns-in_err-understands-2-clause-unprepared : goal.returns-in_err-understands-2-clause-unprepared
+returns-in_err-understands-2-clause-unprepared g c clean =
+    let it = c.from_residual-in_err-understands-2 in
+    let failing = err_from_is_err_and it.result it.ensures.1 in
+    let last = c.in_err-understands-2.ensures in
+    let before = last.looks.clean clean in
+    let first = c.in_ok-understands.ensures in
+    rw (failing.1, failing.2) (λ other. (
+      version.Second,
+      unprepared_since (state g.S.Store c.args.conn.now) (state g.S.Store c.understands.new.conn)
+          (state g.S.Store c.understands-2.new.conn) first.looks.usable before (first.opened before)
+          last.looks.usable.counts (first.same before) second_columns (last.unprepared clean other),
+    ))
+
+pub returns-in_err-understands-3-clause-unprepared : goal.returns-in_err-understands-3-clause-unprepared
+returns-in_err-understands-3-clause-unprepared g c clean =
+    let it = c.from_residual-in_err-understands-3 in
+    let failing = err_from_is_err_and it.result it.ensures.1 in
+    let last = c.in_err-understands-3.ensures in
+    let between = last.looks.clean clean in
+    let second = c.in_ok-understands-2.ensures in
+    let before = second.looks.clean between in
+    let first = c.in_ok-understands.ensures in
+    let both = looks_in_turn (state g.S.Store c.args.conn.now) (state g.S.Store c.understands.new.conn)
+    (state g.S.Store c.understands-2.new.conn) first.looks second.looks in
+    rw (failing.1, failing.2) (λ other. (
+      version.First,
+      unprepared_since (state g.S.Store c.args.conn.now) (state g.S.Store c.understands-2.new.conn)
+          (state g.S.Store c.understands-3.new.conn) both.usable between (first.opened before)
+          last.looks.usable.counts (second.same between ∙ first.same before) first_columns
+          (last.unprepared clean other),
+    ))

@@ -25,3 +25,6 @@ returns-in-Err-clause-foreign g c is = inr (record {
   found = λ clean. let early = c.in-Err.ensures.unchanged.clean clean in
       (c.in_ok-conn.ensures.opened early, c.in_ok-conn.ensures.found early);
 })
+
+pub returns-in-Err-clause-refusals : goal.returns-in-Err-clause-refusals
+returns-in-Err-clause-refusals g c = c.in-Err.ensures.refusals

@@ -9,3 +9,6 @@ returns-in-Err-clause-crash g c = left_or_made _ _ _ c.in-Err.ensures.undone.1
 
 pub returns-in-Err-clause-kept : goal.returns-in-Err-clause-kept
 returns-in-Err-clause-kept g c = left_as_it_was _ _ _ c.in-Err.ensures.undone.1
+
+pub returns-in-Ok-clause-opened : goal.returns-in-Ok-clause-opened
+returns-in-Ok-clause-opened g c clean = c.in-Ok.ensures.made.opened clean

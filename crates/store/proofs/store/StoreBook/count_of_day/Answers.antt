@@ -13,4 +13,4 @@ pub returns-clause-value : goal.returns-clause-value
 returns-clause-value g c honest b s =
     c.unwrap_or.ensures ∙ count_view b _ _ _
     (c.in_ok-count.ensures.value honest _ (kept_seen g.S.Store _ _ b c.self.view_is s))
-    ∙ asked_day b c.args.account.now c.args.day _ s.sound c.min.ensures
+    ∙ asked_day b c.args.account.now c.args.day _ s.sound c.at_most.ensures

@@ -1,12 +1,15 @@
-use Rattle.std.proofs.Common.{subst, sym}
+use Rattle.std.proofs.Common.{◌≡◌, subst, sym, arith}
+use Rattle.tables.specs.Found.{IsLeastAs}
+use Rattle.tables.specs.Queries.{ShowsStamp, is_within}
 use Rattle.book.specs.Ranges.{IsNextStamp}
+use Rattle.store.specs.Replay.{replayed}
 use Rattle.store.proofs.Between.{next_view, empty_view, small_found}
 use Rattle.store.proofs.Calls.{looks_now, kept_seen}
 use Rattle.store.proofs.store.StoreBook.next_stamp.Goals as goal
 
-pub returns-then-from-to-clause-value : goal.returns-then-from-to-clause-value
-returns-then-from-to-clause-value g c honest b s =
-    empty_view b c.args.from c.args.to c.min-to.result s.sound c.min-to.ensures c.if-from-to.true
+pub returns-then-from-last-clause-value : goal.returns-then-from-last-clause-value
+returns-then-from-last-clause-value g c honest b s =
+    empty_view b c.args.from c.args.to c.at_most-last.result.value s.sound c.at_most-last.ensures c.if-from-last.true
 
 pub returns-in_err-found-clause-looks : goal.returns-in_err-found-clause-looks
 returns-in_err-found-clause-looks g c = looks_now g.S.Store _ _ _ c.self.view_is c.in_err-found.ensures.reads
@@ -17,10 +20,14 @@ returns-clause-looks g c = looks_now g.S.Store _ _ _ c.self.view_is c.in_ok-foun
 pub returns-clause-value : goal.returns-clause-value
 returns-clause-value g c honest b s =
     let kept = kept_seen g.S.Store _ _ b c.self.view_is s in
+    let first : c.at_most-first.result.value ≡ c.args.from = omega arith in
     subst (IsNextStamp c.args.from c.args.to b) (sym c.only_within.ensures.same)
-    (next_view b c.args.from c.args.to c.min-to.result c.in_ok-found.found s.sound c.min-to.ensures
-    (c.in_ok-found.ensures.value honest _ kept))
+    (next_view b c.args.from c.args.to c.at_most-last.result.value c.in_ok-found.found s.sound
+    c.at_most-last.ensures
+    (subst (λ from. IsLeastAs ShowsStamp (λ row. row.serial) (is_within from c.at_most-last.result.value)
+    (replayed b).stamps c.in_ok-found.found) first (c.in_ok-found.ensures.value honest _ kept)))
 
 pub returns-clause-small : goal.returns-clause-small
 returns-clause-small g c =
-    small_found c.args.from c.args.to c.min-to.result c.only_within.result c.min-to.ensures c.only_within.ensures.within
+    small_found c.args.from c.args.to c.at_most-last.result.value c.only_within.result c.at_most-last.ensures
+    c.only_within.ensures.within

@@ -35,3 +35,6 @@ pub returns-in-Ok-None-clause-foreign : goal.returns-in-Ok-None-clause-foreign
 returns-in-Ok-None-clause-foreign g c told clean =
     subst (λ found. TellsVersion found (state g.S.Store c.args.conn)) c.in-Ok-None.field-0-is
     (c.in-Ok-None.ensures.shown clean)
+
+pub returns-in-Err-clause-untold : goal.returns-in-Err-clause-untold
+returns-in-Err-clause-untold g c told clean = c.in-Err.ensures.untold clean (c.of.ensures.memory told)

@@ -1,4 +1,4 @@
-use Rattle.store.proofs.path.Store+FileStore+FileFrom+T.migrate_at.Goals as goal
+use Rattle.store.proofs.path.Store+FileStore+FileFrom+T.migrate_at_place.Goals as goal
 
 pub returns-in-Ok-clause-migrated : goal.returns-in-Ok-clause-migrated
 returns-in-Ok-clause-migrated g c = record {

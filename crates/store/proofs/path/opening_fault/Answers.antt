@@ -1,0 +1,6 @@
+use Rattle.std.proofs.Common.{◌∙◌, sym, refl}
+use Rattle.store.proofs.Migrating.{told_not_ours}
+use Rattle.store.proofs.path.opening_fault.Goals as goal
+
+pub returns-clause-none : goal.returns-clause-none
+returns-clause-none c is = c.of.ensures.none refl (told_not_ours c.of.result (sym c.from.ensures ∙ is))
