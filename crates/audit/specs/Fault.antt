@@ -1,7 +1,7 @@
 -- The refusals: their numbers, what becomes of a store's, and its count of those that it gave for another
 -- cause than memory.
 use Rattle.std.specs.Prelude.{ℕ}
-use Rattle.book.specs.Fault.{next_count}
+use Rattle.std.specs.Hash.DefaultHasher.{wrapping_add}
 use Rattle.book.specs.declared.fault.StoreFault.{StoreFault}
 use Rattle.book.specs.declared.fault.StoreFault.TheVariants as store
 use Rattle.audit.specs.declared.fault.ExtractFault.{ExtractFault}
@@ -26,5 +26,5 @@ abbrev pub count_after : ExtractFault → ℕ → ℕ
 count_after NotAuditor n = n
 count_after Range n = n
 count_after Memory n = n
-count_after Store n = next_count n
+count_after Store n = wrapping_add n 1
 count_after Write n = n

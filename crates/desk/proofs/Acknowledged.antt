@@ -3,10 +3,13 @@ use Rattle.std.proofs.Common.{zero, suc, ◌≡◌, ℕ, ◌+◌, ◌==◌, ◌&
 use Rattle.std.proofs.Common.{Option, Some, None, refl, sym, ◌∙◌, ap, subst}
 use Rattle.policy.specs.Record.{AccountValue}
 use Rattle.book.specs.History.{Entry, Reserved, Sealed, Deposited, Calibrated, Held, Granted, Revoked, History}
-use Rattle.book.specs.History.{Installed, InstalledValue, DepositValue, calibrations, holds, latest_calibration, token_of, deposit_under}
+use Rattle.book.specs.History.{Installed, InstalledValue, calibrations, holds, latest_calibration, token_of}
+use Rattle.book.specs.History.{deposit_under}
 use Rattle.book.specs.Identities.{latest_identity}
 use Rattle.book.specs.Readers.{Reader, is_same}
 use Rattle.book.specs.Rights.{is_reader, seen_by}
+use Rattle.book.specs.Rows.{DepositRow}
+use Rattle.book.specs.Sound.{is_backwards}
 use Rattle.book.proofs.Rights.{reader_after_grant, reader_after_revocation}
 use Rattle.desk.specs.Outcome.{Outcome, Cause, cause_of}
 use Rattle.desk.specs.Findings.{StampPlan, Finding, Fails, Unanswered, Allowed}
@@ -16,7 +19,7 @@ use Rattle.desk.specs.Texts.{octets_for}
 use Rattle.desk.specs.Effects.{Effect, only, unless, Stamping, Unreserved, Void, Sealing, no_number, no_seal}
 use Rattle.desk.specs.Effects.{stamping_of, stamp_effect, stamp_found, begin_effect, begin_found, finish_effect}
 use Rattle.desk.specs.Effects.{deposit_effect, deposit_found, right_effect}
-use Rattle.desk.specs.Effects.{accepted, numbered, succeed_effect, is_backwards, calibrate_effect, name_of}
+use Rattle.desk.specs.Effects.{accepted, numbered, succeed_effect, calibrate_effect, name_of}
 use Rattle.desk.specs.Succession.{installed_by, is_latest}
 use Rattle.desk.specs.declared.fault.Fault.{Fault}
 use Rattle.desk.specs.declared.fault.Fault.TheVariants as fault
@@ -93,7 +96,7 @@ deposit_found_silent s owner reference bytes octets o b (Allowed plan) =
     deposit_silent s owner reference bytes (stamping_of s owner plan octets o b (no_number o b))
 
 under_silent : (s : Setting) (a : AccountValue) (reading : ℤ) (reference bytes : List ℕ) (o : Outcome) (b : History)
-    (under : Option DepositValue) (e : Effect) → KeepsByReference s a reading reference bytes o b under e → IsSilent e
+    (under : Option DepositRow) (e : Effect) → KeepsByReference s a reading reference bytes o b under e → IsSilent e
 under_silent s a reading reference bytes o b (Some d) e is =
     subst IsSilent (sym is) (λ c h n reader same. same)
 under_silent s a reading reference bytes o b None e is =

@@ -1,25 +1,25 @@
 -- A calibration and a hold are steps of the machine.
-use Rattle.std.proofs.Common.{◌≡◌, ℕ, ◌⊎◌, cond, T, Bool, true, false, [], ◌∷◌, ◌++◌, Option, Some, None, Ok, refl, sym}
+use Rattle.std.proofs.Common.{◌≡◌, ℕ, ◌⊎◌, cond, Bool, true, false, [], ◌∷◌, ◌++◌, Option, Some, None, Ok, refl, sym}
 use Rattle.std.proofs.Common.{ap, ◌∙◌, subst, inl, inr}
-use Rattle.std.specs.Prelude.{int_lt}
 use Rattle.book.specs.declared.standing.Standing.{Ghosts}
 use Rattle.book.specs.Fault.{count_after}
-use Rattle.book.specs.History.{Entry, History, CalibrationValue}
-use Rattle.book.specs.Sound.{Fits, IsBackwards}
+use Rattle.book.specs.History.{Entry, History}
+use Rattle.book.specs.Sound.{Fits}
 use Rattle.book.specs.Stands.{Stands, LeavesOrAdds, LeavesAsBefore}
 use Rattle.book.specs.declared.fault.StoreFault.{StoreFault}
 use Rattle.book.specs.declared.fault.StoreFault.TheVariants as store
 use Rattle.desk.specs.Fit.{IsFit}
-use Rattle.desk.specs.Outcome.{Call, Fine, Wanting, Broken, Outcome, Cause, OfMemory, OfStore, cause_of, faults_after, all_fine}
+use Rattle.desk.specs.Outcome.{Call, Fine, Wanting, Failed, Outcome, Cause, OfMemory, OfStore, cause_of}
+use Rattle.desk.specs.Outcome.{faults_after, all_fine}
 use Rattle.desk.specs.Command.{Setting, Command, Numbered, Refused}
-use Rattle.desk.specs.Effects.{Effect, only, unless, fault_of, numbered, is_backwards}
+use Rattle.desk.specs.Effects.{Effect, only, unless, fault_of, numbered}
 use Rattle.desk.specs.Calls.{store_cause}
 use Rattle.desk.specs.Obstacles.{hindered}
 use Rattle.desk.specs.Steps.{HasEffect, IsMet}
 use Rattle.desk.specs.Stepped.{StepsBy, MayBeLeft, IsBlamed, IsExcused, IsOpened, no_signer, committed}
 use Rattle.desk.specs.declared.fault.Fault.TheVariants as fault
 use Rattle.desk.specs.declared.obstacle.Obstacle.TheVariants as obstacle
-use Rattle.desk.proofs.Fitting.{unbroken}
+use Rattle.desk.proofs.Fitting.{none_failed}
 use Rattle.desk.proofs.Sealing.{one_in_doubt}
 
 -- what a command does that enters one entry, unless the history turns it back
@@ -149,10 +149,10 @@ pub refuses_by : {B : Type 0} (g : Ghosts B) (s : Setting) (c : Command) (entry 
 refuses_by g s c entry numbers turns old new store.Memory enters which counted err crash turned excuses before =
     refused_as g s c entry numbers turns old new (hindered (obstacle.Adding store.Memory)) OfMemory enters refl refl
     (λ a e. cc) (enters.made Wanting)
-    (unbroken _ tt tt tt tt tt tt tt tt) counted err crash before
+    (none_failed _ tt tt tt tt tt tt tt tt) counted err crash before
 refuses_by g s c entry numbers turns old new store.Database enters which counted err crash turned excuses before =
     refused_as g s c entry numbers turns old new (hindered (obstacle.Adding store.Database)) OfStore enters refl refl
-    (λ a e. cc) (enters.made Broken) (inl (inr (inr (inr (inr (inl refl)))))) counted err crash before
+    (λ a e. cc) (enters.made Failed) (inl (inr (inr (inr (inr (inl refl)))))) counted err crash before
 refuses_by g s c entry numbers turns old new store.Backwards enters which counted err crash turned excuses before =
     turned_back g s c entry numbers turns old new enters counted err (λ honest b stands. turned honest b stands refl)
     (excuses refl) before
@@ -160,18 +160,3 @@ refuses_by g s c entry numbers turns old new store.NotOurs enters which counted 
     absurd (elim which [ inl e ↦ cc | inr e ↦ elim e [ inl k ↦ cc | inr k ↦ cc ] ])
 refuses_by g s c entry numbers turns old new store.Full enters which counted err crash turned excuses before =
     absurd (elim which [ inl e ↦ cc | inr e ↦ elim e [ inl k ↦ cc | inr k ↦ cc ] ])
-
--- a calibration before the latest one
-true_where : (t : Bool) → T t → t ≡ true
-true_where true h = refl
-true_where false h = absurd h
-
-pub backwards_where : (c : CalibrationValue) (latest : Option CalibrationValue) → is_backwards c latest ≡ true
-    → IsBackwards c latest
-backwards_where c None e = cc
-backwards_where c (Some last) e = record { lt = subst T (sym e) tt }
-
-pub is_backwards_where : (c : CalibrationValue) (latest : Option CalibrationValue) → IsBackwards c latest
-    → is_backwards c latest ≡ true
-is_backwards_where c None h = absurd h
-is_backwards_where c (Some last) h = true_where (int_lt c.reading last.reading) h.lt

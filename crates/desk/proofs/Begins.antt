@@ -18,12 +18,12 @@ use Rattle.desk.specs.Calls.{pending_as, reserving, Reserves}
 use Rattle.desk.specs.Command.{Setting, PendingValue, Command, Begin, Rejected, Refused}
 use Rattle.desk.specs.Effects.{only, fault_of, no_number, begin_effect, name_of}
 use Rattle.desk.specs.Findings.{StampPlan, Fails, Unanswered, Allowed, Finds}
-use Rattle.desk.specs.Outcome.{Call, Outcome, Fine, Wanting, Broken, Cause, OfStore, first_cause, faults_after}
+use Rattle.desk.specs.Outcome.{Call, Outcome, Fine, Wanting, Failed, Cause, OfStore, first_cause, faults_after}
 use Rattle.desk.specs.Outcome.{all_fine}
 use Rattle.desk.specs.Stepped.{no_signer, IsBlamedFor, IsBlamed, IsExcused, IsOpened, StepsBy, committed, in_doubt}
 use Rattle.desk.specs.declared.refusal.Refusal.{Refusal}
 use Rattle.desk.specs.declared.refusal.Refusal.TheVariants as refusal
-use Rattle.desk.proofs.Fitting.{unbroken}
+use Rattle.desk.proofs.Fitting.{none_failed}
 
 -- a rule fails
 pub rejects : {B : Type 0} (g : Ghosts B) (s : Setting) (account : Option AccountValue) (reading : ℤ) (octets : List ℕ)
@@ -50,7 +50,7 @@ rejects g s account reading octets o old new rule fits looks counted finds = rec
 
 look_blamed : {B : Type 0} (g : Ghosts B) (c : Command) (f : StoreFault) (old new : B) → IsOfStore f
     → IsBlamedFor g c (refused (refusal.Looking f)) old new (fault_of (store_cause f))
-look_blamed g c store.Memory old new h = unbroken _ tt tt tt tt tt tt tt tt
+look_blamed g c store.Memory old new h = none_failed _ tt tt tt tt tt tt tt tt
 look_blamed g c store.Database old new h = inl (inr (inl refl))
 look_blamed g c store.NotOurs old new (inl e) = cc
 look_blamed g c store.NotOurs old new (inr e) = cc
@@ -61,7 +61,7 @@ look_blamed g c store.Backwards old new (inr e) = cc
 
 count_blamed : {B : Type 0} (g : Ghosts B) (c : Command) (f : StoreFault) (old new : B) → IsOfStore f
     → IsBlamedFor g c (refused (refusal.Counting f)) old new (fault_of (store_cause f))
-count_blamed g c store.Memory old new h = unbroken _ tt tt tt tt tt tt tt tt
+count_blamed g c store.Memory old new h = none_failed _ tt tt tt tt tt tt tt tt
 count_blamed g c store.Database old new h = inl (inr (inr (inl refl)))
 count_blamed g c store.NotOurs old new (inl e) = cc
 count_blamed g c store.NotOurs old new (inr e) = cc
@@ -72,7 +72,7 @@ count_blamed g c store.Backwards old new (inr e) = cc
 
 add_blamed : {B : Type 0} (g : Ghosts B) (c : Command) (f : StoreFault) (old new : B) → IsOfStore f
     → IsBlamedFor g c (refused (refusal.Adding f)) old new (fault_of (store_cause f))
-add_blamed g c store.Memory old new h = unbroken _ tt tt tt tt tt tt tt tt
+add_blamed g c store.Memory old new h = none_failed _ tt tt tt tt tt tt tt tt
 add_blamed g c store.Database old new h = inl (inr (inr (inr (inr (inl refl)))))
 add_blamed g c store.NotOurs old new (inl e) = cc
 add_blamed g c store.NotOurs old new (inr e) = cc
@@ -99,7 +99,7 @@ pub reserving_blamed : {B : Type 0} (g : Ghosts B) (c : Command) (r : Refusal) (
 reserving_blamed g c (refusal.Looking f) old new h spent = absurd h
 reserving_blamed g c (refusal.Counting f) old new h spent = absurd h
 reserving_blamed g c refusal.Spent old new h spent = inr (spent refl)
-reserving_blamed g c refusal.Growing old new h spent = unbroken _ tt tt tt tt tt tt tt tt
+reserving_blamed g c refusal.Growing old new h spent = none_failed _ tt tt tt tt tt tt tt tt
 reserving_blamed g c (refusal.Adding f) old new h spent = add_blamed g c f old new h
 reserving_blamed g c (refusal.Signing f) old new h spent = absurd h
 reserving_blamed g c refusal.Wrapping old new h spent = absurd h
@@ -176,8 +176,8 @@ begun_in_doubt : (call : Call) (s : Setting) (account : List ℕ) (plan : StampP
 begun_in_doubt Fine s account plan octets b why = refl
 begun_in_doubt Wanting s account plan octets b None = refl
 begun_in_doubt Wanting s account plan octets b (Some cause) = refl
-begun_in_doubt Broken s account plan octets b None = refl
-begun_in_doubt Broken s account plan octets b (Some cause) = refl
+begun_in_doubt Failed s account plan octets b None = refl
+begun_in_doubt Failed s account plan octets b (Some cause) = refl
 
 -- no number is left where that is said
 spent_if : (s : Setting) (account : List ℕ) (plan : StampPlan) (octets : List ℕ) (b : History) (spent : Bool)

@@ -2,8 +2,9 @@
 use Rattle.std.proofs.Common.{◌≡◌, cond, Bool, true, false, List, ℕ, Option, Some, None, refl}
 use Rattle.std.specs.Str.{bytes_eq}
 use Rattle.policy.specs.Record.{PolicyValue}
-use Rattle.book.specs.History.{Entry, DepositValue}
+use Rattle.book.specs.History.{Entry}
 use Rattle.book.specs.Readers.{Reader}
+use Rattle.book.specs.Rows.{DepositRow}
 use Rattle.desk.specs.Command.{Refused}
 use Rattle.desk.specs.Outcome.{Outcome, Cause, cause_of}
 use Rattle.desk.specs.Effects.{Effect, only, unless, fault_of, objection, accepted, unless_against, right_effect}
@@ -30,8 +31,8 @@ against_has P refusal (Some f) e h = refusal f
 
 -- a right that is entered is that of the deposit's owner
 pub right_has : (P : Effect → Type 0) → ((f : Fault) → P (only (Refused f))) → (file : PolicyValue) (account : List ℕ)
-    (reader : Reader) (o : Outcome) (entry : Entry) (seen : Option DepositValue)
-    → ((d : DepositValue) → seen ≡ Some d → bytes_eq d.owner account ≡ true → P (accepted entry))
+    (reader : Reader) (o : Outcome) (entry : Entry) (seen : Option DepositRow)
+    → ((d : DepositRow) → seen ≡ Some d → bytes_eq d.owner account ≡ true → P (accepted entry))
     → P (right_effect file account reader o entry seen)
 right_has P refusal file account reader o entry None h = refusal fault.NotHere
 right_has P refusal file account reader o entry (Some d) h =

@@ -3,9 +3,10 @@ use Rattle.std.proofs.Common.{◌≡◌, ℕ, List, [], Some, None, Ok, refl, sy
 use Rattle.tsp.specs.Granted.{granted_octets}
 use Rattle.book.specs.declared.fault.StoreFault.TheVariants as store
 use Rattle.book.specs.declared.standing.Standing.{Ghosts}
-use Rattle.book.specs.History.{History, DepositValue, token_of}
+use Rattle.book.specs.History.{History, token_of}
 use Rattle.book.specs.Readers.{Reader, Viewer}
 use Rattle.book.specs.Rights.{seen_by}
+use Rattle.book.specs.Rows.{DepositRow}
 use Rattle.book.specs.Stands.{Stands, OnlyLooks}
 use Rattle.desk.specs.Calls.{call_of}
 use Rattle.desk.specs.Command.{Setting, Command, Answer, Shown, Refused}
@@ -19,7 +20,7 @@ use Rattle.desk.specs.declared.fault.Fault.{Fault}
 use Rattle.desk.specs.declared.fault.Fault.TheVariants as fault
 use Rattle.desk.specs.declared.obstacle.Obstacle.{Obstacle}
 use Rattle.desk.specs.declared.obstacle.Obstacle.TheVariants as obstacle
-use Rattle.desk.proofs.Fitting.{unbroken}
+use Rattle.desk.proofs.Fitting.{none_failed}
 
 blamed : {B : Type 0} (reader : Reader) (g : Ghosts B) (c : Command) (old new : B) (x : Obstacle)
     → IsOfRight reader x
@@ -29,12 +30,12 @@ blamed reader g c old new obstacle.NotOwner of = tt
 blamed reader g c old new obstacle.UnknownReader of = tt
 blamed reader g c old new obstacle.UnknownGroup of = tt
 blamed reader g c old new obstacle.SelfGrant of = tt
-blamed reader g c old new (obstacle.Searching store.Memory) of = unbroken _ tt tt tt tt tt tt tt tt
+blamed reader g c old new (obstacle.Searching store.Memory) of = none_failed _ tt tt tt tt tt tt tt tt
 blamed reader g c old new (obstacle.Searching store.Database) of = inl (inl refl)
 blamed reader g c old new (obstacle.Searching store.NotOurs) of = absurd (elim of [ inl e ↦ cc | inr e ↦ cc ])
 blamed reader g c old new (obstacle.Searching store.Full) of = absurd (elim of [ inl e ↦ cc | inr e ↦ cc ])
 blamed reader g c old new (obstacle.Searching store.Backwards) of = absurd (elim of [ inl e ↦ cc | inr e ↦ cc ])
-blamed reader g c old new (obstacle.Looking store.Memory) of = unbroken _ tt tt tt tt tt tt tt tt
+blamed reader g c old new (obstacle.Looking store.Memory) of = none_failed _ tt tt tt tt tt tt tt tt
 blamed reader g c old new (obstacle.Looking store.Database) of = inl (inr (inl refl))
 blamed reader g c old new (obstacle.Looking store.NotOurs) of = absurd (elim of [ inl e ↦ cc | inr e ↦ cc ])
 blamed reader g c old new (obstacle.Looking store.Full) of = absurd (elim of [ inl e ↦ cc | inr e ↦ cc ])
@@ -149,18 +150,18 @@ untold viewer n b obstacle.Growing of unseen = absurd of
 untold viewer n b (obstacle.Adding f) of unseen = absurd of
 
 -- the octets of what is seen
-pub shown : (viewer : Viewer) (n : ℕ) (b : History) (d : DepositValue) → seen_by viewer n b ≡ Some d
+pub shown : (viewer : Viewer) (n : ℕ) (b : History) (d : DepositRow) → seen_by viewer n b ≡ Some d
     → only (Shown d.bytes) ≡ show_effect None (seen_by viewer n b)
 shown viewer n b d seen = sym (ap (show_effect None) seen)
 
 -- the reply with the token of what is seen, and where memory for it was wanting
-pub told : (viewer : Viewer) (n : ℕ) (b : History) (d : DepositValue) (token reply : List ℕ)
+pub told : (viewer : Viewer) (n : ℕ) (b : History) (d : DepositRow) (token reply : List ℕ)
     → seen_by viewer n b ≡ Some d → token_of n b ≡ Some token → reply ≡ granted_octets token
     → only (Shown reply) ≡ token_effect None (token_of n b) (seen_by viewer n b)
 told viewer n b d token reply seen sealed is =
     ap (λ x. only (Shown x)) is
     ∙ sym (ap (token_effect None (token_of n b)) seen ∙ ap (λ x. only (reply_or_nothing x)) sealed)
 
-pub ungrown : (viewer : Viewer) (n : ℕ) (b : History) (d : DepositValue) → seen_by viewer n b ≡ Some d
+pub ungrown : (viewer : Viewer) (n : ℕ) (b : History) (d : DepositRow) → seen_by viewer n b ≡ Some d
     → only (Refused fault.Memory) ≡ token_effect (Some OfMemory) (token_of n b) (seen_by viewer n b)
 ungrown viewer n b d seen = sym (ap (token_effect (Some OfMemory) (token_of n b)) seen)

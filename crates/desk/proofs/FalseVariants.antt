@@ -8,21 +8,24 @@ use Rattle.std.specs.Str.{bytes_eq}
 use Rattle.book.specs.declared.standing.Standing.{Ghosts}
 use Rattle.der.specs.Node.{Node}
 use Rattle.book.specs.History.{Reserved, Granted, Revoked, Installed, InstalledValue, History}
-use Rattle.book.specs.History.{HoldValue, DepositValue}
+use Rattle.book.specs.History.{HoldValue}
 use Rattle.book.specs.Readers.{Account, Group}
 use Rattle.book.specs.Rights.{ListedValue}
+use Rattle.book.specs.Rows.{DepositRow}
 use Rattle.cms.specs.Identity.{IdentityValue}
 use Rattle.cms.specs.declared.signer.SignerFault.TheVariants as signer
 use Rattle.desk.specs.Agreement.{seen_as, Agree}
-use Rattle.desk.specs.Command.{Setting, PendingValue, Stamp, Begin, Finish, Show, ListAll, Grant, Revoke, Hold}
-use Rattle.desk.specs.Command.{Succeed, Stamped, Rejected, Begun, Shown, Done, Numbered, Refused, setting_after}
+use Rattle.desk.specs.Command.{Setting, PendingValue, Stamp, Begin, Finish, Show, Token, ListAll, Grant, Revoke}
+use Rattle.desk.specs.Command.{Hold, Succeed, Stamped, Rejected, Begun, Shown, Done, Numbered, Refused, setting_after}
 use Rattle.desk.specs.Succession.{installed_by, IsInForce, NamesLatest}
 use Rattle.desk.specs.Effects.{only, accepted}
 use Rattle.desk.specs.Fit.{IsFit}
-use Rattle.desk.specs.Laws.{IsFinished, AreMet}
-use Rattle.desk.specs.Outcome.{Wanting, Broken, all_fine}
+use Rattle.desk.specs.Findings.{HoldsUnasked}
+use Rattle.desk.specs.Laws.{IsFinished, IsStampOfPlan, IsRefusalOfPlan, AreMet}
+use Rattle.desk.specs.Outcome.{Wanting, Failed, all_fine}
 use Rattle.desk.specs.Promises.{IsAlike}
 use Rattle.desk.specs.Readers.{rights_by}
+use Rattle.desk.specs.Replies.{IsRejected}
 use Rattle.desk.specs.Runs.{IsProper, IsKept}
 use Rattle.desk.specs.Serials.{given_by, Falls, AreInOrder}
 use Rattle.desk.specs.Sight.{ShowsExactly, IsExactList}
@@ -30,7 +33,7 @@ use Rattle.desk.specs.Stepped.{IsBlamedFor, IsOpened}
 use Rattle.desk.specs.Steps.{HasEffect}
 use Rattle.desk.specs.Viewers.{viewer_in}
 use Rattle.desk.specs.declared.fault.Fault.TheVariants as fault
-use Rattle.tsp.specs.declared.rule.Rule.TheVariants.{System}
+use Rattle.tsp.specs.declared.rule.Rule.TheVariants.{Spelling, System}
 use Rattle.desk.proofs.Rows.{alice, carol, file, grouped, setting, reserved, history, deposit, deposited, identity}
 use Rattle.desk.proofs.Rows.{installed, chained, chained_force}
 
@@ -70,11 +73,11 @@ apart e = cc
 differ : (x y : List ℕ) → bytes_eq x x ≡ true → bytes_eq x y ≡ false → x ≡ y → ⊥
 differ x y same other e = apart (sym same ∙ (ap (bytes_eq x) e ∙ other))
 
-the_deposit : (d : DepositValue) → Some deposit ≡ Some d → deposit ≡ d
+the_deposit : (d : DepositRow) → Some deposit ≡ Some d → deposit ≡ d
 the_deposit d e = cc
 
 -- she is shown it after the right was taken
-taken_at : (d : DepositValue) → deposit ≡ d → (d.owner ≡ codes "carol") ⊎ (false ≡ true) → ⊥
+taken_at : (d : DepositRow) → deposit ≡ d → (d.owner ≡ codes "carol") ⊎ (false ≡ true) → ⊥
 taken_at d e (inl own) = differ (codes "alice") (codes "carol") refl refl (ap (λ x. x.owner) e ∙ own)
 taken_at d e (inr reads) = apart (sym reads)
 
@@ -130,17 +133,17 @@ repeated h = let below : 2 < 2 = h.rising.0.0 in absurd (omega arith)
 
 -- a list that the database refused, and counted, is told as want of memory: by a call that it doesn't make, or though
 -- its own call was counted
-elsewhere : IsFit (ListAll alice) (record (all_fine (Ok [])) { looking = Wanting; searching = Broken }) → ⊥
+elsewhere : IsFit (ListAll alice) (record (all_fine (Ok [])) { looking = Wanting; searching = Failed }) → ⊥
 elsewhere fits = let same = ap (λ o. o.searching) fits.0 in cc
 
 counted : {B : Type 0} (g : Ghosts B) (old new : B)
-    → IsBlamedFor g (ListAll alice) (record (all_fine (Ok [])) { looking = Broken }) old new fault.Memory → ⊥
-counted g old new unbroken = unbroken.looking
+    → IsBlamedFor g (ListAll alice) (record (all_fine (Ok [])) { looking = Failed }) old new fault.Memory → ⊥
+counted g old new none_failed = none_failed.looking
 
 -- the store is named though it didn't fail, whatever it returned
 unfailed : {B : Type 0} (g : Ghosts B) (old new : B)
     → IsBlamedFor g (Show alice 2) (all_fine (Ok [])) old new fault.Store → ⊥
-unfailed g old new (inl broken) = elim broken [
+unfailed g old new (inl failed) = elim failed [
   | inl e ↦ cc
   | inr a ↦ elim a [
     | inl e ↦ cc
@@ -156,7 +159,7 @@ unfailed g old new (inl broken) = elim broken [
 unfailed g old new (inr excused) = excused
 
 -- nobody has a day that could be counted
-nobodys_day : IsFit (Stamp None (pos 0) []) (record (all_fine (Ok [])) { counting = Broken }) → ⊥
+nobodys_day : IsFit (Stamp None (pos 0) []) (record (all_fine (Ok [])) { counting = Failed }) → ⊥
 nobodys_day fits = let same = ap (λ o. o.counting) fits.0 in cc
 
 -- a sight has no signer
@@ -238,9 +241,31 @@ gone reply kept = let sealed = kept.2.sealed in cc
 done_sight : IsKept history (Show alice 2) Done → ⊥
 done_sight kept = kept
 
+-- the token of a reply that was shown is gone, and a deposit is shown with other octets
+gone_reply : (reply : List ℕ) → IsKept history (Token alice 2) (Shown reply) → ⊥
+gone_reply reply kept = let sealed = kept.2 in cc
+
+shown_otherwise : IsKept deposited (Show alice 2) (Shown (codes "abd")) → ⊥
+shown_otherwise kept =
+    differ (codes "abc") (codes "abd") refl refl (ap (λ x. x.bytes) (the_deposit kept.0 kept.1) ∙ sym kept.2)
+
 -- a finish grants another number than that of what waited
 another_number : (p : PendingValue) (reply : List ℕ) → IsFinished p [] (p.serial + 1) reply → ⊥
 another_number p reply h = let same = h.number in absurd (omega arith)
+
+-- a stamp is answered as a right is, and a deposit under a new reference is a conflict
+done_stamp : IsStampOfPlan setting None (pos 0) [] (all_fine (Ok [])) history Done → ⊥
+done_stamp done = done
+
+new_conflict : (bytes : List ℕ)
+    → IsRefusalOfPlan setting alice (pos 0) (codes "plan-8") bytes history fault.Conflict → ⊥
+new_conflict bytes h = let found = h.1 in cc
+
+-- rule 12 is given in place of a rule that asks the store nothing
+instead : (octets : List ℕ) → (HoldsUnasked file None octets Spelling → ⊥)
+    → IsRejected setting None (pos 0) octets history System → ⊥
+instead octets unspelled (inl first) = unspelled (first.before Spelling (omega arith))
+instead octets unspelled (inr last) = unspelled (last.1 Spelling)
 
 -- a policy file without an accuracy is proper
 improper : (s : Setting) → s.file.counter.accuracy_us ≡ 0 → IsProper s → ⊥

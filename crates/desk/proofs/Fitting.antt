@@ -1,15 +1,15 @@
 -- Outcomes that fit, where they compute.
 use Rattle.desk.specs.Calls.{refused, IsOfBeginning}
-use Rattle.desk.specs.Fit.{IsUncounted, IsUnfailed, IsUnbroken, AreGrowths}
+use Rattle.desk.specs.Fit.{IsUncounted, IsUnfailed, HasNoneFailed, AreGrowths}
 use Rattle.desk.specs.Outcome.{Outcome}
 use Rattle.desk.specs.declared.refusal.Refusal.{Refusal}
 use Rattle.desk.specs.declared.refusal.Refusal.TheVariants as refusal
 
 -- no call was refused for a cause that is counted
-pub unbroken : (o : Outcome) → IsUncounted o.searching → IsUncounted o.looking → IsUncounted o.counting
+pub none_failed : (o : Outcome) → IsUncounted o.searching → IsUncounted o.looking → IsUncounted o.counting
     → IsUncounted o.growing → IsUncounted o.adding → IsUnfailed o.signing → IsUncounted o.wrapping
-    → IsUncounted o.sealing → IsUnbroken o
-unbroken o a b c d e f g h = record {
+    → IsUncounted o.sealing → HasNoneFailed o
+none_failed o a b c d e f g h = record {
   searching = a;
   looking = b;
   counting = c;

@@ -5,11 +5,13 @@ use Rattle.std.specs.Str.{bytes_eq}
 use Rattle.policy.specs.Record.{AccountValue}
 use Rattle.cms.specs.SignedData.{attribute_text}
 use Rattle.book.specs.History.{Entry, Reserved, Sealed, Deposited, Calibrated, Held, Granted, Revoked, History}
-use Rattle.book.specs.History.{ReservationValue, DepositValue, greatest_serial, latest_calibration, token_of}
+use Rattle.book.specs.History.{ReservationValue, greatest_serial, latest_calibration, token_of}
 use Rattle.book.specs.History.{Installed, InstalledValue, calibrations, holds, deposit_under}
-use Rattle.book.specs.Identities.{latest_identity, identity_of}
+use Rattle.book.specs.Identities.{latest_identity, identity_at_reservation}
 use Rattle.std.proofs.lemmas.Bool.{eq-eqb}
 use Rattle.book.specs.Rights.{seen_by, listed}
+use Rattle.book.specs.Rows.{DepositRow}
+use Rattle.book.specs.Sound.{is_backwards}
 use Rattle.book.specs.Values.{deposit_of}
 use Rattle.desk.specs.Outcome.{Outcome, Cause, cause_of}
 use Rattle.desk.specs.Findings.{StampPlan, Finding, Fails, Unanswered, Allowed}
@@ -20,7 +22,7 @@ use Rattle.desk.specs.Texts.{octets_for, pending_of}
 use Rattle.desk.specs.Effects.{Effect, only, Stamping, Unreserved, Void, Sealing, no_number, no_seal, no_sight}
 use Rattle.desk.specs.Effects.{next_reservation, stamping_of, stamp_effect, stamp_found, begin_effect, begin_found}
 use Rattle.desk.specs.Effects.{finish_effect, deposit_effect, deposit_found, fault_of, show_effect}
-use Rattle.desk.specs.Effects.{token_effect, reply_or_nothing, right_effect, is_backwards, calibrate_effect, name_of}
+use Rattle.desk.specs.Effects.{token_effect, reply_or_nothing, right_effect, calibrate_effect, name_of}
 use Rattle.desk.specs.Effects.{accepted, numbered, succeed_effect}
 use Rattle.desk.specs.Succession.{installed_by, is_latest}
 use Rattle.desk.specs.declared.fault.Fault.{Fault}
@@ -52,14 +54,15 @@ answer_given : (s : Setting) (b : History) (adds : List Entry) (answer : Answer)
 answer_given s b adds answer other = plainly s b (record { adds = adds; asks = None; says = answer }) refl other
 
 -- the identity of what was just reserved is the latest
-pub just_found : (r : ReservationValue) (b : History) → identity_of r.serial (Reserved r ∷ b) ≡ latest_identity b
+pub just_found : (r : ReservationValue) (b : History)
+    → identity_at_reservation r.serial (Reserved r ∷ b) ≡ latest_identity b
 just_found r b = rw (eq-eqb r.serial r.serial refl) refl
 
 -- the next reservation's text
 text_of : (s : Setting) (b : History) (account : List ℕ) (plan : StampPlan) (octets : List ℕ) (later : List Entry)
     (r : ReservationValue) (e : Effect) → r ≡ next_reservation s account plan octets b
     → e.adds ≡ later ++ (Reserved r ∷ []) → serials_of e.adds ≡ r.serial ∷ []
-    → identity_of r.serial (e.adds ++ b) ≡ latest_identity b
+    → identity_at_reservation r.serial (e.adds ++ b) ≡ latest_identity b
     → IsReservedText s e b (attribute_text s.in_force.identity r.tst)
 text_of s b account plan octets later r e is adds alone found = record {
   reservation = r;
@@ -173,7 +176,7 @@ known_by s b number true = plainly s b (only (Kept number false)) refl (λ p h. 
 known_by s b number false = refusal_given s b fault.Conflict
 
 under_given : (s : Setting) (b : History) (a : AccountValue) (reading : ℤ) (reference bytes : List ℕ) (o : Outcome)
-    (e : Effect) (under : Option DepositValue)
+    (e : Effect) (under : Option DepositRow)
     → KeepsByReference s a reading reference bytes o b under e → IsGivenOut s b e
 under_given s b a reading reference bytes o e (Some d) h = subst (IsGivenOut s b) (sym h)
     (known_by s b d.serial (bytes_eq d.bytes bytes))
@@ -196,7 +199,7 @@ keeps_given s b a reading reference bytes o e true h =
 keeps_given s b a reading reference bytes o e false h = subst (IsGivenOut s b) (sym h)
     (refusal_given s b fault.TooLarge)
 
-show_given : (s : Setting) (b : History) (refused : Option Cause) (seen : Option DepositValue)
+show_given : (s : Setting) (b : History) (refused : Option Cause) (seen : Option DepositRow)
     → IsGivenOut s b (show_effect refused seen)
 show_given s b refused None = refusal_given s b fault.NotHere
 show_given s b refused (Some d) =
@@ -208,7 +211,7 @@ reply_given s b None = refusal_given s b fault.NotHere
 reply_given s b (Some token) = plainly s b (only (reply_or_nothing (Some token))) refl (λ p h. cc)
 
 token_given : (s : Setting) (b : History) (refused : Option Cause) (token : Option (List ℕ))
-    (seen : Option DepositValue)
+    (seen : Option DepositRow)
     → IsGivenOut s b (token_effect refused token seen)
 token_given s b refused token None = refusal_given s b fault.NotHere
 token_given s b refused token (Some d) =

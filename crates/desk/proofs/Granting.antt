@@ -2,21 +2,23 @@
 use Rattle.std.proofs.Common.{◌≡◌, ℕ, cond, Bool, true, false, List, [], ◌∷◌, ◌++◌, Option, Some, None, Ok, refl}
 use Rattle.std.proofs.Common.{sym, ap, ◌∙◌, subst, inl, inr}
 use Rattle.std.specs.Str.{bytes_eq}
+use Rattle.std.specs.Hash.DefaultHasher.{wrapping_add}
 use Rattle.policy.specs.Record.{PolicyValue}
 use Rattle.book.specs.declared.fault.StoreFault.{StoreFault}
 use Rattle.book.specs.declared.fault.StoreFault.TheVariants as store
 use Rattle.book.specs.declared.standing.Standing.{Ghosts}
-use Rattle.book.specs.Fault.{next_count, count_after}
-use Rattle.book.specs.History.{Entry, History, DepositValue}
+use Rattle.book.specs.Fault.{count_after}
+use Rattle.book.specs.History.{Entry, History}
 use Rattle.book.specs.Readers.{Reader}
 use Rattle.book.specs.Rights.{seen_by}
+use Rattle.book.specs.Rows.{DepositRow}
 use Rattle.book.specs.Sound.{Fits, FitsRight}
 use Rattle.book.specs.Stands.{Stands, OnlyLooks, LeavesOrAdds}
 use Rattle.desk.specs.Calls.{IsOfStore}
 use Rattle.desk.specs.Command.{Setting, Command, Done, Refused}
 use Rattle.desk.specs.Effects.{Effect, only, unless, fault_of, objection, accepted, unless_against, right_effect}
 use Rattle.desk.specs.Obstacles.{fault_with, hindered, IsOfRight, MayName, MayNot}
-use Rattle.desk.specs.Outcome.{Call, Fine, Wanting, Broken, Outcome, Cause, OfMemory, OfStore, cause_of, faults_after}
+use Rattle.desk.specs.Outcome.{Call, Fine, Wanting, Failed, Outcome, Cause, OfMemory, OfStore, cause_of, faults_after}
 use Rattle.desk.specs.Outcome.{all_fine}
 use Rattle.desk.specs.Steps.{HasEffect}
 use Rattle.desk.specs.Fit.{IsFit}
@@ -27,7 +29,7 @@ use Rattle.desk.specs.declared.fault.Fault.TheVariants as fault
 use Rattle.desk.specs.declared.obstacle.Obstacle.{Obstacle}
 use Rattle.desk.specs.declared.obstacle.Obstacle.TheVariants as obstacle
 use Rattle.desk.proofs.Denied.{looked_up, denied}
-use Rattle.desk.proofs.Fitting.{unbroken}
+use Rattle.desk.proofs.Fitting.{none_failed}
 use Rattle.desk.proofs.Sealing.{one_in_doubt}
 use Rattle.desk.proofs.Stepping.{right_seen}
 
@@ -45,8 +47,8 @@ abbrev named : Option Cause → Entry → Bool → Option Fault → Effect
 named refused entry owns against =
     cond owns (unless_against against (unless refused (accepted entry))) (only (Refused fault.NotOwner))
 
-right_is : (file : PolicyValue) (account : List ℕ) (reader : Reader) (o : Outcome) (entry : Entry) (d : DepositValue)
-    (seen : Option DepositValue) (owns : Bool) (against : Option Fault) → cause_of o.looking ≡ None → seen ≡ Some d
+right_is : (file : PolicyValue) (account : List ℕ) (reader : Reader) (o : Outcome) (entry : Entry) (d : DepositRow)
+    (seen : Option DepositRow) (owns : Bool) (against : Option Fault) → cause_of o.looking ≡ None → seen ≡ Some d
     → bytes_eq d.owner account ≡ owns → objection file account reader ≡ against
     → right_effect file account reader o entry seen ≡ named (cause_of o.adding) entry owns against
 right_is file account reader o entry d seen owns against looked is e f =
@@ -105,8 +107,8 @@ right_entered g s c account reader n entry old mid new a before same opened ok =
 }
 
 -- The effect of a right that isn't entered.
-turned : (file : PolicyValue) (account : List ℕ) (reader : Reader) (o : Outcome) (entry : Entry) (d : DepositValue)
-    (seen : Option DepositValue) (f : Fault) → cause_of o.looking ≡ None → seen ≡ Some d
+turned : (file : PolicyValue) (account : List ℕ) (reader : Reader) (o : Outcome) (entry : Entry) (d : DepositRow)
+    (seen : Option DepositRow) (f : Fault) → cause_of o.looking ≡ None → seen ≡ Some d
     → bytes_eq d.owner account ≡ true → objection file account reader ≡ Some f
     → right_effect file account reader o entry seen ≡ only (Refused f)
 turned file account reader o entry d seen f looked is owns against =
@@ -207,12 +209,12 @@ pub right_refused : {B : Type 0} (g : Ghosts B) (s : Setting) (c : Command) (acc
     → StepsBy g no_signer s c (hindered (obstacle.Adding f)) old new (Refused (fault_with (obstacle.Adding f)))
 right_refused g s c account reader n entry old mid new store.Memory a fits opened of counted before err crash =
     refused_as g s c account reader n entry old mid new (hindered (obstacle.Adding store.Memory)) OfMemory a refl refl
-    refl refl refl refl (λ fine sealed. cc) (fits Wanting) opened (unbroken _ tt tt tt tt tt tt tt tt)
+    refl refl refl refl (λ fine sealed. cc) (fits Wanting) opened (none_failed _ tt tt tt tt tt tt tt tt)
     (counted ∙ a.uncounted) before err crash
 right_refused g s c account reader n entry old mid new store.Database a fits opened of counted before err crash =
     refused_as g s c account reader n entry old mid new (hindered (obstacle.Adding store.Database)) OfStore a refl refl
-    refl refl refl refl (λ fine sealed. cc) (fits Broken) opened (inl (inr (inr (inr (inr (inl refl))))))
-    (counted ∙ ap next_count a.uncounted) before err crash
+    refl refl refl refl (λ fine sealed. cc) (fits Failed) opened (inl (inr (inr (inr (inr (inl refl))))))
+    (counted ∙ ap (λ n. wrapping_add n 1) a.uncounted) before err crash
 right_refused g s c account reader n entry old mid new store.NotOurs a fits opened of counted before err crash =
     absurd (elim of [ inl e ↦ cc | inr e ↦ cc ])
 right_refused g s c account reader n entry old mid new store.Full a fits opened of counted before err crash =

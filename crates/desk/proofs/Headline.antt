@@ -4,7 +4,7 @@ use Rattle.std.proofs.Common.{if◌then◌else◌, ℤ, Bool, true, false, List,
 use Rattle.std.proofs.Common.{Ok, Err, refl, sym, ◌∙◌, ap, subst, inl, inr}
 use Rattle.der.specs.Node.{encoding, length_octets}
 use Rattle.der.specs.Number.{number_content}
-use Rattle.policy.specs.Record.{AccountValue}
+use Rattle.policy.specs.Record.{AccountValue, PolicyValue}
 use Rattle.tsp.specs.Granted.{granted_octets}
 use Rattle.tsp.specs.Rejection.{number_of, rejection}
 use Rattle.tsp.specs.Rules.{IsFirstFailing}
@@ -17,7 +17,8 @@ use Rattle.book.specs.History.{History, ReservationValue, greatest_serial}
 use Rattle.book.specs.Sound.{greatest_number}
 use Rattle.std.proofs.lemmas.Bool.Decides.{nat_tests}
 use Rattle.desk.specs.Outcome.{Outcome, Cause, OfMemory, OfStore, OfSigner, cause_of, cause_of_signing, first_cause}
-use Rattle.desk.specs.Findings.{IsUnjudged, StampPlan, IsAllowed, HoldsAt, Finding, Fails, Unanswered, Allowed, Finds}
+use Rattle.desk.specs.Findings.{IsUnjudged, StampPlan, IsAllowed, HoldsAt, HoldsUnasked, Finding, Fails, Unanswered}
+use Rattle.desk.specs.Findings.{Allowed, Finds}
 use Rattle.desk.specs.Command.{Setting, PendingValue, Stamp, Answer, Stamped, Rejected}
 use Rattle.desk.specs.Texts.{pending_of, token_with}
 use Rattle.desk.specs.Effects.{Effect, Stamping, Unreserved, Void, Sealing, no_number, no_seal, next_reservation}
@@ -160,6 +161,23 @@ unjudged_by : (s : Setting) (account : Option AccountValue) (reading : ℤ) (o :
 unjudged_by s account reading o b cause (inl h) = inl (cause, (0, omega arith, h))
 unjudged_by s account reading o b cause (inr h) = inl (cause, (1, omega arith, h.2))
 
+-- where all rules hold, those do that ask the store nothing
+unasked_holds : (file : PolicyValue) (account : Option AccountValue) (reading : ℤ) (octets : List ℕ) (b : History)
+    → ((rule : Rule) → HoldsAt file account reading octets b rule) → (rule : Rule)
+    → HoldsUnasked file account octets rule
+unasked_holds file account reading octets b holds Spelling = holds Spelling
+unasked_holds file account reading octets b holds Version = holds Version
+unasked_holds file account reading octets b holds Account = holds Account
+unasked_holds file account reading octets b holds Algorithm = holds Algorithm
+unasked_holds file account reading octets b holds HashLength = holds HashLength
+unasked_holds file account reading octets b holds Policy = holds Policy
+unasked_holds file account reading octets b holds PolicyAlgorithm = holds PolicyAlgorithm
+unasked_holds file account reading octets b holds Extensions = holds Extensions
+unasked_holds file account reading octets b holds Certificate = holds Certificate
+unasked_holds file account reading octets b holds Clock = λ r spelled. tt
+unasked_holds file account reading octets b holds Quota = λ r spelled. tt
+unasked_holds file account reading octets b holds System = λ r spelled. tt
+
 rejected_found : (s : Setting) (account : Option AccountValue) (reading : ℤ) (octets : List ℕ) (o : Outcome)
     (b : History) (rule : Rule) (f : Finding)
     → Finds s.file account reading octets o b f → (stamp_found s (name_of account) octets o b f).says
@@ -168,9 +186,10 @@ rejected_found s account reading octets o b rule (Fails first) found e =
     let same : first ≡ rule = cc in inl
     (subst (IsFirstFailing (HoldsAt s.file account reading octets b)) same found.0)
 rejected_found s account reading octets o b rule (Unanswered cause) found e =
-    inr (cc, unjudged_by s account reading o b cause found.1)
+    inr (cc, found.0, unjudged_by s account reading o b cause found.1)
 rejected_found s account reading octets o b rule (Allowed plan) found e =
-    inr (rejected_from s (name_of account) plan octets o b rule (no_number o b) refl e)
+    let last = rejected_from s (name_of account) plan octets o b rule (no_number o b) refl e in
+    inr (last.0, unasked_holds s.file account reading octets b found.0.holds, last.1)
 
 -- a rejection is by the first rule that fails, or by rule 12
 pub rejected_is : (s : Setting) (account : Option AccountValue) (reading : ℤ) (octets : List ℕ) (o : Outcome)
@@ -258,7 +277,7 @@ unjudged_answer s account reading o b cause (inl h) = (cause, (0, omega arith, h
 unjudged_answer s account reading o b cause (inr h) = (cause, (1, omega arith, h.2))
 
 -- a stamp is granted or rejected
-abbrev IsOfStamp : Answer → Type 0
+abbrev pub IsOfStamp : Answer → Type 0
 IsOfStamp answer =
     ((serial : ℕ) × ((reply : List ℕ) × (answer ≡ Stamped serial reply))) ⊎ ((rule : Rule) × (answer ≡ Rejected rule))
 
@@ -273,6 +292,11 @@ found_says s name octets o b (Fails rule) = inr (rule, refl)
 found_says s name octets o b (Unanswered cause) = inr (System, refl)
 found_says s name octets o b (Allowed plan) = stamp_says s (stamping_of s name plan octets o b (no_number o b))
 
+pub stamp_answered : (s : Setting) (account : Option AccountValue) (reading : ℤ) (octets : List ℕ) (o : Outcome)
+    (b : History) (e : Effect) → HasEffect s (Stamp account reading octets) o b e → IsOfStamp e.says
+stamp_answered s account reading octets o b e h =
+    subst (λ x. IsOfStamp x.says) (sym h.2) (found_says s (name_of account) octets o b h.0)
+
 -- where no rule fails, all that it needs is answered and a number is left, the stamp is granted
 pub granted_where : (s : Setting) (account : Option AccountValue) (reading : ℤ) (octets : List ℕ) (o : Outcome)
     (b : History) (e : Effect) (plan : StampPlan)
@@ -280,9 +304,7 @@ pub granted_where : (s : Setting) (account : Option AccountValue) (reading : ℤ
     → HasEffect s (Stamp account reading octets) o b e
     → (reply : List ℕ) × (e.says ≡ Stamped (greatest_serial b + 1) reply)
 granted_where s account reading octets o b e plan allowed left answered h =
-    let says : IsOfStamp e.says = subst (λ x. IsOfStamp x.says) (sym h.2)
-    (found_says s (name_of account) octets o b h.0) in
-    elim says [
+    elim (stamp_answered s account reading octets o b e h) [
       | inl k ↦ (
         k.1.0,
         k.1.1 ∙ ap (λ n. Stamped n k.1.0)
@@ -290,7 +312,7 @@ granted_where s account reading octets o b e plan allowed left answered h =
       )
       | inr k ↦ absurd (elim (rejected_is s account reading octets o b e k.0 h k.1) [
         | inl first ↦ first.fails (allowed.holds k.0)
-        | inr last ↦ elim last.1 [ inl call ↦ answered call | inr spent ↦ omega arith ]
+        | inr last ↦ elim last.2 [ inl call ↦ answered call | inr spent ↦ omega arith ]
       ])
     ]
 

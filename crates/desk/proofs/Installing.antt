@@ -5,9 +5,11 @@ use Rattle.std.specs.Str.{bytes_eq}
 use Rattle.std.proofs.lemmas.Slice.Eq.{bytes_eq-Decides}
 use Rattle.policy.specs.Record.{AccountValue}
 use Rattle.book.specs.History.{Calibrated, Held, Granted, Revoked, Installed, InstalledValue, History}
-use Rattle.book.specs.History.{DepositValue, calibrations, holds, latest_calibration, token_of, deposit_under}
+use Rattle.book.specs.History.{calibrations, holds, latest_calibration, token_of, deposit_under}
 use Rattle.book.specs.Identities.{latest_identity}
 use Rattle.book.specs.Rights.{seen_by}
+use Rattle.book.specs.Rows.{DepositRow}
+use Rattle.book.specs.Sound.{is_backwards}
 use Rattle.book.specs.Values.{installed_of}
 use Rattle.desk.specs.Outcome.{Outcome, Cause, cause_of}
 use Rattle.desk.specs.Findings.{StampPlan, Finding, Fails, Unanswered, Allowed}
@@ -17,7 +19,7 @@ use Rattle.desk.specs.Texts.{octets_for}
 use Rattle.desk.specs.Effects.{Effect, only, unless, Stamping, Unreserved, Void, Sealing, no_number, no_seal}
 use Rattle.desk.specs.Effects.{stamping_of, stamp_effect, stamp_found, begin_effect, begin_found, finish_effect}
 use Rattle.desk.specs.Effects.{deposit_effect, deposit_found, right_effect, accepted, numbered, succeed_effect}
-use Rattle.desk.specs.Effects.{is_backwards, calibrate_effect, name_of}
+use Rattle.desk.specs.Effects.{calibrate_effect, name_of}
 use Rattle.desk.specs.declared.fault.Fault.{Fault}
 use Rattle.desk.specs.declared.fault.Fault.TheVariants as fault
 use Rattle.desk.specs.Steps.{KeepsByReference, KeepsOnceSearched, KeepsWithinSize, HasEffect}
@@ -83,7 +85,7 @@ deposit_found_none s owner reference bytes octets o b (Allowed plan) =
     deposit_none s owner reference bytes (stamping_of s owner plan octets o b (no_number o b))
 
 under_none : (s : Setting) (a : AccountValue) (reading : ℤ) (reference bytes : List ℕ) (o : Outcome) (b : History)
-    (under : Option DepositValue) (e : Effect) → KeepsByReference s a reading reference bytes o b under e
+    (under : Option DepositRow) (e : Effect) → KeepsByReference s a reading reference bytes o b under e
     → InstallsNone e
 under_none s a reading reference bytes o b (Some d) e is = subst InstallsNone (sym is) (λ c. refl)
 under_none s a reading reference bytes o b None e is =

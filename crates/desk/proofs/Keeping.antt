@@ -1,5 +1,5 @@
 -- What was acknowledged still stands after each step, and journeys have their properties.
-use Rattle.std.proofs.Common.{arith, Contains, ◌≡◌, ℕ, suc, ◌+◌, nat_le, cond, ℤ, Bool, true, false, List, [], ◌∷◌, ◌++◌}
+use Rattle.std.proofs.Common.{arith, Contains, ◌≡◌, ℕ, zero, suc, ◌+◌, nat_le, cond, ℤ, Bool, true, false, List, [], ◌∷◌, ◌++◌}
 use Rattle.std.proofs.Common.{length, Option, Some, None, drop, refl, sym, ◌∙◌, ap, subst, ◌⊎◌, inl, inr}
 use Rattle.std.specs.List.{AllByRecursion}
 use Rattle.std.proofs.lemmas.Bool.{eq-eqb}
@@ -7,14 +7,17 @@ use Rattle.std.specs.Str.{bytes_eq}
 use Rattle.policy.specs.Record.{AccountValue}
 use Rattle.cms.specs.Identity.{IdentityValue}
 use Rattle.cms.specs.SignedData.{token}
+use Rattle.tsp.specs.Granted.{granted_octets}
 use Rattle.book.specs.History.{Entry, Reserved, Sealed, Deposited, Calibrated, Held, Granted, Revoked, Installed}
-use Rattle.book.specs.History.{CalibrationValue, HoldValue, InstalledValue, History, DepositValue, calibrations, holds, token_of, deposit_at}
+use Rattle.book.specs.History.{CalibrationValue, HoldValue, InstalledValue, History, calibrations, holds, token_of}
+use Rattle.book.specs.History.{deposit_at}
 use Rattle.book.specs.History.{ReservationValue, reservation_at, deposit_under, latest_calibration}
-use Rattle.book.specs.Identities.{latest_identity, identity_of}
+use Rattle.book.specs.Identities.{latest_identity, identity_at_reservation}
 use Rattle.book.specs.Rights.{seen_by, listed}
-use Rattle.book.specs.Sound.{Fits, IsSound}
+use Rattle.book.specs.Rows.{DepositRow}
+use Rattle.book.specs.Sound.{Fits, IsSound, is_backwards}
 use Rattle.book.specs.Values.{deposit_of}
-use Rattle.desk.specs.Outcome.{Outcome, Cause, cause_of, first_cause}
+use Rattle.desk.specs.Outcome.{Outcome, Cause, cause_of}
 use Rattle.desk.specs.Findings.{StampPlan, Finding, Fails, Unanswered, Allowed}
 use Rattle.desk.specs.Command.{InForce, Setting, PendingValue, Command, Stamp, Begin, Finish, Abandon, Deposit, Show}
 use Rattle.desk.specs.Command.{Token}
@@ -24,12 +27,13 @@ use Rattle.desk.specs.Texts.{octets_for, pending_of, token_with}
 use Rattle.desk.specs.Effects.{Effect, only, unless, Stamping, Unreserved, Void, Sealing}
 use Rattle.desk.specs.Effects.{no_number, no_seal, next_reservation, stamping_of, stamp_effect, stamp_found, begin_effect, begin_found}
 use Rattle.desk.specs.Effects.{finish_effect, deposit_effect, deposit_found, show_effect, token_effect}
-use Rattle.desk.specs.Effects.{reply_or_nothing, accepted, numbered, right_effect, is_backwards, calibrate_effect}
+use Rattle.desk.specs.Effects.{reply_or_nothing, no_sight, accepted, numbered, right_effect, calibrate_effect}
 use Rattle.desk.specs.Effects.{succeed_effect, name_of}
 use Rattle.desk.specs.declared.fault.Fault.TheVariants as fault
 use Rattle.desk.specs.Steps.{KeepsByReference, KeepsOnceSearched, KeepsWithinSize, HasEffect, IsMet}
 use Rattle.desk.specs.Runs.{IsProper, Told, Journey, begins, opens, opens_older, shuts, rests, enters, breaks, goes, stops, after, cut}
-use Rattle.desk.specs.Runs.{IsEntering, IsNumbered, IsSignedUnder, IsTokenFor, IsStampKept, IsTokenKept, IsDepositKept}
+use Rattle.desk.specs.Runs.{IsEntering, IsNumbered, IsSignedUnder, IsTokenFor, IsReservedFor, IsFinishedFor, IsStampKept}
+use Rattle.desk.specs.Runs.{IsTokenKept, IsDepositKept, IsShownKept, WasBegun, WasFinished}
 use Rattle.desk.specs.Runs.{IsDoneKept, IsNumberKept, IsKept, HasProperties}
 use Rattle.desk.specs.Naming.{IsNameableFor}
 use Rattle.desk.specs.Succession.{installed_by, is_latest, HasSubject, IsNameable}
@@ -38,7 +42,9 @@ use Rattle.desk.proofs.Branches.{if_has, unless_has, right_has}
 use Rattle.desk.proofs.Given.{just_found}
 use Rattle.desk.proofs.Headline.{SealedBy, stamping_by}
 use Rattle.desk.proofs.Installing.{IsOf, latest_where, in_force_kept, latest_kept, of_in_force, brought_in_force}
-use Rattle.desk.proofs.Views.{reservation_stays, identity_stays, token_stays, deposit_stays, found_under, same_octets}
+use Rattle.desk.proofs.Sighted.{may_see}
+use Rattle.desk.proofs.Views.{reservation_stays, identity_stays, token_stays, deposit_stays, deposit_sealed}
+use Rattle.desk.proofs.Views.{found_under, same_octets}
 use Rattle.desk.proofs.Sound.{TextLaws, AreGood, fits_along, true_along, rising_along, naming_along, good_cut}
 use Rattle.desk.proofs.Stepping.{step_adds, adds_good}
 
@@ -129,7 +135,7 @@ stamp_kept e b fits (Succeed next) serial reply k = k
 token_kept : (e : Entry) (b : History) → Fits e b → (number : ℕ) (is_new : Bool) → IsTokenKept b number is_new
     → IsTokenKept (e ∷ b) number is_new
 token_kept e b fits number true k = (k.0, token_for_stays e b fits number k.0 k.1)
-token_kept e b fits number false k = tt
+token_kept e b fits number false k = (k.0, token_stays e b fits number k.0 k.1)
 
 deposit_kept : (e : Entry) (b : History) → Fits e b → (c : Command) (number : ℕ) (is_new : Bool)
     → IsDepositKept b c number is_new → IsDepositKept (e ∷ b) c number is_new
@@ -149,6 +155,22 @@ deposit_kept e b fits (Revoke a m reader) number is_new k = k
 deposit_kept e b fits (Calibrate x) number is_new k = k
 deposit_kept e b fits (Hold h) number is_new k = k
 deposit_kept e b fits (Succeed next) number is_new k = k
+
+shown_kept : (e : Entry) (b : History) → Fits e b → (c : Command) (octets : List ℕ) → IsShownKept b c octets
+    → IsShownKept (e ∷ b) c octets
+shown_kept e b fits (Stamp account reading bytes) octets k = k
+shown_kept e b fits (Begin account reading bytes) octets k = k
+shown_kept e b fits (Finish p signature) octets k = k
+shown_kept e b fits (Abandon p) octets k = k
+shown_kept e b fits (Deposit a reading reference bytes) octets k = k
+shown_kept e b fits (Show a m) octets k = (k.0, deposit_stays e b fits m k.0 k.1, k.2)
+shown_kept e b fits (Token a m) octets k = (k.0, k.1, token_stays e b fits m k.0 k.2)
+shown_kept e b fits (ListAll a) octets k = k
+shown_kept e b fits (Grant a m reader) octets k = k
+shown_kept e b fits (Revoke a m reader) octets k = k
+shown_kept e b fits (Calibrate x) octets k = k
+shown_kept e b fits (Hold h) octets k = k
+shown_kept e b fits (Succeed next) octets k = k
 
 done_kept : (e : Entry) (b : History) (c : Command) → IsDoneKept b c → IsDoneKept (e ∷ b) c
 done_kept e b (Stamp account reading octets) k = k
@@ -191,7 +213,7 @@ kept_one e b fits c (Begun p) k = record {
   signer = signed_stays e b fits p.serial k.reservation k.reserved p.identity k.signer;
 }
 kept_one e b fits c (Kept number is_new) k = deposit_kept e b fits c number is_new k
-kept_one e b fits c (Shown octets) k = tt
+kept_one e b fits c (Shown octets) k = shown_kept e b fits c octets k
 kept_one e b fits c (Listed rows) k = tt
 kept_one e b fits c Done k = done_kept e b c k
 kept_one e b fits c (Numbered number) k = number_kept e b c number k
@@ -218,7 +240,7 @@ token_stands : (s : Setting) (b c : History) (account : List ℕ) (plan : StampP
     → r ≡ next_reservation s account plan octets b
     → text ≡ token_with (pending_of s plan (next_reservation s account plan octets b)) signature
     → reservation_at r.serial c ≡ Some r → token_of r.serial c ≡ Some text
-    → identity_of r.serial c ≡ latest_identity b → IsTokenFor r.serial c text
+    → identity_at_reservation r.serial c ≡ latest_identity b → IsTokenFor r.serial c text
 token_stands s b c account plan octets r text signature k next is at sealed found = record {
   reservation = r;
   reserved = at;
@@ -312,7 +334,7 @@ deposit_found_stands s b a reading reference bytes o k (Allowed plan) =
     (stamping_of s a.name plan octets o b (no_number o b)) (stamping_by s a.name plan octets o b (no_number o b))
 
 -- a known deposit is the one that is asked for
-pub same_row : (a : AccountValue) (reference bytes : List ℕ) (d : DepositValue) → d.owner ≡ a.name → d.reference
+pub same_row : (a : AccountValue) (reference bytes : List ℕ) (d : DepositRow) → d.owner ≡ a.name → d.reference
     ≡ reference → d.bytes ≡ bytes
     → d ≡ deposit_of d.serial a.name reference bytes
 same_row a reference bytes d own under same =
@@ -322,17 +344,17 @@ same_row a reference bytes d own under same =
     ∙ ap (λ x. deposit_of d.serial a.name x d.bytes) under in
     two ∙ ap (λ x. deposit_of d.serial a.name reference x) same
 
-known_if : (b : History) (a : AccountValue) (reading : ℤ) (reference bytes : List ℕ) (d : DepositValue)
+known_if : (b : History) (a : AccountValue) (reading : ℤ) (reference bytes : List ℕ) (d : DepositRow)
     (same : Bool) → bytes_eq d.bytes bytes ≡ same
     → deposit_at d.serial b ≡ Some d → d.owner ≡ a.name → d.reference ≡ reference
     → IsKept b (Deposit a reading reference bytes) (cond same (Kept d.serial false) (Refused fault.Conflict))
 known_if b a reading reference bytes d true e at own under =
-    (at ∙ ap Some (same_row a reference bytes d own under (same_octets d.bytes bytes e)), tt)
+    (at ∙ ap Some (same_row a reference bytes d own under (same_octets d.bytes bytes e)), deposit_sealed b d.serial d at)
 known_if b a reading reference bytes d false e at own under = tt
 
 keeps_under_stands : (s : Setting) (b : History) → AreGood b → IsOf (latest_identity b) s.in_force
     → (a : AccountValue) (reading : ℤ) (reference bytes : List ℕ) (o : Outcome) (e : Effect)
-    → (under : Option DepositValue) → deposit_under a.name reference b ≡ under
+    → (under : Option DepositRow) → deposit_under a.name reference b ≡ under
     → KeepsByReference s a reading reference bytes o b under e
     → StandsAfter (Deposit a reading reference bytes) b e
 keeps_under_stands s b g k a reading reference bytes o e (Some d) is h =
@@ -361,49 +383,25 @@ keeps_stands s b g k a reading reference bytes o e true h = keeps_unless_stands 
 keeps_stands s b g k a reading reference bytes o e false h = subst (StandsAfter (Deposit a reading reference bytes) b)
     (sym h) tt
 
--- an answer that acknowledges nothing
-abbrev IsPlain : Answer → Type 0
-IsPlain (Stamped serial octets) = ⊥
-IsPlain (Kept number new) = ⊥
-IsPlain (Rejected rule) = Unit {0}
-IsPlain (Begun p) = ⊥
-IsPlain (Shown octets) = Unit {0}
-IsPlain (Listed xs) = Unit {0}
-IsPlain Done = ⊥
-IsPlain (Numbered n) = ⊥
-IsPlain (Refused fault) = Unit {0}
+-- what is shown is a deposit that stands, and the token of one
+deposit_shown : (b : History) (a : AccountValue) (n : ℕ) (refused : Option Cause) (seen : Option DepositRow)
+    → ((d : DepositRow) → seen ≡ Some d → deposit_at n b ≡ Some d) → StandsAfter (Show a n) b (show_effect refused seen)
+deposit_shown b a n refused None at = tt
+deposit_shown b a n refused (Some d) at =
+    let P : Effect → Type 0 = λ e. StandsAfter (Show a n) b e in
+    unless_has P (λ f. tt) refused (only (Shown d.bytes)) (d, at d refl, refl)
 
-plain_kept : (b : History) (c : Command) (a : Answer) → IsPlain a → IsKept b c a
-plain_kept b c (Stamped serial octets) h = absurd h
-plain_kept b c (Kept number new) h = absurd h
-plain_kept b c (Rejected rule) h = tt
-plain_kept b c (Begun p) h = absurd h
-plain_kept b c (Shown octets) h = tt
-plain_kept b c (Listed xs) h = tt
-plain_kept b c Done h = absurd h
-plain_kept b c (Numbered n) h = absurd h
-plain_kept b c (Refused fault) h = tt
+reply_shown : (b : History) (a : AccountValue) (n : ℕ) (token : Option (List ℕ)) → token_of n b ≡ token
+    → StandsAfter (Token a n) b (only (reply_or_nothing token))
+reply_shown b a n None is = tt
+reply_shown b a n (Some text) is = (text, refl, is)
 
-plain_unless : (refused : Option Cause) (e : Effect) → IsPlain e.says → IsPlain (unless refused e).says
-plain_unless None e h = h
-plain_unless (Some cause) e h = tt
-
-show_plain : (refused : Option Cause) (seen : Option DepositValue) → IsPlain (show_effect refused seen).says
-show_plain refused None = tt
-show_plain refused (Some d) = plain_unless refused (only (Shown d.bytes)) tt
-
-reply_plain : (token : Option (List ℕ)) → IsPlain (reply_or_nothing token)
-reply_plain None = tt
-reply_plain (Some token) = tt
-
-token_plain : (refused : Option Cause) (token : Option (List ℕ)) (seen : Option DepositValue)
-    → IsPlain (token_effect refused token seen).says
-token_plain refused token None = tt
-token_plain refused token (Some d) = plain_unless refused (only (reply_or_nothing token)) (reply_plain token)
-
--- what is answered plainly stands
-plain_stands : (c : Command) (b : History) (e d : Effect) → e ≡ d → IsPlain d.says → StandsAfter c b e
-plain_stands c b e d h p = plain_kept (e.adds ++ b) c e.says (rw h p)
+token_shown : (b : History) (a : AccountValue) (n : ℕ) (refused : Option Cause) (seen : Option DepositRow)
+    → StandsAfter (Token a n) b (token_effect refused (token_of n b) seen)
+token_shown b a n refused None = tt
+token_shown b a n refused (Some d) =
+    let P : Effect → Type 0 = λ e. StandsAfter (Token a n) b e in
+    unless_has P (λ f. tt) refused (only (reply_or_nothing (token_of n b))) (reply_shown b a n (token_of n b) refl)
 
 -- the identity that was installed last was installed
 latest_in : (b : History) (i : InstalledValue) → latest_identity b ≡ Some i → Contains b (Installed i)
@@ -448,18 +446,19 @@ step_stands s (Deposit a reading reference bytes) o b e g k h =
     keeps_stands s b g (not_entering k) a reading reference bytes o e
     (nat_le (length bytes) 1_048_576) h
 step_stands s (Show a n) o b e g k h =
-    let refused = first_cause (cause_of o.looking ∷ cause_of o.growing ∷ []) in
-    let d = show_effect refused (seen_by (viewer_in s.file a.name) n b) in
-    plain_stands (Show a n) b e (unless (cause_of o.searching) d) h (plain_unless (cause_of o.searching) d
-    (show_plain refused (seen_by (viewer_in s.file a.name) n b)))
+    let P : Effect → Type 0 = λ x. StandsAfter (Show a n) b x in
+    let viewer = viewer_in s.file a.name in
+    let d = show_effect (no_sight o) (seen_by viewer n b) in
+    subst P (sym h) (unless_has P (λ f. tt) (cause_of o.searching) d
+    (deposit_shown b a n (no_sight o) (seen_by viewer n b) (λ x is. (may_see viewer n b x is).deposited)))
 step_stands s (Token a n) o b e g k h =
-    let refused = first_cause (cause_of o.looking ∷ cause_of o.growing ∷ []) in
-    let d = token_effect refused (token_of n b) (seen_by (viewer_in s.file a.name) n b) in
-    plain_stands (Token a n) b e (unless (cause_of o.searching) d) h (plain_unless (cause_of o.searching) d
-    (token_plain refused (token_of n b) (seen_by (viewer_in s.file a.name) n b)))
+    let P : Effect → Type 0 = λ x. StandsAfter (Token a n) b x in
+    let seen = seen_by (viewer_in s.file a.name) n b in
+    let d = token_effect (no_sight o) (token_of n b) seen in
+    subst P (sym h) (unless_has P (λ f. tt) (cause_of o.searching) d (token_shown b a n (no_sight o) seen))
 step_stands s (ListAll a) o b e g k h =
-    let d : Effect = only (Listed (listed (viewer_in s.file a.name) b)) in
-    plain_stands (ListAll a) b e (unless (cause_of o.looking) d) h (plain_unless (cause_of o.looking) d tt)
+    let P : Effect → Type 0 = λ x. StandsAfter (ListAll a) b x in
+    subst P (sym h) (unless_has P (λ f. tt) (cause_of o.looking) (only (Listed (listed (viewer_in s.file a.name) b))) tt)
 step_stands s (Grant a n reader) o b e g k h =
     let P : Effect → Type 0 = λ x. StandsAfter (Grant a n reader) b x in
     let entry = Granted n reader in
@@ -684,6 +683,41 @@ holds_along laws b x w (goes {b = b0} {w = w0} s c o e met h j) =
 holds_along laws b x w (stops {b = b0} {w = w0} s c o e k met h j) =
     stops_at laws b0 w0 s c o e k met h (holds_along laws b0 (Some s) w0 j)
 
+-- a member of a list
+member_cases : {X : Type 0} (x y : X) (xs : List X) → Contains (x ∷ xs) y → (x ≡ y) ⊎ Contains xs y
+member_cases x y xs (zero, below, is) = inl is
+member_cases x y xs (suc k, below, is) = inr (k, omega arith, is)
+
+all_of : {X : Type 0} (P : X → Type 0) (xs : List X) (y : X) → AllByRecursion P xs → Contains xs y → P y
+all_of P [] y all m = let below = m.1 in absurd (omega arith)
+all_of P (x ∷ xs) y all m = elim (member_cases x y xs m) [ inl e ↦ subst P e all.0 | inr m ↦ all_of P xs y all.1 m ]
+
+-- what was begun is finished over its reservation
+token_finished : (b : History) (p : PendingValue) (signature : List ℕ) (serial : ℕ) (text : List ℕ)
+    → IsReservedFor p b → IsFinishedFor p signature serial b text → IsTokenFor serial b text
+token_finished b p signature serial text begun k = record {
+  reservation = begun.reservation;
+  reserved = subst (λ n. reservation_at n b ≡ Some begun.reservation) (sym k.number) begun.reserved;
+  identity = p.identity;
+  algorithm = p.algorithm;
+  signature = signature;
+  certificate = p.certificate;
+  text_is = k.text_is ∙ ap (λ x. token p.identity p.algorithm x signature p.certificate) (sym begun.tst);
+  sealed = k.sealed;
+  signer = subst (λ n. IsSignedUnder p.identity n b) (sym k.number) begun.signer;
+}
+
+finished_along : (b : History) (w : List Told) → AllByRecursion (λ t. IsKept b t.command t.answer) w
+    → (p : PendingValue) (signature : List ℕ) (serial : ℕ) (reply : List ℕ) → WasBegun p w
+    → WasFinished p signature serial reply w
+    → (text : List ℕ) × (reply ≡ granted_octets text) × IsTokenFor serial b text
+finished_along b w kept p signature serial reply begun finished =
+    let P : Told → Type 0 = λ t. IsKept b t.command t.answer in
+    let waits : IsReservedFor p b = all_of P w (record { command = begun.0; answer = Begun p }) kept begun.1 in
+    let stands : IsStampKept b (Finish p signature) serial reply =
+    all_of P w (record { command = Finish p signature; answer = Stamped serial reply }) kept finished in
+    (stands.0, stands.1, token_finished b p signature serial stands.0 waits stands.2)
+
 pub journeys_have_properties : TextLaws → (b : History) (x : Option Setting) (w : List Told) → Journey b x w
     → HasProperties b w
 journeys_have_properties laws b x w j =
@@ -696,6 +730,7 @@ journeys_have_properties laws b x w j =
       };
       rising = rising_along b h.good;
       kept = h.kept;
+      finished = finished_along b w h.kept;
     }
 
 pub sound_along : TextLaws → (b : History) (x : Option Setting) (w : List Told) → Journey b x w → IsSound b

@@ -8,7 +8,8 @@ use Rattle.policy.specs.Record.{AccountValue}
 use Rattle.cms.specs.Signer.{count_after}
 use Rattle.cms.specs.declared.signer.SignerFault.{SignerFault}
 use Rattle.book.specs.Fault.{count_after as count_with}
-use Rattle.book.specs.History.{History, DepositValue, deposit_under}
+use Rattle.book.specs.History.{History, deposit_under}
+use Rattle.book.specs.Rows.{DepositRow}
 use Rattle.book.specs.Stands.{Stands, OnlyLooks}
 use Rattle.book.specs.declared.fault.StoreFault.{StoreFault}
 use Rattle.book.specs.declared.fault.StoreFault.TheVariants as store
@@ -26,7 +27,7 @@ use Rattle.desk.specs.declared.depositing.Known.{Known}
 use Rattle.desk.specs.declared.depositing.Known.TheVariants as known
 use Rattle.desk.specs.declared.fault.Fault.{Fault}
 use Rattle.desk.specs.declared.fault.Fault.TheVariants as fault
-use Rattle.desk.proofs.Fitting.{unbroken}
+use Rattle.desk.proofs.Fitting.{none_failed}
 use Rattle.desk.proofs.Judgement.{same_cause, same_count}
 
 is_many : (n : ℕ) → 1_048_576 < n → nat_le n 1_048_576 ≡ false
@@ -84,7 +85,7 @@ unsearched f = record (all_fine (Ok [])) { searching = call_of f }
 
 search_blamed : {B : Type 0} (g : Ghosts B) (c : Command) (f : StoreFault) (old new : B) → IsOfStore f
     → IsBlamedFor g c (unsearched f) old new (fault_of (store_cause f))
-search_blamed g c store.Memory old new h = unbroken _ tt tt tt tt tt tt tt tt
+search_blamed g c store.Memory old new h = none_failed _ tt tt tt tt tt tt tt tt
 search_blamed g c store.Database old new h = inl (inl refl)
 search_blamed g c store.NotOurs old new (inl e) = cc
 search_blamed g c store.NotOurs old new (inr e) = cc
@@ -122,7 +123,7 @@ same_at true serial number e = let is : number ≡ serial = cc in ap (λ n. only
 same_at false serial number e = cc
 
 same_under : (s : Setting) (a : AccountValue) (reading : ℤ) (reference bytes : List ℕ) (o : Outcome) (b : History)
-    (under : Option DepositValue) (number : ℕ) → known.Same number ≡ known_in bytes under
+    (under : Option DepositRow) (number : ℕ) → known.Same number ≡ known_in bytes under
     → KeepsByReference s a reading reference bytes o b under (only (Kept number false))
 same_under s a reading reference bytes o b None number e = cc
 same_under s a reading reference bytes o b (Some d) number e = same_at (bytes_eq d.bytes bytes) d.serial number e
@@ -133,7 +134,7 @@ other_at true serial e = cc
 other_at false serial e = refl
 
 other_under : (s : Setting) (a : AccountValue) (reading : ℤ) (reference bytes : List ℕ) (o : Outcome) (b : History)
-    (under : Option DepositValue) → known.Other ≡ known_in bytes under
+    (under : Option DepositRow) → known.Other ≡ known_in bytes under
     → KeepsByReference s a reading reference bytes o b under (only (Refused fault.Conflict))
 other_under s a reading reference bytes o b None e = cc
 other_under s a reading reference bytes o b (Some d) e = other_at (bytes_eq d.bytes bytes) d.serial e
@@ -173,7 +174,7 @@ none_at : (same : Bool) (serial : ℕ) → known.Nothing ≡ cond same (known.Sa
 none_at true serial e = cc
 none_at false serial e = cc
 
-none_under : (bytes : List ℕ) (under : Option DepositValue) → known.Nothing ≡ known_in bytes under → under ≡ None
+none_under : (bytes : List ℕ) (under : Option DepositRow) → known.Nothing ≡ known_in bytes under → under ≡ None
 none_under bytes None e = refl
 none_under bytes (Some d) e = absurd (none_at (bytes_eq d.bytes bytes) d.serial e)
 
@@ -213,7 +214,7 @@ blamed_before g c o old mid new fault.UnknownGroup looks h = tt
 blamed_before g c o old mid new fault.TooLarge looks h = tt
 blamed_before g c o old mid new (fault.Rejected rule) looks h = tt
 blamed_before g c o old mid new fault.Memory looks h = h
-blamed_before g c o old mid new fault.Store looks (inl broken) = inl broken
+blamed_before g c o old mid new fault.Store looks (inl failed) = inl failed
 blamed_before g c o old mid new fault.Store looks (inr excused) = inr (excused_before g c old mid new looks excused)
 blamed_before g c o old mid new fault.Signer looks h = h
 

@@ -12,15 +12,16 @@ use Rattle.cms.specs.SignedData.{attribute_text}
 use Rattle.cms.specs.Signer.{count_after}
 use Rattle.cms.specs.declared.signer.SignerFault.{SignerFault}
 use Rattle.cms.specs.declared.signer.SignerFault.TheVariants as signer
-use Rattle.book.specs.History.{Entry, Reserved, Deposited, History, ReservationValue, DepositValue, greatest_serial}
+use Rattle.book.specs.History.{Entry, Reserved, Deposited, History, ReservationValue, greatest_serial}
 use Rattle.book.specs.History.{deposit_under}
+use Rattle.book.specs.Rows.{DepositRow}
 use Rattle.book.specs.Sound.{Along, Fits, FitsDeposited}
 use Rattle.book.specs.Stands.{Stands, LeavesOrAdds}
 use Rattle.book.specs.Fault.{count_after as count_with}
 use Rattle.book.specs.declared.fault.StoreFault.{StoreFault}
 use Rattle.book.specs.declared.fault.StoreFault.TheVariants as store
 use Rattle.book.specs.Values.{deposit_of}
-use Rattle.desk.specs.Outcome.{Call, Fine, Wanting, Broken, Outcome, Cause, cause_of, counted, all_fine}
+use Rattle.desk.specs.Outcome.{Call, Fine, Wanting, Failed, Outcome, Cause, cause_of, counted, all_fine}
 use Rattle.desk.specs.Findings.{StampPlan, Finding, Fails, Unanswered, Allowed, Finds}
 use Rattle.desk.specs.Command.{Setting, PendingValue, Command, Begin, Deposit, Answer, Rejected, Begun, Kept, Refused}
 use Rattle.desk.specs.Texts.{gives_certificate, pending_of, token_with, request_for, octets_for}
@@ -32,7 +33,7 @@ use Rattle.desk.specs.Runs.{after}
 use Rattle.desk.specs.Fit.{IsFit, IsUncounted, AreGrowths}
 use Rattle.desk.specs.Stepped.{StepsBy, IsBlamed, IsBlamedFor, IsExcused, IsOpened, MayBeLeft, IsDoubted, no_signer}
 use Rattle.desk.specs.Stepped.{with_signer, committed, oldest, in_doubt}
-use Rattle.desk.proofs.Fitting.{unbroken}
+use Rattle.desk.proofs.Fitting.{none_failed}
 use Rattle.desk.specs.Wholes.{joined}
 use Rattle.desk.specs.Calls.{refused, cause_with, store_cause, signer_cause, IsOfBeginning}
 use Rattle.desk.specs.Depositing.{kept_by, kept, MayStayKept, KeepsBy, SignsAndKeeps, StepsWhere, IsUnused}
@@ -53,19 +54,19 @@ request_is file a bytes digest certificate r made hashed gives =
 -- From the signature on.
 
 -- no memory for the token
-pub unwrapped : {B : Type 0} (g : Ghosts B) (p : PendingValue) (d : DepositValue) (signature : List ℕ)
+pub unwrapped : {B : Type 0} (g : Ghosts B) (p : PendingValue) (d : DepositRow) (signature : List ℕ)
     (v : B)
     → KeepsBy g p d (Ok signature) (refused refusal.Wrapping) v v (Refused fault.Memory)
 unwrapped g p d signature v = record {
   grows = tt;
   counted = refl;
   opened = λ c honest. tt;
-  blames = λ c first. unbroken _ tt tt tt tt tt tt tt tt;
+  blames = λ c first. none_failed _ tt tt tt tt tt tt tt tt;
   steps = λ honest b stands fits. record { says = refl; stands = stands; left = λ left r. inl (refl, r) };
 }
 
 -- token and deposit are stored
-stored_as : {B : Type 0} (g : Ghosts B) (p : PendingValue) (d : DepositValue) (signature : List ℕ)
+stored_as : {B : Type 0} (g : Ghosts B) (p : PendingValue) (d : DepositRow) (signature : List ℕ)
     (old new : B) → g.fault_count new ≡ g.fault_count old
     → (g.honest new → g.is_open old × g.is_open new)
     → ((b : History) → Stands g b old → Fits (Deposited d (token_with p signature)) b
@@ -103,7 +104,7 @@ stored g p owner reference bytes signature serial token old new number is same o
     → Stands g (Deposited (row n) token ∷ b) new) number ok)))
 
 -- the commit is refused by this fault
-unstored_as : {B : Type 0} (g : Ghosts B) (p : PendingValue) (d : DepositValue) (signature : List ℕ)
+unstored_as : {B : Type 0} (g : Ghosts B) (p : PendingValue) (d : DepositRow) (signature : List ℕ)
     (old new : B) (o : Outcome) (cause : Cause)
     → no_seal o ≡ Some cause → no_seal (record o { sealing = Fine }) ≡ None → (o.sealing ≡ Fine → ⊥)
     → IsUncounted o.wrapping → ((c : Command) (first : B)
@@ -130,7 +131,7 @@ unstored_as g p d signature old new o cause why answered was_refused grows blame
   };
 }
 
-unstored_by : {B : Type 0} (g : Ghosts B) (p : PendingValue) (d : DepositValue) (signature : List ℕ)
+unstored_by : {B : Type 0} (g : Ghosts B) (p : PendingValue) (d : DepositRow) (signature : List ℕ)
     (old new : B) (f : StoreFault) → (f ≡ store.Memory) ⊎ (f ≡ store.Database)
     → g.fault_count new ≡ count_with f (g.fault_count old)
     → ((b : History) → Stands g b old → Stands g b new)
@@ -138,7 +139,7 @@ unstored_by : {B : Type 0} (g : Ghosts B) (p : PendingValue) (d : DepositValue) 
     → KeepsBy g p d (Ok signature) (refused (refusal.Sealing f)) old new (Refused (fault_of (store_cause f)))
 unstored_by g p d signature old new store.Memory which faults err crash =
     unstored_as g p d signature old new (refused (refusal.Sealing store.Memory)) _ refl refl (λ e. cc) tt
-    (λ c first. unbroken _ tt tt tt tt tt tt tt tt) faults err crash
+    (λ c first. none_failed _ tt tt tt tt tt tt tt tt) faults err crash
 unstored_by g p d signature old new store.Database which faults err crash =
     unstored_as g p d signature old new (refused (refusal.Sealing store.Database)) _ refl refl (λ e. cc) tt
     (λ c first. inl (inr (inr (inr (inr (inr (inr refl))))))) faults err crash
@@ -170,9 +171,9 @@ unsigned_blamed : {B : Type 0} (g : Ghosts B) (f : SignerFault) (c : Command) (f
     → IsBlamed g c (joined (all_fine (Ok [])) (Err f) (all_fine (Ok []))) first new
     (Refused (fault_of (signer_cause f)))
 unsigned_blamed g signer.Failed c first new = refl
-unsigned_blamed g signer.Memory c first new = unbroken _ tt tt tt tt tt tt tt tt
+unsigned_blamed g signer.Memory c first new = none_failed _ tt tt tt tt tt tt tt tt
 
-pub unsigned : {B : Type 0} (g : Ghosts B) (p : PendingValue) (d : DepositValue) (f : SignerFault) (v : B)
+pub unsigned : {B : Type 0} (g : Ghosts B) (p : PendingValue) (d : DepositRow) (f : SignerFault) (v : B)
     → KeepsBy g p d (Err f) (all_fine (Ok [])) v v (Refused (fault_of (signer_cause f)))
 unsigned g p d f v = record {
   grows = tt;
@@ -323,8 +324,8 @@ doubted g s c a reading reference bytes octets P o b old answer left new p fine 
 doubted g s c a reading reference bytes octets P o b old answer left new p fine sealed Wanting is d =
     doubted_first g s c a reading reference bytes octets P o b old answer left new p fine Wanting is
     (λ entries. refl) d
-doubted g s c a reading reference bytes octets P o b old answer left new p fine sealed Broken is d =
-    doubted_first g s c a reading reference bytes octets P o b old answer left new p fine Broken is
+doubted g s c a reading reference bytes octets P o b old answer left new p fine sealed Failed is d =
+    doubted_first g s c a reading reference bytes octets P o b old answer left new p fine Failed is
     (λ entries. refl) d
 
 -- a deposit that its beginning decides: nothing is added, and no signer is asked
@@ -402,7 +403,7 @@ blamed_too g one other o old new fault.UnknownGroup excused h = tt
 blamed_too g one other o old new fault.TooLarge excused h = tt
 blamed_too g one other o old new (fault.Rejected rule) excused h = tt
 blamed_too g one other o old new fault.Memory excused h = h
-blamed_too g one other o old new fault.Store excused (inl broken) = inl broken
+blamed_too g one other o old new fault.Store excused (inl failed) = inl failed
 blamed_too g one other o old new fault.Store excused (inr spent) = inr (excused spent)
 blamed_too g one other o old new fault.Signer excused h = h
 
@@ -489,34 +490,34 @@ fits_begun s a reading reference bytes octets b p e sound unused begun =
     (fits_reserved r a.name reference bytes b sound (omega arith) refl unused))
 
 -- and is added to it
-added_kept : (p : PendingValue) (d : DepositValue) (signature : List ℕ) (why : Option Cause) (begun : List Entry)
+added_kept : (p : PendingValue) (d : DepositRow) (signature : List ℕ) (why : Option Cause) (begun : List Entry)
     (b : History)
     → (kept_by p d signature [] why).adds ++ (begun ++ b) ≡ (kept_by p d signature begun why).adds ++ b
 added_kept p d signature None begun b = refl
 added_kept p d signature (Some cause) begun b = refl
 
-added : (p : PendingValue) (d : DepositValue) (signing : Result (List ℕ) SignerFault) (finished : Outcome)
+added : (p : PendingValue) (d : DepositRow) (signing : Result (List ℕ) SignerFault) (finished : Outcome)
     (begun : List Entry) (b : History)
     → (kept p d signing [] finished).adds ++ (begun ++ b) ≡ (kept p d signing begun finished).adds ++ b
 added p d (Ok signature) finished begun b = added_kept p d signature (no_seal finished) begun b
 added p d (Err f) finished begun b = refl
 
-says_kept : (p : PendingValue) (d : DepositValue) (signature : List ℕ) (why : Option Cause) (begun : List Entry)
+says_kept : (p : PendingValue) (d : DepositRow) (signature : List ℕ) (why : Option Cause) (begun : List Entry)
     → (kept_by p d signature [] why).says ≡ (kept_by p d signature begun why).says
 says_kept p d signature None begun = refl
 says_kept p d signature (Some cause) begun = refl
 
-says : (p : PendingValue) (d : DepositValue) (signing : Result (List ℕ) SignerFault) (finished : Outcome)
+says : (p : PendingValue) (d : DepositRow) (signing : Result (List ℕ) SignerFault) (finished : Outcome)
     (begun : List Entry) → (kept p d signing [] finished).says ≡ (kept p d signing begun finished).says
 says p d (Ok signature) finished begun = says_kept p d signature (no_seal finished) begun
 says p d (Err f) finished begun = refl
 
-asks_kept : (p : PendingValue) (d : DepositValue) (signature : List ℕ) (why : Option Cause) (begun : List Entry)
+asks_kept : (p : PendingValue) (d : DepositRow) (signature : List ℕ) (why : Option Cause) (begun : List Entry)
     → Some (attribute_text p.identity p.tst) ≡ (kept_by p d signature begun why).asks
 asks_kept p d signature None begun = refl
 asks_kept p d signature (Some cause) begun = refl
 
-asks : (p : PendingValue) (d : DepositValue) (signing : Result (List ℕ) SignerFault) (finished : Outcome)
+asks : (p : PendingValue) (d : DepositRow) (signing : Result (List ℕ) SignerFault) (finished : Outcome)
     (begun : List Entry) → Some (attribute_text p.identity p.tst) ≡ (kept p d signing begun finished).asks
 asks p d (Ok signature) finished begun = asks_kept p d signature (no_seal finished) begun
 asks p d (Err f) finished begun = refl

@@ -10,7 +10,8 @@ use Rattle.tsp.specs.declared.rule.Rule.TheVariants.{PolicyAlgorithm, Extensions
 use Rattle.decide.specs.Rules.{policy_asked}
 use Rattle.decide.specs.Clock.{IsGood, IsGoodAt, gen_time, now_at}
 use Rattle.decide.specs.declared.facts.ClockFacts.{ClockFacts}
-use Rattle.book.specs.History.{History, DepositValue, deposit_under}
+use Rattle.book.specs.History.{History, deposit_under}
+use Rattle.book.specs.Rows.{DepositRow}
 use Rattle.desk.specs.Outcome.{Outcome, Cause, Fine, cause_of}
 use Rattle.desk.specs.Findings.{StampPlan, IsAllowed, Finding, Fails, Unanswered, Allowed, Finds, HoldsAt, HoldsUnasked}
 use Rattle.desk.specs.Findings.{IsUnjudged, IsAnsweredFor}
@@ -125,7 +126,7 @@ one_finding laws file account reading octets o b (Allowed plan) (Allowed other) 
     ap Allowed (one_plan laws file account reading octets b plan other h.0 k.0)
 
 one_under : TextLaws → (s : Setting) (a : AccountValue) (reading : ℤ) (reference bytes : List ℕ) (o : Outcome)
-    (b : History) (under : Option DepositValue) (e d : Effect) → KeepsByReference s a reading reference bytes o b under e
+    (b : History) (under : Option DepositRow) (e d : Effect) → KeepsByReference s a reading reference bytes o b under e
     → KeepsByReference s a reading reference bytes o b under d → e ≡ d
 one_under laws s a reading reference bytes o b (Some x) e d h k = h ∙ sym k
 one_under laws s a reading reference bytes o b None e d h k =

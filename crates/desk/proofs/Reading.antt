@@ -5,9 +5,10 @@ use Rattle.std.specs.List.{list_any}
 use Rattle.std.specs.Option.{option_and_then}
 use Rattle.std.specs.Str.{bytes_eq}
 use Rattle.std.proofs.lemmas.Bool.{eqb-true}
-use Rattle.book.specs.History.{Granted, Revoked, History, DepositValue, deposit_at}
+use Rattle.book.specs.History.{Granted, Revoked, History, deposit_at}
 use Rattle.book.specs.Readers.{Reader, is_same, Viewer, readers_as}
 use Rattle.book.specs.Rights.{is_reader, may_read, shown_to, seen_by}
+use Rattle.book.specs.Rows.{DepositRow}
 use Rattle.book.proofs.Rights.{reader_after_grant, reader_after_revocation}
 
 any_same : (f g : Reader → Bool) → ((reader : Reader) → f reader ≡ g reader) → (readers : List Reader)
@@ -39,7 +40,7 @@ revoked_beside n x m b other reader =
     reader_after_revocation m reader n x b
     ∙ ap (λ t. cond (t && is_same x reader) false (is_reader m reader b)) other
 
-abbrev seen_where : Viewer → ℕ → History → Bool → Option DepositValue
+abbrev seen_where : Viewer → ℕ → History → Bool → Option DepositRow
 seen_where viewer n b reads = option_and_then (shown_to viewer reads) (deposit_at n b)
 
 pub seen_beside_grant : (viewer : Viewer) (n : ℕ) (x : Reader) (m : ℕ) (b : History) → (n == m) ≡ false
@@ -58,7 +59,7 @@ seen_beside_revocation viewer n x m b other =
 
 -- the deposit with the number is the viewer's own
 pub record IsOwn (viewer : Viewer) (n : ℕ) (b : History) : Type 0 where
-  pub deposit : DepositValue
+  pub deposit : DepositRow
   pub deposited : deposit_at n b ≡ Some deposit
   pub owns : bytes_eq deposit.owner viewer.name ≡ true
 

@@ -78,7 +78,7 @@ rejected_by : (s : Setting) (account : Option AccountValue) (reading : ℤ) (oct
     (b : History) (rule : Rule) → IsRejection s account reading octets o b rule
     → IsRejected s account reading octets b rule
 rejected_by s account reading octets o b rule (inl first) = inl first
-rejected_by s account reading octets o b rule (inr h) = inr h.0
+rejected_by s account reading octets o b rule (inr h) = inr (h.0, h.1)
 
 -- a rejection
 pub rejected_reply : {B X : Type 0} (g : Ghosts B) (signs : X → List ℕ → Result (List ℕ) SignerFault → X → Type 0)

@@ -7,15 +7,16 @@ use Rattle.tsp.specs.Request.{sha256_request}
 use Rattle.tsp.specs.declared.rule.Rule.TheVariants.{System}
 use Rattle.cms.specs.declared.signer.SignerFault.TheVariants as signer
 use Rattle.book.specs.History.{Reserved, Deposited, Calibrated, Held, Granted, Revoked, History, ReservationValue}
-use Rattle.book.specs.History.{Installed, DepositValue}
+use Rattle.book.specs.History.{Installed}
 use Rattle.book.specs.Readers.{Reader, Account, Group}
 use Rattle.book.specs.Rights.{seen_by}
 use Rattle.desk.specs.Facts.{facts_of, count_in, gen_time_in}
-use Rattle.desk.specs.Outcome.{Wanting, Broken, OfMemory, OfStore, all_fine, faults_after}
+use Rattle.desk.specs.Outcome.{Wanting, Failed, OfMemory, OfStore, all_fine, faults_after}
 use Rattle.desk.specs.Findings.{StampPlan}
 use Rattle.desk.specs.Command.{InForce, Setting, Succeed, Rejected, Refused, Kept, Done, Numbered, setting_after}
 use Rattle.cms.specs.Identity.{IdentityValue}
 use Rattle.book.specs.Identities.{latest_identity}
+use Rattle.book.specs.Rows.{DepositRow}
 use Rattle.desk.specs.Succession.{installed_by, is_latest, subject_of, tsa_of}
 use Rattle.desk.specs.Effects.{no_number, next_reservation, stamping_of, stamp_effect, deposit_effect, known_effect}
 use Rattle.desk.specs.Effects.{Effect, right_effect, show_effect, succeed_effect, calibrate_effect}
@@ -149,15 +150,15 @@ wanting = refl
 used_up : no_number (all_fine (Ok [])) (Reserved (reserved 9223372036854775807 0) ∷ history) ≡ Some OfStore
 used_up = refl
 
--- a broken call is counted once, modulo 2^64
-one_fault : faults_after (record (all_fine (Ok [])) { adding = Broken }) 18446744073709551615 ≡ 0
+-- a call that failed is counted once, modulo 2^64
+one_fault : faults_after (record (all_fine (Ok [])) { adding = Failed }) 18446744073709551615 ≡ 0
 one_fault = refl
 
 no_fault : faults_after (record (all_fine (Ok [])) { adding = Wanting }) 7 ≡ 7
 no_fault = refl
 
 -- alice's deposit, under the number of its stamp
-abbrev pub deposit : DepositValue
+abbrev pub deposit : DepositRow
 deposit = record { serial = 2; owner = codes "alice"; reference = codes "plan-7"; bytes = codes "abc" }
 
 abbrev pub deposited : History

@@ -10,7 +10,7 @@ use Rattle.book.specs.History.{Entry, Sealed, History}
 use Rattle.book.specs.Sound.{Fits, FitsSealed}
 use Rattle.book.specs.Stands.{Stands, LeavesOrAdds}
 use Rattle.desk.specs.Fit.{IsFit}
-use Rattle.desk.specs.Outcome.{Call, Fine, Wanting, Broken, Outcome, Cause, faults_after, all_fine}
+use Rattle.desk.specs.Outcome.{Call, Fine, Wanting, Failed, Outcome, Cause, faults_after, all_fine}
 use Rattle.desk.specs.Command.{Setting, PendingValue, Finish, Stamped, Refused}
 use Rattle.desk.specs.Texts.{token_with}
 use Rattle.desk.specs.Effects.{only, fault_of, unless, no_seal, finish_effect}
@@ -18,7 +18,7 @@ use Rattle.desk.specs.Steps.{IsWaiting}
 use Rattle.desk.specs.Stepped.{StepsBy, IsBlamed, no_signer, committed, in_doubt}
 use Rattle.desk.specs.Calls.{refused, store_cause}
 use Rattle.desk.specs.declared.refusal.Refusal.TheVariants as refusal
-use Rattle.desk.proofs.Fitting.{unbroken}
+use Rattle.desk.proofs.Fitting.{none_failed}
 
 -- what waits may be sealed
 pub waiting_fits : (p : PendingValue) (b : History) → IsWaiting p b → FitsSealed p.serial b
@@ -70,7 +70,7 @@ seals g s p signature serial token reply old new number is wrapped same opened o
 pub one_in_doubt : (call : Call) (e : Entry) → in_doubt call (e ∷ []) ≡ e ∷ []
 one_in_doubt Fine e = refl
 one_in_doubt Wanting e = refl
-one_in_doubt Broken e = refl
+one_in_doubt Failed e = refl
 
 -- the commit is refused by this fault
 refused_as : {B : Type 0} (g : Ghosts B) (s : Setting) (p : PendingValue) (signature : List ℕ) (old new : B)
@@ -116,7 +116,7 @@ refused_by : {B : Type 0} (g : Ghosts B) (s : Setting) (p : PendingValue) (signa
     (Refused (fault_of (store_cause fault)))
 refused_by g s p signature old new store.Memory which counted err crash =
     refused_as g s p signature old new (refused (refusal.Sealing store.Memory)) _ refl refl (λ a e. cc)
-    (refl, (tt, tt)) (unbroken _ tt tt tt tt tt tt tt tt) counted err crash
+    (refl, (tt, tt)) (none_failed _ tt tt tt tt tt tt tt tt) counted err crash
 refused_by g s p signature old new store.Database which counted err crash =
     refused_as g s p signature old new (refused (refusal.Sealing store.Database)) _ refl refl (λ a e. cc)
     (refl, (tt, tt)) (inl (inr (inr (inr (inr (inr (inr refl))))))) counted err crash

@@ -10,7 +10,7 @@ use Rattle.policy.specs.Kinds.{is_among}
 use Rattle.policy.specs.LookUp.{account_named}
 use Rattle.book.specs.Rows.{DepositRow, StampRow}
 use Rattle.book.specs.History.{Entry, Reserved, Sealed, Deposited, Calibrated, Held, Granted, Revoked, History}
-use Rattle.book.specs.History.{Installed, ReservationValue, DepositValue, stamp_of, token_of, reservation_at, deposit_at}
+use Rattle.book.specs.History.{Installed, ReservationValue, stamp_of, token_of, reservation_at, deposit_at}
 use Rattle.book.specs.Readers.{Viewer}
 use Rattle.book.specs.Rights.{may_read, shown_to, seen_by, is_visible, deposit_with_stamp}
 use Rattle.book.specs.Sound.{Along, Fits, FitsSealed, IsSound}
@@ -26,7 +26,7 @@ abbrev pub found_as : Option StampedDeposit → Option (DepositRow × StampRow)
 found_as found = option_map stamped_view found
 
 -- a deposit's number is reserved
-reserved_here : (y d : DepositValue) (n : ℕ) (b : History) (same : Bool) → (y.serial == n) ≡ same
+reserved_here : (y d : DepositRow) (n : ℕ) (b : History) (same : Bool) → (y.serial == n) ≡ same
     → FitsSealed y.serial b → (deposit_at n b ≡ Some d → (r : ReservationValue) × (reservation_at n b ≡ Some r))
     → cond same (Some y) (deposit_at n b) ≡ Some d → (r : ReservationValue) × (reservation_at n b ≡ Some r)
 reserved_here y d n b true same fits later e =
@@ -39,7 +39,7 @@ HasReservation n b = (r : ReservationValue) × (reservation_at n b ≡ Some r)
 reservation_goes_on : (e : Entry) (b : History) → Fits e b → (n : ℕ) → HasReservation n b → HasReservation n (e ∷ b)
 reservation_goes_on e b fits n h = (h.0, reservation_stays e b fits n h.0 h.1)
 
-pub deposit_reserved : (b : History) → Along Fits b → (n : ℕ) (d : DepositValue) → deposit_at n b ≡ Some d
+pub deposit_reserved : (b : History) → Along Fits b → (n : ℕ) (d : DepositRow) → deposit_at n b ≡ Some d
     → HasReservation n b
 deposit_reserved [] g n d e = cc
 deposit_reserved (Reserved r ∷ b) g n d e =
@@ -78,7 +78,7 @@ some_where (Some x) e = (x, refl)
 
 -- what is visible is seen
 pub seen_where : (viewer : Viewer) (n : ℕ) (b : History) → true ≡ is_visible viewer n b
-    → (d : DepositValue) × (seen_by viewer n b ≡ Some d)
+    → (d : DepositRow) × (seen_by viewer n b ≡ Some d)
 seen_where viewer n b e = some_where (seen_by viewer n b) e
 
 -- an account of the file has the name

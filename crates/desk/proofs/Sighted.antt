@@ -8,15 +8,15 @@ use Rattle.std.proofs.lemmas.Bool.{eqb-true}
 use Rattle.std.proofs.lemmas.Bool.Decides.{nat_tests}
 use Rattle.std.proofs.lemmas.Slice.Eq.{bytes_eq-Decides}
 use Rattle.book.specs.History.{Reserved, Sealed, Deposited, Calibrated, Held, Granted, Revoked, Installed, History}
-use Rattle.book.specs.History.{DepositValue}
 use Rattle.book.specs.History.{ReservationValue, deposits, deposit_at, reservation_at, token_of, greatest_serial}
 use Rattle.book.specs.Readers.{Viewer}
 use Rattle.book.specs.Rights.{ListedValue, may_read, shown_to, seen_by, listed_as, listed_at, listed}
+use Rattle.book.specs.Rows.{DepositRow}
 use Rattle.book.specs.Sound.{Along, Fits, IsSound}
 use Rattle.desk.specs.Command.{Setting, Command, Stamp, Begin, Finish, Abandon, Deposit, Show, Token, ListAll, Grant}
 use Rattle.desk.specs.Command.{Revoke, Calibrate, Hold, Succeed, Shown, Listed, Refused}
 use Rattle.desk.specs.Effects.{Effect, only, unless, fault_of, no_sight, show_effect, token_effect, reply_or_nothing}
-use Rattle.desk.specs.Outcome.{Call, Fine, Wanting, Broken, Outcome, Cause, OfMemory, OfStore, OfSigner, cause_of}
+use Rattle.desk.specs.Outcome.{Call, Fine, Wanting, Failed, Outcome, Cause, OfMemory, OfStore, OfSigner, cause_of}
 use Rattle.desk.specs.Outcome.{first_cause}
 use Rattle.desk.specs.Sight.{MaySee, HasNoSight, IsShownFrom, IsBytesOf, IsReplyOf, IsRowOf, Climbs}
 use Rattle.desk.specs.Sight.{IsListedFrom, ShowsExactly}
@@ -26,7 +26,7 @@ use Rattle.desk.proofs.Shows.{deposit_reserved}
 use Rattle.desk.proofs.Views.{deposit_sealed, reserved_below, same_octets}
 
 -- a deposit that is found has the number
-number_here : (n : ℕ) (y d : DepositValue) (ds : List DepositValue) (same : Bool) → (y.serial == n) ≡ same
+number_here : (n : ℕ) (y d : DepositRow) (ds : List DepositRow) (same : Bool) → (y.serial == n) ≡ same
     → (find (λ x. x.serial == n) ds ≡ Some d → d.serial ≡ n)
     → cond same (Some y) (find (λ x. x.serial == n) ds) ≡ Some d → d.serial ≡ n
 number_here n y d ds true same later e =
@@ -35,11 +35,11 @@ number_here n y d ds true same later e =
     cc
 number_here n y d ds false same later e = later e
 
-number_in : (n : ℕ) (ds : List DepositValue) (d : DepositValue) → find (λ x. x.serial == n) ds ≡ Some d → d.serial ≡ n
+number_in : (n : ℕ) (ds : List DepositRow) (d : DepositRow) → find (λ x. x.serial == n) ds ≡ Some d → d.serial ≡ n
 number_in n [] d e = cc
 number_in n (y ∷ ds) d e = number_here n y d ds (y.serial == n) refl (number_in n ds d) e
 
-pub deposit_number : (n : ℕ) (b : History) (d : DepositValue) → deposit_at n b ≡ Some d → d.serial ≡ n
+pub deposit_number : (n : ℕ) (b : History) (d : DepositRow) → deposit_at n b ≡ Some d → d.serial ≡ n
 deposit_number n b d e = number_in n (deposits b) d e
 
 -- a serial number is not 0
@@ -62,7 +62,7 @@ some_serial (Revoked m a ∷ b) fits n r e = some_serial b fits.1 n r e
 some_serial (Installed i ∷ b) fits n r e = some_serial b fits.1 n r e
 
 -- what an viewer sees it may see
-shown_may : (viewer : Viewer) (n : ℕ) (b : History) (x d : DepositValue) (reader own : Bool)
+shown_may : (viewer : Viewer) (n : ℕ) (b : History) (x d : DepositRow) (reader own : Bool)
     → may_read viewer n b ≡ reader → bytes_eq x.owner viewer.name ≡ own
     → cond (own || reader) (Some x) None ≡ Some d
     → (x ≡ d) × ((x.owner ≡ viewer.name) ⊎ (may_read viewer n b ≡ true))
@@ -70,26 +70,26 @@ shown_may viewer n b x d reader true reads owns e = (cc, inl (same_octets x.owne
 shown_may viewer n b x d true false reads owns e = (cc, inr reads)
 shown_may viewer n b x d false false reads owns e = cc
 
-may_at : (viewer : Viewer) (n : ℕ) (b : History) (d : DepositValue) (at : Option DepositValue) → deposit_at n b ≡ at
+may_at : (viewer : Viewer) (n : ℕ) (b : History) (d : DepositRow) (at : Option DepositRow) → deposit_at n b ≡ at
     → option_and_then (shown_to viewer (may_read viewer n b)) at ≡ Some d → MaySee viewer n b d
 may_at viewer n b d None is e = cc
 may_at viewer n b d (Some x) is e =
     let k = shown_may viewer n b x d (may_read viewer n b) (bytes_eq x.owner viewer.name) refl refl e in
     record {
       deposited = is ∙ ap Some k.0;
-      may = subst (λ (y : DepositValue). (y.owner ≡ viewer.name) ⊎ (may_read viewer n b ≡ true)) k.0 k.1;
+      may = subst (λ (y : DepositRow). (y.owner ≡ viewer.name) ⊎ (may_read viewer n b ≡ true)) k.0 k.1;
     }
 
-pub may_see : (viewer : Viewer) (n : ℕ) (b : History) (d : DepositValue) → seen_by viewer n b ≡ Some d
+pub may_see : (viewer : Viewer) (n : ℕ) (b : History) (d : DepositRow) → seen_by viewer n b ≡ Some d
     → MaySee viewer n b d
 may_see viewer n b d e = may_at viewer n b d (deposit_at n b) refl e
 
 -- and what it may see it sees
-or_reads : (own : Bool) (d : DepositValue) → cond (own || true) (Some d) None ≡ Some d
+or_reads : (own : Bool) (d : DepositRow) → cond (own || true) (Some d) None ≡ Some d
 or_reads true d = refl
 or_reads false d = refl
 
-sees_by : (viewer : Viewer) (n : ℕ) (b : History) (d : DepositValue)
+sees_by : (viewer : Viewer) (n : ℕ) (b : History) (d : DepositRow)
     → (d.owner ≡ viewer.name) ⊎ (may_read viewer n b ≡ true)
     → cond (bytes_eq d.owner viewer.name || may_read viewer n b) (Some d) None ≡ Some d
 sees_by viewer n b d (inl own) =
@@ -97,31 +97,31 @@ sees_by viewer n b d (inl own) =
 sees_by viewer n b d (inr reads) =
     ap (λ t. cond (bytes_eq d.owner viewer.name || t) (Some d) None) reads ∙ or_reads (bytes_eq d.owner viewer.name) d
 
-pub sees : (viewer : Viewer) (n : ℕ) (b : History) (d : DepositValue) → MaySee viewer n b d
+pub sees : (viewer : Viewer) (n : ℕ) (b : History) (d : DepositRow) → MaySee viewer n b d
     → seen_by viewer n b ≡ Some d
 sees viewer n b d m =
     ap (option_and_then (shown_to viewer (may_read viewer n b))) m.deposited ∙ sees_by viewer n b d m.may
 
-unsees : (viewer : Viewer) (n : ℕ) (b : History) → seen_by viewer n b ≡ None → (d : DepositValue)
+unsees : (viewer : Viewer) (n : ℕ) (b : History) → seen_by viewer n b ≡ None → (d : DepositRow)
     → MaySee viewer n b d → ⊥
 unsees viewer n b none d m = let some = sees viewer n b d m in cc
 
 -- no call of the store is the signer's
 unsigned : (x y z : Call) → first_cause (cause_of x ∷ cause_of y ∷ cause_of z ∷ []) ≡ Some OfSigner → ⊥
 unsigned Wanting y z e = cc
-unsigned Broken y z e = cc
+unsigned Failed y z e = cc
 unsigned Fine Wanting z e = cc
-unsigned Fine Broken z e = cc
+unsigned Fine Failed z e = cc
 unsigned Fine Fine Wanting e = cc
-unsigned Fine Fine Broken e = cc
+unsigned Fine Fine Failed e = cc
 unsigned Fine Fine Fine e = cc
 
 unsigned_call : (x : Call) → cause_of x ≡ Some OfSigner → ⊥
 unsigned_call Fine e = cc
 unsigned_call Wanting e = cc
-unsigned_call Broken e = cc
+unsigned_call Failed e = cc
 
-refused_sight : (IsOf : DepositValue → List ℕ → Type 0) (viewer : Viewer) (n : ℕ) (o : Outcome) (b : History)
+refused_sight : (IsOf : DepositRow → List ℕ → Type 0) (viewer : Viewer) (n : ℕ) (o : Outcome) (b : History)
     (cause : Cause) → HasNoSight o cause → IsShownFrom IsOf viewer n o b (Refused (fault_of cause))
 refused_sight IsOf viewer n o b OfMemory h = h
 refused_sight IsOf viewer n o b OfStore h = h
@@ -136,7 +136,7 @@ looked_not o cause searched e =
     ap (λ x. first_cause (x ∷ cause_of o.looking ∷ cause_of o.growing ∷ [])) searched ∙ e
 
 -- the octets of a deposit
-show_some : (viewer : Viewer) (n : ℕ) (o : Outcome) (b : History) (d : DepositValue) → MaySee viewer n b d
+show_some : (viewer : Viewer) (n : ℕ) (o : Outcome) (b : History) (d : DepositRow) → MaySee viewer n b d
     → cause_of o.searching ≡ None → (sight : Option Cause) → no_sight o ≡ sight
     → IsShownFrom IsBytesOf viewer n o b (unless sight (only (Shown d.bytes))).says
 show_some viewer n o b d may searched None is = (d, may, refl)
@@ -144,7 +144,7 @@ show_some viewer n o b d may searched (Some cause) is =
     refused_sight IsBytesOf viewer n o b cause (looked_not o cause searched is)
 
 show_sight : (viewer : Viewer) (n : ℕ) (o : Outcome) (b : History) (searched : Option Cause)
-    → cause_of o.searching ≡ searched → (seen : Option DepositValue) → seen_by viewer n b ≡ seen
+    → cause_of o.searching ≡ searched → (seen : Option DepositRow) → seen_by viewer n b ≡ seen
     → IsShownFrom IsBytesOf viewer n o b (unless searched (show_effect (no_sight o) seen)).says
 show_sight viewer n o b (Some cause) is seen e =
     refused_sight IsBytesOf viewer n o b cause (searched_not o cause is)
@@ -153,7 +153,7 @@ show_sight viewer n o b None is (Some d) e =
     show_some viewer n o b d (may_see viewer n b d e) is (no_sight o) refl
 
 -- the reply with its token
-reply_some : (viewer : Viewer) (n : ℕ) (o : Outcome) (b : History) (d : DepositValue) → MaySee viewer n b d
+reply_some : (viewer : Viewer) (n : ℕ) (o : Outcome) (b : History) (d : DepositRow) → MaySee viewer n b d
     → (token : List ℕ) → token_of n b ≡ Some token
     → IsShownFrom (IsReplyOf b) viewer n o b (reply_or_nothing (token_of n b))
 reply_some viewer n o b d may token is =
@@ -163,7 +163,7 @@ reply_some viewer n o b d may token is =
       (token, ap (λ k. token_of k b) (deposit_number n b d may.deposited) ∙ is, refl),
     )
 
-token_some : (viewer : Viewer) (n : ℕ) (o : Outcome) (b : History) (d : DepositValue) → MaySee viewer n b d
+token_some : (viewer : Viewer) (n : ℕ) (o : Outcome) (b : History) (d : DepositRow) → MaySee viewer n b d
     → cause_of o.searching ≡ None → (sight : Option Cause) → no_sight o ≡ sight
     → IsShownFrom (IsReplyOf b) viewer n o b (unless sight (only (reply_or_nothing (token_of n b)))).says
 token_some viewer n o b d may searched None is =
@@ -172,7 +172,7 @@ token_some viewer n o b d may searched (Some cause) is =
     refused_sight (IsReplyOf b) viewer n o b cause (looked_not o cause searched is)
 
 token_sight : (viewer : Viewer) (n : ℕ) (o : Outcome) (b : History) (searched : Option Cause)
-    → cause_of o.searching ≡ searched → (seen : Option DepositValue) → seen_by viewer n b ≡ seen
+    → cause_of o.searching ≡ searched → (seen : Option DepositRow) → seen_by viewer n b ≡ seen
     → IsShownFrom (IsReplyOf b) viewer n o b (unless searched (token_effect (no_sight o) (token_of n b) seen)).says
 token_sight viewer n o b (Some cause) is seen e =
     refused_sight (IsReplyOf b) viewer n o b cause (searched_not o cause is)
@@ -182,12 +182,12 @@ token_sight viewer n o b None is (Some d) e =
 
 -- a row of a list
 record IsRowFor (viewer : Viewer) (b : History) (n : ℕ) (row : ListedValue) : Type 0 where
-  deposit : DepositValue
+  deposit : DepositRow
   may : MaySee viewer n b deposit
   number : row.number ≡ n
   is_row : IsRowOf b deposit row
 
-row_by : (viewer : Viewer) (b : History) (n : ℕ) (row : ListedValue) (d : DepositValue) → MaySee viewer n b d
+row_by : (viewer : Viewer) (b : History) (n : ℕ) (row : ListedValue) (d : DepositRow) → MaySee viewer n b d
     → (at : Option ReservationValue) → reservation_at n b ≡ at → option_map (listed_as d) at ≡ Some row
     → IsRowFor viewer b n row
 row_by viewer b n row d may None is e = cc
@@ -205,7 +205,7 @@ row_by viewer b n row d may (Some r) is e =
       };
     }
 
-row_seen : (viewer : Viewer) (b : History) (n : ℕ) (row : ListedValue) (seen : Option DepositValue)
+row_seen : (viewer : Viewer) (b : History) (n : ℕ) (row : ListedValue) (seen : Option DepositRow)
     → seen_by viewer n b ≡ seen
     → option_and_then (λ d. option_map (listed_as d) (reservation_at n b)) seen ≡ Some row
     → IsRowFor viewer b n row
@@ -319,13 +319,13 @@ has_row viewer b from (suc count) n row low high is =
 
 -- the whole list
 list_only : (viewer : Viewer) (b : History) (row : ListedValue) → Contains (listed viewer b) row
-    → (d : DepositValue) × MaySee viewer row.number b d × IsRowOf b d row
+    → (d : DepositRow) × MaySee viewer row.number b d × IsRowOf b d row
 list_only viewer b row h =
     let found = row_in viewer b 1 (greatest_serial b) row h in
     let r = row_of viewer b found.0 row found.1 in
     (r.deposit, subst (λ n. MaySee viewer n b r.deposit) (sym r.number) r.may, r.is_row)
 
-list_all : (viewer : Viewer) (b : History) → IsSound b → (n : ℕ) (d : DepositValue) → MaySee viewer n b d
+list_all : (viewer : Viewer) (b : History) → IsSound b → (n : ℕ) (d : DepositRow) → MaySee viewer n b d
     → (row : ListedValue) × Contains (listed viewer b) row × (row.number ≡ n) × IsRowOf b d row
 list_all viewer b sound n d m =
     let r = deposit_reserved b sound n d m.deposited in

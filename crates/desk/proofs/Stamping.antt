@@ -14,7 +14,7 @@ use Rattle.cms.specs.declared.signer.SignerFault.TheVariants as signer
 use Rattle.book.specs.History.{Entry, Reserved, Sealed, History, ReservationValue, greatest_serial}
 use Rattle.book.specs.Sound.{Along, Fits}
 use Rattle.book.specs.Stands.{Stands}
-use Rattle.desk.specs.Outcome.{Call, Fine, Wanting, Broken, Outcome, Cause, counted, faults_after, all_fine}
+use Rattle.desk.specs.Outcome.{Call, Fine, Wanting, Failed, Outcome, Cause, counted, faults_after, all_fine}
 use Rattle.desk.specs.Findings.{IsUnjudged, IsAnsweredFor, StampPlan, IsAllowed, Finding, Fails, Unanswered, Allowed}
 use Rattle.desk.specs.Findings.{Finds}
 use Rattle.desk.specs.Command.{Setting, PendingValue, Command, Stamp, Begin, Finish, Answer, Rejected, Begun, Refused}
@@ -311,8 +311,8 @@ left_decided g s account reading octets o b old e answer left h none Fine is d =
     (subst (λ x. g.holds left (in_doubt x d.doubted.adds ++ b)) is d.holds)))
 left_decided g s account reading octets o b old e answer left h none Wanting is d =
     left_first g s account reading octets o b old answer left Wanting is (λ entries. refl) d
-left_decided g s account reading octets o b old e answer left h none Broken is d =
-    left_first g s account reading octets o b old answer left Broken is (λ entries. refl) d
+left_decided g s account reading octets o b old e answer left h none Failed is d =
+    left_first g s account reading octets o b old answer left Failed is (λ entries. refl) d
 
 -- the calls that a stamp makes
 stamp_fits : (account : Option AccountValue) (reading : ℤ) (octets : List ℕ) (o : Outcome)

@@ -9,12 +9,13 @@ use Rattle.tsp.specs.Request.{Spells}
 use Rattle.cms.specs.declared.signer.SignerFault.{SignerFault}
 use Rattle.cms.specs.declared.signer.SignerFault.TheVariants as signer
 use Rattle.book.specs.History.{Entry, Reserved, Sealed, Deposited, Calibrated, Held, Granted, Revoked, History}
-use Rattle.book.specs.History.{ReservationValue, DepositValue, CalibrationValue, greatest_serial, latest_calibration}
+use Rattle.book.specs.History.{ReservationValue, CalibrationValue, greatest_serial, latest_calibration}
 use Rattle.book.specs.History.{Installed, InstalledValue, holds, token_of, deposit_at, deposit_under}
 use Rattle.book.specs.Identities.{latest_identity}
 use Rattle.book.specs.Readers.{Reader, Viewer}
 use Rattle.book.specs.Rights.{seen_by, shown_to, may_read}
-use Rattle.book.specs.Sound.{Along, Fits, FitsSealed, FitsRight, greatest_number}
+use Rattle.book.specs.Rows.{DepositRow}
+use Rattle.book.specs.Sound.{Along, Fits, FitsSealed, FitsRight, greatest_number, is_backwards}
 use Rattle.book.specs.Values.{deposit_of}
 use Rattle.desk.specs.Content.{IsTrueOf, IsNaming}
 use Rattle.desk.specs.Outcome.{Outcome, Cause, cause_of}
@@ -25,7 +26,7 @@ use Rattle.desk.specs.Texts.{octets_for, request_for, pending_of, token_with}
 use Rattle.desk.specs.Effects.{Effect, only, unless, Stamping, Unreserved, Void, Sealing, no_number, no_seal}
 use Rattle.desk.specs.Effects.{next_reservation, sealed_or_void, signed_or_void, stamping_of, stamp_effect, stamp_found}
 use Rattle.desk.specs.Effects.{begin_effect, begin_found, finish_effect, deposit_effect, deposit_found}
-use Rattle.desk.specs.Effects.{known_effect, show_effect, token_effect, right_effect, is_backwards, calibrate_effect}
+use Rattle.desk.specs.Effects.{known_effect, show_effect, token_effect, right_effect, calibrate_effect}
 use Rattle.desk.specs.Effects.{numbered, succeed_effect, name_of}
 use Rattle.desk.specs.Succession.{installed_by, is_latest, IsNameable}
 use Rattle.desk.specs.Naming.{IsNameableFor}
@@ -168,20 +169,20 @@ none_good : (P : Type 0) (e : Effect) (b : History) → Along Fits b → e.adds 
 none_good P e b g h = rw h tt
 
 -- what is seen is a deposit
-shown_is : (viewer : Viewer) (reads : Bool) (o : Option DepositValue) (d : DepositValue)
+shown_is : (viewer : Viewer) (reads : Bool) (o : Option DepositRow) (d : DepositRow)
     → option_and_then (shown_to viewer reads) o ≡ Some d
-    → (x : DepositValue) × (o ≡ Some x)
+    → (x : DepositRow) × (o ≡ Some x)
 shown_is viewer reads None d e = cc
 shown_is viewer reads (Some x) d e = (x, refl)
 
-pub right_seen : (viewer : Viewer) (n : ℕ) (b : History) (d : DepositValue) → seen_by viewer n b ≡ Some d
+pub right_seen : (viewer : Viewer) (n : ℕ) (b : History) (d : DepositRow) → seen_by viewer n b ≡ Some d
     → FitsRight n b
 right_seen viewer n b d e =
     let found = shown_is viewer (may_read viewer n b) (deposit_at n b) d e in
     record { deposit = found.0; deposited = found.1 }
 
 pub right_at_most : (file : PolicyValue) (account : List ℕ) (reader : Reader) (o : Outcome) (entry : Entry)
-    (seen : Option DepositValue) → IsAtMost entry (right_effect file account reader o entry seen)
+    (seen : Option DepositRow) → IsAtMost entry (right_effect file account reader o entry seen)
 right_at_most file account reader o entry seen =
     right_has (IsAtMost entry) (λ f. inl refl) file account reader o entry seen (λ d is owns. inr refl)
 
@@ -231,12 +232,12 @@ deposit_found_good laws s proper a reading reference bytes o b g unused spelled 
     (stamping_of s a.name plan octets o b (no_number o b))
     (stamping_good laws s proper (Some a) a.name reading octets o b plan found.0 (no_number o b) refl)
 
-known_none : (bytes : List ℕ) (d : DepositValue) → (known_effect bytes d).adds ≡ []
+known_none : (bytes : List ℕ) (d : DepositRow) → (known_effect bytes d).adds ≡ []
 known_none bytes d = refl
 
 keeps_under_good : TextLaws → (s : Setting) → IsProper s
     → (a : AccountValue) (reading : ℤ) (reference bytes : List ℕ) (o : Outcome) (b : History) (e : Effect)
-    → Along Fits b → (under : Option DepositValue) → deposit_under a.name reference b ≡ under
+    → Along Fits b → (under : Option DepositRow) → deposit_under a.name reference b ≡ under
     → KeepsByReference s a reading reference bytes o b under e → AddsGood (IsNameable s b) e.adds b
 keeps_under_good laws s proper a reading reference bytes o b e g (Some d) is h = none_good (IsNameable s b) e b g (ap (λ x. x.adds) h)
 keeps_under_good laws s proper a reading reference bytes o b e g None is h =
@@ -259,14 +260,14 @@ keeps_good laws s proper a reading reference bytes o b e g true h = keeps_unless
     reference bytes o b e g (cause_of o.searching) h
 keeps_good laws s proper a reading reference bytes o b e g false h = none_good (IsNameable s b) e b g (ap (λ x. x.adds) h)
 
-pub shows_none : (refused other : Option Cause) (o : Option DepositValue)
+pub shows_none : (refused other : Option Cause) (o : Option DepositRow)
     → (unless refused (show_effect other o)).adds ≡ []
 shows_none (Some cause) other o = refl
 shows_none None other None = refl
 shows_none None (Some cause) (Some d) = refl
 shows_none None None (Some d) = refl
 
-pub tokens_none : (refused other : Option Cause) (token : Option (List ℕ)) (o : Option DepositValue)
+pub tokens_none : (refused other : Option Cause) (token : Option (List ℕ)) (o : Option DepositRow)
     → (unless refused (token_effect other token o)).adds ≡ []
 tokens_none (Some cause) other token o = refl
 tokens_none None other token None = refl

@@ -3,11 +3,12 @@ use Rattle.std.proofs.Common.{◌≡◌, true, false, List, [], ◌∷◌, ◌++
 use Rattle.std.proofs.Common.{Ok, refl, sym, ◌∙◌, ap, subst, inl, inr, arith}
 use Rattle.std.specs.Prelude.{option_map}
 use Rattle.std.proofs.lemmas.List.{reverse-append, reverse-reverse, map-append}
+use Rattle.std.specs.Hash.DefaultHasher.{wrapping_add}
 use Rattle.book.specs.declared.fault.StoreFault.{StoreFault}
 use Rattle.book.specs.declared.fault.StoreFault.TheVariants as store
 use Rattle.book.specs.declared.rows.IdentityRow.{IdentityRow}
 use Rattle.book.specs.declared.standing.Standing.{Ghosts}
-use Rattle.book.specs.Fault.{next_count, count_after}
+use Rattle.book.specs.Fault.{count_after}
 use Rattle.book.specs.History.{Reserved, Sealed, Deposited, Calibrated, Held, Granted, Revoked, Installed, History}
 use Rattle.book.specs.History.{InstalledValue, first_of}
 use Rattle.book.specs.Identities.{latest_identity, installed_rows, identities, installed_as}
@@ -23,7 +24,7 @@ use Rattle.desk.specs.Outcome.{Fine, Outcome, Cause, OfMemory, OfStore, cause_of
 use Rattle.desk.specs.Stepped.{no_signer, IsBlamed, StepsBy, committed}
 use Rattle.desk.specs.Succession.{installed_by, is_latest}
 use Rattle.desk.specs.declared.obstacle.Obstacle.TheVariants as obstacle
-use Rattle.desk.proofs.Fitting.{unbroken}
+use Rattle.desk.proofs.Fitting.{none_failed}
 use Rattle.desk.proofs.Sealing.{one_in_doubt}
 
 -- the latest identity is that of the newest row
@@ -147,7 +148,7 @@ pub unlooked : {B : Type 0} (g : Ghosts B) (s : Setting) (next : InForce) (old n
     (Refused (fault_with (obstacle.Looking f)))
 unlooked g s next old new store.Memory of counted looks =
     unlooked_by g s next old new (hindered (obstacle.Looking store.Memory)) OfMemory refl (refl, (tt, tt))
-    (unbroken _ tt tt tt tt tt tt tt tt) counted looks
+    (none_failed _ tt tt tt tt tt tt tt tt) counted looks
 unlooked g s next old new store.Database of counted looks =
     unlooked_by g s next old new (hindered (obstacle.Looking store.Database)) OfStore refl (refl, (tt, tt))
     (inl (inr (inl refl))) counted looks
@@ -213,12 +214,12 @@ pub uninstalled : {B : Type 0} (g : Ghosts B) (s : Setting) (next : InForce) (ol
     (Refused (fault_with (obstacle.Adding f)))
 uninstalled g s next old mid new store.Memory finds of counted before err crash =
     uninstalled_by g s next old mid new (hindered (obstacle.Adding store.Memory)) OfMemory finds refl refl refl refl
-    (λ fine sealed. cc) (refl, (tt, tt)) (unbroken _ tt tt tt tt tt tt tt tt) (counted ∙ finds.uncounted) before err
+    (λ fine sealed. cc) (refl, (tt, tt)) (none_failed _ tt tt tt tt tt tt tt tt) (counted ∙ finds.uncounted) before err
     crash
 uninstalled g s next old mid new store.Database finds of counted before err crash =
     uninstalled_by g s next old mid new (hindered (obstacle.Adding store.Database)) OfStore finds refl refl refl refl
     (λ fine sealed. cc) (refl, (tt, tt)) (inl (inr (inr (inr (inr (inl refl))))))
-    (counted ∙ ap next_count finds.uncounted) before err crash
+    (counted ∙ ap (λ n. wrapping_add n 1) finds.uncounted) before err crash
 uninstalled g s next old mid new store.NotOurs finds of counted before err crash =
     absurd (elim of [ inl e ↦ cc | inr e ↦ cc ])
 uninstalled g s next old mid new store.Full finds of counted before err crash =

@@ -7,9 +7,10 @@ use Rattle.std.proofs.lemmas.Bool.{eqb-true, eq-eqb}
 use Rattle.std.proofs.lemmas.Slice.Eq.{bytes_eq-Decides}
 use Rattle.book.specs.History.{Entry, Reserved, Sealed, Deposited, Calibrated, Held, Granted, Revoked, Installed}
 use Rattle.book.specs.History.{History}
-use Rattle.book.specs.History.{ReservationValue, DepositValue, reservations, greatest_of, greatest_serial, token_of}
+use Rattle.book.specs.History.{ReservationValue, reservations, greatest_of, greatest_serial, token_of}
 use Rattle.book.specs.History.{reservation_at, deposit_at, deposit_under}
-use Rattle.book.specs.Identities.{latest_identity, identity_of}
+use Rattle.book.specs.Identities.{latest_identity, identity_at_reservation}
+use Rattle.book.specs.Rows.{DepositRow}
 use Rattle.book.specs.Sound.{Along, Fits, FitsReserved, FitsSealed}
 
 abbrev search_serial : ℕ → List ReservationValue → Option ReservationValue
@@ -102,7 +103,7 @@ reservation_stays (Installed i) b fits n r e = e
 -- the identity of a serial number that is reserved stays
 identity_beside : (n : ℕ) (b : History) (x r : ReservationValue) (same : Bool) → (x.serial == n) ≡ same
     → FitsReserved x b → reservation_at n b ≡ Some r
-    → cond same (latest_identity b) (identity_of n b) ≡ identity_of n b
+    → cond same (latest_identity b) (identity_at_reservation n b) ≡ identity_at_reservation n b
 identity_beside n b x r true same fits e =
     let number : x.serial ≡ n = eqb-true x.serial n same in
     let low = reserved_below n b r e in
@@ -111,7 +112,7 @@ identity_beside n b x r true same fits e =
 identity_beside n b x r false same fits e = refl
 
 pub identity_stays : (e : Entry) (b : History) → Fits e b → (n : ℕ) (r : ReservationValue) → reservation_at n b
-    ≡ Some r → identity_of n (e ∷ b) ≡ identity_of n b
+    ≡ Some r → identity_at_reservation n (e ∷ b) ≡ identity_at_reservation n b
 identity_stays (Reserved x) b fits n r e = identity_beside n b x r (x.serial == n) refl fits e
 identity_stays (Sealed m x) b fits n r e = refl
 identity_stays (Deposited d x) b fits n r e = refl
@@ -146,7 +147,7 @@ record HasToken (n : ℕ) (b : History) : Type 0 where
   token : List ℕ
   sealed : token_of n b ≡ Some token
 
-has_token_here : (m n : ℕ) (b : History) (x : List ℕ) (y d : DepositValue) (same : Bool) → (m == n) ≡ same
+has_token_here : (m n : ℕ) (b : History) (x : List ℕ) (y d : DepositRow) (same : Bool) → (m == n) ≡ same
     → (deposit_at n b ≡ Some d → HasToken n b) → cond same (Some y) (deposit_at n b) ≡ Some d
     → (t : List ℕ) × (cond same (Some x) (token_of n b) ≡ Some t)
 has_token_here m n b x y d true same later e = (x, refl)
@@ -157,7 +158,7 @@ has_token_beside : (m n : ℕ) (b : History) (x : List ℕ) (same : Bool) → Ha
 has_token_beside m n b x true h = (x, refl)
 has_token_beside m n b x false h = (h.token, h.sealed)
 
-has_token : (b : History) (n : ℕ) (d : DepositValue) → deposit_at n b ≡ Some d → HasToken n b
+has_token : (b : History) (n : ℕ) (d : DepositRow) → deposit_at n b ≡ Some d → HasToken n b
 has_token [] n d e = cc
 has_token (Reserved r ∷ b) n d e = let h = has_token b n d e in record { token = h.token; sealed = h.sealed }
 has_token (Sealed m x ∷ b) n d e = let h = has_token_beside m n b x (m == n)
@@ -171,12 +172,12 @@ has_token (Granted m a ∷ b) n d e = let h = has_token b n d e in record { toke
 has_token (Revoked m a ∷ b) n d e = let h = has_token b n d e in record { token = h.token; sealed = h.sealed }
 has_token (Installed i ∷ b) n d e = let h = has_token b n d e in record { token = h.token; sealed = h.sealed }
 
-pub deposit_sealed : (b : History) (n : ℕ) (d : DepositValue) → deposit_at n b ≡ Some d → (t : List ℕ)
+pub deposit_sealed : (b : History) (n : ℕ) (d : DepositRow) → deposit_at n b ≡ Some d → (t : List ℕ)
     × (token_of n b ≡ Some t)
 deposit_sealed b n d e = let h = has_token b n d e in (h.token, h.sealed)
 
 -- a deposit stays
-deposit_beside : (y : DepositValue) (n : ℕ) (b : History) (d : DepositValue) (same : Bool) → (y.serial == n) ≡ same
+deposit_beside : (y : DepositRow) (n : ℕ) (b : History) (d : DepositRow) (same : Bool) → (y.serial == n) ≡ same
     → FitsSealed y.serial b
     → deposit_at n b ≡ Some d → cond same (Some y) (deposit_at n b) ≡ Some d
 deposit_beside y n b d true same fits e =
@@ -187,7 +188,7 @@ deposit_beside y n b d true same fits e =
     cc
 deposit_beside y n b d false same fits e = e
 
-pub deposit_stays : (e : Entry) (b : History) → Fits e b → (n : ℕ) (d : DepositValue) → deposit_at n b ≡ Some d
+pub deposit_stays : (e : Entry) (b : History) → Fits e b → (n : ℕ) (d : DepositRow) → deposit_at n b ≡ Some d
     → deposit_at n (e ∷ b) ≡ Some d
 deposit_stays (Reserved x) b fits n d e = e
 deposit_stays (Sealed m x) b fits n d e = e
@@ -199,7 +200,7 @@ deposit_stays (Revoked m a) b fits n d e = e
 deposit_stays (Installed i) b fits n d e = e
 
 -- a deposit that is found by its owner and reference is found by its number
-pub record IsUnder (owner reference : List ℕ) (b : History) (d : DepositValue) : Type 0 where
+pub record IsUnder (owner reference : List ℕ) (b : History) (d : DepositRow) : Type 0 where
   pub owner_is : d.owner ≡ owner
   pub reference_is : d.reference ≡ reference
   pub at_number : deposit_at d.serial b ≡ Some d
@@ -212,7 +213,7 @@ both_true false y e = cc
 pub same_octets : (x y : List ℕ) → bytes_eq x y ≡ true → x ≡ y
 same_octets x y e = (bytes_eq-Decides x y).0 e
 
-under_here : (owner reference : List ℕ) (x : List ℕ) (y : DepositValue) (b : History) (d : DepositValue) (same : Bool)
+under_here : (owner reference : List ℕ) (x : List ℕ) (y : DepositRow) (b : History) (d : DepositRow) (same : Bool)
     → (bytes_eq y.owner owner && bytes_eq y.reference reference) ≡ same → Fits (Deposited y x) b
     → (deposit_under owner reference b ≡ Some d → IsUnder owner reference b d)
     → cond same (Some y) (deposit_under owner reference b) ≡ Some d → IsUnder owner reference (Deposited y x ∷ b) d
@@ -237,7 +238,7 @@ under_here owner reference x y b d false same fits later e =
       at_number = deposit_stays (Deposited y x) b fits d.serial d u.at_number;
     }
 
-pub found_under : (b : History) → Along Fits b → (owner reference : List ℕ) (d : DepositValue)
+pub found_under : (b : History) → Along Fits b → (owner reference : List ℕ) (d : DepositRow)
     → deposit_under owner reference b ≡ Some d
     → IsUnder owner reference b d
 found_under [] sound owner reference d e = cc

@@ -1,22 +1,23 @@
 -- What an account may know of a history: histories that agree for it can't be told apart by its commands.
 use Rattle.std.specs.Prelude.{◌≡◌, ℕ, List, filter, Option, Some, None, option_map}
 use Rattle.std.specs.Str.{bytes_eq}
-use Rattle.book.specs.History.{History, DepositValue, CalibrationValue, HoldValue, InstalledValue, stamps, deposits}
+use Rattle.book.specs.History.{History, CalibrationValue, HoldValue, InstalledValue, stamps, deposits}
 use Rattle.book.specs.History.{holds}
 use Rattle.book.specs.Identities.{latest_identity}
 use Rattle.book.specs.History.{latest_calibration, last_gen_time, greatest_serial, reservation_at, token_of}
 use Rattle.book.specs.Readers.{Viewer}
 use Rattle.book.specs.Rights.{seen_by}
+use Rattle.book.specs.Rows.{DepositRow}
 use Rattle.desk.specs.Command.{Command, Stamp, Begin, Finish, Abandon, Deposit, Show, Token, ListAll, Grant, Revoke}
 use Rattle.desk.specs.Command.{Calibrate, Hold, Succeed}
 
 -- a deposit that an account sees, with the genTime and the token of its stamp
 pub record SeenValue : Type 0 where
-  pub deposit : DepositValue
+  pub deposit : DepositRow
   pub gen_time : Option ℕ
   pub token : Option (List ℕ)
 
-abbrev pub seen_as : ℕ → History → DepositValue → SeenValue
+abbrev pub seen_as : ℕ → History → DepositRow → SeenValue
 seen_as number b d = record {
   deposit = d;
   gen_time = option_map (λ r. r.gen_time) (reservation_at number b);

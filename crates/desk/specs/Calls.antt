@@ -1,4 +1,4 @@
--- What the parts of a call answer, and what the program's types stand for: stepping stones of the proofs.
+-- What the program's types stand for, and what the parts of a call answer.
 use Rattle.std.specs.Prelude.{◌≡◌, ◌⊎◌, ℕ, ◌≤◌, min, ℤ, List, [], length, Option, Some, None, option_map, Result, Ok}
 use Rattle.std.specs.Prelude.{Err}
 use Rattle.gentime.specs.GenTime.{last_moment}
@@ -20,7 +20,7 @@ use Rattle.book.specs.History.{History, CalibrationValue, greatest_serial, count
 use Rattle.book.specs.Readers as readers
 use Rattle.book.specs.Stands.{Stands}
 use Rattle.desk.specs.Facts.{calibration_of, clock_of}
-use Rattle.desk.specs.Outcome.{Call, Fine, Wanting, Broken, Outcome, Cause, OfMemory, OfStore, OfSigner, all_fine}
+use Rattle.desk.specs.Outcome.{Call, Fine, Wanting, Failed, Outcome, Cause, OfMemory, OfStore, OfSigner, all_fine}
 use Rattle.desk.specs.Effects.{Effect, begin_effect, no_number, fault_of}
 use Rattle.desk.specs.Findings.{StampPlan, Finding, Fails, Unanswered, Allowed}
 use Rattle.desk.specs.Command.{InForce, Setting, PendingValue, Answer, Begun, Done, Refused}
@@ -41,7 +41,7 @@ use Rattle.desk.specs.declared.refusal.Refusal.TheVariants as refusal
 -- how a call of the store was answered that is refused so
 abbrev pub call_of : StoreFault → Call
 call_of store.Memory = Wanting
-call_of store.Database = Broken
+call_of store.Database = Failed
 call_of _ = Fine
 
 abbrev pub store_cause : StoreFault → Cause

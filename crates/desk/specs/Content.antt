@@ -8,7 +8,8 @@ use Rattle.sha2.specs.Sha256.{sha256}
 use Rattle.tsp.specs.Request.{RequestValue, Spells}
 use Rattle.tsp.specs.Tst.{SpellsTst, answer}
 use Rattle.book.specs.History.{Entry, Reserved, Sealed, Deposited, Calibrated, Held, Granted, Revoked, Installed}
-use Rattle.book.specs.History.{History, ReservationValue, DepositValue, reservation_at}
+use Rattle.book.specs.History.{History, ReservationValue, reservation_at}
+use Rattle.book.specs.Rows.{DepositRow}
 use Rattle.book.specs.Sound.{Along, IsSound}
 use Rattle.desk.specs.Succession.{NamesLatest}
 
@@ -34,7 +35,7 @@ pub record IsNamedBy (r : ReservationValue) (b : History) : Type 0 where
   pub named : NamesLatest stamped.tsa b
 
 -- A deposit's stamp has the digest of its octets.
-pub record IsStampedBy (d : DepositValue) (b : History) : Type 0 where
+pub record IsStampedBy (d : DepositRow) (b : History) : Type 0 where
   pub reservation : ReservationValue
   pub reserved : reservation_at d.serial b ≡ Some reservation
   pub digest : reservation.digest ≡ sha256 d.bytes

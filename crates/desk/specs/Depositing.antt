@@ -6,7 +6,8 @@ use Rattle.book.specs.declared.standing.Standing.{Ghosts}
 use Rattle.policy.specs.Record.{AccountValue}
 use Rattle.cms.specs.SignedData.{attribute_text}
 use Rattle.cms.specs.declared.signer.SignerFault.{SignerFault}
-use Rattle.book.specs.History.{Entry, Deposited, History, DepositValue, deposit_under}
+use Rattle.book.specs.History.{Entry, Deposited, History, deposit_under}
+use Rattle.book.specs.Rows.{DepositRow}
 use Rattle.book.specs.Sound.{FitsDeposited}
 use Rattle.book.specs.Stands.{Stands}
 use Rattle.desk.specs.Outcome.{Fine, Outcome, Cause, counted, faults_after, all_fine}
@@ -26,12 +27,12 @@ use Rattle.desk.specs.declared.depositing.Known.{Known}
 use Rattle.desk.specs.declared.depositing.Known.TheVariants as known
 
 -- what stands under a reference, as the octets are told from others
-abbrev pub known_in : List ℕ → Option DepositValue → Known
+abbrev pub known_in : List ℕ → Option DepositRow → Known
 known_in bytes None = known.Nothing
 known_in bytes (Some d) = if bytes_eq d.bytes bytes then known.Same d.serial else known.Other
 
 -- what follows the reservation, once it stands: token and deposit, or why there are none
-abbrev pub kept_by : PendingValue → DepositValue → List ℕ → List Entry → Option Cause → Effect
+abbrev pub kept_by : PendingValue → DepositRow → List ℕ → List Entry → Option Cause → Effect
 kept_by p d signature begun None = record {
   adds = Deposited d (token_with p signature) ∷ begun;
   asks = Some (attribute_text p.identity p.tst);
@@ -40,7 +41,7 @@ kept_by p d signature begun None = record {
 kept_by p d signature begun (Some cause) =
     record { adds = begun; asks = Some (attribute_text p.identity p.tst); says = Refused (fault_of cause) }
 
-abbrev pub kept : PendingValue → DepositValue → Result (List ℕ) SignerFault → List Entry → Outcome → Effect
+abbrev pub kept : PendingValue → DepositRow → Result (List ℕ) SignerFault → List Entry → Outcome → Effect
 kept p d (Ok signature) begun sealed = kept_by p d signature begun (no_seal sealed)
 kept p d (Err fault) begun sealed = record {
   adds = begun;
@@ -49,7 +50,7 @@ kept p d (Err fault) begun sealed = record {
 }
 
 -- what a stop leaves after that: what it could leave before, the history with the deposit, or those in doubt
-abbrev pub MayStayKept : {B : Type 0} → (g : Ghosts B) → PendingValue → DepositValue → Result (List ℕ) SignerFault
+abbrev pub MayStayKept : {B : Type 0} → (g : Ghosts B) → PendingValue → DepositRow → Result (List ℕ) SignerFault
     → Outcome → History → B → g.Left → Type 0
 MayStayKept g p d signing o b old left =
     (((kept p d signing [] o).adds ≡ []) × g.leaves old left)
@@ -58,7 +59,7 @@ MayStayKept g p d signing o b old left =
     × g.holds left ((kept p d signing [] (record o { sealing = Fine })).adds ++ b)))
 
 -- what holds after it, where the store stood for the history b
-pub record HasKept {B : Type 0} (g : Ghosts B) (p : PendingValue) (d : DepositValue)
+pub record HasKept {B : Type 0} (g : Ghosts B) (p : PendingValue) (d : DepositRow)
     (signing : Result (List ℕ) SignerFault) (o : Outcome) (b : History) (old new : B) (answer : Answer)
     : Type 0 where
   pub says : answer ≡ (kept p d signing [] o).says
@@ -66,7 +67,7 @@ pub record HasKept {B : Type 0} (g : Ghosts B) (p : PendingValue) (d : DepositVa
   pub left : (left : g.Left) → g.leaves new left → MayStayKept g p d signing o b old left
 
 -- A deposit from its signature on: token and deposit are stored in one commit.
-pub record KeepsBy {B : Type 0} (g : Ghosts B) (p : PendingValue) (d : DepositValue)
+pub record KeepsBy {B : Type 0} (g : Ghosts B) (p : PendingValue) (d : DepositRow)
     (signing : Result (List ℕ) SignerFault) (o : Outcome) (old new : B) (answer : Answer) : Type 0 where
   pub grows : IsUncounted o.wrapping
   pub counted : g.fault_count new ≡ counted o.sealing (counted o.wrapping (g.fault_count old))
@@ -76,7 +77,7 @@ pub record KeepsBy {B : Type 0} (g : Ghosts B) (p : PendingValue) (d : DepositVa
       → HasKept g p d signing o b old new answer
 
 -- The same from its reservation on: the signer is asked first.
-pub record SignsAndKeeps {B : Type 0} (g : Ghosts B) (t : SignerStep) (p : PendingValue) (d : DepositValue)
+pub record SignsAndKeeps {B : Type 0} (g : Ghosts B) (t : SignerStep) (p : PendingValue) (d : DepositRow)
     (signing : Result (List ℕ) SignerFault) (o : Outcome) (old new : B) (answer : Answer) : Type 0 where
   pub signer : t.counts signing
   pub moves : t.moves (Some (attribute_text p.identity p.tst)) signing

@@ -1,5 +1,5 @@
 -- What a command adds to the history, what it has signed, and what it answers.
-use Rattle.std.specs.Prelude.{ℕ, ◌+◌, nat_le, int_lt, Bool, true, false, if◌then◌else◌, List, [], ◌∷◌, map, length}
+use Rattle.std.specs.Prelude.{ℕ, ◌+◌, nat_le, Bool, true, false, if◌then◌else◌, List, [], ◌∷◌, map, length}
 use Rattle.std.specs.Prelude.{Option, Some, None, Result, Ok, Err}
 use Rattle.std.specs.Option.{is_some}
 use Rattle.std.specs.Str.{bytes_eq}
@@ -10,10 +10,11 @@ use Rattle.tsp.specs.declared.rule.Rule.TheVariants.{System}
 use Rattle.cms.specs.SignedData.{attribute_text}
 use Rattle.cms.specs.declared.signer.SignerFault.{SignerFault}
 use Rattle.book.specs.History.{Entry, Reserved, Sealed, Deposited, Calibrated, Installed, History, ReservationValue}
-use Rattle.book.specs.History.{DepositValue, CalibrationValue, InstalledValue, greatest_serial, calibrations}
+use Rattle.book.specs.History.{CalibrationValue, InstalledValue, greatest_serial, calibrations}
 use Rattle.book.specs.History.{latest_calibration}
 use Rattle.book.specs.Readers.{Reader, Account, Group}
-use Rattle.book.specs.Sound.{greatest_number}
+use Rattle.book.specs.Rows.{DepositRow}
+use Rattle.book.specs.Sound.{greatest_number, is_backwards}
 use Rattle.book.specs.Values.{deposit_of}
 use Rattle.desk.specs.Outcome.{Outcome, Cause, OfMemory, OfStore, OfSigner, cause_of, cause_of_signing, first_cause}
 use Rattle.desk.specs.Findings.{StampPlan, Finding, Fails, Unanswered, Allowed}
@@ -145,7 +146,7 @@ abbrev pub too_large : Answer
 too_large = Refused fault.TooLarge
 
 -- under a known reference the old number, for the same octets alone
-abbrev pub known_effect : List ℕ → DepositValue → Effect
+abbrev pub known_effect : List ℕ → DepositRow → Effect
 known_effect bytes d = only (if bytes_eq d.bytes bytes then Kept d.serial false else Refused fault.Conflict)
 
 -- why what is visible couldn't be shown
@@ -153,7 +154,7 @@ abbrev pub no_sight : Outcome → Option Cause
 no_sight o = first_cause (cause_of o.looking ∷ cause_of o.growing ∷ [])
 
 -- Show and Token: what is visible alone
-abbrev pub show_effect : Option Cause → Option DepositValue → Effect
+abbrev pub show_effect : Option Cause → Option DepositRow → Effect
 show_effect refused None = only (Refused fault.NotHere)
 show_effect refused (Some d) = unless refused (only (Shown d.bytes))
 
@@ -161,7 +162,7 @@ abbrev pub reply_or_nothing : Option (List ℕ) → Answer
 reply_or_nothing None = Refused fault.NotHere
 reply_or_nothing (Some token) = Shown (granted_octets token)
 
-abbrev pub token_effect : Option Cause → Option (List ℕ) → Option DepositValue → Effect
+abbrev pub token_effect : Option Cause → Option (List ℕ) → Option DepositRow → Effect
 token_effect refused token None = only (Refused fault.NotHere)
 token_effect refused token (Some d) = unless refused (only (reply_or_nothing token))
 
@@ -194,18 +195,14 @@ unless_against None effect = effect
 unless_against (Some f) effect = only (Refused f)
 
 -- Grant and Revoke: the entry, by the owner alone
-abbrev pub right_effect : PolicyValue → List ℕ → Reader → Outcome → Entry → Option DepositValue → Effect
+abbrev pub right_effect : PolicyValue → List ℕ → Reader → Outcome → Entry → Option DepositRow → Effect
 right_effect file account reader o entry None = only (Refused fault.NotHere)
 right_effect file account reader o entry (Some d) =
     unless (cause_of o.looking) (if bytes_eq d.owner account then unless_against (objection file account reader)
     (unless (cause_of o.adding) (accepted entry))
     else only (Refused fault.NotOwner))
 
--- a calibration before the last one
-abbrev pub is_backwards : CalibrationValue → Option CalibrationValue → Bool
-is_backwards c None = false
-is_backwards c (Some last) = int_lt c.reading last.reading
-
+-- Calibrate: the entry under the next number, unless its reading is before that of the latest
 abbrev pub calibrate_effect : CalibrationValue → History → Effect
 calibrate_effect c b =
     if is_backwards c (latest_calibration b) then only (Refused fault.Store)

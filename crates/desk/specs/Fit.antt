@@ -4,7 +4,7 @@ use Rattle.std.specs.Prelude.{◌≡◌, List, [], ℕ, Option, Some, None, Resu
 use Rattle.policy.specs.Record.{AccountValue}
 use Rattle.cms.specs.declared.signer.SignerFault.{SignerFault}
 use Rattle.cms.specs.declared.signer.SignerFault.TheVariants as signer
-use Rattle.desk.specs.Outcome.{Call, Fine, Wanting, Broken, Outcome, all_fine}
+use Rattle.desk.specs.Outcome.{Call, Fine, Wanting, Failed, Outcome, all_fine}
 use Rattle.desk.specs.Command.{Command, Stamp, Begin, Finish, Abandon, Deposit, Show, Token, ListAll, Grant, Revoke}
 use Rattle.desk.specs.Command.{Calibrate, Hold, Succeed}
 
@@ -53,7 +53,7 @@ made_by (Succeed next) o = record (all_fine (Ok [])) { looking = o.looking; addi
 abbrev pub IsUncounted : Call → Type 0
 IsUncounted Fine = Unit {0}
 IsUncounted Wanting = Unit {0}
-IsUncounted Broken = ⊥
+IsUncounted Failed = ⊥
 
 abbrev pub IsUnfailed : Result (List ℕ) SignerFault → Type 0
 IsUnfailed (Ok signature) = Unit {0}
@@ -68,7 +68,7 @@ abbrev pub IsFit : Command → Outcome → Type 0
 IsFit c o = (o ≡ made_by c o) × AreGrowths o
 
 -- neither the store nor the signer refused a call for a cause that it counts
-pub record IsUnbroken (o : Outcome) : Type 0 where
+pub record HasNoneFailed (o : Outcome) : Type 0 where
   pub searching : IsUncounted o.searching
   pub looking : IsUncounted o.looking
   pub counting : IsUncounted o.counting

@@ -1,6 +1,6 @@
 -- What is promised of the machine: of grants and rejections, of journeys that go on, and of an account's commands.
-use Rattle.std.specs.Prelude.{◌≡◌, ℕ, ◌+◌, ◌<◌, ◌≤◌, ◌⊎◌, ℤ, true, false, List, [], ◌∷◌, ◌++◌, filter, Option, Some}
-use Rattle.std.specs.Prelude.{None, Result, Ok}
+use Rattle.std.specs.Prelude.{◌≡◌, ℕ, ◌+◌, ◌<◌, ◌≤◌, ◌⊎◌, ℤ, nat_le, true, false, List, [], ◌∷◌, ◌++◌, filter, length}
+use Rattle.std.specs.Prelude.{Option, Some, None, Result, Ok}
 use Rattle.std.specs.List.{Contains}
 use Rattle.std.specs.Str.{bytes_eq}
 use Rattle.policy.specs.Record.{AccountValue}
@@ -11,17 +11,18 @@ use Rattle.tsp.specs.declared.rule.Rule.TheVariants.{System}
 use Rattle.cms.specs.SignedData.{attribute_text, token}
 use Rattle.cms.specs.declared.signer.SignerFault.{SignerFault}
 use Rattle.book.specs.History.{Entry, Reserved, Deposited, History, ReservationValue, stamps, deposits, holds}
-use Rattle.book.specs.History.{latest_calibration, greatest_serial, deposit_at}
-use Rattle.book.specs.Identities.{latest_identity, identity_of}
+use Rattle.book.specs.History.{latest_calibration, greatest_serial, deposit_at, deposit_under}
+use Rattle.book.specs.Rows.{DepositRow}
+use Rattle.book.specs.Identities.{latest_identity, identity_at_reservation}
 use Rattle.book.specs.Readers.{Viewer}
 use Rattle.book.specs.Sound.{greatest_number}
 use Rattle.book.specs.Values.{deposit_of}
 use Rattle.desk.specs.Agreement.{seen_at, Agree, IsCommandOf}
 use Rattle.desk.specs.Outcome.{Outcome, Cause, cause_of, cause_of_signing}
-use Rattle.desk.specs.Findings.{StampPlan, IsAllowed, HoldsAt}
+use Rattle.desk.specs.Findings.{StampPlan, IsAllowed, HoldsAt, HoldsUnasked}
 use Rattle.desk.specs.Command.{Setting, PendingValue, Command, Stamp, Begin, Finish, Abandon, Deposit, Show, Token}
 use Rattle.desk.specs.Command.{ListAll, Grant, Revoke, Calibrate, Hold, Succeed, Answer, Stamped, Rejected, Begun}
-use Rattle.desk.specs.Command.{Kept, Shown, Listed, Done, Numbered, Refused, setting_after}
+use Rattle.desk.specs.Command.{Kept, Refused, setting_after}
 use Rattle.desk.specs.Texts.{tst_of, reservation_of, pending_of, token_with, gives_certificate, request_for, octets_for}
 use Rattle.desk.specs.Effects.{Effect, next_reservation, name_of}
 use Rattle.desk.specs.declared.fault.Fault.{Fault}
@@ -54,11 +55,12 @@ causes_of o =
 abbrev pub IsUnanswered : Outcome → Type 0
 IsUnanswered o = (cause : Cause) × Contains (causes_of o) (Some cause)
 
--- A rejection: by the first rule that fails; or by rule 12, where a call had no answer or the serial numbers are used
--- up.
+-- A rejection: by the first rule that fails; or by rule 12, where the rules 1 to 9 hold, and a call had no answer or
+-- the serial numbers are used up.
 abbrev pub IsRejection : Setting → Option AccountValue → ℤ → List ℕ → Outcome → History → Rule → Type 0
 IsRejection s account reading octets o b rule = IsFirstFailing (HoldsAt s.file account reading octets b) rule
-    ⊎ ((rule ≡ System) × (IsUnanswered o ⊎ (greatest_number ≤ greatest_serial b)))
+    ⊎ ((rule ≡ System) × ((unasked : Rule) → HoldsUnasked s.file account octets unasked)
+    × (IsUnanswered o ⊎ (greatest_number ≤ greatest_serial b)))
 
 -- What `Begin` answers waits for the signature of its plan's text: no rule of 1 to 11 fails, the serial number is the
 -- greatest plus one, and the TSTInfo, the certificate exactly where it is asked for, identity and algorithm are those of
@@ -94,56 +96,37 @@ pub record IsDeposited (s : Setting) (a : AccountValue) (reading : ℤ) (referen
       (tst_of s plan number) signature (gives_certificate s.file a))
       ∷ Reserved (reservation_of s a.name plan (octets_for s.file a bytes) number) ∷ []
 
--- A stamp's answer is of its plan, or by the first rule that fails. By the others a stamp isn't answered.
+-- A stamp's answer is of its plan, or by the first rule that fails. It isn't answered otherwise.
 abbrev pub IsStampOfPlan : Setting → Option AccountValue → ℤ → List ℕ → Outcome → History → Answer → Type 0
 IsStampOfPlan s account reading octets o b (Stamped serial reply) = IsGrant s account reading octets o b serial reply
 IsStampOfPlan s account reading octets o b (Rejected rule) = IsRejection s account reading octets o b rule
-IsStampOfPlan s account reading octets o b (Begun p) = Unit {0}
-IsStampOfPlan s account reading octets o b (Kept number is_new) = Unit {0}
-IsStampOfPlan s account reading octets o b (Shown bytes) = Unit {0}
-IsStampOfPlan s account reading octets o b (Listed rows) = Unit {0}
-IsStampOfPlan s account reading octets o b Done = Unit {0}
-IsStampOfPlan s account reading octets o b (Numbered number) = Unit {0}
-IsStampOfPlan s account reading octets o b (Refused f) = Unit {0}
+IsStampOfPlan s account reading octets o b _ = ⊥
 
 -- and so is what is begun, or it is refused
 abbrev pub IsBeginningOfPlan : Setting → Option AccountValue → ℤ → List ℕ → History → Answer → Type 0
 IsBeginningOfPlan s account reading octets b (Begun p) = IsBegunOf s account reading octets b p
 IsBeginningOfPlan s account reading octets b (Rejected rule) =
     IsFirstFailing (HoldsAt s.file account reading octets b) rule
-IsBeginningOfPlan s account reading octets b (Stamped serial reply) = Unit {0}
-IsBeginningOfPlan s account reading octets b (Kept number is_new) = Unit {0}
-IsBeginningOfPlan s account reading octets b (Shown bytes) = Unit {0}
-IsBeginningOfPlan s account reading octets b (Listed rows) = Unit {0}
-IsBeginningOfPlan s account reading octets b Done = Unit {0}
-IsBeginningOfPlan s account reading octets b (Numbered number) = Unit {0}
 IsBeginningOfPlan s account reading octets b (Refused f) = Unit {0}
+IsBeginningOfPlan s account reading octets b _ = ⊥
 
 abbrev pub IsFinishOfPlan : PendingValue → List ℕ → Answer → Type 0
 IsFinishOfPlan p signature (Stamped serial reply) = IsFinished p signature serial reply
-IsFinishOfPlan p signature (Rejected rule) = Unit {0}
-IsFinishOfPlan p signature (Begun q) = Unit {0}
-IsFinishOfPlan p signature (Kept number is_new) = Unit {0}
-IsFinishOfPlan p signature (Shown bytes) = Unit {0}
-IsFinishOfPlan p signature (Listed rows) = Unit {0}
-IsFinishOfPlan p signature Done = Unit {0}
-IsFinishOfPlan p signature (Numbered number) = Unit {0}
 IsFinishOfPlan p signature (Refused f) = Unit {0}
+IsFinishOfPlan p signature _ = ⊥
 
--- a deposit that is refused by a rule, is by the first that fails
-abbrev pub IsRefusalOfPlan : Setting → AccountValue → ℤ → List ℕ → History → Fault → Type 0
-IsRefusalOfPlan s a reading bytes b (fault.Rejected rule) =
+-- A deposit that is refused by a rule, is by the first that fails; a conflict is with other octets under the reference;
+-- and what is too large has more than 1,048,576 octets.
+abbrev pub IsRefusalOfPlan : Setting → AccountValue → ℤ → List ℕ → List ℕ → History → Fault → Type 0
+IsRefusalOfPlan s a reading reference bytes b (fault.Rejected rule) =
     IsFirstFailing (HoldsAt s.file (Some a) reading (octets_for s.file a bytes) b) rule
-IsRefusalOfPlan s a reading bytes b fault.NotHere = Unit {0}
-IsRefusalOfPlan s a reading bytes b fault.NotOwner = Unit {0}
-IsRefusalOfPlan s a reading bytes b fault.Conflict = Unit {0}
-IsRefusalOfPlan s a reading bytes b fault.UnknownReader = Unit {0}
-IsRefusalOfPlan s a reading bytes b fault.UnknownGroup = Unit {0}
-IsRefusalOfPlan s a reading bytes b fault.SelfGrant = Unit {0}
-IsRefusalOfPlan s a reading bytes b fault.TooLarge = Unit {0}
-IsRefusalOfPlan s a reading bytes b fault.Memory = Unit {0}
-IsRefusalOfPlan s a reading bytes b fault.Store = Unit {0}
-IsRefusalOfPlan s a reading bytes b fault.Signer = Unit {0}
+IsRefusalOfPlan s a reading reference bytes b fault.Conflict =
+    (d : DepositRow) × (deposit_under a.name reference b ≡ Some d) × (bytes_eq d.bytes bytes ≡ false)
+IsRefusalOfPlan s a reading reference bytes b fault.TooLarge = nat_le (length bytes) 1_048_576 ≡ false
+IsRefusalOfPlan s a reading reference bytes b fault.Memory = Unit {0}
+IsRefusalOfPlan s a reading reference bytes b fault.Store = Unit {0}
+IsRefusalOfPlan s a reading reference bytes b fault.Signer = Unit {0}
+IsRefusalOfPlan s a reading reference bytes b _ = ⊥
 
 abbrev pub IsDepositOfPlan : Setting → AccountValue → ℤ → List ℕ → List ℕ → Outcome → History → Effect → Answer
     → Type 0
@@ -151,14 +134,8 @@ IsDepositOfPlan s a reading reference bytes o b e (Kept number true) =
     IsDeposited s a reading reference bytes o b e number
 IsDepositOfPlan s a reading reference bytes o b e (Kept number false) =
     deposit_at number b ≡ Some (deposit_of number a.name reference bytes)
-IsDepositOfPlan s a reading reference bytes o b e (Refused f) = IsRefusalOfPlan s a reading bytes b f
-IsDepositOfPlan s a reading reference bytes o b e (Stamped serial reply) = Unit {0}
-IsDepositOfPlan s a reading reference bytes o b e (Rejected rule) = Unit {0}
-IsDepositOfPlan s a reading reference bytes o b e (Begun p) = Unit {0}
-IsDepositOfPlan s a reading reference bytes o b e (Shown octets) = Unit {0}
-IsDepositOfPlan s a reading reference bytes o b e (Listed rows) = Unit {0}
-IsDepositOfPlan s a reading reference bytes o b e Done = Unit {0}
-IsDepositOfPlan s a reading reference bytes o b e (Numbered number) = Unit {0}
+IsDepositOfPlan s a reading reference bytes o b e (Refused f) = IsRefusalOfPlan s a reading reference bytes b f
+IsDepositOfPlan s a reading reference bytes o b e _ = ⊥
 
 -- Of grants, rejections and deposits: each is of its plan, or by the first rule that fails. The other commands have no
 -- plan.
@@ -189,7 +166,7 @@ pub record IsReservedText (s : Setting) (e : Effect) (b : History) (text : List 
   pub text_is : text ≡ attribute_text s.in_force.identity reservation.tst
   -- that identity is then the one of the serial number, where it was installed last before
   pub signer : IsInForce s.in_force b
-      → identity_of reservation.serial (e.adds ++ b) ≡ Some (installed_by s.in_force.identity)
+      → identity_at_reservation reservation.serial (e.adds ++ b) ≡ Some (installed_by s.in_force.identity)
 
 -- What waits for its signature: that reservation's, with its serial number and TSTInfo.
 pub record IsPendingOf (s : Setting) (e : Effect) (b : History) (p : PendingValue) : Type 0 where

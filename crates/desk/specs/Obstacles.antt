@@ -2,8 +2,9 @@
 use Rattle.std.specs.Prelude.{◌≡◌, ℕ, true, false, List, [], Some, None, option_map, Result, Ok, Err}
 use Rattle.std.specs.Str.{bytes_eq}
 use Rattle.policy.specs.Record.{PolicyValue}
+use Rattle.book.specs.Rows.{DepositRow}
 use Rattle.book.specs.Values.{deposit_view}
-use Rattle.book.specs.History.{History, DepositValue, token_of}
+use Rattle.book.specs.History.{History, token_of}
 use Rattle.book.specs.Readers.{Reader, Viewer}
 use Rattle.book.specs.Rights.{seen_by}
 use Rattle.book.specs.declared.fault.StoreFault.{StoreFault}
@@ -93,19 +94,19 @@ IsUnseen viewer number b obstacle.UnknownReader = Unit {0}
 IsUnseen viewer number b obstacle.UnknownGroup = Unit {0}
 IsUnseen viewer number b obstacle.SelfGrant = Unit {0}
 IsUnseen viewer number b (obstacle.Searching f) = Unit {0}
-IsUnseen viewer number b (obstacle.Looking f) = (d : DepositValue) × (seen_by viewer number b ≡ Some d)
+IsUnseen viewer number b (obstacle.Looking f) = (d : DepositRow) × (seen_by viewer number b ≡ Some d)
 IsUnseen viewer number b obstacle.Growing = Unit {0}
 IsUnseen viewer number b (obstacle.Adding f) = Unit {0}
 
 -- the account sees this deposit, which is its own
-pub record Owns (file : PolicyValue) (account : List ℕ) (number : ℕ) (b : History) (d : DepositValue) : Type 0 where
+pub record Owns (file : PolicyValue) (account : List ℕ) (number : ℕ) (b : History) (d : DepositRow) : Type 0 where
   pub seen : seen_by (viewer_in file account) number b ≡ Some d
   pub owns : bytes_eq d.owner account ≡ true
 
 -- the account may give and take a reader's right to the deposit
 pub record MayName (file : PolicyValue) (account : List ℕ) (reader : Reader) (number : ℕ) (b : History)
     : Type 0 where
-  pub deposit : DepositValue
+  pub deposit : DepositRow
   pub own : Owns file account number b deposit
   pub unopposed : objection file account reader ≡ None
 
@@ -113,15 +114,15 @@ pub record MayName (file : PolicyValue) (account : List ℕ) (reader : Reader) (
 abbrev pub MayNot : PolicyValue → List ℕ → Reader → ℕ → History → Obstacle → Type 0
 MayNot file account reader number b obstacle.NotHere = seen_by (viewer_in file account) number b ≡ None
 MayNot file account reader number b obstacle.NotOwner =
-    (d : DepositValue) × ((seen_by (viewer_in file account) number b ≡ Some d) × (bytes_eq d.owner account ≡ false))
+    (d : DepositRow) × ((seen_by (viewer_in file account) number b ≡ Some d) × (bytes_eq d.owner account ≡ false))
 MayNot file account reader number b obstacle.UnknownReader =
-    (d : DepositValue) × (Owns file account number b d × (objection file account reader ≡ Some fault.UnknownReader))
+    (d : DepositRow) × (Owns file account number b d × (objection file account reader ≡ Some fault.UnknownReader))
 MayNot file account reader number b obstacle.UnknownGroup =
-    (d : DepositValue) × (Owns file account number b d × (objection file account reader ≡ Some fault.UnknownGroup))
+    (d : DepositRow) × (Owns file account number b d × (objection file account reader ≡ Some fault.UnknownGroup))
 MayNot file account reader number b obstacle.SelfGrant =
-    (d : DepositValue) × (Owns file account number b d × (objection file account reader ≡ Some fault.SelfGrant))
+    (d : DepositRow) × (Owns file account number b d × (objection file account reader ≡ Some fault.SelfGrant))
 MayNot file account reader number b (obstacle.Searching f) = Unit {0}
 MayNot file account reader number b (obstacle.Looking f) =
-    (d : DepositValue) × (seen_by (viewer_in file account) number b ≡ Some d)
+    (d : DepositRow) × (seen_by (viewer_in file account) number b ≡ Some d)
 MayNot file account reader number b obstacle.Growing = Unit {0}
 MayNot file account reader number b (obstacle.Adding f) = Unit {0}

@@ -1,7 +1,7 @@
 -- What the store, the signer and memory answer in one command: all that a command's effect may depend on besides the
 -- history.
 use Rattle.std.specs.Prelude.{ℕ, List, [], ◌∷◌, Option, Some, None, Result, Ok, Err}
-use Rattle.book.specs.Fault.{next_count}
+use Rattle.std.specs.Hash.DefaultHasher.{wrapping_add}
 use Rattle.cms.specs.declared.signer.SignerFault.{SignerFault}
 use Rattle.cms.specs.declared.signer.SignerFault.TheVariants as signer
 
@@ -10,7 +10,7 @@ use Rattle.cms.specs.declared.signer.SignerFault.TheVariants as signer
 pub data Call : Type 0 where
   Fine : Call
   Wanting : Call
-  Broken : Call
+  Failed : Call
 
 -- A call that a command doesn't make is Fine (`IsFit`).
 pub record Outcome : Type 0 where
@@ -40,7 +40,7 @@ pub data Cause : Type 0 where
 abbrev pub cause_of : Call → Option Cause
 cause_of Fine = None
 cause_of Wanting = Some OfMemory
-cause_of Broken = Some OfStore
+cause_of Failed = Some OfStore
 
 abbrev pub cause_of_signing : Result (List ℕ) SignerFault → Option Cause
 cause_of_signing (Ok signature) = None
@@ -57,7 +57,7 @@ first_cause (Some cause ∷ causes) = Some cause
 abbrev pub counted : Call → ℕ → ℕ
 counted Fine count = count
 counted Wanting count = count
-counted Broken count = next_count count
+counted Failed count = wrapping_add count 1
 
 abbrev pub faults_after : Outcome → ℕ → ℕ
 faults_after o count =

@@ -9,7 +9,7 @@ use Rattle.cms.specs.SignedData.{attribute_text, token}
 use Rattle.cms.specs.declared.signer.SignerFault.{SignerFault}
 use Rattle.book.specs.History.{History, greatest_serial}
 use Rattle.desk.specs.Command.{Setting}
-use Rattle.desk.specs.Findings.{StampPlan, IsAllowed, HoldsAt}
+use Rattle.desk.specs.Findings.{StampPlan, IsAllowed, HoldsAt, HoldsUnasked}
 use Rattle.desk.specs.Texts.{tst_of}
 
 -- A grant: none of the rules 1 to 11 fails; the serial number is the greatest plus one; and the octets are those of the
@@ -25,7 +25,8 @@ pub record IsGranted (s : Setting) (signs : List ℕ → Result (List ℕ) Signe
   pub text : reply ≡ granted_octets (token s.in_force.identity s.in_force.algorithm (tst_of s plan serial) signature
       plan.request.cert_req)
 
--- A rejection: by the first rule that fails, or by rule 12.
+-- A rejection: by the first rule that fails; or by rule 12, which is given only where the rules 1 to 9 hold. What it
+-- comes from, the outcome tells (`IsRejection`).
 abbrev pub IsRejected : Setting → Option AccountValue → ℤ → List ℕ → History → Rule → Type 0
 IsRejected s account reading octets b rule = IsFirstFailing (HoldsAt s.file account reading octets b) rule
-    ⊎ (rule ≡ System)
+    ⊎ ((rule ≡ System) × ((unasked : Rule) → HoldsUnasked s.file account octets unasked))

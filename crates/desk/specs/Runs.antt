@@ -8,15 +8,17 @@ use Rattle.cms.specs.SignedData.{token}
 use Rattle.cms.specs.declared.signer.SignerFault.{SignerFault}
 use Rattle.decide.specs.Clock.{Follows}
 use Rattle.book.specs.History.{Entry, Reserved, Sealed, Deposited, Calibrated, Held, Granted, Revoked, Installed}
-use Rattle.book.specs.History.{History, InstalledValue, ReservationValue, calibrations, holds, last_gen_time, token_of}
+use Rattle.book.specs.History.{History, InstalledValue, ReservationValue, calibrations, holds}
+use Rattle.book.specs.History.{last_gen_time, token_of}
 use Rattle.book.specs.History.{reservation_at, deposit_at}
 use Rattle.book.specs.Sound.{Along}
-use Rattle.book.specs.Identities.{latest_identity, identity_of}
+use Rattle.book.specs.Rows.{DepositRow}
+use Rattle.book.specs.Identities.{latest_identity, identity_at_reservation}
 use Rattle.book.specs.Values.{deposit_of}
 use Rattle.desk.specs.Content.{IsForRequest, IsSoundInFull}
 use Rattle.desk.specs.Outcome.{Outcome}
-use Rattle.desk.specs.Command.{Setting, PendingValue, Command, Stamp, Finish, Abandon, Deposit, Grant, Revoke}
-use Rattle.desk.specs.Command.{Calibrate, Hold, Succeed, Answer, Stamped, Rejected, Begun, Kept, Shown, Listed}
+use Rattle.desk.specs.Command.{Setting, PendingValue, Command, Stamp, Finish, Abandon, Deposit, Show, Token, Grant}
+use Rattle.desk.specs.Command.{Revoke, Calibrate, Hold, Succeed, Answer, Stamped, Rejected, Begun, Kept, Shown, Listed}
 use Rattle.desk.specs.Command.{Done, Numbered, Refused, setting_after}
 use Rattle.tsp.specs.Granted.{granted_octets}
 use Rattle.desk.specs.Texts.{token_with}
@@ -118,7 +120,7 @@ IsRising (Installed i) b = Unit {0}
 -- before it was reserved. A program whose schema kept no identities has installed none.
 abbrev pub IsSignedUnder : IdentityValue → ℕ → History → Type 0
 IsSignedUnder identity serial b =
-    (installed : InstalledValue) → identity_of serial b ≡ Some installed → installed ≡ installed_by identity
+    (installed : InstalledValue) → identity_at_reservation serial b ≡ Some installed → installed ≡ installed_by identity
 
 -- A token stands under its serial number, over the TSTInfo that was reserved and the identity of that number.
 pub record IsTokenFor (serial : ℕ) (b : History) (text : List ℕ) : Type 0 where
@@ -133,7 +135,7 @@ pub record IsTokenFor (serial : ℕ) (b : History) (text : List ℕ) : Type 0 wh
   pub signer : IsSignedUnder identity serial b
 
 -- What was handed in with its signature stands under its serial number. With which identity it was begun, the answer
--- that began it tells.
+-- that began it tells (`finished`).
 pub record IsFinishedFor (p : PendingValue) (signature : List ℕ) (serial : ℕ) (b : History) (text : List ℕ)
     : Type 0 where
   pub number : serial ≡ p.serial
@@ -162,15 +164,22 @@ IsStampKept b (Finish p signature) serial reply =
     (text : List ℕ) × (reply ≡ granted_octets text) × IsFinishedFor p signature serial b text
 IsStampKept b _ serial reply = ⊥
 
--- a deposit stands with its octets, and a new one with its token
+-- a deposit stands with its octets and its token
 abbrev pub IsTokenKept : History → ℕ → Bool → Type 0
 IsTokenKept b number true = (text : List ℕ) × IsTokenFor number b text
-IsTokenKept b number false = Unit {0}
+IsTokenKept b number false = (text : List ℕ) × (token_of number b ≡ Some text)
 
 abbrev pub IsDepositKept : History → Command → ℕ → Bool → Type 0
 IsDepositKept b (Deposit a reading reference bytes) number is_new =
     (deposit_at number b ≡ Some (deposit_of number a.name reference bytes)) × IsTokenKept b number is_new
 IsDepositKept b _ number is_new = ⊥
+
+-- A deposit that was shown stands with its octets, and the token of a granted reply under the number that was asked
+-- for. No other commands are answered so.
+abbrev pub IsShownKept : History → Command → List ℕ → Type 0
+IsShownKept b (Show a n) octets = (d : DepositRow) × (deposit_at n b ≡ Some d) × (octets ≡ d.bytes)
+IsShownKept b (Token a n) octets = (text : List ℕ) × (octets ≡ granted_octets text) × (token_of n b ≡ Some text)
+IsShownKept b _ octets = ⊥
 
 -- what is done was entered; an abandonment enters nothing
 abbrev pub IsDoneKept : History → Command → Type 0
@@ -186,17 +195,26 @@ IsNumberKept b (Calibrate c) number = IsNumbered number c (calibrations b)
 IsNumberKept b (Hold h) number = IsNumbered number h (holds b)
 IsNumberKept b _ number = ⊥
 
--- What an answer acknowledged still stands. A rejection, a refusal, and what is shown or listed acknowledge nothing.
+-- What an answer acknowledged or showed still stands. A rejection, a refusal, and what is listed acknowledge nothing.
 abbrev pub IsKept : History → Command → Answer → Type 0
 IsKept b c (Stamped serial reply) = IsStampKept b c serial reply
 IsKept b c (Rejected rule) = Unit {0}
 IsKept b c (Begun p) = IsReservedFor p b
 IsKept b c (Kept number is_new) = IsDepositKept b c number is_new
-IsKept b c (Shown octets) = Unit {0}
+IsKept b c (Shown octets) = IsShownKept b c octets
 IsKept b c (Listed rows) = Unit {0}
 IsKept b c Done = IsDoneKept b c
 IsKept b c (Numbered number) = IsNumberKept b c number
 IsKept b c (Refused fault) = Unit {0}
+
+-- a command was answered with what waits for its signature
+abbrev pub WasBegun : PendingValue → List Told → Type 0
+WasBegun p w = (c : Command) × Contains w (record { command = c; answer = Begun p })
+
+-- a finish of it with this signature was granted
+abbrev pub WasFinished : PendingValue → List ℕ → ℕ → List ℕ → List Told → Type 0
+WasFinished p signature serial reply w =
+    Contains w (record { command = Finish p signature; answer = Stamped serial reply })
 
 -- What holds of the history of each journey.
 pub record HasProperties (b : History) (w : List Told) : Type 0 where
@@ -205,3 +223,8 @@ pub record HasProperties (b : History) (w : List Told) : Type 0 where
   pub sound : IsSoundInFull b
   pub rising : Along IsRising b
   pub kept : AllByRecursion (λ t. IsKept b t.command t.answer) w
+  -- What was begun and finished stands over the TSTInfo that was reserved and the identity of its number, as other
+  -- tokens do.
+  pub finished : (p : PendingValue) (signature : List ℕ) (serial : ℕ) (reply : List ℕ) → WasBegun p w
+      → WasFinished p signature serial reply w
+      → (text : List ℕ) × (reply ≡ granted_octets text) × IsTokenFor serial b text

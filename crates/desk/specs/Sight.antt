@@ -3,9 +3,10 @@ use Rattle.std.specs.Prelude.{◌≡◌, ℕ, ◌<◌, ◌⊎◌, true, List, []
 use Rattle.std.specs.List.{AllByRecursion}
 use Rattle.policy.specs.Record.{PolicyValue}
 use Rattle.tsp.specs.Granted.{granted_octets}
-use Rattle.book.specs.History.{History, DepositValue, ReservationValue, deposit_at, reservation_at, token_of}
+use Rattle.book.specs.History.{History, ReservationValue, deposit_at, reservation_at, token_of}
 use Rattle.book.specs.Readers.{Viewer}
 use Rattle.book.specs.Rights.{ListedValue, may_read, listed_as}
+use Rattle.book.specs.Rows.{DepositRow}
 use Rattle.desk.specs.Outcome.{Outcome, Cause, OfMemory, OfStore, cause_of, first_cause}
 use Rattle.desk.specs.Command.{Command, Stamp, Begin, Finish, Abandon, Deposit, Show, Token, ListAll, Grant, Revoke}
 use Rattle.desk.specs.Command.{Calibrate, Hold, Succeed, Answer, Shown, Listed, Refused}
@@ -14,7 +15,7 @@ use Rattle.desk.specs.declared.fault.Fault.TheVariants as fault
 
 -- Who asks may see this deposit, which has the number: it is its owner, or one of its current readers, which are those
 -- whose last entry about it is a grant.
-pub record MaySee (viewer : Viewer) (number : ℕ) (b : History) (d : DepositValue) : Type 0 where
+pub record MaySee (viewer : Viewer) (number : ℕ) (b : History) (d : DepositRow) : Type 0 where
   pub deposited : deposit_at number b ≡ Some d
   pub may : (d.owner ≡ viewer.name) ⊎ (may_read viewer number b ≡ true)
 
@@ -24,23 +25,23 @@ HasNoSight o cause = first_cause (cause_of o.searching ∷ cause_of o.looking �
 
 -- Something is shown only of a deposit that who asks may see; it is told that none is here only where it may see none;
 -- and any other answer comes only where a call wasn't answered. So what it may see is shown where calls are answered.
-abbrev pub IsShownFrom : (DepositValue → List ℕ → Type 0) → Viewer → ℕ → Outcome → History → Answer → Type 0
-IsShownFrom IsOf viewer number o b (Shown octets) = (d : DepositValue) × MaySee viewer number b d × IsOf d octets
-IsShownFrom IsOf viewer number o b (Refused fault.NotHere) = (d : DepositValue) → MaySee viewer number b d → ⊥
+abbrev pub IsShownFrom : (DepositRow → List ℕ → Type 0) → Viewer → ℕ → Outcome → History → Answer → Type 0
+IsShownFrom IsOf viewer number o b (Shown octets) = (d : DepositRow) × MaySee viewer number b d × IsOf d octets
+IsShownFrom IsOf viewer number o b (Refused fault.NotHere) = (d : DepositRow) → MaySee viewer number b d → ⊥
 IsShownFrom IsOf viewer number o b (Refused fault.Memory) = HasNoSight o OfMemory
 IsShownFrom IsOf viewer number o b (Refused fault.Store) = HasNoSight o OfStore
 IsShownFrom IsOf viewer number o b answer = ⊥
 
 -- the octets of a deposit
-abbrev pub IsBytesOf : DepositValue → List ℕ → Type 0
+abbrev pub IsBytesOf : DepositRow → List ℕ → Type 0
 IsBytesOf d octets = octets ≡ d.bytes
 
 -- the granted reply with the token of its stamp
-abbrev pub IsReplyOf : History → DepositValue → List ℕ → Type 0
+abbrev pub IsReplyOf : History → DepositRow → List ℕ → Type 0
 IsReplyOf b d octets = (token : List ℕ) × (token_of d.serial b ≡ Some token) × (octets ≡ granted_octets token)
 
 -- what a list tells of a deposit: number, owner, reference, and the genTime of its stamp
-pub record IsRowOf (b : History) (d : DepositValue) (row : ListedValue) : Type 0 where
+pub record IsRowOf (b : History) (d : DepositRow) (row : ListedValue) : Type 0 where
   pub reservation : ReservationValue
   pub reserved : reservation_at d.serial b ≡ Some reservation
   pub is_row : row ≡ listed_as d reservation
@@ -54,8 +55,8 @@ Climbs (n ∷ ns) = AllByRecursion (λ m. n < m) ns × Climbs ns
 pub record IsExactList (viewer : Viewer) (b : History) (rows : List ListedValue) : Type 0 where
   pub rising : Climbs (map (λ row. row.number) rows)
   pub only : (row : ListedValue) → Contains rows row
-      → (d : DepositValue) × MaySee viewer row.number b d × IsRowOf b d row
-  pub all : (number : ℕ) (d : DepositValue) → MaySee viewer number b d
+      → (d : DepositRow) × MaySee viewer row.number b d × IsRowOf b d row
+  pub all : (number : ℕ) (d : DepositRow) → MaySee viewer number b d
       → (row : ListedValue) × Contains rows row × (row.number ≡ number) × IsRowOf b d row
 
 -- such a list, or a call wasn't answered

@@ -7,8 +7,8 @@ use Rattle.cms.specs.declared.signer.SignerFault.TheVariants as signer
 use Rattle.book.specs.History.{Entry, Installed, History, greatest_serial, latest_calibration}
 use Rattle.book.specs.Sound.{IsBackwards, greatest_number}
 use Rattle.book.specs.Stands.{Stands}
-use Rattle.desk.specs.Fit.{IsFit, IsUnbroken}
-use Rattle.desk.specs.Outcome.{Call, Fine, Broken, Outcome, faults_after}
+use Rattle.desk.specs.Fit.{IsFit, HasNoneFailed}
+use Rattle.desk.specs.Outcome.{Call, Fine, Failed, Outcome, faults_after}
 use Rattle.desk.specs.Command.{InForce, Setting, Command, Stamp, Begin, Abandon, Deposit, Calibrate, Succeed, Answer}
 use Rattle.desk.specs.Command.{Stamped, Rejected, Begun, Kept, Shown, Listed, Done, Numbered}
 use Rattle.desk.specs.Command.{Refused, setting_after}
@@ -93,9 +93,9 @@ pub record HasStepped {B : Type 0} (g : Ghosts B) (t : SignerStep) (s : Setting)
   pub left : (left : g.Left) → g.leaves new left → MayBeLeft g s c o b old effect left
 
 -- one of the store's calls was refused for a cause that the store counts
-abbrev pub IsBroken : Outcome → Type 0
-IsBroken o = (o.searching ≡ Broken) ⊎ ((o.looking ≡ Broken) ⊎ ((o.counting ≡ Broken) ⊎ ((o.growing ≡ Broken)
-    ⊎ ((o.adding ≡ Broken) ⊎ ((o.wrapping ≡ Broken) ⊎ (o.sealing ≡ Broken))))))
+abbrev pub HasStoreFailed : Outcome → Type 0
+HasStoreFailed o = (o.searching ≡ Failed) ⊎ ((o.looking ≡ Failed) ⊎ ((o.counting ≡ Failed) ⊎ ((o.growing ≡ Failed)
+    ⊎ ((o.adding ≡ Failed) ⊎ ((o.wrapping ≡ Failed) ⊎ (o.sealing ≡ Failed))))))
 
 -- while the store returns what was written, no serial number is left
 abbrev pub IsSpentIn : {B : Type 0} → Ghosts B → B → B → Type 0
@@ -122,8 +122,8 @@ IsBlamedFor g c o old new fault.UnknownGroup = Unit {0}
 IsBlamedFor g c o old new fault.SelfGrant = Unit {0}
 IsBlamedFor g c o old new fault.TooLarge = Unit {0}
 IsBlamedFor g c o old new (fault.Rejected rule) = Unit {0}
-IsBlamedFor g c o old new fault.Memory = IsUnbroken o
-IsBlamedFor g c o old new fault.Store = IsBroken o ⊎ IsExcused g c old new
+IsBlamedFor g c o old new fault.Memory = HasNoneFailed o
+IsBlamedFor g c o old new fault.Store = HasStoreFailed o ⊎ IsExcused g c old new
 IsBlamedFor g c o old new fault.Signer = o.signing ≡ Err signer.Failed
 
 abbrev pub IsBlamed : {B : Type 0} → Ghosts B → Command → Outcome → B → B → Answer → Type 0

@@ -4,10 +4,11 @@ use Rattle.std.specs.Prelude.{None, Result}
 use Rattle.policy.specs.Record.{AccountValue}
 use Rattle.tsp.specs.Request.{Spells}
 use Rattle.cms.specs.declared.signer.SignerFault.{SignerFault}
-use Rattle.book.specs.History.{Granted, Revoked, Held, History, ReservationValue, DepositValue, reservation_at}
+use Rattle.book.specs.History.{Granted, Revoked, Held, History, ReservationValue, reservation_at}
 use Rattle.book.specs.History.{holds, token_of, deposit_under}
 use Rattle.book.specs.Identities.{latest_identity}
 use Rattle.book.specs.Rights.{seen_by, listed}
+use Rattle.book.specs.Rows.{DepositRow}
 use Rattle.desk.specs.Outcome.{Outcome, Cause, cause_of}
 use Rattle.desk.specs.Findings.{Finding, Finds}
 use Rattle.desk.specs.Command.{Setting, PendingValue, Command, Stamp, Begin, Finish, Abandon, Deposit, Show, Token}
@@ -24,7 +25,7 @@ abbrev pub HasFound : (Finding → Type 0) → (Finding → Effect) → Effect �
 HasFound IsFound effect_of e = (f : Finding) × IsFound f × (e ≡ effect_of f)
 
 -- a deposit by its reference: where its owner has used it, and where it hasn't
-abbrev pub KeepsByReference : Setting → AccountValue → ℤ → List ℕ → List ℕ → Outcome → History → Option DepositValue
+abbrev pub KeepsByReference : Setting → AccountValue → ℤ → List ℕ → List ℕ → Outcome → History → Option DepositRow
     → Effect → Type 0
 KeepsByReference s a reading reference bytes o b (Some d) e = e ≡ known_effect bytes d
 KeepsByReference s a reading reference bytes o b None e =

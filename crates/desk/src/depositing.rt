@@ -8,6 +8,7 @@ ghost use Rattle.tsp.specs.Request.{Spells, time_stamp_req, unstated};
 ghost use Rattle.tsp.specs.View.{request_view};
 ghost use Rattle.book.specs.Fault.{count_after};
 ghost use Rattle.book.specs.History.{History, deposit_under, greatest_serial};
+ghost use Rattle.book.specs.Sound.{greatest_number};
 ghost use Rattle.book.specs.Stands.{Stands, OnlyLooks};
 ghost use Rattle.book.specs.Values.{deposit_of};
 ghost use Rattle.desk.specs.Answers.{answered, begun_as, told};
@@ -88,8 +89,8 @@ fn octets_of(alloc: Global, planned: &Planned<'_, '_>) -> Result<Vec<u8>, Refusa
     requires { IsLawful (time_stamp_req unstated (request_view planned.now.request)) }
     ensures octets { IfOk result (λ octets. octets.items
         ≡ encoding (time_stamp_req unstated (request_view planned.now.request))) }
-    ensures left { IfErr result (λ refusal. ((refusal ≡ Refusal.Spent) × (9223372036854775807 ≤ planned.now.last))
-        ⊎ ((refusal ≡ Refusal.Growing) × (planned.now.last < 9223372036854775807))) }
+    ensures left { IfErr result (λ refusal. ((refusal ≡ Refusal.Spent) × (greatest_number ≤ planned.now.last))
+        ⊎ ((refusal ≡ Refusal.Growing) × (planned.now.last < greatest_number))) }
 {
     if planned.last >= GREATEST_NUMBER {
         return Err(Refusal::Spent);

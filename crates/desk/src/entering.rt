@@ -1,6 +1,7 @@
 //! Calibrations and holds: what an operator adds.
 
-ghost use Rattle.std.specs.Prelude.{◌≡◌, ◌⊎◌, Err, IfErr};
+ghost use Rattle.std.specs.Prelude.{◌≡◌, ◌⊎◌, Err, IfErr, IsErr, MatchResult};
+ghost use Rattle.book.specs.Fault.{count_after};
 ghost use Rattle.book.specs.History.{History, latest_calibration};
 ghost use Rattle.book.specs.Sound.{IsBackwards};
 ghost use Rattle.book.specs.Stands.{Stands};
@@ -28,8 +29,12 @@ fn add_calibration<B: Book + Drop>(
     ensures backwards { B.honest store.new → (b : History) → Stands B.Standing b store.old
         → result ≡ Err StoreFault.Backwards
         → IsBackwards (calibration_view calibration.now) (latest_calibration b) }
+    ensures refused { B.honest store.new → (b : History) → Stands B.Standing b store.old
+        → IsBackwards (calibration_view calibration.now) (latest_calibration b) → IsErr result }
     ensures refusals { IfErr result (λ e. (e ≡ StoreFault.Memory)
         ⊎ ((e ≡ StoreFault.Database) ⊎ (e ≡ StoreFault.Backwards))) }
+    ensures faults { MatchResult result (λ _. B.fault_count store.new ≡ B.fault_count store.old)
+        (λ e. B.fault_count store.new ≡ count_after e (B.fault_count store.old)) }
 {
     match store.calibrate(calibration) {
         Ok(number) => Ok(number),
@@ -43,6 +48,8 @@ fn add_hold<B: Book + Drop>(store: &mut B, hold: &Hold) -> Result<u64, StoreFaul
     ensures step { (s : Setting) → StepsBy B.Standing no_signer s (AddHold (hold_view hold.now))
         (outcome_with (adding result)) store.old store.new (told_with numbered_as (adding result)) }
     ensures refusals { IfErr result IsOfStore }
+    ensures faults { MatchResult result (λ _. B.fault_count store.new ≡ B.fault_count store.old)
+        (λ e. B.fault_count store.new ≡ count_after e (B.fault_count store.old)) }
 {
     match store.hold(hold) {
         Ok(number) => Ok(number),
@@ -89,8 +96,12 @@ impl<'p, B: Book + Drop> Desk<'p, B> {
         ensures backwards { B.honest self.new.store → (b : History) → Stands B.Standing b self.old.store
             → result ≡ Err StoreFault.Backwards
             → IsBackwards (calibration_view calibration.now) (latest_calibration b) }
+        ensures refused { B.honest self.new.store → (b : History) → Stands B.Standing b self.old.store
+            → IsBackwards (calibration_view calibration.now) (latest_calibration b) → IsErr result }
         ensures refusals { IfErr result (λ e. (e ≡ StoreFault.Memory)
             ⊎ ((e ≡ StoreFault.Database) ⊎ (e ≡ StoreFault.Backwards))) }
+        ensures faults { MatchResult result (λ _. B.fault_count self.new.store ≡ B.fault_count self.old.store)
+            (λ e. B.fault_count self.new.store ≡ count_after e (B.fault_count self.old.store)) }
     {
         steps_keep_their_promises();
         add_calibration(&mut self.store, calibration)
@@ -103,6 +114,8 @@ impl<'p, B: Book + Drop> Desk<'p, B> {
         ensures honest { B.honest self.new.store → B.honest self.old.store }
         ensures step { IsStep B.Standing no_signer (AddHold (hold_view hold.now)) self.old self.new (entered result) }
         ensures refusals { IfErr result IsOfStore }
+        ensures faults { MatchResult result (λ _. B.fault_count self.new.store ≡ B.fault_count self.old.store)
+            (λ e. B.fault_count self.new.store ≡ count_after e (B.fault_count self.old.store)) }
     {
         steps_keep_their_promises();
         add_hold(&mut self.store, hold)

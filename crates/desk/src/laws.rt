@@ -31,7 +31,7 @@ ghost use Rattle.desk.specs.Viewers.{viewer_in};
 use cms::Signer;
 use tsp::requests_have_one_reading;
 
-/// A command leaves a sound history sound, and so does a stop in the midst of it.
+/// A command leaves a history that is sound in full so, and so does a stop in the midst of it.
 pub fn steps_leave_sound_histories()
     ensures whole { (s : Setting) (c : Command) (o : Outcome) (e : Effect) (b : History)
         → IsProper s → IsNameableFor s c b → IsSoundInFull b → IsMet c b → HasEffect s c o b e

@@ -12,10 +12,7 @@ ghost use Rattle.desk.specs.Calls.{looked_at, calibrations_as, moment_or_last};
 use crate::desk::Desk;
 use book::{Book, StoreFault};
 use decide::{Calibration, ClockFacts, now_of};
-use gentime::GenTime;
-
-/// The last moment that a genTime can state, 9999-12-31T23:59:59.999999Z.
-const LAST_MOMENT: i64 = 253_402_300_799_999_999;
+use gentime::{GenTime, LAST_MOMENT};
 
 /// What a look at the store finds.
 #[derive(Clone, Copy, Debug)]

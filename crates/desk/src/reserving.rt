@@ -6,6 +6,7 @@ ghost use Rattle.tsp.specs.Request.{Spells};
 ghost use Rattle.tsp.specs.Tst.{IsTsaName};
 ghost use Rattle.tsp.specs.View.{request_view};
 ghost use Rattle.book.specs.History.{History, greatest_serial};
+ghost use Rattle.book.specs.Sound.{greatest_number};
 ghost use Rattle.book.specs.Stands.{Stands};
 ghost use Rattle.desk.specs.Outcome.{faults_after};
 ghost use Rattle.desk.specs.Calls.{adding_refusal, outcome_of, plan_of, opening_view, IsPrepared, IsOfReserving};
@@ -67,7 +68,7 @@ fn prepare<'p, 'a>(
 ) -> Result<Prepared<'p, 'a>, Refusal>
     requires spelled { Spells query.now (request_view planned.request) }
     requires short { length query.now ≤ 65536 }
-    requires left { planned.last + 1 ≤ 9223372036854775807 }
+    requires left { planned.last + 1 ≤ greatest_number }
     ensures prepared { IfOk result (IsPrepared (opening_view opening.entry) (plan_of planned.entry)
         (planned.entry.last + 1)) }
     ensures memory { IfErr result (λ refusal. refusal ≡ Refusal.Growing) }

@@ -1,9 +1,9 @@
 use Rattle.std.proofs.Common.{◌≡◌, ◌+◌, length, true, false, Err, ap, refl}
 use Rattle.book.specs.History.{Calibrated, calibrations, latest_calibration}
+use Rattle.book.specs.Sound.{is_backwards}
 use Rattle.book.specs.Values.{calibration_view}
 use Rattle.desk.specs.Command.{Calibrate}
-use Rattle.desk.specs.Effects.{is_backwards}
-use Rattle.desk.proofs.Added.{enters_as, refuses_by, backwards_where, is_backwards_where}
+use Rattle.desk.proofs.Added.{enters_as, refuses_by}
 use Rattle.desk.proofs.entering.add_calibration.Goals as goal
 
 pub returns-in-Ok-clause-step : goal.returns-in-Ok-clause-step
@@ -13,8 +13,7 @@ returns-in-Ok-clause-step g c s =
     (λ b. is_backwards x (latest_calibration b)) c.args.store.now c.calibrate.new.self c.in-Ok.number (record { has = λ o b e h. h; fits = λ b m. m; made = λ call. (refl, (tt, tt)) }) c.in-Ok.ensures.faults c.in-Ok.ensures.opened
     c.in-Ok.ensures.ok
     (λ honest b stands e.
-    let k : false ≡ true = (c.in-Ok.ensures.refused honest b stands
-    (backwards_where x (latest_calibration b) e)).0 in
+    let k : false ≡ true = (c.in-Ok.ensures.refused honest b stands e).0 in
     cc) c.in-Ok.ensures.number (λ k. k)
 
 pub returns-in-Err-clause-step : goal.returns-in-Err-clause-step
@@ -23,7 +22,6 @@ returns-in-Err-clause-step g c s =
     refuses_by g.B.Standing s (Calibrate x) (Calibrated x) (λ b. length (calibrations b) + 1)
     (λ b. is_backwards x (latest_calibration b)) c.args.store.now c.calibrate.new.self c.in-Err.fault (record { has = λ o b e h. h; fits = λ b m. m; made = λ call. (refl, (tt, tt)) }) c.in-Err.ensures.refusals
     c.in-Err.ensures.faults c.in-Err.ensures.err c.in-Err.ensures.crash
-    (λ honest b stands e. is_backwards_where x (latest_calibration b)
-    (c.in-Err.ensures.backwards honest b stands (ap Err e)))
+    (λ honest b stands e. c.in-Err.ensures.backwards honest b stands (ap Err e))
     (λ e honest b stands. c.in-Err.ensures.backwards honest b stands (ap Err e))
-    (λ honest b stands e. (c.in-Err.ensures.refused honest b stands (backwards_where x (latest_calibration b) e)).1)
+    (λ honest b stands e. (c.in-Err.ensures.refused honest b stands e).1)

@@ -11,7 +11,7 @@ use Rattle.desk.specs.Obstacles.{Sees, IsUnseen}
 use Rattle.desk.specs.Outcome.{Wanting, all_fine}
 use Rattle.desk.specs.declared.fault.Fault.TheVariants as fault
 use Rattle.desk.proofs.Denied.{looks_as, denied, sight_is_right, untold, told, ungrown}
-use Rattle.desk.proofs.Fitting.{unbroken}
+use Rattle.desk.proofs.Fitting.{none_failed}
 use Rattle.desk.proofs.showing.token_to.Goals as goal
 
 pub returns-in-Err-clause-step : goal.returns-in-Err-clause-step
@@ -47,7 +47,7 @@ returns-clause-step g c =
     let n = c.args.number in
     let o = record (all_fine (Ok [])) { growing = Wanting } in
     looks_as g.B.Standing s (Token a n) c.args.store.now c.see.new.store o (Refused fault.Memory) (refl, (tt, tt))
-    c.in-Ok.ensures.counted (unbroken o tt tt tt tt tt tt tt tt) tt c.in-Ok.ensures.looks
+    c.in-Ok.ensures.counted (none_failed o tt tt tt tt tt tt tt tt) tt c.in-Ok.ensures.looks
     (λ honest b st.
     let sees = subst (λ k. Sees (viewer_in s.file k) n b c.in-Ok.found) c.as_str.ensures.value
     (c.in-Ok.ensures.sees honest b st) in
