@@ -1,4 +1,6 @@
 //! A listener, and those of its connections that are read side by side.
+ghost use Rattle.std.specs.Prelude.{◌≡◌, IfOk};
+
 use crate::closing::Closing;
 use crate::peer::Peer;
 use crate::request::{Progress, Request};
@@ -6,7 +8,6 @@ use crate::waiting::Waiting;
 use mio::unix::SourceFd;
 use mio::{Events, Interest, Poll, Registry, Token};
 use service::Routes;
-use std::alloc::Global;
 use std::io;
 use std::io::ErrorKind;
 use std::net::{Net, Shutdown, TcpListener, TcpStream};
@@ -41,8 +42,10 @@ enum Taken {
 /// A listener, and those of its connections that aren't done with. So many are read side by side, and the next one is
 /// taken once one of them is done with.
 #[derive(Drop)]
-pub struct Listening<'l> {
-    alloc: Global,
+pub struct Listening<'l, R> {
+    pub(crate) rt: &'l R,
+    /// So much time a request has to come, and so much its answer to go out.
+    pub limit: Duration,
     listener: &'l TcpListener,
     poll: Poll,
     events: Events,
@@ -119,21 +122,27 @@ fn lesser(least: Option<Duration>, left: Duration) -> Option<Duration> {
     }
 }
 
-impl<'l> Listening<'l> {
-    /// A listener, of whose connections none is taken yet. From now on it doesn't wait for one. An error where the
-    /// system can't wait for several, or memory runs out.
+impl<'l, R: AllocGlobal + Clock> Listening<'l, R> {
+    /// A listener, of whose connections none is taken yet. From now on it doesn't wait for one. A request has so much
+    /// time to come, and its answer so much to go out. An error where the system can't wait for several, or memory runs
+    /// out.
     pub fn new<N: Net>(
         net: &N,
-        alloc: Global,
+        rt: &'l R,
         listener: &'l TcpListener,
-    ) -> io::Result<Listening<'l>> {
+        limit: Duration,
+    ) -> io::Result<Listening<'l, R>>
+        ensures { IfOk result (λ listening. listening.limit ≡ limit) }
+    {
+        let alloc = rt.alloc();
         listener.set_nonblocking(true)?;
         let poll = Poll::new(net)?;
         let descriptor = listener.as_raw_fd();
         poll.registry()
             .register(&mut SourceFd(&descriptor), LISTENER, Interest::READABLE)?;
         Ok(Listening {
-            alloc,
+            rt,
+            limit,
             listener,
             poll,
             events: Events::with_capacity(alloc, MOST_EVENTS)?,
@@ -147,15 +156,10 @@ impl<'l> Listening<'l> {
     }
 
     /// Waits for the next connection whose request is whole; none for one that failed. At most so many are waited for.
-    pub(crate) fn next<R: Clock>(
-        &mut self,
-        rt: &R,
-        most: usize,
-        limit: Duration,
-    ) -> Option<Waiting> {
+    pub(crate) fn next(&mut self, most: usize) -> Option<Waiting> {
         for _ in 0..u64::MAX {
-            let now = Instant::now(rt).ok()?;
-            if self.take(now, most.min(MOST_WAITING), limit) {
+            let now = Instant::now(self.rt).ok()?;
+            if self.take(now, most.min(MOST_WAITING)) {
                 return None;
             }
             match first_done(&mut self.waiting, &self.routes, self.poll.registry(), now) {
@@ -167,7 +171,7 @@ impl<'l> Listening<'l> {
                 None => {}
             }
             self.close_some(now);
-            self.wait(rt).ok()?;
+            self.wait().ok()?;
         }
         None
     }
@@ -182,13 +186,13 @@ impl<'l> Listening<'l> {
     }
 
     /// Takes the connections that are there, as long as fewer than so many are waited for. Whether one failed.
-    fn take(&mut self, now: Instant, most: usize, limit: Duration) -> bool {
+    fn take(&mut self, now: Instant, most: usize) -> bool {
         self.is_short = false;
         for _ in self.waiting.len()..most {
             if !self.is_ready {
                 return false;
             }
-            match self.take_one(now, limit) {
+            match self.take_one(now) {
                 Taken::One => {}
                 Taken::Failed => return true,
                 Taken::None => return false,
@@ -198,9 +202,9 @@ impl<'l> Listening<'l> {
     }
 
     /// Takes a connection, if one is there.
-    fn take_one(&mut self, now: Instant, limit: Duration) -> Taken {
+    fn take_one(&mut self, now: Instant) -> Taken {
         match self.listener.accept() {
-            Ok((stream, _)) => match self.add(stream, now, limit) {
+            Ok((stream, _)) => match self.add(stream, now) {
                 Ok(()) => Taken::One,
                 Err(_) => Taken::Failed,
             },
@@ -219,23 +223,22 @@ impl<'l> Listening<'l> {
     }
 
     /// Waits for the request of a connection from now on.
-    fn add(&mut self, stream: TcpStream, now: Instant, limit: Duration) -> io::Result<()> {
-        // Where it can't be set, an answer may take longer to go out.
-        let _ = stream.set_nodelay(true);
-        let Some(end) = now.checked_add(limit) else {
+    fn add(&mut self, stream: TcpStream, now: Instant) -> io::Result<()> {
+        let Some(end) = now.checked_add(self.limit) else {
             return Err(io::Error::from(ErrorKind::InvalidInput));
         };
         self.token = self.token.wrapping_add(1);
         self.waiting.push(Waiting {
             peer: Peer::new(stream, Token(self.token), end)?,
-            request: Request::new(self.alloc),
+            request: Request::new(self.rt.alloc()),
         })?;
         Ok(())
     }
 
     /// Ends our side of a connection that was answered, and drops what its client still sends, until that moment.
-    pub(crate) fn close<R: Clock>(&mut self, rt: &R, peer: Peer, end: Instant) -> io::Result<()> {
-        let now = Instant::now(rt)?;
+    pub(crate) fn close(&mut self, waiting: Waiting, end: Instant) -> io::Result<()> {
+        let Waiting { peer, .. } = waiting;
+        let now = Instant::now(self.rt)?;
         peer.stream.shutdown(Shutdown::Write)?;
         peer.stream.set_nonblocking(true)?;
         let Some(closing) = Closing::new(peer.again(end), now) else {
@@ -261,21 +264,21 @@ impl<'l> Listening<'l> {
     }
 
     /// Waits until the connections that are being closed can be.
-    pub(crate) fn finish<R: Clock>(&mut self, rt: &R) {
+    pub(crate) fn finish(&mut self) {
         for _ in 0..u64::MAX {
-            let Ok(now) = Instant::now(rt) else {
+            let Ok(now) = Instant::now(self.rt) else {
                 return;
             };
             self.close_some(now);
-            if self.closing.is_empty() || self.wait(rt).is_err() {
+            if self.closing.is_empty() || self.wait().is_err() {
                 return;
             }
         }
     }
 
     /// Waits until something may be there, or a connection has had its time.
-    fn wait<R: Clock>(&mut self, rt: &R) -> io::Result<()> {
-        let now = Instant::now(rt)?;
+    fn wait(&mut self) -> io::Result<()> {
+        let now = Instant::now(self.rt)?;
         let pause = if self.is_short {
             Some(Duration::from_millis(PAUSE_MILLISECONDS))
         } else {

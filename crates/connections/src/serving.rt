@@ -6,14 +6,12 @@ ghost use Rattle.connections.specs.Turns.{IsTurn};
 use crate::clock::{Clock, ClockFailed};
 use crate::limited::Limited;
 use crate::listening::Listening;
-use crate::request::Request;
 use crate::waiting::Waiting;
 use book::Book;
 use cms::Signer;
 use desk::{Desk, accounts_are_isolated, journeys_keep_their_promises};
-use service::{Exchanged, Routes, Served, serve_octets};
-use std::net::TcpStream;
-use std::time::{Duration, Instant};
+use service::{Arrived, Environment, Exchanged, Served, serve_octets};
+use std::time::Instant;
 
 /// The limit on a connection's time: so many seconds for its request, and so many for its answer.
 pub const CONNECTION_SECONDS: u64 = 20;
@@ -28,11 +26,8 @@ fn rest_until(exchanged: Exchanged, count: usize, end: Option<Instant>) -> Optio
 
 /// Serves a request. Until which moment the connection has to be read further, where it has to be.
 fn serve_request<R: AllocGlobal + std::time::Clock, C: Clock, B: Book + Drop, G: Signer>(
-    rt: &R,
-    routes: &Routes,
-    stream: &TcpStream,
-    request: &Request,
-    limit: Duration,
+    listening: &Listening<'_, R>,
+    waiting: &Waiting,
     clock: &mut C,
     desk: &mut Desk<'_, B>,
     signer: &mut G,
@@ -48,27 +43,25 @@ fn serve_request<R: AllocGlobal + std::time::Clock, C: Clock, B: Book + Drop, G:
         Ok(reading) => reading,
         Err(failed) => return Err(failed),
     };
-    let octets = request.octets();
-    let mut output = Limited::new(rt, stream, limit);
-    let exchanged = serve_octets(
-        rt.alloc(),
-        routes,
-        octets,
-        request.is_ended(),
-        &mut output,
-        desk,
+    let environment = Environment {
+        alloc: listening.rt.alloc(),
+        routes: &listening.routes,
         reading,
-        signer,
-    );
+    };
+    let octets = waiting.request.octets();
+    let arrived = Arrived {
+        octets,
+        is_ended: waiting.request.is_ended(),
+    };
+    let mut output = Limited::new(listening.rt, &waiting.peer.stream, listening.limit);
+    let exchanged = serve_octets(environment, arrived, desk, signer, &mut output);
     Ok(rest_until(exchanged, octets.len(), output.end))
 }
 
 /// Waits for the next connection whose request is whole, and serves it. At most so many are waited for.
 fn serve_connection<R: AllocGlobal + std::time::Clock, C: Clock, B: Book + Drop, G: Signer>(
-    rt: &R,
-    listening: &mut Listening<'_>,
+    listening: &mut Listening<'_, R>,
     most: usize,
-    limit: Duration,
     clock: &mut C,
     desk: &mut Desk<'_, B>,
     signer: &mut G,
@@ -80,14 +73,12 @@ fn serve_connection<R: AllocGlobal + std::time::Clock, C: Clock, B: Book + Drop,
     ensures desk_kept { IfErr result (λ fault. desk.new ≡ desk.old) }
     ensures signer_kept { IfErr result (λ fault. signer.new ≡ signer.old) }
 {
-    let Some(Waiting { peer, request }) = listening.next(rt, most, limit) else {
+    let Some(waiting) = listening.next(most) else {
         return Ok(());
     };
-    let routes = &listening.routes;
-    let stream = &peer.stream;
-    match serve_request(rt, routes, stream, &request, limit, clock, desk, signer) {
+    match serve_request(listening, &waiting, clock, desk, signer) {
         Ok(Some(end)) => {
-            let _ = listening.close(rt, peer, end);
+            let _ = listening.close(waiting, end);
             Ok(())
         }
         Ok(None) => Ok(()),
@@ -97,10 +88,8 @@ fn serve_connection<R: AllocGlobal + std::time::Clock, C: Clock, B: Book + Drop,
 
 /// Serves so many connections.
 fn serve_each<R: AllocGlobal + std::time::Clock, C: Clock, B: Book + Drop, G: Signer>(
-    rt: &R,
-    listening: &mut Listening<'_>,
+    listening: &mut Listening<'_, R>,
     count: u32,
-    limit: Duration,
     clock: &mut C,
     desk: &mut Desk<'_, B>,
     signer: &mut G,
@@ -113,12 +102,12 @@ fn serve_each<R: AllocGlobal + std::time::Clock, C: Clock, B: Book + Drop, G: Si
 {
     for done in 0..count {
         let most = (count - done) as usize;
-        match serve_connection(rt, listening, most, limit, clock, desk, signer) {
+        match serve_connection(listening, most, clock, desk, signer) {
             Ok(()) => {}
             Err(fault) => return Err(fault),
         }
     }
-    listening.finish(rt);
+    listening.finish();
     Ok(())
 }
 
@@ -127,17 +116,15 @@ fn serve_each<R: AllocGlobal + std::time::Clock, C: Clock, B: Book + Drop, G: Si
 /// One that fails counts too, also where it was given up before it could be taken. Where the system has no descriptor
 /// for one, it is tried again after 50 milliseconds.
 ///
-/// A request has so much time to come, from when its connection is taken, and its answer so much to go out, from when
-/// it begins; what isn't done by then fails. The clock is asked once for each request, when it is there. Where a client
-/// may still send behind the answer, that is read and dropped for a while, so that the answer isn't lost; the call ends
-/// once the last of these is closed.
+/// A request has the listening's time to come, from when its connection is taken, and its answer as much to go out,
+/// from when it begins; what isn't done by then fails. The clock is asked once for each request, when it is there.
+/// Where a client may still send behind the answer, that is read and dropped for a while, so that the answer isn't lost;
+/// the call ends once the last of these is closed.
 ///
 /// `ClockFailed` where the clock fails: the connection is closed then without an answer, and no further one served.
 pub fn serve_connections<R: AllocGlobal + std::time::Clock, C: Clock, B: Book + Drop, G: Signer>(
-    rt: &R,
-    listening: &mut Listening<'_>,
+    listening: &mut Listening<'_, R>,
     count: u32,
-    limit: Duration,
     clock: &mut C,
     desk: &mut Desk<'_, B>,
     signer: &mut G,
@@ -150,5 +137,5 @@ pub fn serve_connections<R: AllocGlobal + std::time::Clock, C: Clock, B: Book + 
 {
     journeys_keep_their_promises();
     accounts_are_isolated::<G>();
-    serve_each(rt, listening, count, limit, clock, desk, signer)
+    serve_each(listening, count, clock, desk, signer)
 }

@@ -15,10 +15,9 @@ fn told(rt: &HostRuntime, octets: &[u8], readings: u32) -> Result<Vec<u8>, Fail>
     let mut stream = client(rt, &listener, octets)?;
     stream.shutdown(Shutdown::Write)?;
     ends_well(serving(
-        rt,
-        &mut taking(rt, &listener)?,
+        rt.alloc(),
+        &mut taking(rt, rt, &listener, long())?,
         1,
-        long(),
         readings,
         &mut keyed(rt.alloc())?,
     )?)?;

@@ -74,36 +74,37 @@ pub fn keyed(alloc: Global) -> Result<KeyedHash, Fail> {
 }
 
 fn serve<R: AllocGlobal + std::time::Clock, C: Clock, B: Book + Drop, G: Signer>(
-    rt: &R,
-    listening: &mut Listening<'_>,
+    listening: &mut Listening<'_, R>,
     count: u32,
-    limit: Duration,
     clock: &mut C,
     desk: &mut Desk<'_, B>,
     signer: &mut G,
 ) -> Result<(), ClockFailed> {
-    serve_connections(rt, listening, count, limit, clock, desk, signer)
+    serve_connections(listening, count, clock, desk, signer)
 }
 
-/// A listener of whose connections none is taken yet.
-pub fn taking<'l>(rt: &HostRuntime, listener: &'l TcpListener) -> Result<Listening<'l>, Fail> {
-    Ok(Listening::new(rt, rt.alloc(), listener)?)
+/// A listener of whose connections none is taken yet, and which have so much time by a clock.
+pub fn taking<'l, R: AllocGlobal + std::time::Clock>(
+    net: &HostRuntime,
+    rt: &'l R,
+    listener: &'l TcpListener,
+    limit: Duration,
+) -> Result<Listening<'l, R>, Fail> {
+    Ok(Listening::new(net, rt, listener, limit)?)
 }
 
 /// Serves so many connections by a desk of its own: how that ends.
 pub fn serving<R: AllocGlobal + std::time::Clock, G: Signer>(
-    rt: &R,
-    listening: &mut Listening<'_>,
+    alloc: Global,
+    listening: &mut Listening<'_, R>,
     count: u32,
-    limit: Duration,
     readings: u32,
     signer: &mut G,
 ) -> Result<Result<(), ClockFailed>, Fail> {
-    let alloc = rt.alloc();
     let setting = example(alloc)?;
     let mut desk = calibrated(alloc, &setting)?;
     let mut clock = FixedClock { left: readings };
-    Ok(serve(rt, listening, count, limit, &mut clock, &mut desk, signer))
+    Ok(serve(listening, count, &mut clock, &mut desk, signer))
 }
 
 /// Sees that the clock didn't fail.
@@ -155,10 +156,9 @@ pub fn exchange<G: Signer>(
     let clients = clients(rt, &listener, rows)?;
     let count = u32::try_from(rows.len())?;
     let ended = serving(
-        rt,
-        &mut taking(rt, &listener)?,
+        rt.alloc(),
+        &mut taking(rt, rt, &listener, limit)?,
         count,
-        limit,
         readings,
         signer,
     )?;

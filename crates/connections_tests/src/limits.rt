@@ -48,10 +48,9 @@ fn told(rt: &HostRuntime, before: &[u8], octets: &[u8], step: Duration) -> Resul
         looks: Cell::new(0),
     };
     ends_well(serving(
-        &(machine, alloc),
-        &mut taking(rt, &listener)?,
+        alloc,
+        &mut taking(rt, &(machine, alloc), &listener, long())?,
         1,
-        long(),
         1,
         &mut keyed(alloc)?,
     )?)?;

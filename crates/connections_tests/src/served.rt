@@ -88,10 +88,9 @@ fn tells_it_before_the_body(rt: HostRuntime) -> Result<(), Fail> {
     let head: &[u8] = b"POST /tsp HTTP/1.1\r\nContent-Length: 1048577\r\n\r\n";
     let mut stream = client(&rt, &listener, head)?;
     ends_well(serving(
-        &rt,
-        &mut taking(&rt, &listener)?,
+        rt.alloc(),
+        &mut taking(&rt, &rt, &listener, short())?,
         1,
-        short(),
         1,
         &mut keyed(rt.alloc())?,
     )?)?;

@@ -1,7 +1,7 @@
 -- By what the words have requests judged and answered.
 use Rattle.std.specs.Prelude.{◌≡◌, ℕ, ◌≤◌, List, [], length, None, Ok, Result}
 use Rattle.cms.specs.Certificate.{CertificateParts, IsCertificate, identity_with}
-use Rattle.cms.specs.Chain.{AreFurther}
+use Rattle.cms.specs.Chain.{AreFurtherCertificates}
 use Rattle.cms.specs.Identity.{IdentityValue}
 use Rattle.command_line.specs.declared.words.DeskWords.{DeskWords}
 use Rattle.command_line.specs.declared.words.ServeWords.{ServeWords}
@@ -21,7 +21,7 @@ pub record IsIdentity (identity : IdentityValue) : Type 0 where
   pub is : IsCertificate certificate parts
   pub short : length certificate ≤ 16384
   pub further : List (List ℕ)
-  pub chained : AreFurther certificate further
+  pub chained : AreFurtherCertificates certificate further
   pub same : identity ≡ identity_with certificate further parts
 
 -- by a policy that some text means, an identity, whose chain is empty where the words name none, and the algorithm of

@@ -1,5 +1,6 @@
 -- What an operator adds to the history.
-use Rattle.std.specs.Prelude.{◌≡◌, ◌⊎◌, ◌∷◌, ◌+◌, ℕ, length, IfOk, IsErr, OnErr, OnOk, Result, Err}
+use Rattle.std.specs.Prelude.{◌≡◌, ◌⊎◌, ◌∷◌, ◌+◌, ℕ, length, IfOk, IsErr, MatchResult, OnErr, OnOk, Result, Err}
+use Rattle.book.specs.Fault.{count_after}
 use Rattle.book.specs.History.{Entry, History, Calibrated, Held, calibrations, holds, latest_calibration}
 use Rattle.book.specs.Sound.{Fits, IsBackwards}
 use Rattle.book.specs.Stands.{LeavesAsBefore, LeavesOrAdds, Stands}
@@ -30,8 +31,9 @@ IsBefore (Hold hold) b = ⊥
 
 -- From each history that the book stood for and that the entry fits, it stands for that history with the entry once it
 -- is added, and for the same history where that is refused; a stop leaves what it could leave before, or the former.
--- What was added is acknowledged by an open book, with its number. While it returns what was written, it is told to be before the latest
--- exactly where it is, and nothing is added then.
+-- What was added is acknowledged by an open book, with its number. While it returns what was written, it is told to be
+-- before the latest only where it is; nothing is added where it is. The database is named exactly where a fault was
+-- counted, whatever it returns.
 pub record IsAdded {X : Type 0} (g : Ghosts X) (addition : Addition) (old new : X) (done : Result ℕ StoreFault)
     : Type 0 where
   pub ok : (b : History) → Stands g b old → Fits (entry_of addition) b
@@ -43,3 +45,5 @@ pub record IsAdded {X : Type 0} (g : Ghosts X) (addition : Addition) (old new : 
   pub backwards : g.honest new → (b : History) → Stands g b old → done ≡ Err Backwards → IsBefore addition b
   pub refused : g.honest new → (b : History) → Stands g b old → IsBefore addition b
       → IsErr done × LeavesAsBefore g old new
+  pub faults : MatchResult done (λ _. g.fault_count new ≡ g.fault_count old)
+      (λ e. g.fault_count new ≡ count_after e (g.fault_count old))

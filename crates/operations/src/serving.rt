@@ -125,11 +125,11 @@ fn serve_at<B: Book + Drop, G: Signer, C: Clock>(
     ensures honest { B.honest desk.new.store → B.honest desk.old.store }
     ensures refusals { IfErr result IsServingFault }
 {
-    let Ok(mut listening) = Listening::new(rt, rt.alloc(), listener) else {
+    let limit = Duration::from_secs(CONNECTION_SECONDS);
+    let Ok(mut listening) = Listening::new(rt, rt, listener, limit) else {
         return Err(OperationFault::Unheard);
     };
-    let limit = Duration::from_secs(CONNECTION_SECONDS);
-    match serve_connections(rt, &mut listening, connections, limit, clock, desk, signer) {
+    match serve_connections(&mut listening, connections, clock, desk, signer) {
         Ok(()) => Ok(()),
         Err(_) => Err(OperationFault::Clock),
     }

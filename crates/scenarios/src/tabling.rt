@@ -7,8 +7,8 @@ use crate::words::Words;
 use book::Reservation;
 use sqlite::Connection;
 use tables::{
-    Base, Change, Deposit, Label, LastStamp, LatestCalibration, OpenFault, Origin, Stamp,
-    TableFault,
+    Base, Change, ColumnNumber, Deposit, Label, LastStamp, LatestCalibration, OpenFault, Origin,
+    Stamp, TableFault,
 };
 
 /// The tables of a scenario.
@@ -162,7 +162,7 @@ fn greatest_stamp(base: &mut Tables) -> Result<Option<LastStamp>, TableFault> {
 
 fn tally(base: &mut Tables, words: &mut Words<'_>) -> Result<Option<u64>, TableFault> {
     let account = words.next();
-    base.tally(account, words.number())
+    base.tally(account, ColumnNumber::at_most(words.number()))
 }
 
 fn found(base: &mut Tables, words: &mut Words<'_>) -> Result<Option<Deposit>, TableFault> {
@@ -221,8 +221,8 @@ fn origin(base: &mut Tables, words: &mut Words<'_>) -> Result<Option<Origin>, Ta
 }
 
 fn next_stamp(base: &mut Tables, words: &mut Words<'_>) -> Result<Option<Stamp>, TableFault> {
-    let from = words.number();
-    base.next_stamp(from, words.number())
+    let from = ColumnNumber::at_most(words.number());
+    base.next_stamp(from, ColumnNumber::at_most(words.number()))
 }
 
 fn tell_found(printer: Printer<'_>, answer: Result<Option<Stamp>, TableFault>) {

@@ -52,17 +52,9 @@ acting h p = given_or (refusal.Method p) (action_of p h.method)
 abbrev pub has_body : Action → Bool
 has_body action.Stamp = true
 has_body action.Keep = true
-has_body action.List = false
-has_body action.Show = false
-has_body action.Token = false
-has_body action.Grant = false
-has_body action.Revoke = false
-has_body action.GrantGroup = false
-has_body action.RevokeGroup = false
-has_body action.Extract = false
 has_body action.Calibrate = true
 has_body action.Hold = true
-has_body action.Status = false
+has_body other = false
 
 -- the most octets of a body
 abbrev pub most_body : ℕ
@@ -92,18 +84,7 @@ stated_query h = do
 
 abbrev pub is_stamp : Action → Bool
 is_stamp action.Stamp = true
-is_stamp action.Keep = false
-is_stamp action.List = false
-is_stamp action.Show = false
-is_stamp action.Token = false
-is_stamp action.Grant = false
-is_stamp action.Revoke = false
-is_stamp action.GrantGroup = false
-is_stamp action.RevokeGroup = false
-is_stamp action.Extract = false
-is_stamp action.Calibrate = false
-is_stamp action.Hold = false
-is_stamp action.Status = false
+is_stamp other = false
 
 -- a type is asked of a time-stamp request alone
 abbrev pub typed : HeadValue → Action → Result (Unit {0}) Refusal

@@ -1,13 +1,15 @@
 -- What reads of a request give. The known octets of a reader are those that it has left; nothing is said of a reader
 -- that doesn't tell them.
-use Rattle.std.specs.Prelude.{◌≡◌, ℕ, ◌<◌, List, [], ◌∷◌, length, take, Option}
+use Rattle.std.specs.Prelude.{◌≡◌, ℕ, ◌<◌, ℤ, List, [], ◌∷◌, length, take, Option, Err}
 use Rattle.std.specs.Io.KnownBytes.{Consumes, IsAtEnd}
 use Rattle.httparse.specs.Grammar.{RequestHead, print_request, HasNoRequest, MayBecomeRequest}
 use Rattle.httparse.specs.Spans.{IsRequestWithin, IsRequestAt, IsRequestOf, RequestOverflows}
 use Rattle.httparse.specs.declared.spans.HeaderSpan.{HeaderSpan}
 use Rattle.httparse.specs.declared.spans.RequestSpans.{RequestSpans}
-use Rattle.service.specs.Heads.{most_fields, IsHead, IsBegun, IsHeadless}
+use Rattle.policy.specs.Record.{PolicyValue}
+use Rattle.service.specs.Heads.{HeadValue, most_fields, IsHead, IsBegun, IsHeadless}
 use Rattle.service.specs.Lines.{IsAt}
+use Rattle.service.specs.Requests.{IsRequest, IsPart, IsEarly, asked_by}
 use Rattle.service.specs.declared.reading.OctetRead.{OctetRead}
 use Rattle.service.specs.declared.reading.OctetRead.TheVariants as octet
 use Rattle.service.specs.declared.reading.HeadRead.{HeadRead}
@@ -16,6 +18,8 @@ use Rattle.service.specs.declared.reading.Look.{Look}
 use Rattle.service.specs.declared.reading.Look.TheVariants as look
 use Rattle.service.specs.declared.reading.BodyRead.{BodyRead}
 use Rattle.service.specs.declared.reading.BodyRead.TheVariants as body
+use Rattle.service.specs.declared.serving.RequestRead.{RequestRead}
+use Rattle.service.specs.declared.serving.RequestRead.TheVariants as request
 
 abbrev pub GivesOctet : Option (List ℕ) → Option (List ℕ) → OctetRead → Type 0
 GivesOctet old new (octet.Given given) = Consumes old new (given ∷ [])
@@ -63,3 +67,11 @@ abbrev pub ReadsBody : Option (List ℕ) → Option (List ℕ) → List ℕ → 
 ReadsBody old new octets body.Whole = Consumes old new octets
 ReadsBody old new octets body.Cut = TakesFewer old new (length octets) × IsAtEnd new
 ReadsBody old new octets body.Failed = TakesFewer old new (length octets)
+
+-- what was read of a request, with its head, and no octet behind it
+abbrev pub ReadsRequest : PolicyValue → ℤ → Option (List ℕ) → Option (List ℕ) → HeadValue → RequestRead → Type 0
+ReadsRequest file reading old new h (request.Refused refusal) = IsRequest file reading old new (Err refusal)
+ReadsRequest file reading old new h request.Wanting = IsEarly old new
+ReadsRequest file reading old new h request.Failed = IsPart old new
+ReadsRequest file reading old new h (request.Whole action octets) =
+    IsRequest file reading old new (asked_by file reading h octets.items action)

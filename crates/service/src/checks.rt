@@ -155,7 +155,7 @@ pub(crate) fn account_and_number<'a>(
         Ok(account) => account,
         Err(refusal) => return Err(refusal),
     };
-    match number_stated(context.routes, context.head) {
+    match number_stated(context.environment.routes, context.head) {
         Ok(number) => Ok((account, number)),
         Err(refusal) => Err(refusal),
     }
@@ -174,7 +174,7 @@ pub(crate) fn account_and_range<'a>(
         Ok(account) => account,
         Err(refusal) => return Err(refusal),
     };
-    match range_stated(context.routes, context.head) {
+    match range_stated(context.environment.routes, context.head) {
         Ok((from, to)) => Ok((account, from, to)),
         Err(refusal) => Err(refusal),
     }

@@ -1,9 +1,10 @@
 //! The forms of operators (URL Standard 5.1).
 ghost use Rattle.std.specs.Prelude.{◌≡◌, ◌≤◌, length, option_map, IfOk};
 ghost use Rattle.form_urlencoded.specs.Form.{raw_pairs};
+ghost use Rattle.book.specs.Sound.{greatest_number};
 ghost use Rattle.book.specs.Values.{calibration_view, hold_view};
 ghost use Rattle.service.specs.Forms.{field_of, field_stated, fields_counted, calibration_stated, hold_stated};
-ghost use Rattle.service.specs.Numbers.{micros_in, signed_in, greatest};
+ghost use Rattle.service.specs.Numbers.{micros_in, signed_in};
 ghost use Rattle.service.specs.Views.{result_by};
 
 use crate::numbers::{micros_in, signed_in};
@@ -52,7 +53,7 @@ fn check_count(form: &[u8], count: usize) -> Result<(), Refusal>
 /// The number of microseconds that a field states.
 fn micros(form: &[u8], name: &str) -> Result<u64, Refusal>
     ensures value { result ≡ field_stated micros_in name.now form.now }
-    ensures few { IfOk result (λ n. n ≤ greatest) }
+    ensures few { IfOk result (λ n. n ≤ greatest_number) }
 {
     let Some(value) = field_of(form, name) else {
         return Err(Refusal::BadField);

@@ -26,8 +26,9 @@ mod wanted;
 mod writing;
 
 pub use answer::Media;
+pub use context::Environment;
 pub use extent::{Extent, extent_of};
-pub use octets::{Exchanged, serve_octets};
+pub use octets::{Arrived, Exchanged, serve_octets};
 pub use reading::MOST_OCTETS;
 pub use refusal::Refusal;
 pub use routes::{Place, Routes};

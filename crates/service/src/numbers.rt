@@ -3,11 +3,11 @@ ghost use Rattle.std.specs.Prelude.{◌≡◌, ◌≤◌, ◌<◌, length, IsTru
 ghost use Rattle.std.specs.Char.{is_ascii_digit};
 ghost use Rattle.std.specs.List.{list_all};
 ghost use Rattle.std.specs.Str.Parse.{digits_value};
-ghost use Rattle.service.specs.Numbers.{is_digits, length_in, number_in, micros_in, signed_in, greatest};
+ghost use Rattle.book.specs.Sound.{greatest_number};
+ghost use Rattle.service.specs.Numbers.{is_digits, length_in, number_in, micros_in, signed_in};
 ghost use Rattle.service.specs.Numbers.{is_reference, is_reference_octet};
 
-/// The greatest number of a deposit.
-const GREATEST: u64 = (1 << 63) - 1;
+use book::GREATEST_NUMBER;
 
 fn is_digit(octet: u8) -> bool
     ensures { result ≡ is_ascii_digit octet }
@@ -63,7 +63,7 @@ pub(crate) fn number_in(octets: &[u8]) -> Option<u64>
         return None;
     }
     let number = digits_value(octets);
-    if number <= GREATEST {
+    if number <= GREATEST_NUMBER {
         Some(number)
     } else {
         None
@@ -73,13 +73,13 @@ pub(crate) fn number_in(octets: &[u8]) -> Option<u64>
 /// A number of microseconds, 0 to 2^63 - 1.
 pub(crate) fn micros_in(octets: &[u8]) -> Option<u64>
     ensures value { result ≡ micros_in octets.now }
-    ensures few { IfSome result (λ n. n ≤ greatest) }
+    ensures few { IfSome result (λ n. n ≤ greatest_number) }
 {
     if !is_digits(19, octets) {
         return None;
     }
     match digits_value(octets) {
-        number if number <= GREATEST => Some(number),
+        number if number <= GREATEST_NUMBER => Some(number),
         _ => None,
     }
 }

@@ -1,18 +1,20 @@
 //! One request and its answer.
-ghost use Rattle.std.specs.Prelude.{◌≡◌, ℕ, List, Option};
+ghost use Rattle.std.specs.Prelude.{◌≡◌, ℕ, ℤ, List, Option};
 ghost use Rattle.std.specs.Io.KnownBytes.{Consumes};
 ghost use Rattle.httparse.specs.Grammar.{RequestHead, print_request};
+ghost use Rattle.policy.specs.Record.{PolicyValue};
 ghost use Rattle.service.specs.Heads.{IsHead, head_value};
+ghost use Rattle.service.specs.Reading.{ReadsRequest};
 ghost use Rattle.service.specs.Served.{Serves};
 ghost use Rattle.service.specs.Views.{head_view, IsInPlace};
 
-use crate::context::Context;
+use crate::context::{Context, Environment};
 use crate::handlers::handle;
 use crate::head::{Head, head_at};
 use crate::reading::{BodyRead, HeadRead, MOST_FIELDS, MOST_OCTETS, read_body, read_head};
 use crate::refusal::Refusal;
 use crate::responding::{refuse, wanting};
-use crate::routes::Routes;
+use crate::routes::{Action, Routes};
 use crate::served::Served;
 use crate::wanted::wanted_by;
 use book::Book;
@@ -22,53 +24,44 @@ use httparse::spans::EMPTY_HEADER_SPAN;
 use std::alloc::Global;
 use std::io::{Read, Write};
 
-/// Reads the body of a request whose head was read, and answers it.
-fn serve_head<R: Read, W: Write, B: Book + Drop, G: Signer>(
+/// What was read of a request whose head was.
+#[derive(Drop)]
+pub(crate) enum RequestRead {
+    /// A check of its head fails, or the input ended inside its body.
+    Refused(Refusal),
+    /// Memory is wanting for its body, of which nothing was read.
+    Wanting,
+    /// A read failed.
+    Failed,
+    /// All of it: what it asks for, and its body.
+    Whole(Action, Vec<u8>),
+}
+
+/// Reads the body of a request whose head was read.
+fn read_request<R: Read>(
     alloc: Global,
     routes: &Routes,
     reader: &mut R,
-    writer: &mut W,
-    desk: &mut Desk<'_, B>,
-    reading: i64,
-    signer: &mut G,
     head: Head<'_>,
-) -> Served
+) -> RequestRead
     requires { IsInPlace head }
-    ensures setting { desk.new.setting ≡ desk.old.setting }
-    ensures honest { B.honest desk.new.store → B.honest desk.old.store }
-    ensures served { (before : Option (List ℕ)) (h : RequestHead) → IsHead (print_request h) h
+    ensures { (before : Option (List ℕ)) (h : RequestHead) → IsHead (print_request h) h
         → head_view head.entry ≡ head_value h → Consumes before (R.remaining reader.old) (print_request h)
-        → Serves B.Standing G.signs G.fault_count W.contents reading (record {
-          input = before;
-          input_after = R.remaining reader.new;
-          writer = writer.old;
-          writer_after = writer.new;
-          desk = desk.old;
-          desk_after = desk.new;
-          signer = signer.old;
-          signer_after = signer.new;
-        }) result }
+        → (file : PolicyValue) (reading : ℤ)
+        → ReadsRequest file reading before (R.remaining reader.new) (head_view head.entry) result }
 {
     let wanted = match wanted_by(routes, head) {
         Ok(wanted) => wanted,
-        Err(refusal) => return refuse(writer, refusal),
+        Err(refusal) => return RequestRead::Refused(refusal),
     };
     let Ok(mut body) = vec![in alloc; 0u8; wanted.count as usize] else {
-        return wanting(writer);
+        return RequestRead::Wanting;
     };
     match read_body(reader, body.as_mut_slice()) {
-        BodyRead::Whole => {}
-        BodyRead::Cut => return refuse(writer, Refusal::BadRequest),
-        BodyRead::Failed => return Served::ReadFailed,
+        BodyRead::Whole => RequestRead::Whole(wanted.action, body),
+        BodyRead::Cut => RequestRead::Refused(Refusal::BadRequest),
+        BodyRead::Failed => RequestRead::Failed,
     }
-    let context = Context {
-        alloc,
-        routes,
-        reading,
-        head,
-        body: &body,
-    };
-    handle(wanted.action, context, desk, signer, writer)
 }
 
 /// Reads one request, has the desk take the one step that it asks for, and writes one answer (RFC 9112, RFC 3161 3.4).
@@ -116,5 +109,22 @@ pub fn serve_one<R: Read, W: Write, B: Book + Drop, G: Signer>(
         HeadRead::Whole(spans) => spans,
     };
     let head = head_at(&room, &headers, spans);
-    serve_head(alloc, &routes, reader, writer, desk, reading, signer, head)
+    match read_request(alloc, &routes, reader, head) {
+        RequestRead::Refused(refusal) => refuse(writer, refusal),
+        RequestRead::Wanting => wanting(writer),
+        RequestRead::Failed => Served::ReadFailed,
+        RequestRead::Whole(action, body) => {
+            let environment = Environment {
+                alloc,
+                routes: &routes,
+                reading,
+            };
+            let context = Context {
+                environment,
+                head,
+                body: &body,
+            };
+            handle(action, context, desk, signer, writer)
+        }
+    }
 }

@@ -44,16 +44,8 @@ fn serve_at(rt: &HostRuntime, listener: &TcpListener, count: u32) -> anyhow::Res
         Err((fault, _)) => return Err(fault.into()),
     };
     let limit = Duration::from_secs(CONNECTION_SECONDS);
-    let mut listening = Listening::new(rt, alloc, listener)?;
-    serve_connections(
-        rt,
-        &mut listening,
-        count,
-        limit,
-        &mut clock,
-        &mut desk,
-        &mut signer,
-    )?;
+    let mut listening = Listening::new(rt, rt, listener, limit)?;
+    serve_connections(&mut listening, count, &mut clock, &mut desk, &mut signer)?;
     Ok(())
 }
 

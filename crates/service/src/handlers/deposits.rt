@@ -33,7 +33,13 @@ pub(crate) fn keep<W: Write, B: Book + Drop, G: Signer>(
         Ok(asked) => asked,
         Err(refusal) => return refuse(writer, refusal),
     };
-    match desk.deposit(account, context.reading, reference, context.body, signer) {
+    match desk.deposit(
+        account,
+        context.environment.reading,
+        reference,
+        context.body,
+        signer,
+    ) {
         Ok(deposited) => write_deposited(writer, deposited),
         Err(fault) => refuse(writer, Refusal::from(fault)),
     }
@@ -60,7 +66,7 @@ pub(crate) fn list<W: Write, B: Book + Drop, G: Signer>(
         Ok(rows) => rows,
         Err(fault) => return refuse(writer, Refusal::from(fault)),
     };
-    match listed_lines(context.alloc, &rows) {
+    match listed_lines(context.environment.alloc, &rows) {
         Some(lines) => succeed(writer, Media::Text, &lines),
         None => wanting(writer),
     }

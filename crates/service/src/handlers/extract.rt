@@ -31,5 +31,5 @@ pub(crate) fn extract_stamps<W: Write, B: Book + Drop, G: Signer>(
         Ok(asked) => asked,
         Err(refusal) => return refuse(writer, refusal),
     };
-    serve_extract(context.alloc, writer, desk, account, from, to)
+    serve_extract(context.environment.alloc, writer, desk, account, from, to)
 }

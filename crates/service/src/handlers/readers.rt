@@ -30,7 +30,10 @@ pub(crate) fn grant<W: Write, B: Book + Drop, G: Signer>(
         Ok(asked) => asked,
         Err(refusal) => return refuse(writer, refusal),
     };
-    let name = context.routes.parameter(context.head.target, "name");
+    let name = context
+        .environment
+        .routes
+        .parameter(context.head.target, "name");
     let outcome = desk.grant(account, number, name);
     write_done(writer, outcome)
 }
@@ -52,7 +55,10 @@ pub(crate) fn revoke<W: Write, B: Book + Drop, G: Signer>(
         Ok(asked) => asked,
         Err(refusal) => return refuse(writer, refusal),
     };
-    let name = context.routes.parameter(context.head.target, "name");
+    let name = context
+        .environment
+        .routes
+        .parameter(context.head.target, "name");
     let outcome = desk.revoke(account, number, name);
     write_done(writer, outcome)
 }

@@ -32,5 +32,11 @@ pub(crate) fn tell_status<W: Write, B: Book + Drop, G: Signer>(
         Err(refusal) => return refuse(writer, refusal),
     }
     let faults = signer.faults();
-    serve_status(context.alloc, writer, desk, context.reading, faults)
+    serve_status(
+        context.environment.alloc,
+        writer,
+        desk,
+        context.environment.reading,
+        faults,
+    )
 }

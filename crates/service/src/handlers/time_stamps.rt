@@ -30,6 +30,6 @@ pub(crate) fn stamp<W: Write, B: Book + Drop, G: Signer>(
         Ok(asked) => asked,
         Err(refusal) => return refuse(writer, refusal),
     };
-    let reply = desk.answer(account, context.reading, context.body, signer);
+    let reply = desk.answer(account, context.environment.reading, context.body, signer);
     write_reply(writer, &reply)
 }

@@ -1,5 +1,5 @@
 use Rattle.std.proofs.Common.{◌≡◌, ◌∙◌, ℕ, ◌≤◌, List, [], length, take, ap, arith, inr, refl, rules}
-use Rattle.std.proofs.Common.{ℤ, SFits, subst, sym, to_z-of_z, w64}
+use Rattle.std.proofs.Common.{subst, sym}
 use Rattle.std.proofs.lemmas.List.{take_all, length-take}
 use Rattle.std.specs.Io.KnownBytes.{Consumes}
 use Rattle.service.specs.Fronts.{first_octets, BeginsAt, IsFront}
@@ -21,20 +21,20 @@ serve_front-requires-clause-begins g c =
 
 pub returns-then-not-is_ended-clause-served : goal.returns-then-not-is_ended-clause-served
 returns-then-not-is_ended-clause-served g c = λ before after read ended.
-    let octets = c.args.octets.now in
+    let octets = c.args.arrived.octets.now in
     let P : List ℕ → Type 0 = λ l. Consumes before after l in
     let none : P [] = subst P (ap (λ n. take n octets) c.part.ensures.taken) read in
     let t = turn before after c.args.writer.now c.wanting.new.writer c.args.desk.now c.args.desk.now c.args.signer.now
     c.args.signer.now in
     let S : Served → Type 0 =
-    λ s. Serves g.B.Standing g.G.Signer.signs g.G.Signer.fault_count g.W.Write.contents c.args.reading t s in
+    λ s. Serves g.B.Standing g.G.Signer.signs g.G.Signer.fault_count g.W.Write.contents c.args.environment.reading t s in
     subst S (sym c.part.ensures.served)
-    (wanting_early g.B.Standing g.G.Signer.signs g.G.Signer.fault_count g.W.Write.contents c.args.reading t
+    (wanting_early g.B.Standing g.G.Signer.signs g.G.Signer.fault_count g.W.Write.contents c.args.environment.reading t
     c.wanting.result (nothing none) (record { desk = refl; signer = refl }) c.wanting.ensures)
 
 pub returns-then-is_empty-clause-served : goal.returns-then-is_empty-clause-served
 returns-then-is_empty-clause-served g c = λ before after read ended.
-    let octets = c.args.octets.now in
+    let octets = c.args.arrived.octets.now in
     let P : List ℕ → Type 0 = λ l. Consumes before after l in
     let taken = c.part-then-is_empty.ensures.taken in
     let none : P [] = subst P (ap (λ n. take n octets) taken) read in
@@ -42,7 +42,7 @@ returns-then-is_empty-clause-served g c = λ before after read ended.
     let t = turn before after c.args.writer.now c.args.writer.now c.args.desk.now c.args.desk.now c.args.signer.now
     c.args.signer.now in
     let S : Served → Type 0 =
-    λ s. Serves g.B.Standing g.G.Signer.signs g.G.Signer.fault_count g.W.Write.contents c.args.reading t s in
+    λ s. Serves g.B.Standing g.G.Signer.signs g.G.Signer.fault_count g.W.Write.contents c.args.environment.reading t s in
     subst S (sym c.part-then-is_empty.ensures.served) (
       none,
       ended (search rules) (taken ∙ empty),
@@ -51,7 +51,7 @@ returns-then-is_empty-clause-served g c = λ before after read ended.
 
 pub returns-else-is_empty-clause-served : goal.returns-else-is_empty-clause-served
 returns-else-is_empty-clause-served g c = λ before after read ended.
-    let octets = c.args.octets.now in
+    let octets = c.args.arrived.octets.now in
     let F : List ℕ → Type 0 = λ l. IsFront l c.front_of.new.headers front.Open in
     let is : F (first_octets octets) = subst F c.first_octets-first.ensures.value c.in-Open.ensures in
     let taken = c.part-in-Open.ensures.taken in
@@ -62,16 +62,16 @@ returns-else-is_empty-clause-served g c = λ before after read ended.
     let t = turn before after c.args.writer.now c.refuse.new.writer c.args.desk.now c.args.desk.now c.args.signer.now
     c.args.signer.now in
     let S : Served → Type 0 =
-    λ s. Serves g.B.Standing g.G.Signer.signs g.G.Signer.fault_count g.W.Write.contents c.args.reading t s in
+    λ s. Serves g.B.Standing g.G.Signer.signs g.G.Signer.fault_count g.W.Write.contents c.args.environment.reading t s in
     subst S (sym c.part-in-Open.ensures.served)
-    (refusing g.B.Standing g.G.Signer.signs g.G.Signer.fault_count g.W.Write.contents c.args.reading t BadRequest
+    (refusing g.B.Standing g.G.Signer.signs g.G.Signer.fault_count g.W.Write.contents c.args.environment.reading t BadRequest
     c.refuse.result
     (cut_head octets some (begun_all octets is.0 (inr is.1) is.2) consumed (ended (search rules) taken) refl)
     (record { desk = refl; signer = refl }) c.refuse.ensures)
 
 pub returns-in-Long-clause-served : goal.returns-in-Long-clause-served
 returns-in-Long-clause-served g c = λ before after read ended.
-    let octets = c.args.octets.now in
+    let octets = c.args.arrived.octets.now in
     let first = first_octets octets in
     let F : List ℕ → Type 0 = λ l. IsFront l c.front_of.new.headers front.Long in
     let is : F first = subst F c.first_octets-first.ensures.value c.in-Long.ensures in
@@ -84,15 +84,15 @@ returns-in-Long-clause-served g c = λ before after read ended.
     let t = turn before after c.args.writer.now c.refuse-in-Long.new.writer c.args.desk.now c.args.desk.now
     c.args.signer.now c.args.signer.now in
     let S : Served → Type 0 =
-    λ s. Serves g.B.Standing g.G.Signer.signs g.G.Signer.fault_count g.W.Write.contents c.args.reading t s in
+    λ s. Serves g.B.Standing g.G.Signer.signs g.G.Signer.fault_count g.W.Write.contents c.args.environment.reading t s in
     subst S (sym c.part-in-Long.ensures.served)
-    (refusing g.B.Standing g.G.Signer.signs g.G.Signer.fault_count g.W.Write.contents c.args.reading t BadRequest
+    (refusing g.B.Standing g.G.Signer.signs g.G.Signer.fault_count g.W.Write.contents c.args.environment.reading t BadRequest
     c.refuse-in-Long.result (headless first (headless_by_limit first is.2 is.0 (inr is.1)) consumed refl)
     (record { desk = refl; signer = refl }) c.refuse-in-Long.ensures)
 
 pub returns-in-Spoiled-clause-served : goal.returns-in-Spoiled-clause-served
 returns-in-Spoiled-clause-served g c = λ before after read ended.
-    let octets = c.args.octets.now in
+    let octets = c.args.arrived.octets.now in
     let first = first_octets octets in
     let n = c.spoiled_after-taken.result in
     let H : List ℕ → Type 0 = λ l. IsHeadless (take n l) in
@@ -106,15 +106,15 @@ returns-in-Spoiled-clause-served g c = λ before after read ended.
     let t = turn before after c.args.writer.now c.refuse-in-Spoiled.new.writer c.args.desk.now c.args.desk.now
     c.args.signer.now c.args.signer.now in
     let S : Served → Type 0 =
-    λ s. Serves g.B.Standing g.G.Signer.signs g.G.Signer.fault_count g.W.Write.contents c.args.reading t s in
+    λ s. Serves g.B.Standing g.G.Signer.signs g.G.Signer.fault_count g.W.Write.contents c.args.environment.reading t s in
     subst S (sym c.part-in-Spoiled.ensures.served)
-    (refusing g.B.Standing g.G.Signer.signs g.G.Signer.fault_count g.W.Write.contents c.args.reading t BadRequest
+    (refusing g.B.Standing g.G.Signer.signs g.G.Signer.fault_count g.W.Write.contents c.args.environment.reading t BadRequest
     c.refuse-in-Spoiled.result (headless (take n first) is consumed refl) (record { desk = refl; signer = refl })
     c.refuse-in-Spoiled.ensures)
 
 pub serve_front-requires-clause-within : goal.serve_front-requires-clause-within
 serve_front-requires-clause-within g c =
-    let octets = c.args.octets.now in
+    let octets = c.args.arrived.octets.now in
     omega (
       arith,
       c.in-Whole.ensures.within.section.len_fits,
@@ -123,10 +123,4 @@ serve_front-requires-clause-within g c =
     )
 
 pub returns-in-Whole-clause-served : goal.returns-in-Whole-clause-served
-returns-in-Whole-clause-served g c = λ before after read ended.
-    let fits : SFits w64 c.args.reading = search rules in
-    let P : ℤ → Type 0 =
-    λ r. Serves g.B.Standing g.G.Signer.signs g.G.Signer.fault_count g.W.Write.contents r
-    (turn before after c.args.writer.now c.serve_front.new.writer c.args.desk.now c.serve_front.new.desk
-    c.args.signer.now c.serve_front.new.signer) c.serve_front.result.served in
-    subst P (to_z-of_z fits) (c.serve_front.ensures.served before after read ended)
+returns-in-Whole-clause-served g c = c.serve_front.ensures.served

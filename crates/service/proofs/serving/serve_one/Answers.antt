@@ -2,10 +2,7 @@ use Rattle.std.proofs.Common.{◌≡◌, ◌∙◌, ℕ, ℤ, List, Option, leng
 use Rattle.std.proofs.Common.{to_z-of_z}
 use Rattle.std.proofs.KnownBytes.{Consumes-nil}
 use Rattle.std.proofs.lemmas.List.{with_items_is}
-use Rattle.std.specs.Io.KnownBytes.{Consumes}
-use Rattle.httparse.specs.Grammar.{RequestHead, print_request}
-use Rattle.service.specs.Heads.{IsHead, head_value}
-use Rattle.service.specs.Requests.{headless, cut_head, of_head, nothing}
+use Rattle.service.specs.Requests.{IsRequest, headless, cut_head, of_head, nothing, asked_by}
 use Rattle.service.specs.Reading.{LiesAt}
 use Rattle.service.specs.Served.{Serves}
 use Rattle.service.specs.Views.{head_view}
@@ -56,8 +53,9 @@ returns-in-Refused-clause-served g c =
     BadRequest c.refuse-in-Refused.result (headless part.octets part.is part.consumed refl)
     (record { desk = refl; signer = refl }) c.refuse-in-Refused.ensures
 
-pub returns-clause-served : goal.returns-clause-served
-returns-clause-served g c =
+pub returns-in-Refused-read_request-clause-served : goal.returns-in-Refused-read_request-clause-served
+returns-in-Refused-read_request-clause-served g c =
+    let file = c.args.desk.now.setting.file in
     let read = c.in-Whole.ensures in
     let kept : length c.read_head.new.room ≡ c.in-Ok-vec.room.len =
     omega (arith, c.read_head.auto.room, c.as_mut_slice.ensures.len) in
@@ -65,13 +63,73 @@ returns-clause-served g c =
     c.deref.ensures.value ∙ with_items_is c.in-Ok-vec.room c.read_head.new.room kept in
     let L : List ℕ → Type 0 = λ l. LiesAt l c.read_head.new.headers c.in-Whole.spans read.read in
     let lies : L c.deref.result.now = subst L (sym room) read.lies in
+    refusing g.B.Standing g.G.Signer.signs g.G.Signer.fault_count g.W.Write.contents c.args.reading
+    (turn (g.R.Read.remaining c.args.reader.now) (g.R.Read.remaining c.read_request.new.reader) c.args.writer.now
+    c.refuse-in-Refused-read_request.new.writer
+    c.args.desk.now c.args.desk.now c.args.signer.now c.args.signer.now)
+    c.in-Refused-read_request.refusal c.refuse-in-Refused-read_request.result
+    (c.in-Refused-read_request.ensures (g.R.Read.remaining c.args.reader.now) read.read read.lies.head
+    (c.head_at-head.ensures.head read.read lies) read.consumed file c.args.reading)
+    (record { desk = refl; signer = refl }) c.refuse-in-Refused-read_request.ensures
+
+pub returns-in-Wanting-clause-served : goal.returns-in-Wanting-clause-served
+returns-in-Wanting-clause-served g c =
+    let file = c.args.desk.now.setting.file in
+    let read = c.in-Whole.ensures in
+    let kept : length c.read_head.new.room ≡ c.in-Ok-vec.room.len =
+    omega (arith, c.read_head.auto.room, c.as_mut_slice.ensures.len) in
+    let room : c.deref.result.now ≡ c.read_head.new.room =
+    c.deref.ensures.value ∙ with_items_is c.in-Ok-vec.room c.read_head.new.room kept in
+    let L : List ℕ → Type 0 = λ l. LiesAt l c.read_head.new.headers c.in-Whole.spans read.read in
+    let lies : L c.deref.result.now = subst L (sym room) read.lies in
+    wanting_early g.B.Standing g.G.Signer.signs g.G.Signer.fault_count g.W.Write.contents c.args.reading
+    (turn (g.R.Read.remaining c.args.reader.now) (g.R.Read.remaining c.read_request.new.reader) c.args.writer.now
+    c.wanting-in-Wanting.new.writer
+    c.args.desk.now c.args.desk.now c.args.signer.now c.args.signer.now)
+    c.wanting-in-Wanting.result
+    (c.in-Wanting.ensures (g.R.Read.remaining c.args.reader.now) read.read read.lies.head
+    (c.head_at-head.ensures.head read.read lies) read.consumed file c.args.reading)
+    (record { desk = refl; signer = refl }) c.wanting-in-Wanting.ensures
+
+pub returns-in-Failed-read_request-clause-served : goal.returns-in-Failed-read_request-clause-served
+returns-in-Failed-read_request-clause-served g c =
+    let file = c.args.desk.now.setting.file in
+    let read = c.in-Whole.ensures in
+    let kept : length c.read_head.new.room ≡ c.in-Ok-vec.room.len =
+    omega (arith, c.read_head.auto.room, c.as_mut_slice.ensures.len) in
+    let room : c.deref.result.now ≡ c.read_head.new.room =
+    c.deref.ensures.value ∙ with_items_is c.in-Ok-vec.room c.read_head.new.room kept in
+    let L : List ℕ → Type 0 = λ l. LiesAt l c.read_head.new.headers c.in-Whole.spans read.read in
+    let lies : L c.deref.result.now = subst L (sym room) read.lies in (
+      c.in-Failed-read_request.ensures (g.R.Read.remaining c.args.reader.now) read.read read.lies.head
+          (c.head_at-head.ensures.head read.read lies) read.consumed file c.args.reading,
+      record { writer = refl; idle = record { desk = refl; signer = refl } },
+    )
+
+pub returns-clause-served : goal.returns-clause-served
+returns-clause-served g c =
+    let file = c.args.desk.now.setting.file in
+    let read = c.in-Whole.ensures in
+    let kept : length c.read_head.new.room ≡ c.in-Ok-vec.room.len =
+    omega (arith, c.read_head.auto.room, c.as_mut_slice.ensures.len) in
+    let room : c.deref.result.now ≡ c.read_head.new.room =
+    c.deref.ensures.value ∙ with_items_is c.in-Ok-vec.room c.read_head.new.room kept in
+    let L : List ℕ → Type 0 = λ l. LiesAt l c.read_head.new.headers c.in-Whole.spans read.read in
+    let lies : L c.deref.result.now = subst L (sym room) read.lies in
+    let before = g.R.Read.remaining c.args.reader.now in
+    let behind = g.R.Read.remaining c.read_request.new.reader in
+    let action = c.in-Whole-read_request.action in
+    let h = head_view c.head_at-head.result in
+    let A : List ℕ → Type 0 = λ l. IsRequest file c.args.reading before behind (asked_by file c.args.reading h l action) in
+    let whole : A c.deref-in-Whole-read_request.result.now =
+    subst A (sym c.deref-in-Whole-read_request.ensures.value)
+    (c.in-Whole-read_request.ensures before read.read read.lies.head (c.head_at-head.ensures.head read.read lies)
+    read.consumed file c.args.reading) in
     let fits : SFits w64 c.args.reading = search rules in
-    let P : ℤ → Type 0 = λ r. (b : Option (List ℕ)) (h : RequestHead) → IsHead (print_request h) h
-    → head_view c.head_at-head.result ≡ head_value h
-    → Consumes b (g.R.Read.remaining c.read_head.new.reader) (print_request h)
+    let P : ℤ → Type 0 = λ r. (b a : Option (List ℕ))
+    → IsRequest file r b a (asked_by file r h c.deref-in-Whole-read_request.result.now action)
     → Serves g.B.Standing g.G.Signer.signs g.G.Signer.fault_count g.W.Write.contents r
-    (turn b (g.R.Read.remaining c.serve_head.new.reader) c.args.writer.now c.serve_head.new.writer c.args.desk.now
-    c.serve_head.new.desk c.args.signer.now c.serve_head.new.signer) c.serve_head.result in
-    let served : P c.args.reading = subst P (to_z-of_z fits) c.serve_head.ensures.served in
-    served (g.R.Read.remaining c.args.reader.now) read.read read.lies.head (c.head_at-head.ensures.head read.read lies)
-    read.consumed
+    (turn b a c.args.writer.now c.handle.new.writer c.args.desk.now c.handle.new.desk c.args.signer.now
+    c.handle.new.signer) c.handle.result in
+    let served : P c.args.reading = subst P (to_z-of_z fits) c.handle.ensures.served in
+    served before behind whole

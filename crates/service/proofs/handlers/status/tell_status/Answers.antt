@@ -15,7 +15,7 @@ returns-in-Err-clause-served g c =
 
 pub returns-clause-served : goal.returns-clause-served
 returns-clause-served g c =
-    let reading = c.args.context.reading in
+    let reading = c.args.context.environment.reading in
     let fits : SFits w64 reading = search rules in
     let Q : ℤ → ℕ → Type 0 = λ r n. ServesStatus g.B.Standing g.W.Write.contents c.args.writer.now
     c.serve_status.new.writer c.args.desk.now.store c.serve_status.new.desk.store
