@@ -77,7 +77,8 @@ class Turned:
         trait, *kind = [word.split("::")[-1] for word in self.block.split(" for ")]
         if len(parts) < 2 or parts[-1] != self.name:
             return False
-        return parts[-2].startswith(kind[0] + trait) if kind else parts[-2] == trait
+        # of a type with parameters that the block gives, the path has these behind its name
+        return parts[-2].startswith(kind[0] + trait) if kind else parts[-2].partition("+")[0] == trait
 
     def __str__(self):
         return f"{self.edit}: {self.path}{', ' if self.name else ''}{self.name}"
