@@ -1,3 +1,4 @@
 pub mod Identities
+pub mod Numbers
 pub mod Rights
 mod Worked

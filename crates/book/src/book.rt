@@ -1,15 +1,15 @@
 //! The book: each change of the history is one commit, each look-up answers a view of it.
-ghost use Rattle.std.specs.Prelude.{◌≡◌, ◌⊎◌, ◌∷◌, ◌+◌, ◌<◌, ◌^◌, true, false, map, length, option_map, Err, IfOk};
-ghost use Rattle.std.specs.Prelude.{IfErr, IfSome, IsErr, OnOk, OnErr, MatchResult};
+ghost use Rattle.std.specs.Prelude.{◌≡◌, ◌∷◌, ◌+◌, ◌<◌, ◌≤◌, ◌^◌, true, false, map, length, None, option_map};
+ghost use Rattle.std.specs.Prelude.{Ok, Err, IfOk, IfErr, IfSome, IsErr, OnOk, OnErr};
 ghost use Rattle.book.specs.History.{History, Reserved, Sealed, Deposited, Calibrated, Held, Granted, Revoked};
 ghost use Rattle.book.specs.History.{Installed, count_of_day, calibrations, holds, latest_calibration, is_held};
 ghost use Rattle.book.specs.History.{deposit_under};
 ghost use Rattle.book.specs.Identities.{identities};
 ghost use Rattle.book.specs.Readers.{Account, Group};
 ghost use Rattle.book.specs.Rights.{is_reader, is_visible, listed, deposit_with_stamp};
-ghost use Rattle.book.specs.Sound.{Fits, IsSpent, IsBackwards};
+ghost use Rattle.book.specs.Sound.{Fits, IsSpent, IsBackwards, greatest_number};
 ghost use Rattle.book.specs.Stands.{Stands, OnlyLooks, LeavesOrAdds, LeavesAsBefore};
-ghost use Rattle.book.specs.Fault.{count_after};
+ghost use Rattle.book.specs.Fault.{CountsFaults, IsOfStorage, IsOfStorageOr};
 ghost use Rattle.book.specs.Values.{reservation_view, calibration_view, hold_view, last_of, calibration_option};
 ghost use Rattle.book.specs.Values.{deposit_of, stamped_view, listed_view, deposit_view, viewer_of, installed_of};
 ghost use Rattle.book.specs.Values.{identity_view};
@@ -32,9 +32,8 @@ pub trait Book: Standing {
         ensures opened { Self.honest self.new → OnOk result (Self.is_open self.old) }
         ensures value { Self.honest self.new → (b : History) → Stands Self.Standing b self.old
             → IfOk result (λ last. last ≡ last_of b) }
-        ensures refusals { IfErr result (λ e. (e ≡ StoreFault.Memory) ⊎ (e ≡ StoreFault.Database)) }
-        ensures faults { MatchResult result (λ _. Self.fault_count self.new ≡ Self.fault_count self.old)
-            (λ e. Self.fault_count self.new ≡ count_after e (Self.fault_count self.old)) };
+        ensures refusals { IfErr result IsOfStorage }
+        ensures faults { CountsFaults result (Self.fault_count self.old) (Self.fault_count self.new) };
 
     /// How many stamps the account has reserved on a day, counted from 1970-01-01 in UTC: those that never got their
     /// token too.
@@ -43,9 +42,8 @@ pub trait Book: Standing {
         ensures opened { Self.honest self.new → OnOk result (Self.is_open self.old) }
         ensures value { Self.honest self.new → (b : History) → Stands Self.Standing b self.old
             → IfOk result (λ count. count ≡ count_of_day account.now day b) }
-        ensures refusals { IfErr result (λ e. (e ≡ StoreFault.Memory) ⊎ (e ≡ StoreFault.Database)) }
-        ensures faults { MatchResult result (λ _. Self.fault_count self.new ≡ Self.fault_count self.old)
-            (λ e. Self.fault_count self.new ≡ count_after e (Self.fault_count self.old)) };
+        ensures refusals { IfErr result IsOfStorage }
+        ensures faults { CountsFaults result (Self.fault_count self.old) (Self.fault_count self.new) };
 
     /// The latest calibration, if any.
     fn calibration(&mut self) -> Result<Option<Calibration>, StoreFault>
@@ -53,9 +51,8 @@ pub trait Book: Standing {
         ensures opened { Self.honest self.new → OnOk result (Self.is_open self.old) }
         ensures value { Self.honest self.new → (b : History) → Stands Self.Standing b self.old
             → IfOk result (λ found. calibration_option found ≡ latest_calibration b) }
-        ensures refusals { IfErr result (λ e. (e ≡ StoreFault.Memory) ⊎ (e ≡ StoreFault.Database)) }
-        ensures faults { MatchResult result (λ _. Self.fault_count self.new ≡ Self.fault_count self.old)
-            (λ e. Self.fault_count self.new ≡ count_after e (Self.fault_count self.old)) };
+        ensures refusals { IfErr result IsOfStorage }
+        ensures faults { CountsFaults result (Self.fault_count self.old) (Self.fault_count self.new) };
 
     /// Whether a moment is held, in microseconds since 1970-01-01T00:00:00Z.
     fn held_at(&mut self, now: i64) -> Result<bool, StoreFault>
@@ -63,9 +60,8 @@ pub trait Book: Standing {
         ensures opened { Self.honest self.new → OnOk result (Self.is_open self.old) }
         ensures value { Self.honest self.new → (b : History) → Stands Self.Standing b self.old
             → IfOk result (λ held. held ≡ is_held now b) }
-        ensures refusals { IfErr result (λ e. (e ≡ StoreFault.Memory) ⊎ (e ≡ StoreFault.Database)) }
-        ensures faults { MatchResult result (λ _. Self.fault_count self.new ≡ Self.fault_count self.old)
-            (λ e. Self.fault_count self.new ≡ count_after e (Self.fault_count self.old)) };
+        ensures refusals { IfErr result IsOfStorage }
+        ensures faults { CountsFaults result (Self.fault_count self.old) (Self.fault_count self.new) };
 
     /// Reserves a stamp, which counts on its UTC day from now on, whether it is sealed or not. The caller's condition
     /// is that its serial number is above the greatest, where that is less than 2^63 - 1. Refused with `Full`, and
@@ -82,10 +78,8 @@ pub trait Book: Standing {
             → result ≡ Err StoreFault.Full → IsSpent b }
         ensures spent { Self.honest self.new → (b : History) → Stands Self.Standing b self.old → IsSpent b
             → IsErr result × LeavesAsBefore Self.Standing self.old self.new }
-        ensures refusals { IfErr result (λ e. (e ≡ StoreFault.Memory)
-            ⊎ ((e ≡ StoreFault.Database) ⊎ (e ≡ StoreFault.Full))) }
-        ensures faults { MatchResult result (λ _. Self.fault_count self.new ≡ Self.fault_count self.old)
-            (λ e. Self.fault_count self.new ≡ count_after e (Self.fault_count self.old)) };
+        ensures refusals { IfErr result (IsOfStorageOr StoreFault.Full) }
+        ensures faults { CountsFaults result (Self.fault_count self.old) (Self.fault_count self.new) };
 
     /// Stores the token of a serial number. The caller's condition is that the number is reserved and not sealed.
     fn seal(&mut self, serial: u64, token: &[u8]) -> Result<(), StoreFault>
@@ -95,9 +89,8 @@ pub trait Book: Standing {
             → OnOk result (Stands Self.Standing (Sealed serial token.now ∷ b) self.new) }
         ensures err { (b : History) → Stands Self.Standing b self.old → OnErr result (Stands Self.Standing b self.new) }
         ensures crash { LeavesOrAdds Self.Standing (Sealed serial token.now) self.old self.new }
-        ensures refusals { IfErr result (λ e. (e ≡ StoreFault.Memory) ⊎ (e ≡ StoreFault.Database)) }
-        ensures faults { MatchResult result (λ _. Self.fault_count self.new ≡ Self.fault_count self.old)
-            (λ e. Self.fault_count self.new ≡ count_after e (Self.fault_count self.old)) };
+        ensures refusals { IfErr result IsOfStorage }
+        ensures faults { CountsFaults result (Self.fault_count self.old) (Self.fault_count self.new) };
 
     /// Stores a deposit and its token in one commit, which seals its serial number: that is the deposit's number from
     /// now on. The caller's condition is that it is reserved for the owner and not sealed, and that the owner hasn't
@@ -119,31 +112,32 @@ pub trait Book: Standing {
         ensures err { (b : History) → Stands Self.Standing b self.old → OnErr result (Stands Self.Standing b self.new) }
         ensures crash { LeavesOrAdds Self.Standing
             (Deposited (deposit_of serial owner.now reference.now bytes.now) token.now) self.old self.new }
-        ensures refusals { IfErr result (λ e. (e ≡ StoreFault.Memory) ⊎ (e ≡ StoreFault.Database)) }
-        ensures faults { MatchResult result (λ _. Self.fault_count self.new ≡ Self.fault_count self.old)
-            (λ e. Self.fault_count self.new ≡ count_after e (Self.fault_count self.old)) };
+        ensures refusals { IfErr result IsOfStorage }
+        ensures faults { CountsFaults result (Self.fault_count self.old) (Self.fault_count self.new) };
 
-    /// The deposit with a number, and its stamp, if there is one.
+    /// The deposit with a number, and its stamp, if there is one. A number above 2^63 - 1 is no deposit's, and what
+    /// keeps the book isn't asked for it.
     fn deposit(&mut self, number: u64) -> Result<Option<StampedDeposit>, StoreFault>
         ensures looks { OnlyLooks Self.Standing self.old self.new }
-        ensures opened { Self.honest self.new → OnOk result (Self.is_open self.old) }
+        ensures beyond { greatest_number < number → (result ≡ Ok None) × (self.new ≡ self.old) }
+        ensures opened { Self.honest self.new → number ≤ greatest_number → OnOk result (Self.is_open self.old) }
         ensures value { Self.honest self.new → (b : History) → Stands Self.Standing b self.old
             → IfOk result (λ found. option_map stamped_view found ≡ deposit_with_stamp number b) }
-        ensures refusals { IfErr result (λ e. (e ≡ StoreFault.Memory) ⊎ (e ≡ StoreFault.Database)) }
-        ensures faults { MatchResult result (λ _. Self.fault_count self.new ≡ Self.fault_count self.old)
-            (λ e. Self.fault_count self.new ≡ count_after e (Self.fault_count self.old)) };
+        ensures refusals { IfErr result IsOfStorage }
+        ensures faults { CountsFaults result (Self.fault_count self.old) (Self.fault_count self.new) };
 
     /// Whether there is a deposit with a number that the account sees, as its owner, or as a reader, by its own name or
-    /// in one of the groups that are named. No deposit's bytes are read.
+    /// in one of the groups that are named. No deposit's bytes are read. A number above 2^63 - 1 is no deposit's, and
+    /// what keeps the book isn't asked for it.
     fn visible(&mut self, number: u64, account: &str, groups: &[&str]) -> Result<bool, StoreFault>
         ensures looks { OnlyLooks Self.Standing self.old self.new }
-        ensures opened { Self.honest self.new → OnOk result (Self.is_open self.old) }
+        ensures beyond { greatest_number < number → (result ≡ Ok false) × (self.new ≡ self.old) }
+        ensures opened { Self.honest self.new → number ≤ greatest_number → OnOk result (Self.is_open self.old) }
         ensures value { Self.honest self.new → (b : History) → Stands Self.Standing b self.old
             → IfOk result (λ visible.
             visible ≡ is_visible (viewer_of account.now (map (λ name. name.now) groups.now)) number b) }
-        ensures refusals { IfErr result (λ e. (e ≡ StoreFault.Memory) ⊎ (e ≡ StoreFault.Database)) }
-        ensures faults { MatchResult result (λ _. Self.fault_count self.new ≡ Self.fault_count self.old)
-            (λ e. Self.fault_count self.new ≡ count_after e (Self.fault_count self.old)) };
+        ensures refusals { IfErr result IsOfStorage }
+        ensures faults { CountsFaults result (Self.fault_count self.old) (Self.fault_count self.new) };
 
     /// The deposit of an owner under a reference, if there is one.
     fn by_reference(&mut self, owner: &str, reference: &str) -> Result<Option<Deposit>, StoreFault>
@@ -151,9 +145,8 @@ pub trait Book: Standing {
         ensures opened { Self.honest self.new → OnOk result (Self.is_open self.old) }
         ensures value { Self.honest self.new → (b : History) → Stands Self.Standing b self.old
             → IfOk result (λ found. option_map deposit_view found ≡ deposit_under owner.now reference.now b) }
-        ensures refusals { IfErr result (λ e. (e ≡ StoreFault.Memory) ⊎ (e ≡ StoreFault.Database)) }
-        ensures faults { MatchResult result (λ _. Self.fault_count self.new ≡ Self.fault_count self.old)
-            (λ e. Self.fault_count self.new ≡ count_after e (Self.fault_count self.old)) };
+        ensures refusals { IfErr result IsOfStorage }
+        ensures faults { CountsFaults result (Self.fault_count self.old) (Self.fault_count self.new) };
 
     /// The deposits that an account sees, as their owner, or as a reader, by its own name or in one of the groups that
     /// are named; by number, each once. No deposit's bytes are read.
@@ -163,9 +156,8 @@ pub trait Book: Standing {
         ensures value { Self.honest self.new → (b : History) → Stands Self.Standing b self.old
             → IfOk result (λ rows. map listed_view rows.items
             ≡ listed (viewer_of account.now (map (λ name. name.now) groups.now)) b) }
-        ensures refusals { IfErr result (λ e. (e ≡ StoreFault.Memory) ⊎ (e ≡ StoreFault.Database)) }
-        ensures faults { MatchResult result (λ _. Self.fault_count self.new ≡ Self.fault_count self.old)
-            (λ e. Self.fault_count self.new ≡ count_after e (Self.fault_count self.old)) };
+        ensures refusals { IfErr result IsOfStorage }
+        ensures faults { CountsFaults result (Self.fault_count self.old) (Self.fault_count self.new) };
 
     /// Lets an account read a deposit, from now on. The caller's condition is that the number is a deposit's. A right
     /// that the account has already is accepted again, and nothing changes.
@@ -178,9 +170,8 @@ pub trait Book: Standing {
         ensures crash { LeavesOrAdds Self.Standing (Granted number (Account account.now)) self.old self.new }
         ensures repeated { (b : History) → Stands Self.Standing b self.old
             → is_reader number (Account account.now) b ≡ true → OnOk result (Stands Self.Standing b self.new) }
-        ensures refusals { IfErr result (λ e. (e ≡ StoreFault.Memory) ⊎ (e ≡ StoreFault.Database)) }
-        ensures faults { MatchResult result (λ _. Self.fault_count self.new ≡ Self.fault_count self.old)
-            (λ e. Self.fault_count self.new ≡ count_after e (Self.fault_count self.old)) };
+        ensures refusals { IfErr result IsOfStorage }
+        ensures faults { CountsFaults result (Self.fault_count self.old) (Self.fault_count self.new) };
 
     /// Takes the right to read a deposit from an account, from now on. The caller's condition is that the number is a
     /// deposit's. A right that the account doesn't have may be taken all the same, and nothing changes.
@@ -193,9 +184,8 @@ pub trait Book: Standing {
         ensures crash { LeavesOrAdds Self.Standing (Revoked number (Account account.now)) self.old self.new }
         ensures unneeded { (b : History) → Stands Self.Standing b self.old
             → is_reader number (Account account.now) b ≡ false → OnOk result (Stands Self.Standing b self.new) }
-        ensures refusals { IfErr result (λ e. (e ≡ StoreFault.Memory) ⊎ (e ≡ StoreFault.Database)) }
-        ensures faults { MatchResult result (λ _. Self.fault_count self.new ≡ Self.fault_count self.old)
-            (λ e. Self.fault_count self.new ≡ count_after e (Self.fault_count self.old)) };
+        ensures refusals { IfErr result IsOfStorage }
+        ensures faults { CountsFaults result (Self.fault_count self.old) (Self.fault_count self.new) };
 
     /// Lets each member of a group read a deposit, from now on. The caller's condition is that the number is a
     /// deposit's. A right that the group has already is accepted again, and nothing changes.
@@ -208,9 +198,8 @@ pub trait Book: Standing {
         ensures crash { LeavesOrAdds Self.Standing (Granted number (Group name.now)) self.old self.new }
         ensures repeated { (b : History) → Stands Self.Standing b self.old
             → is_reader number (Group name.now) b ≡ true → OnOk result (Stands Self.Standing b self.new) }
-        ensures refusals { IfErr result (λ e. (e ≡ StoreFault.Memory) ⊎ (e ≡ StoreFault.Database)) }
-        ensures faults { MatchResult result (λ _. Self.fault_count self.new ≡ Self.fault_count self.old)
-            (λ e. Self.fault_count self.new ≡ count_after e (Self.fault_count self.old)) };
+        ensures refusals { IfErr result IsOfStorage }
+        ensures faults { CountsFaults result (Self.fault_count self.old) (Self.fault_count self.new) };
 
     /// Takes the right to read a deposit from a group, from now on. The caller's condition is that the number is a
     /// deposit's. A right that the group doesn't have may be taken all the same, and nothing changes.
@@ -223,9 +212,8 @@ pub trait Book: Standing {
         ensures crash { LeavesOrAdds Self.Standing (Revoked number (Group name.now)) self.old self.new }
         ensures unneeded { (b : History) → Stands Self.Standing b self.old
             → is_reader number (Group name.now) b ≡ false → OnOk result (Stands Self.Standing b self.new) }
-        ensures refusals { IfErr result (λ e. (e ≡ StoreFault.Memory) ⊎ (e ≡ StoreFault.Database)) }
-        ensures faults { MatchResult result (λ _. Self.fault_count self.new ≡ Self.fault_count self.old)
-            (λ e. Self.fault_count self.new ≡ count_after e (Self.fault_count self.old)) };
+        ensures refusals { IfErr result IsOfStorage }
+        ensures faults { CountsFaults result (Self.fault_count self.old) (Self.fault_count self.new) };
 
     /// Adds a calibration, which is the latest from now on. The caller's condition is an uncertainty of at most 10^12.
     /// Refused with `Backwards` where its reading is before that of the latest. The answer is its number: calibrations
@@ -246,10 +234,8 @@ pub trait Book: Standing {
         ensures refused { Self.honest self.new → (b : History) → Stands Self.Standing b self.old
             → IsBackwards (calibration_view calibration.now) (latest_calibration b)
             → IsErr result × LeavesAsBefore Self.Standing self.old self.new }
-        ensures refusals { IfErr result (λ e. (e ≡ StoreFault.Memory)
-            ⊎ ((e ≡ StoreFault.Database) ⊎ (e ≡ StoreFault.Backwards))) }
-        ensures faults { MatchResult result (λ _. Self.fault_count self.new ≡ Self.fault_count self.old)
-            (λ e. Self.fault_count self.new ≡ count_after e (Self.fault_count self.old)) };
+        ensures refusals { IfErr result (IsOfStorageOr StoreFault.Backwards) }
+        ensures faults { CountsFaults result (Self.fault_count self.old) (Self.fault_count self.new) };
 
     /// Adds a hold. The caller's condition is that its first moment is before its end. The answer is its number: holds
     /// count 1, 2, 3 and so on.
@@ -262,9 +248,8 @@ pub trait Book: Standing {
         ensures crash { LeavesOrAdds Self.Standing (Held (hold_view hold.now)) self.old self.new }
         ensures number { Self.honest self.new → (b : History) → Stands Self.Standing b self.old
             → IfOk result (λ number. number ≡ length (holds b) + 1) }
-        ensures refusals { IfErr result (λ e. (e ≡ StoreFault.Memory) ⊎ (e ≡ StoreFault.Database)) }
-        ensures faults { MatchResult result (λ _. Self.fault_count self.new ≡ Self.fault_count self.old)
-            (λ e. Self.fault_count self.new ≡ count_after e (Self.fault_count self.old)) };
+        ensures refusals { IfErr result IsOfStorage }
+        ensures faults { CountsFaults result (Self.fault_count self.old) (Self.fault_count self.new) };
 
     /// Installs an identity, which is in force from now on: the signer's certificate, and the further certificates of
     /// its chain, one after the other. They are kept as they are handed in.
@@ -276,9 +261,8 @@ pub trait Book: Standing {
         ensures err { (b : History) → Stands Self.Standing b self.old → OnErr result (Stands Self.Standing b self.new) }
         ensures crash { LeavesOrAdds Self.Standing (Installed (installed_of certificate.now chain.now)) self.old
             self.new }
-        ensures refusals { IfErr result (λ e. (e ≡ StoreFault.Memory) ⊎ (e ≡ StoreFault.Database)) }
-        ensures faults { MatchResult result (λ _. Self.fault_count self.new ≡ Self.fault_count self.old)
-            (λ e. Self.fault_count self.new ≡ count_after e (Self.fault_count self.old)) };
+        ensures refusals { IfErr result IsOfStorage }
+        ensures faults { CountsFaults result (Self.fault_count self.old) (Self.fault_count self.new) };
 
     /// The identities that were installed, by number.
     fn identities(&mut self) -> Result<Vec<IdentityRow>, StoreFault>
@@ -286,9 +270,8 @@ pub trait Book: Standing {
         ensures opened { Self.honest self.new → OnOk result (Self.is_open self.old) }
         ensures value { Self.honest self.new → (b : History) → Stands Self.Standing b self.old
             → IfOk result (λ rows. map identity_view rows.items ≡ identities b) }
-        ensures refusals { IfErr result (λ e. (e ≡ StoreFault.Memory) ⊎ (e ≡ StoreFault.Database)) }
-        ensures faults { MatchResult result (λ _. Self.fault_count self.new ≡ Self.fault_count self.old)
-            (λ e. Self.fault_count self.new ≡ count_after e (Self.fault_count self.old)) };
+        ensures refusals { IfErr result IsOfStorage }
+        ensures faults { CountsFaults result (Self.fault_count self.old) (Self.fault_count self.new) };
 
     /// The stamp with the least serial number from `from` on and up to `to`.
     fn next_stamp(&mut self, from: u64, to: u64) -> Result<Option<Stamp>, StoreFault>
@@ -298,9 +281,8 @@ pub trait Book: Standing {
             → IfOk result (IsNextStamp from to b) }
         ensures within { IfOk result (λ found. IfSome found (λ stamp. IsWithin from to stamp.serial)) }
         ensures small { IfOk result (λ found. IfSome found (λ stamp. stamp.serial < 2 ^ 63)) }
-        ensures refusals { IfErr result (λ e. (e ≡ StoreFault.Memory) ⊎ (e ≡ StoreFault.Database)) }
-        ensures faults { MatchResult result (λ _. Self.fault_count self.new ≡ Self.fault_count self.old)
-            (λ e. Self.fault_count self.new ≡ count_after e (Self.fault_count self.old)) };
+        ensures refusals { IfErr result IsOfStorage }
+        ensures faults { CountsFaults result (Self.fault_count self.old) (Self.fault_count self.new) };
 
     /// How many calls were refused for another cause than memory, modulo 2^64. Takes no memory.
     fn faults(&self) -> u64

@@ -1,8 +1,8 @@
 //! The stamps of a range, one after the other.
-ghost use Rattle.std.specs.Prelude.{◌≡◌, ◌⊎◌, ◌+◌, None, IfOk, IfErr, IfSome, MatchResult};
+ghost use Rattle.std.specs.Prelude.{◌≡◌, ◌+◌, None, IfOk, IfErr, IfSome, MatchResult};
 ghost use Rattle.book.specs.History.{History, stamps_between};
 ghost use Rattle.book.specs.Stands.{Stands, OnlyLooks};
-ghost use Rattle.book.specs.Fault.{count_after};
+ghost use Rattle.book.specs.Fault.{CountsFaults, IsOfStorage};
 ghost use Rattle.book.specs.Ranges.{HandsOut, IsWithin};
 
 use crate::book::Book;
@@ -47,10 +47,8 @@ impl<'book, B: Book> StampsBetween<'book, B> {
         ensures end { self.new.to ≡ self.old.to }
         ensures still { MatchResult result (λ found. found ≡ None → self.new.from ≡ self.old.from)
             (λ _. self.new.from ≡ self.old.from) }
-        ensures refusals { IfErr result (λ e. (e ≡ StoreFault.Memory) ⊎ (e ≡ StoreFault.Database)) }
-        ensures faults { MatchResult result
-            (λ _. B.fault_count self.new.book.now ≡ B.fault_count self.old.book.now)
-            (λ e. B.fault_count self.new.book.now ≡ count_after e (B.fault_count self.old.book.now)) }
+        ensures refusals { IfErr result IsOfStorage }
+        ensures faults { CountsFaults result (B.fault_count self.old.book.now) (B.fault_count self.new.book.now) }
     {
         let found = self.book.next_stamp(self.from, self.to)?;
         if let Some(stamp) = &found {

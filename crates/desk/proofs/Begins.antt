@@ -5,13 +5,14 @@ use Rattle.std.specs.Prelude.{OnOk}
 use Rattle.std.proofs.lemmas.Bool.Decides.{nat_tests}
 use Rattle.policy.specs.Record.{AccountValue}
 use Rattle.tsp.specs.declared.rule.Rule.{Rule}
+use Rattle.book.specs.Fault.{IsOfStorage}
 use Rattle.book.specs.declared.standing.Standing.{Ghosts}
 use Rattle.book.specs.History.{History, greatest_serial}
 use Rattle.book.specs.Sound.{greatest_number}
 use Rattle.book.specs.Stands.{Stands, OnlyLooks}
 use Rattle.book.specs.declared.fault.StoreFault.{StoreFault}
 use Rattle.book.specs.declared.fault.StoreFault.TheVariants as store
-use Rattle.desk.specs.Calls.{store_cause, cause_with, refused, outcome_of, IsOfStore, IsOfLooks, IsOfReserving}
+use Rattle.desk.specs.Calls.{store_cause, cause_with, refused, outcome_of, IsOfLooks, IsOfReserving}
 use Rattle.desk.specs.Calls.{IsOfBeginning, IsSomebodys}
 use Rattle.desk.specs.Fit.{IsFit}
 use Rattle.desk.specs.Calls.{pending_as, reserving, Reserves}
@@ -48,7 +49,7 @@ rejects g s account reading octets o old new rule fits looks counted finds = rec
   };
 }
 
-look_blamed : {B : Type 0} (g : Ghosts B) (c : Command) (f : StoreFault) (old new : B) → IsOfStore f
+look_blamed : {B : Type 0} (g : Ghosts B) (c : Command) (f : StoreFault) (old new : B) → IsOfStorage f
     → IsBlamedFor g c (refused (refusal.Looking f)) old new (fault_of (store_cause f))
 look_blamed g c store.Memory old new h = none_failed _ tt tt tt tt tt tt tt tt
 look_blamed g c store.Database old new h = inl (inr (inl refl))
@@ -59,7 +60,7 @@ look_blamed g c store.Full old new (inr e) = cc
 look_blamed g c store.Backwards old new (inl e) = cc
 look_blamed g c store.Backwards old new (inr e) = cc
 
-count_blamed : {B : Type 0} (g : Ghosts B) (c : Command) (f : StoreFault) (old new : B) → IsOfStore f
+count_blamed : {B : Type 0} (g : Ghosts B) (c : Command) (f : StoreFault) (old new : B) → IsOfStorage f
     → IsBlamedFor g c (refused (refusal.Counting f)) old new (fault_of (store_cause f))
 count_blamed g c store.Memory old new h = none_failed _ tt tt tt tt tt tt tt tt
 count_blamed g c store.Database old new h = inl (inr (inr (inl refl)))
@@ -70,7 +71,7 @@ count_blamed g c store.Full old new (inr e) = cc
 count_blamed g c store.Backwards old new (inl e) = cc
 count_blamed g c store.Backwards old new (inr e) = cc
 
-add_blamed : {B : Type 0} (g : Ghosts B) (c : Command) (f : StoreFault) (old new : B) → IsOfStore f
+add_blamed : {B : Type 0} (g : Ghosts B) (c : Command) (f : StoreFault) (old new : B) → IsOfStorage f
     → IsBlamedFor g c (refused (refusal.Adding f)) old new (fault_of (store_cause f))
 add_blamed g c store.Memory old new h = none_failed _ tt tt tt tt tt tt tt tt
 add_blamed g c store.Database old new h = inl (inr (inr (inr (inr (inl refl)))))

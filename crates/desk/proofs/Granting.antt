@@ -7,14 +7,13 @@ use Rattle.policy.specs.Record.{PolicyValue}
 use Rattle.book.specs.declared.fault.StoreFault.{StoreFault}
 use Rattle.book.specs.declared.fault.StoreFault.TheVariants as store
 use Rattle.book.specs.declared.standing.Standing.{Ghosts}
-use Rattle.book.specs.Fault.{count_after}
+use Rattle.book.specs.Fault.{count_after, IsOfStorage}
 use Rattle.book.specs.History.{Entry, History}
 use Rattle.book.specs.Readers.{Reader}
 use Rattle.book.specs.Rights.{seen_by}
 use Rattle.book.specs.Rows.{DepositRow}
 use Rattle.book.specs.Sound.{Fits, FitsRight}
 use Rattle.book.specs.Stands.{Stands, OnlyLooks, LeavesOrAdds}
-use Rattle.desk.specs.Calls.{IsOfStore}
 use Rattle.desk.specs.Command.{Setting, Command, Done, Refused}
 use Rattle.desk.specs.Effects.{Effect, only, unless, fault_of, objection, accepted, unless_against, right_effect}
 use Rattle.desk.specs.Obstacles.{fault_with, hindered, IsOfRight, MayName, MayNot}
@@ -203,7 +202,7 @@ refused_as g s c account reader n entry old mid new o cause a searched looked wh
 pub right_refused : {B : Type 0} (g : Ghosts B) (s : Setting) (c : Command) (account : List ℕ) (reader : Reader)
     (n : ℕ) (entry : Entry) (old mid new : B) (f : StoreFault) → Allows g s c account reader n entry old mid new
     → ((call : Call) → IsFit c (record (all_fine (Ok [])) { adding = call }))
-    → ((f : Fault) → IsOpened g c (Refused f) new) → IsOfStore f
+    → ((f : Fault) → IsOpened g c (Refused f) new) → IsOfStorage f
     → g.fault_count new ≡ count_after f (g.fault_count mid) → (g.honest new → g.honest mid)
     → ((b : History) → Stands g b mid → Stands g b new) → LeavesOrAdds g entry mid new
     → StepsBy g no_signer s c (hindered (obstacle.Adding f)) old new (Refused (fault_with (obstacle.Adding f)))

@@ -20,11 +20,11 @@ use Rattle.decide.specs.declared.facts.Facts.{Facts}
 use Rattle.decide.specs.declared.facts.ClockFacts.{ClockFacts}
 use Rattle.book.specs.History.{History, CalibrationValue, latest_calibration, count_of_day, day_of}
 use Rattle.book.specs.declared.standing.Standing.{Ghosts}
-use Rattle.book.specs.Fault.{count_after}
+use Rattle.book.specs.Fault.{count_after, IsOfStorage}
 use Rattle.book.specs.Stands.{OnlyLooks}
 use Rattle.book.specs.declared.fault.StoreFault.{StoreFault}
 use Rattle.book.specs.declared.fault.StoreFault.TheVariants as store
-use Rattle.desk.specs.Calls.{call_of, store_cause, IsOfStore, count_for}
+use Rattle.desk.specs.Calls.{call_of, store_cause, count_for}
 use Rattle.desk.specs.Facts.{calibration_of, now_in, gen_time_of, gen_time_in, count_in, clock_of, facts_of}
 use Rattle.desk.specs.Findings.{HoldsUnasked, HoldsAt, IsAnsweredFor, Fails}
 use Rattle.desk.specs.Outcome.{cause_of, counted, all_fine}
@@ -45,7 +45,7 @@ database_cause : (f : StoreFault) → f ≡ store.Database → cause_of (call_of
 database_cause f e = subst (λ x. cause_of (call_of x) ≡ Some (store_cause x)) (sym e) refl
 
 -- and so is its cause
-pub same_cause : (f : StoreFault) → IsOfStore f → cause_of (call_of f) ≡ Some (store_cause f)
+pub same_cause : (f : StoreFault) → IsOfStorage f → cause_of (call_of f) ≡ Some (store_cause f)
 same_cause f (inl e) = memory_cause f e
 same_cause f (inr e) = database_cause f e
 

@@ -7,13 +7,13 @@ use Rattle.book.specs.declared.standing.Standing.{Ghosts}
 use Rattle.policy.specs.Record.{AccountValue}
 use Rattle.cms.specs.Signer.{count_after}
 use Rattle.cms.specs.declared.signer.SignerFault.{SignerFault}
-use Rattle.book.specs.Fault.{count_after as count_with}
+use Rattle.book.specs.Fault.{count_after as count_with, IsOfStorage}
 use Rattle.book.specs.History.{History, deposit_under}
 use Rattle.book.specs.Rows.{DepositRow}
 use Rattle.book.specs.Stands.{Stands, OnlyLooks}
 use Rattle.book.specs.declared.fault.StoreFault.{StoreFault}
 use Rattle.book.specs.declared.fault.StoreFault.TheVariants as store
-use Rattle.desk.specs.Calls.{call_of, store_cause, IsOfStore}
+use Rattle.desk.specs.Calls.{call_of, store_cause}
 use Rattle.desk.specs.Command.{Setting, Command, Stamp, Begin, Finish, Abandon, Deposit, Show, Token, ListAll, Grant}
 use Rattle.desk.specs.Command.{Revoke, Calibrate, Hold, Succeed, Answer, Stamped, Rejected, Begun, Kept, Shown, Listed}
 use Rattle.desk.specs.Command.{Done, Numbered, Refused}
@@ -83,7 +83,7 @@ looked g signs count x s c o old new said looks faults unsigned fits opened blam
 abbrev pub unsearched : StoreFault → Outcome
 unsearched f = record (all_fine (Ok [])) { searching = call_of f }
 
-search_blamed : {B : Type 0} (g : Ghosts B) (c : Command) (f : StoreFault) (old new : B) → IsOfStore f
+search_blamed : {B : Type 0} (g : Ghosts B) (c : Command) (f : StoreFault) (old new : B) → IsOfStorage f
     → IsBlamedFor g c (unsearched f) old new (fault_of (store_cause f))
 search_blamed g c store.Memory old new h = none_failed _ tt tt tt tt tt tt tt tt
 search_blamed g c store.Database old new h = inl (inl refl)
@@ -96,7 +96,7 @@ search_blamed g c store.Backwards old new (inr e) = cc
 
 pub is_unsearched : {B X : Type 0} (g : Ghosts B) (signs : X → List ℕ → Result (List ℕ) SignerFault → X → Type 0)
     (count : X → ℕ) (x : X) (s : Setting) (a : AccountValue) (reading : ℤ) (reference bytes : List ℕ)
-    (old new : B) (f : StoreFault) → nat_le (length bytes) 1_048_576 ≡ true → IsOfStore f
+    (old new : B) (f : StoreFault) → nat_le (length bytes) 1_048_576 ≡ true → IsOfStorage f
     → OnlyLooks g old new → g.fault_count new ≡ count_with f (g.fault_count old)
     → StepsBy g (with_signer signs count x x) s (Deposit a reading reference bytes) (unsearched f) old new
     (Refused (fault_of (store_cause f)))

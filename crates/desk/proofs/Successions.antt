@@ -8,14 +8,13 @@ use Rattle.book.specs.declared.fault.StoreFault.{StoreFault}
 use Rattle.book.specs.declared.fault.StoreFault.TheVariants as store
 use Rattle.book.specs.declared.rows.IdentityRow.{IdentityRow}
 use Rattle.book.specs.declared.standing.Standing.{Ghosts}
-use Rattle.book.specs.Fault.{count_after}
+use Rattle.book.specs.Fault.{count_after, IsOfStorage}
 use Rattle.book.specs.History.{Reserved, Sealed, Deposited, Calibrated, Held, Granted, Revoked, Installed, History}
 use Rattle.book.specs.History.{InstalledValue, first_of}
 use Rattle.book.specs.Identities.{latest_identity, installed_rows, identities, installed_as}
 use Rattle.book.specs.Rows.{InstalledRow}
 use Rattle.book.specs.Stands.{Stands, OnlyLooks, LeavesOrAdds}
 use Rattle.book.specs.Values.{identity_view}
-use Rattle.desk.specs.Calls.{IsOfStore}
 use Rattle.desk.specs.Command.{InForce, Setting, Succeed, Done, Refused}
 use Rattle.desk.specs.Effects.{only, unless, fault_of, accepted, succeed_effect}
 use Rattle.desk.specs.Fit.{IsFit}
@@ -142,7 +141,7 @@ unlooked_by g s next old new o cause why fits blames counted looks = record {
       };
 }
 
-pub unlooked : {B : Type 0} (g : Ghosts B) (s : Setting) (next : InForce) (old new : B) (f : StoreFault) → IsOfStore f
+pub unlooked : {B : Type 0} (g : Ghosts B) (s : Setting) (next : InForce) (old new : B) (f : StoreFault) → IsOfStorage f
     → g.fault_count new ≡ count_after f (g.fault_count old) → OnlyLooks g old new
     → StepsBy g no_signer s (Succeed next) (hindered (obstacle.Looking f)) old new
     (Refused (fault_with (obstacle.Looking f)))
@@ -206,7 +205,7 @@ uninstalled_by g s next old mid new o cause finds looked why also_looked answere
     }
 
 pub uninstalled : {B : Type 0} (g : Ghosts B) (s : Setting) (next : InForce) (old mid new : B) (f : StoreFault)
-    → FindsOther g (installed_by next.identity) old mid → IsOfStore f
+    → FindsOther g (installed_by next.identity) old mid → IsOfStorage f
     → g.fault_count new ≡ count_after f (g.fault_count mid) → (g.honest new → g.honest mid)
     → ((b : History) → Stands g b mid → Stands g b new)
     → LeavesOrAdds g (Installed (installed_by next.identity)) mid new

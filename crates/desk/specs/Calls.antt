@@ -13,6 +13,7 @@ use Rattle.cms.specs.SignedData.{attribute_text}
 use Rattle.cms.specs.declared.signer.SignerFault.{SignerFault}
 use Rattle.cms.specs.declared.signer.SignerFault.TheVariants as signer
 use Rattle.decide.specs.declared.facts.Calibration.{Calibration}
+use Rattle.book.specs.Fault.{IsOfStorage}
 use Rattle.book.specs.declared.fault.StoreFault.{StoreFault}
 use Rattle.book.specs.declared.fault.StoreFault.TheVariants as store
 use Rattle.book.specs.declared.standing.Standing.{Ghosts}
@@ -78,14 +79,10 @@ abbrev pub adding_refusal : StoreFault → Refusal
 adding_refusal store.Full = refusal.Spent
 adding_refusal f = refusal.Adding f
 
--- the store refuses a look-up or a commit by want of memory, or by a cause that it counts
-abbrev pub IsOfStore : StoreFault → Type 0
-IsOfStore f = (f ≡ store.Memory) ⊎ (f ≡ store.Database)
-
 -- a look-up was refused
 abbrev pub IsOfLooks : Refusal → Type 0
-IsOfLooks (refusal.Looking f) = IsOfStore f
-IsOfLooks (refusal.Counting f) = IsOfStore f
+IsOfLooks (refusal.Looking f) = IsOfStorage f
+IsOfLooks (refusal.Counting f) = IsOfStorage f
 IsOfLooks _ = ⊥
 
 -- the day that was asked for, and refused, is somebody's
@@ -103,7 +100,7 @@ IsSomebodys account (refusal.Sealing f) = Unit {0}
 abbrev pub IsOfReserving : Refusal → Type 0
 IsOfReserving refusal.Spent = Unit {0}
 IsOfReserving refusal.Growing = Unit {0}
-IsOfReserving (refusal.Adding f) = IsOfStore f
+IsOfReserving (refusal.Adding f) = IsOfStorage f
 IsOfReserving _ = ⊥
 
 abbrev pub IsOfBeginning : Refusal → Type 0

@@ -2,6 +2,7 @@
 use Rattle.std.specs.Prelude.{◌≡◌, ℕ, true, false, List, [], Some, None, option_map, Result, Ok, Err}
 use Rattle.std.specs.Str.{bytes_eq}
 use Rattle.policy.specs.Record.{PolicyValue}
+use Rattle.book.specs.Fault.{IsOfStorage}
 use Rattle.book.specs.Rows.{DepositRow}
 use Rattle.book.specs.Values.{deposit_view}
 use Rattle.book.specs.History.{History, token_of}
@@ -12,7 +13,7 @@ use Rattle.book.specs.declared.values.StampedDeposit.{StampedDeposit}
 use Rattle.desk.specs.Outcome.{Outcome, Wanting, all_fine}
 use Rattle.desk.specs.Command.{Answer, Refused}
 use Rattle.desk.specs.Effects.{fault_of, objection}
-use Rattle.desk.specs.Calls.{call_of, store_cause, IsOfStore}
+use Rattle.desk.specs.Calls.{call_of, store_cause}
 use Rattle.desk.specs.Fault.{NamesAccount, NamesGroup}
 use Rattle.desk.specs.Viewers.{viewer_in}
 use Rattle.desk.specs.declared.fault.Fault.{Fault}
@@ -64,8 +65,8 @@ IsOfSight obstacle.NotOwner = ⊥
 IsOfSight obstacle.UnknownReader = ⊥
 IsOfSight obstacle.UnknownGroup = ⊥
 IsOfSight obstacle.SelfGrant = ⊥
-IsOfSight (obstacle.Searching f) = IsOfStore f
-IsOfSight (obstacle.Looking f) = IsOfStore f
+IsOfSight (obstacle.Searching f) = IsOfStorage f
+IsOfSight (obstacle.Looking f) = IsOfStorage f
 IsOfSight obstacle.Growing = ⊥
 IsOfSight (obstacle.Adding f) = ⊥
 
@@ -76,8 +77,8 @@ IsOfRight reader obstacle.NotOwner = Unit {0}
 IsOfRight reader obstacle.UnknownReader = NamesAccount reader
 IsOfRight reader obstacle.UnknownGroup = NamesGroup reader
 IsOfRight reader obstacle.SelfGrant = NamesAccount reader
-IsOfRight reader (obstacle.Searching f) = IsOfStore f
-IsOfRight reader (obstacle.Looking f) = IsOfStore f
+IsOfRight reader (obstacle.Searching f) = IsOfStorage f
+IsOfRight reader (obstacle.Looking f) = IsOfStorage f
 IsOfRight reader obstacle.Growing = ⊥
 IsOfRight reader (obstacle.Adding f) = ⊥
 

@@ -1,12 +1,12 @@
 //! A deposit: its stamp, and both in one commit.
 ghost use Rattle.std.specs.Prelude.{◌≡◌, ◌⊎◌, ℕ, ◌<◌, ◌≤◌, List, Some, Ok, Err, Result, length, IfOk, IfErr};
-ghost use Rattle.std.specs.Prelude.{OnOk, MatchResult};
+ghost use Rattle.std.specs.Prelude.{OnOk};
 ghost use Rattle.cms.specs.declared.signer.SignerFault.{SignerFault as SpecFault};
 ghost use Rattle.der.specs.Node.{encoding, IsLawful};
 ghost use Rattle.policy.specs.View.{account_view, policy_view};
 ghost use Rattle.tsp.specs.Request.{Spells, time_stamp_req, unstated};
 ghost use Rattle.tsp.specs.View.{request_view};
-ghost use Rattle.book.specs.Fault.{count_after};
+ghost use Rattle.book.specs.Fault.{CountsFaults, IsOfStorage};
 ghost use Rattle.book.specs.History.{History, deposit_under, greatest_serial};
 ghost use Rattle.book.specs.Sound.{greatest_number};
 ghost use Rattle.book.specs.Stands.{Stands, OnlyLooks};
@@ -60,9 +60,8 @@ fn find_known<B: Book + Drop>(
     ensures looks { OnlyLooks B.Standing store.old store.new }
     ensures value { B.honest store.new → (b : History) → Stands B.Standing b store.old
         → IfOk result (λ known. known ≡ known_in bytes.now (deposit_under owner.now reference.now b)) }
-    ensures refusals { IfErr result (λ e. (e ≡ StoreFault.Memory) ⊎ (e ≡ StoreFault.Database)) }
-    ensures faults { MatchResult result (λ _. B.fault_count store.new ≡ B.fault_count store.old)
-        (λ e. B.fault_count store.new ≡ count_after e (B.fault_count store.old)) }
+    ensures refusals { IfErr result IsOfStorage }
+    ensures faults { CountsFaults result (B.fault_count store.old) (B.fault_count store.new) }
 {
     let Some(deposit) = store.by_reference(owner, reference)? else {
         return Ok(Known::Nothing);

@@ -1,13 +1,12 @@
 //! Calibrations and holds: what an operator adds.
 
-ghost use Rattle.std.specs.Prelude.{◌≡◌, ◌⊎◌, Err, IfErr, IsErr, MatchResult};
-ghost use Rattle.book.specs.Fault.{count_after};
+ghost use Rattle.std.specs.Prelude.{◌≡◌, Err, IfErr, IsErr};
+ghost use Rattle.book.specs.Fault.{CountsFaults, IsOfStorage, IsOfStorageOr};
 ghost use Rattle.book.specs.History.{History, latest_calibration};
 ghost use Rattle.book.specs.Sound.{IsBackwards};
 ghost use Rattle.book.specs.Stands.{Stands};
 ghost use Rattle.book.specs.Values.{calibration_view, hold_view};
 ghost use Rattle.desk.specs.Answers.{entered};
-ghost use Rattle.desk.specs.Calls.{IsOfStore};
 ghost use Rattle.desk.specs.Command.{Setting, Calibrate, Hold as AddHold};
 ghost use Rattle.desk.specs.Obstacles.{adding, outcome_with, told_with};
 ghost use Rattle.desk.specs.Shown.{numbered_as};
@@ -31,10 +30,8 @@ fn add_calibration<B: Book + Drop>(
         → IsBackwards (calibration_view calibration.now) (latest_calibration b) }
     ensures refused { B.honest store.new → (b : History) → Stands B.Standing b store.old
         → IsBackwards (calibration_view calibration.now) (latest_calibration b) → IsErr result }
-    ensures refusals { IfErr result (λ e. (e ≡ StoreFault.Memory)
-        ⊎ ((e ≡ StoreFault.Database) ⊎ (e ≡ StoreFault.Backwards))) }
-    ensures faults { MatchResult result (λ _. B.fault_count store.new ≡ B.fault_count store.old)
-        (λ e. B.fault_count store.new ≡ count_after e (B.fault_count store.old)) }
+    ensures refusals { IfErr result (IsOfStorageOr StoreFault.Backwards) }
+    ensures faults { CountsFaults result (B.fault_count store.old) (B.fault_count store.new) }
 {
     match store.calibrate(calibration) {
         Ok(number) => Ok(number),
@@ -47,9 +44,8 @@ fn add_hold<B: Book + Drop>(store: &mut B, hold: &Hold) -> Result<u64, StoreFaul
     ensures honest { B.honest store.new → B.honest store.old }
     ensures step { (s : Setting) → StepsBy B.Standing no_signer s (AddHold (hold_view hold.now))
         (outcome_with (adding result)) store.old store.new (told_with numbered_as (adding result)) }
-    ensures refusals { IfErr result IsOfStore }
-    ensures faults { MatchResult result (λ _. B.fault_count store.new ≡ B.fault_count store.old)
-        (λ e. B.fault_count store.new ≡ count_after e (B.fault_count store.old)) }
+    ensures refusals { IfErr result IsOfStorage }
+    ensures faults { CountsFaults result (B.fault_count store.old) (B.fault_count store.new) }
 {
     match store.hold(hold) {
         Ok(number) => Ok(number),
@@ -98,10 +94,8 @@ impl<'p, B: Book + Drop> Desk<'p, B> {
             → IsBackwards (calibration_view calibration.now) (latest_calibration b) }
         ensures refused { B.honest self.new.store → (b : History) → Stands B.Standing b self.old.store
             → IsBackwards (calibration_view calibration.now) (latest_calibration b) → IsErr result }
-        ensures refusals { IfErr result (λ e. (e ≡ StoreFault.Memory)
-            ⊎ ((e ≡ StoreFault.Database) ⊎ (e ≡ StoreFault.Backwards))) }
-        ensures faults { MatchResult result (λ _. B.fault_count self.new.store ≡ B.fault_count self.old.store)
-            (λ e. B.fault_count self.new.store ≡ count_after e (B.fault_count self.old.store)) }
+        ensures refusals { IfErr result (IsOfStorageOr StoreFault.Backwards) }
+        ensures faults { CountsFaults result (B.fault_count self.old.store) (B.fault_count self.new.store) }
     {
         steps_keep_their_promises();
         add_calibration(&mut self.store, calibration)
@@ -113,9 +107,8 @@ impl<'p, B: Book + Drop> Desk<'p, B> {
     pub fn hold(&mut self, hold: &Hold) -> Result<u64, StoreFault>
         ensures honest { B.honest self.new.store → B.honest self.old.store }
         ensures step { IsStep B.Standing no_signer (AddHold (hold_view hold.now)) self.old self.new (entered result) }
-        ensures refusals { IfErr result IsOfStore }
-        ensures faults { MatchResult result (λ _. B.fault_count self.new.store ≡ B.fault_count self.old.store)
-            (λ e. B.fault_count self.new.store ≡ count_after e (B.fault_count self.old.store)) }
+        ensures refusals { IfErr result IsOfStorage }
+        ensures faults { CountsFaults result (B.fault_count self.old.store) (B.fault_count self.new.store) }
     {
         steps_keep_their_promises();
         add_hold(&mut self.store, hold)

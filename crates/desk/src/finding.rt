@@ -1,12 +1,12 @@
 //! What is found of a request before anything is reserved.
-ghost use Rattle.std.specs.Prelude.{◌≡◌, ◌⊎◌, ℕ, ◌≤◌, List, None, length, IfOk, IfErr, MatchResult};
+ghost use Rattle.std.specs.Prelude.{◌≡◌, ℕ, ◌≤◌, List, None, length, IfOk, IfErr};
 ghost use Rattle.policy.specs.View.{policy_view};
 ghost use Rattle.tsp.specs.Request.{Spells};
 ghost use Rattle.tsp.specs.View.{request_view};
 ghost use Rattle.decide.specs.Verdict.{IsJudged};
 ghost use Rattle.decide.specs.View.{account_asked};
 ghost use Rattle.book.specs.History.{History, greatest_serial, day_of};
-ghost use Rattle.book.specs.Fault.{count_after};
+ghost use Rattle.book.specs.Fault.{CountsFaults, IsOfStorage};
 ghost use Rattle.book.specs.Stands.{Stands, OnlyLooks};
 ghost use Rattle.tsp.specs.Rules.{HasVersionOne, IsFirstFailing};
 ghost use Rattle.tsp.specs.declared.rule.Rule.{Rule};
@@ -53,9 +53,8 @@ fn count<B: Book + Drop>(
     ensures value { B.honest store.new → (b : History) → Stands B.Standing b store.old
         → IfOk result (λ count. count ≡ count_for (account_asked account.entry) (day_of gen_time) b) }
     ensures somebody { IfErr result (λ _. account_asked account.entry ≡ None → ⊥) }
-    ensures refusals { IfErr result (λ e. (e ≡ StoreFault.Memory) ⊎ (e ≡ StoreFault.Database)) }
-    ensures faults { MatchResult result (λ _. B.fault_count store.new ≡ B.fault_count store.old)
-        (λ e. B.fault_count store.new ≡ count_after e (B.fault_count store.old)) }
+    ensures refusals { IfErr result IsOfStorage }
+    ensures faults { CountsFaults result (B.fault_count store.old) (B.fault_count store.new) }
 {
     match account {
         None => Ok(0),

@@ -1,10 +1,10 @@
 //! What the store says of the clock.
-ghost use Rattle.std.specs.Prelude.{◌≡◌, ◌⊎◌, ℕ, ◌≤◌, pos, Option, Some, None, option_map, IfOk, IfErr, MatchResult};
+ghost use Rattle.std.specs.Prelude.{◌≡◌, ℕ, ◌≤◌, pos, Option, Some, None, option_map, IfOk, IfErr};
 ghost use Rattle.std.specs.Prelude.{MatchOption};
 ghost use Rattle.gentime.specs.GenTime.{last_moment};
 ghost use Rattle.book.specs.History.{History};
 ghost use Rattle.book.specs.Stands.{Stands, OnlyLooks};
-ghost use Rattle.book.specs.Fault.{count_after};
+ghost use Rattle.book.specs.Fault.{CountsFaults, IsOfStorage};
 ghost use Rattle.book.specs.Values.{calibration_option};
 ghost use Rattle.desk.specs.Facts.{now_with, is_held_at};
 ghost use Rattle.desk.specs.Calls.{looked_at, calibrations_as, moment_or_last};
@@ -82,9 +82,8 @@ fn is_held<B: Book + Drop>(
     ensures looks { OnlyLooks B.Standing store.old store.new }
     ensures value { B.honest store.new → (b : History) → Stands B.Standing b store.old
         → IfOk result (λ held. held ≡ is_held_at (now_with reading calibration) b) }
-    ensures refusals { IfErr result (λ e. (e ≡ StoreFault.Memory) ⊎ (e ≡ StoreFault.Database)) }
-    ensures faults { MatchResult result (λ _. B.fault_count store.new ≡ B.fault_count store.old)
-        (λ e. B.fault_count store.new ≡ count_after e (B.fault_count store.old)) }
+    ensures refusals { IfErr result IsOfStorage }
+    ensures faults { CountsFaults result (B.fault_count store.old) (B.fault_count store.new) }
 {
     let Some(calibration) = calibration else {
         return Ok(false);
@@ -100,9 +99,8 @@ pub(crate) fn look<B: Book + Drop>(store: &mut B, reading: i64) -> Result<Looked
     ensures looks { OnlyLooks B.Standing store.old store.new }
     ensures value { B.honest store.new → (b : History) → Stands B.Standing b store.old
         → IfOk result (λ looked. looked ≡ looked_at reading b) }
-    ensures refusals { IfErr result (λ e. (e ≡ StoreFault.Memory) ⊎ (e ≡ StoreFault.Database)) }
-    ensures faults { MatchResult result (λ _. B.fault_count store.new ≡ B.fault_count store.old)
-        (λ e. B.fault_count store.new ≡ count_after e (B.fault_count store.old)) }
+    ensures refusals { IfErr result IsOfStorage }
+    ensures faults { CountsFaults result (B.fault_count store.old) (B.fault_count store.new) }
 {
     let last = store.last()?;
     let calibration = calibration_as(store.calibration()?);
@@ -126,9 +124,8 @@ impl<'p, B: Book + Drop> Desk<'p, B> {
         ensures looks { OnlyLooks B.Standing self.old.store self.new.store }
         ensures value { B.honest self.new.store → (b : History) → Stands B.Standing b self.old.store
             → IfOk result (λ looked. looked ≡ looked_at reading b) }
-        ensures refusals { IfErr result (λ e. (e ≡ StoreFault.Memory) ⊎ (e ≡ StoreFault.Database)) }
-        ensures faults { MatchResult result (λ _. B.fault_count self.new.store ≡ B.fault_count self.old.store)
-            (λ e. B.fault_count self.new.store ≡ count_after e (B.fault_count self.old.store)) }
+        ensures refusals { IfErr result IsOfStorage }
+        ensures faults { CountsFaults result (B.fault_count self.old.store) (B.fault_count self.new.store) }
     {
         look(&mut self.store, reading)
     }

@@ -1,11 +1,11 @@
 //! Who gives and takes rights.
 ghost use Rattle.std.specs.Prelude.{◌≡◌, ◌∷◌, IfErr, OnOk, OnErr, MatchResult};
 ghost use Rattle.policy.specs.View.{account_view, policy_view};
-ghost use Rattle.book.specs.Fault.{count_after};
+ghost use Rattle.book.specs.Fault.{CountsFaults, IsOfStorage};
 ghost use Rattle.book.specs.History.{History, Granted, Revoked};
 ghost use Rattle.book.specs.Sound.{Fits};
 ghost use Rattle.book.specs.Stands.{Stands, OnlyLooks, LeavesOrAdds};
-ghost use Rattle.desk.specs.Calls.{opening_view, reader_view, IsOfStore};
+ghost use Rattle.desk.specs.Calls.{opening_view, reader_view};
 ghost use Rattle.desk.specs.Command.{Grant, Revoke};
 ghost use Rattle.desk.specs.Effects.{has_account, has_group};
 ghost use Rattle.desk.specs.Fault as refused;
@@ -84,9 +84,8 @@ fn give<B: Book + Drop>(store: &mut B, number: u64, reader: Reader<'_>) -> Resul
         → OnOk result (Stands B.Standing (Granted number (reader_view reader.entry) ∷ b) store.new) }
     ensures err { (b : History) → Stands B.Standing b store.old → OnErr result (Stands B.Standing b store.new) }
     ensures crash { LeavesOrAdds B.Standing (Granted number (reader_view reader.entry)) store.old store.new }
-    ensures refusals { IfErr result IsOfStore }
-    ensures faults { MatchResult result (λ _. B.fault_count store.new ≡ B.fault_count store.old)
-        (λ e. B.fault_count store.new ≡ count_after e (B.fault_count store.old)) }
+    ensures refusals { IfErr result IsOfStorage }
+    ensures faults { CountsFaults result (B.fault_count store.old) (B.fault_count store.new) }
 {
     match reader {
         Reader::Account(name) => store.grant(number, name),
@@ -102,9 +101,8 @@ fn take<B: Book + Drop>(store: &mut B, number: u64, reader: Reader<'_>) -> Resul
         → OnOk result (Stands B.Standing (Revoked number (reader_view reader.entry) ∷ b) store.new) }
     ensures err { (b : History) → Stands B.Standing b store.old → OnErr result (Stands B.Standing b store.new) }
     ensures crash { LeavesOrAdds B.Standing (Revoked number (reader_view reader.entry)) store.old store.new }
-    ensures refusals { IfErr result IsOfStore }
-    ensures faults { MatchResult result (λ _. B.fault_count store.new ≡ B.fault_count store.old)
-        (λ e. B.fault_count store.new ≡ count_after e (B.fault_count store.old)) }
+    ensures refusals { IfErr result IsOfStorage }
+    ensures faults { CountsFaults result (B.fault_count store.old) (B.fault_count store.new) }
 {
     match reader {
         Reader::Account(name) => store.revoke(number, name),

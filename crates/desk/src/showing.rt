@@ -1,12 +1,12 @@
 //! What an account sees.
 ghost use Rattle.std.specs.Prelude.{◌≡◌, ◌⊎◌, map, IfOk, IfErr, MatchResult};
 ghost use Rattle.policy.specs.View.{account_view, policy_view};
-ghost use Rattle.book.specs.Fault.{count_after};
+ghost use Rattle.book.specs.Fault.{CountsFaults, IsOfStorage};
 ghost use Rattle.book.specs.History.{History};
 ghost use Rattle.book.specs.Rights.{is_visible, listed};
 ghost use Rattle.book.specs.Stands.{Stands, OnlyLooks};
 ghost use Rattle.book.specs.Values.{listed_view};
-ghost use Rattle.desk.specs.Calls.{opening_view, IsOfStore};
+ghost use Rattle.desk.specs.Calls.{opening_view};
 ghost use Rattle.desk.specs.Command.{Show, Token, ListAll};
 ghost use Rattle.desk.specs.Fault as sight;
 ghost use Rattle.desk.specs.Obstacles.{fault_with, outcome_with, told_with, IsOfSight, Sees, IsUnseen};
@@ -33,9 +33,8 @@ fn is_seen<B: Book + Drop>(
     ensures looks { OnlyLooks B.Standing store.old store.new }
     ensures value { B.honest store.new → (b : History) → Stands B.Standing b store.old
         → IfOk result (λ seen. seen ≡ is_visible (viewer_in (policy_view policy.now) account.now) number b) }
-    ensures refusals { IfErr result IsOfStore }
-    ensures faults { MatchResult result (λ _. B.fault_count store.new ≡ B.fault_count store.old)
-        (λ e. B.fault_count store.new ≡ count_after e (B.fault_count store.old)) }
+    ensures refusals { IfErr result IsOfStorage }
+    ensures faults { CountsFaults result (B.fault_count store.old) (B.fault_count store.new) }
 {
     let groups = policy.groups_of(account);
     store.visible(number, account, groups.as_slice())
@@ -51,9 +50,8 @@ fn all_seen<B: Book + Drop>(
     ensures value { B.honest store.new → (b : History) → Stands B.Standing b store.old
         → IfOk result (λ rows. map listed_view rows.items
         ≡ listed (viewer_in (policy_view policy.now) account.now) b) }
-    ensures refusals { IfErr result IsOfStore }
-    ensures faults { MatchResult result (λ _. B.fault_count store.new ≡ B.fault_count store.old)
-        (λ e. B.fault_count store.new ≡ count_after e (B.fault_count store.old)) }
+    ensures refusals { IfErr result IsOfStorage }
+    ensures faults { CountsFaults result (B.fault_count store.old) (B.fault_count store.new) }
 {
     let groups = policy.groups_of(account);
     store.list(account, groups.as_slice())

@@ -1,12 +1,12 @@
 //! Which identity is in force: an opening and a succession install it.
-ghost use Rattle.std.specs.Prelude.{◌≡◌, ◌⊎◌, ◌∷◌, ℕ, List, Some, map, IfOk, IfErr, OnOk, OnErr, MatchResult};
-ghost use Rattle.book.specs.Fault.{count_after};
+ghost use Rattle.std.specs.Prelude.{◌≡◌, ◌⊎◌, ◌∷◌, ℕ, List, Some, map, IfOk, IfErr, OnOk, OnErr};
+ghost use Rattle.book.specs.Fault.{CountsFaults, IsOfStorage};
 ghost use Rattle.book.specs.History.{History, Installed};
 ghost use Rattle.book.specs.Identities.{identities, latest_identity, installed_as};
 ghost use Rattle.book.specs.Stands.{Stands, OnlyLooks, LeavesOrAdds};
 ghost use Rattle.book.specs.Values.{identity_view};
 ghost use Rattle.desk.specs.Answers.{answered};
-ghost use Rattle.desk.specs.Calls.{IsOfStore, in_force_of, opening_view, succeeded_as};
+ghost use Rattle.desk.specs.Calls.{in_force_of, opening_view, succeeded_as};
 ghost use Rattle.desk.specs.Command.{Setting, Succeed};
 ghost use Rattle.desk.specs.Obstacles.{fault_with, outcome_with, told_with};
 ghost use Rattle.desk.specs.Shown.{done_as};
@@ -45,9 +45,8 @@ fn is_installed<B: Book + Drop>(store: &mut B, identity: &Identity) -> Result<bo
     ensures opened { B.honest store.new → OnOk result (B.is_open store.old) }
     ensures value { B.honest store.new → (b : History) → Stands B.Standing b store.old
         → IfOk result (λ latest. latest ≡ is_latest (installed_by identity.now) (latest_identity b)) }
-    ensures refusals { IfErr result IsOfStore }
-    ensures faults { MatchResult result (λ _. B.fault_count store.new ≡ B.fault_count store.old)
-        (λ e. B.fault_count store.new ≡ count_after e (B.fault_count store.old)) }
+    ensures refusals { IfErr result IsOfStorage }
+    ensures faults { CountsFaults result (B.fault_count store.old) (B.fault_count store.new) }
 {
     let rows = store.identities()?;
     Ok(is_last(rows, identity))
@@ -61,9 +60,8 @@ fn add<B: Book + Drop>(store: &mut B, identity: &Identity) -> Result<(), StoreFa
         → OnOk result (Stands B.Standing (Installed (installed_by identity.now) ∷ b) store.new) }
     ensures err { (b : History) → Stands B.Standing b store.old → OnErr result (Stands B.Standing b store.new) }
     ensures crash { LeavesOrAdds B.Standing (Installed (installed_by identity.now)) store.old store.new }
-    ensures refusals { IfErr result IsOfStore }
-    ensures faults { MatchResult result (λ _. B.fault_count store.new ≡ B.fault_count store.old)
-        (λ e. B.fault_count store.new ≡ count_after e (B.fault_count store.old)) }
+    ensures refusals { IfErr result IsOfStorage }
+    ensures faults { CountsFaults result (B.fault_count store.old) (B.fault_count store.new) }
 {
     store.install(identity.certificate(), identity.chain())
 }

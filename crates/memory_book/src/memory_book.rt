@@ -20,7 +20,7 @@ use book::{
 use std::alloc::Global;
 
 /// A history in memory. It refuses a call with `Database` where the call is chosen, and with `Memory` where a growth is
-/// refused; a call so refused changes nothing else.
+/// refused; a call so refused changes nothing else. A look-up of a number above 2^63 - 1 is no such call.
 #[derive(Debug, Drop)]
 pub struct MemoryBook {
     /// The newest first.
@@ -122,11 +122,17 @@ impl Book for MemoryBook {
     }
 
     fn deposit(&mut self, number: u64) -> Result<Option<StampedDeposit>, StoreFault> {
+        if number > GREATEST_NUMBER {
+            return Ok(None);
+        }
         self.calls.begin()?;
         stamped_deposit(self.alloc, self.entries.as_slice(), number)
     }
 
     fn visible(&mut self, number: u64, account: &str, groups: &[&str]) -> Result<bool, StoreFault> {
+        if number > GREATEST_NUMBER {
+            return Ok(false);
+        }
         self.calls.begin()?;
         Ok(is_visible(self.entries.as_slice(), number, account, groups))
     }

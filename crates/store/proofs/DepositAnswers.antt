@@ -11,49 +11,38 @@ use Rattle.tables.specs.declared.rows.Origin.{Origin}
 use Rattle.book.specs.History.{History, deposit_at, stamp_at}
 use Rattle.book.specs.Rights.{deposit_with_stamp}
 use Rattle.book.specs.Sound.{IsSound}
-use Rattle.store.specs.Steps.{IsAskedFor, IsOriginOf, listing_at}
+use Rattle.store.specs.Steps.{IsOriginOf, listing_at}
 use Rattle.store.specs.Replay.{replayed}
-use Rattle.store.proofs.DepositRows.{deposit_view_of, stamp_view_of, origin_view_of, same_deposit, same_stamp}
+use Rattle.store.proofs.DepositRows.{deposit_view_of, stamp_view_of, origin_view_of}
 use Rattle.store.proofs.DepositRows.{unreserved_listing, unlabelled_listing, labelled_listing}
 
 -- ---- a deposit with its stamp
 
-deposit_seen : (b : History) (n asked : ℕ) (found : Option Deposit) → IsSound b → IsAskedFor n asked
-    → IsFoundAs ShowsDeposit (is_deposit asked) (replayed b).deposits found
-    → option_map deposit_view found ≡ deposit_at n b
-deposit_seen b n asked found s is rows = deposit_view_of b asked found s rows ∙ same_deposit b n asked s is
-
-stamp_seen : (b : History) (n asked : ℕ) (found : Option Stamp) → IsSound b → IsAskedFor n asked
-    → IsFoundAs ShowsStamp (is_stamp asked) (replayed b).stamps found → option_map stamp_view found ≡ stamp_at n b
-stamp_seen b n asked found s is rows = stamp_view_of b asked found s rows ∙ same_stamp b n asked s is
-
-pub without_deposit : (b : History) (n asked : ℕ) (found : Option Deposit) → IsSound b → IsAskedFor n asked
-    → found ≡ None
-    → IsFoundAs ShowsDeposit (is_deposit asked) (replayed b).deposits found → None ≡ deposit_with_stamp n b
-without_deposit b n asked found s is none rows =
+pub without_deposit : (b : History) (n : ℕ) (found : Option Deposit) → IsSound b → found ≡ None
+    → IsFoundAs ShowsDeposit (is_deposit n) (replayed b).deposits found → None ≡ deposit_with_stamp n b
+without_deposit b n found s none rows =
     let at : deposit_at n b ≡ None =
-    sym (deposit_seen b n asked found s is rows) ∙ ap (option_map deposit_view) none in rw at refl
+    sym (deposit_view_of b n found s rows) ∙ ap (option_map deposit_view) none in rw at refl
 
-pub without_stamp : (b : History) (n asked : ℕ) (found : Option Stamp) → IsSound b → IsAskedFor n asked → found ≡ None
-    → IsFoundAs ShowsStamp (is_stamp asked) (replayed b).stamps found → None ≡ deposit_with_stamp n b
-without_stamp b n asked found s is none rows =
-    let at : stamp_at n b ≡ None = sym (stamp_seen b n asked found s is rows) ∙ ap (option_map stamp_view) none in
+pub without_stamp : (b : History) (n : ℕ) (found : Option Stamp) → IsSound b → found ≡ None
+    → IsFoundAs ShowsStamp (is_stamp n) (replayed b).stamps found → None ≡ deposit_with_stamp n b
+without_stamp b n found s none rows =
+    let at : stamp_at n b ≡ None = sym (stamp_view_of b n found s rows) ∙ ap (option_map stamp_view) none in
     whatever at (deposit_at n b) refl where
       whatever : stamp_at n b ≡ None → (o : Option DepositRow) → deposit_at n b ≡ o → None ≡ deposit_with_stamp n b
       whatever at None e = rw e refl
       whatever at (Some d) e = rw (e, at) refl
 
-pub with_both : (b : History) (n asked : ℕ) (found : Option Deposit) (stamped : Option Stamp) (deposit : Deposit)
-    (stamp : Stamp) → IsSound b
-    → IsAskedFor n asked → found ≡ Some deposit → stamped ≡ Some stamp
-    → IsFoundAs ShowsDeposit (is_deposit asked) (replayed b).deposits found
-    → IsFoundAs ShowsStamp (is_stamp asked) (replayed b).stamps stamped
+pub with_both : (b : History) (n : ℕ) (found : Option Deposit) (stamped : Option Stamp) (deposit : Deposit)
+    (stamp : Stamp) → IsSound b → found ≡ Some deposit → stamped ≡ Some stamp
+    → IsFoundAs ShowsDeposit (is_deposit n) (replayed b).deposits found
+    → IsFoundAs ShowsStamp (is_stamp n) (replayed b).stamps stamped
     → Some (deposit_view deposit, stamp_view stamp) ≡ deposit_with_stamp n b
-with_both b n asked found stamped deposit stamp s is first second rows stamps =
+with_both b n found stamped deposit stamp s first second rows stamps =
     let at : deposit_at n b ≡ Some (deposit_view deposit) =
-    sym (deposit_seen b n asked found s is rows) ∙ ap (option_map deposit_view) first in
+    sym (deposit_view_of b n found s rows) ∙ ap (option_map deposit_view) first in
     let stamp_is : stamp_at n b ≡ Some (stamp_view stamp) =
-    sym (stamp_seen b n asked stamped s is stamps) ∙ ap (option_map stamp_view) second in
+    sym (stamp_view_of b n stamped s stamps) ∙ ap (option_map stamp_view) second in
     rw (at, stamp_is) refl
 
 -- ---- what a list shows of a deposit

@@ -5,7 +5,7 @@ use Rattle.std.proofs.Common.{inl, inr, arith, Contains, string_bytes}
 use Rattle.std.specs.Option.{is_some}
 use Rattle.std.specs.List.{list_any}
 use Rattle.std.specs.Str.{bytes_eq}
-use Rattle.std.proofs.lemmas.Bool.{eqb-true, eq-eqb, ne_eqb}
+use Rattle.std.proofs.lemmas.Bool.{eqb-true, eq-eqb}
 use Rattle.std.proofs.lemmas.Bool.Decides.{eqb_tells}
 use Rattle.std.proofs.lemmas.Slice.Eq.{bytes_eq-Decides}
 use Rattle.tables.specs.Found.{IsFoundAs}
@@ -26,7 +26,7 @@ use Rattle.store.proofs.Falling.{stamps_fall}
 use Rattle.store.proofs.Members.{IsSingle, IsSearchedAs, both_true, true_or_false, found_is_searched, found_member}
 use Rattle.store.proofs.Members.{find_single, find_none, none_pass, some_pass, falling_single, member_cases}
 use Rattle.store.proofs.Members.{no_member}
-use Rattle.store.specs.Steps.{IsAskedFor, IsOriginOf, listing_at}
+use Rattle.store.specs.Steps.{IsOriginOf, listing_at}
 use Rattle.store.proofs.Stamps.{stamps_are, absent_above, unreserved}
 
 pub deposits_are : (b : History) → (replayed b).deposits ≡ deposits b
@@ -321,49 +321,12 @@ no_deposit b n s none = find_none (is_deposit n) (deposits b)
 pub none_beyond : (b : History) (n : ℕ) → IsSound b → greatest_serial b < n → deposit_at n b ≡ None
 none_beyond b n s l = no_deposit b n s (absent_above (reservations b) n l)
 
-zero_unreserved : (b : History) → IsSound b → reservation_at 0 b ≡ None
-zero_unreserved [] s = refl
-zero_unreserved (Reserved r ∷ b) s =
-    let rises : greatest_serial b < r.serial = s.0.rises in
-    let differs : (r.serial == 0) ≡ false = ne_eqb r.serial 0 (λ e. absurd (omega (arith, rises, e))) in
-    rw differs (zero_unreserved b s.1)
-zero_unreserved (_ ∷ b) s = zero_unreserved b s.1
-
 pub serials_within : (b : History) → IsSound b → greatest_serial b ≤ greatest_number
 serials_within [] s = omega arith
 serials_within (Reserved r ∷ b) s =
     let rises : greatest_serial b < r.serial = s.0.rises in
     let within : r.serial ≤ greatest_number = s.0.within in omega (arith, rises, within)
 serials_within (_ ∷ b) s = serials_within b s.1
-
--- the number that is asked for in the place of another finds the same
-pub same_deposit : (b : History) (n asked : ℕ) → IsSound b → IsAskedFor n asked → deposit_at asked b ≡ deposit_at n b
-same_deposit b n asked s (inl same) = ap (λ k. deposit_at k b) same
-same_deposit b n asked s (inr (zero_is, beyond)) =
-    let within = serials_within b s in
-    let P : ℕ → Type 0 = λ k. deposit_at k b ≡ None in
-    let none : deposit_at 0 b ≡ None = no_deposit b 0 s (zero_unreserved b s) in
-    subst P (sym zero_is) none ∙ sym (none_beyond b n s (omega (arith, within, beyond)))
-
-pub same_stamp : (b : History) (n asked : ℕ) → IsSound b → IsAskedFor n asked → stamp_at asked b ≡ stamp_at n b
-same_stamp b n asked s (inl same) = ap (λ k. stamp_at k b) same
-same_stamp b n asked s (inr (zero_is, beyond)) =
-    let within = serials_within b s in
-    let none : reservation_at 0 b ≡ None = zero_unreserved b s in
-    let P : ℕ → Type 0 = λ k. stamp_at k b ≡ None in
-    let at_zero : stamp_at 0 b ≡ None = rw none refl in
-    let at_number : reservation_at n b ≡ None = absent_above (reservations b) n (omega (arith, within, beyond)) in
-    subst P (sym zero_is) at_zero ∙ rw at_number refl
-
-pub same_visible : (b : History) (n asked : ℕ) (viewer : Viewer) → IsSound b → IsAskedFor n asked
-    → is_visible viewer asked b ≡ is_visible viewer n b
-same_visible b n asked viewer s (inl same) = ap (λ k. is_visible viewer k b) same
-same_visible b n asked viewer s (inr (zero_is, beyond)) =
-    let within = serials_within b s in
-    let at_asked : deposit_at asked b ≡ None =
-    same_deposit b n asked s (inr (zero_is, beyond)) ∙ none_beyond b n s (omega (arith, within, beyond)) in
-    let at_number : deposit_at n b ≡ None = none_beyond b n s (omega (arith, within, beyond)) in
-    rw (at_asked, at_number) refl
 
 -- ---- what a list shows of a deposit
 
@@ -413,24 +376,23 @@ labelled_listing b n origin label s (r, at, account, gen_time) (d, m, passes, sh
 
 -- ---- who sees a number that is asked for
 
-pub seen_by_reader : (b : History) (n asked : ℕ) (viewer : Viewer) (reads : Bool) → IsSound b → IsAskedFor n asked
-    → reads ≡ true → reads ≡ may_read viewer asked b → true ≡ is_visible viewer n b
-seen_by_reader b n asked viewer reads s is true_is found =
-    let read : may_read viewer asked b ≡ true = sym found ∙ true_is in
-    sym (rw read (or_true (list_any (is_owned asked viewer.name) (replayed b).deposits)))
-    ∙ visible_view b asked viewer s ∙ same_visible b n asked viewer s is where
+pub seen_by_reader : (b : History) (n : ℕ) (viewer : Viewer) (reads : Bool) → IsSound b → reads ≡ true
+    → reads ≡ may_read viewer n b → true ≡ is_visible viewer n b
+seen_by_reader b n viewer reads s true_is found =
+    let read : may_read viewer n b ≡ true = sym found ∙ true_is in
+    sym (rw read (or_true (list_any (is_owned n viewer.name) (replayed b).deposits))) ∙ visible_view b n viewer s where
       or_true : (v : Bool) → (v || true) ≡ true
       or_true true = refl
       or_true false = refl
 
-pub seen_by_owner : (b : History) (n asked : ℕ) (viewer : Viewer) (reads owns : Bool) → IsSound b → IsAskedFor n asked
-    → reads ≡ false → reads ≡ may_read viewer asked b
-    → owns ≡ list_any (is_owned asked viewer.name) (replayed b).deposits
+pub seen_by_owner : (b : History) (n : ℕ) (viewer : Viewer) (reads owns : Bool) → IsSound b → reads ≡ false
+    → reads ≡ may_read viewer n b
+    → owns ≡ list_any (is_owned n viewer.name) (replayed b).deposits
     → owns ≡ is_visible viewer n b
-seen_by_owner b n asked viewer reads owns s is false_is found own =
-    let read : may_read viewer asked b ≡ false = sym found ∙ false_is in
-    own ∙ sym (rw read (or_false (list_any (is_owned asked viewer.name) (replayed b).deposits)))
-    ∙ visible_view b asked viewer s ∙ same_visible b n asked viewer s is where
+seen_by_owner b n viewer reads owns s false_is found own =
+    let read : may_read viewer n b ≡ false = sym found ∙ false_is in
+    own ∙ sym (rw read (or_false (list_any (is_owned n viewer.name) (replayed b).deposits)))
+    ∙ visible_view b n viewer s where
       or_false : (v : Bool) → (v || false) ≡ v
       or_false true = refl
       or_false false = refl

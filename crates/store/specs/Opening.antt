@@ -16,6 +16,7 @@ use Rattle.book.specs.declared.fault.StoreFault.TheVariants.{Database, NotOurs}
 use Rattle.store.specs.declared.finding.Found.{Found}
 use Rattle.store.specs.declared.finding.Found.TheVariants as found
 use Rattle.sqlite.specs.Closing.{HoldsAlone}
+use Rattle.sqlite.specs.Does.{lacks_sequence}
 use Rattle.sqlite.specs.declared.file.Leftover.{Leftover}
 use Rattle.sqlite.specs.Files.{file_state, over_files, image_of, IsOpened, IsCleanLeft, HoldsDatabase, IsNothing}
 use Rattle.sqlite.specs.Held.{Held, state}
@@ -23,6 +24,7 @@ use Rattle.sqlite.specs.Start.{FindsIn}
 use Rattle.sqlite.specs.State.{State, HasCleanDisk}
 use Rattle.tables.specs.Asking.{Looks, StaysUsable}
 use Rattle.tables.specs.Base.{BaseValue, IsStored}
+use Rattle.tables.specs.Beside.{IsStoredBeside}
 use Rattle.tables.specs.Faults.{fault_of, opening_fault_of, told, told_using}
 use Rattle.tables.specs.Migrating.{Migrates}
 use Rattle.tables.specs.Opening.{IsFound, IsFoundIn, LooksOurs, LooksForeign, number_of}
@@ -43,12 +45,14 @@ pub record LeavesAsItWas (old new : State) : Type 0 where
       → (new.now ≡ old.now) × (new.now ≡ new.committed)
   pub usable : StaysUsable old new
 
--- what a crash in it, or at its end, may leave: what it could leave before or, of an empty database, the tables of the
--- empty history
+-- What a crash in it, or at its end, may leave: what it could leave before, or our tables beside those that were there,
+-- each with the rows that it held; of an empty database, the tables of the empty history.
 abbrev pub LeavesOrMakes : State → State → Type 0
 LeavesOrMakes old new =
     HasCleanDisk new → (db : Trees) → new.may_leave db
-    → old.may_leave db ⊎ (old.now.schema ≡ no_schema → IsStored (tables_of []) db)
+    → old.may_leave db
+    ⊎ ((old.now.schema ≡ no_schema → IsStored (tables_of []) db)
+    × (lacks_sequence old.now.schema ≡ false → IsStoredBeside old.now db))
 
 -- what a crash in a migration, or at its end, may leave: what it could leave before or, of a history's tables in any
 -- version, its tables of now
@@ -77,9 +81,12 @@ pub record LeavesFiles {D : Type 0} (g : Ghosts D) (b : History) (files : Files 
   pub left : (image : Image) → outcomes g files.log files.db image → KeepsAlone b image
 
 -- the tables of a connection were taken to the schema of now
+abbrev pub HasMigrated : State → State → Type 0
+HasMigrated old new = Migrates {E = StoreFault} old new (Ok tt)
+
 pub record IsMigrated {D : Type 0} {g : Ghosts D} (was : Held (FileStore D g)) : Type 0 where
   pub left : Held (FileStore D g)
-  pub migrates : Migrates {E = StoreFault} (file_state was) (file_state left) (Ok tt)
+  pub migrates : HasMigrated (file_state was) (file_state left)
 
 -- those of one that was opened over what the files held
 pub record MigratesFound {D : Type 0} (g : Ghosts D) (held : Image) : Type 0 where

@@ -1,5 +1,5 @@
 -- What the calls make of a look-up's answer: stepping stones, no definitions.
-use Rattle.std.specs.Prelude.{◌≡◌, ◌⊎◌, ℕ, ◌+◌, ◌<◌, ◌&&◌, min, nat_lt, nat_le, if◌then◌else◌, Bool, true, false}
+use Rattle.std.specs.Prelude.{◌≡◌, ℕ, ◌+◌, ◌<◌, ◌&&◌, min, nat_lt, nat_le, if◌then◌else◌, Bool, true, false}
 use Rattle.std.specs.Prelude.{List, [], ◌∷◌, length, get_or, IfSome, Option, Some, None, option_map, option_and_then}
 use Rattle.std.specs.Prelude.{string_bytes}
 use Rattle.tables.specs.declared.rows.LastStamp.{LastStamp}
@@ -26,10 +26,6 @@ next_number (Some n) = n + 1
 
 abbrev pub next_calibration : Option LatestCalibration → ℕ
 next_calibration latest = next_number (option_map (λ c. c.n) latest)
-
--- a number that the tables can be asked for, in the place of any: 0 is nobody's
-abbrev pub IsAskedFor : ℕ → ℕ → Type 0
-IsAskedFor number asked = (asked ≡ number) ⊎ ((asked ≡ 0) × (greatest_number < number))
 
 -- the least number after another that passes a test, if there is one
 abbrev pub IsNextOf : (ℕ → Bool) → ℕ → Option ℕ → Type 0

@@ -1,10 +1,10 @@
 //! The walk of a list, from one deposit that who asks sees to the next: by the least of several cursors, of those that
 //! the account owns, those that it reads by its own name, and those that it reads in each of its groups.
-ghost use Rattle.std.specs.Prelude.{◌≡◌, ◌⊎◌, ◌<◌, ◌^◌, length, map, replicate, Some, IfOk, IfErr, IfSome, OnOk};
-ghost use Rattle.std.specs.Prelude.{MatchResult, IsTrue, ◌↔◌};
+ghost use Rattle.std.specs.Prelude.{◌≡◌, ◌<◌, ◌^◌, length, map, replicate, Some, IfOk, IfErr, IfSome, OnOk};
+ghost use Rattle.std.specs.Prelude.{IsTrue};
 ghost use Rattle.tables.specs.Base.{IsHonest, IsOpen};
 ghost use Rattle.book.specs.History.{History};
-ghost use Rattle.book.specs.Fault.{count_after};
+ghost use Rattle.book.specs.Fault.{CountsFaults, IsOfStorage};
 ghost use Rattle.book.specs.Readers.{Account, Group};
 ghost use Rattle.book.specs.Values.{viewer_of};
 ghost use Rattle.book.specs.Stands.{Stands, OnlyLooks};
@@ -77,9 +77,8 @@ impl<S: Alter + Drop> Store<S> {
             × AreNextReadable (viewer_of account.now (map (λ name. name.now) groups.now)) after b
             cursors.new.own cursors.new.shared.items) }
         ensures rises { IfOk result (λ next. IfSome next (λ number. (after < number) × (number < 2 ^ 63))) }
-        ensures refusals { IfErr result (λ e. (e ≡ StoreFault.Memory) ⊎ (e ≡ StoreFault.Database)) }
-        ensures faults { MatchResult result (λ _. self.new.faults ≡ self.old.faults)
-            (λ e. self.new.faults ≡ count_after e self.old.faults) }
+        ensures refusals { IfErr result IsOfStorage }
+        ensures faults { CountsFaults result self.old.faults self.new.faults }
     {
         let owned = self.base.next_owned(account, after)?;
         self.advance(account, groups, after, cursors)?;
@@ -102,9 +101,8 @@ impl<S: Alter + Drop> Store<S> {
             cursors.old.own cursors.old.shared.items
             → OnOk result (AreNextReadable (viewer_of account.now (map (λ name. name.now) groups.now)) after b
             cursors.new.own cursors.new.shared.items) }
-        ensures refusals { IfErr result (λ e. (e ≡ StoreFault.Memory) ⊎ (e ≡ StoreFault.Database)) }
-        ensures faults { MatchResult result (λ _. self.new.faults ≡ self.old.faults)
-            (λ e. self.new.faults ≡ count_after e self.old.faults) }
+        ensures refusals { IfErr result IsOfStorage }
+        ensures faults { CountsFaults result self.old.faults self.new.faults }
     {
         cursors.own = self.next_own(account, after, cursors.own)?;
         for (i, name) in groups.iter().enumerate() {
@@ -124,9 +122,8 @@ impl<S: Alter + Drop> Store<S> {
         ensures value { IsHonest S.Store self.new → (b : History) → Stands (over_tables S.Store) b self.old
             → IsCursor (Account account.now) after b found
             → IfOk result (λ next. IsNextReadable (Account account.now) after b next) }
-        ensures refusals { IfErr result (λ e. (e ≡ StoreFault.Memory) ⊎ (e ≡ StoreFault.Database)) }
-        ensures faults { MatchResult result (λ _. self.new.faults ≡ self.old.faults)
-            (λ e. self.new.faults ≡ count_after e self.old.faults) }
+        ensures refusals { IfErr result IsOfStorage }
+        ensures faults { CountsFaults result self.old.faults self.new.faults }
     {
         if is_after(found, after) {
             return Ok(found);
@@ -146,9 +143,8 @@ impl<S: Alter + Drop> Store<S> {
         ensures value { IsHonest S.Store self.new → (b : History) → Stands (over_tables S.Store) b self.old
             → IsCursor (Group name.now) after b found
             → IfOk result (λ next. IsNextReadable (Group name.now) after b next) }
-        ensures refusals { IfErr result (λ e. (e ≡ StoreFault.Memory) ⊎ (e ≡ StoreFault.Database)) }
-        ensures faults { MatchResult result (λ _. self.new.faults ≡ self.old.faults)
-            (λ e. self.new.faults ≡ count_after e self.old.faults) }
+        ensures refusals { IfErr result IsOfStorage }
+        ensures faults { CountsFaults result self.old.faults self.new.faults }
     {
         if is_after(found, after) {
             return Ok(found);

@@ -1,18 +1,18 @@
 //! Deposits and rights: who reads a deposit, and what a list shows of one.
-ghost use Rattle.std.specs.Prelude.{◌≡◌, ◌⊎◌, ◌<◌, ◌^◌, map, option_map, IfOk, IfErr, IfSome, OnOk};
-ghost use Rattle.std.specs.Prelude.{MatchResult, IsTrue, ℕ, ◌++◌, option_to_list};
+ghost use Rattle.std.specs.Prelude.{◌≡◌, map, option_map, IfOk, IfErr, OnOk};
+ghost use Rattle.std.specs.Prelude.{◌++◌, option_to_list};
 ghost use Rattle.tables.specs.Base.{IsHonest, IsOpen};
 ghost use Rattle.book.specs.History.{History};
-ghost use Rattle.book.specs.Fault.{count_after};
+ghost use Rattle.book.specs.Fault.{CountsFaults, IsOfStorage};
 ghost use Rattle.book.specs.Readers.{Account, Group};
 ghost use Rattle.book.specs.Rights.{is_reader, may_read};
 ghost use Rattle.book.specs.Values.{listed_view, viewer_of};
 ghost use Rattle.book.specs.Stands.{Stands, OnlyLooks};
 ghost use Rattle.store.specs.Stands.{over_tables};
-ghost use Rattle.store.specs.Steps.{IsAskedFor, listing_at};
+ghost use Rattle.store.specs.Steps.{listing_at};
 
 use crate::store::Store;
-use book::{GREATEST_NUMBER, Listed, StoreFault};
+use book::{Listed, StoreFault};
 use sqlite::Alter;
 
 impl<S: Alter + Drop> Store<S> {
@@ -28,9 +28,8 @@ impl<S: Alter + Drop> Store<S> {
         ensures value { IsHonest S.Store self.new → (b : History) → Stands (over_tables S.Store) b self.old
             → IfOk result (λ reads.
             reads ≡ may_read (viewer_of account.now (map (λ name. name.now) groups.now)) number b) }
-        ensures refusals { IfErr result (λ e. (e ≡ StoreFault.Memory) ⊎ (e ≡ StoreFault.Database)) }
-        ensures faults { MatchResult result (λ _. self.new.faults ≡ self.old.faults)
-            (λ e. self.new.faults ≡ count_after e self.old.faults) }
+        ensures refusals { IfErr result IsOfStorage }
+        ensures faults { CountsFaults result self.old.faults self.new.faults }
     {
         let reads = self.is_reader(number, account)?;
         if reads {
@@ -51,9 +50,8 @@ impl<S: Alter + Drop> Store<S> {
         ensures opened { IsHonest S.Store self.new → OnOk result (IsOpen S.Store self.old) }
         ensures value { IsHonest S.Store self.new → (b : History) → Stands (over_tables S.Store) b self.old
             → IfOk result (λ reads. reads ≡ is_reader number (Account account.now) b) }
-        ensures refusals { IfErr result (λ e. (e ≡ StoreFault.Memory) ⊎ (e ≡ StoreFault.Database)) }
-        ensures faults { MatchResult result (λ _. self.new.faults ≡ self.old.faults)
-            (λ e. self.new.faults ≡ count_after e self.old.faults) }
+        ensures refusals { IfErr result IsOfStorage }
+        ensures faults { CountsFaults result self.old.faults self.new.faults }
     {
         let reads = self.base.is_reader(number, account)?;
         Ok(reads)
@@ -65,9 +63,8 @@ impl<S: Alter + Drop> Store<S> {
         ensures opened { IsHonest S.Store self.new → OnOk result (IsOpen S.Store self.old) }
         ensures value { IsHonest S.Store self.new → (b : History) → Stands (over_tables S.Store) b self.old
             → IfOk result (λ reads. reads ≡ is_reader number (Group name.now) b) }
-        ensures refusals { IfErr result (λ e. (e ≡ StoreFault.Memory) ⊎ (e ≡ StoreFault.Database)) }
-        ensures faults { MatchResult result (λ _. self.new.faults ≡ self.old.faults)
-            (λ e. self.new.faults ≡ count_after e self.old.faults) }
+        ensures refusals { IfErr result IsOfStorage }
+        ensures faults { CountsFaults result self.old.faults self.new.faults }
     {
         let reads = self.base.is_group_reader(number, name)?;
         Ok(reads)
@@ -79,9 +76,8 @@ impl<S: Alter + Drop> Store<S> {
         ensures opened { IsHonest S.Store self.new → OnOk result (IsOpen S.Store self.old) }
         ensures value { IsHonest S.Store self.new → (b : History) → Stands (over_tables S.Store) b self.old
             → IfOk result (λ found. option_map listed_view found ≡ listing_at number b) }
-        ensures refusals { IfErr result (λ e. (e ≡ StoreFault.Memory) ⊎ (e ≡ StoreFault.Database)) }
-        ensures faults { MatchResult result (λ _. self.new.faults ≡ self.old.faults)
-            (λ e. self.new.faults ≡ count_after e self.old.faults) }
+        ensures refusals { IfErr result IsOfStorage }
+        ensures faults { CountsFaults result self.old.faults self.new.faults }
     {
         let Some(origin) = self.base.origin(number)? else {
             return Ok(None);
@@ -96,13 +92,6 @@ impl<S: Alter + Drop> Store<S> {
             gen_time: origin.gen_time,
         }))
     }
-}
-
-/// A number that the tables can be asked for in the place of any: no deposit has 0, nor one above all serial numbers.
-pub(crate) fn asked_for(number: u64) -> u64
-    ensures { IsAskedFor number result }
-{
-    if number > GREATEST_NUMBER { 0 } else { number }
 }
 
 /// Adds a row, if there is one.

@@ -1,6 +1,7 @@
 //! What stands at a path, found without changing it.
-ghost use Rattle.std.specs.Prelude.{◌≡◌, ◌⊎◌, ◌↔◌, IfOk, IfErr, IsTrue};
+ghost use Rattle.std.specs.Prelude.{◌≡◌, ◌↔◌, IfOk, IfErr, IsTrue};
 ghost use Rattle.store.specs.Opening.{beginning, found_as};
+ghost use Rattle.book.specs.Fault.{IsOfStorage};
 
 use book::StoreFault;
 use std::fs;
@@ -34,7 +35,7 @@ pub(crate) struct Place<'path> {
 /// memory runs out.
 pub(crate) fn find<'path>(rt: &HostRuntime, path: &'path str) -> Result<Place<'path>, StoreFault>
     ensures there { IfOk result (λ place. place.path.now ≡ path.now) }
-    ensures refusals { IfErr result (λ e. (e ≡ StoreFault.Memory) ⊎ (e ≡ StoreFault.Database)) }
+    ensures refusals { IfErr result IsOfStorage }
 {
     match look(rt, path) {
         Ok(found) => Ok(Place { path, found }),

@@ -1,9 +1,8 @@
 //! Identities that follow one another: the number of the next, and each of them in turn.
-ghost use Rattle.std.specs.Prelude.{◌≡◌, ◌⊎◌, ◌<◌, ◌+◌, ◌^◌, length, option_map, slice_get, IfOk, IfErr, OnOk};
-ghost use Rattle.std.specs.Prelude.{MatchResult};
+ghost use Rattle.std.specs.Prelude.{◌≡◌, ◌<◌, ◌+◌, ◌^◌, length, option_map, slice_get, IfOk, IfErr, OnOk};
 ghost use Rattle.tables.specs.Base.{IsHonest, IsOpen};
 ghost use Rattle.book.specs.History.{History, installations};
-ghost use Rattle.book.specs.Fault.{count_after};
+ghost use Rattle.book.specs.Fault.{CountsFaults, IsOfStorage};
 ghost use Rattle.book.specs.Identities.{identities};
 ghost use Rattle.book.specs.Values.{identity_view};
 ghost use Rattle.book.specs.Stands.{Stands, OnlyLooks};
@@ -20,9 +19,8 @@ impl<S: Alter + Drop> Store<S> {
         ensures opened { IsHonest S.Store self.new → OnOk result (IsOpen S.Store self.old) }
         ensures value { IsHonest S.Store self.new → (b : History) → Stands (over_tables S.Store) b self.old
             → IfOk result (λ number. number ≡ length (installations b) + 1) }
-        ensures refusals { IfErr result (λ e. (e ≡ StoreFault.Memory) ⊎ (e ≡ StoreFault.Database)) }
-        ensures faults { MatchResult result (λ _. self.new.faults ≡ self.old.faults)
-            (λ e. self.new.faults ≡ count_after e self.old.faults) }
+        ensures refusals { IfErr result IsOfStorage }
+        ensures faults { CountsFaults result self.old.faults self.new.faults }
     {
         let greatest = self.base.greatest_identity()?;
         Ok(next_number(greatest))
@@ -35,9 +33,8 @@ impl<S: Alter + Drop> Store<S> {
         ensures opened { IsHonest S.Store self.new → OnOk result (IsOpen S.Store self.old) }
         ensures value { IsHonest S.Store self.new → (b : History) → Stands (over_tables S.Store) b self.old
             → IfOk result (λ found. option_map identity_view found ≡ slice_get (identities b) count) }
-        ensures refusals { IfErr result (λ e. (e ≡ StoreFault.Memory) ⊎ (e ≡ StoreFault.Database)) }
-        ensures faults { MatchResult result (λ _. self.new.faults ≡ self.old.faults)
-            (λ e. self.new.faults ≡ count_after e self.old.faults) }
+        ensures refusals { IfErr result IsOfStorage }
+        ensures faults { CountsFaults result self.old.faults self.new.faults }
     {
         let found = self.base.identity(count + 1)?;
         Ok(found)

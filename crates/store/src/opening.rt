@@ -2,14 +2,17 @@
 ghost use Rattle.std.specs.Prelude.{◌≡◌, ◌⊎◌, [], false, IfOk, IfErr, OnOk, IsTrue, MatchResult};
 ghost use Rattle.sqlite_wal.specs.Reads.{AreClean};
 ghost use Rattle.sqlite.specs.Files.{over_files};
+ghost use Rattle.sqlite.specs.Does.{lacks_sequence};
 ghost use Rattle.sqlite.specs.Held.{state};
 ghost use Rattle.sqlite.specs.State.{HasCleanDisk};
 ghost use Rattle.tables.specs.Asking.{Looks};
+ghost use Rattle.tables.specs.Beside.{MakesBeside, IsUntaken};
 ghost use Rattle.tables.specs.Migrating.{Migrates};
 ghost use Rattle.tables.specs.Opening.{IsFound, IsFoundIn, LooksOurs, LooksAs, LooksForeign, IsInTheWay};
 ghost use Rattle.tables.specs.Opening.{IsUntold, number_of, takes_name};
 ghost use Rattle.tables.specs.declared.opening.Version.{Version};
 ghost use Rattle.tables.specs.Schema.{no_schema};
+ghost use Rattle.book.specs.Fault.{IsOfStorage, IsOfStorageOr};
 ghost use Rattle.book.specs.History.{History};
 ghost use Rattle.store.specs.Opening.{LeavesFiles, LeavesAsItWas, LeavesOrMakes, LeavesOrMigrates, told_closing};
 ghost use Rattle.book.specs.Sound.{IsSound};
@@ -24,14 +27,16 @@ use std::alloc::Global;
 use tables::{Base, TableFault, migrate};
 
 impl<S: Alter + Drop> Store<S> {
-    /// Makes all tables in an empty database, in one commit. The caller's condition is a connection outside any
-    /// transaction, which comes back with a refusal: `Memory`, `Database`, or `NotOurs` where a table's name is taken.
+    /// Makes all tables, in one commit, beside those that a database has, which stay as they are. The caller's
+    /// condition is a connection outside any transaction, which comes back with a refusal: `Memory`, `Database`, or
+    /// `NotOurs` where a table's name is taken.
     pub fn create(
         alloc: Global,
         conn: Connection<S>,
     ) -> Result<Store<S>, (StoreFault, Connection<S>)>
         requires { conn.in_transaction ≡ false }
         ensures stands { IfOk result (λ store. (state S.Store conn).now.schema ≡ no_schema → Stands S.Store [] store) }
+        ensures beside { IfOk result (λ store. MakesBeside (state S.Store conn) (state S.Store store.conn)) }
         ensures unused { IfOk result (λ store. HasCleanDisk (state S.Store store.conn)
             → takes_name (state S.Store conn).now.schema ≡ false) }
         ensures opened { IfOk result (λ store. HasCleanDisk (state S.Store store.conn)
@@ -41,10 +46,13 @@ impl<S: Alter + Drop> Store<S> {
             (λ e. LeavesOrMakes (state S.Store conn) (state S.Store e.1)) }
         ensures taken { IfErr result (λ e. e.0 ≡ StoreFault.NotOurs → HasCleanDisk (state S.Store e.1)
             → IsInTheWay (state S.Store conn).now.schema) }
+        ensures untold { IfErr result (λ e. e.0 ≡ StoreFault.Database → HasCleanDisk (state S.Store e.1)
+            → lacks_sequence (state S.Store conn).now.schema ≡ false
+            → IsTrue (takes_name (state S.Store conn).now.schema)
+            → IsUntaken (state S.Store conn) (state S.Store e.1)) }
         ensures closed { IfErr result (λ e. e.1.in_transaction ≡ false) }
         ensures uncounted { IfOk result (λ store. store.faults ≡ 0) }
-        ensures refusals { IfErr result (λ e. (e.0 ≡ StoreFault.Memory)
-            ⊎ ((e.0 ≡ StoreFault.Database) ⊎ (e.0 ≡ StoreFault.NotOurs))) }
+        ensures refusals { IfErr result (λ e. IsOfStorageOr StoreFault.NotOurs e.0) }
     {
         match Base::create(conn) {
             Ok(base) => Ok(Store { base, alloc }),
@@ -73,8 +81,7 @@ impl<S: Alter + Drop> Store<S> {
             → IsUntold (state S.Store conn) (state S.Store e.1)) }
         ensures closed { IfErr result (λ e. e.1.in_transaction ≡ false) }
         ensures uncounted { IfOk result (λ store. store.faults ≡ 0) }
-        ensures refusals { IfErr result (λ e. (e.0 ≡ StoreFault.Memory)
-            ⊎ ((e.0 ≡ StoreFault.Database) ⊎ (e.0 ≡ StoreFault.NotOurs))) }
+        ensures refusals { IfErr result (λ e. IsOfStorageOr StoreFault.NotOurs e.0) }
     {
         match Base::adopt(conn) {
             Ok(base) => Ok(Store { base, alloc }),
@@ -100,8 +107,7 @@ impl<S: Alter + Drop> Store<S> {
         ensures untold { IfErr result (λ e. e ≡ StoreFault.Database → HasCleanDisk (state S.Store conn.new)
             → IsUntold (state S.Store conn.old) (state S.Store conn.new)
             ⊎ ((v : Version) × LooksAs v (state S.Store conn.old))) }
-        ensures refusals { IfErr result (λ e. (e ≡ StoreFault.Memory)
-            ⊎ ((e ≡ StoreFault.Database) ⊎ (e ≡ StoreFault.NotOurs))) }
+        ensures refusals { IfErr result (IsOfStorageOr StoreFault.NotOurs) }
     {
         match migrate(conn) {
             Ok(()) => Ok(()),
@@ -117,7 +123,7 @@ impl<D: Disk + Drop> Store<FileStore<D>> {
     pub fn close(self) -> Result<Files<D>, StoreFault>
         ensures copied { IfOk result (λ files. AreClean D.Disk files.log files.db
             → (b : History) → Stands over_files b self → LeavesFiles D.Disk b files) }
-        ensures refusals { IfErr result (λ e. (e ≡ StoreFault.Memory) ⊎ (e ≡ StoreFault.Database)) }
+        ensures refusals { IfErr result IsOfStorage }
     {
         match self.into_connection().close_files() {
             Ok(files) => Ok(files),
@@ -129,7 +135,7 @@ impl<D: Disk + Drop> Store<FileStore<D>> {
 /// Want of memory as it is, and any other refusal as the database's.
 fn closing_fault(error: Error) -> StoreFault
     ensures value { result ≡ told_closing error }
-    ensures refusals { (result ≡ StoreFault.Memory) ⊎ (result ≡ StoreFault.Database) }
+    ensures refusals { IsOfStorage result }
 {
     StoreFault::from(TableFault::of(error))
 }

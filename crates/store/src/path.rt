@@ -1,16 +1,23 @@
 //! The database at a path: how its store is opened, and how it is made.
-ghost use Rattle.std.specs.Prelude.{◌≡◌, ◌⊎◌, ◌↔◌, [], false, Ok, IfOk, IfErr, IsTrue};
+ghost use Rattle.std.specs.Prelude.{◌≡◌, ◌↔◌, [], false, Ok, IfOk, IfErr, IsTrue};
 ghost use Rattle.sqlite_wal.specs.Files.{image_at};
 ghost use Rattle.sqlite.specs.Files.{file_state, over_files, IsOpened, IsBlankAs};
 ghost use Rattle.sqlite.specs.Held.{state};
 ghost use Rattle.sqlite.specs.Start.{FindsIn};
 ghost use Rattle.sqlite.specs.State.{HasCleanDisk};
 ghost use Rattle.sqlite_store.specs.FileStore.{view};
+ghost use Rattle.tables.specs.Asking.{Looks};
+ghost use Rattle.tables.specs.Opening.{IsFound, LooksOurs};
 ghost use Rattle.tables.specs.Schema.{no_schema};
+ghost use Rattle.book.specs.History.{History};
+ghost use Rattle.book.specs.Sound.{IsSound};
+ghost use Rattle.store.specs.TablesOf.{tables_of};
 ghost use Rattle.store.specs.Stands.{Stands};
-ghost use Rattle.store.specs.Opening.{OpensFound, IsForeign, OpensNothing, IsMigrated, MigratesFound};
+ghost use Rattle.store.specs.Opening.{OpensFound, IsForeign, OpensNothing, SeemsForeign, IsMigrated, HasMigrated};
+ghost use Rattle.store.specs.Opening.{MigratesFound};
 ghost use Rattle.store.specs.Opening.{told_opening};
 ghost use Rattle.store.specs.Opening.{fault_where, fault_where_made};
+ghost use Rattle.book.specs.Fault.{IsOfStorageOr};
 
 use crate::finding::{Found, Place, find};
 use crate::store::Store;
@@ -32,16 +39,16 @@ impl<T: Start + Drop> Store<FileStore<FileFrom<T>>> {
         ensures found { IfOk result (λ store. HasCleanDisk (file_state store.conn)
             → OpensFound (image_at T.Start) store) }
         ensures uncounted { IfOk result (λ store. store.faults ≡ 0) }
-        ensures refusals { IfErr result (λ e. (e ≡ StoreFault.Memory)
-            ⊎ ((e ≡ StoreFault.Database) ⊎ (e ≡ StoreFault.NotOurs))) }
+        ensures refusals { IfErr result (IsOfStorageOr StoreFault.NotOurs) }
     {
         let place = find_database(rt, path)?;
         Store::open_files(rt, place, start)
     }
 
     /// Makes the tables in a new database at a path, where no file stands, one of no octets, or a database without
-    /// tables: the store stands for the empty history. Refused with `Memory`; with `Database` where the file can't be made, read or written; and with `NotOurs`
-    /// where something else stands there, a database of the counter's too, which is left as it is.
+    /// tables: the store stands for the empty history. Refused with `Memory`; with `Database` where the file can't be
+    /// made, read or written; and with `NotOurs` where something else stands there, a database of the counter's too,
+    /// which is left as it is.
     pub fn make(
         rt: &HostRuntime,
         path: &str,
@@ -51,8 +58,7 @@ impl<T: Start + Drop> Store<FileStore<FileFrom<T>>> {
         ensures opened { IfOk result (λ store. HasCleanDisk (file_state store.conn)
             → IsTrue (file_state store.conn).is_open) }
         ensures uncounted { IfOk result (λ store. store.faults ≡ 0) }
-        ensures refusals { IfErr result (λ e. (e ≡ StoreFault.Memory)
-            ⊎ ((e ≡ StoreFault.Database) ⊎ (e ≡ StoreFault.NotOurs))) }
+        ensures refusals { IfErr result (IsOfStorageOr StoreFault.NotOurs) }
     {
         let place = find(rt, path)?;
         may_make(place.found)?;
@@ -64,8 +70,7 @@ impl<T: Start + Drop> Store<FileStore<FileFrom<T>>> {
     /// there is left as it is then.
     pub fn migrate_at(rt: &HostRuntime, path: &str, start: T) -> Result<(), StoreFault>
         ensures migrated { IfOk result (λ _. MigratesFound ⟦<FileFrom<T> as Disk>⟧ (image_at T.Start)) }
-        ensures refusals { IfErr result (λ e. (e ≡ StoreFault.Memory)
-            ⊎ ((e ≡ StoreFault.Database) ⊎ (e ≡ StoreFault.NotOurs))) }
+        ensures refusals { IfErr result (IsOfStorageOr StoreFault.NotOurs) }
     {
         let place = find_database(rt, path)?;
         Store::migrate_at_place(rt, place, start)
@@ -82,13 +87,12 @@ impl<T: Start + Drop> Store<FileStore<FileFrom<T>>> {
             → OpensFound (image_at T.Start) store) }
         ensures foreign { IfErr result (λ e. e ≡ StoreFault.NotOurs → IsForeign ⟦<FileFrom<T> as Disk>⟧ (image_at T.Start)) }
         ensures uncounted { IfOk result (λ store. store.faults ≡ 0) }
-        ensures refusals { IfErr result (λ e. (e ≡ StoreFault.Memory)
-            ⊎ ((e ≡ StoreFault.Database) ⊎ (e ≡ StoreFault.NotOurs))) }
+        ensures refusals { IfErr result (IsOfStorageOr StoreFault.NotOurs) }
     {
         let conn = connect(rt, place.path, start)?;
-        match Store::adopt(rt.alloc(), conn) {
+        match adopt_or_drop(rt.alloc(), conn) {
             Ok(store) => Ok(store),
-            Err((fault, _conn)) => Err(fault),
+            Err(fault) => Err(fault),
         }
     }
 
@@ -104,8 +108,7 @@ impl<T: Start + Drop> Store<FileStore<FileFrom<T>>> {
         ensures opened { IfOk result (λ store. HasCleanDisk (file_state store.conn)
             → IsTrue (file_state store.conn).is_open) }
         ensures uncounted { IfOk result (λ store. store.faults ≡ 0) }
-        ensures refusals { IfErr result (λ e. (e ≡ StoreFault.Memory)
-            ⊎ ((e ≡ StoreFault.Database) ⊎ (e ≡ StoreFault.NotOurs))) }
+        ensures refusals { IfErr result (IsOfStorageOr StoreFault.NotOurs) }
     {
         let conn = connect(rt, place.path, start)?;
         create_or_drop(rt.alloc(), conn)
@@ -115,8 +118,7 @@ impl<T: Start + Drop> Store<FileStore<FileFrom<T>>> {
     fn migrate_at_place(rt: &HostRuntime, place: Place<'_>, start: T) -> Result<(), StoreFault>
         requires { fault_where place.found ≡ Ok tt }
         ensures migrated { IfOk result (λ _. MigratesFound ⟦<FileFrom<T> as Disk>⟧ (image_at T.Start)) }
-        ensures refusals { IfErr result (λ e. (e ≡ StoreFault.Memory)
-            ⊎ ((e ≡ StoreFault.Database) ⊎ (e ≡ StoreFault.NotOurs))) }
+        ensures refusals { IfErr result (IsOfStorageOr StoreFault.NotOurs) }
     {
         let conn = connect(rt, place.path, start)?;
         match migrate_files(conn) {
@@ -127,13 +129,12 @@ impl<T: Start + Drop> Store<FileStore<FileFrom<T>>> {
 }
 
 /// Takes the tables in the files of a connection to the schema of now, and closes it.
-fn migrate_files<D: Disk + Drop>(mut conn: Connection<FileStore<D>>) -> Result<(), StoreFault>
+fn migrate_files<D: Disk + Drop>(conn: Connection<FileStore<D>>) -> Result<(), StoreFault>
     requires { conn.in_transaction ≡ false }
     ensures migrated { IfOk result (λ _. IsMigrated conn) }
-    ensures refusals { IfErr result (λ e. (e ≡ StoreFault.Memory)
-        ⊎ ((e ≡ StoreFault.Database) ⊎ (e ≡ StoreFault.NotOurs))) }
+    ensures refusals { IfErr result (IsOfStorageOr StoreFault.NotOurs) }
 {
-    Store::migrate(&mut conn)?;
+    let conn = migrate_or_drop(conn)?;
     // What was committed stays in the log where it can't be copied into the file.
     match conn.close_files() {
         Ok(_files) => Ok(()),
@@ -145,8 +146,7 @@ fn migrate_files<D: Disk + Drop>(mut conn: Connection<FileStore<D>>) -> Result<(
 fn find_database<'path>(rt: &HostRuntime, path: &'path str) -> Result<Place<'path>, StoreFault>
     ensures found { IfOk result (λ place. fault_where place.found ≡ Ok tt) }
     ensures there { IfOk result (λ place. place.path.now ≡ path.now) }
-    ensures refusals { IfErr result (λ e. (e ≡ StoreFault.Memory)
-        ⊎ ((e ≡ StoreFault.Database) ⊎ (e ≡ StoreFault.NotOurs))) }
+    ensures refusals { IfErr result (IsOfStorageOr StoreFault.NotOurs) }
 {
     let place = find(rt, path)?;
     may_open(place.found)?;
@@ -188,8 +188,7 @@ fn connect<T: Start + Drop>(
     ensures plain { IfOk result (λ conn. HasCleanDisk (file_state conn) → IsBlankAs false (image_at T.Start)
         → (view conn.store).has_sums ≡ false) }
     ensures none { IfErr result (λ e. e ≡ StoreFault.NotOurs → OpensNothing ⟦<FileFrom<T> as Disk>⟧ (image_at T.Start)) }
-    ensures refusals { IfErr result (λ e. (e ≡ StoreFault.Memory)
-        ⊎ ((e ≡ StoreFault.Database) ⊎ (e ≡ StoreFault.NotOurs))) }
+    ensures refusals { IfErr result (IsOfStorageOr StoreFault.NotOurs) }
 {
     match Connection::open_from(rt, path, false, start) {
         Ok(conn) => Ok(conn),
@@ -201,10 +200,43 @@ fn connect<T: Start + Drop>(
 fn opening_fault(error: Error) -> StoreFault
     ensures value { result ≡ told_opening error }
     ensures none { result ≡ StoreFault.NotOurs → error ≡ Error.SqliteFailure ErrorCode.NotADatabase }
-    ensures refusals { (result ≡ StoreFault.Memory) ⊎ ((result ≡ StoreFault.Database)
-        ⊎ (result ≡ StoreFault.NotOurs)) }
+    ensures refusals { IsOfStorageOr StoreFault.NotOurs result }
 {
     StoreFault::from(OpenFault::of(error, Task::Open))
+}
+
+/// Takes the tables of a connection to the schema of now, or drops it with a refusal. What stands over files has these
+/// steps in functions over any storage: a use of each type over files is dear to prove.
+fn migrate_or_drop<S: Alter + Drop>(mut conn: Connection<S>) -> Result<Connection<S>, StoreFault>
+    requires { conn.in_transaction ≡ false }
+    ensures closed { IfOk result (λ left. left.in_transaction ≡ false) }
+    ensures migrates { IfOk result (λ left. HasMigrated (state S.Store conn) (state S.Store left)) }
+    ensures refusals { IfErr result (IsOfStorageOr StoreFault.NotOurs) }
+{
+    match Store::migrate(&mut conn) {
+        Ok(()) => Ok(conn),
+        Err(fault) => Err(fault),
+    }
+}
+
+/// Takes a connection to tables that were made before, or drops it with a refusal.
+fn adopt_or_drop<S: Alter + Drop>(
+    alloc: Global,
+    conn: Connection<S>,
+) -> Result<Store<S>, StoreFault>
+    requires { conn.in_transaction ≡ false }
+    ensures stands { IfOk result (λ store. (b : History) → IsSound b → IsFound (tables_of b) (state S.Store conn)
+        → Stands S.Store b store) }
+    ensures ours { IfOk result (λ store. HasCleanDisk (state S.Store store.conn) → LooksOurs (state S.Store conn)) }
+    ensures looks { IfOk result (λ store. Looks (state S.Store conn) (state S.Store store.conn)) }
+    ensures foreign { IfErr result (λ e. e ≡ StoreFault.NotOurs → SeemsForeign S.Store conn) }
+    ensures uncounted { IfOk result (λ store. store.faults ≡ 0) }
+    ensures refusals { IfErr result (IsOfStorageOr StoreFault.NotOurs) }
+{
+    match Store::adopt(alloc, conn) {
+        Ok(store) => Ok(store),
+        Err((fault, _conn)) => Err(fault),
+    }
 }
 
 /// Makes the tables in a database that has none yet.
@@ -217,8 +249,7 @@ fn create_or_drop<S: Alter + Drop>(
     ensures opened { IfOk result (λ store. HasCleanDisk (state S.Store store.conn)
         → IsTrue (state S.Store store.conn).is_open) }
     ensures uncounted { IfOk result (λ store. store.faults ≡ 0) }
-    ensures refusals { IfErr result (λ e. (e ≡ StoreFault.Memory)
-        ⊎ ((e ≡ StoreFault.Database) ⊎ (e ≡ StoreFault.NotOurs))) }
+    ensures refusals { IfErr result (IsOfStorageOr StoreFault.NotOurs) }
 {
     if !has_no_table(&conn) {
         return Err(StoreFault::NotOurs);

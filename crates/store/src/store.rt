@@ -9,7 +9,7 @@ ghost use Rattle.store.specs.Steps.{last_from, calibration_from, next_calibratio
 ghost use Rattle.store.specs.TablesOf.{tables_of};
 
 use crate::cursors::Cursors;
-use crate::deposits::{add_listed, asked_for};
+use crate::deposits::add_listed;
 use crate::ranges::only_within;
 use book::{
     Book, Calibration, Deposit, GREATEST_NUMBER, Hold, IdentityRow, Last, Listed, Reservation,
@@ -114,23 +114,27 @@ impl<S: Alter + Drop> Book for Store<S> {
     }
 
     fn deposit(&mut self, number: u64) -> Result<Option<StampedDeposit>, StoreFault> {
-        let asked = asked_for(number);
-        let Some(deposit) = self.base.deposit(asked)? else {
+        if number > GREATEST_NUMBER {
+            return Ok(None);
+        }
+        let Some(deposit) = self.base.deposit(number)? else {
             return Ok(None);
         };
-        let Some(stamp) = self.base.stamp(asked)? else {
+        let Some(stamp) = self.base.stamp(number)? else {
             return Ok(None);
         };
         Ok(Some(StampedDeposit { deposit, stamp }))
     }
 
     fn visible(&mut self, number: u64, account: &str, groups: &[&str]) -> Result<bool, StoreFault> {
-        let asked = asked_for(number);
-        let reads = self.may_read(asked, account, groups)?;
+        if number > GREATEST_NUMBER {
+            return Ok(false);
+        }
+        let reads = self.may_read(number, account, groups)?;
         if reads {
             return Ok(true);
         }
-        let owns = self.base.is_owner(asked, account)?;
+        let owns = self.base.is_owner(number, account)?;
         Ok(owns)
     }
 

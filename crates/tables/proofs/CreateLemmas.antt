@@ -39,7 +39,7 @@ use Rattle.tables.proofs.NameLemmas.{IsMaking, free_as_alone}
 use Rattle.tables.proofs.MakingLemmas.{are_makings, are_cut}
 use Rattle.tables.proofs.FrameLemmas.{framed, at_name}
 use Rattle.tables.proofs.WriteLemmas.{plain_mode, inserts}
-use Rattle.tables.proofs.InsertLemmas.{cast_int, cast_null, idle}
+use Rattle.tables.proofs.InsertLemmas.{cast_int, cast_null}
 use Rattle.tables.proofs.ChangeLemmas.{inserted}
 
 -- ---- one table
@@ -156,7 +156,7 @@ versioned : (limit : Option ℕ) (text : List ℕ) (db : Trees) (out : Tally × 
     → Does limit plain_mode [] (record { schema = the_schema; trees = db }) text None
     (Insert 0 (Values version_terms 2)) (Ok out) → IsDatabaseOf no_rows out.1
 versioned limit text db out empty does =
-    let made = inserts limit [] the_schema db text 0 idle _ _ _ _ _ _ _ 0 refl out version_terms 2 does in
+    let made = inserts limit [] the_schema db text 0 _ _ _ _ _ _ _ 0 refl out version_terms 2 does in
     record {
       schema = made.1;
       holds = framed db out.1.trees no_rows no_rows name.Meta made.0.tables others

@@ -159,6 +159,10 @@ made_meta s free =
     itself in
     record { at = last.0; tree = next_tree s; named = last.1 ∙ ap Some (omega (arith)); there = last.2 }
 
+pub made_meta_tree : (s : Schema) (free : is_used s meta.name ≡ false) → (made_meta s free).tree ≡ next_tree s
+unfolding made_meta
+made_meta_tree s free = refl
+
 pub still_meta : (s : Schema) (table : Table) → HasMeta s → HasMeta (created s table)
 still_meta s table has = record {
   at = has.at;
@@ -167,3 +171,7 @@ still_meta s table has = record {
       ∷ []) has.named;
   there = still_got s.tables (placed (next_tree s) table ∷ []) has.at (placed has.tree meta) has.there;
 }
+
+pub still_meta_tree : (s : Schema) (table : Table) (has : HasMeta s) → (still_meta s table has).tree ≡ has.tree
+unfolding still_meta
+still_meta_tree s table has = refl

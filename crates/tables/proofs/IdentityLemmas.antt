@@ -28,7 +28,7 @@ use Rattle.tables.specs.Tables.{Tables, InstalledRow, is_identity, with_identity
 use Rattle.tables.proofs.CarryLemmas.{carried, Makes}
 use Rattle.tables.proofs.ChangeLemmas.{raw, inserted}
 use Rattle.tables.proofs.FrameLemmas.{with_identities}
-use Rattle.tables.proofs.InsertLemmas.{cast_int, cast_null, idle}
+use Rattle.tables.proofs.InsertLemmas.{cast_int, cast_null}
 use Rattle.tables.proofs.LookupLemmas.{found_by}
 use Rattle.tables.proofs.QueryLemmas.{and_true, one, falling_key, first_greatest}
 use Rattle.tables.proofs.ReadLemmas.{program_of, no_limit, passes, ordered_by}
@@ -54,7 +54,7 @@ identity_insert = Insert 8 (Values identity_terms 5)
 
 identity_makes : (r : InstalledRow) → Makes identity_insert (identity_params r) (with_identity r)
 identity_makes r limit text t db out h does =
-    let made = inserts limit (identity_params r) the_schema db text 8 idle _ _ _ _ _ _ _ 12 refl out identity_terms 5
+    let made = inserts limit (identity_params r) the_schema db text 8 _ _ _ _ _ _ _ 12 refl out identity_terms 5
     does in
     record {
       schema = made.1;

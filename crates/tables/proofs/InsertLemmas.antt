@@ -68,7 +68,7 @@ calibration_insert = Insert 2 (Values calibration_terms 5)
 
 pub calibration_makes : (r : CalibrationRow) → Makes calibration_insert (calibration_params r) (with_calibration r)
 calibration_makes r limit text t db out h does =
-    let made = inserts limit (calibration_params r) the_schema db text 2 idle _ _ _ _ _ _ _ 2 refl out calibration_terms
+    let made = inserts limit (calibration_params r) the_schema db text 2 _ _ _ _ _ _ _ 2 refl out calibration_terms
     5 does in
     record {
       schema = made.1;
@@ -110,7 +110,7 @@ hold_insert = Insert 3 (Values hold_terms 4)
 
 pub hold_makes : (r : HoldRow) → Makes hold_insert (hold_params r) (with_hold r)
 hold_makes r limit text t db out h does =
-    let made = inserts limit (hold_params r) the_schema db text 3 idle _ _ _ _ _ _ _ 3 refl out hold_terms 4 does in
+    let made = inserts limit (hold_params r) the_schema db text 3 _ _ _ _ _ _ _ 3 refl out hold_terms 4 does in
     record {
       schema = made.1;
       holds = with_holds db out.1.trees t h (r ∷ t.holds) made.0.tables
@@ -151,7 +151,7 @@ deposit_insert = Insert 4 (Values deposit_terms 5)
 
 pub deposit_makes : (r : DepositRow) → Makes deposit_insert (deposit_params r) (with_deposit r)
 deposit_makes r limit text t db out h does =
-    let made = inserts limit (deposit_params r) the_schema db text 4 idle _ _ _ _ _ _ _ 4 refl out deposit_terms 5
+    let made = inserts limit (deposit_params r) the_schema db text 4 _ _ _ _ _ _ _ 4 refl out deposit_terms 5
     does in
     record {
       schema = made.1;
@@ -199,7 +199,7 @@ stamp_insert = Insert 1 (Values stamp_terms 11)
 pub stamp_makes : (r : StampRow)
     → Makes stamp_insert (stamp_params r) (λ (t : Tables). record t { stamps = unsealed r ∷ t.stamps })
 stamp_makes r limit text t db out h does =
-    let made = inserts limit (stamp_params r) the_schema db text 1 idle _ _ _ _ _ _ _ 1 refl out stamp_terms 11 does in
+    let made = inserts limit (stamp_params r) the_schema db text 1 _ _ _ _ _ _ _ 1 refl out stamp_terms 11 does in
     record {
       schema = made.1;
       holds = with_stamps db out.1.trees t h ((unsealed r) ∷ t.stamps) made.0.tables
@@ -244,7 +244,7 @@ tally_insert = Insert 6 (Values tally_terms 4)
 pub tally_makes : (r : TallyRow)
     → Makes tally_insert (tally_params r) (λ (t : Tables). record t { tallies = first_of r ∷ t.tallies })
 tally_makes r limit text t db out h does =
-    let made = inserts limit (tally_params r) the_schema db text 6 idle _ _ _ _ _ _ _ 8 refl out tally_terms 4 does in
+    let made = inserts limit (tally_params r) the_schema db text 6 _ _ _ _ _ _ _ 8 refl out tally_terms 4 does in
     record {
       schema = made.1;
       holds = with_tallies db out.1.trees t h ((first_of r) ∷ t.tallies) made.0.tables

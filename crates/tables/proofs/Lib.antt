@@ -1,7 +1,9 @@
+mod AnswerLemmas
 mod AskLemmas
 mod BaseLemmas
 mod BaseReads
 mod BatchLemmas
+mod BesideLemmas
 mod CarryLemmas
 mod CellLemmas
 mod ChangeLemmas
@@ -32,6 +34,7 @@ mod SchemaLemmas
 mod SealLemmas
 mod StampLookups
 mod TestLemmas
+mod UntakenLemmas
 mod UpdateLemmas
 mod UsableLemmas
 mod WriteLemmas

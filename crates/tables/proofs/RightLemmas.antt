@@ -91,7 +91,7 @@ module _ (tree : ℕ) where
         None (right_insert at) (Ok out)
         → AreRows false reader_cells (x ∷ xs) (out.1.trees tree) × OthersHold the_schema db tree out
     right_inserted x does =
-        let made = inserts limit (reader_cells x) the_schema db text at idle _ _ _ _ _ _ _ tree listed out right_terms 3
+        let made = inserts limit (reader_cells x) the_schema db text at _ _ _ _ _ _ _ tree listed out right_terms 3
         does in (
           inserted reader_cells (λ x e. cc) false xs x (db tree) (out.1.trees tree) _
               (Int (next_rowid (db tree)) ∷ reader_cells x) h made.0.keyed made.0.fresh made.0.rows

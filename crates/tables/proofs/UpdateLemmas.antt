@@ -38,7 +38,7 @@ module _ {X : Type 0} (cells : X → Row) (some : (x : X) → cells x ≢ []) (l
     (name : List ℕ) (columns : List Column) (key : Option ℕ) (primary : List ℕ) (uniques : List (List ℕ))
     (orders : List Order) (references : List Reference) (tree : ℕ) where
   abbrev table : Table
-  table = its_table limit params schema db text at idle name columns key primary uniques orders references tree
+  table = its_table limit params schema db text at name columns key primary uniques orders references tree
 
   module _ (listed : slice_get schema.tables at ≡ Some table) (out : Tally × Database) (keyed : Bool) (xs : List X)
       (h : AreRows keyed cells xs (db tree)) (tests : List Term) (test : X → Bool)
@@ -58,8 +58,8 @@ module _ {X : Type 0} (cells : X → Row) (some : (x : X) → cells x ≢ []) (l
         (Delete at (program_of tree tests (col 1 0 ∷ []) [] no_limit)) (Ok out)
         → AreRows keyed cells (filter (λ x. not (test x)) xs) (out.1.trees tree) × OthersHold schema db tree out
     deletes_rows does =
-        let it = deletes limit params schema db text at idle name columns key primary uniques orders references tree
-        listed out _ does in (
+        let it = deletes limit params schema db text at name columns key primary uniques orders references tree
+        listed out idle _ does in (
           deleted cells some keyed xs (db tree) h (passes tests params) test agree (ids_of it.0) (ids_are [] it.0 it.1)
               (out.1.trees tree) it.2.0.rows,
           (it.2.0.tables, it.2.1),
@@ -71,11 +71,11 @@ module _ {X : Type 0} (cells : X → Row) (some : (x : X) → cells x ≢ []) (l
         abbrev it : (rows : List Row)
             × Answers (record { schema = schema; trees = db }) (program_of tree tests (col 1 0 ∷ rest) [] no_limit)
             params rows
-            × MakesEdit limit params schema db text at idle name columns key primary uniques orders references tree
+            × MakesEdit limit params schema db text at name columns key primary uniques orders references tree
             (edit_of db table (ids_of rows) Given 1 rows) out
             × (out.0.rows ≡ Some (length (edit_of db table (ids_of rows) Given 1 rows).news))
-        it = updates limit params schema db text at idle name columns key primary uniques orders references tree listed
-            out _ does
+        it = updates limit params schema db text at name columns key primary uniques orders references tree listed
+            out idle _ does
 
         abbrev ids : List ℤ
         ids = ids_of it.0

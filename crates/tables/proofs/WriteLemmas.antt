@@ -1,7 +1,8 @@
--- What INSERT, UPDATE and DELETE make of a table, in any schema whose references have no action.
-use Rattle.std.proofs.Common.{◌≡◌, ◌≢◌, ◌⊎◌, ℕ, ◌/◌, Bool, true, false, List, [], ◌∷◌, length, slice_get}
+-- What INSERT makes of a table in any schema, and UPDATE and DELETE in one whose references have no action.
+use Rattle.std.proofs.Common.{◌≡◌, ◌≢◌, ◌⊎◌, ℕ, ◌/◌, ◌==◌, Bool, true, false, List, [], ◌∷◌, length, slice_get}
 use Rattle.std.proofs.Common.{Option, Some, None, Result, Ok, Err, refl, sym, ap, ◌∙◌, subst, inl, inr, append-nil}
 use Rattle.std.specs.List.{AllByRecursion, filter_map, flat_map}
+use Rattle.std.proofs.lemmas.Bool.{cases_Bool}
 use Rattle.sqlite_value.specs.Order.{Row}
 use Rattle.sqlite_value.specs.declared.keys.Order.{Order}
 use Rattle.sqlite_trees.specs.Tree.{Trees}
@@ -10,6 +11,7 @@ use Rattle.sqlite_schema.specs.declared.schema.Action.TheVariants.{NoAction}
 use Rattle.sqlite_schema.specs.declared.schema.Keys.TheVariants.{Enforced}
 use Rattle.sqlite_schema.specs.declared.schema.Column.{Column}
 use Rattle.sqlite_schema.specs.declared.schema.Reference.{Reference}
+use Rattle.sqlite_schema.specs.Rules.{ParentKey, parent_key}
 use Rattle.sqlite_schema.specs.declared.schema.Table.{Table}
 use Rattle.sqlite_schema.specs.declared.schema.Schema.{Schema}
 use Rattle.sqlite_schema.specs.declared.program.Program.{Program}
@@ -18,7 +20,8 @@ use Rattle.sqlite_schema.specs.declared.command.Command.{Command}
 use Rattle.sqlite_schema.specs.declared.command.Command.TheVariants.{Insert, Update, Delete}
 use Rattle.sqlite_rules.specs.declared.error.Rowids.TheVariants.{Chosen, Given}
 use Rattle.sqlite_rules.specs.Edit.{Edit, edit_of, taken_by, Applies}
-use Rattle.sqlite_rules.specs.Action.{works, work_for, deed_for}
+use Rattle.sqlite_rules.specs.Action.{works, work_for, work_by, pairs, deed_for}
+use Rattle.sqlite_rules.specs.declared.action.Deed.{Deed}
 use Rattle.sqlite_rules.specs.Calls.{ids_of}
 use Rattle.sqlite.specs.declared.run.Mode.{Mode}
 use Rattle.sqlite.specs.Effect.{Database, Answers, value_rows}
@@ -56,6 +59,31 @@ idle_works schema tree olds news idle = go schema.tables idle
     go [] h = refl
     go (t ∷ ts) h = rw (no_work schema tree olds news t t.references h.0, go ts h.1)
 
+-- a row that goes in takes no key from another's children
+unmoved : (tree : ℕ) (news : List Row) (child : Table) (ref : Reference) (deed : Option Deed) (key : Option ParentKey)
+    → work_by 0 tree (pairs [] news) child ref deed key ≡ None
+unmoved tree news child ref None key = refl
+unmoved tree news child ref (Some deed) None = refl
+unmoved tree news child ref (Some deed) (Some key) = elim (cases_Bool (key.0 == tree)) [
+  | inl its ↦ rw its refl
+  | inr others ↦ rw others refl
+]
+
+none_taken_works : (schema : Schema) (tree : ℕ) (news : List Row) → works schema Enforced 0 tree [] news ≡ []
+none_taken_works schema tree news = go schema.tables
+  where
+    of_child : (child : Table) (refs : List Reference)
+        → filter_map (work_for schema Enforced 0 tree [] news child) refs ≡ []
+    of_child child [] = refl
+    of_child child (ref ∷ refs) =
+        rw (unmoved tree news child ref (deed_for Enforced (length news == 0) ref) (parent_key schema.tables ref))
+        (of_child child refs)
+
+    go : (ts : List Table)
+        → flat_map (λ child. filter_map (work_for schema Enforced 0 tree [] news child) child.references) ts ≡ []
+    go [] = refl
+    go (t ∷ ts) = rw (of_child t t.references, go ts) refl
+
 -- a part that gave a value did not stop on the way
 went : {B E R : Type 0} {b : B} {Stops : E → Type 0} → ((stop : E) × Stops stop × (Ok b ≡ Err stop)) ⊎ R → R
 went (inl stopped) = absurd (let e = stopped.2 in cc)
@@ -74,7 +102,6 @@ abbrev pub plain_mode : Mode
 plain_mode = record { keys = Enforced; in_doubt = false; may_wait = false }
 
 module _ (limit : Option ℕ) (params : Row) (schema : Schema) (db : Trees) (text : List ℕ) (at : ℕ)
-    (idle : IsIdle schema)
     (name : List ℕ) (columns : List Column) (key : Option ℕ) (primary : List ℕ) (uniques : List (List ℕ))
     (orders : List Order) (references : List Reference) (tree : ℕ) where
   abbrev pub its_table : Table
@@ -100,10 +127,6 @@ module _ (limit : Option ℕ) (params : Row) (schema : Schema) (db : Trees) (tex
       let is = same_ok shown.2 in
       (done.0, done.1, ap (λ (p : Tally × Database). p.1) is, ap (λ (p : Tally × Database). p.0.rows) is)
 
-  made : (edit : Edit) (next : Trees) → Edited schema Enforced db edit (Ok next) → Applies schema Enforced db edit next
-  made edit next = one_step schema Enforced db next edit
-      (idle_works schema edit.table.tree (taken_by db edit) edit.news idle)
-
   module _ (listed : slice_get schema.tables at ≡ Some its_table) (out : Tally × Database) where
     on_table : (command : Command)
         → OnTable limit plain_mode params before at (λ t. OnRows t plain_mode None command db) (Ok out)
@@ -125,45 +148,52 @@ module _ (limit : Option ℕ) (params : Row) (schema : Schema) (db : Trees) (tex
         let rows : given.0 ≡ value_rows params width (length terms / width) terms =
         given.1.1 ∙ ap (λ ps. value_rows ps width (length terms / width) terms) (append-nil params) in
         let trees : done.0.trees ≡ written.0 = ap (λ (w : Written). w.trees) (same_ok counted.2) ∙ same_ok counted.1 in
-        let applied = made _ written.0 written.1 in
+        let applied = one_step schema Enforced db written.0 (edit_of db its_table [] Chosen 0 given.0)
+        (none_taken_works schema tree (edit_of db its_table [] Chosen 0 given.0).news) written.1 in
         let here = subst (λ all. Applies schema Enforced db (edit_of db its_table [] Chosen 0 all) written.0) rows
         applied in (
           subst (Applies schema Enforced db _) (sym (ap (λ (d : Database). d.trees) done.2 ∙ trees)) here,
           ap (λ (d : Database). d.schema) done.2,
         )
 
-    pub updates : (q : Program) → Does limit plain_mode params before text None (Update at q) (Ok out)
-        → (rows : List Row) × Answers before q params rows × Makes (edit_of db its_table (ids_of rows) Given 1 rows) out
-        × (out.0.rows ≡ Some (length (edit_of db its_table (ids_of rows) Given 1 rows).news))
-    updates q h =
-        let done = concluded (Update at q) out (on_table (Update at q) h) in
-        let asked = went done.1 in
-        let written = went asked.2 in
-        let end = same_ok written.2 in
-        let applied = made _ written.0 written.1 in
-        let trees : done.0.trees ≡ written.0 = ap (λ (w : Written). w.trees) end in (
-          asked.0,
-          asked.1,
-          (
-            subst (Applies schema Enforced db _) (sym (ap (λ (d : Database). d.trees) done.2 ∙ trees)) applied,
-            ap (λ (d : Database). d.schema) done.2,
-          ),
-          done.3 ∙ ap (λ (w : Written). Some (length w.rows)) end,
-        )
+    module _ (idle : IsIdle schema) where
+      made : (edit : Edit) (next : Trees) → Edited schema Enforced db edit (Ok next)
+          → Applies schema Enforced db edit next
+      made edit next = one_step schema Enforced db next edit
+          (idle_works schema edit.table.tree (taken_by db edit) edit.news idle)
 
-    pub deletes : (q : Program) → Does limit plain_mode params before text None (Delete at q) (Ok out)
-        → (rows : List Row) × Answers before q params rows × Makes (edit_of db its_table (ids_of rows) Given 0 []) out
-    deletes q h =
-        let done = concluded (Delete at q) out (on_table (Delete at q) h) in
-        let asked = went done.1 in
-        let written = went asked.2 in
-        let applied = made _ written.0 written.1 in
-        let trees : done.0.trees ≡ written.0 = ap (λ (w : Written). w.trees) (same_ok written.2) in (
-          asked.0,
-          asked.1,
-          (
-            subst (Applies schema Enforced db _) (sym (ap (λ (d : Database). d.trees) done.2 ∙ trees))
-                applied,
-            ap (λ (d : Database). d.schema) done.2,
-          ),
-        )
+      pub updates : (q : Program) → Does limit plain_mode params before text None (Update at q) (Ok out)
+          → (rows : List Row) × Answers before q params rows × Makes (edit_of db its_table (ids_of rows) Given 1 rows) out
+          × (out.0.rows ≡ Some (length (edit_of db its_table (ids_of rows) Given 1 rows).news))
+      updates q h =
+          let done = concluded (Update at q) out (on_table (Update at q) h) in
+          let asked = went done.1 in
+          let written = went asked.2 in
+          let end = same_ok written.2 in
+          let applied = made _ written.0 written.1 in
+          let trees : done.0.trees ≡ written.0 = ap (λ (w : Written). w.trees) end in (
+            asked.0,
+            asked.1,
+            (
+              subst (Applies schema Enforced db _) (sym (ap (λ (d : Database). d.trees) done.2 ∙ trees)) applied,
+              ap (λ (d : Database). d.schema) done.2,
+            ),
+            done.3 ∙ ap (λ (w : Written). Some (length w.rows)) end,
+          )
+
+      pub deletes : (q : Program) → Does limit plain_mode params before text None (Delete at q) (Ok out)
+          → (rows : List Row) × Answers before q params rows × Makes (edit_of db its_table (ids_of rows) Given 0 []) out
+      deletes q h =
+          let done = concluded (Delete at q) out (on_table (Delete at q) h) in
+          let asked = went done.1 in
+          let written = went asked.2 in
+          let applied = made _ written.0 written.1 in
+          let trees : done.0.trees ≡ written.0 = ap (λ (w : Written). w.trees) (same_ok written.2) in (
+            asked.0,
+            asked.1,
+            (
+              subst (Applies schema Enforced db _) (sym (ap (λ (d : Database). d.trees) done.2 ∙ trees))
+                  applied,
+              ap (λ (d : Database). d.schema) done.2,
+            ),
+          )

@@ -1,5 +1,6 @@
 pub mod Asking
 pub mod Base
+pub mod Beside
 pub mod Carrying
 pub mod Changes
 pub mod Faults

@@ -1,9 +1,11 @@
 //! A connection to the tables' database, with the count of its faults.
 
-ghost use Rattle.std.specs.Prelude.{◌≡◌, ◌⊎◌, false, Ok, Err, IfOk, IfErr, OnOk, OnErr};
+ghost use Rattle.std.specs.Prelude.{◌≡◌, ◌⊎◌, false, Ok, Err, IfOk, IfErr, OnOk, OnErr, MatchResult, IsTrue};
+ghost use Rattle.sqlite.specs.Does.{lacks_sequence};
 ghost use Rattle.sqlite.specs.Held.{state};
 ghost use Rattle.sqlite.specs.State.{HasCleanDisk};
 ghost use Rattle.tables.specs.Asking.{Looks, StaysUsable};
+ghost use Rattle.tables.specs.Beside.{MakesBeside, LeavesOrMakesBeside, IsUntaken};
 ghost use Rattle.tables.specs.Opening.{IsFound, LooksOurs, LooksForeign, Creates, IsInTheWay, IsUntold, takes_name};
 ghost use Rattle.tables.specs.Schema.{no_schema};
 ghost use Rattle.sqlite_trees.specs.Tree.{Trees};
@@ -46,7 +48,8 @@ impl<S: Alter + Drop> Model for Base<S> {
 }
 
 impl<S: Alter + Drop> Base<S> {
-    /// Makes the tables in a database that has none, all in one commit, and gives the connection back with a refusal.
+    /// Makes the tables, all in one commit, beside those that the database has, and gives the connection back with a
+    /// refusal.
     pub fn create(mut conn: Connection<S>) -> Result<Base<S>, (OpenFault, Connection<S>)>
         requires { conn.in_transaction ≡ false }
         ensures made { IfOk result (λ base. Creates (state S.Store conn) (state S.Store base.conn) (Ok tt)) }
@@ -56,8 +59,15 @@ impl<S: Alter + Drop> Base<S> {
         ensures uncounted { IfOk result (λ base. base.faults ≡ 0) }
         ensures undone { IfErr result (λ e. (error : _)
             × Creates (state S.Store conn) (state S.Store e.1) (Err error)) }
+        ensures beside { IfOk result (λ base. MakesBeside (state S.Store conn) (state S.Store base.conn)) }
+        ensures left { MatchResult result (λ base. LeavesOrMakesBeside (state S.Store conn) (state S.Store base.conn))
+            (λ e. LeavesOrMakesBeside (state S.Store conn) (state S.Store e.1)) }
         ensures taken { IfErr result (λ e. e.0 ≡ OpenFault.NotOurs → HasCleanDisk (state S.Store e.1)
             → IsInTheWay (state S.Store conn).now.schema) }
+        ensures untold { IfErr result (λ e. e.0 ≡ OpenFault.Database → HasCleanDisk (state S.Store e.1)
+            → lacks_sequence (state S.Store conn).now.schema ≡ false
+            → IsTrue (takes_name (state S.Store conn).now.schema)
+            → IsUntaken (state S.Store conn) (state S.Store e.1)) }
         ensures closed { IfErr result (λ e. e.1.in_transaction ≡ false) }
     {
         match make_tables(&mut conn) {

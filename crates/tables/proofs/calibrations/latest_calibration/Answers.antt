@@ -1,5 +1,6 @@
 use Rattle.std.proofs.Common.{refl}
 use Rattle.tables.proofs.QueryLemmas.{latest_calibration_found, latest_calibration_text, number_of, signed_of}
+use Rattle.tables.proofs.AnswerLemmas.{no_answer}
 use Rattle.tables.proofs.calibrations.latest_calibration.Goals as goal
 
 pub first_row-requires-clause-text : goal.first_row-requires-clause-text
@@ -25,3 +26,9 @@ pub returns-in-None-clause-value : goal.returns-in-None-clause-value
 returns-in-None-clause-value g c honest t d =
     let found = latest_calibration_found t _ _ _ d.holds refl (c.in_ok-found.ensures.told honest d.schema) in
     rw c.in-None.is at found
+
+pub returns-in_err-found-clause-value : goal.returns-in_err-found-clause-value
+returns-in_err-found-clause-value g c clean t d = no_answer _ _ c.from_residual.ensures.0
+
+pub returns-in_err-calibration-in-Some-clause-value : goal.returns-in_err-calibration-in-Some-clause-value
+returns-in_err-calibration-in-Some-clause-value g c clean t d = no_answer _ _ c.from_residual-in_err-calibration-in-Some.ensures.0

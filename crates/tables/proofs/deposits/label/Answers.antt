@@ -2,6 +2,7 @@ use Rattle.std.proofs.Common.{◌<◌, ◌^◌, arith, refl, w64}
 use Rattle.std.proofs.Math.Facts.{to_z_pos}
 use Rattle.tables.proofs.CellLemmas.{int_more, text_more}
 use Rattle.tables.proofs.DepositLookups.{label_found, label_text}
+use Rattle.tables.proofs.AnswerLemmas.{no_answer}
 use Rattle.tables.proofs.deposits.label.Goals as goal
 
 pub first_row-requires-clause-text : goal.first_row-requires-clause-text
@@ -23,3 +24,9 @@ returns-in-None-clause-value g c honest t d =
     (int_more (to_z_pos w64 serial_fits) (text_more c.as_bytes.ensures.value refl))
     (c.in_ok-found.ensures.told honest d.schema) in
     rw c.in-None.is at found
+
+pub returns-in_err-found-clause-value : goal.returns-in_err-found-clause-value
+returns-in_err-found-clause-value g c clean t d = no_answer _ _ c.from_residual.ensures.0
+
+pub returns-in_err-label-in-Some-clause-value : goal.returns-in_err-label-in-Some-clause-value
+returns-in_err-label-in-Some-clause-value g c clean t d = no_answer _ _ c.from_residual-in_err-label-in-Some.ensures.0

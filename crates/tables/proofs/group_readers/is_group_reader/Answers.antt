@@ -3,6 +3,7 @@ use Rattle.std.proofs.Math.Facts.{to_z_pos}
 use Rattle.tables.proofs.CellLemmas.{int_more, text_more}
 use Rattle.tables.proofs.QueryLemmas.{found_any}
 use Rattle.tables.proofs.GroupReaderLemmas.{is_group_reader_found, is_group_reader_text}
+use Rattle.tables.proofs.AnswerLemmas.{no_answer}
 use Rattle.tables.proofs.group_readers.is_group_reader.Goals as goal
 
 pub first_row-requires-clause-text : goal.first_row-requires-clause-text
@@ -15,3 +16,6 @@ returns-clause-value g c honest t d =
     (int_more (to_z_pos w64 serial_fits) (text_more c.as_bytes.ensures.value refl))
     (c.in_ok-found.ensures.told honest d.schema) in
     c.is_some.ensures ∙ found_any _ _ _ _ found
+
+pub returns-in_err-found-clause-value : goal.returns-in_err-found-clause-value
+returns-in_err-found-clause-value g c clean t d = no_answer _ _ c.from_residual.ensures.0

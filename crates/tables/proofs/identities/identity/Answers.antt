@@ -2,6 +2,7 @@ use Rattle.std.proofs.Common.{◌<◌, ◌^◌, arith, refl, w64}
 use Rattle.std.proofs.Math.Facts.{to_z_pos}
 use Rattle.tables.proofs.CellLemmas.{int_more}
 use Rattle.tables.proofs.IdentityLemmas.{identity_found, identity_text}
+use Rattle.tables.proofs.AnswerLemmas.{no_answer}
 use Rattle.tables.proofs.identities.identity.Goals as goal
 
 pub first_row-requires-clause-text : goal.first_row-requires-clause-text
@@ -21,3 +22,9 @@ returns-in-None-clause-value g c honest t d =
     let found = identity_found t _ c.args.number _ _ d.holds (int_more (to_z_pos w64 fits) refl)
     (c.in_ok-found.ensures.told honest d.schema) in
     rw c.in-None.is at found
+
+pub returns-in_err-found-clause-value : goal.returns-in_err-found-clause-value
+returns-in_err-found-clause-value g c clean t d = no_answer _ _ c.from_residual.ensures.0
+
+pub returns-in_err-identity-in-Some-clause-value : goal.returns-in_err-identity-in-Some-clause-value
+returns-in_err-identity-in-Some-clause-value g c clean t d = no_answer _ _ c.from_residual-in_err-identity-in-Some.ensures.0

@@ -2,6 +2,7 @@ use Rattle.std.proofs.Common.{◌≡◌, ◌≢◌, inl, refl}
 use Rattle.sqlite.specs.Held.{state}
 use Rattle.tables.specs.declared.opening.Version.TheVariants as version
 use Rattle.tables.proofs.MigrateLemmas.{current_migrates, earlier_migrates, earlier_refused, earlier_ours}
+use Rattle.tables.proofs.MigrateLemmas.{refused_migrates}
 use Rattle.tables.proofs.migrating.migrate.Goals as goal
 
 pub returns-in-Ok-None-clause-not_ours : goal.returns-in-Ok-None-clause-not_ours
@@ -58,3 +59,9 @@ returns-in-Err-take_on-clause-not_ours g c told clean is_open v t found =
 
 pub returns-in-Err-clause-untold : goal.returns-in-Err-clause-untold
 returns-in-Err-clause-untold g c told clean = inl (c.in-Err.ensures.untold clean (c.of.ensures.memory told))
+
+pub returns-in-Ok-None-clause-migrates : goal.returns-in-Ok-None-clause-migrates
+returns-in-Ok-None-clause-migrates g c = refused_migrates _ _ _ c.found_version.ensures.looks
+
+pub returns-in-Err-clause-migrates : goal.returns-in-Err-clause-migrates
+returns-in-Err-clause-migrates g c = refused_migrates _ _ _ c.found_version.ensures.looks

@@ -4,6 +4,7 @@ use Rattle.sqlite.specs.Held.{state}
 use Rattle.sqlite.specs.Effect.{Database}
 use Rattle.tables.specs.Opening.{IsKnownAs, number_of, version_query}
 use Rattle.tables.proofs.OpenLemmas.{known_as, not_said, shown_foreign, unanswered_since, TellsNumber}
+use Rattle.tables.proofs.AnswerLemmas.{no_answer, no_success}
 use Rattle.tables.proofs.opening.found_version.Goals as goal
 
 pub returns-in_default-clause-found : goal.returns-in_default-clause-found
@@ -48,3 +49,21 @@ returns-in_err-has_version-clause-untold g c clean =
           known.looks.usable before (known.opened before) last.looks.usable.counts (known.same before) version_query []
           (last.unanswered clean other),
     ))
+
+pub returns-in_err-version-clause-found : goal.returns-in_err-version-clause-found
+returns-in_err-version-clause-found g c clean v t is = no_answer _ _ c.from_residual.ensures.0
+
+pub returns-in_err-version-clause-shown : goal.returns-in_err-version-clause-shown
+returns-in_err-version-clause-shown g c clean = no_answer _ _ c.from_residual.ensures.0
+
+pub returns-in_err-version-clause-opened : goal.returns-in_err-version-clause-opened
+returns-in_err-version-clause-opened g c clean = no_success _ _ c.from_residual.ensures.0
+
+pub returns-in_err-has_version-clause-found : goal.returns-in_err-has_version-clause-found
+returns-in_err-has_version-clause-found g c clean v t is = no_answer _ _ c.from_residual-in_err-has_version.ensures.0
+
+pub returns-in_err-has_version-clause-shown : goal.returns-in_err-has_version-clause-shown
+returns-in_err-has_version-clause-shown g c clean = no_answer _ _ c.from_residual-in_err-has_version.ensures.0
+
+pub returns-in_err-has_version-clause-opened : goal.returns-in_err-has_version-clause-opened
+returns-in_err-has_version-clause-opened g c clean = no_success _ _ c.from_residual-in_err-has_version.ensures.0

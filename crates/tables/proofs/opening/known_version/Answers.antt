@@ -5,6 +5,7 @@ use Rattle.tables.specs.Opening.{all_columns, second_columns, first_columns}
 use Rattle.tables.specs.declared.opening.Version.TheVariants as version
 use Rattle.tables.proofs.UsableLemmas.{looks_in_turn}
 use Rattle.tables.proofs.OpenLemmas.{unknown_if, told_before, unprepared_since}
+use Rattle.tables.proofs.AnswerLemmas.{no_answer, no_success}
 use Rattle.tables.proofs.opening.known_version.Goals as goal
 
 pub returns-then-branch-2-clause-known : goal.returns-then-branch-2-clause-known
@@ -88,3 +89,30 @@ returns-in_err-understands-3-clause-unprepared g c clean =
           last.looks.usable.counts (second.same between ∙ first.same before) first_columns
           (last.unprepared clean other),
     ))
+
+pub returns-in_err-understands-clause-known : goal.returns-in_err-understands-clause-known
+returns-in_err-understands-clause-known g c clean = no_answer _ _ c.from_residual.ensures.0
+
+pub returns-in_err-understands-clause-same : goal.returns-in_err-understands-clause-same
+returns-in_err-understands-clause-same g c clean = no_success _ _ c.from_residual.ensures.0
+
+pub returns-in_err-understands-clause-opened : goal.returns-in_err-understands-clause-opened
+returns-in_err-understands-clause-opened g c clean = no_success _ _ c.from_residual.ensures.0
+
+pub returns-in_err-understands-2-clause-known : goal.returns-in_err-understands-2-clause-known
+returns-in_err-understands-2-clause-known g c clean = no_answer _ _ c.from_residual-in_err-understands-2.ensures.0
+
+pub returns-in_err-understands-2-clause-same : goal.returns-in_err-understands-2-clause-same
+returns-in_err-understands-2-clause-same g c clean = no_success _ _ c.from_residual-in_err-understands-2.ensures.0
+
+pub returns-in_err-understands-2-clause-opened : goal.returns-in_err-understands-2-clause-opened
+returns-in_err-understands-2-clause-opened g c clean = no_success _ _ c.from_residual-in_err-understands-2.ensures.0
+
+pub returns-in_err-understands-3-clause-known : goal.returns-in_err-understands-3-clause-known
+returns-in_err-understands-3-clause-known g c clean = no_answer _ _ c.from_residual-in_err-understands-3.ensures.0
+
+pub returns-in_err-understands-3-clause-same : goal.returns-in_err-understands-3-clause-same
+returns-in_err-understands-3-clause-same g c clean = no_success _ _ c.from_residual-in_err-understands-3.ensures.0
+
+pub returns-in_err-understands-3-clause-opened : goal.returns-in_err-understands-3-clause-opened
+returns-in_err-understands-3-clause-opened g c clean = no_success _ _ c.from_residual-in_err-understands-3.ensures.0

@@ -1,5 +1,6 @@
 use Rattle.std.proofs.Common.{refl}
 use Rattle.tables.proofs.QueryLemmas.{last_stamp_found, last_stamp_text, number_of}
+use Rattle.tables.proofs.AnswerLemmas.{no_answer}
 use Rattle.tables.proofs.stamps.greatest_stamp.Goals as goal
 
 pub first_row-requires-clause-text : goal.first_row-requires-clause-text
@@ -17,3 +18,12 @@ pub returns-in-None-clause-value : goal.returns-in-None-clause-value
 returns-in-None-clause-value g c honest t d =
     let found = last_stamp_found t _ _ _ d.holds refl (c.in_ok-found.ensures.told honest d.schema) in
     rw c.in-None.is at found
+
+pub returns-in_err-found-clause-value : goal.returns-in_err-found-clause-value
+returns-in_err-found-clause-value g c clean t d = no_answer _ _ c.from_residual.ensures.0
+
+pub returns-in_err-serial-in-Some-clause-value : goal.returns-in_err-serial-in-Some-clause-value
+returns-in_err-serial-in-Some-clause-value g c clean t d = no_answer _ _ c.from_residual-in_err-serial-in-Some.ensures.0
+
+pub returns-in_err-gen_time-in-Some-clause-value : goal.returns-in_err-gen_time-in-Some-clause-value
+returns-in_err-gen_time-in-Some-clause-value g c clean t d = no_answer _ _ c.from_residual-in_err-gen_time-in-Some.ensures.0

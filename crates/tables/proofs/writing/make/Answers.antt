@@ -2,6 +2,7 @@ use Rattle.std.proofs.Common.{ap}
 use Rattle.book.specs.History.{day_of}
 use Rattle.tables.specs.Steps.{with_count}
 use Rattle.tables.proofs.CountLemmas.{chained, reworded}
+use Rattle.tables.proofs.AnswerLemmas.{refused_carries}
 use Rattle.tables.proofs.writing.make.Goals as goal
 
 pub returns-in_ok-put_stamp-in-Reserve-clause-carries :
@@ -48,3 +49,20 @@ returns-in-RevokeGroup-clause-carries g c =
 
 pub returns-in-Install-clause-carries : goal.returns-in-Install-clause-carries
 returns-in-Install-clause-carries g c = rw c.in-Install.is c.put_identity.ensures.carries
+
+pub returns-in_err-put_stamp-in-Reserve-clause-carries : goal.returns-in_err-put_stamp-in-Reserve-clause-carries
+returns-in_err-put_stamp-in-Reserve-clause-carries g c =
+    refused_carries _ _ _ _ _ _ c.in_err-put_stamp-in-Reserve.ensures.carries c.from_residual.ensures.0
+
+pub returns-in_err-set_token-in-Deposit-clause-carries : goal.returns-in_err-set_token-in-Deposit-clause-carries
+returns-in_err-set_token-in-Deposit-clause-carries g c =
+    refused_carries _ _ _ _ _ _ c.in_err-set_token-in-Deposit.ensures.carries c.from_residual-in_err-set_token-in-Deposit.ensures.0
+
+pub returns-in_err-drop_reader-in-Grant-clause-carries : goal.returns-in_err-drop_reader-in-Grant-clause-carries
+returns-in_err-drop_reader-in-Grant-clause-carries g c =
+    refused_carries _ _ _ _ _ _ c.in_err-drop_reader-in-Grant.ensures.carries c.from_residual-in_err-drop_reader-in-Grant.ensures.0
+
+pub returns-in_err-drop_group_reader-in-GrantGroup-clause-carries :
+    goal.returns-in_err-drop_group_reader-in-GrantGroup-clause-carries
+returns-in_err-drop_group_reader-in-GrantGroup-clause-carries g c =
+    refused_carries _ _ _ _ _ _ c.in_err-drop_group_reader-in-GrantGroup.ensures.carries c.from_residual-in_err-drop_group_reader-in-GrantGroup.ensures.0

@@ -14,17 +14,14 @@ returns-in-Ok-clause-found g c clean =
     }
 
 pub returns-in-Err-clause-foreign : goal.returns-in-Err-clause-foreign
-returns-in-Err-clause-foreign g c is = inr (record {
-  was = c.in_ok-conn.conn;
-  seems = record {
-    left = c.in-Err._conn;
-    looks = c.in-Err.ensures.unchanged;
-    foreign = c.in-Err.ensures.foreign is;
-    other = c.in-Err.ensures.not_ours is;
-  };
-  found = λ clean. let early = c.in-Err.ensures.unchanged.clean clean in
-      (c.in_ok-conn.ensures.opened early, c.in_ok-conn.ensures.found early);
-})
+returns-in-Err-clause-foreign g c is =
+    let seems = c.in-Err.ensures.foreign is in
+    inr (record {
+      was = c.in_ok-conn.conn;
+      seems = seems;
+      found = λ clean. let early = seems.looks.clean clean in
+          (c.in_ok-conn.ensures.opened early, c.in_ok-conn.ensures.found early);
+    })
 
 pub returns-in-Err-clause-refusals : goal.returns-in-Err-clause-refusals
 returns-in-Err-clause-refusals g c = c.in-Err.ensures.refusals

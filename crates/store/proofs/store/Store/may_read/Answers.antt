@@ -3,6 +3,7 @@ use Rattle.std.proofs.lemmas.List.{drop_more}
 use Rattle.book.specs.Values.{viewer_of}
 use Rattle.store.proofs.Asked.{HasAsked, asked_alone, asked_more}
 use Rattle.store.proofs.Walk.{looks_after}
+use Rattle.store.proofs.Calls.{no_answer}
 use Rattle.store.proofs.store.Store.may_read.Goals as goal
 
 pub loop-name-init : goal.loop-name-init
@@ -26,3 +27,9 @@ loop-name-preserved g c =
     (ap (map (λ name. name.now)) (drop_more c.args.groups.now c.loop-name.name-index _ c.loop-name-test.true))
     c.loop-name.invariant)
     c.in_ok-reads-2.ensures.looks c.in_ok-reads-2.ensures.faults c.if-reads-2.false c.in_ok-reads-2.ensures.value
+
+pub returns-in_err-reads-clause-value : goal.returns-in_err-reads-clause-value
+returns-in_err-reads-clause-value g c honest b s = no_answer _ _ c.from_residual.ensures.0
+
+pub returns-in_err-reads-2-clause-value : goal.returns-in_err-reads-2-clause-value
+returns-in_err-reads-2-clause-value g c honest b s = no_answer _ _ c.from_residual-in_err-reads-2.ensures.0

@@ -2,7 +2,7 @@ use Rattle.std.proofs.Common.{map, ap, sym, subst, ◌∙◌}
 use Rattle.std.proofs.lemmas.List.{length-map}
 use Rattle.book.specs.Values.{viewer_of}
 use Rattle.store.specs.Steps.{IsNextSeen, least_of, later_of}
-use Rattle.store.proofs.Calls.{looks_now, kept_seen}
+use Rattle.store.proofs.Calls.{looks_now, kept_seen, no_answer}
 use Rattle.store.proofs.Listing.{next_view, later_view}
 use Rattle.store.proofs.Walk.{looks_after}
 use Rattle.store.proofs.store.Store.next_seen.Goals as goal
@@ -34,3 +34,9 @@ returns-clause-value g c honest b s known =
           (later_view b viewer _ _ s.sound (next_view b viewer _ _ _ _ s.sound sized owned ahead)),
       ahead,
     )
+
+pub returns-in_err-owned-clause-value : goal.returns-in_err-owned-clause-value
+returns-in_err-owned-clause-value g c honest b s are = no_answer _ _ c.from_residual.ensures.0
+
+pub returns-in_err-advance-clause-value : goal.returns-in_err-advance-clause-value
+returns-in_err-advance-clause-value g c honest b s are = no_answer _ _ c.from_residual-in_err-advance.ensures.0

@@ -4,6 +4,7 @@ use Rattle.book.specs.History.{Calibrated}
 use Rattle.book.specs.Sound.{IsBackwards}
 use Rattle.book.specs.Values.{calibration_view}
 use Rattle.store.proofs.Calls.{reads_now, kept_seen, crash_after, adds_after, err_after, looks_now, on_err, no_success}
+use Rattle.store.proofs.Calls.{no_answer}
 use Rattle.store.proofs.Numbered.{calibration_view_of, calibration_step, calibrations_count}
 use Rattle.store.proofs.store.StoreBook.calibrate.Goals as goal
 
@@ -113,3 +114,9 @@ returns-clause-number g c honest b s =
     ∙ (calibration_view_of b _ (c.in_ok-latest.ensures.value (c.in_ok-commit.ensures.honest honest) _
     (kept_seen g.S.Store _ _ b c.self.view_is s))).1
     ∙ ap (λ (k : ℕ). k + 1) (calibrations_count b)
+
+pub returns-in_err-latest-clause-number : goal.returns-in_err-latest-clause-number
+returns-in_err-latest-clause-number g c honest b s = no_answer _ _ c.from_residual.ensures.0
+
+pub returns-in_err-commit-clause-number : goal.returns-in_err-commit-clause-number
+returns-in_err-commit-clause-number g c honest b s = no_answer _ _ c.from_residual-in_err-commit.ensures.0

@@ -1,6 +1,11 @@
+use Rattle.book.proofs.Numbers.{stamped_beyond}
 use Rattle.store.proofs.Calls.{looks_now, looks_twice, kept_seen, no_answer}
 use Rattle.store.proofs.DepositAnswers.{without_deposit, without_stamp, with_both}
 use Rattle.store.proofs.store.StoreBook.deposit.Goals as goal
+
+pub returns-then-number-gt-GREATEST_NUMBER-clause-value : goal.returns-then-number-gt-GREATEST_NUMBER-clause-value
+returns-then-number-gt-GREATEST_NUMBER-clause-value g c honest b s =
+    stamped_beyond b _ s.sound c.if-number-gt-GREATEST_NUMBER.true
 
 pub returns-in_err-deposit-clause-looks : goal.returns-in_err-deposit-clause-looks
 returns-in_err-deposit-clause-looks g c = looks_now g.S.Store _ _ _ c.self.view_is c.in_err-deposit.ensures.reads
@@ -8,13 +13,13 @@ returns-in_err-deposit-clause-looks g c = looks_now g.S.Store _ _ _ c.self.view_
 pub returns-in_default-clause-value : goal.returns-in_default-clause-value
 returns-in_default-clause-value g c honest b s =
     let kept = kept_seen g.S.Store _ _ b c.self.view_is s in
-    without_deposit b _ _ _ s.sound c.asked_for-asked.ensures c.in_default.is
+    without_deposit b _ _ s.sound c.in_default.is
     (c.in_ok-deposit.ensures.value honest _ kept)
 
 pub returns-in_default-2-clause-value : goal.returns-in_default-2-clause-value
 returns-in_default-2-clause-value g c honest b s =
     let kept = c.in_ok-deposit.ensures.reads.kept _ (kept_seen g.S.Store _ _ b c.self.view_is s) in
-    without_stamp b _ _ _ s.sound c.asked_for-asked.ensures c.in_default-2.is
+    without_stamp b _ _ s.sound c.in_default-2.is
     (c.in_ok-stamp.ensures.value honest _ kept)
 
 pub returns-clause-value : goal.returns-clause-value
@@ -22,7 +27,7 @@ returns-clause-value g c honest b s =
     let kept = kept_seen g.S.Store _ _ b c.self.view_is s in
     let found = c.in_ok-deposit.ensures.value (c.in_ok-stamp.ensures.reads.honest honest) _ kept in
     let stamped = c.in_ok-stamp.ensures.value honest _ (c.in_ok-deposit.ensures.reads.kept _ kept) in
-    with_both b _ _ _ _ _ _ s.sound c.asked_for-asked.ensures c.in-Some.is c.in-Some-2.is found stamped
+    with_both b _ _ _ _ _ s.sound c.in-Some.is c.in-Some-2.is found stamped
 
 pub returns-in_default-clause-looks : goal.returns-in_default-clause-looks
 returns-in_default-clause-looks g c = looks_now g.S.Store _ _ _ c.self.view_is c.in_ok-deposit.ensures.reads

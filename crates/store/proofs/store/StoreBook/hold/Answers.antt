@@ -2,7 +2,8 @@ use Rattle.std.proofs.Common.{ℕ, ◌+◌, ◌∙◌, rules, SFits, w64, to_z, 
 use Rattle.tables.specs.Tables.{with_hold}
 use Rattle.book.specs.History.{Held}
 use Rattle.book.specs.Values.{hold_view}
-use Rattle.store.proofs.Calls.{reads_now, kept_seen, crash_after, adds_after, err_after, looks_now, on_err}
+use Rattle.store.proofs.Calls.{reads_now, kept_seen, crash_after, adds_after, err_after, looks_now, on_err, no_answer}
+use Rattle.store.proofs.Calls.{no_success}
 use Rattle.store.proofs.Numbered.{hold_number, hold_step, holds_count}
 use Rattle.store.proofs.store.StoreBook.hold.Goals as goal
 
@@ -72,3 +73,15 @@ returns-clause-number g c honest b s =
     ∙ hold_number b _ (c.in_ok-greatest.ensures.value (c.in_ok-commit.ensures.honest honest) _
     (kept_seen g.S.Store _ _ b c.self.view_is s))
     ∙ ap (λ (k : ℕ). k + 1) (holds_count b)
+
+pub returns-in_err-greatest-clause-ok : goal.returns-in_err-greatest-clause-ok
+returns-in_err-greatest-clause-ok g c b s fits = no_success _ _ c.from_residual.ensures.0
+
+pub returns-in_err-commit-clause-ok : goal.returns-in_err-commit-clause-ok
+returns-in_err-commit-clause-ok g c b s fits = no_success _ _ c.from_residual-in_err-commit.ensures.0
+
+pub returns-in_err-greatest-clause-number : goal.returns-in_err-greatest-clause-number
+returns-in_err-greatest-clause-number g c honest b s = no_answer _ _ c.from_residual.ensures.0
+
+pub returns-in_err-commit-clause-number : goal.returns-in_err-commit-clause-number
+returns-in_err-commit-clause-number g c honest b s = no_answer _ _ c.from_residual-in_err-commit.ensures.0

@@ -4,7 +4,7 @@ use Rattle.tables.specs.Tables.{with_identity}
 use Rattle.book.specs.History.{Installed}
 use Rattle.book.specs.Values.{installed_of}
 use Rattle.book.specs.declared.values.Last.{Last}
-use Rattle.store.proofs.Calls.{crash_told, adds_told, err_looked, looked_seen, on_err}
+use Rattle.store.proofs.Calls.{crash_told, adds_told, err_looked, looked_seen, on_err, no_success}
 use Rattle.store.proofs.Installed.{identity_step}
 use Rattle.store.proofs.Walk.{looks_after}
 use Rattle.store.proofs.store.StoreBook.install.Goals as goal
@@ -75,3 +75,12 @@ returns-in_err-commit-clause-err g c b s =
     (looked_seen g.S.Store _ _ _ c.self.view_is
     (looks_after g.S.Store _ _ _ c.in_ok-last.ensures.looks c.in_ok-number.ensures.looks))
     c.in_err-commit.ensures.err s)
+
+pub returns-in_err-last-clause-ok : goal.returns-in_err-last-clause-ok
+returns-in_err-last-clause-ok g c b s = no_success _ _ c.from_residual.ensures.0
+
+pub returns-in_err-number-clause-ok : goal.returns-in_err-number-clause-ok
+returns-in_err-number-clause-ok g c b s = no_success _ _ c.from_residual-in_err-number.ensures.0
+
+pub returns-in_err-commit-clause-ok : goal.returns-in_err-commit-clause-ok
+returns-in_err-commit-clause-ok g c b s = no_success _ _ c.from_residual-in_err-commit.ensures.0

@@ -73,3 +73,6 @@ returns-in_err-row-clause-value g c honest b s = no_answer _ _ c.from_residual-i
 
 pub returns-in_err-add_listed-clause-value : goal.returns-in_err-add_listed-clause-value
 returns-in_err-add_listed-clause-value g c honest b s = no_answer _ _ c.from_residual-in_err-add_listed.ensures.0
+
+pub returns-in_err-cursors-clause-value : goal.returns-in_err-cursors-clause-value
+returns-in_err-cursors-clause-value g c honest b s = no_answer _ _ c.from_residual.ensures.0

@@ -1,10 +1,19 @@
-use Rattle.std.proofs.Common.{subst}
+use Rattle.std.proofs.Common.{◌≡◌, ◌≢◌, ◌∙◌, Option, None, Some, ap, sym, subst}
 use Rattle.sqlite.specs.Held.{state}
 use Rattle.tables.specs.Opening.{TellsVersion}
+use Rattle.tables.specs.declared.opening.Version.{Version}
 use Rattle.tables.specs.declared.opening.Version.TheVariants as version
 use Rattle.tables.proofs.BaseLemmas.{adopted_keeps}
 use Rattle.tables.proofs.MigrateLemmas.{in_now}
 use Rattle.tables.proofs.base.Base.adopt.Goals as goal
+
+-- what was found to be of the version of now is of no other
+never_now : (found : Option Version) (v : Version) → found ≡ Some version.Current → v ≢ version.Current
+    → found ≡ Some v → ⊥
+never_now found v now other is = other (let both : Some v ≡ Some version.Current = sym is ∙ now in cc)
+
+none_now : (found : Option Version) → found ≡ Some version.Current → found ≡ None → ⊥
+none_now found now none = let both : Some version.Current ≡ None = sym now ∙ none in cc
 
 pub returns-in-Ok-Some-Current-clause-keeps : goal.returns-in-Ok-Some-Current-clause-keeps
 returns-in-Ok-Some-Current-clause-keeps g c t found =
@@ -13,23 +22,20 @@ returns-in-Ok-Some-Current-clause-keeps g c t found =
 
 pub returns-in-Ok-Some-First-clause-not_ours : goal.returns-in-Ok-Some-First-clause-not_ours
 returns-in-Ok-Some-First-clause-not_ours g c told clean t found =
-    let some = c.in-Ok-Some-First.ensures.found clean version.Current t (in_now t _ found.0) in
-    let is = c.in-Ok-Some-First.field-0-is in
-    let first = c.in-Ok-Some-First.field-0-0-is in
-    cc
+    never_now c.in-Ok-Some-First.field-0 version.First
+    (c.in-Ok-Some-First.ensures.found clean version.Current t (in_now t _ found.0)) (λ e. cc)
+    (c.in-Ok-Some-First.field-0-is ∙ ap Some c.in-Ok-Some-First.field-0-0-is)
 
 pub returns-in-Ok-Some-Second-clause-not_ours : goal.returns-in-Ok-Some-Second-clause-not_ours
 returns-in-Ok-Some-Second-clause-not_ours g c told clean t found =
-    let some = c.in-Ok-Some-Second.ensures.found clean version.Current t (in_now t _ found.0) in
-    let is = c.in-Ok-Some-Second.field-0-is in
-    let second = c.in-Ok-Some-Second.field-0-0-is in
-    cc
+    never_now c.in-Ok-Some-Second.field-0 version.Second
+    (c.in-Ok-Some-Second.ensures.found clean version.Current t (in_now t _ found.0)) (λ e. cc)
+    (c.in-Ok-Some-Second.field-0-is ∙ ap Some c.in-Ok-Some-Second.field-0-0-is)
 
 pub returns-in-Ok-None-clause-not_ours : goal.returns-in-Ok-None-clause-not_ours
 returns-in-Ok-None-clause-not_ours g c told clean t found =
-    let some = c.in-Ok-None.ensures.found clean version.Current t (in_now t _ found.0) in
-    let none = c.in-Ok-None.field-0-is in
-    cc
+    none_now c.in-Ok-None.field-0 (c.in-Ok-None.ensures.found clean version.Current t (in_now t _ found.0))
+    c.in-Ok-None.field-0-is
 
 pub returns-in-Ok-None-clause-foreign : goal.returns-in-Ok-None-clause-foreign
 returns-in-Ok-None-clause-foreign g c told clean =

@@ -1,5 +1,5 @@
 use Rattle.tables.specs.Changes.{applied}
-use Rattle.tables.proofs.BaseLemmas.{keeps_on, crash_leaves}
+use Rattle.tables.proofs.BaseLemmas.{keeps_on, keeps_still, crash_leaves}
 use Rattle.tables.proofs.base.Base.commit.Goals as goal
 
 pub returns-in-Ok-clause-ok : goal.returns-in-Ok-clause-ok
@@ -16,3 +16,17 @@ pub returns-in-Err-clause-crash : goal.returns-in-Err-clause-crash
 returns-in-Err-clause-crash g c =
     rw (← c.self.view_is, c.fault.ensures.same) (crash_leaves g.S.Store (applied c.args.change.now) c.self.inside.conn
     c.commit_change.new.conn _ c.in-Err.ensures.commits)
+
+pub returns-in-Ok-clause-err : goal.returns-in-Ok-clause-err
+returns-in-Ok-clause-err g c t keeps = tt
+
+pub returns-in-Err-clause-opened : goal.returns-in-Err-clause-opened
+returns-in-Err-clause-opened g c honest = tt
+
+pub returns-in-Err-clause-ok : goal.returns-in-Err-clause-ok
+returns-in-Err-clause-ok g c t keeps = tt
+
+pub returns-in-Err-clause-err : goal.returns-in-Err-clause-err
+returns-in-Err-clause-err g c t keeps =
+    rw c.fault.ensures.same (keeps_still g.S.Store g.met.S.Store.settled (applied c.args.change.now) c.self.inside.conn
+    c.commit_change.new.conn c.in-Err.ensures.closed t (rw (← c.self.view_is) at keeps) _ c.in-Err.ensures.commits)

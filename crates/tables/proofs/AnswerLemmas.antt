@@ -1,0 +1,21 @@
+-- What is said of an answer, where there is a refusal: nothing.
+use Rattle.std.proofs.Common.{Result, Ok, Err, IsErr, IfOk, OnOk}
+use Rattle.sqlite.specs.declared.error.Error.{Error}
+use Rattle.sqlite.specs.State.{State}
+use Rattle.tables.specs.Carrying.{Carries}
+use Rattle.tables.specs.Tables.{Tables}
+
+pub no_answer : {A E : Type 0} (r : Result A E) (P : A → Type 0) → IsErr r → IfOk r P
+no_answer (Ok a) P refused = absurd cc
+no_answer (Err e) P refused = tt
+
+pub no_success : {A E : Type 0} (r : Result A E) (P : Type 0) → IsErr r → OnOk r P
+no_success (Ok a) P refused = absurd cc
+no_success (Err e) P refused = tt
+
+-- a statement that is refused takes any step
+pub refused_carries : {X Y : Type 0} (step other : Tables → Tables) (old new : State) (r : Result X Error)
+    (refused : Result Y Error) → Carries other old new r → IsErr refused → Carries step old new refused
+refused_carries step other old new r (Ok y) c isnt = absurd cc
+refused_carries step other old new r (Err e) c is =
+    record { survives = c.survives; kept = c.kept; ok = λ clean inside. tt }
