@@ -1,26 +1,22 @@
 //! Who may have an extract.
 ghost use Rattle.std.specs.Prelude.{◌≡◌, ◌↔◌, ◌⊎◌, Contains, IsTrue, IfErr, MatchResult, map, string_bytes};
 ghost use Rattle.policy.specs.View.{account_view, policy_view};
-ghost use Rattle.audit.specs.Auditor.{IsAuditor, IsAllowed, ComesWhere};
+ghost use Rattle.audit.specs.Auditor.{IsAuditor};
+ghost use Rattle.audit.specs.Inquiries.{Allows, ComesFor};
 
+use crate::extracting::Inquiry;
 use crate::fault::ExtractFault;
 use policy::{Account, Policy};
 
 /// Whether an auditor asks, and then whether for a range.
-pub(crate) fn allow(
-    policy: &Policy,
-    account: &Account,
-    from: u64,
-    to: u64,
-) -> Result<(), ExtractFault>
-    ensures allowed { MatchResult result (λ _. IsAllowed (policy_view policy.now) (account_view account.now) from to)
-        (ComesWhere (policy_view policy.now) (account_view account.now) from to) }
+pub(crate) fn allow(inquiry: &Inquiry<'_>) -> Result<(), ExtractFault>
+    ensures allowed { MatchResult result (λ _. Allows inquiry.now) (ComesFor inquiry.now) }
     ensures refusals { IfErr result (λ e. (e ≡ ExtractFault.NotAuditor) ⊎ (e ≡ ExtractFault.Range)) }
 {
-    if !is_auditor(policy, account) {
+    if !is_auditor(inquiry.policy, inquiry.account) {
         return Err(ExtractFault::NotAuditor);
     }
-    if from < 1 || to < from {
+    if inquiry.from < 1 || inquiry.to < inquiry.from {
         return Err(ExtractFault::Range);
     }
     Ok(())

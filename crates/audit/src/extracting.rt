@@ -4,6 +4,7 @@ ghost use Rattle.policy.specs.View.{account_view, policy_view};
 ghost use Rattle.book.specs.History.{History, stamps_between};
 ghost use Rattle.book.specs.Stands.{Stands, OnlyLooks};
 ghost use Rattle.audit.specs.Auditor.{IsAllowed, ComesWhere, IfUnasked, IsMet};
+ghost use Rattle.audit.specs.Inquiries.{Allows, ComesFor};
 ghost use Rattle.audit.specs.Extract.{extract_text};
 ghost use Rattle.audit.specs.Fault.{count_after};
 ghost use Rattle.audit.specs.Steps.{IsLine, IsNextLine};
@@ -17,6 +18,19 @@ use book::{Book, StampsBetween};
 use policy::{Account, Policy};
 use std::alloc::Global;
 use std::io::Write;
+
+/// Of which stamps an account asks for an extract.
+#[derive(Clone, Copy, Debug)]
+pub struct Inquiry<'a> {
+    /// The policy file.
+    pub policy: &'a Policy,
+    /// The account that asks.
+    pub account: &'a Account,
+    /// The first serial number.
+    pub from: u64,
+    /// The last serial number.
+    pub to: u64,
+}
 
 /// What became of an extract.
 #[derive(Debug, Drop)]
@@ -54,7 +68,13 @@ pub fn extract<B: Book + Drop, W: Write>(
     ensures faults { MatchResult result (λ _. B.fault_count store.new ≡ B.fault_count store.old)
         (λ e. B.fault_count store.new ≡ count_after e (B.fault_count store.old)) }
 {
-    write_extract(alloc, store, policy, account, from, to, u64::MAX, out).outcome
+    let inquiry = Inquiry {
+        policy,
+        account,
+        from,
+        to,
+    };
+    write_extract(alloc, store, &inquiry, u64::MAX, out).outcome
 }
 
 /// Writes the extract as `extract` does, and tells how many octets `out` took, those of a line that failed too. A line
@@ -62,33 +82,28 @@ pub fn extract<B: Book + Drop, W: Write>(
 pub fn write_extract<B: Book + Drop, W: Write>(
     alloc: Global,
     store: &mut B,
-    policy: &Policy,
-    account: &Account,
-    from: u64,
-    to: u64,
+    inquiry: &Inquiry<'_>,
     limit: u64,
     out: &mut W,
 ) -> Extracted
     ensures looks { OnlyLooks B.Standing store.old store.new }
-    ensures written { Writes B.Standing store.old store.new (W.contents out.old) (W.contents out.new) from to
-        result.octets result.outcome }
+    ensures written { Writes B.Standing store.old store.new (W.contents out.old) (W.contents out.new)
+        inquiry.now.from inquiry.now.to result.octets result.outcome }
     ensures within { result.octets ≤ limit }
-    ensures refusals { MatchResult result.outcome
-        (λ _. IsAllowed (policy_view policy.now) (account_view account.now) from to)
-        (ComesWhere (policy_view policy.now) (account_view account.now) from to) }
+    ensures refusals { MatchResult result.outcome (λ _. Allows inquiry.now) (ComesFor inquiry.now) }
     ensures unasked { IfErr result.outcome
         (IfUnasked ((store.new ≡ store.old) × (out.new ≡ out.old) × (result.octets ≡ 0))) }
     ensures faults { MatchResult result.outcome (λ _. B.fault_count store.new ≡ B.fault_count store.old)
         (λ e. B.fault_count store.new ≡ count_after e (B.fault_count store.old)) }
 {
-    if let Err(fault) = allow(policy, account, from, to) {
+    if let Err(fault) = allow(inquiry) {
         return Extracted {
             octets: 0,
             outcome: Err(fault),
         };
     }
     let mut octets = 0;
-    let outcome = write_stamps(alloc, store, from, to, limit, out, &mut octets);
+    let outcome = write_stamps(alloc, store, inquiry, limit, out, &mut octets);
     Extracted { octets, outcome }
 }
 
@@ -98,47 +113,43 @@ pub fn write_extract<B: Book + Drop, W: Write>(
 pub fn extract_length<B: Book + Drop>(
     alloc: Global,
     store: &mut B,
-    policy: &Policy,
-    account: &Account,
-    from: u64,
-    to: u64,
+    inquiry: &Inquiry<'_>,
 ) -> Result<u64, ExtractFault>
     ensures looks { OnlyLooks B.Standing store.old store.new }
     ensures value { B.honest store.new → (b : History) → Stands B.Standing b store.old
-        → IfOk result (λ octets. octets ≡ length (extract_text from to b)) }
+        → IfOk result (λ octets. octets ≡ length (extract_text inquiry.now.from inquiry.now.to b)) }
     ensures long { B.honest store.new → (b : History) → Stands B.Standing b store.old
-        → IfErr result (λ e. e ≡ ExtractFault.Write → 2 ^ 64 ≤ length (extract_text from to b)) }
-    ensures refusals { MatchResult result (λ _. IsAllowed (policy_view policy.now) (account_view account.now) from to)
-        (ComesWhere (policy_view policy.now) (account_view account.now) from to) }
+        → IfErr result (λ e. e ≡ ExtractFault.Write
+        → 2 ^ 64 ≤ length (extract_text inquiry.now.from inquiry.now.to b)) }
+    ensures refusals { MatchResult result (λ _. Allows inquiry.now) (ComesFor inquiry.now) }
     ensures unasked { IfErr result (IfUnasked (store.new ≡ store.old)) }
     ensures faults { MatchResult result (λ _. B.fault_count store.new ≡ B.fault_count store.old)
         (λ e. B.fault_count store.new ≡ count_after e (B.fault_count store.old)) }
 {
-    allow(policy, account, from, to)?;
-    count_octets(alloc, store, from, to)
+    allow(inquiry)?;
+    count_octets(alloc, store, inquiry.from, inquiry.to)
 }
 
 /// Writes the extract's lines, one after the other, and counts their octets.
 fn write_stamps<B: Book + Drop, W: Write>(
     alloc: Global,
     store: &mut B,
-    from: u64,
-    to: u64,
+    inquiry: &Inquiry<'_>,
     limit: u64,
     out: &mut W,
     octets: &mut u64,
 ) -> Result<(), ExtractFault>
     requires { octets.old ≡ 0 }
     ensures looks { OnlyLooks B.Standing store.old store.new }
-    ensures written { Writes B.Standing store.old store.new (W.contents out.old) (W.contents out.new) from to octets.new
-        result }
+    ensures written { Writes B.Standing store.old store.new (W.contents out.old) (W.contents out.new)
+        inquiry.now.from inquiry.now.to octets.new result }
     ensures within { octets.new ≤ limit }
     ensures refusals { IfErr result IsMet }
     ensures faults { MatchResult result (λ _. B.fault_count store.new ≡ B.fault_count store.old)
         (λ e. B.fault_count store.new ≡ count_after e (B.fault_count store.old)) }
 {
     write_line(out, header(), limit, octets)?;
-    let mut walk = StampsBetween::of(store, from, to);
+    let mut walk = StampsBetween::of(store, inquiry.from, inquiry.to);
     while let Some(line) = next_line(alloc, &mut walk)? {
         write_line(out, &line, limit, octets)?;
     }

@@ -9,6 +9,6 @@ mod line;
 mod writing;
 
 pub use check::check_row;
-pub use extracting::{Extracted, extract, extract_length, write_extract};
+pub use extracting::{Extracted, Inquiry, extract, extract_length, write_extract};
 pub use fault::ExtractFault;
 pub use writing::write_octets;

@@ -17,9 +17,8 @@ use Rattle.desk.specs.Steps.{HasEffect, IsMet, Moves}
 use Rattle.desk.specs.Viewers.{viewer_in}
 use Rattle.desk.specs.Stepped.{DeskValue, IsStep, no_signer, with_signer}
 use Rattle.service.specs.Answers.{AnswerValue}
-use Rattle.service.specs.Served.{IsAnswer, refuses, replies, keeps_back, wants_early, wants_list, overflows}
+use Rattle.service.specs.Served.{IsAnswer, refuses, replies, turned_back, turns_back, looks, wants_early, wants_list}
 use Rattle.service.specs.Served.{Serves, Steps}
-use Rattle.service.specs.Served.{turned_back, turns_back, tells_status, wants_status}
 use Rattle.service.specs.declared.served.Served.{Served}
 use Rattle.service.specs.declared.served.Served.TheVariants as served
 use Rattle.connections.specs.Run.{AreMetAnywhere}
@@ -151,13 +150,9 @@ module _ {C B X : Type 0} (reads : C → Result ℤ ClockFailed → C → Type 0
     answers reading a (refuses r reads i is) met = idles i.desk i.signer met
     answers reading a (replies c reads reply takes is) met = steps c reply takes met
     answers reading a (turns_back c reads takes behind is) met = steps (Calibrate c) turned_back takes met
-    answers reading a (tells_status body reads l state is) met = stays (l.store.stands b stood) l.signer met
-    answers reading a (wants_status reads l is) met = stays (l.store.stands b stood) l.signer met
-    answers reading a (keeps_back account from to reads f k is) met =
-        stays (k.look.store.stands b stood) k.look.signer met
+    answers reading a (looks r reads l reports) met = stays (l.store.stands b stood) l.signer met
     answers reading a (wants_early early i is) met = idles i.desk i.signer met
     answers reading a (wants_list account reads rows takes is) met = steps (ListAll account) (Listed rows) takes met
-    answers reading a (overflows account from to reads l long is) met = stays (l.store.stands b stood) l.signer met
 
     serves : (reading : ℤ) (outcome : Served) (s : Serves g signs count untold reading (turn reads g signs count old next) outcome)
         → AreMetAnywhere (commands_of (told_in reads g signs count reading (turn reads g signs count old next) outcome s ++ later))

@@ -1,14 +1,11 @@
 -- What is served over a stream that tells no octets, without a name for the stream.
 use Rattle.std.proofs.Common.{ℕ, ℤ, List, Option, None, Result, refl, inl, inr}
 use Rattle.book.specs.declared.standing.Standing.{Ghosts}
-use Rattle.policy.specs.Record.{AccountValue}
 use Rattle.cms.specs.declared.signer.SignerFault.{SignerFault}
-use Rattle.audit.specs.declared.fault.ExtractFault.{ExtractFault}
 use Rattle.desk.specs.Stepped.{DeskValue}
 use Rattle.service.specs.Answers.{AnswerValue}
-use Rattle.service.specs.Served.{Turn, IsIdle, IsSilent, IsLook, IsKeptBack, IsAnswer, refuses, replies, keeps_back}
-use Rattle.service.specs.Served.{wants_early, wants_list, overflows, Sends, SendsOctets, Writes}
-use Rattle.service.specs.Served.{turns_back, tells_status, wants_status, Extracts, Serves}
+use Rattle.service.specs.Served.{Turn, IsIdle, IsSilent, IsLook, IsAnswer, refuses, replies, turns_back, looks}
+use Rattle.service.specs.Served.{wants_early, wants_list, Sends, SendsOctets, Writes, Extracts, Serves}
 use Rattle.service.specs.declared.served.Served.{Served}
 use Rattle.service.specs.declared.served.Served.TheVariants as served
 use Rattle.connections.specs.Turns.{untold}
@@ -49,27 +46,13 @@ module _ {W B X : Type 0} (g : Ghosts B) (signs : X → List ℕ → Result (Lis
   look : IsLook g signs count t → IsLook g signs count (without t)
   look l = record { store = l.store; signer = l.signer }
 
-  kept : (account : AccountValue) (from to : ℕ) (f : ExtractFault) → IsKeptBack g signs count t account from to f
-      → IsKeptBack g signs count (without t) account from to f
-  kept account from to f k = record {
-    look = look k.look;
-    comes = k.comes;
-    unasked = k.unasked;
-    counted = k.counted;
-    long = k.long;
-  }
-
   answer : (a : AnswerValue) → IsAnswer g signs count reading t a → IsAnswer g signs count reading (without t) a
   answer a (refuses r reads i is) = refuses r reads (idle i) is
   answer a (replies c reads reply takes is) = replies c reads reply takes is
   answer a (turns_back x reads takes behind is) = turns_back x reads takes behind is
-  answer a (tells_status body reads l told is) = tells_status body reads (look l) told is
-  answer a (wants_status reads l is) = wants_status reads (look l) is
-  answer a (keeps_back account from to reads f k is) =
-      keeps_back account from to reads f (kept account from to f k) is
+  answer a (looks r reads l reports) = looks r reads (look l) reports
   answer a (wants_early early i is) = wants_early early (idle i) is
   answer a (wants_list account reads rows takes is) = wants_list account reads rows takes is
-  answer a (overflows account from to reads l long is) = overflows account from to reads (look l) long is
 
   sent : (a : AnswerValue) (outcome : Served) → Sends nothing_told t.writer t.writer_after a outcome
       → Sends untold tt tt a outcome

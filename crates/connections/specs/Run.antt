@@ -15,9 +15,8 @@ use Rattle.desk.specs.Runs.{Told, Runs, Journey, HasProperties, IsProper}
 use Rattle.desk.specs.Steps.{IsMet}
 use Rattle.desk.specs.Viewers.{viewer_in}
 use Rattle.service.specs.Answers.{AnswerValue}
-use Rattle.service.specs.Served.{Turn, IsAnswer, refuses, replies, keeps_back, wants_early, wants_list, overflows}
-use Rattle.service.specs.Served.{Serves}
-use Rattle.service.specs.Served.{turned_back, turns_back, tells_status, wants_status}
+use Rattle.service.specs.Served.{Turn, IsAnswer, refuses, replies, turned_back, turns_back, looks, wants_early}
+use Rattle.service.specs.Served.{wants_list, Serves}
 use Rattle.service.specs.declared.served.Served.{Served}
 use Rattle.service.specs.declared.served.Served.TheVariants as served
 use Rattle.connections.specs.Turns.{State, untold, Does, nothing, one, IsServedBy, StopsByClock, Leads}
@@ -46,12 +45,9 @@ module _ {C B X : Type 0} (reads : C → Result ℤ ClockFailed → C → Type 0
   told_for (refuses r reads i is) = []
   told_for (replies c reads reply takes is) = told c reply
   told_for (turns_back c reads takes behind is) = told (Calibrate c) turned_back
-  told_for (tells_status body reads l state is) = []
-  told_for (wants_status reads l is) = []
-  told_for (keeps_back account from to reads f k is) = []
+  told_for (looks r reads l reports) = []
   told_for (wants_early early i is) = []
   told_for (wants_list account reads rows takes is) = told (ListAll account) (Listed rows)
-  told_for (overflows account from to reads l long is) = []
 
   -- what is served between two states, over a stream that tells no octets
   abbrev pub turn : State C B X → State C B X → Turn (Unit {0}) B X

@@ -1,5 +1,5 @@
 -- What handlers do, out of what their checks, the desk's calls and the answers that are written say.
-use Rattle.std.proofs.Common.{◌≡◌, ℕ, ℤ, Bool, true, false, List, ◌++◌, Option, Result, Ok, Err, refl, subst}
+use Rattle.std.proofs.Common.{◌≡◌, ℕ, ℤ, Bool, true, false, List, ◌++◌, Option, Result, Ok, Err, inl, inr, refl, subst}
 use Rattle.std.specs.Fmt.{decimal}
 use Rattle.book.specs.declared.standing.Standing.{Ghosts}
 use Rattle.book.specs.Rights.{ListedValue}
@@ -17,15 +17,15 @@ use Rattle.service.specs.Answers.{AnswerValue, line_feed, refusal_answer, succes
 use Rattle.service.specs.Checks.{◌>>=◌}
 use Rattle.service.specs.Extracting.{ServesExtract}
 use Rattle.service.specs.Handling.{Handles, RequestValue}
-use Rattle.service.specs.Requests.{Asked, Step, Extract, Status, IsRequest, asked_by}
-use Rattle.service.specs.Served.{Sends, Steps, Tells, plainly, unavailable}
+use Rattle.service.specs.Requests.{Asked, Report, Step, Look, Extract, Status, IsRequest, asked_by}
+use Rattle.service.specs.Served.{Reports, Sends, Steps, Tells, plainly, tells_status, unavailable, wants_status}
 use Rattle.service.specs.Telling.{ServesStatus}
 use Rattle.service.specs.Views.{done_answer, stamp_answer, status_kept}
 use Rattle.service.specs.declared.answer.Media.TheVariants as media
 use Rattle.service.specs.declared.refusal.Refusal.{Refusal}
 use Rattle.service.specs.declared.routes.Action.{Action}
 use Rattle.service.specs.declared.served.Served.{Served}
-use Rattle.service.proofs.ServingLemmas.{turn, sends, refusing, why_told, wanting_list, answering_auditor, telling_status}
+use Rattle.service.proofs.ServingLemmas.{turn, sends, refusing, why_told, wanting_list, answering_auditor, reporting}
 
 module _ {W B X : Type 0} (g : Ghosts B) (signs : X → List ℕ → Result (List ℕ) SignerFault → X → Type 0) (count : X → ℕ)
     (contents : W → Option (List ℕ)) (r : RequestValue) (action : Action) (w w' : W) (d d' : DeskValue B) (x x' : X)
@@ -63,7 +63,7 @@ module _ {W B X : Type 0} (g : Ghosts B) (signs : X → List ℕ → Result (Lis
       account refl refl)
       sent
 
-  pub extracted : (account : AccountValue) (from to : ℕ) → Asks (Ok (Extract account from to))
+  pub extracted : (account : AccountValue) (from to : ℕ) → Asks (Ok (Look (Extract account from to)))
       → OnlyLooks g d.store d'.store → x' ≡ x
       → ServesExtract g contents w w' d.store d'.store d.setting.file account from to outcome → Handled
   extracted account from to asks looks signer served = λ before after request.
@@ -71,12 +71,24 @@ module _ {W B X : Type 0} (g : Ghosts B) (signs : X → List ℕ → Result (Lis
       answering_auditor g signs count contents r.reading (turn before after w w' d d' x x') account from to outcome
       (subst P asks request) (record { store = looks; signer = signer }) served
 
-  pub status_told : Asks (Ok Status) → OnlyLooks g d.store d'.store → x' ≡ x
-      → ServesStatus g contents w w' d.store d'.store d.setting.file.counter r.reading (count x') outcome → Handled
-  status_told asks looks signer served = λ before after request.
+  -- a report that a look gives
+  pub reported : (report : Report) (a : AnswerValue) → Asks (Ok (Look report)) → OnlyLooks g d.store d'.store → x' ≡ x
+      → Reports g signs count r.reading d d' x' report a → Sends contents w w' a outcome → Handled
+  reported report a asks looks signer is sent = λ before after request.
       let P : Result Asked Refusal → Type 0 = λ asked. IsRequest d.setting.file r.reading before after asked in
-      telling_status g signs count contents r.reading (turn before after w w' d d' x x') outcome
-      (subst P asks request) (record { store = looks; signer = signer }) served
+      reporting g signs count contents r.reading (turn before after w w' d d' x x') report a outcome
+      (subst P asks request) (record { store = looks; signer = signer }) is sent
+
+  pub status_told : Asks (Ok (Look Status)) → OnlyLooks g d.store d'.store → x' ≡ x
+      → ServesStatus g contents w w' d.store d'.store d.setting.file.counter r.reading (count x') outcome → Handled
+  status_told asks looks signer (inl tells) =
+      elim tells.sent [
+        | inl sent ↦
+            reported Status (success 200 media.Text tells.body) asks looks signer
+            (tells_status tells.body tells.is refl) sent
+        | inr sent ↦ reported Status unavailable asks looks signer (wants_status refl) sent
+      ]
+  status_told asks looks signer (inr sent) = reported Status unavailable asks looks signer (wants_status refl) sent
 
 -- the check that comes first fails, or gives what comes next
 pub checks : {A B : Type 0} (next : A → Result B Refusal) (m n : Result A Refusal) → n ≡ m → (m >>= next) ≡ (n >>= next)

@@ -2,6 +2,7 @@
 use Rattle.std.proofs.Common.{◌≡◌, ◌∙◌, ℕ, ℤ, List, ◌∷◌, true, false, Option, Some, Result, Ok, Err, refl, ap, inl, inr}
 use Rattle.std.specs.Prelude.{IfErr}
 use Rattle.std.specs.Str.{bytes_eq}
+use Rattle.book.specs.Fault.{IsOfStorage}
 use Rattle.book.specs.declared.fault.StoreFault.{StoreFault}
 use Rattle.book.specs.declared.fault.StoreFault.TheVariants as store
 use Rattle.book.specs.declared.standing.Standing.{Ghosts}
@@ -10,7 +11,7 @@ use Rattle.book.specs.Sound.{IsBackwards}
 use Rattle.book.specs.Stands.{Stands}
 use Rattle.cms.specs.declared.signer.SignerFault.{SignerFault}
 use Rattle.desk.specs.Answers.{entered}
-use Rattle.desk.specs.Calls.{IsOfStore, looked_at}
+use Rattle.desk.specs.Calls.{looked_at}
 use Rattle.desk.specs.declared.looking.Looked.{Looked}
 use Rattle.policy.specs.Record.{CounterValue}
 use Rattle.desk.specs.Command.{Calibrate, Hold}
@@ -68,7 +69,7 @@ module _ {B X : Type 0} (g : Ghosts B) (signs : X → List ℕ → Result (List 
       backwards x refl refl (λ honest b stands. behind honest b stands refl) is
 
   -- what is told of a hold
-  pub hold_told : (x : HoldValue) (outcome : Result ℕ StoreFault) → IfErr outcome IsOfStore
+  pub hold_told : (x : HoldValue) (outcome : Result ℕ StoreFault) → IfErr outcome IsOfStorage
       → a ≡ added_answer outcome → Tells g signs count old new (Hold x) (entered outcome) a
   hold_told x (Ok number) of is = plainly is
   hold_told x (Err store.Memory) of is = plainly is

@@ -9,10 +9,9 @@ use Rattle.service.specs.Answers.{answer_text, refusal_answer, crlf, line_feed, 
 use Rattle.service.specs.Checks.{wanted_by, wanted_at, type_in}
 use Rattle.service.specs.Heads.{HeadValue}
 use Rattle.service.specs.Numbers.{is_digits, length_in, number_in}
-use Rattle.service.specs.Routes.{place_of, parameter, routes}
+use Rattle.service.specs.Routes.{methods_at, names_of, nothing, parameter, routes}
 use Rattle.service.specs.declared.refusal.Refusal.TheVariants as refusal
 use Rattle.service.specs.declared.routes.Action.TheVariants as action
-use Rattle.service.specs.declared.routes.Place.TheVariants as place
 
 -- the answer to a deposit that isn't there
 not_here : answer_text (refusal_answer refusal.NotHere)
@@ -23,12 +22,19 @@ unfolding head_text digits
 not_here = refl
 
 -- the answer to a method that does nothing at `/tsp`
-no_method : answer_text (refusal_answer (refusal.Method place.Tsp))
+no_method : answer_text (refusal_answer (refusal.Method (record nothing { post = Some action.Stamp })))
     ≡ codes "HTTP/1.1 405 Method Not Allowed" ++ crlf ++ codes "Content-Type: text/plain" ++ crlf
     ++ codes "Content-Length: 11" ++ crlf
     ++ codes "Allow: POST" ++ crlf ++ codes "Connection: close" ++ crlf ++ crlf ++ codes "405 Method" ++ line_feed
 unfolding head_text digits
 no_method = refl
+
+-- each method that does something
+methods : names_of (record nothing { get = Some action.List; post = Some action.Keep }) ≡ codes "GET, POST"
+methods = refl
+
+other_methods : names_of (record nothing { put = Some action.Grant; delete = Some action.Revoke }) ≡ codes "PUT, DELETE"
+other_methods = refl
 
 -- a deposit that the clock's state refuses
 no_clock : answer_text (refusal_answer (refusal.Rule rule.Clock))
@@ -39,47 +45,49 @@ unfolding head_text digits
 no_clock = refl
 
 -- targets
-at_tsp : place_of (codes "/tsp") ≡ Some place.Tsp
+at_tsp : methods_at (codes "/tsp") ≡ Some (record nothing { post = Some action.Stamp })
 unfolding routes matchit_on_literals
 at_tsp = refl
 
-at_query : place_of (codes "/tsp?x=1") ≡ None
+at_query : methods_at (codes "/tsp?x=1") ≡ None
 unfolding routes matchit_on_literals
 at_query = refl
 
-at_reader : place_of (codes "/deposits/1/readers/bob") ≡ Some place.Reader
+at_reader : methods_at (codes "/deposits/1/readers/bob")
+    ≡ Some (record nothing { put = Some action.Grant; delete = Some action.Revoke })
 unfolding routes matchit_on_literals
 at_reader = refl
 
-at_group : place_of (codes "/deposits/1/groups/staff") ≡ Some place.Group
+at_group : methods_at (codes "/deposits/1/groups/staff")
+    ≡ Some (record nothing { put = Some action.GrantGroup; delete = Some action.RevokeGroup })
 unfolding routes matchit_on_literals
 at_group = refl
 
-at_deposits : place_of (codes "/deposits") ≡ Some place.Deposits
+at_deposits : methods_at (codes "/deposits") ≡ Some (record nothing { get = Some action.List; post = Some action.Keep })
 unfolding routes matchit_on_literals
 at_deposits = refl
 
-at_token : place_of (codes "/deposits/1/token") ≡ Some place.Token
+at_token : methods_at (codes "/deposits/1/token") ≡ Some (record nothing { get = Some action.Token })
 unfolding routes matchit_on_literals
 at_token = refl
 
-no_number_before_token : place_of (codes "/deposits//token") ≡ None
+no_number_before_token : methods_at (codes "/deposits//token") ≡ None
 unfolding routes matchit_on_literals
 no_number_before_token = refl
 
-at_empty_number : place_of (codes "/deposits/") ≡ None
+at_empty_number : methods_at (codes "/deposits/") ≡ None
 unfolding routes matchit_on_literals
 at_empty_number = refl
 
-at_odd_number : place_of (codes "/deposits/1?x") ≡ Some place.Deposit
+at_odd_number : methods_at (codes "/deposits/1?x") ≡ Some (record nothing { get = Some action.Show })
 unfolding routes matchit_on_literals
 at_odd_number = refl
 
-at_nothing : place_of (codes "/deposits/1/") ≡ None
+at_nothing : methods_at (codes "/deposits/1/") ≡ None
 unfolding routes matchit_on_literals
 at_nothing = refl
 
-at_audit : place_of (codes "/audit/1/2") ≡ Some place.Audit
+at_audit : methods_at (codes "/audit/1/2") ≡ Some (record nothing { get = Some action.Extract })
 unfolding routes matchit_on_literals
 at_audit = refl
 
@@ -149,13 +157,19 @@ query : wanted_by (head_of (codes "POST") (codes "/tsp")
 unfolding wanted_at is_digits routes matchit_on_literals trim_ows
 query = refl
 
+-- a deposit is shown, and nothing is read behind the head
+a_deposit : wanted_by (head_of (codes "GET") (codes "/deposits/1") []) ≡ Ok (record { action = action.Show; count = 0 })
+unfolding wanted_at routes matchit_on_literals
+a_deposit = refl
+
 -- a coding before a target that names nothing, a method before a length, a length before a type
 coding_first : wanted_by (head_of (codes "POST") (codes "/") ((codes "Transfer-Encoding", codes "chunked") ∷ []))
     ≡ Err refusal.TransferEncoding
 unfolding wanted_at is_digits routes matchit_on_literals
 coding_first = refl
 
-method_first : wanted_by (head_of (codes "PUT") (codes "/tsp") []) ≡ Err (refusal.Method place.Tsp)
+method_first : wanted_by (head_of (codes "PUT") (codes "/tsp") [])
+    ≡ Err (refusal.Method (record nothing { post = Some action.Stamp }))
 unfolding wanted_at is_digits routes matchit_on_literals
 method_first = refl
 

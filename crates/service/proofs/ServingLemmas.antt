@@ -7,15 +7,13 @@ use Rattle.book.specs.Rights.{ListedValue}
 use Rattle.desk.specs.Command.{Command, Answer, Calibrate, ListAll, Listed}
 use Rattle.desk.specs.Stepped.{DeskValue}
 use Rattle.policy.specs.Record.{AccountValue}
-use Rattle.service.specs.Answers.{AnswerValue, refusal_answer, success}
+use Rattle.service.specs.Answers.{AnswerValue, refusal_answer}
 use Rattle.service.specs.Refusals.{refusal_of_extract}
 use Rattle.service.specs.Extracting.{ServesExtract, extracted, kept_back, too_long}
-use Rattle.service.specs.Requests.{Step, Extract, Status, IsEarly}
-use Rattle.service.specs.Served.{Turn, IsIdle, IsLook, Reads, Sends, SendsOrWants, SendsOctets, unavailable, Takes}
-use Rattle.service.specs.Served.{IsAnswer, refuses, replies, keeps_back, wants_early, wants_list, overflows}
-use Rattle.service.specs.Served.{turns_back, Tells, plainly, backwards, tells_status, wants_status}
-use Rattle.service.specs.Telling.{ServesStatus}
-use Rattle.service.specs.declared.answer.Media.TheVariants as media
+use Rattle.service.specs.Requests.{Report, Step, Look, Extract, IsEarly}
+use Rattle.service.specs.Served.{Turn, IsIdle, IsLook, Reads, Sends, SendsOctets, unavailable, Takes}
+use Rattle.service.specs.Served.{IsAnswer, refuses, replies, turns_back, looks, wants_early, wants_list, Tells, plainly}
+use Rattle.service.specs.Served.{backwards, Reports, keeps_back, overflows}
 use Rattle.service.specs.Served.{Extracts, Serves}
 use Rattle.service.specs.declared.refusal.Refusal.{Refusal}
 use Rattle.service.specs.declared.served.Served.{Served}
@@ -44,12 +42,6 @@ module _ {W B X : Type 0} (g : Ghosts B) (signs : X → List ℕ → Result (Lis
   sends a (served.Answered status) why sent = inl (record { answer = a; is = why; sent = sent })
   sends a served.ReadFailed why sent = absurd sent
   sends a (served.WriteFailed status taken) why sent = inl (record { answer = a; is = why; sent = sent })
-
-  pub either : (a : AnswerValue) (outcome : Served) → IsAnswer g signs count reading t a
-      → IsAnswer g signs count reading t unavailable → SendsOrWants contents t.writer t.writer_after a outcome
-      → Serves g signs count contents reading t outcome
-  either a outcome why wants (inl sent) = sends a outcome why sent
-  either a outcome why wants (inr sent) = sends unavailable outcome wants sent
 
   pub refusing : (r : Refusal) (outcome : Served) → Reads reading t (Err r) → IsIdle t
       → Sends contents t.writer t.writer_after (refusal_answer r) outcome
@@ -80,6 +72,12 @@ module _ {W B X : Type 0} (g : Ghosts B) (signs : X → List ℕ → Result (Lis
       → Sends contents t.writer t.writer_after unavailable outcome → Serves g signs count contents reading t outcome
   wanting_early outcome early idle sent = sends unavailable outcome (wants_early early idle refl) sent
 
+  -- a report is told
+  pub reporting : (r : Report) (a : AnswerValue) (outcome : Served) → Reads reading t (Ok (Look r))
+      → IsLook g signs count t → Reports g signs count reading t.desk t.desk_after t.signer_after r a
+      → Sends contents t.writer t.writer_after a outcome → Serves g signs count contents reading t outcome
+  reporting r a outcome reads look is sent = sends a outcome (looks r reads look is) sent
+
   -- an extract of which some octets are sent
   extracting : (outcome : Served) → SendsOctets contents t.writer t.writer_after outcome
       → Extracts g signs count contents reading t outcome → Serves g signs count contents reading t outcome
@@ -89,7 +87,7 @@ module _ {W B X : Type 0} (g : Ghosts B) (signs : X → List ℕ → Result (Lis
   extracting (served.WriteFailed status taken) octets is = inr is
 
   pub answering_auditor : (account : AccountValue) (from to : ℕ) (outcome : Served)
-      → Reads reading t (Ok (Extract account from to)) → IsLook g signs count t
+      → Reads reading t (Ok (Look (Extract account from to))) → IsLook g signs count t
       → ServesExtract g contents t.writer t.writer_after t.desk.store t.desk_after.store t.desk.setting.file account
       from to outcome
       → Serves g signs count contents reading t outcome
@@ -105,23 +103,7 @@ module _ {W B X : Type 0} (g : Ghosts B) (signs : X → List ℕ → Result (Lis
         told = told;
       })
   answering_auditor account from to outcome reads look (kept_back f comes unasked counted long sent) =
-      sends (refusal_answer (refusal_of_extract f)) outcome
-      (keeps_back account from to reads f (record {
-        look = look;
-        comes = comes;
-        unasked = unasked;
-        counted = counted;
-        long = long;
-      }) refl)
-      sent
+      reporting (Extract account from to) (refusal_answer (refusal_of_extract f)) outcome reads look
+      (keeps_back f (record { comes = comes; unasked = unasked; counted = counted; long = long }) refl) sent
   answering_auditor account from to outcome reads look (too_long long sent) =
-      sends unavailable outcome (overflows account from to reads look long refl) sent
-
-  pub telling_status : (outcome : Served) → Reads reading t (Ok Status) → IsLook g signs count t
-      → ServesStatus g contents t.writer t.writer_after t.desk.store t.desk_after.store t.desk.setting.file.counter
-      reading (count t.signer_after) outcome
-      → Serves g signs count contents reading t outcome
-  telling_status outcome reads look (inl tells) =
-      either (success 200 media.Text tells.body) outcome (tells_status tells.body reads look tells.is refl)
-      (wants_status reads look refl) tells.sent
-  telling_status outcome reads look (inr sent) = sends unavailable outcome (wants_status reads look refl) sent
+      reporting (Extract account from to) unavailable outcome reads look (overflows long refl) sent

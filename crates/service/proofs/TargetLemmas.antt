@@ -18,7 +18,7 @@ use Rattle.matchit.specs.Router.{RouteOf}
 use Rattle.matchit.proofs.OnLiterals.{matchit_on_literals}
 use Rattle.matchit.proofs.ParamLemmas.{better-short}
 use Rattle.service.specs.Routes.{routes}
-use Rattle.service.specs.declared.routes.Place.{Place}
+use Rattle.service.specs.declared.routes.Methods.{Methods}
 
 -- what a parameter takes before the rest of a pattern: all that is left, or what its segment has before the pattern's
 abbrev pub IsPart : List ℕ → List ℕ → ℕ → Type 0
@@ -420,7 +420,7 @@ module _ (pattern text path : List ℕ) (is_text : IsUtf8 path) (octets : AreOct
           )
 
 -- what the lemmas above ask of a row of routes
-abbrev pub is_sound : List ℕ × RouteOf Place → Bool
+abbrev pub is_sound : List ℕ × RouteOf Methods → Bool
 is_sound row =
     same_text row.0 row.1.pattern
     && (is_plain false row.0 && (nat_lt (length row.0) 1000 && is_ascii_text row.1.text))
@@ -429,15 +429,15 @@ routes_are_sound : list_all is_sound routes ≡ true
 unfolding routes matchit_on_literals
 routes_are_sound = refl
 
-row_is_sound : (t : List ℕ) (k : RouteOf Place) (rs : RowsOf (RouteOf Place)) → list_all is_sound rs ≡ true → IsRow t k rs
-    → is_sound (t, k) ≡ true
+row_is_sound : (t : List ℕ) (k : RouteOf Methods) (rs : RowsOf (RouteOf Methods)) → list_all is_sound rs ≡ true
+    → IsRow t k rs → is_sound (t, k) ≡ true
 row_is_sound t k [] all row = absurd row
 row_is_sound t k ((u, l) ∷ rest) all (inl (same, key)) =
     subst (λ k. is_sound (t, k) ≡ true) key (subst (λ t. is_sound (t, l) ≡ true) same (and_parts _ _ all).0)
 row_is_sound t k ((u, l) ∷ rest) all (inr row) = row_is_sound t k rest (and_parts _ _ all).1 row
 
 -- what the names in a target's route took of it is text
-pub taken_are_text : (target : List ℕ) (route : RouteOf Place) → IsUtf8 target → AreOctets target
+pub taken_are_text : (target : List ℕ) (route : RouteOf Methods) → IsUtf8 target → AreOctets target
     → first routes target ≡ Some route → AllText (walk route.pattern route.text target route.names 0 0)
 taken_are_text target route text octets found =
     let (t, row, takes) = seek_takes target 0 routes route found in

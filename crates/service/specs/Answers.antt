@@ -12,7 +12,7 @@ use Rattle.audit.specs.Extract.{extract_text}
 use Rattle.desk.specs.Command.{Command, Show}
 use Rattle.desk.specs.Command.{Answer, Stamped, Rejected, Begun, Kept, Numbered, Shown, Listed, Done, Refused}
 use Rattle.service.specs.Refusals.{status_of, word_of, refusal_of}
-use Rattle.service.specs.Routes.{methods_of}
+use Rattle.service.specs.Routes.{names_of}
 use Rattle.service.specs.declared.answer.Media.{Media}
 use Rattle.service.specs.declared.answer.Media.TheVariants as media
 use Rattle.service.specs.declared.refusal.Refusal.{Refusal}
@@ -63,7 +63,7 @@ abbrev pub line_feed : List ℕ
 line_feed = 0x0A ∷ []
 
 abbrev pub allowed_by : Refusal → Option (List ℕ)
-allowed_by (refusal.Method place) = Some (methods_of place)
+allowed_by (refusal.Method methods) = Some (names_of methods)
 allowed_by other = None
 
 -- a refusal's status and word, on a line

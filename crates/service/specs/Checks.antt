@@ -3,18 +3,19 @@
 use Rattle.std.specs.Prelude.{ℕ, ◌==◌, nat_le, Bool, true, false, ◌||◌, List, codes, Option, Some, None, Result, Ok, Err}
 use Rattle.std.specs.Prelude.{if◌then◌else◌}
 use Rattle.std.specs.List.{before_first}
+use Rattle.std.specs.Str.{bytes_eq}
 use Rattle.httparse.specs.Grammar.{trim_ows}
 use Rattle.policy.specs.LookUp.{account_of_key, anonymous_account}
 use Rattle.policy.specs.Record.{AccountValue, PolicyValue}
 use Rattle.service.specs.Fields.{Stated, Never, Once, Twice, stated, same_letters}
 use Rattle.service.specs.Heads.{HeadValue}
 use Rattle.service.specs.Numbers.{length_in, number_in, is_reference}
-use Rattle.service.specs.Routes.{place_of, action_of, parameter}
+use Rattle.service.specs.Routes.{methods_at, action_of, parameter}
 use Rattle.service.specs.declared.refusal.Refusal.{Refusal}
 use Rattle.service.specs.declared.refusal.Refusal.TheVariants as refusal
 use Rattle.service.specs.declared.routes.Action.{Action}
 use Rattle.service.specs.declared.routes.Action.TheVariants as action
-use Rattle.service.specs.declared.routes.Place.{Place}
+use Rattle.service.specs.declared.routes.Methods.{Methods}
 
 -- one check after another
 infixl 10 ◌>>=◌
@@ -44,17 +45,13 @@ is_never Twice = false
 abbrev pub without_coding : HeadValue → Result (Unit {0}) Refusal
 without_coding h = check (is_never (stated (codes "transfer-encoding") h.fields)) refusal.TransferEncoding
 
--- The method does something at the place.
-abbrev pub acting : HeadValue → Place → Result Action Refusal
-acting h p = given_or (refusal.Method p) (action_of p h.method)
+-- The method does something at the target.
+abbrev pub acting : HeadValue → Methods → Result Action Refusal
+acting h m = given_or (refusal.Method m) (action_of m h.method)
 
--- whether the method is POST, so that a body comes with it
-abbrev pub has_body : Action → Bool
-has_body action.Stamp = true
-has_body action.Keep = true
-has_body action.Calibrate = true
-has_body action.Hold = true
-has_body other = false
+-- A body comes with POST alone.
+abbrev pub has_body : List ℕ → Bool
+has_body method = bytes_eq method (codes "POST")
 
 -- the most octets of a body
 abbrev pub most_body : ℕ
@@ -69,8 +66,8 @@ stated_length h = do
   Ok count
 
 -- the body's octets; where none comes with the method, no field is looked at, and nothing behind the head is read
-abbrev pub body_length : HeadValue → Action → Result ℕ Refusal
-body_length h a = if has_body a then stated_length h else Ok 0
+abbrev pub body_length : HeadValue → Result ℕ Refusal
+body_length h = if has_body h.method then stated_length h else Ok 0
 
 -- the media type of a field's value, without its parameters (RFC 9110 8.3.1)
 abbrev pub type_in : List ℕ → List ℕ
@@ -95,19 +92,19 @@ pub record WantedValue : Type 0 where
   pub action : Action
   pub count : ℕ
 
--- The checks of a head, where this is the place that its target names, if any. That the target is UTF-8 is no check of
--- its own: with another there is no head (`target_text` in `httparse`'s `IsRequestHead`).
-unfoldable pub wanted_at : HeadValue → Option Place → Result WantedValue Refusal
-wanted_at h place = do
+-- The checks of a head, where this is what the methods do at its target, if it has a route. That the target is UTF-8
+-- is no check of its own: with another there is no head (`target_text` in `httparse`'s `IsRequestHead`).
+unfoldable pub wanted_at : HeadValue → Option Methods → Result WantedValue Refusal
+wanted_at h methods = do
   plain ← without_coding h
-  p ← given_or refusal.NoRoute place
-  a ← acting h p
-  count ← body_length h a
+  m ← given_or refusal.NoRoute methods
+  a ← acting h m
+  count ← body_length h
   typed ← typed h a
   Ok (record { action = a; count = count })
 
 abbrev pub wanted_by : HeadValue → Result WantedValue Refusal
-wanted_by h = wanted_at h (place_of h.target)
+wanted_by h = wanted_at h (methods_at h.target)
 
 -- No two keys are shown: the account whose key it is, or the anonymous one, or none.
 abbrev pub account_by : PolicyValue → Stated → Result (Option AccountValue) Refusal

@@ -19,7 +19,7 @@ abbrev pub status_of : Refusal → ℕ
 status_of refusal.BadRequest = 400
 status_of refusal.TransferEncoding = 501
 status_of refusal.NoRoute = 404
-status_of (refusal.Method place) = 405
+status_of (refusal.Method methods) = 405
 status_of refusal.Length = 411
 status_of refusal.BadLength = 400
 status_of refusal.TooLarge = 413
@@ -44,7 +44,7 @@ abbrev pub word_of : Refusal → List ℕ
 word_of refusal.BadRequest = codes "BadRequest"
 word_of refusal.TransferEncoding = codes "TransferEncoding"
 word_of refusal.NoRoute = codes "NoRoute"
-word_of (refusal.Method place) = codes "Method"
+word_of (refusal.Method methods) = codes "Method"
 word_of refusal.Length = codes "Length"
 word_of refusal.BadLength = codes "BadLength"
 word_of refusal.TooLarge = codes "TooLarge"

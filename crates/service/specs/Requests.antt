@@ -1,4 +1,4 @@
--- What a request asks for: a command for the desk, an extract for an auditor or the counter's state, or it is refused.
+-- What a request asks for: a command for the desk, or a report that takes a look into its store; or it is refused.
 use Rattle.std.specs.Prelude.{◌≡◌, ℕ, ◌<◌, ℤ, List, [], ◌++◌, length, codes, Option, Result, Ok, Err}
 use Rattle.std.specs.Io.KnownBytes.{Consumes, IsAtEnd}
 use Rattle.httparse.specs.Grammar.{RequestHead, print_request}
@@ -16,12 +16,16 @@ use Rattle.service.specs.declared.refusal.Refusal.TheVariants as refusal
 use Rattle.service.specs.declared.routes.Action.{Action}
 use Rattle.service.specs.declared.routes.Action.TheVariants as action
 
--- What is asked for: that the desk takes a command's step; by an account, an extract of the stamps with serial numbers
--- from the first number on and up to the second; or the counter's state.
+-- What is told out of the desk's store: to an account, an extract of the stamps with serial numbers from the first
+-- number on and up to the second; or the counter's state.
+pub data Report : Type 0 where
+  Extract : AccountValue → ℕ → ℕ → Report
+  Status : Report
+
+-- What is asked for: that the desk takes a command's step, or a report.
 pub data Asked : Type 0 where
   Step : Command → Asked
-  Extract : AccountValue → ℕ → ℕ → Asked
-  Status : Asked
+  Look : Report → Asked
 
 -- an active account and the reference of its deposit
 abbrev pub account_and_reference : PolicyValue → HeadValue → Result (AccountValue × List ℕ) Refusal
@@ -87,7 +91,7 @@ asked_by file reading h body action.RevokeGroup = do
   Ok (Step (Revoke account number (readers.Group (parameter (codes "name") h.target))))
 asked_by file reading h body action.Extract = do
   (account, from, to) ← account_and_range file h
-  Ok (Extract account from to)
+  Ok (Look (Extract account from to))
 asked_by file reading h body action.Calibrate = do
   calibration ← calibration_asked file h body
   Ok (Step (Calibrate calibration))
@@ -96,7 +100,7 @@ asked_by file reading h body action.Hold = do
   Ok (Step (Hold hold))
 asked_by file reading h body action.Status = do
   account ← watcher_shown file h
-  Ok Status
+  Ok (Look Status)
 
 -- What was read, from what a reader had left to what it has left then, and no octet behind it:
 pub data IsRequest (file : PolicyValue) (reading : ℤ) (old new : Option (List ℕ)) (asked : Result Asked Refusal)

@@ -22,7 +22,7 @@ use Rattle.audit.specs.declared.fault.ExtractFault.{ExtractFault}
 use Rattle.audit.specs.declared.fault.ExtractFault.TheVariants.{Write}
 use Rattle.service.specs.Answers.{AnswerValue, answer_text, answer_to, extract_answer, refusal_answer, success}
 use Rattle.service.specs.Refusals.{refusal_of_extract}
-use Rattle.service.specs.Requests.{Asked, Step, Extract, Status, IsRequest, IsPart, IsEarly}
+use Rattle.service.specs.Requests.{Asked, Report, Step, Look, Extract, Status, IsRequest, IsPart, IsEarly}
 use Rattle.service.specs.Status.{status_text}
 use Rattle.service.specs.declared.answer.Media.TheVariants as media
 use Rattle.service.specs.declared.refusal.Refusal.{Refusal}
@@ -123,23 +123,45 @@ module _ {B X : Type 0} (g : Ghosts B) (signs : X → List ℕ → Result (List 
     pub signer : t.signer_after ≡ t.signer
 
   -- the counter's state at the reading
-  abbrev pub IsStatus : {W : Type 0} → ℤ → Turn W B X → List ℕ → Type 0
-  IsStatus reading t body =
-      g.honest t.desk_after.store → (b : History) → Stands g b t.desk.store
+  abbrev pub IsStatus : ℤ → DeskValue B → DeskValue B → X → List ℕ → Type 0
+  IsStatus reading old new signer body =
+      g.honest new.store → (b : History) → Stands g b old.store
       → body
-      ≡ status_text t.desk.setting.file.counter reading (looked_at reading b) (g.fault_count t.desk_after.store)
-      (count t.signer_after)
+      ≡ status_text old.setting.file.counter reading (looked_at reading b) (g.fault_count new.store) (count signer)
 
   -- An extract is refused, where that refusal comes; the store's are counted. What can't be written has 2^64 octets or
   -- more.
-  pub record IsKeptBack {W : Type 0} (t : Turn W B X) (account : AccountValue) (from to : ℕ) (f : ExtractFault)
-      : Type 0 where
-    pub look : IsLook t
-    pub comes : ComesWhere t.desk.setting.file account from to f
-    pub unasked : IfUnasked (t.desk_after.store ≡ t.desk.store) f
-    pub counted : g.fault_count t.desk_after.store ≡ count_after f (g.fault_count t.desk.store)
-    pub long : g.honest t.desk_after.store → (b : History) → Stands g b t.desk.store → f ≡ Write
+  pub record IsKeptBack (old new : DeskValue B) (account : AccountValue) (from to : ℕ) (f : ExtractFault) : Type 0 where
+    pub comes : ComesWhere old.setting.file account from to f
+    pub unasked : IfUnasked (new.store ≡ old.store) f
+    pub counted : g.fault_count new.store ≡ count_after f (g.fault_count old.store)
+    pub long : g.honest new.store → (b : History) → Stands g b old.store → f ≡ Write
         → 2 ^ 64 ≤ length (extract_text from to b)
+
+  -- why no row of an extract is written
+  pub data ReportsNoExtract (old new : DeskValue B) (account : AccountValue) (from to : ℕ) (a : AnswerValue)
+      : Type 0 where
+    -- it is refused
+    keeps_back : (f : ExtractFault) → IsKeptBack old new account from to f → a ≡ refusal_answer (refusal_of_extract f)
+        → ReportsNoExtract old new account from to a
+    -- the answer with it has 2^64 octets or more
+    overflows : (g.honest new.store → (b : History) → Stands g b old.store
+        → 2 ^ 64 ≤ length (answer_text (extract_answer from to b)))
+        → a ≡ unavailable → ReportsNoExtract old new account from to a
+
+  -- the answer on the counter's state
+  pub data ReportsStatus (reading : ℤ) (old new : DeskValue B) (signer : X) (a : AnswerValue) : Type 0 where
+    -- it is that of each history that the store stood for
+    tells_status : (body : List ℕ) → IsStatus reading old new signer body → a ≡ success 200 media.Text body
+        → ReportsStatus reading old new signer a
+    -- the store can't be looked into, or memory is wanting
+    wants_status : a ≡ unavailable → ReportsStatus reading old new signer a
+
+  -- The answer with a report, at the reading: the desk was `old` before the look and is `new` after it. An extract that
+  -- is written row by row stands below (`Extracts`).
+  abbrev pub Reports : ℤ → DeskValue B → DeskValue B → X → Report → AnswerValue → Type 0
+  Reports reading old new signer (Extract account from to) a = ReportsNoExtract old new account from to a
+  Reports reading old new signer Status a = ReportsStatus reading old new signer a
 
   -- why an answer is written
   pub data IsAnswer {W : Type 0} (reading : ℤ) (t : Turn W B X) (a : AnswerValue) : Type 0 where
@@ -151,25 +173,14 @@ module _ {B X : Type 0} (g : Ghosts B) (signs : X → List ℕ → Result (List 
     -- the calibration that the request asks for is before the latest; the desk's reply says that the store refused it
     turns_back : (c : CalibrationValue) → Reads reading t (Ok (Step (Calibrate c))) → Takes t (Calibrate c) turned_back
         → IsBackwardsFor t.desk t.desk_after c → a ≡ refusal_answer refusal.Backwards → IsAnswer reading t a
-    -- the state that the request asks for is that of each history that the store stood for
-    tells_status : (body : List ℕ) → Reads reading t (Ok Status) → IsLook t → IsStatus reading t body
-        → a ≡ success 200 media.Text body → IsAnswer reading t a
-    -- the extract that the request asks for is refused
-    keeps_back : (account : AccountValue) (from to : ℕ) → Reads reading t (Ok (Extract account from to))
-        → (f : ExtractFault) → IsKeptBack t account from to f → a ≡ refusal_answer (refusal_of_extract f)
-        → IsAnswer reading t a
+    -- the report that the request asks for takes a look, and no step
+    looks : (r : Report) → Reads reading t (Ok (Look r)) → IsLook t
+        → Reports reading t.desk t.desk_after t.signer_after r a → IsAnswer reading t a
     -- memory is wanting before the body is read
     wants_early : IsEarly t.input t.input_after → IsIdle t → a ≡ unavailable → IsAnswer reading t a
     -- memory is wanting for the lines of a list, once that step is taken
     wants_list : (account : AccountValue) → Reads reading t (Ok (Step (ListAll account))) → (rows : List ListedValue)
         → Takes t (ListAll account) (Listed rows) → a ≡ unavailable → IsAnswer reading t a
-    -- the store can't be looked into, or memory is wanting for the state
-    wants_status : Reads reading t (Ok Status) → IsLook t → a ≡ unavailable → IsAnswer reading t a
-    -- the answer with the extract has 2^64 octets or more
-    overflows : (account : AccountValue) (from to : ℕ) → Reads reading t (Ok (Extract account from to)) → IsLook t
-        → (g.honest t.desk_after.store → (b : History) → Stands g b t.desk.store
-        → 2 ^ 64 ≤ length (answer_text (extract_answer from to b)))
-        → a ≡ unavailable → IsAnswer reading t a
 
   -- an answer is written, for a reason
   pub record Writes {W : Type 0} (contents : W → Option (List ℕ)) (reading : ℤ) (t : Turn W B X) (outcome : Served)
@@ -185,7 +196,7 @@ module _ {B X : Type 0} (g : Ghosts B) (signs : X → List ℕ → Result (List 
     pub account : AccountValue
     pub from : ℕ
     pub to : ℕ
-    pub read : Reads reading t (Ok (Extract account from to))
+    pub read : Reads reading t (Ok (Look (Extract account from to)))
     pub allowed : IsAllowed t.desk.setting.file account from to
     pub look : IsLook t
     pub sent : g.honest t.desk_after.store → (b : History) → Stands g b t.desk.store

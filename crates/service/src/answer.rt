@@ -1,10 +1,12 @@
 //! The texts of answers (RFC 9112 4 and 6). None but a body takes memory.
-ghost use Rattle.std.specs.Prelude.{◌≡◌, ◌+◌, ◌≤◌, ◌++◌, length, Option, option_map, codes, IfSome};
+ghost use Rattle.std.specs.Prelude.{◌≡◌, ◌+◌, ◌≤◌, ◌++◌, length, Option, option_map, codes};
 ghost use Rattle.std.specs.Fmt.{decimal};
 ghost use Rattle.http.specs.StatusCode.{reason_phrase};
 ghost use Rattle.arrayvec.specs.ArrayString.{array_string_len};
 ghost use Rattle.service.specs.Answers.{phrase_of, media_type, status_line, content_lines, allow_line, head_text, crlf};
+ghost use Rattle.service.specs.Routes.{and_name, names_of};
 
+use crate::routes::{Action, Methods};
 use arrayvec::ArrayString;
 use http::StatusCode;
 use itoa::Buffer;
@@ -88,16 +90,44 @@ fn push_content(text: &mut ShortText, media: Media, count: usize)
     text.push_str("\r\n");
 }
 
-/// Appends the line on the methods that a place has, where it is asked for.
-fn push_allow(text: &mut ShortText, allow: Option<&str>)
-    requires room { array_string_len text.old + 49 ≤ 512 }
-    requires short { IfSome allow (λ m. length m.now ≤ 40) }
-    ensures bytes { text.new.bytes ≡ text.old.bytes ++ allow_line (option_map (λ m. m.now) allow.entry) }
+/// Appends the name of a method that does something, with a comma before it where there are names.
+fn push_name(names: &mut ShortText, name: &str, action: Option<Action>)
+    requires { array_string_len names.old + 2 + length name.now ≤ 512 }
+    ensures bytes { names.new.bytes ≡ and_name names.old.bytes name.now action }
+    ensures len { array_string_len names.new ≤ array_string_len names.old + 2 + length name.now }
+{
+    if action.is_none() {
+        return;
+    }
+    if !names.is_empty() {
+        names.push_str(", ");
+    }
+    names.push_str(name);
+}
+
+/// The names of the methods that do something (RFC 9110 10.2.1).
+fn method_names(methods: Methods) -> ShortText
+    ensures bytes { result.bytes ≡ names_of methods }
+    ensures short { array_string_len result ≤ 40 }
+{
+    let mut names = ArrayString::new();
+    push_name(&mut names, "GET", methods.get);
+    push_name(&mut names, "POST", methods.post);
+    push_name(&mut names, "PUT", methods.put);
+    push_name(&mut names, "DELETE", methods.delete);
+    names
+}
+
+/// Appends the line on the methods that do something at a target, where it is asked for.
+fn push_allow(text: &mut ShortText, allow: Option<Methods>)
+    requires { array_string_len text.old + 49 ≤ 512 }
+    ensures bytes { text.new.bytes ≡ text.old.bytes ++ allow_line (option_map names_of allow) }
     ensures len { array_string_len text.new ≤ array_string_len text.old + 49 }
 {
     if let Some(methods) = allow {
+        let names = method_names(methods);
         text.push_str("Allow: ");
-        text.push_str(methods);
+        text.push_str(names.as_str());
         text.push_str("\r\n");
     }
 }
@@ -107,12 +137,11 @@ fn push_allow(text: &mut ShortText, allow: Option<&str>)
 pub(crate) fn head_text(
     status: StatusCode,
     media: Media,
-    allow: Option<&str>,
+    allow: Option<Methods>,
     count: usize,
 ) -> ShortText
-    requires phrase { length (phrase_of (reason_phrase status)) ≤ 40 }
-    requires methods { IfSome allow (λ m. length m.now ≤ 40) }
-    ensures value { result.bytes ≡ head_text status media (option_map (λ m. m.now) allow.entry) count }
+    requires { length (phrase_of (reason_phrase status)) ≤ 40 }
+    ensures value { result.bytes ≡ head_text status media (option_map names_of allow) count }
     ensures short { array_string_len result ≤ 512 }
 {
     let mut text = ArrayString::new();

@@ -1,5 +1,5 @@
 //! The checks of a whole request.
-ghost use Rattle.std.specs.Prelude.{◌≡◌};
+ghost use Rattle.std.specs.Prelude.{◌≡◌, IfOk};
 ghost use Rattle.book.specs.Values.{calibration_view, hold_view};
 ghost use Rattle.policy.specs.View.{account_view, policy_view};
 ghost use Rattle.decide.specs.View.{account_asked};
@@ -17,6 +17,7 @@ use crate::numbers::{is_reference, number_in};
 use crate::refusal::Refusal;
 use crate::routes::Routes;
 use crate::wanted::once;
+use audit::Inquiry;
 use book::{Calibration, Hold};
 use policy::{Account, Policy};
 use std::str;
@@ -161,21 +162,27 @@ pub(crate) fn account_and_number<'a>(
     }
 }
 
-/// An active account, and the target's two serial numbers.
+/// An active account's inquiry into the stamps between the target's two serial numbers.
 pub(crate) fn account_and_range<'a>(
     policy: &'a Policy,
     context: Context<'_>,
-) -> Result<(&'a Account, u64, u64), Refusal>
+) -> Result<Inquiry<'a>, Refusal>
     requires { IsInPlace context.head }
-    ensures { result_by (λ p. (account_view p.0.now, p.1, p.2)) result
+    ensures value { result_by (λ i. (account_view i.account.now, i.from, i.to)) result
         ≡ account_and_range (policy_view policy.now) (head_view context.entry.head) }
+    ensures policy { IfOk result (λ i. i.policy.now ≡ policy.now) }
 {
     let account = match active_account(policy, context.head) {
         Ok(account) => account,
         Err(refusal) => return Err(refusal),
     };
     match range_stated(context.environment.routes, context.head) {
-        Ok((from, to)) => Ok((account, from, to)),
+        Ok((from, to)) => Ok(Inquiry {
+            policy,
+            account,
+            from,
+            to,
+        }),
         Err(refusal) => Err(refusal),
     }
 }

@@ -1,6 +1,6 @@
 //! Extracts for auditors, written row by row. Their length is found first, by a walk of its own over the same stamps.
 ghost use Rattle.std.specs.Prelude.{◌≡◌};
-ghost use Rattle.policy.specs.View.{account_view};
+ghost use Rattle.policy.specs.View.{account_view, policy_view};
 ghost use Rattle.book.specs.Stands.{OnlyLooks};
 ghost use Rattle.service.specs.Extracting.{SendsExtractOrOverflows, ServesExtract};
 
@@ -8,11 +8,10 @@ use crate::answer::{Media, head_text};
 use crate::refusal::Refusal;
 use crate::responding::{refuse, wanting};
 use crate::served::Served;
-use audit::{extract_length, write_extract, write_octets};
+use audit::{Inquiry, extract_length, write_extract, write_octets};
 use book::Book;
 use desk::Desk;
 use http::StatusCode;
-use policy::{Account, Policy};
 use std::alloc::Global;
 use std::io::Write;
 
@@ -22,15 +21,12 @@ fn send_extract<W: Write, B: Book + Drop>(
     alloc: Global,
     writer: &mut W,
     store: &mut B,
-    policy: &Policy,
-    account: &Account,
-    from: u64,
-    to: u64,
+    inquiry: &Inquiry<'_>,
     length: u64,
 ) -> Served
     ensures looks { OnlyLooks B.Standing store.old store.new }
-    ensures sent { SendsExtractOrOverflows B.Standing W.contents writer.old writer.new store.old store.new from to
-        length result }
+    ensures sent { SendsExtractOrOverflows B.Standing W.contents writer.old writer.new store.old store.new
+        inquiry.now.from inquiry.now.to length result }
 {
     let count = length as usize;
     let head = head_text(StatusCode::OK, Media::Csv, None, count);
@@ -46,7 +42,7 @@ fn send_extract<W: Write, B: Book + Drop>(
             sent: of_head,
         };
     }
-    let written = write_extract(alloc, store, policy, account, from, to, length, writer);
+    let written = write_extract(alloc, store, inquiry, length, writer);
     if written.octets < length {
         return Served::WriteFailed {
             status,
@@ -61,27 +57,16 @@ pub(crate) fn serve_extract<W: Write, B: Book + Drop>(
     alloc: Global,
     writer: &mut W,
     desk: &mut Desk<'_, B>,
-    account: &Account,
-    from: u64,
-    to: u64,
+    inquiry: &Inquiry<'_>,
 ) -> Served
     ensures setting { desk.new.setting ≡ desk.old.setting }
     ensures looks { OnlyLooks B.Standing desk.old.store desk.new.store }
     ensures served { ServesExtract B.Standing W.contents writer.old writer.new desk.old.store desk.new.store
-        desk.old.setting.file (account_view account.now) from to result }
+        (policy_view inquiry.now.policy.now) (account_view inquiry.now.account.now) inquiry.now.from inquiry.now.to
+        result }
 {
-    let policy = desk.policy();
-    match extract_length(alloc, desk.store(), policy, account, from, to) {
-        Ok(length) => send_extract(
-            alloc,
-            writer,
-            desk.store(),
-            policy,
-            account,
-            from,
-            to,
-            length,
-        ),
+    match extract_length(alloc, desk.store(), inquiry) {
+        Ok(length) => send_extract(alloc, writer, desk.store(), inquiry, length),
         Err(fault) => refuse(writer, Refusal::from(fault)),
     }
 }

@@ -31,6 +31,6 @@ pub use extent::{Extent, extent_of};
 pub use octets::{Arrived, Exchanged, serve_octets};
 pub use reading::MOST_OCTETS;
 pub use refusal::Refusal;
-pub use routes::{Place, Routes};
+pub use routes::{Methods, Routes};
 pub use served::Served;
 pub use serving::serve_one;

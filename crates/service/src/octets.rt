@@ -15,9 +15,8 @@ use crate::head::{Head, head_in};
 use crate::reading::{MOST_FIELDS, MOST_OCTETS};
 use crate::refusal::Refusal;
 use crate::responding::{refuse, wanting};
-use crate::routes::Action;
 use crate::served::Served;
-use crate::wanted::wanted_by;
+use crate::wanted::{has_body, wanted_by};
 use book::Book;
 use cms::Signer;
 use desk::Desk;
@@ -56,7 +55,7 @@ pub struct Exchanged {
 fn has_no_body(head: Head<'_>) -> bool
     requires { IsInPlace head }
 {
-    head.method != b"POST".as_slice()
+    !has_body(head.method)
         && matches!(
             stated(head.octets, head.headers, b"content-length"),
             Found::Never
@@ -68,10 +67,10 @@ fn has_no_body(head: Head<'_>) -> bool
 }
 
 /// Whether nothing follows a head and the body that was read of it.
-fn is_all(head: Head<'_>, action: Action) -> bool
+fn is_all(head: Head<'_>) -> bool
     requires { IsInPlace head }
 {
-    action.has_body() || has_no_body(head)
+    has_body(head.method) || has_no_body(head)
 }
 
 /// So many octets were read.
@@ -131,7 +130,7 @@ fn serve_front<W: Write, B: Book + Drop, G: Signer>(
     }
     let body = rest.split_at(count).0;
     let action = wanted.action;
-    let is_whole = is_all(head, action);
+    let is_whole = is_all(head);
     let context = Context {
         environment,
         head,

@@ -1,12 +1,13 @@
 //! Why a request is refused.
-ghost use Rattle.std.specs.Prelude.{◌≡◌, ◌≤◌, length, option_map, IfSome};
+ghost use Rattle.std.specs.Prelude.{◌≡◌, ◌≤◌, length, option_map};
 ghost use Rattle.http.specs.StatusCode.{reason_phrase};
 ghost use Rattle.tsp.specs.Rejection.{number_of, reason};
 ghost use Rattle.service.specs.Answers.{allowed_by, phrase_of, refusal_body};
+ghost use Rattle.service.specs.Routes.{names_of};
 ghost use Rattle.service.specs.Refusals.{status_of_rule, status_of, word_of, refusal_of, refusal_of_extract};
 
 use crate::answer::{ShortText, push_number};
-use crate::routes::Place;
+use crate::routes::Methods;
 use arrayvec::ArrayString;
 use audit::ExtractFault;
 use desk::Fault;
@@ -22,8 +23,8 @@ pub enum Refusal {
     TransferEncoding,
     /// The target names nothing.
     NoRoute,
-    /// The method does nothing there.
-    Method(Place),
+    /// The method does nothing there; what others do.
+    Method(Methods),
     /// No length of the body.
     Length,
     /// Two lengths, or one that is no number.
@@ -158,12 +159,11 @@ impl Refusal {
     }
 
     /// The methods that its answer tells.
-    pub(crate) fn allowed(self) -> Option<&'static str>
-        ensures value { option_map (λ m. m.now) result ≡ allowed_by self }
-        ensures short { IfSome result (λ m. length m.now ≤ 40) }
+    pub(crate) fn allowed(self) -> Option<Methods>
+        ensures { option_map names_of result ≡ allowed_by self }
     {
         match self {
-            Refusal::Method(place) => Some(place.methods()),
+            Refusal::Method(methods) => Some(methods),
             _ => None,
         }
     }

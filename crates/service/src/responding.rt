@@ -1,13 +1,15 @@
 //! Answers that are written.
-ghost use Rattle.std.specs.Prelude.{◌≡◌, ◌≤◌, ◌++◌, length, Option, option_map, IfSome};
+ghost use Rattle.std.specs.Prelude.{◌≡◌, ◌≤◌, ◌++◌, length, Option, option_map};
 ghost use Rattle.http.specs.StatusCode.{reason_phrase};
 ghost use Rattle.service.specs.Answers.{created, phrase_of, refusal_answer, success};
+ghost use Rattle.service.specs.Routes.{names_of};
 ghost use Rattle.service.specs.Served.{SendsText, Sends, unavailable};
 ghost use Rattle.service.specs.Views.{stamp_answer, status_kept, kept_answer, done_answer, added_answer};
 
 use crate::answer::{Media, head_text};
 use crate::listing::number_line;
 use crate::refusal::Refusal;
+use crate::routes::Methods;
 use crate::served::Served;
 use crate::writing::write_both;
 use book::StoreFault;
@@ -33,15 +35,14 @@ fn send<W: Write>(
     writer: &mut W,
     status: StatusCode,
     media: Media,
-    allow: Option<&str>,
+    allow: Option<Methods>,
     body: &[u8],
 ) -> Served
-    requires phrase { length (phrase_of (reason_phrase status)) ≤ 40 }
-    requires methods { IfSome allow (λ m. length m.now ≤ 40) }
+    requires { length (phrase_of (reason_phrase status)) ≤ 40 }
     ensures { Sends W.contents writer.old writer.new (record {
       status = status;
       media = media;
-      allow = option_map (λ m. m.now) allow.entry;
+      allow = option_map names_of allow;
       body = body.now;
     }) result }
 {

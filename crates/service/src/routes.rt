@@ -1,37 +1,12 @@
 //! Targets, and what methods do there.
-ghost use Rattle.std.specs.Prelude.{◌≡◌, ◌≤◌, length, Option, IfOk, OnOk};
+ghost use Rattle.std.specs.Prelude.{◌≡◌, map, Option, IfOk, OnOk};
 ghost use Rattle.std.specs.Str.{bytes_eq};
-ghost use Rattle.service.specs.Routes.{with_route, routes, place_of, parameter, methods_of, action_of};
+ghost use Rattle.service.specs.Routes.{line_view, table, with_route, routes, methods_at, parameter, action_of};
 
 use matchit::{InsertError, Router};
 use std::alloc::{AllocError, Global};
 
-/// What a target names.
-#[derive(Clone, Copy, Debug, PartialEq, Eq)]
-pub enum Place {
-    /// `/tsp`: where requests are answered.
-    Tsp,
-    /// `/deposits`: all deposits.
-    Deposits,
-    /// `/deposits/{number}`: one of them.
-    Deposit,
-    /// `/deposits/{number}/token`: its token.
-    Token,
-    /// `/deposits/{number}/readers/{name}`: an account that may see it.
-    Reader,
-    /// `/deposits/{number}/groups/{name}`: a group whose members may see it.
-    Group,
-    /// `/audit/{from}/{to}`: the stamps with serial numbers from one on and up to another.
-    Audit,
-    /// `/calibrations`: the calibrations of the clock.
-    Calibrations,
-    /// `/holds`: the holds.
-    Holds,
-    /// `/status`: the counter's state.
-    Status,
-}
-
-/// What a method does at a place.
+/// What a method does at a target.
 #[derive(Clone, Copy, Debug, PartialEq, Eq)]
 pub(crate) enum Action {
     /// Answers a time-stamp request.
@@ -62,6 +37,57 @@ pub(crate) enum Action {
     Status,
 }
 
+/// What each method does at a target, if anything.
+#[derive(Clone, Copy, Debug, PartialEq, Eq)]
+pub struct Methods {
+    pub(crate) get: Option<Action>,
+    pub(crate) post: Option<Action>,
+    pub(crate) put: Option<Action>,
+    pub(crate) delete: Option<Action>,
+}
+
+/// No method does anything.
+const NOTHING: Methods = Methods {
+    get: None,
+    post: None,
+    put: None,
+    delete: None,
+};
+
+/// What these methods do; no other does anything.
+macro_rules! on {
+    ($($method:ident $action:ident),+) => {
+        Methods { $($method: Some(Action::$action),)+ ..NOTHING }
+    };
+}
+
+/// Each target's text, in which a name in braces stands for a segment that isn't empty, and what the methods do there.
+static ROUTES: &[(&str, Methods)] = &[
+    ("/tsp", on!(post Stamp)),
+    ("/calibrations", on!(post Calibrate)),
+    ("/holds", on!(post Hold)),
+    ("/status", on!(get Status)),
+    ("/deposits", on!(get List, post Keep)),
+    ("/deposits/{number}", on!(get Show)),
+    ("/deposits/{number}/token", on!(get Token)),
+    (
+        "/deposits/{number}/readers/{name}",
+        on!(put Grant, delete Revoke),
+    ),
+    (
+        "/deposits/{number}/groups/{name}",
+        on!(put GrantGroup, delete RevokeGroup),
+    ),
+    ("/audit/{from}/{to}", on!(get Extract)),
+];
+
+/// The lines of the table.
+fn lines() -> &'static [(&'static str, Methods)]
+    ensures { map line_view result.now ≡ table }
+{
+    ROUTES
+}
+
 /// Whether a method has that name, letter by letter.
 fn is_named(method: &[u8], name: &str) -> bool
     ensures { result ≡ bytes_eq method.now name.now }
@@ -69,83 +95,50 @@ fn is_named(method: &[u8], name: &str) -> bool
     method == name.as_bytes()
 }
 
-impl Place {
-    /// Its methods.
-    pub(crate) fn methods(self) -> &'static str
-        ensures value { result.now ≡ methods_of self }
-        ensures short { length result.now ≤ 40 }
-    {
-        match self {
-            Place::Tsp | Place::Calibrations | Place::Holds => "POST",
-            Place::Deposits => "GET, POST",
-            Place::Deposit | Place::Token | Place::Audit | Place::Status => "GET",
-            Place::Reader | Place::Group => "PUT, DELETE",
-        }
-    }
-
-    /// What a method does there, if anything.
+impl Methods {
+    /// What the method of a name does, if anything.
     pub(crate) fn action(self, method: &[u8]) -> Option<Action>
         ensures { result ≡ action_of self method.now }
     {
-        match self {
-            Place::Tsp if is_named(method, "POST") => Some(Action::Stamp),
-            Place::Deposits if is_named(method, "GET") => Some(Action::List),
-            Place::Deposits if is_named(method, "POST") => Some(Action::Keep),
-            Place::Deposit if is_named(method, "GET") => Some(Action::Show),
-            Place::Token if is_named(method, "GET") => Some(Action::Token),
-            Place::Reader if is_named(method, "PUT") => Some(Action::Grant),
-            Place::Reader if is_named(method, "DELETE") => Some(Action::Revoke),
-            Place::Group if is_named(method, "PUT") => Some(Action::GrantGroup),
-            Place::Group if is_named(method, "DELETE") => Some(Action::RevokeGroup),
-            Place::Audit if is_named(method, "GET") => Some(Action::Extract),
-            Place::Calibrations if is_named(method, "POST") => Some(Action::Calibrate),
-            Place::Holds if is_named(method, "POST") => Some(Action::Hold),
-            Place::Status if is_named(method, "GET") => Some(Action::Status),
-            _ => None,
+        if is_named(method, "GET") {
+            self.get
+        } else if is_named(method, "POST") {
+            self.post
+        } else if is_named(method, "PUT") {
+            self.put
+        } else if is_named(method, "DELETE") {
+            self.delete
+        } else {
+            None
         }
     }
 }
 
 /// Adds a route.
-fn add(router: &mut Router<Place>, text: &str, place: Place) -> Result<(), InsertError>
-    ensures { OnOk result (router.new ≡ with_route text.now place router.old) }
+fn add(router: &mut Router<Methods>, text: &str, methods: Methods) -> Result<(), InsertError>
+    ensures { OnOk result (router.new ≡ with_route router.old (text.now, methods)) }
 {
-    match router.insert(text, place) {
+    match router.insert(text, methods) {
         Ok(()) => Ok(()),
         Err(error) => Err(error),
     }
 }
 
 /// All routes.
-fn all_routes(alloc: Global) -> Result<Router<Place>, InsertError>
+fn all_routes(alloc: Global) -> Result<Router<Methods>, InsertError>
     ensures { IfOk result (λ router. router ≡ routes) }
 {
     let mut router = Router::new(alloc);
-    add(&mut router, "/tsp", Place::Tsp)?;
-    add(&mut router, "/calibrations", Place::Calibrations)?;
-    add(&mut router, "/holds", Place::Holds)?;
-    add(&mut router, "/status", Place::Status)?;
-    add(&mut router, "/deposits", Place::Deposits)?;
-    add(&mut router, "/deposits/{number}", Place::Deposit)?;
-    add(&mut router, "/deposits/{number}/token", Place::Token)?;
-    add(
-        &mut router,
-        "/deposits/{number}/readers/{name}",
-        Place::Reader,
-    )?;
-    add(
-        &mut router,
-        "/deposits/{number}/groups/{name}",
-        Place::Group,
-    )?;
-    add(&mut router, "/audit/{from}/{to}", Place::Audit)?;
+    for line in lines() {
+        add(&mut router, line.0, line.1)?;
+    }
     Ok(router)
 }
 
 /// The routes, made once for all requests.
 #[derive(Drop)]
 pub struct Routes {
-    router: Router<Place>,
+    router: Router<Methods>,
     ghost all: { router ≡ routes },
 }
 
@@ -158,9 +151,9 @@ impl Routes {
         }
     }
 
-    /// The place that a target names, as it was sent.
-    pub(crate) fn place_of(&self, target: &str) -> Option<Place>
-        ensures { result ≡ place_of target.now }
+    /// What the methods do at a target, as it was sent. None where no route has it.
+    pub(crate) fn methods_at(&self, target: &str) -> Option<Methods>
+        ensures { result ≡ methods_at target.now }
     {
         match self.router.at(target) {
             Ok(found) => Some(*found.value),

@@ -9,7 +9,7 @@ use crate::fields::{Found, same_letters, stated, type_in};
 use crate::head::Head;
 use crate::numbers::length_in;
 use crate::refusal::Refusal;
-use crate::routes::{Action, Place, Routes};
+use crate::routes::{Action, Methods, Routes};
 
 /// The most octets of a body.
 const MOST_BODY: u64 = 1_048_576;
@@ -66,17 +66,14 @@ fn stated_length(head: Head<'_>) -> Result<u64, Refusal>
     }
 }
 
-impl Action {
-    /// Whether a body comes with it.
-    pub(crate) fn has_body(self) -> bool
-        ensures { result ≡ has_body self }
-    {
-        matches!(
-            self,
-            Action::Stamp | Action::Keep | Action::Calibrate | Action::Hold
-        )
-    }
+/// Whether a body comes with a method.
+pub(crate) fn has_body(method: &[u8]) -> bool
+    ensures { result ≡ has_body method.now }
+{
+    method == b"POST".as_slice()
+}
 
+impl Action {
     /// Whether it answers a time-stamp request.
     fn is_stamp(self) -> bool
         ensures { result ≡ is_stamp self }
@@ -86,12 +83,12 @@ impl Action {
 }
 
 /// How many octets are read behind the head.
-fn body_length(head: Head<'_>, action: Action) -> Result<u64, Refusal>
+fn body_length(head: Head<'_>) -> Result<u64, Refusal>
     requires { IsInPlace head }
-    ensures value { result ≡ body_length (head_view head.entry) action }
+    ensures value { result ≡ body_length (head_view head.entry) }
     ensures few { IfOk result (λ count. count ≤ most_body) }
 {
-    if action.has_body() {
+    if has_body(head.method) {
         stated_length(head)
     } else {
         Ok(0)
@@ -127,24 +124,24 @@ fn check_type(head: Head<'_>, action: Action) -> Result<(), Refusal>
     }
 }
 
-/// What a head asks for whose target names that place, or the first check of it that fails.
+/// What a head asks for at whose target the methods do this, if it has a route, or the first check of it that fails.
 #[tactic(auto, unfolding(crate::specs::Checks::wanted_at))]
-fn check_head(head: Head<'_>, place: Option<Place>) -> Result<Wanted, Refusal>
+fn check_head(head: Head<'_>, methods: Option<Methods>) -> Result<Wanted, Refusal>
     requires { IsInPlace head }
-    ensures value { result_by wanted_view result ≡ wanted_at (head_view head.entry) place }
+    ensures value { result_by wanted_view result ≡ wanted_at (head_view head.entry) methods }
     ensures few { IfOk result (λ wanted. wanted.count ≤ most_body) }
 {
     match check_coding(head) {
         Ok(()) => {}
         Err(refusal) => return Err(refusal),
     }
-    let Some(place) = place else {
+    let Some(methods) = methods else {
         return Err(Refusal::NoRoute);
     };
-    let Some(action) = place.action(head.method) else {
-        return Err(Refusal::Method(place));
+    let Some(action) = methods.action(head.method) else {
+        return Err(Refusal::Method(methods));
     };
-    let count = match body_length(head, action) {
+    let count = match body_length(head) {
         Ok(count) => count,
         Err(refusal) => return Err(refusal),
     };
@@ -160,5 +157,5 @@ pub(crate) fn wanted_by(routes: &Routes, head: Head<'_>) -> Result<Wanted, Refus
     ensures value { result_by wanted_view result ≡ wanted_by (head_view head.entry) }
     ensures few { IfOk result (λ wanted. wanted.count ≤ most_body) }
 {
-    check_head(head, routes.place_of(head.target))
+    check_head(head, routes.methods_at(head.target))
 }

@@ -27,9 +27,9 @@ pub(crate) fn extract_stamps<W: Write, B: Book + Drop, G: Signer>(
     ensures served { Handles B.Standing G.signs G.fault_count W.contents (request_view context.entry) Extract
         writer.old writer.new desk.old desk.new _signer.old _signer.new result }
 {
-    let (account, from, to) = match account_and_range(desk.policy(), context) {
+    let inquiry = match account_and_range(desk.policy(), context) {
         Ok(asked) => asked,
         Err(refusal) => return refuse(writer, refusal),
     };
-    serve_extract(context.environment.alloc, writer, desk, account, from, to)
+    serve_extract(context.environment.alloc, writer, desk, &inquiry)
 }

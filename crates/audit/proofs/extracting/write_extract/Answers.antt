@@ -4,6 +4,7 @@ use Rattle.audit.proofs.extracting.write_extract.Goals as goal
 
 pub returns-in-Err-clause-written : goal.returns-in-Err-clause-written
 returns-in-Err-clause-written g c =
-    nothing_written g.B.Standing c.args.store.now (g.W.Write.contents c.args.out.now) c.args.from c.args.to
+    nothing_written g.B.Standing c.args.store.now (g.W.Write.contents c.args.out.now)
+    c.args.inquiry.now.from c.args.inquiry.now.to
     c.in-Err.fault
     (λ e. elim c.in-Err.ensures.refusals [ inl first ↦ cc (first, e) | inr second ↦ cc (second, e) ])

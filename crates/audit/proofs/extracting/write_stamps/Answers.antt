@@ -48,7 +48,8 @@ returns-in_err-write_line-2-clause-written g c =
     let store = c.in_err-write_line-2.store-in-Break-branch-4-1-own.given.0 in
     let same : c.next_line.new.walk.book.now ≡ store = search rules in
     subst (λ s. Writes g.B.Standing c.args.store.now s (g.W.Write.contents c.args.out.now)
-    (g.W.Write.contents c.write_line-in-Some.new.out) c.args.from c.args.to c.write_line-in-Some.new.octets
+    (g.W.Write.contents c.write_line-in-Some.new.out) c.args.inquiry.now.from c.args.inquiry.now.to
+    c.write_line-in-Some.new.octets
     c.from_residual-in_err-write_line-2.result) same
     (cut_later g.B.Standing _ _ _ _ _ _ _ _ _ _ _ _ _ _ c.deref.result.now line.0 _ _ (failing.1 ∙ ap Err failing.2)
     c.loop-line.invariant.0 c.in_ok-line.ensures.looks (c.deref.ensures.value ∙ line.1)

@@ -5,8 +5,8 @@ use Rattle.audit.proofs.extracting.write_stamps.Given as goal
 
 abbrev pub invariant-loop-line : goal.invariant-loop-line
 invariant-loop-line g l =
-    HasWritten g.B.Standing l.fn.store l.walk.book.now (g.W.Write.contents l.fn.out) (g.W.Write.contents l.out) l.from
-    l.to l.octets l.walk.from l.walk.to
+    HasWritten g.B.Standing l.fn.store l.walk.book.now (g.W.Write.contents l.fn.out) (g.W.Write.contents l.out)
+    l.inquiry.from l.inquiry.to l.octets l.walk.from l.walk.to
     × (l.octets ≤ l.limit) × (l.walk.book.ghost_name ≡ l.initial.walk.book.ghost_name)
 
 abbrev pub decreases-loop-line : goal.decreases-loop-line

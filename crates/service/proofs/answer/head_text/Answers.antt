@@ -1,6 +1,7 @@
 use Rattle.std.proofs.Common.{◌≡◌, ◌∙◌, ℕ, List, [], ◌++◌, ap, append_assoc, option_map}
 use Rattle.std.specs.Prelude.{codes}
 use Rattle.service.specs.Answers.{allow_line, content_lines, crlf, head_text, status_line}
+use Rattle.service.specs.Routes.{names_of}
 use Rattle.service.proofs.answer.head_text.Goals as goal
 
 -- four pieces, one after the other
@@ -16,6 +17,6 @@ pub returns-clause-value : goal.returns-clause-value
 unfolding head_text
 returns-clause-value c =
     in_turn _ _ _ _ _ (status_line c.args.status) (content_lines c.args.media c.args.count)
-    (allow_line (option_map (λ m. m.now) c.args.allow)) (codes "Connection: close") crlf crlf
+    (allow_line (option_map names_of c.args.allow)) (codes "Connection: close") crlf crlf
     c.new-text.ensures c.push_status.ensures.bytes c.push_content.ensures.bytes c.push_allow.ensures.bytes
     c.push_str.ensures.bytes

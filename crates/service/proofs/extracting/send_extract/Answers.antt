@@ -12,11 +12,12 @@ returns-then-of_head-len-clause-sent g c =
     let short : n < length head =
     omega (arith, c.if-of_head-len.true, c.len.ensures.value, ap length c.as_bytes.ensures.value, ap length c.as_str.ensures.value) in
     let P : ℕ → Type 0 = λ status. SendsExtract g.B.Standing g.W.Write.contents c.args.writer.now
-    c.write_octets-of_head.new.out c.args.store.now c.args.store.now c.args.from c.args.to c.args.length
+    c.write_octets-of_head.new.out c.args.store.now c.args.store.now
+    c.args.inquiry.now.from c.args.inquiry.now.to c.args.length
     (served.WriteFailed status n) in
     inl (subst P (sym c.as_u16-status.ensures.value)
     (head_cut g.B.Standing g.W.Write.contents c.args.writer.now c.args.writer.now c.write_octets-of_head.new.out
-    c.args.store.now c.args.store.now c.args.from c.args.to c.args.length head states n short
+    c.args.store.now c.args.store.now c.args.inquiry.now.from c.args.inquiry.now.to c.args.length head states n short
     c.write_octets-of_head.ensures.written))
 
 pub returns-then-written-length-clause-sent : goal.returns-then-written-length-clause-sent
@@ -41,12 +42,14 @@ returns-then-written-length-clause-sent g c =
       ap length c.as_str.ensures.value,
     ) in
     let P : ℕ → ℕ → Type 0 = λ status sent. SendsExtract g.B.Standing g.W.Write.contents c.args.writer.now
-    c.write_extract-written.new.out c.args.store.now c.write_extract-written.new.store c.args.from c.args.to
+    c.write_extract-written.new.out c.args.store.now c.write_extract-written.new.store
+    c.args.inquiry.now.from c.args.inquiry.now.to
     c.args.length (served.WriteFailed status sent) in
     inl (subst (P c.as_u16-status.result) sent (subst (λ s. P s (length head + octets))
     (sym c.as_u16-status.ensures.value)
     (rows_cut g.B.Standing g.W.Write.contents c.args.writer.now c.write_octets-of_head.new.out
-    c.write_extract-written.new.out c.args.store.now c.write_extract-written.new.store c.args.from c.args.to
+    c.write_extract-written.new.out c.args.store.now c.write_extract-written.new.store
+    c.args.inquiry.now.from c.args.inquiry.now.to
     c.args.length head states n octets c.write_extract-written.result.outcome whole
     c.write_octets-of_head.ensures.written c.write_extract-written.ensures.written c.if-written-length.true)))
 
@@ -66,11 +69,13 @@ returns-clause-sent g c =
     ) in
     let least : c.args.length ≤ octets = omega (arith, c.if-written-length.false) in
     let P : ℕ → Type 0 = λ status. SendsExtract g.B.Standing g.W.Write.contents c.args.writer.now
-    c.write_extract-written.new.out c.args.store.now c.write_extract-written.new.store c.args.from c.args.to
+    c.write_extract-written.new.out c.args.store.now c.write_extract-written.new.store
+    c.args.inquiry.now.from c.args.inquiry.now.to
     c.args.length (served.Answered status) in
     inl (subst P (sym c.as_u16-status.ensures.value)
     (all_written g.B.Standing g.W.Write.contents c.args.writer.now c.write_octets-of_head.new.out
-    c.write_extract-written.new.out c.args.store.now c.write_extract-written.new.store c.args.from c.args.to
+    c.write_extract-written.new.out c.args.store.now c.write_extract-written.new.store
+    c.args.inquiry.now.from c.args.inquiry.now.to
     c.args.length head states n octets c.write_extract-written.result.outcome whole
     c.write_octets-of_head.ensures.written c.write_extract-written.ensures.written least
     c.write_extract-written.ensures.within))
@@ -83,6 +88,7 @@ returns-then-most-count-clause-sent g c =
     omega (arith, c.if-most-count.true, c.len-most.ensures.value, c.len-most.ensures.fits) in
     inr (
       λ b is. too_many g.B.Standing g.W.Write.contents c.args.writer.now c.args.writer.now c.wanting.new.writer
-          c.args.store.now c.args.store.now c.args.from c.args.to c.args.length head states many b is,
+          c.args.store.now c.args.store.now
+          c.args.inquiry.now.from c.args.inquiry.now.to c.args.length head states many b is,
       c.wanting.ensures,
     )

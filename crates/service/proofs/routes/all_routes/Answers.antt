@@ -1,35 +1,33 @@
-use Rattle.std.proofs.Common.{◌≡◌, ◌∙◌, [], ap}
-use Rattle.std.specs.Prelude.{codes}
-use Rattle.service.specs.Routes.{Routes, with_route, routes}
-use Rattle.service.specs.declared.routes.Place.TheVariants as place
+use Rattle.std.proofs.Common.{◌≡◌, ◌∙◌, ◌+◌, ◌<◌, ℕ, List, [], ◌∷◌, Bor, get_or, length, map, take, sym, ap, arith}
+use Rattle.std.proofs.lemmas.List.{map-append, take_all, take_more}
+use Rattle.std.proofs.lemmas.List.Sums.{fold_push}
+use Rattle.service.specs.Routes.{Routes, line_view, routes, routes_of, with_route}
+use Rattle.service.specs.declared.routes.Methods.{Methods}
 use Rattle.service.proofs.routes.all_routes.Goals as goal
 
--- one route after the other
-in_turn : (a b c d e f g h i j k : Routes) → a ≡ [] → b ≡ with_route (codes "/tsp") place.Tsp a
-    → c ≡ with_route (codes "/calibrations") place.Calibrations b
-    → d ≡ with_route (codes "/holds") place.Holds c
-    → e ≡ with_route (codes "/status") place.Status d
-    → f ≡ with_route (codes "/deposits") place.Deposits e
-    → g ≡ with_route (codes "/deposits/{number}") place.Deposit f
-    → h ≡ with_route (codes "/deposits/{number}/token") place.Token g
-    → i ≡ with_route (codes "/deposits/{number}/readers/{name}") place.Reader h
-    → j ≡ with_route (codes "/deposits/{number}/groups/{name}") place.Group i
-    → k ≡ with_route (codes "/audit/{from}/{to}") place.Audit j → k ≡ routes
-unfolding routes
-in_turn a b c d e f g h i j k none tsp calibrations holds status deposits deposit token reader group audit =
-    audit ∙ ap (with_route (codes "/audit/{from}/{to}") place.Audit)
-    (group ∙ ap (with_route (codes "/deposits/{number}/groups/{name}") place.Group)
-    (reader ∙ ap (with_route (codes "/deposits/{number}/readers/{name}") place.Reader)
-    (token ∙ ap (with_route (codes "/deposits/{number}/token") place.Token)
-    (deposit ∙ ap (with_route (codes "/deposits/{number}") place.Deposit)
-    (deposits ∙ ap (with_route (codes "/deposits") place.Deposits)
-    (status ∙ ap (with_route (codes "/status") place.Status)
-    (holds ∙ ap (with_route (codes "/holds") place.Holds)
-    (calibrations ∙ ap (with_route (codes "/calibrations") place.Calibrations)
-    (tsp ∙ ap (with_route (codes "/tsp") place.Tsp) none)))))))))
+-- one line more
+added : (lines : List (Bor (List ℕ) × Methods)) (i : ℕ) (d : Bor (List ℕ) × Methods) (old new : Routes)
+    → i < length lines → old ≡ routes_of (map line_view (take i lines))
+    → new ≡ with_route old (line_view (get_or lines i d)) → new ≡ routes_of (map line_view (take (i + 1) lines))
+added lines i d old new inside is adds =
+    adds
+    ∙ ap (λ routes. with_route routes (line_view (get_or lines i d))) is
+    ∙ sym (
+    ap (λ l. routes_of (map line_view l)) (take_more lines i d inside)
+    ∙ ap routes_of (map-append line_view (take i lines) (get_or lines i d ∷ []))
+    ∙ fold_push with_route [] (map line_view (take i lines)) (line_view (get_or lines i d))
+    )
+
+pub loop-line-preserved : goal.loop-line-preserved
+loop-line-preserved c =
+    added c.lines-line-items.result.now c.loop-line.line-index _ c.loop-line.router c.add.new.router
+    c.loop-line-test.true c.loop-line.invariant c.in_ok-add.ensures
 
 pub returns : goal.returns
+unfolding routes
 returns c =
-    in_turn _ _ _ _ _ _ _ _ _ _ _ c.new-router.ensures c.in_ok-add.ensures c.in_ok-add-2.ensures c.in_ok-add-3.ensures
-    c.in_ok-add-4.ensures c.in_ok-add-5.ensures c.in_ok-add-6.ensures c.in_ok-add-7.ensures c.in_ok-add-8.ensures
-    c.in_ok-add-9.ensures c.in_ok-add-10.ensures
+    let items = c.lines-line-items.result.now in
+    c.loop-line.invariant
+    ∙ ap (λ l. routes_of (map line_view l))
+    (take_all c.loop-line.line-index items (omega (arith, c.loop-line-test.false)))
+    ∙ ap routes_of c.lines-line-items.ensures

@@ -4,12 +4,12 @@ use Rattle.matchit.specs.Params.{walk, named, AllText}
 use Rattle.matchit.specs.Router.{RouteOf}
 use Rattle.matchit.specs.Seek.{first}
 use Rattle.service.specs.Routes.{routes, parameter, taken_by}
-use Rattle.service.specs.declared.routes.Place.{Place}
+use Rattle.service.specs.declared.routes.Methods.{Methods}
 use Rattle.service.proofs.TargetLemmas.{AreOctets, taken_are_text}
 use Rattle.service.proofs.routes.Routes.parameter.Goals as goal
 
 -- by the route that is found
-by_route : (name target : List ℕ) (route : RouteOf Place) (part : Option (List ℕ)) → first routes target ≡ Some route
+by_route : (name target : List ℕ) (route : RouteOf Methods) (part : Option (List ℕ)) → first routes target ≡ Some route
     → named name (walk route.pattern route.text target route.names 0 0) ≡ part → unwrap_or part [] ≡ parameter name target
 by_route name target route part found is =
     ap (λ o. unwrap_or o []) (sym is) ∙ ap (λ r. unwrap_or (named name (taken_by r target)) []) (sym found)
@@ -21,7 +21,7 @@ pub returns-in-Some : goal.returns-in-Some
 returns-in-Some c =
     let target = c.args.target.now in
     let p = c.in-Ok.found.params in
-    let route : RouteOf Place = record {
+    let route : RouteOf Methods = record {
       pattern = p.pattern.now;
       text = p.text.now;
       names = p.names.now;
@@ -41,7 +41,7 @@ pub returns-in-None : goal.returns-in-None
 returns-in-None c =
     let target = c.args.target.now in
     let p = c.in-Ok.found.params in
-    let route : RouteOf Place = record {
+    let route : RouteOf Methods = record {
       pattern = p.pattern.now;
       text = p.text.now;
       names = p.names.now;
