@@ -18,15 +18,16 @@ use Rattle.policy.specs.Record.{AccountValue, PolicyValue}
 use Rattle.book.specs.Rows.{StampRow}
 use Rattle.counter.specs.Audits.{Audits, FailsStamps, IsNoAudit, LeavesCut, LeavesExtract, StopsCheck, Tells}
 use Rattle.counter.specs.Audits.{TellsFailing}
-use Rattle.counter.specs.Fault.{fault_line, fault_of_audit}
-use Rattle.counter.specs.Writing.{Begins}
-use Rattle.counter.specs.declared.fault.Fault.{Fault}
+use Rattle.console.specs.Fault.{fault_line}
+use Rattle.counter.specs.Fault.{fault_of_audit}
+use Rattle.console.specs.Writing.{Begins}
+use Rattle.console.specs.declared.fault.Fault.{Fault}
 use Rattle.counter.specs.declared.run.Outcome.{Outcome}
 use Rattle.counter.specs.declared.run.Outcome.TheVariants.{Replied, Counted, Changed, Exchanged, Served, Extracted}
 use Rattle.counter.specs.declared.run.Outcome.TheVariants.{Failing}
-use Rattle.counter.proofs.Writing.{begins_after}
+use Rattle.console.proofs.Writing.{begins_after}
 
-audits : (words : AuditWords) (policy : PolicyValue) (account : AccountValue) (stamps : List StampRow)
+pub audits : (words : AuditWords) (policy : PolicyValue) (account : AccountValue) (stamps : List StampRow)
     → ((text : List ℕ) × (meaning_of text ≡ Ok policy)) → account_named policy words.account.now ≡ Some account
     → IsAllowed policy account words.from words.to → Audits words (extract_of stamps)
 audits words policy account stamps meant named allowed = record {

@@ -1,15 +1,21 @@
 -- What `exchange` writes, out of what the operation says of it.
-use Rattle.std.proofs.Common.{ℕ, ℤ, List, [], Option, length, sym, subst, inl, inr}
+use Rattle.std.proofs.Common.{◌≡◌, ◌⊎◌, ◌∙◌, ℕ, ℤ, List, [], Option, Result, Ok, Err, IfOk, length, sym, subst}
+use Rattle.std.proofs.Common.{inl, inr}
 use Rattle.std.proofs.Math.Seq.{take-length}
 use Rattle.std.specs.Io.KnownBytes.{Appends, Keeps}
+use Rattle.std.specs.Prelude.{OnErr}
 use Rattle.policy.specs.Record.{PolicyValue}
 use Rattle.service.specs.Answers.{answer_text, success}
 use Rattle.service.specs.declared.answer.Media.TheVariants.{Csv}
-use Rattle.service.specs.declared.served.Served.TheVariants.{Closed, Answered, WriteFailed}
+use Rattle.service.specs.declared.served.Served.{Served}
+use Rattle.service.specs.declared.served.Served.TheVariants.{Closed, Answered, ReadFailed, WriteFailed}
 use Rattle.operations.specs.Exchanges as operation
-use Rattle.counter.specs.Exchange.{WritesAnswer}
-use Rattle.counter.specs.Writing.{Begins}
-use Rattle.counter.proofs.Writing.{appends_nothing, keeps_beginning}
+use Rattle.console.specs.declared.fault.Fault.{Fault}
+use Rattle.console.specs.declared.fault.Fault.TheVariants.{Input}
+use Rattle.console.specs.declared.fault.InputFault.TheVariants.{Failed}
+use Rattle.counter.specs.Exchange.{HasEnded, HasStopped, WritesAnswer}
+use Rattle.console.specs.Writing.{Begins}
+use Rattle.console.proofs.Writing.{appends_nothing, keeps_beginning}
 
 module _ (policy : PolicyValue) (reading : ℤ) (old new before : Option (List ℕ)) where
   -- the input is at its end
@@ -52,3 +58,40 @@ module _ (policy : PolicyValue) (reading : ℤ) (old new before : Option (List �
   writes_part after status sent (inr e) =
       let octets = e.1.1 in
       inr (inr (e.0, (octets, (length octets, rw (take-length octets) e.1.3))))
+
+  -- what is known of the exchange, and what is written, where it has ended
+  pub ended : (mid after : Option (List ℕ)) (outcome : Result Served Fault) (IsServed : Served → Type 0)
+      → IfOk outcome (operation.Exchanges policy reading old new before mid) → IfOk outcome IsServed
+      → HasEnded outcome mid after
+      → ((s : Served) × IsServed s) × WritesAnswer policy reading old new (Appends before after)
+  ended mid after (Ok Closed) IsServed told served end =
+      let P : Option (List ℕ) → Type 0 = λ x. WritesAnswer policy reading old new (Appends before x) in
+      ((Closed, served), subst P (sym end) (writes_nothing mid told))
+  ended mid after (Ok (Answered status)) IsServed told served end =
+      ((Answered status, served), writes_all mid after status told end)
+  ended mid after (Ok ReadFailed) IsServed told served end = absurd end
+  ended mid after (Ok (WriteFailed status sent)) IsServed told served end = absurd end
+  ended mid after (Err refused) IsServed told served end = absurd end
+
+  -- and where it is stopped
+  pub stopped : (mid after : Option (List ℕ)) (outcome : Result Served Fault) (IsServed : Served → Type 0)
+      (fault : Fault)
+      → IfOk outcome (operation.Exchanges policy reading old new before mid) → IfOk outcome IsServed
+      → OnErr outcome (mid ≡ before) → HasStopped outcome mid after fault
+      → (after ≡ before)
+      ⊎ ((fault ≡ Input Failed)
+      × (((s : Served) × IsServed s) × WritesAnswer policy reading old new (Begins before after)))
+  stopped mid after (Ok Closed) IsServed fault told served unwritten stop = absurd stop
+  stopped mid after (Ok (Answered status)) IsServed fault told served unwritten stop =
+      inr (stop.0, ((Answered status, served), writes_unflushed mid after status told stop.1))
+  stopped mid after (Ok ReadFailed) IsServed fault told served unwritten stop = inl (stop.1 ∙ told.1)
+  stopped mid after (Ok (WriteFailed status sent)) IsServed fault told served unwritten stop =
+      inr (
+        stop.0,
+        (
+          (WriteFailed status sent, served),
+          subst (λ x. WritesAnswer policy reading old new (Begins before x)) (sym stop.1)
+              (writes_part mid status sent told),
+        ),
+      )
+  stopped mid after (Err refused) IsServed fault told served unwritten stop = inl (stop ∙ unwritten)

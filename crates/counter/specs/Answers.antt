@@ -1,16 +1,16 @@
 -- What the words write for the text that they read.
 use Rattle.std.specs.Prelude.{◌≡◌, ℕ, ◌<◌, pos, List, [], Option, IfSome, Ok}
-use Rattle.counter.specs.Accounts.{IsKnown, account_shown}
+use Rattle.console.specs.Accounts.{IsKnown, account_shown}
 use Rattle.counter.specs.Additions.{AddsCalibration, AddsHold}
 use Rattle.counter.specs.Audits.{Audits}
-use Rattle.counter.specs.Counts.{Counts}
+use Rattle.console.specs.Counts.{Counts}
 use Rattle.counter.specs.Exchange.{Exchanges}
 use Rattle.counter.specs.Desks.{IsSettingOf, ServesConnections}
-use Rattle.counter.specs.Hexadecimal.{IsHexadecimal, line}
+use Rattle.console.specs.Hexadecimal.{IsHexadecimal, line}
 use Rattle.operations.specs.Machine.{Machine}
-use Rattle.counter.specs.Settings.{SettingsValue, States}
+use Rattle.console.specs.Settings.{SettingsValue, States}
 use Rattle.counter.specs.Replies.{IsJudgedReply, IsReplyOf}
-use Rattle.counter.specs.Tst.{IsReply}
+use Rattle.console.specs.Tst.{IsReply}
 use Rattle.desk.specs.Command.{Answer as DeskAnswer, Setting}
 use Rattle.operations.specs.OverFiles.{IsAnsweredOver, IsMigratedOver}
 use Rattle.operations.specs.Signing.{algorithm_of}
@@ -45,6 +45,18 @@ pub record RepliesTo {D X C : Type 0} (m : Machine D X C) (words : AnswerWords) 
   pub says : IsReplyOf answer reply
   pub stepped : IsAnsweredOver m.disk m.held m.signs setting (algorithm_of set.signing)
       (account_shown setting.file words.key) (pos words.reading) query answer
+
+-- the same, at a desk of that setting, where that algorithm signs
+pub record IsReplyAt {D X C : Type 0} (m : Machine D X C) (words : AnswerWords) (setting : Setting)
+    (algorithm text reply : List ℕ) : Type 0 where
+  pub known : IsKnown setting.file words.key
+  pub query : List ℕ
+  pub spelled : IsHexadecimal text query
+  pub judged : IsJudgedReply setting.file (account_shown setting.file words.key) query reply
+  pub answer : DeskAnswer
+  pub says : IsReplyOf answer reply
+  pub stepped : IsAnsweredOver m.disk m.held m.signs setting algorithm (account_shown setting.file words.key)
+      (pos words.reading) query answer
 
 -- What is written is what was asked for: nothing by the words that change the database or serve connections. The
 -- input is left as `old`, and then as `new`: it is none where a reader doesn't tell its octets. The output is `out`

@@ -15,10 +15,10 @@ use Rattle.policy.specs.Meaning.{meaning_of}
 use Rattle.policy.specs.Record.{AccountValue, PolicyValue}
 use Rattle.book.specs.declared.fault.StoreFault.TheVariants as store
 use Rattle.book.specs.Rows.{StampRow}
-use Rattle.counter.specs.Fault.{fault_line}
-use Rattle.counter.specs.Writing.{Begins}
-use Rattle.counter.specs.declared.fault.Fault.{Fault}
-use Rattle.counter.specs.declared.fault.Fault.TheVariants as fault
+use Rattle.console.specs.Fault.{fault_line}
+use Rattle.console.specs.Writing.{Begins}
+use Rattle.console.specs.declared.fault.Fault.{Fault}
+use Rattle.console.specs.declared.fault.Fault.TheVariants as fault
 
 -- Some text means a policy, of which an account has the name that the words state: an auditor, who asks for a range. No
 -- contract says what a database holds, so the text is the extract of some stamps.

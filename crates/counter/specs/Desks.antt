@@ -1,8 +1,5 @@
 -- By what the words have requests judged and answered.
-use Rattle.std.specs.Prelude.{◌≡◌, ℕ, ◌≤◌, List, [], length, None, Ok, Result}
-use Rattle.cms.specs.Certificate.{CertificateParts, IsCertificate, identity_with}
-use Rattle.cms.specs.Chain.{AreFurtherCertificates}
-use Rattle.cms.specs.Identity.{IdentityValue}
+use Rattle.std.specs.Prelude.{◌≡◌, ℕ, List, [], None, Ok, Result}
 use Rattle.command_line.specs.declared.words.DeskWords.{DeskWords}
 use Rattle.command_line.specs.declared.words.ServeWords.{ServeWords}
 use Rattle.desk.specs.Command.{Setting}
@@ -12,17 +9,8 @@ use Rattle.operations.specs.declared.fault.OperationFault.{OperationFault}
 use Rattle.operations.specs.declared.signing.Signing.{Signing}
 use Rattle.policy.specs.Meaning.{meaning_of}
 use Rattle.operations.specs.Machine.{Machine}
+use Rattle.console.specs.Identity.{IsIdentity}
 use Rattle.counter.specs.Signers.{SignsAs}
-
--- of some certificate, and of the further ones of some chain
-pub record IsIdentity (identity : IdentityValue) : Type 0 where
-  pub certificate : List ℕ
-  pub parts : CertificateParts
-  pub is : IsCertificate certificate parts
-  pub short : length certificate ≤ 16384
-  pub further : List (List ℕ)
-  pub chained : AreFurtherCertificates certificate further
-  pub same : identity ≡ identity_with certificate further parts
 
 -- by a policy that some text means, an identity, whose chain is empty where the words name none, and the algorithm of
 -- who signs as the words tell

@@ -1,14 +1,18 @@
 -- What `exchange` writes.
-use Rattle.std.specs.Prelude.{◌⊎◌, pos, ℤ, ℕ, List, [], Option}
-use Rattle.std.specs.Io.KnownBytes.{Consumes, IsAtEnd}
+use Rattle.std.specs.Prelude.{◌≡◌, ◌⊎◌, pos, ℤ, ℕ, List, [], Option, Result, Ok, Err}
+use Rattle.std.specs.Io.KnownBytes.{Consumes, IsAtEnd, Keeps}
 use Rattle.policy.specs.Record.{PolicyValue}
 use Rattle.desk.specs.Command.{Setting}
 use Rattle.service.specs.Answers.{AnswerValue, answer_text}
 use Rattle.service.specs.declared.served.Served.{Served}
+use Rattle.service.specs.declared.served.Served.TheVariants.{Closed, Answered, ReadFailed, WriteFailed}
 use Rattle.operations.specs.Exchanges.{AsksExtract, IsAnswerFor}
 use Rattle.operations.specs.OverFiles.{IsServedOver}
 use Rattle.operations.specs.Signing.{algorithm_of}
 use Rattle.command_line.specs.declared.words.ExchangeWords.{ExchangeWords}
+use Rattle.console.specs.declared.fault.Fault.{Fault}
+use Rattle.console.specs.declared.fault.Fault.TheVariants.{Input}
+use Rattle.console.specs.declared.fault.InputFault.TheVariants.{Failed}
 use Rattle.counter.specs.Desks.{IsSettingOf}
 use Rattle.operations.specs.Machine.{Machine}
 
@@ -32,3 +36,19 @@ pub record Exchanges {D X C O : Type 0} (m : Machine D X C) (contents : O → Op
   pub outcome : Served
   pub served : IsServedOver m.disk m.held m.signs setting (algorithm_of set.signing) contents (pos words.reading) old
       new out written outcome
+
+-- How an exchange ends, of which the operation told this: nothing was asked, or the answer was sent.
+abbrev pub HasEnded : Result Served Fault → (mid after : Option (List ℕ)) → Type 0
+HasEnded (Ok Closed) mid after = after ≡ mid
+HasEnded (Ok (Answered status)) mid after = Keeps mid after
+HasEnded (Ok ReadFailed) mid after = ⊥
+HasEnded (Ok (WriteFailed status sent)) mid after = ⊥
+HasEnded (Err refused) mid after = ⊥
+
+-- how it is stopped: the answer couldn't be sent, or a stream failed before that, or the operation was refused
+abbrev pub HasStopped : Result Served Fault → (mid after : Option (List ℕ)) → Fault → Type 0
+HasStopped (Ok Closed) mid after fault = ⊥
+HasStopped (Ok (Answered status)) mid after fault = (fault ≡ Input Failed) × Keeps mid after
+HasStopped (Ok ReadFailed) mid after fault = (fault ≡ Input Failed) × (after ≡ mid)
+HasStopped (Ok (WriteFailed status sent)) mid after fault = (fault ≡ Input Failed) × (after ≡ mid)
+HasStopped (Err refused) mid after fault = after ≡ mid

@@ -1,46 +1,14 @@
--- The numbers of the program's own refusals, and the line that it prints of a refusal.
-use Rattle.std.specs.Prelude.{◌≡◌, ◌⊎◌, ℕ, List, [], ◌∷◌, ◌++◌, codes}
-use Rattle.std.specs.Fmt.{decimal}
-use Rattle.audit.specs.Fault as audit
-use Rattle.cms.specs.Fault as cms
-use Rattle.cms.specs.declared.fault.CmsFault.{CmsFault}
-use Rattle.der.specs.Fault as der
-use Rattle.desk.specs.Fault as desk
-use Rattle.hex.specs.declared.error.FromHexError.{FromHexError}
-use Rattle.hex.specs.declared.error.FromHexError.TheVariants.{InvalidHexCharacter, OddLength, InvalidStringLength}
-use Rattle.hex.specs.declared.error.FromHexError.TheVariants.{OutOfMemory}
-use Rattle.policy.specs.Fault as policy
-use Rattle.policy.specs.declared.fault.PolicyFault.{PolicyFault}
-use Rattle.book.specs.Fault as store
-use Rattle.book.specs.declared.fault.StoreFault.{StoreFault}
-use Rattle.tsp.specs.Fault as tsp
-use Rattle.counter.specs.declared.fault.Fault.{Fault}
-use Rattle.counter.specs.declared.fault.Fault.TheVariants.{Der, Tsp, Cms, Policy, Store, Desk, Audit, Input}
-use Rattle.counter.specs.declared.fault.InputFault.{InputFault}
-use Rattle.counter.specs.declared.fault.InputFault.TheVariants.{NotHexadecimal, File, Hold, Account, Failed, Address}
-use Rattle.counter.specs.declared.fault.InputFault.TheVariants.{Memory, Signer}
+-- What refusals of the operations over the database are to the program.
+use Rattle.std.specs.Prelude.{◌≡◌, ◌⊎◌}
+use Rattle.console.specs.Fault.{IsSettingFault}
+use Rattle.console.specs.declared.fault.Fault.{Fault}
+use Rattle.console.specs.declared.fault.Fault.TheVariants.{Store, Desk, Audit, Input}
+use Rattle.console.specs.declared.fault.InputFault.TheVariants.{Failed, Address, Signer}
 use Rattle.operations.specs.Opening.{IsServingFault}
 use Rattle.operations.specs.declared.auditing.AuditFault.{AuditFault}
 use Rattle.operations.specs.declared.auditing.AuditFault.TheVariants as auditing
 use Rattle.operations.specs.declared.fault.OperationFault.{OperationFault}
 use Rattle.operations.specs.declared.fault.OperationFault.TheVariants as operation
-
-abbrev pub number_of : InputFault → ℕ
-number_of NotHexadecimal = 1
-number_of File = 2
-number_of Hold = 3
-number_of Account = 4
-number_of Failed = 5
-number_of Address = 6
-number_of Memory = 7
-number_of Signer = 8
-
--- what a refusal to read digits is to the program
-abbrev pub fault_of : FromHexError → InputFault
-fault_of (InvalidHexCharacter c index) = NotHexadecimal
-fault_of OddLength = NotHexadecimal
-fault_of InvalidStringLength = NotHexadecimal
-fault_of OutOfMemory = Memory
 
 -- what a refused audit is to the program
 abbrev pub fault_of_audit : AuditFault → Fault
@@ -54,43 +22,6 @@ fault_of_operation (operation.Desk fault) = Desk fault
 fault_of_operation operation.Unreached = Input Signer
 fault_of_operation operation.Unheard = Input Address
 fault_of_operation operation.Clock = Input Failed
-
-abbrev pub number_of_fault : Fault → ℕ
-number_of_fault (Der fault) = der.number_of fault
-number_of_fault (Tsp fault) = tsp.number_of fault
-number_of_fault (Cms fault) = cms.number_of fault
-number_of_fault (Policy fault) = policy.number_of fault
-number_of_fault (Store fault) = store.number_of fault
-number_of_fault (Desk fault) = desk.number_of fault
-number_of_fault (Audit fault) = audit.number_of fault
-number_of_fault (Input fault) = number_of fault
-
--- the part that refused
-abbrev pub line_beginning : Fault → List ℕ
-line_beginning (Der fault) = codes "counter: der "
-line_beginning (Tsp fault) = codes "counter: tsp "
-line_beginning (Cms fault) = codes "counter: cms "
-line_beginning (Policy fault) = codes "counter: policy "
-line_beginning (Store fault) = codes "counter: store "
-line_beginning (Desk fault) = codes "counter: desk "
-line_beginning (Audit fault) = codes "counter: audit "
-line_beginning (Input fault) = codes "counter: input "
-
--- the line of a refusal: who refused, and the refusal's number in decimal
-abbrev pub fault_line : Fault → List ℕ
-fault_line fault = line_beginning fault ++ (decimal (number_of_fault fault) ++ 0x0a ∷ [])
-
--- the store refused
-abbrev pub IsStoreFault : Fault → Type 0
-IsStoreFault fault = (refusal : StoreFault) × (fault ≡ Store refusal)
-
--- a file that says who signs was refused
-abbrev pub IsFileFault : Fault → Type 0
-IsFileFault fault = (fault ≡ Input File) ⊎ ((fault ≡ Input Memory) ⊎ ((refusal : CmsFault) × (fault ≡ Cms refusal)))
-
--- a file that says by what requests are answered, or who signs, was refused
-abbrev pub IsSettingFault : Fault → Type 0
-IsSettingFault fault = IsFileFault fault ⊎ ((refusal : PolicyFault) × (fault ≡ Policy refusal))
 
 -- such a file was refused, or the database, the key holder, the address or the clock failed
 abbrev pub IsServeFault : Fault → Type 0

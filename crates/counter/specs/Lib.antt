@@ -1,15 +1,8 @@
-pub mod Accounts
 pub mod Additions
 pub mod Audits
-pub mod Counts
 pub mod Desks
 pub mod Answers
 pub mod Fault
-pub mod Hexadecimal
-pub mod Known
-pub mod Settings
-pub mod Tst
-pub mod Writing
 pub mod Replies
 pub mod Signers
 pub mod Exchange

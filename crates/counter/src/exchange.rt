@@ -2,17 +2,18 @@
 ghost use Rattle.std.specs.Prelude.{◌≡◌, ◌⊎◌, Ok, OnOk, IfErr};
 ghost use Rattle.std.specs.Io.KnownBytes.{Appends, Keeps};
 ghost use Rattle.counter.specs.Desks.{ServesConnections};
-ghost use Rattle.counter.specs.Exchange.{Exchanges};
+ghost use Rattle.counter.specs.Exchange.{Exchanges, HasEnded, HasStopped};
 ghost use Rattle.counter.specs.Fault.{IsServeFault};
 ghost use Rattle.operations.specs.Machine.{machine_of};
-ghost use Rattle.counter.specs.Writing.{Begins};
+ghost use Rattle.console.specs.Writing.{Begins};
 
-use crate::fault::{Fault, InputFault};
+use crate::fault::answer_of;
 use crate::files::{Files, read_files};
 use cms::Signer;
 use command_line::{ExchangeWords, ServeWords};
 use connections::{Clock, SystemClock};
-use operations::{Disk, FileFrom, HostSigner, Start, Terms};
+use console::{Fault, InputFault};
+use operations::{DatabaseDesk, Disk, FileFrom, HostSigner, Start, Terms};
 use service::Served;
 use std::io::{Read, Write};
 use std::rt::HostRuntime;
@@ -49,13 +50,29 @@ pub fn exchange<F: Start + Drop, I: Read, O: Write>(
         identity: &identity,
         algorithm: &algorithm,
     };
+    let desk = DatabaseDesk {
+        path: words.desk.db,
+        start,
+        terms,
+        signing,
+    };
     let reading = words.reading as i64;
-    let db = words.desk.db;
-    let served = operations::exchange(rt, db, start, terms, signing, reading, input, output)?;
+    let served = answer_of(operations::exchange(rt, desk, reading, input, output));
+    finish(served, output)
+}
+
+/// Has the output send the answer that was written. `input` 5 where a stream failed, and else the refusal.
+fn finish<O: Write>(served: Result<Served, Fault>, output: &mut O) -> Result<(), Fault>
+    ensures ended { OnOk result (HasEnded served (O.contents output.old) (O.contents output.new)) }
+    ensures stopped { IfErr result (HasStopped served (O.contents output.old) (O.contents output.new)) }
+{
     match served {
-        Served::Closed => Ok(()),
-        Served::Answered(_) => Ok(flush(output)?),
-        Served::ReadFailed | Served::WriteFailed { .. } => Err(Fault::Input(InputFault::Failed)),
+        Ok(Served::Closed) => Ok(()),
+        Ok(Served::Answered(_)) => Ok(flush(output)?),
+        Ok(Served::ReadFailed | Served::WriteFailed { .. }) => {
+            Err(Fault::Input(InputFault::Failed))
+        }
+        Err(fault) => Err(fault),
     }
 }
 
@@ -93,13 +110,11 @@ pub fn serve<F: Start + Drop>(
         identity: &identity,
         algorithm: &algorithm,
     };
-    Ok(operations::serve(
-        rt,
-        words.desk.db,
+    let desk = DatabaseDesk {
+        path: words.desk.db,
         start,
         terms,
         signing,
-        words.listen,
-        words.connections,
-    )?)
+    };
+    answer_of(operations::serve(rt, desk, words.listen, words.connections))
 }

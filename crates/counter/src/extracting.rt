@@ -4,10 +4,9 @@ ghost use Rattle.std.specs.Io.KnownBytes.{Appends};
 ghost use Rattle.operations.specs.Auditing.{TellsSome};
 ghost use Rattle.counter.specs.Audits.{Audits, LeavesCut};
 
-use crate::accounts::account_named;
-use crate::check::read_policy;
-use crate::fault::Fault;
+use crate::fault::agreement_of;
 use command_line::AuditWords;
+use console::{Fault, account_named, read_policy};
 use operations::{Inquiry, Start};
 use std::io::Write;
 use std::rt::HostRuntime;
@@ -39,5 +38,5 @@ pub fn audit<F: Start + Drop, O: Write, E: Write>(
         to: words.to,
         check: words.check,
     };
-    Ok(operations::audit(rt, words.db, start, &inquiry, output, errors)?)
+    agreement_of(operations::audit(rt, words.db, start, &inquiry, output, errors))
 }

@@ -4,14 +4,14 @@ ghost use Rattle.book.specs.Values.{calibration_view, hold_view};
 ghost use Rattle.operations.specs.Machine.{image_at};
 ghost use Rattle.operations.specs.OverFiles.{IsMigratedOver};
 ghost use Rattle.counter.specs.Additions.{AddsCalibration, AddsHold, calibration_of, hold_of};
-ghost use Rattle.counter.specs.Fault.{IsStoreFault};
+ghost use Rattle.console.specs.Fault.{IsStoreFault};
 ghost use Rattle.operations.specs.Machine.{machine_of};
 
-use crate::fault::{Fault, InputFault};
 use book::{Calibration, Hold};
 use cms::Signer;
 use command_line::{CalibrateWords, HoldWords, InitWords, MigrateWords};
 use connections::{Clock, SystemClock};
+use console::{Fault, InputFault};
 use operations::{Addition, Disk, FileFrom, HostSigner, Start};
 use std::rt::HostRuntime;
 

@@ -5,25 +5,23 @@ ghost use Rattle.command_line.specs.Words.{AreRefused, AreTaken, Asks, AsksHelp,
 ghost use Rattle.command_line.specs.declared.refusal.Refusal.TheVariants.{Help, Mistake};
 ghost use Rattle.counter.specs.Answers.{Answers, Does, RepliesTo};
 ghost use Rattle.counter.specs.Audits.{FailsStamps, IsNoAudit, LeavesCut, LeavesExtract, Tells};
-ghost use Rattle.counter.specs.Counts.{Counts};
-ghost use Rattle.counter.specs.Fault.{fault_line};
-ghost use Rattle.counter.specs.Hexadecimal.{line};
+ghost use Rattle.console.specs.Counts.{Counts};
+ghost use Rattle.console.specs.Fault.{fault_line};
+ghost use Rattle.console.specs.Hexadecimal.{line};
 ghost use Rattle.operations.specs.Machine.{machine_of};
-ghost use Rattle.counter.specs.Writing.{Begins};
+ghost use Rattle.console.specs.Writing.{Begins};
 
 use crate::answer::{answer, octets_of};
-use crate::check::{read_policy, write_counts};
 use crate::exchange::{exchange, serve};
 use crate::extracting::audit;
-use crate::fault::{Fault, InputFault};
-use crate::hexadecimal::{read_octets, write_octets};
 use crate::history::{calibrate, hold, init, migrate};
-use crate::output::write_text;
-use crate::settings::Settings;
-use crate::tst::tst_reply;
 use cms::Signer;
 use command_line::{AnswerWords, AuditWords, CheckWords, Refusal, TstWords, Word};
 use connections::{Clock, SystemClock};
+use console::{
+    Fault, InputFault, Settings, read_octets, read_policy, tst_reply, write_counts, write_octets,
+    write_text,
+};
 use operations::{Disk, FileFrom, HostSigner, Start, Unknown};
 use std::alloc::Global;
 use std::io::{Read, Write};

@@ -4,8 +4,9 @@ use Rattle.book.specs.declared.standing.Standing.{Ghosts}
 use Rattle.cms.specs.declared.signer.SignerFault.{SignerFault}
 use Rattle.desk.specs.Command.{Command, Stamp, Answer}
 use Rattle.service.specs.Answers.{AnswerValue}
-use Rattle.service.specs.Served.{Turn, Takes, IsAnswer, refuses, replies, keeps_back, wants_early, wants_list}
-use Rattle.service.specs.Served.{overflows, turns_back, tells_status, wants_status, Extracts, Serves}
+use Rattle.service.specs.Requests.{Extract, Status}
+use Rattle.service.specs.Served.{Turn, Takes, IsAnswer, refuses, replies, turns_back, looks, wants_early, wants_list}
+use Rattle.service.specs.Served.{keeps_back, overflows, tells_status, wants_status, Extracts, Serves}
 use Rattle.service.specs.declared.served.Served.{Served}
 use Rattle.service.specs.declared.served.Served.TheVariants as served
 use Rattle.operations.specs.Exchanges as known
@@ -22,12 +23,14 @@ module _ {W B X : Type 0} (g : Ghosts B) (signs : X → List ℕ → Result (Lis
   explained a (refuses r reads idle is) = known.refuses r reads is
   explained a (replies c reads reply takes is) = known.replies c reads reply (judged c reply takes) is
   explained a (turns_back x reads takes behind is) = known.turns_back x reads is
-  explained a (tells_status body reads look told is) = known.tells_status body reads is
-  explained a (wants_status reads look is) = known.wants_status reads is
-  explained a (keeps_back account from to reads f kept is) = known.keeps_back account from to reads f kept.comes is
+  explained a (looks Status reads look (tells_status body told is)) = known.tells_status body reads is
+  explained a (looks Status reads look (wants_status is)) = known.wants_status reads is
+  explained a (looks (Extract account from to) reads look (keeps_back f kept is)) =
+      known.keeps_back account from to reads f kept.comes is
+  explained a (looks (Extract account from to) reads look (overflows long is)) =
+      known.overflows account from to reads is
   explained a (wants_early early idle is) = known.wants_early early is
   explained a (wants_list account reads rows takes is) = known.wants_list account reads is
-  explained a (overflows account from to reads look long is) = known.overflows account from to reads is
 
   asked : (outcome : Served) → Extracts g signs count contents reading t outcome
       → AsksExtract t.desk.setting.file reading t.input t.input_after

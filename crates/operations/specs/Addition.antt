@@ -1,13 +1,13 @@
 -- What an operator adds to the history.
-use Rattle.std.specs.Prelude.{◌≡◌, ◌⊎◌, ◌∷◌, ◌+◌, ℕ, length, IfOk, IsErr, MatchResult, OnErr, OnOk, Result, Err}
-use Rattle.book.specs.Fault.{count_after}
+use Rattle.std.specs.Prelude.{◌≡◌, ◌∷◌, ◌+◌, ℕ, length, IfOk, IsErr, OnErr, OnOk, Result, Err}
+use Rattle.book.specs.Fault.{CountsFaults, IsOfStorageOr}
 use Rattle.book.specs.History.{Entry, History, Calibrated, Held, calibrations, holds, latest_calibration}
 use Rattle.book.specs.Sound.{Fits, IsBackwards}
 use Rattle.book.specs.Stands.{LeavesAsBefore, LeavesOrAdds, Stands}
 use Rattle.book.specs.Values.{calibration_view, hold_view}
 use Rattle.book.specs.declared.fault.StoreFault.{StoreFault}
 use Rattle.book.specs.declared.standing.Standing.{Ghosts}
-use Rattle.book.specs.declared.fault.StoreFault.TheVariants.{Memory, Database, Backwards}
+use Rattle.book.specs.declared.fault.StoreFault.TheVariants.{Backwards}
 use Rattle.operations.specs.declared.adding.Addition.{Addition}
 use Rattle.operations.specs.declared.adding.Addition.TheVariants.{Calibration, Hold}
 
@@ -22,7 +22,7 @@ number_of (Hold hold) b = length (holds b) + 1
 
 -- how an addition to an open database can be refused
 abbrev pub IsAdditionFault : StoreFault → Type 0
-IsAdditionFault fault = (fault ≡ Memory) ⊎ ((fault ≡ Database) ⊎ (fault ≡ Backwards))
+IsAdditionFault = IsOfStorageOr Backwards
 
 -- a calibration whose reading is before that of the latest
 abbrev pub IsBefore : Addition → History → Type 0
@@ -45,5 +45,4 @@ pub record IsAdded {X : Type 0} (g : Ghosts X) (addition : Addition) (old new : 
   pub backwards : g.honest new → (b : History) → Stands g b old → done ≡ Err Backwards → IsBefore addition b
   pub refused : g.honest new → (b : History) → Stands g b old → IsBefore addition b
       → IsErr done × LeavesAsBefore g old new
-  pub faults : MatchResult done (λ _. g.fault_count new ≡ g.fault_count old)
-      (λ e. g.fault_count new ≡ count_after e (g.fault_count old))
+  pub faults : CountsFaults done (g.fault_count old) (g.fault_count new)

@@ -8,7 +8,7 @@ use Rattle.book.specs.History.{CalibrationValue}
 use Rattle.desk.specs.Command.{Command, Stamp, ListAll, Calibrate, Answer}
 use Rattle.service.specs.Answers.{AnswerValue, answer_text, answer_to, refusal_answer, success}
 use Rattle.service.specs.Refusals.{refusal_of_extract}
-use Rattle.service.specs.Requests.{Step, Extract, Status, IsRequest, IsPart, IsEarly}
+use Rattle.service.specs.Requests.{Step, Look, Extract, Status, IsRequest, IsPart, IsEarly}
 use Rattle.service.specs.Served.{unavailable}
 use Rattle.service.specs.declared.answer.Media.TheVariants as media
 use Rattle.service.specs.declared.answer.Media.TheVariants.{Csv}
@@ -36,11 +36,12 @@ pub data IsAnswerFor (file : PolicyValue) (reading : ℤ) (old new : Option (Lis
   turns_back : (c : CalibrationValue) → IsRequest file reading old new (Ok (Step (Calibrate c)))
       → a ≡ refusal_answer refusal.Backwards → IsAnswerFor file reading old new a
   -- the counter's state that the request asks for is told
-  tells_status : (body : List ℕ) → IsRequest file reading old new (Ok Status) → a ≡ success 200 media.Text body
+  tells_status : (body : List ℕ) → IsRequest file reading old new (Ok (Look Status)) → a ≡ success 200 media.Text body
       → IsAnswerFor file reading old new a
   -- the extract that the request asks for is refused
-  keeps_back : (account : AccountValue) (from to : ℕ) → IsRequest file reading old new (Ok (Extract account from to))
-      → (f : ExtractFault) → ComesWhere file account from to f → a ≡ refusal_answer (refusal_of_extract f)
+  keeps_back : (account : AccountValue) (from to : ℕ)
+      → IsRequest file reading old new (Ok (Look (Extract account from to))) → (f : ExtractFault)
+      → ComesWhere file account from to f → a ≡ refusal_answer (refusal_of_extract f)
       → IsAnswerFor file reading old new a
   -- memory is wanting before the body is read
   wants_early : IsEarly old new → a ≡ unavailable → IsAnswerFor file reading old new a
@@ -48,10 +49,12 @@ pub data IsAnswerFor (file : PolicyValue) (reading : ℤ) (old new : Option (Lis
   wants_list : (account : AccountValue) → IsRequest file reading old new (Ok (Step (ListAll account)))
       → a ≡ unavailable → IsAnswerFor file reading old new a
   -- the store can't be looked into, or memory is wanting for the state
-  wants_status : IsRequest file reading old new (Ok Status) → a ≡ unavailable → IsAnswerFor file reading old new a
+  wants_status : IsRequest file reading old new (Ok (Look Status)) → a ≡ unavailable
+      → IsAnswerFor file reading old new a
   -- the answer with the extract has 2^64 octets or more
-  overflows : (account : AccountValue) (from to : ℕ) → IsRequest file reading old new (Ok (Extract account from to))
-      → a ≡ unavailable → IsAnswerFor file reading old new a
+  overflows : (account : AccountValue) (from to : ℕ)
+      → IsRequest file reading old new (Ok (Look (Extract account from to))) → a ≡ unavailable
+      → IsAnswerFor file reading old new a
 
 -- an answer of that status is there, and this much of its text is written
 pub record Writes (file : PolicyValue) (reading : ℤ) (old new before after : Option (List ℕ)) (status : ℕ)
@@ -66,7 +69,7 @@ pub record AsksExtract (file : PolicyValue) (reading : ℤ) (old new : Option (L
   pub account : AccountValue
   pub from : ℕ
   pub to : ℕ
-  pub read : IsRequest file reading old new (Ok (Extract account from to))
+  pub read : IsRequest file reading old new (Ok (Look (Extract account from to)))
   pub allowed : IsAllowed file account from to
 
 -- What each outcome says: the output's octets were `before`, and are `after`.

@@ -1,6 +1,6 @@
 //! What an operator adds to the history.
-ghost use Rattle.std.specs.Prelude.{◌≡◌, ◌⊎◌, ◌∷◌, Err, IfErr, IfOk, IsErr, MatchResult, Ok, OnOk, OnErr};
-ghost use Rattle.book.specs.Fault.{count_after};
+ghost use Rattle.std.specs.Prelude.{◌≡◌, ◌⊎◌, ◌∷◌, Err, IfErr, IfOk, IsErr, Ok, OnOk, OnErr};
+ghost use Rattle.book.specs.Fault.{CountsFaults};
 ghost use Rattle.book.specs.History.{History};
 ghost use Rattle.book.specs.Sound.{Fits};
 ghost use Rattle.book.specs.Stands.{LeavesAsBefore, LeavesOrAdds, Stands};
@@ -40,8 +40,7 @@ impl Addition {
         ensures refused { B.honest book.new → (b : History) → Stands B.Standing b book.old → IsBefore self.now b
             → IsErr result × LeavesAsBefore B.Standing book.old book.new }
         ensures refusals { IfErr result IsAdditionFault }
-        ensures faults { MatchResult result (λ _. B.fault_count book.new ≡ B.fault_count book.old)
-            (λ e. B.fault_count book.new ≡ count_after e (B.fault_count book.old)) }
+        ensures faults { CountsFaults result (B.fault_count book.old) (B.fault_count book.new) }
     {
         match self {
             Addition::Calibration(calibration) => book.calibrate(calibration),

@@ -12,11 +12,11 @@ ghost use Rattle.operations.specs.Signing.{algorithm_of};
 ghost use Rattle.operations.specs.OverFiles.{IsAnsweredOver};
 ghost use Rattle.operations.specs.Visits.{setting_of};
 
+use crate::database_desk::DatabaseDesk;
 use crate::desk_operation::{DeskOperation, perform_at_desk};
 use crate::fault::OperationFault;
 use crate::reached::HostSigner;
-use crate::signing::{Renewal, Signing};
-use crate::terms::Terms;
+use crate::signing::Renewal;
 use book::Book;
 use cms::Signer;
 use desk::{Desk, Reply};
@@ -71,34 +71,21 @@ impl DeskOperation<(), ()> for Question<'_> {
 /// then with `Unreached` where the key holder can't be reached. After that there is a reply.
 pub fn answer<F: Start + Drop>(
     rt: &HostRuntime,
-    path: &str,
-    start: F,
-    terms: Terms<'_>,
-    signing: Signing<'_>,
+    desk: DatabaseDesk<'_, F>,
     question: &Question<'_>,
 ) -> Result<Reply, OperationFault>
     // A request that fails a rule of 1 to 9 is rejected by the first of them, whatever the database holds.
-    ensures judged { IfOk result (λ reply. IsJudgedReply (policy_view terms.entry.policy.now)
+    ensures judged { IfOk result (λ reply. IsJudgedReply (policy_view desk.entry.terms.policy.now)
         (account_asked question.now.account) question.now.query.now (reply_as reply)) }
 
     // Whatever the files hold: it is the answer of the machine's step, at a desk over the store that was opened over
     // them.
     ensures stepped { IfOk result (λ reply. IsAnsweredOver ⟦<FileFrom<F> as Disk>⟧ (image_at F.Start)
-        ⟦<HostSigner<'static> as Signer>⟧ (setting_of terms.entry) (algorithm_of signing.entry)
+        ⟦<HostSigner<'static> as Signer>⟧ (setting_of desk.entry.terms) (algorithm_of desk.entry.signing)
         (account_asked question.now.account) question.now.reading question.now.query.now (reply_as reply)) }
     ensures refusals { IfErr result IsStartingFault }
 {
-    perform_at_desk(
-        rt,
-        path,
-        start,
-        terms,
-        signing,
-        Renewal::Never,
-        *question,
-        &mut (),
-        &mut (),
-    )
+    perform_at_desk(rt, desk, Renewal::Never, *question, &mut (), &mut ())
 }
 
 /// Answers the request by a desk and a signer.

@@ -13,6 +13,7 @@ ghost use Rattle.operations.specs.OverFiles.{IsVisitedOver};
 ghost use Rattle.operations.specs.Visits.{IsUnopened, IsVisited, Visit, setting_of, visit_of};
 ghost use Rattle.operations.specs.declared.fault.OperationFault.{OperationFault as SpecFault};
 
+use crate::database_desk::DatabaseDesk;
 use crate::fault::OperationFault;
 use crate::opening::perform_at;
 use crate::operation::Operation;
@@ -100,19 +101,61 @@ impl<I, O, T: DeskOperation<I, O>> Operation<I, O> for AtDesk<'_, T> {
             renewal,
             operation,
         } = self;
-        let (means, mut signer) = match ready(rt, &operation, signing, renewal) {
-            Ok(ready) => ready,
-            Err(fault) => return (book, Err(fault)),
-        };
-        let (policy, identity, algorithm) = (terms.policy, terms.identity, terms.algorithm);
-        match Desk::open(rt.alloc(), policy, identity, algorithm, book) {
-            Ok(desk) => {
-                let mut desk = desk;
-                let answer = operation.perform(means, rt, &mut desk, &mut signer, input, output);
-                (desk.into_store(), Ok(answer))
+        match ready(rt, &operation, signing, renewal) {
+            Ok((means, signer)) => {
+                let mut signer = signer;
+                let prepared = Prepared {
+                    terms,
+                    operation,
+                    means,
+                };
+                perform_prepared(prepared, rt, book, &mut signer, input, output)
             }
-            Err((fault, book)) => (book, Err(OperationFault::Desk(fault))),
+            Err(fault) => (book, Err(fault)),
         }
+    }
+}
+
+/// What is done at a desk, with what it needs besides.
+#[derive(Drop)]
+struct Prepared<'a, T, M> {
+    terms: Terms<'a>,
+    operation: T,
+    means: M,
+}
+
+/// Opens a desk over a book, and does it there.
+fn perform_prepared<B: Book + Drop, G: Signer, I, O, T: DeskOperation<I, O>>(
+    prepared: Prepared<'_, T, T::Means>,
+    rt: &HostRuntime,
+    book: B,
+    signer: &mut G,
+    input: &mut I,
+    output: &mut O,
+) -> (B, Result<T::Answer, OperationFault>)
+    ensures answered { IfOk result.1 (T.answers prepared.entry.operation (policy_view prepared.entry.terms.policy.now)
+        input.old input.new output.old output.new) }
+    ensures moved { IfOk result.1 (λ answer. IsVisited B.Standing (setting_of prepared.entry.terms)
+        (G.algorithm_octets signer.old) G.algorithm_octets book result.0 (λ desk desk' signer signer'.
+        T.moves B G B.Standing G.Signer prepared.entry.operation
+        (visit_of input.old input.new output.old output.new desk desk' signer signer') answer)) }
+    ensures unmoved { IfErr result.1 (IsUnopened B.Standing (setting_of prepared.entry.terms) book result.0) }
+    ensures unread { OnErr result.1 ((input.new ≡ input.old) × (output.new ≡ output.old)) }
+    ensures refusals { IfErr result.1 IsUnready }
+{
+    let Prepared {
+        terms,
+        operation,
+        means,
+    } = prepared;
+    let (policy, identity, algorithm) = (terms.policy, terms.identity, terms.algorithm);
+    match Desk::open(rt.alloc(), policy, identity, algorithm, book) {
+        Ok(desk) => {
+            let mut desk = desk;
+            let answer = operation.perform(means, rt, &mut desk, signer, input, output);
+            (desk.into_store(), Ok(answer))
+        }
+        Err((fault, book)) => (book, Err(OperationFault::Desk(fault))),
     }
 }
 
@@ -139,27 +182,30 @@ fn ready<'a, I, O, T: DeskOperation<I, O>>(
 /// refuses it. Nothing is done then.
 pub(crate) fn perform_at_desk<F: Start + Drop, I, O, T: DeskOperation<I, O>>(
     rt: &HostRuntime,
-    path: &str,
-    start: F,
-    terms: Terms<'_>,
-    signing: Signing<'_>,
+    desk: DatabaseDesk<'_, F>,
     renewal: Renewal,
     operation: T,
     input: &mut I,
     output: &mut O,
 ) -> Result<T::Answer, OperationFault>
-    ensures answered { IfOk result (T.answers operation (policy_view terms.entry.policy.now) input.old input.new
+    ensures answered { IfOk result (T.answers operation (policy_view desk.entry.terms.policy.now) input.old input.new
         output.old output.new) }
 
     // Whatever the files hold: it was done at a desk over the store that was opened over them.
     ensures moved { IfOk result (λ answer. IsVisitedOver ⟦<FileFrom<F> as Disk>⟧ (image_at F.Start)
-        ⟦<HostSigner<'static> as Signer>⟧ (setting_of terms.entry) (algorithm_of signing.entry)
+        ⟦<HostSigner<'static> as Signer>⟧ (setting_of desk.entry.terms) (algorithm_of desk.entry.signing)
         (λ desk desk' signer signer'. T.moves _ _ (over_tables over_files) ⟦<HostSigner<'static> as Signer>⟧ operation
         (visit_of input.old input.new output.old output.new desk desk' signer signer') answer)) }
     ensures unread { OnErr result (input.new ≡ input.old) }
     ensures unwritten { OnErr result (output.new ≡ output.old) }
     ensures refusals { IfErr result (λ fault. IsStartingFault fault ⊎ T.lacks fault) }
 {
+    let DatabaseDesk {
+        path,
+        start,
+        terms,
+        signing,
+    } = desk;
     let at_desk = AtDesk {
         terms,
         signing,

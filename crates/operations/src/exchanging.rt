@@ -9,11 +9,11 @@ ghost use Rattle.operations.specs.Signing.{algorithm_of};
 ghost use Rattle.operations.specs.OverFiles.{IsServedOver};
 ghost use Rattle.operations.specs.Visits.{setting_of, turn_of};
 
+use crate::database_desk::DatabaseDesk;
 use crate::desk_operation::{DeskOperation, perform_at_desk};
 use crate::fault::OperationFault;
 use crate::reached::HostSigner;
-use crate::signing::{Renewal, Signing};
-use crate::terms::Terms;
+use crate::signing::Renewal;
 use book::Book;
 use cms::Signer;
 use desk::Desk;
@@ -64,36 +64,25 @@ impl<R: Read, W: Write> DeskOperation<R, W> for OneRequest {
 /// reading is the clock's, in microseconds. Refused as `answer`; nothing is read or written then.
 pub fn exchange<F: Start + Drop, R: Read, W: Write>(
     rt: &HostRuntime,
-    path: &str,
-    start: F,
-    terms: Terms<'_>,
-    signing: Signing<'_>,
+    desk: DatabaseDesk<'_, F>,
     reading: i64,
     reader: &mut R,
     writer: &mut W,
 ) -> Result<Served, OperationFault>
-    ensures exchanged { IfOk result (Exchanges (policy_view terms.entry.policy.now) reading
+    ensures exchanged { IfOk result (Exchanges (policy_view desk.entry.terms.policy.now) reading
         (R.remaining reader.old) (R.remaining reader.new) (W.contents writer.old) (W.contents writer.new)) }
 
     // Whatever the files hold: the request is served at a desk over the store that was opened over them.
     ensures served { IfOk result (IsServedOver ⟦<FileFrom<F> as Disk>⟧ (image_at F.Start)
-        ⟦<HostSigner<'static> as Signer>⟧ (setting_of terms.entry) (algorithm_of signing.entry) W.contents reading
+        ⟦<HostSigner<'static> as Signer>⟧ (setting_of desk.entry.terms) (algorithm_of desk.entry.signing)
+        W.contents reading
         (R.remaining reader.old) (R.remaining reader.new) writer.old writer.new) }
     ensures unread { OnErr result (R.remaining reader.new ≡ R.remaining reader.old) }
     ensures unwritten { OnErr result (W.contents writer.new ≡ W.contents writer.old) }
     ensures refusals { IfErr result IsStartingFault }
 {
-    let served = perform_at_desk(
-        rt,
-        path,
-        start,
-        terms,
-        signing,
-        Renewal::Never,
-        OneRequest { reading },
-        reader,
-        writer,
-    );
+    let asked = OneRequest { reading };
+    let served = perform_at_desk(rt, desk, Renewal::Never, asked, reader, writer);
     match served {
         Ok(served) => Ok(served),
         Err(fault) => Err(fault),

@@ -4,6 +4,7 @@
 mod adding;
 mod answering;
 mod auditing;
+mod database_desk;
 mod desk_operation;
 mod exchanging;
 mod fault;
@@ -17,6 +18,7 @@ mod terms;
 pub use adding::{Addition, add};
 pub use answering::{Question, answer};
 pub use auditing::{AuditFault, Inquiry, audit, check_stamps};
+pub use database_desk::DatabaseDesk;
 pub use exchanging::exchange;
 pub use fault::OperationFault;
 pub use opening::{init, migrate};

@@ -7,11 +7,11 @@ ghost use Rattle.operations.specs.Signing.{algorithm_of};
 ghost use Rattle.operations.specs.OverFiles.{AreServedOver};
 ghost use Rattle.operations.specs.Visits.{setting_of};
 
+use crate::database_desk::DatabaseDesk;
 use crate::desk_operation::{DeskOperation, perform_at_desk};
 use crate::fault::OperationFault;
 use crate::reached::HostSigner;
-use crate::signing::{Renewal, Signing};
-use crate::terms::Terms;
+use crate::signing::Renewal;
 use book::Book;
 use cms::Signer;
 use connections::{CONNECTION_SECONDS, Clock, Listening, SystemClock, serve_connections};
@@ -69,21 +69,18 @@ impl DeskOperation<(), ()> for Serving<'_> {
 /// several connections at once, and with `Clock` where the clock fails; those that were served before stand.
 pub fn serve<F: Start + Drop>(
     rt: &HostRuntime,
-    path: &str,
-    start: F,
-    terms: Terms<'_>,
-    signing: Signing<'_>,
+    desk: DatabaseDesk<'_, F>,
     address: &str,
     connections: u32,
 ) -> Result<(), OperationFault>
     // Whatever the files hold: the connections are served at a desk over the store that was opened over them.
     ensures served { IfOk result (λ _. AreServedOver ⟦<FileFrom<F> as Disk>⟧ (image_at F.Start)
-        ⟦<HostSigner<'static> as Signer>⟧ (setting_of terms.entry) (algorithm_of signing.entry)
+        ⟦<HostSigner<'static> as Signer>⟧ (setting_of desk.entry.terms) (algorithm_of desk.entry.signing)
         ⟦<SystemClock<'static, HostRuntime> as Clock>⟧.reads connections result) }
 
     // So are those before the clock failed.
     ensures stopped { result ≡ Err OperationFault.Clock → AreServedOver ⟦<FileFrom<F> as Disk>⟧ (image_at F.Start)
-        ⟦<HostSigner<'static> as Signer>⟧ (setting_of terms.entry) (algorithm_of signing.entry)
+        ⟦<HostSigner<'static> as Signer>⟧ (setting_of desk.entry.terms) (algorithm_of desk.entry.signing)
         ⟦<SystemClock<'static, HostRuntime> as Clock>⟧.reads connections result }
     ensures refusals { IfErr result IsServingFault }
 {
@@ -91,18 +88,7 @@ pub fn serve<F: Start + Drop>(
         address,
         connections,
     };
-    let served = perform_at_desk(
-        rt,
-        path,
-        start,
-        terms,
-        signing,
-        Renewal::AfterLoss,
-        serving,
-        &mut (),
-        &mut (),
-    );
-    match served {
+    match perform_at_desk(rt, desk, Renewal::AfterLoss, serving, &mut (), &mut ()) {
         Ok(done) => done,
         Err(fault) => Err(fault),
     }

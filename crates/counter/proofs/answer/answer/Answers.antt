@@ -1,70 +1,35 @@
-use Rattle.std.proofs.Common.{◌≡◌, ◌<◌, ◌^◌, ap, refl, rules, w64}
-use Rattle.std.proofs.lemmas.Int.{to_z_pos}
 use Rattle.std.proofs.lemmas.Option.{IfSome_then}
-use Rattle.der.specs.Node.{encoding}
-use Rattle.desk.specs.Answers.{reply_as}
-use Rattle.desk.specs.Command as answer
-use Rattle.desk.specs.Calls.{in_force_of}
+use Rattle.std.proofs.lemmas.Result.{IfOk-weaker}
+use Rattle.desk.specs.Calls.{setting_of}
 use Rattle.desk.specs.Command.{Setting}
-use Rattle.desk.specs.declared.reply.Reply.{Reply}
-use Rattle.desk.specs.declared.reply.Reply.TheVariants.{Granted, Rejected}
-use Rattle.policy.specs.View.{policy_view}
-use Rattle.tsp.specs.Rejection.{rejection}
-use Rattle.tsp.specs.declared.rule.Rule.{Rule}
 use Rattle.counter.specs.Desks.{IsSettingOf}
-use Rattle.counter.specs.Replies.{IsReplyOf, octets_of}
 use Rattle.counter.proofs.answer.answer.Goals as goal
-
-rejected_octets : (reply : Reply) (rule : Rule) → reply_as reply ≡ answer.Rejected rule
-    → octets_of reply ≡ encoding (rejection rule)
-rejected_octets (Granted serial bytes) rule is = cc
-rejected_octets (Rejected rejected) rule is =
-    let same : rejected.rule ≡ rule = cc in
-    ap (λ r. encoding (rejection r)) same
-
--- the octets are those of the machine's reply
-reply_octets : (reply : Reply) → IsReplyOf (reply_as reply) (octets_of reply)
-reply_octets (Granted serial bytes) = refl
-reply_octets (Rejected rejected) = refl
 
 pub returns : goal.returns
 returns g c =
+    let files = c.in_ok-policy.field-0 in
     let meant = c.in_ok-policy.ensures.meant in
-    let policy = policy_view c.in_ok-policy.field-0.policy in
-    let judged = rw (c.in_ok-account.ensures.found, c.as_slice.ensures.value) at c.in_ok-answer.ensures.judged in
-    let small : c.args.words.now.reading < 2 ^ 63 = search rules in
-    let stepped = rw (
-      c.in_ok-account.ensures.found,
-      c.as_slice.ensures.value,
-      to_z_pos w64 c.args.words.now.reading small,
-    ) at c.in_ok-answer.ensures.stepped
-    in
-    let setting : Setting =
-    record {
-      file = policy;
-      in_force = in_force_of c.in_ok-policy.field-0.identity c.in_ok-policy.field-0.algorithm;
-    }
-    in
-    let set : IsSettingOf c.args.words.now.desk setting =
-    record {
+    let setting : Setting = setting_of files.policy files.identity files.algorithm in
+    let set : IsSettingOf c.args.words.now.desk setting = record {
       rules = meant.0;
       meant = meant.1;
       identity = c.in_ok-policy.ensures.identity;
       alone = c.in_ok-policy.ensures.alone;
-      signing = c.in_ok-policy.field-0.signing;
+      signing = files.signing;
       signs = c.in_ok-policy.ensures.signs;
       algorithm = c.in_ok-policy.ensures.algorithm;
-    }
-    in
-    IfSome_then (g.I.Read.remaining c.args.input.now) c.in_ok-query.ensures.found
-    (λ text spelled. record {
+    } in
+    IfOk-weaker c.answer_at.result _ _
+    (λ reply known. IfSome_then (g.I.Read.remaining c.args.input.now) known
+    (λ text it. record {
       setting = setting;
       set = set;
-      known = c.in_ok-account.ensures.known;
-      query = c.in_ok-query.query.items;
-      spelled = spelled;
-      judged = λ rule first. rejected_octets c.in_ok-answer.field-0 rule (judged rule first);
-      answer = reply_as c.in_ok-answer.field-0;
-      says = reply_octets c.in_ok-answer.field-0;
-      stepped = stepped;
-    })
+      known = it.known;
+      query = it.query;
+      spelled = it.spelled;
+      judged = it.judged;
+      answer = it.answer;
+      says = it.says;
+      stepped = it.stepped;
+    }))
+    c.answer_at.ensures

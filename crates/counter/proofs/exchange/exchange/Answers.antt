@@ -1,187 +1,92 @@
-use Rattle.std.proofs.Common.{rules, ◌∙◌, ◌<◌, ◌^◌, ap, inl, inr, pos, refl, w64}
+use Rattle.std.proofs.Common.{rules, ◌<◌, ◌^◌, inl, inr, pos, w64}
 use Rattle.std.proofs.lemmas.Int.{to_z_pos}
-use Rattle.std.proofs.lemmas.Result.{err_from_is_err_and}
-use Rattle.desk.specs.Calls.{in_force_of}
+use Rattle.std.proofs.lemmas.Result.{IfErr-weaker, on_ok_weaker}
+use Rattle.desk.specs.Calls.{setting_of}
 use Rattle.desk.specs.Command.{Setting}
 use Rattle.policy.specs.View.{policy_view}
 use Rattle.counter.specs.Desks.{IsSettingOf}
-use Rattle.counter.specs.declared.fault.Fault.TheVariants.{Input}
-use Rattle.counter.proofs.Exchanging.{writes_nothing, writes_all, writes_unflushed, writes_part}
+use Rattle.counter.specs.Fault.{fault_of_operation}
+use Rattle.counter.proofs.Exchanging.{ended, stopped}
+use Rattle.counter.proofs.Operating.{told, told_refusal}
 use Rattle.counter.proofs.exchange.exchange.Goals as goal
 
-pub returns-in-Closed-clause-answered : goal.returns-in-Closed-clause-answered
-returns-in-Closed-clause-answered g c =
+pub returns-clause-answered : goal.returns-clause-answered
+returns-clause-answered g c =
+    let files = c.in_ok-policy.field-0 in
     let meant = c.in_ok-policy.ensures.meant in
-    let policy = policy_view c.in_ok-policy.field-0.policy in
-    let reading = pos c.args.words.now.reading in
-    let old = g.I.Read.remaining c.args.input.now in
-    let new = g.I.Read.remaining c.exchange.new.reader in
-    let before = g.O.Write.contents c.args.output.now in
-    let after = g.O.Write.contents c.exchange.new.writer in
     let small : c.args.words.now.reading < 2 ^ 63 = search rules in
-    let setting : Setting =
-    record {
-      file = policy;
-      in_force = in_force_of c.in_ok-policy.field-0.identity c.in_ok-policy.field-0.algorithm;
-    }
-    in
-    let set : IsSettingOf c.args.words.now.desk setting =
-    record {
+    let setting : Setting = setting_of files.policy files.identity files.algorithm in
+    let set : IsSettingOf c.args.words.now.desk setting = record {
       rules = meant.0;
       meant = meant.1;
       identity = c.in_ok-policy.ensures.identity;
       alone = c.in_ok-policy.ensures.alone;
-      signing = c.in_ok-policy.field-0.signing;
+      signing = files.signing;
       signs = c.in_ok-policy.ensures.signs;
       algorithm = c.in_ok-policy.ensures.algorithm;
-    }
-    in
-    let stepped = rw (to_z_pos w64 c.args.words.now.reading small) at c.in_ok-served.ensures.served in
-    let served = rw (to_z_pos w64 c.args.words.now.reading small, c.in-Closed.is) at c.in_ok-served.ensures.exchanged in
+    } in
+    let written = rw (to_z_pos w64 c.args.words.now.reading small) at c.exchange.ensures.exchanged in
+    let moved = rw (to_z_pos w64 c.args.words.now.reading small) at c.exchange.ensures.served in
+    let answered = c.answer_of-served.ensures in
+    let text = told fault_of_operation c.exchange.result c.answer_of-served.result _ answered written in
+    let served = told fault_of_operation c.exchange.result c.answer_of-served.result _ answered moved in
+    on_ok_weaker c.finish.result
+    (λ end.
+    let known = ended (policy_view files.policy) (pos c.args.words.now.reading) (g.I.Read.remaining c.args.input.now)
+    (g.I.Read.remaining c.exchange.new.reader) (g.O.Write.contents c.args.output.now)
+    (g.O.Write.contents c.exchange.new.writer) (g.O.Write.contents c.finish.new.output)
+    c.answer_of-served.result _ text served end in
     record {
       setting = setting;
       set = set;
+      writes = known.1;
       written = c.exchange.new.writer;
-      outcome = c.in_ok-served.served;
-      served = stepped;
-      writes = writes_nothing policy reading old new before after served;
-    }
-
-pub returns-in_err-flush-in-Answered-clause-kept : goal.returns-in_err-flush-in-Answered-clause-kept
-returns-in_err-flush-in-Answered-clause-kept g c =
-    let failing =
-    err_from_is_err_and c.from_residual-in_err-flush-in-Answered.result
-    c.from_residual-in_err-flush-in-Answered.ensures.1
-    in
-    let meant = c.in_ok-policy.ensures.meant in
-    let policy = policy_view c.in_ok-policy.field-0.policy in
-    let reading = pos c.args.words.now.reading in
-    let old = g.I.Read.remaining c.args.input.now in
-    let new = g.I.Read.remaining c.exchange.new.reader in
-    let before = g.O.Write.contents c.args.output.now in
-    let mid = g.O.Write.contents c.exchange.new.writer in
-    let after = g.O.Write.contents c.flush.new.output in
-    let small : c.args.words.now.reading < 2 ^ 63 = search rules in
-    let setting : Setting =
-    record {
-      file = policy;
-      in_force = in_force_of c.in_ok-policy.field-0.identity c.in_ok-policy.field-0.algorithm;
-    }
-    in
-    let set : IsSettingOf c.args.words.now.desk setting =
-    record {
-      rules = meant.0;
-      meant = meant.1;
-      identity = c.in_ok-policy.ensures.identity;
-      alone = c.in_ok-policy.ensures.alone;
-      signing = c.in_ok-policy.field-0.signing;
-      signs = c.in_ok-policy.ensures.signs;
-      algorithm = c.in_ok-policy.ensures.algorithm;
-    }
-    in
-    let stepped = rw (to_z_pos w64 c.args.words.now.reading small) at c.in_ok-served.ensures.served in
-    let served = rw (to_z_pos w64 c.args.words.now.reading small, c.in-Answered.is) at c.in_ok-served.ensures.exchanged
-    in
-    rw failing.1
-    (inr (
-      failing.2 ∙ ap Input c.in_err-flush-in-Answered.ensures.faults,
-      record {
-        setting = setting;
-        set = set;
-        written = c.exchange.new.writer;
-        outcome = c.in_ok-served.served;
-        served = stepped;
-        writes =
-            writes_unflushed policy reading old new before mid after c.in-Answered.field-0 served c.flush.ensures.kept;
-      },
-    ))
-
-pub returns-in-Answered-clause-answered : goal.returns-in-Answered-clause-answered
-returns-in-Answered-clause-answered g c =
-    let meant = c.in_ok-policy.ensures.meant in
-    let policy = policy_view c.in_ok-policy.field-0.policy in
-    let reading = pos c.args.words.now.reading in
-    let old = g.I.Read.remaining c.args.input.now in
-    let new = g.I.Read.remaining c.exchange.new.reader in
-    let before = g.O.Write.contents c.args.output.now in
-    let mid = g.O.Write.contents c.exchange.new.writer in
-    let after = g.O.Write.contents c.flush.new.output in
-    let small : c.args.words.now.reading < 2 ^ 63 = search rules in
-    let setting : Setting =
-    record {
-      file = policy;
-      in_force = in_force_of c.in_ok-policy.field-0.identity c.in_ok-policy.field-0.algorithm;
-    }
-    in
-    let set : IsSettingOf c.args.words.now.desk setting =
-    record {
-      rules = meant.0;
-      meant = meant.1;
-      identity = c.in_ok-policy.ensures.identity;
-      alone = c.in_ok-policy.ensures.alone;
-      signing = c.in_ok-policy.field-0.signing;
-      signs = c.in_ok-policy.ensures.signs;
-      algorithm = c.in_ok-policy.ensures.algorithm;
-    }
-    in
-    let stepped = rw (to_z_pos w64 c.args.words.now.reading small) at c.in_ok-served.ensures.served in
-    let served = rw (to_z_pos w64 c.args.words.now.reading small, c.in-Answered.is) at c.in_ok-served.ensures.exchanged
-    in
-    record {
-      setting = setting;
-      set = set;
-      written = c.exchange.new.writer;
-      outcome = c.in_ok-served.served;
-      served = stepped;
-      writes = writes_all policy reading old new before mid after c.in-Answered.field-0 served c.flush.ensures.kept;
-    }
+      outcome = known.0.0;
+      served = known.0.1;
+    })
+    c.finish.ensures.ended
 
 pub returns-clause-kept : goal.returns-clause-kept
 returns-clause-kept g c =
-    elim c.in-ReadFailed.is [
-      | inl unread ↦
-          let served = rw unread at c.in_ok-served.ensures.exchanged in
-          inl served.1
-      | inr unwritten ↦
-          let meant = c.in_ok-policy.ensures.meant in
-          let policy = policy_view c.in_ok-policy.field-0.policy in
-          let reading = pos c.args.words.now.reading in
-          let old = g.I.Read.remaining c.args.input.now in
-          let new = g.I.Read.remaining c.exchange.new.reader in
-          let before = g.O.Write.contents c.args.output.now in
-          let after = g.O.Write.contents c.exchange.new.writer in
-          let small : c.args.words.now.reading < 2 ^ 63 = search rules in
-          let setting : Setting =
-          record {
-            file = policy;
-            in_force = in_force_of c.in_ok-policy.field-0.identity c.in_ok-policy.field-0.algorithm;
-          }
-          in
-          let set : IsSettingOf c.args.words.now.desk setting =
-          record {
-            rules = meant.0;
-            meant = meant.1;
-            identity = c.in_ok-policy.ensures.identity;
-            alone = c.in_ok-policy.ensures.alone;
-            signing = c.in_ok-policy.field-0.signing;
-            signs = c.in_ok-policy.ensures.signs;
-            algorithm = c.in_ok-policy.ensures.algorithm;
-          }
-          in
-          let stepped = rw (to_z_pos w64 c.args.words.now.reading small) at c.in_ok-served.ensures.served in
-          let served =
-          rw (to_z_pos w64 c.args.words.now.reading small, unwritten.2) at
-          c.in_ok-served.ensures.exchanged
-          in
+    let files = c.in_ok-policy.field-0 in
+    let meant = c.in_ok-policy.ensures.meant in
+    let small : c.args.words.now.reading < 2 ^ 63 = search rules in
+    let setting : Setting = setting_of files.policy files.identity files.algorithm in
+    let set : IsSettingOf c.args.words.now.desk setting = record {
+      rules = meant.0;
+      meant = meant.1;
+      identity = c.in_ok-policy.ensures.identity;
+      alone = c.in_ok-policy.ensures.alone;
+      signing = files.signing;
+      signs = c.in_ok-policy.ensures.signs;
+      algorithm = c.in_ok-policy.ensures.algorithm;
+    } in
+    let written = rw (to_z_pos w64 c.args.words.now.reading small) at c.exchange.ensures.exchanged in
+    let moved = rw (to_z_pos w64 c.args.words.now.reading small) at c.exchange.ensures.served in
+    let answered = c.answer_of-served.ensures in
+    let text = told fault_of_operation c.exchange.result c.answer_of-served.result _ answered written in
+    let served = told fault_of_operation c.exchange.result c.answer_of-served.result _ answered moved in
+    let untouched = IfErr-weaker c.answer_of-served.result _ _ (λ fault it. it.1)
+    (told_refusal fault_of_operation c.exchange.result c.answer_of-served.result _ answered
+    c.exchange.ensures.unwritten) in
+    IfErr-weaker c.finish.result _ _
+    (λ fault stop.
+    elim (stopped (policy_view files.policy) (pos c.args.words.now.reading) (g.I.Read.remaining c.args.input.now)
+    (g.I.Read.remaining c.exchange.new.reader) (g.O.Write.contents c.args.output.now)
+    (g.O.Write.contents c.exchange.new.writer) (g.O.Write.contents c.finish.new.output)
+    c.answer_of-served.result _ fault text served untouched stop) [
+      | inl same ↦ inl same
+      | inr known ↦
           inr (
-            refl,
+            known.0,
             record {
               setting = setting;
               set = set;
+              writes = known.1.1;
               written = c.exchange.new.writer;
-              outcome = c.in_ok-served.served;
-              served = stepped;
-              writes = writes_part policy reading old new before after unwritten.0 unwritten.1 served;
+              outcome = known.1.0.0;
+              served = known.1.0.1;
             },
           )
-    ]
+    ])
+    c.finish.ensures.stopped

@@ -1,6 +1,6 @@
 use Rattle.std.proofs.Common.{inl, inr, sym, subst}
 use Rattle.std.proofs.lemmas.Result.{err_from_is_err_and}
-use Rattle.counter.specs.Fault.{IsFileFault}
+use Rattle.console.specs.Fault.{IsFileFault}
 use Rattle.counter.proofs.files.read_files.Goals as goal
 
 pub returns-in_err-algorithm-clause-faults : goal.returns-in_err-algorithm-clause-faults

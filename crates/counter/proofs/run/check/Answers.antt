@@ -1,8 +1,8 @@
 use Rattle.std.proofs.Common.{◌∙◌, Err, refl, ap, inl, inr}
 use Rattle.std.proofs.lemmas.Result.{err_from_is_err_and}
 use Rattle.policy.specs.View.{policy_view}
-use Rattle.counter.specs.Counts.{Counts, counts_line}
-use Rattle.counter.specs.declared.fault.Fault.TheVariants.{Input}
+use Rattle.console.specs.Counts.{Counts, counts_line}
+use Rattle.console.specs.declared.fault.Fault.TheVariants.{Input}
 use Rattle.counter.proofs.run.check.Goals as goal
 
 pub returns-in_err-write_counts-clause-kept : goal.returns-in_err-write_counts-clause-kept

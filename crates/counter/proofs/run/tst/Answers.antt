@@ -1,9 +1,9 @@
 use Rattle.std.proofs.Common.{◌∙◌, Err, refl, ap, inl, inr}
 use Rattle.std.proofs.lemmas.Option.{IfSome_then}
 use Rattle.std.proofs.lemmas.Result.{err_from_is_err_and}
-use Rattle.counter.specs.Hexadecimal.{line}
-use Rattle.counter.specs.Settings.{settings_value}
-use Rattle.counter.specs.declared.fault.Fault.TheVariants.{Input}
+use Rattle.console.specs.Hexadecimal.{line}
+use Rattle.console.specs.Settings.{settings_value}
+use Rattle.console.specs.declared.fault.Fault.TheVariants.{Input}
 use Rattle.counter.proofs.run.tst.Goals as goal
 
 pub returns-in_err-write_octets-clause-kept : goal.returns-in_err-write_octets-clause-kept

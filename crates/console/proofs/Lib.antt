@@ -1,0 +1,5 @@
+pub mod Algorithms
+pub mod Digits
+pub mod Judging
+pub mod Rows
+pub mod Writing

@@ -1,0 +1,9 @@
+pub mod Accounts
+pub mod Counts
+pub mod Fault
+pub mod Hexadecimal
+pub mod Identity
+pub mod Known
+pub mod Settings
+pub mod Tst
+pub mod Writing

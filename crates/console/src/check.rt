@@ -1,0 +1,85 @@
+//! What a policy file has.
+ghost use Rattle.std.specs.Prelude.{◌≡◌, ◌⊎◌, List, ℕ, Ok, Err, OnOk, IfOk, IfErr, ◌∷◌, [], string_bytes};
+ghost use Rattle.std.specs.Fmt.{decimal};
+ghost use Rattle.std.specs.Io.KnownBytes.{Appends};
+ghost use Rattle.policy.specs.Answers.{IsFirstFault};
+ghost use Rattle.policy.specs.Meaning.{meaning_of};
+ghost use Rattle.policy.specs.View.{policy_view};
+ghost use Rattle.policy.specs.declared.fault.PolicyFault.{PolicyFault};
+ghost use Rattle.console.specs.Counts.{counts_line, line_of_words};
+ghost use Rattle.console.specs.Writing.{Begins};
+
+use crate::fault::{Fault, InputFault};
+use crate::output::write_text;
+use policy::Policy;
+use std::alloc::{AllocError, Global};
+use std::io::Write;
+use std::rt::HostRuntime;
+use std::{fs, io};
+
+/// Reads a policy file. One that can't be read or isn't UTF-8 is `input` 2, and one that is no policy file `policy`
+/// with the number of its first fault. Where memory runs out it is `input` 7 over the file, and `policy` 7 over what
+/// the file says.
+pub fn read_policy(rt: &HostRuntime, path: &str) -> Result<Policy, Fault>
+    // No contract says what a file holds. So the policy is the meaning of some text, and a fault the first of some
+    // text.
+    ensures meant { IfOk result (λ policy. (text : List ℕ) × (meaning_of text ≡ Ok (policy_view policy))) }
+    ensures faults { IfErr result (λ fault. (fault ≡ Fault.Input InputFault.File)
+        ⊎ ((fault ≡ Fault.Input InputFault.Memory)
+        ⊎ ((text : List ℕ) × ((first : PolicyFault) × (fault ≡ Fault.Policy first)
+        × IsFirstFault first (meaning_of text))))) }
+{
+    let text = read_text(rt, path)?;
+    Ok(Policy::from_text(rt.alloc(), text.as_str())?)
+}
+
+fn read_text(rt: &HostRuntime, path: &str) -> Result<String, InputFault>
+    ensures { IfErr result (λ fault. (fault ≡ InputFault.File) ⊎ (fault ≡ InputFault.Memory)) }
+{
+    match fs::read_to_string(rt, path) {
+        Ok(text) => Ok(text),
+        Err(error) if error.kind() == io::ErrorKind::OutOfMemory => Err(InputFault::Memory),
+        Err(_) => Err(InputFault::File),
+    }
+}
+
+/// Writes the numbers of algorithms, extensions, policies and accounts as one line. A write that fails is `Failed`: a
+/// beginning of the line was written then. `Memory` where memory runs out, before anything is written.
+pub fn write_counts<W: Write>(
+    alloc: Global,
+    policy: &Policy,
+    output: &mut W,
+) -> Result<(), InputFault>
+    ensures written { OnOk result (Appends (W.contents output.old) (W.contents output.new)
+        (counts_line (policy_view policy.now))) }
+    ensures begun { result ≡ Err InputFault.Failed
+        → Begins (W.contents output.old) (W.contents output.new) (counts_line (policy_view policy.now)) }
+    ensures kept { result ≡ Err InputFault.Memory → W.contents output.new ≡ W.contents output.old }
+    ensures faults { IfErr result (λ fault. (fault ≡ InputFault.Failed) ⊎ (fault ≡ InputFault.Memory)) }
+{
+    let line = counts(alloc, policy)?;
+    write_text(line.as_str(), output)
+}
+
+fn counts(alloc: Global, policy: &Policy) -> Result<String, AllocError>
+    ensures { IfOk result (λ line. string_bytes line ≡ counts_line (policy_view policy.now)) }
+{
+    let algorithms = policy.algorithms.as_slice().len();
+    let extensions = policy.extensions.as_slice().len();
+    let policies = policy.policies.as_slice().len();
+    let accounts = policy.accounts.as_slice().len();
+    line_of_four(alloc, algorithms, extensions, policies, accounts)
+}
+
+fn line_of_four(
+    alloc: Global,
+    first: usize,
+    second: usize,
+    third: usize,
+    fourth: usize,
+) -> Result<String, AllocError>
+    ensures { IfOk result (λ line. string_bytes line
+        ≡ line_of_words (decimal first ∷ decimal second ∷ decimal third ∷ decimal fourth ∷ [])) }
+{
+    format!(in alloc; "{first} {second} {third} {fourth}\n")
+}

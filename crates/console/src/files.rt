@@ -1,0 +1,95 @@
+//! The files that say whose certificate tokens name, and who signs.
+ghost use Rattle.std.specs.Prelude.{◌≡◌, ◌⊎◌, ◌≤◌, [], length, None, IfOk, IfErr};
+ghost use Rattle.cms.specs.Certificate.{IsAlgorithm};
+ghost use Rattle.console.specs.Fault.{IsFileFault};
+ghost use Rattle.console.specs.Identity.{IsIdentity};
+
+use crate::fault::{Fault, InputFault};
+use cms::{Algorithm, Identity, KeyedHash};
+use std::fs::File;
+use std::io::{self, Read};
+use std::rt::HostRuntime;
+
+/// One octet more than a certificate may have.
+const BEYOND_A_CERTIFICATE: u64 = 16_385;
+
+/// One octet more than an AlgorithmIdentifier may have.
+const BEYOND_AN_ALGORITHM: u64 = 257;
+
+/// So many octets of a chain decide how it is refused: two certificates, one value more of the most contents that a
+/// value has, and an octet behind that.
+const MOST_OF_A_CHAIN: u64 = 2 * 16_384 + 5 + 16_777_215 + 1;
+
+/// The most octets of a signing key.
+const MOST_OF_A_KEY: usize = 256;
+
+/// Reads a certificate, and then its chain, where a file is named for one. A file that can't be read is `input` 2. One
+/// that is no certificate or no chain of some, or that has a certificate of more than 16,384 octets, more than three in
+/// the chain, or one twice, is `cms` with the number of its refusal. Where memory runs out it is `input` 7 over a file,
+/// and `cms` 3 over what it has.
+pub fn read_identity(rt: &HostRuntime, path: &str, chain: Option<&str>) -> Result<Identity, Fault>
+    // No contract says what a file holds. So the identity is that of some certificate and some chain.
+    ensures found { IfOk result IsIdentity }
+    ensures alone { chain.entry ≡ None → IfOk result (λ identity. identity.chain ≡ []) }
+    ensures faults { IfErr result IsFileFault }
+{
+    let certificate = read_beginning(rt, path, BEYOND_A_CERTIFICATE)?;
+    let chain = read_chain(rt, certificate.as_slice(), chain)?;
+    Ok(Identity::from_parts(rt.alloc(), certificate.as_slice(), chain.as_slice())?)
+}
+
+/// Reads the chain of a certificate, none where no file is named. What is wrong with the certificate is told before the
+/// file is looked for.
+fn read_chain(rt: &HostRuntime, certificate: &[u8], path: Option<&str>) -> Result<Vec<u8>, Fault>
+    ensures none { path.entry ≡ None → IfOk result (λ octets. octets.items ≡ []) }
+    ensures faults { IfErr result IsFileFault }
+{
+    let Some(path) = path else {
+        return Ok(Vec::new(rt.alloc()));
+    };
+    Identity::from_certificate(rt.alloc(), certificate)?;
+    Ok(read_beginning(rt, path, MOST_OF_A_CHAIN)?)
+}
+
+/// Reads the key of the stand-in signer. A file that can't be read, or hasn't 1 to 256 octets, is `input` 2. Where
+/// memory runs out it is `input` 7 over the file, and `cms` 3 over the signer.
+pub fn read_signer(rt: &HostRuntime, path: &str) -> Result<KeyedHash, Fault>
+    ensures some { IfOk result (λ signer. 1 ≤ length signer) }
+    ensures few { IfOk result (λ signer. length signer ≤ 256) }
+    ensures faults { IfErr result IsFileFault }
+{
+    let key = read_beginning(rt, path, MOST_OF_A_KEY as u64 + 1)?;
+    if key.is_empty() || key.len() > MOST_OF_A_KEY {
+        return Err(Fault::Input(InputFault::File));
+    }
+    Ok(KeyedHash::new(rt.alloc(), key.as_slice())?)
+}
+
+/// Reads an algorithm. A file that can't be read is `input` 2, and one that is no AlgorithmIdentifier, or one of more
+/// than 256 octets, `cms` with the number of its refusal. Where memory runs out it is `input` 7 over the file, and
+/// `cms` 3 over the algorithm.
+pub fn read_algorithm(rt: &HostRuntime, path: &str) -> Result<Algorithm, Fault>
+    // No contract says what a file holds. So it is some algorithm.
+    ensures found { IfOk result (λ algorithm. (length algorithm ≤ 256) × IsAlgorithm algorithm) }
+    ensures faults { IfErr result IsFileFault }
+{
+    let octets = read_beginning(rt, path, BEYOND_AN_ALGORITHM)?;
+    Ok(Algorithm::from_bytes(rt.alloc(), octets.as_slice())?)
+}
+
+/// The beginning of a file, so many octets where it has them.
+fn read_beginning(rt: &HostRuntime, path: &str, most: u64) -> Result<Vec<u8>, InputFault>
+    ensures { IfErr result (λ fault. (fault ≡ InputFault.File) ⊎ (fault ≡ InputFault.Memory)) }
+{
+    match read_first(rt, path, most) {
+        Ok(octets) => Ok(octets),
+        Err(error) if error.kind() == io::ErrorKind::OutOfMemory => Err(InputFault::Memory),
+        Err(_) => Err(InputFault::File),
+    }
+}
+
+fn read_first(rt: &HostRuntime, path: &str, most: u64) -> io::Result<Vec<u8>> {
+    let mut octets = Vec::new(rt.alloc());
+    File::open(rt, path)?.take(most).read_to_end(&mut octets)?;
+    Ok(octets)
+}

@@ -1,0 +1,88 @@
+//! The reply to a request where no account, policy file or clock is asked.
+ghost use Rattle.std.specs.Prelude.{◌≡◌, unwrap_or, IfSome, IfOk, IfErr};
+ghost use Rattle.der.specs.Node.{encoding};
+ghost use Rattle.der.specs.ObjectIdentifier.{IsOid};
+ghost use Rattle.tsp.specs.Rejection.{rejection};
+ghost use Rattle.tsp.specs.Request.{IsRequest};
+ghost use Rattle.tsp.specs.Tst.{tst_info};
+ghost use Rattle.tsp.specs.View.{request_view};
+ghost use Rattle.tsp.specs.declared.fault.TspFault.TheVariants.{Memory};
+ghost use Rattle.console.specs.Settings.{settings_value};
+ghost use Rattle.console.specs.Tst.{HasLawfulAnswers, IsReply, IsReplyFault, tst_of};
+
+use crate::fault::{Fault, InputFault};
+use crate::rules::first_failing;
+use crate::settings::Settings;
+use der::oids_have_one_content_and_text;
+use std::alloc::Global;
+use tsp::{
+    ObjectIdentifier, Rejection, Request, Rule, TspFault, read_request, requests_have_one_reading,
+    write_tst,
+};
+
+/// The reply to a request: its TSTInfo (RFC 3161 2.4.2) by these settings, where every rule holds, and else the
+/// rejection by the first rule that fails. Judged are the rules on the request's spelling, its version, its hash
+/// algorithm, of the five that are known, and its hash's length.
+///
+/// Refused only for want of memory: in place of a rejection as `input` 7, and in place of a TSTInfo as `tsp` 3.
+pub fn tst_reply(alloc: Global, query: &[u8], settings: &Settings) -> Result<Vec<u8>, Fault>
+    ensures reply { IfOk result (λ reply. IsReply (settings_value settings.now) query.now reply.items) }
+    ensures memory { IfErr result (IsReplyFault query.now) }
+{
+    requests_have_one_reading();
+    match read_request(query) {
+        Ok(request) => match first_failing(&request) {
+            None => Ok(write_reply(alloc, request, settings)?),
+            Some(rule) => Ok(write_rejection(alloc, rule)?),
+        },
+        Err(_) => Ok(write_rejection(alloc, Rule::Spelling)?),
+    }
+}
+
+/// The octets of the TSTInfo that answers the request.
+fn write_reply(
+    alloc: Global,
+    request: Request<'_>,
+    settings: &Settings,
+) -> Result<Vec<u8>, TspFault>
+    requires proper { IsRequest (request_view request) }
+    requires lawful { HasLawfulAnswers (request_view request) }
+    ensures text { IfOk result (λ reply. reply.items
+        ≡ encoding (tst_info (tst_of (settings_value settings.now) (request_view request.entry)))) }
+    ensures memory { IfErr result (λ fault. fault ≡ Memory) }
+{
+    let policy = policy_of(&request, settings);
+    let gen_time = settings.gen_time();
+    let tst = request.into_tst_info(
+        policy,
+        settings.serial,
+        gen_time,
+        settings.accuracy,
+        settings.ordering,
+        None,
+    );
+    write_tst(alloc, &tst)
+}
+
+/// The policy that the request asks for, and where it asks for none, the one of the settings.
+fn policy_of<'a>(request: &Request<'a>, settings: &'a Settings) -> ObjectIdentifier<'a>
+    requires { IfSome (request_view request.now).policy IsOid }
+    ensures { result ≡ unwrap_or (request_view request.now).policy settings.now.policy }
+{
+    oids_have_one_content_and_text();
+    let Some(content) = request.policy() else {
+        return ObjectIdentifier::of(&settings.policy);
+    };
+    match ObjectIdentifier::from_content(content) {
+        Some(policy) => policy,
+        None => unreachable!(),
+    }
+}
+
+/// The octets of the rejection.
+fn write_rejection(alloc: Global, rule: Rule) -> Result<Vec<u8>, InputFault>
+    ensures text { IfOk result (λ reply. reply.items ≡ encoding (rejection rule)) }
+    ensures memory { IfErr result (λ fault. fault ≡ InputFault.Memory) }
+{
+    Ok(Vec::from_slice(alloc, Rejection::of(rule).as_slice())?)
+}
