@@ -1,4 +1,4 @@
-/* Replies to the time-stamp request of the crate workloads with OpenSSL as many times as the words say, with another
+/* Replies to the time-stamp request of the crate trials with OpenSSL as many times as the words say, with another
  * digest each time, and prints how many replies have a token: grant reply COUNT KEY CERTIFICATE, both PEM. With `sign`
  * for `reply` only the signature is made, on as many octets as the signed attributes of such a token have. */
 #include "response.h"

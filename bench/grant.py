@@ -27,7 +27,7 @@ def seconds(path, count):
     with tempfile.TemporaryDirectory(dir=os.path.dirname(path)) as folder:
         copy = shutil.copy(path, folder)
         begun = time.monotonic()
-        counted(count, built("workloads"), "grant", str(count), copy)
+        counted(count, built("trials"), "work", "grant", str(count), copy)
         return time.monotonic() - begun
 
 
@@ -56,13 +56,16 @@ def replies(folder):
     made += ["-subj", "/CN=TSA", "-addext", "extendedKeyUsage=critical,timeStamping", "-out", certificate]
     subprocess.run(made, check=True, stderr=subprocess.DEVNULL)
     subprocess.run(["openssl", "x509", "-in", certificate, "-outform", "DER", "-out", octets], check=True)
-    ours = built("workloads")
-    peers = ((ours, "reply", octets), (openssl, "reply", key, certificate), (openssl, "sign", key, certificate))
+    peers = (
+        ((built("trials"), "work", "reply"), [octets]),
+        ((openssl, "reply"), [key, certificate]),
+        ((openssl, "sign"), [key, certificate]),
+    )
     runs = []
     for _ in range(RUNS):
         times = []
-        for program, what, *files in peers:
-            spent, started = (processor_time(count, program, what, str(count), *files) for count in (REPLIES, 0))
+        for words, files in peers:
+            spent, started = (processor_time(count, *words, str(count), *files) for count in (REPLIES, 0))
             times.append((spent - started) / REPLIES)
         runs.append(times)
     one, other, signature = (min(times) * 1e6 for times in zip(*runs))

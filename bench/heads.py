@@ -14,13 +14,13 @@ FIELDS = (1, 32)
 def microseconds(program, fields, octets):
     """The processor time of one request, without that of starting the program."""
     spent, started = (
-        processor_time(count, program, "head", str(count), str(fields), str(octets)) for count in (COUNT, 0)
+        processor_time(count, program, "work", "head", str(count), str(fields), str(octets)) for count in (COUNT, 0)
     )
     return (spent - started) / COUNT * 1e6
 
 
 def ratios(folder):
-    program = built("workloads")
+    program = built("trials")
     heads = [(fields, octets) for fields in FIELDS for octets in (MOST, SHORT)]
     runs = [[microseconds(program, *head) for head in heads] for _ in range(RUNS)]
     least = dict(zip(heads, map(min, zip(*runs))))

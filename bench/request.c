@@ -1,5 +1,5 @@
 /* Reads one time-stamp request with OpenSSL as many times as the one word says, and prints how many times it was found:
- * the same request, with another digest each time, as the crate workloads reads. */
+ * the same request, with another digest each time, as the crate trials reads. */
 #include <openssl/ts.h>
 #include <stdio.h>
 #include <stdlib.h>

@@ -1,29 +1,18 @@
 //! Extracts for auditors.
-use crate::bench::Kept;
-use crate::printing::Printer;
-use crate::words::Words;
-use audit::{ExtractFault, Extracted, extract, extract_length, write_extract};
+use audit::{ExtractFault, Extracted, Inquiry, extract, extract_length, write_extract};
 use counter_fakes::FailingWriter;
-use policy::{Account, Policy};
 use std::alloc::Global;
 use std::mem;
-
-/// Who asks, under which policy file, and for which stamps.
-#[derive(Clone, Copy)]
-pub struct Asked<'a> {
-    pub policy: &'a Policy,
-    pub account: &'a Account,
-    pub from: u64,
-    pub to: u64,
-}
+use store::Book;
+use transcript::{Printer, Words};
 
 /// What takes an extract.
 type Taker = FailingWriter<Vec<u8>>;
 
-fn whole(
+fn whole<B: Book + Drop>(
     alloc: Global,
-    store: &mut Kept,
-    asked: Asked<'_>,
+    store: &mut B,
+    asked: Inquiry<'_>,
     out: &mut Taker,
 ) -> Result<(), ExtractFault> {
     extract(
@@ -37,28 +26,22 @@ fn whole(
     )
 }
 
-fn limited(
+fn limited<B: Book + Drop>(
     alloc: Global,
-    store: &mut Kept,
-    asked: Asked<'_>,
+    store: &mut B,
+    asked: Inquiry<'_>,
     limit: u64,
     out: &mut Taker,
 ) -> Extracted {
-    let (policy, account) = (asked.policy, asked.account);
-    write_extract(
-        alloc, store, policy, account, asked.from, asked.to, limit, out,
-    )
+    write_extract(alloc, store, &asked, limit, out)
 }
 
-fn length(alloc: Global, store: &mut Kept, asked: Asked<'_>) -> Result<u64, ExtractFault> {
-    extract_length(
-        alloc,
-        store,
-        asked.policy,
-        asked.account,
-        asked.from,
-        asked.to,
-    )
+fn length<B: Book + Drop>(
+    alloc: Global,
+    store: &mut B,
+    asked: Inquiry<'_>,
+) -> Result<u64, ExtractFault> {
+    extract_length(alloc, store, &asked)
 }
 
 /// A taker of so many octets.
@@ -74,11 +57,11 @@ fn with_room(alloc: Global, room: &mut Vec<u8>) -> Taker {
 }
 
 /// Tells of the length, of the extract and of its octets, each with its refusal's number.
-fn tell_whole(
+fn tell_whole<B: Book + Drop>(
     alloc: Global,
     printer: Printer<'_>,
-    store: &mut Kept,
-    asked: Asked<'_>,
+    store: &mut B,
+    asked: Inquiry<'_>,
     room: &mut Vec<u8>,
 ) {
     printer.tell(&length(alloc, store, asked));
@@ -93,11 +76,11 @@ fn tell_whole(
 }
 
 /// Tells of what a taker of so many octets has, whether the extract begins so, and how many lines and octets that has.
-fn tell_beginning(
+fn tell_beginning<B: Book + Drop>(
     alloc: Global,
     printer: Printer<'_>,
-    store: &mut Kept,
-    asked: Asked<'_>,
+    store: &mut B,
+    asked: Inquiry<'_>,
     octets: usize,
 ) {
     let mut cut = taker(alloc, octets);
@@ -113,11 +96,11 @@ fn tell_beginning(
 }
 
 /// Tells of the extract within a limit that is so much less than its length.
-fn tell_limited(
+fn tell_limited<B: Book + Drop>(
     alloc: Global,
     printer: Printer<'_>,
-    store: &mut Kept,
-    asked: Asked<'_>,
+    store: &mut B,
+    asked: Inquiry<'_>,
     less: u64,
 ) {
     let length = length(alloc, store, asked).unwrap_or(0);
@@ -129,12 +112,12 @@ fn tell_limited(
 }
 
 /// Makes the call that the word names.
-pub fn call(
+pub fn call<B: Book + Drop>(
     alloc: Global,
     printer: Printer<'_>,
-    store: &mut Kept,
+    store: &mut B,
     word: &str,
-    asked: Asked<'_>,
+    asked: Inquiry<'_>,
     words: &mut Words<'_>,
     room: &mut Vec<u8>,
 ) {

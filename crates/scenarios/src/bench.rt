@@ -1,5 +1,4 @@
 //! On what a scenario is played.
-use crate::printing::Printer;
 use crate::setting::Setting;
 use cms::KeyedHash;
 use counter_fakes::FailingSigner;
@@ -8,6 +7,7 @@ use sqlite::{Connection, MemStore};
 use std::alloc::Global;
 use store::Store;
 use tables::Base;
+use transcript::Printer;
 
 /// Where the database lies.
 pub type Place = MemStore;

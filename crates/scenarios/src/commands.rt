@@ -1,10 +1,9 @@
 //! The commands that a desk may be asked.
-use crate::printing::Printer;
 use crate::setting::Setting;
-use crate::words::Words;
 use desk::Command;
 use policy::Account;
 use store::{Calibration, Hold};
+use transcript::{Printer, Words};
 
 /// With what commands are read.
 #[derive(Clone, Copy)]

@@ -2,27 +2,31 @@
 use crate::bench::{Bench, Counter, Kept, Place};
 use crate::setting::Setting;
 use desk::{Desk, Fault};
-use sqlite::{Connection, Error};
+use sqlite::{Alter, Connection, Error};
 use std::alloc::Global;
-use store::{Store, StoreFault};
+use store::{Book, Store, StoreFault};
 
-type Opened = Result<Kept, (StoreFault, Connection<Place>)>;
+type Opened<S> = Result<Store<S>, (StoreFault, Connection<S>)>;
 
-fn create(alloc: Global, conn: Connection<Place>) -> Opened {
+fn create<S: Alter + Drop>(alloc: Global, conn: Connection<S>) -> Opened<S> {
     if !conn.is_autocommit() {
         return Err((StoreFault::Full, conn));
     }
     Store::create(alloc, conn)
 }
 
-fn adopt(alloc: Global, conn: Connection<Place>) -> Opened {
+fn adopt<S: Alter + Drop>(alloc: Global, conn: Connection<S>) -> Opened<S> {
     if !conn.is_autocommit() {
         return Err((StoreFault::Full, conn));
     }
     Store::adopt(alloc, conn)
 }
 
-fn desk_over(alloc: Global, setting: &Setting, store: Kept) -> Result<Counter<'_>, (Fault, Kept)> {
+fn desk_over<B: Book + Drop>(
+    alloc: Global,
+    setting: &Setting,
+    store: B,
+) -> Result<Desk<'_, B>, (Fault, B)> {
     Desk::open(
         alloc,
         &setting.policy,
@@ -52,7 +56,7 @@ fn keep_over(bench: &mut Bench<'_>, store: Kept) {
 }
 
 /// Keeps a desk over the store that was opened, or the connection and why it was refused.
-fn keep(bench: &mut Bench<'_>, opened: Opened) {
+fn keep(bench: &mut Bench<'_>, opened: Opened<Place>) {
     match opened {
         Ok(store) => keep_over(bench, store),
         Err((fault, conn)) => {
@@ -89,12 +93,12 @@ pub fn part(bench: &mut Bench<'_>) {
     }
 }
 
-fn number(conn: &mut Connection<Place>, sql: &str) -> Result<i64, Error> {
+fn number<S: Alter>(conn: &mut Connection<S>, sql: &str) -> Result<i64, Error> {
     conn.query_row(sql, &[])?.get(0)
 }
 
 /// The number, asked for once more where it is refused.
-fn number_again(conn: &mut Connection<Place>, sql: &str) -> Result<i64, Error> {
+fn number_again<S: Alter>(conn: &mut Connection<S>, sql: &str) -> Result<i64, Error> {
     match number(conn, sql) {
         Ok(number) => Ok(number),
         Err(_) => number(conn, sql),

@@ -1,10 +1,10 @@
 //! Calls of the desk.
-use crate::bench::{Counter, Holder};
-use crate::printing::Printer;
+use crate::listing::{tell_list, tell_rows};
 use cms::{Algorithm, Identity, Signer};
-use desk::{Answer, Begun, Command, Deposited, Fault, Pending, Reply};
+use desk::{Answer, Begun, Command, Deposited, Desk, Fault, Pending, Reply};
 use policy::Account;
-use store::Listed;
+use store::{Book, Listed};
+use transcript::Printer;
 
 /// Tells of a reply.
 pub fn tell_reply(printer: Printer<'_>, reply: &Reply) {
@@ -24,41 +24,49 @@ fn tell_shown(printer: Printer<'_>, shown: Result<Vec<u8>, Fault>) {
     }
 }
 
-fn answer(
-    desk: &mut Counter<'_>,
+fn answer<B: Book + Drop, G: Signer>(
+    desk: &mut Desk<'_, B>,
     account: Option<&Account>,
     reading: i64,
     query: &[u8],
-    signer: &mut Holder,
+    signer: &mut G,
 ) -> Reply {
     desk.answer(account, reading, query, signer)
 }
 
-fn deposit(
-    desk: &mut Counter<'_>,
+fn deposit<B: Book + Drop, G: Signer>(
+    desk: &mut Desk<'_, B>,
     account: &Account,
     reading: i64,
     reference: &str,
     bytes: &[u8],
-    signer: &mut Holder,
+    signer: &mut G,
 ) -> Result<Deposited, Fault> {
     desk.deposit(account, reading, reference, bytes, signer)
 }
 
-fn show(desk: &mut Counter<'_>, account: &Account, number: u64) -> Result<Vec<u8>, Fault> {
+fn show<B: Book + Drop>(
+    desk: &mut Desk<'_, B>,
+    account: &Account,
+    number: u64,
+) -> Result<Vec<u8>, Fault> {
     desk.show(account, number)
 }
 
-fn token(desk: &mut Counter<'_>, account: &Account, number: u64) -> Result<Vec<u8>, Fault> {
+fn token<B: Book + Drop>(
+    desk: &mut Desk<'_, B>,
+    account: &Account,
+    number: u64,
+) -> Result<Vec<u8>, Fault> {
     desk.token_of(account, number)
 }
 
-fn list(desk: &mut Counter<'_>, account: &Account) -> Result<Vec<Listed>, Fault> {
+fn list<B: Book + Drop>(desk: &mut Desk<'_, B>, account: &Account) -> Result<Vec<Listed>, Fault> {
     desk.list(account)
 }
 
-fn grant(
-    desk: &mut Counter<'_>,
+fn grant<B: Book + Drop>(
+    desk: &mut Desk<'_, B>,
     account: &Account,
     number: u64,
     reader: &str,
@@ -66,8 +74,8 @@ fn grant(
     desk.grant(account, number, reader)
 }
 
-fn revoke(
-    desk: &mut Counter<'_>,
+fn revoke<B: Book + Drop>(
+    desk: &mut Desk<'_, B>,
     account: &Account,
     number: u64,
     reader: &str,
@@ -75,8 +83,8 @@ fn revoke(
     desk.revoke(account, number, reader)
 }
 
-fn grant_group(
-    desk: &mut Counter<'_>,
+fn grant_group<B: Book + Drop>(
+    desk: &mut Desk<'_, B>,
     account: &Account,
     number: u64,
     group: &str,
@@ -84,8 +92,8 @@ fn grant_group(
     desk.grant_group(account, number, group)
 }
 
-fn revoke_group(
-    desk: &mut Counter<'_>,
+fn revoke_group<B: Book + Drop>(
+    desk: &mut Desk<'_, B>,
     account: &Account,
     number: u64,
     group: &str,
@@ -93,8 +101,8 @@ fn revoke_group(
     desk.revoke_group(account, number, group)
 }
 
-fn succeed<'p>(
-    desk: &mut Counter<'p>,
+fn succeed<'p, B: Book + Drop>(
+    desk: &mut Desk<'p, B>,
     identity: &'p Identity,
     algorithm: &'p Algorithm,
 ) -> Result<(), Fault> {
@@ -102,11 +110,15 @@ fn succeed<'p>(
 }
 
 /// Makes the call of a command on deposits, or of a succession, and tells of it.
-fn call_about_deposits<'p>(printer: Printer<'_>, desk: &mut Counter<'p>, command: Command<'_, 'p>) {
+fn call_about_deposits<'p, B: Book + Drop>(
+    printer: Printer<'_>,
+    desk: &mut Desk<'p, B>,
+    command: Command<'_, 'p>,
+) {
     match command {
         Command::Show { account, number } => tell_shown(printer, show(desk, account, number)),
         Command::Token { account, number } => tell_shown(printer, token(desk, account, number)),
-        Command::List { account } => printer.list(list(desk, account)),
+        Command::List { account } => tell_list(printer, list(desk, account)),
         Command::Grant {
             account,
             number,
@@ -136,11 +148,11 @@ fn call_about_deposits<'p>(printer: Printer<'_>, desk: &mut Counter<'p>, command
 }
 
 /// Makes the call of a command, and tells of it. Calibrations and holds are calls of the store.
-pub fn call<'p>(
+pub fn call<'p, B: Book + Drop, G: Signer>(
     printer: Printer<'_>,
-    desk: &mut Counter<'p>,
+    desk: &mut Desk<'p, B>,
     command: Command<'_, 'p>,
-    signer: &mut Holder,
+    signer: &mut G,
 ) {
     match command {
         Command::Stamp {
@@ -158,10 +170,10 @@ pub fn call<'p>(
     }
 }
 
-fn run<'p>(
-    desk: &mut Counter<'p>,
+fn run<'p, B: Book + Drop, G: Signer>(
+    desk: &mut Desk<'p, B>,
     commands: &[Command<'_, 'p>],
-    signer: &mut Holder,
+    signer: &mut G,
 ) -> Result<Vec<Answer>, Fault> {
     desk.run(commands, signer)
 }
@@ -170,17 +182,17 @@ fn tell_answer(printer: Printer<'_>, answer: &Answer) {
     match answer {
         Answer::Stamped(reply) => tell_reply(printer, reply),
         Answer::Shown(octets) => printer.octets("shown", octets),
-        Answer::Listed(rows) => printer.rows(rows),
+        Answer::Listed(rows) => tell_rows(printer, rows),
         other => printer.tell(other),
     }
 }
 
 /// Runs a list of commands, and tells of each answer.
-pub fn run_all<'p>(
+pub fn run_all<'p, B: Book + Drop, G: Signer>(
     printer: Printer<'_>,
-    desk: &mut Counter<'p>,
+    desk: &mut Desk<'p, B>,
     commands: &[Command<'_, 'p>],
-    signer: &mut Holder,
+    signer: &mut G,
 ) {
     match run(desk, commands, signer) {
         Ok(answers) => {
@@ -193,13 +205,13 @@ pub fn run_all<'p>(
 }
 
 /// Tells how many of a request's fronts, from one octet on and without the whole, are answered by that reply.
-pub fn tell_fronts(
+pub fn tell_fronts<B: Book + Drop, G: Signer>(
     printer: Printer<'_>,
-    desk: &mut Counter<'_>,
+    desk: &mut Desk<'_, B>,
     account: Option<&Account>,
     query: &[u8],
     reply: &[u8],
-    signer: &mut Holder,
+    signer: &mut G,
 ) {
     let mut count: u64 = 0;
     for len in 1..query.len() {
@@ -219,8 +231,8 @@ fn is_reply(reply: &Reply, octets: &[u8]) -> bool {
 }
 
 /// What waits for its signature after a request at the first moment.
-fn begun<'p>(
-    desk: &mut Counter<'p>,
+fn begun<'p, B: Book + Drop>(
+    desk: &mut Desk<'p, B>,
     account: Option<&Account>,
     query: &[u8],
 ) -> Option<Pending<'p>> {
@@ -231,11 +243,15 @@ fn begun<'p>(
     }
 }
 
-fn abandon<'p>(desk: &mut Counter<'p>, pending: Pending<'p>) {
+fn abandon<'p, B: Book + Drop>(desk: &mut Desk<'p, B>, pending: Pending<'p>) {
     desk.abandon(pending);
 }
 
-fn signed<'p>(desk: &mut Counter<'p>, pending: Pending<'p>, signer: &mut Holder) -> Option<Reply> {
+fn signed<'p, B: Book + Drop, G: Signer>(
+    desk: &mut Desk<'p, B>,
+    pending: Pending<'p>,
+    signer: &mut G,
+) -> Option<Reply> {
     match signer.sign(pending.text()) {
         Ok(signature) => desk.finish(pending, &signature).ok(),
         Err(_) => {
@@ -246,11 +262,11 @@ fn signed<'p>(desk: &mut Counter<'p>, pending: Pending<'p>, signer: &mut Holder)
 }
 
 /// Signs what waits, if anything does, and tells of it.
-fn finish<'p>(
+fn finish<'p, B: Book + Drop, G: Signer>(
     printer: Printer<'_>,
-    desk: &mut Counter<'p>,
+    desk: &mut Desk<'p, B>,
     pending: Option<Pending<'p>>,
-    signer: &mut Holder,
+    signer: &mut G,
 ) {
     let reply = match pending {
         Some(pending) => signed(desk, pending, signer),
@@ -263,12 +279,12 @@ fn finish<'p>(
 }
 
 /// Begins two stamps one after the other, and finishes them the other way round.
-pub fn finish_backwards(
+pub fn finish_backwards<B: Book + Drop, G: Signer>(
     printer: Printer<'_>,
-    desk: &mut Counter<'_>,
+    desk: &mut Desk<'_, B>,
     account: Option<&Account>,
     query: &[u8],
-    signer: &mut Holder,
+    signer: &mut G,
 ) {
     let first = begun(desk, account, query);
     let second = begun(desk, account, query);
@@ -277,9 +293,9 @@ pub fn finish_backwards(
 }
 
 /// Begins a stamp, and leaves it void.
-pub fn leave(
+pub fn leave<B: Book + Drop>(
     printer: Printer<'_>,
-    desk: &mut Counter<'_>,
+    desk: &mut Desk<'_, B>,
     account: Option<&Account>,
     query: &[u8],
 ) {

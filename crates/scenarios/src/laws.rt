@@ -1,17 +1,17 @@
 //! The laws, each called once, and the numbers of the refusals.
-use crate::bench::Place;
-use crate::printing::Printer;
 use desk::{
     Fault, accounts_are_isolated, accounts_disturb_little, commands_have_one_effect,
     deposits_are_shown_exactly, grants_are_of_their_plan, journeys_keep_their_promises,
     rejections_tell_their_rule, steps_keep_their_promises, steps_leave_sound_histories,
     successions_bring_their_identity, texts_are_reserved,
 };
+use sqlite::MemStore;
 use sqlite_disk::Memory;
 use store::{
     book_stands_in_tables, equal_tables_tell_the_same, openings_find_what_was_left,
     rows_stand_exactly, serials_rise,
 };
+use transcript::Printer;
 use tsp::Rule;
 
 static FAULTS: [Fault; 10] = [
@@ -39,8 +39,8 @@ pub fn call_of_store() {
     equal_tables_tell_the_same();
     serials_rise();
     rows_stand_exactly();
-    book_stands_in_tables::<Place>();
-    openings_find_what_was_left::<Place, Memory, Memory>();
+    book_stands_in_tables::<MemStore>();
+    openings_find_what_was_left::<MemStore, Memory, Memory>();
 }
 
 /// Calls the laws of the desk.

@@ -8,17 +8,14 @@ mod commands;
 mod connecting;
 mod desks;
 mod laws;
-mod names;
+mod listing;
 mod playing;
-mod printing;
 mod serving;
 mod setting;
 mod stamps;
 mod stores;
 mod tabling;
-mod words;
 
-use std::alloc::AllocError;
 use std::{env, fs, io};
 
 /// The texts of the files that the words name, one behind the other.

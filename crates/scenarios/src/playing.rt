@@ -1,17 +1,16 @@
 //! Scenarios, line by line.
-use crate::auditing::{self, Asked};
 use crate::bench::Bench;
 use crate::commands::{Reader, command_of};
 use crate::connecting::{ask, connect, execute, make, part, take};
 use crate::desks::{self, finish_backwards, leave, run_all};
 use crate::laws::{call_of_desk, call_of_store, number};
-use crate::names::{Names, names_of};
-use crate::printing::Printer;
 use crate::setting::{Setting, setting_of, signer_of};
-use crate::words::Words;
-use crate::{serving, stores, tabling};
+use crate::{auditing, serving, stores, tabling};
+use audit::Inquiry;
 use desk::Command;
+use policy::EXAMPLE;
 use std::alloc::{AllocError, Global};
+use transcript::{Names, Printer, Words};
 
 /// The size in octets of the allocation after which growths may be refused.
 const MARK: usize = 1_000_003;
@@ -58,7 +57,7 @@ fn call_audit(bench: &mut Bench<'_>, words: &mut Words<'_>) {
     let (Some(desk), Some(account)) = (&mut bench.desk, bench.setting.account(words.next())) else {
         return;
     };
-    let asked = Asked {
+    let asked = Inquiry {
         policy: &bench.setting.policy,
         account,
         from: words.number(),
@@ -225,7 +224,9 @@ fn play_all<'p>(rt: &'p HostRuntime, names: &'p Names, text: &'p str) {
 
 /// Plays the scenarios of a text, which are parted by empty lines and begin with a line `# TITLE`.
 pub fn play(rt: &HostRuntime, text: &str) -> Result<(), AllocError> {
-    let names = names_of(rt.alloc(), text)?;
+    let mut names = Names::new(rt.alloc());
+    names.add("EXAMPLE", Vec::from_slice(rt.alloc(), EXAMPLE.as_bytes())?)?;
+    names.read(text)?;
     play_all(rt, &names, text);
     Ok(())
 }

@@ -1,11 +1,13 @@
 //! Requests over HTTP.
-use crate::bench::{Counter, Holder};
-use crate::printing::Printer;
+use cms::Signer;
 use counter_fakes::{FailingReader, FailingWriter};
+use desk::Desk;
 use service::{Served, serve_one};
 use std::alloc::Global;
 use std::io::{self, Read};
 use std::mem;
+use store::Book;
+use transcript::Printer;
 
 /// Octets that are given so many at a time.
 #[derive(Drop)]
@@ -34,22 +36,22 @@ fn source(alloc: Global, octets: &[u8], size: usize, given: u64) -> Source<'_> {
     FailingReader::new(Pieces { octets, size }, Vec::new(alloc), given)
 }
 
-fn serve(
+fn serve<B: Book + Drop, G: Signer>(
     alloc: Global,
     source: &mut Source<'_>,
     sink: &mut Sink,
-    desk: &mut Counter<'_>,
-    signer: &mut Holder,
+    desk: &mut Desk<'_, B>,
+    signer: &mut G,
 ) -> Served {
     serve_one(alloc, source, sink, desk, 0, signer)
 }
 
 /// What becomes of a request whose answer a sink takes that fails once it has taken so many octets. They are in the
 /// room afterwards.
-fn served(
+fn served<B: Book + Drop, G: Signer>(
     alloc: Global,
-    desk: &mut Counter<'_>,
-    signer: &mut Holder,
+    desk: &mut Desk<'_, B>,
+    signer: &mut G,
     room: &mut Vec<u8>,
     source: &mut Source<'_>,
     taken: usize,
@@ -82,10 +84,10 @@ fn tell_answer(printer: Printer<'_>, answer: &[u8]) {
 }
 
 /// Tells what becomes of a request that comes so many octets at a time, how many aren't read, and the answer.
-fn tell(
+fn tell<B: Book + Drop, G: Signer>(
     printer: Printer<'_>,
-    desk: &mut Counter<'_>,
-    signer: &mut Holder,
+    desk: &mut Desk<'_, B>,
+    signer: &mut G,
     room: &mut Vec<u8>,
     request: &[u8],
     size: usize,
@@ -100,10 +102,10 @@ fn tell(
 }
 
 /// What becomes of a request whose answer a sink takes that fails once it has taken so many octets.
-fn cut(
+fn cut<B: Book + Drop, G: Signer>(
     alloc: Global,
-    desk: &mut Counter<'_>,
-    signer: &mut Holder,
+    desk: &mut Desk<'_, B>,
+    signer: &mut G,
     room: &mut Vec<u8>,
     request: &[u8],
     sent: usize,
@@ -113,10 +115,10 @@ fn cut(
 }
 
 /// Of how many numbers of octets that are less than the whole answer sinks that take those are told to have failed.
-fn cuts(
+fn cuts<B: Book + Drop, G: Signer>(
     alloc: Global,
-    desk: &mut Counter<'_>,
-    signer: &mut Holder,
+    desk: &mut Desk<'_, B>,
+    signer: &mut G,
     room: &mut Vec<u8>,
     request: &[u8],
     whole: &[u8],
@@ -134,10 +136,10 @@ fn cuts(
 
 /// Tells what becomes of a request, of how many sinks that fail before its answer is whole, and of one that fails
 /// behind it.
-fn tell_cuts(
+fn tell_cuts<B: Book + Drop, G: Signer>(
     printer: Printer<'_>,
-    desk: &mut Counter<'_>,
-    signer: &mut Holder,
+    desk: &mut Desk<'_, B>,
+    signer: &mut G,
     room: &mut Vec<u8>,
     request: &[u8],
 ) {
@@ -152,10 +154,10 @@ fn tell_cuts(
 }
 
 /// What becomes of a request of which so many octets come before the source fails, or else ends.
-fn fares(
+fn fares<B: Book + Drop, G: Signer>(
     alloc: Global,
-    desk: &mut Counter<'_>,
-    signer: &mut Holder,
+    desk: &mut Desk<'_, B>,
+    signer: &mut G,
     room: &mut Vec<u8>,
     front: &[u8],
     is_failing: bool,
@@ -170,10 +172,10 @@ fn fares(
 }
 
 /// Tells what becomes of a request's fronts, and of how many one after the other.
-fn tell_fronts(
+fn tell_fronts<B: Book + Drop, G: Signer>(
     printer: Printer<'_>,
-    desk: &mut Counter<'_>,
-    signer: &mut Holder,
+    desk: &mut Desk<'_, B>,
+    signer: &mut G,
     room: &mut Vec<u8>,
     request: &[u8],
     is_failing: bool,
@@ -195,10 +197,10 @@ fn tell_fronts(
 }
 
 /// Makes the call that the word names, of a request that comes so many octets at a time. The room takes the answer.
-pub fn call(
+pub fn call<B: Book + Drop, G: Signer>(
     printer: Printer<'_>,
-    desk: &mut Counter<'_>,
-    signer: &mut Holder,
+    desk: &mut Desk<'_, B>,
+    signer: &mut G,
     room: &mut Vec<u8>,
     word: &str,
     request: &[u8],

@@ -1,10 +1,9 @@
 //! With what a scenario's desk is opened.
-use crate::names::Names;
-use crate::words::Words;
 use cms::{Algorithm, Identity, KeyedHash};
 use counter_fakes::FailingSigner;
 use policy::{Account, EXAMPLE, Policy};
 use std::alloc::Global;
+use transcript::{Names, Words};
 
 /// The record of a policy file, that of another, the identities and the algorithm.
 #[derive(Drop)]

@@ -1,10 +1,8 @@
 //! Stamps of a range, and the check of their rows.
-use crate::bench::Kept;
-use crate::printing::Printer;
-use crate::words::Words;
 use audit::check_row;
 use book::IdentityRow;
 use store::{Book, Stamp, StampsBetween, StoreFault};
+use transcript::Printer;
 
 /// Tells of a stamp.
 pub fn tell_stamp(printer: Printer<'_>, stamp: &Stamp) {
@@ -25,12 +23,18 @@ pub fn tell_stamp(printer: Printer<'_>, stamp: &Stamp) {
     }
 }
 
-fn between<'s>(store: &'s mut Kept, words: &mut Words<'_>) -> StampsBetween<'s, Kept> {
-    let from = words.number();
-    store.stamps_between(from, words.number())
+/// What is asked of the stamps of a range.
+#[derive(Clone, Copy)]
+pub enum AskedOfStamps<'a> {
+    /// So many of them, by their serial numbers.
+    Walk(u64),
+    /// Whether the octets of so many say what their rows say, and what the rows of identities do.
+    Check(u64, &'a [IdentityRow]),
+    /// Whether the first one's row is said where one octet of a column is another.
+    Flip(&'a str),
 }
 
-fn next(stamps: &mut StampsBetween<'_, Kept>) -> Result<Option<Stamp>, StoreFault> {
+fn next<B: Book>(stamps: &mut StampsBetween<'_, B>) -> Result<Option<Stamp>, StoreFault> {
     stamps.next()
 }
 
@@ -47,21 +51,19 @@ fn is_told(printer: Printer<'_>, answer: Result<Option<Stamp>, StoreFault>) -> b
     true
 }
 
-/// Tells of the stamps of a range, up to its end or as many answers.
-pub fn walk(printer: Printer<'_>, store: &mut Kept, words: &mut Words<'_>) {
-    let count = words.number();
-    let mut stamps = between(store, words);
+/// Tells of the stamps that are left, up to their end or as many answers.
+fn walk_on<B: Book>(printer: Printer<'_>, stamps: &mut StampsBetween<'_, B>, count: u64) {
     for _ in 0..count {
-        if !is_told(printer, next(&mut stamps)) {
+        if !is_told(printer, next(stamps)) {
             return;
         }
     }
 }
 
 /// Tells whether the octets of so many stamps say what their rows say, and what the rows of identities do.
-fn check_all(
+fn check_all<B: Book>(
     printer: Printer<'_>,
-    stamps: &mut StampsBetween<'_, Kept>,
+    stamps: &mut StampsBetween<'_, B>,
     identities: &[IdentityRow],
     count: u64,
 ) {
@@ -70,15 +72,6 @@ fn check_all(
             Ok(Some(stamp)) => printer.tell(&(stamp.serial, check_row(&stamp, identities))),
             _ => return,
         }
-    }
-}
-
-/// The same of stamps of a range.
-pub fn check(printer: Printer<'_>, store: &mut Kept, words: &mut Words<'_>) {
-    let count = words.number();
-    match store.identities() {
-        Ok(identities) => check_all(printer, &mut between(store, words), &identities, count),
-        Err(fault) => printer.tell(&fault),
     }
 }
 
@@ -118,13 +111,24 @@ fn flip_all(printer: Printer<'_>, stamp: &mut Stamp, word: &str) {
     }
 }
 
-/// The same of the first stamp of a range.
-pub fn flip(printer: Printer<'_>, store: &mut Kept, words: &mut Words<'_>) {
-    let word = words.next();
-    let mut stamps = between(store, words);
-    if let Ok(Some(stamp)) = next(&mut stamps) {
+/// The same of the first stamp that is left.
+fn flip_next<B: Book>(printer: Printer<'_>, stamps: &mut StampsBetween<'_, B>, word: &str) {
+    if let Ok(Some(stamp)) = next(stamps) {
         let mut stamp = stamp;
         flip_all(printer, &mut stamp, word);
         printer.tell(&check_row(&stamp, &[]));
+    }
+}
+
+/// Tells what is asked of stamps.
+pub fn tell_stamps<B: Book>(
+    printer: Printer<'_>,
+    stamps: &mut StampsBetween<'_, B>,
+    asked: AskedOfStamps<'_>,
+) {
+    match asked {
+        AskedOfStamps::Walk(count) => walk_on(printer, stamps, count),
+        AskedOfStamps::Check(count, identities) => check_all(printer, stamps, identities, count),
+        AskedOfStamps::Flip(column) => flip_next(printer, stamps, column),
     }
 }

@@ -1,16 +1,16 @@
 //! Calls of the store.
-use crate::bench::Kept;
-use crate::names::Names;
-use crate::printing::Printer;
-use crate::stamps::{check, flip, tell_stamp, walk};
-use crate::words::Words;
+use crate::listing::tell_list;
+use crate::stamps::{AskedOfStamps, tell_stamp, tell_stamps};
+use book::IdentityRow;
+use sqlite::Alter;
 use store::{
-    Book, Calibration, Deposit, Hold, Last, Listed, Reservation, StampedDeposit, StoreFault,
+    Book, Calibration, Deposit, Hold, Last, Listed, Reservation, StampedDeposit, Store, StoreFault,
 };
+use transcript::{Names, Printer, Words};
 
 type Ending = Result<(), StoreFault>;
 
-fn calibrate(store: &mut Kept, words: &mut Words<'_>) -> Ending {
+fn calibrate<B: Book>(store: &mut B, words: &mut Words<'_>) -> Ending {
     let calibration = Calibration {
         reading: words.signed(),
         offset: words.signed(),
@@ -19,7 +19,7 @@ fn calibrate(store: &mut Kept, words: &mut Words<'_>) -> Ending {
     store.calibrate(&calibration).map(|_number| ())
 }
 
-fn hold(store: &mut Kept, words: &mut Words<'_>) -> Ending {
+fn hold<B: Book>(store: &mut B, words: &mut Words<'_>) -> Ending {
     let hold = Hold {
         from: words.signed(),
         to: words.signed(),
@@ -42,12 +42,12 @@ fn reservation<'w>(serial: u64, names: &'w Names, words: Words<'w>) -> Reservati
     }
 }
 
-fn reserve(store: &mut Kept, reservation: &Reservation<'_>) -> Ending {
+fn reserve<B: Book>(store: &mut B, reservation: &Reservation<'_>) -> Ending {
     store.reserve(reservation)
 }
 
 /// Reserves under each serial number from one to another, up to the first that is refused.
-fn reserve_all<'w>(store: &mut Kept, names: &'w Names, words: Words<'w>) -> Ending {
+fn reserve_all<'w, B: Book>(store: &mut B, names: &'w Names, words: Words<'w>) -> Ending {
     let mut words = words;
     let (from, to) = (words.number(), words.number());
     for serial in from..=to {
@@ -56,40 +56,45 @@ fn reserve_all<'w>(store: &mut Kept, names: &'w Names, words: Words<'w>) -> Endi
     Ok(())
 }
 
-fn seal(store: &mut Kept, names: &Names, words: &mut Words<'_>) -> Ending {
+fn seal<B: Book>(store: &mut B, names: &Names, words: &mut Words<'_>) -> Ending {
     let serial = words.number();
     store.seal(serial, names.octets(words.next()))
 }
 
-fn seal_deposit(store: &mut Kept, names: &Names, words: &mut Words<'_>) -> Ending {
+fn seal_deposit<B: Book>(store: &mut B, names: &Names, words: &mut Words<'_>) -> Ending {
     let serial = words.number();
     let (owner, reference) = (words.next(), words.next());
     let token = names.octets(words.next());
     store.seal_deposit(serial, token, owner, reference, names.octets(words.next()))
 }
 
-fn grant(store: &mut Kept, words: &mut Words<'_>) -> Ending {
+fn grant<B: Book>(store: &mut B, words: &mut Words<'_>) -> Ending {
     let number = words.number();
     store.grant(number, words.next())
 }
 
-fn revoke(store: &mut Kept, words: &mut Words<'_>) -> Ending {
+fn revoke<B: Book>(store: &mut B, words: &mut Words<'_>) -> Ending {
     let number = words.number();
     store.revoke(number, words.next())
 }
 
-fn grant_group(store: &mut Kept, words: &mut Words<'_>) -> Ending {
+fn grant_group<B: Book>(store: &mut B, words: &mut Words<'_>) -> Ending {
     let number = words.number();
     store.grant_group(number, words.next())
 }
 
-fn revoke_group(store: &mut Kept, words: &mut Words<'_>) -> Ending {
+fn revoke_group<B: Book>(store: &mut B, words: &mut Words<'_>) -> Ending {
     let number = words.number();
     store.revoke_group(number, words.next())
 }
 
 /// What becomes of a change; none where the word names none.
-fn changed(store: &mut Kept, names: &Names, word: &str, words: &mut Words<'_>) -> Option<Ending> {
+fn changed<B: Book>(
+    store: &mut B,
+    names: &Names,
+    word: &str,
+    words: &mut Words<'_>,
+) -> Option<Ending> {
     Some(match word {
         "calibrate" => calibrate(store, words),
         "hold" => hold(store, words),
@@ -104,19 +109,19 @@ fn changed(store: &mut Kept, names: &Names, word: &str, words: &mut Words<'_>) -
     })
 }
 
-fn calibration(store: &mut Kept) -> Result<Option<Calibration>, StoreFault> {
+fn calibration<B: Book>(store: &mut B) -> Result<Option<Calibration>, StoreFault> {
     store.calibration()
 }
 
-fn is_held(store: &mut Kept, words: &mut Words<'_>) -> Result<bool, StoreFault> {
+fn is_held<B: Book>(store: &mut B, words: &mut Words<'_>) -> Result<bool, StoreFault> {
     store.held_at(words.signed())
 }
 
-fn last(store: &mut Kept) -> Result<Last, StoreFault> {
+fn last<B: Book>(store: &mut B) -> Result<Last, StoreFault> {
     store.last()
 }
 
-fn count(store: &mut Kept, words: &mut Words<'_>) -> Result<u64, StoreFault> {
+fn count<B: Book>(store: &mut B, words: &mut Words<'_>) -> Result<u64, StoreFault> {
     let account = words.next();
     store.count_of_day(account, words.number())
 }
@@ -132,22 +137,25 @@ fn named<'n, 'w>(names: &'n [&'w str; 2]) -> &'n [&'w str] {
     names
 }
 
-fn list(store: &mut Kept, words: &mut Words<'_>) -> Result<Vec<Listed>, StoreFault> {
+fn list<B: Book>(store: &mut B, words: &mut Words<'_>) -> Result<Vec<Listed>, StoreFault> {
     let account = words.next();
     store.list(account, named(&[words.next(), words.next()]))
 }
 
-fn is_visible(store: &mut Kept, words: &mut Words<'_>) -> Result<bool, StoreFault> {
+fn is_visible<B: Book>(store: &mut B, words: &mut Words<'_>) -> Result<bool, StoreFault> {
     let number = words.number();
     let account = words.next();
     store.visible(number, account, named(&[words.next(), words.next()]))
 }
 
-fn stamped(store: &mut Kept, words: &mut Words<'_>) -> Result<Option<StampedDeposit>, StoreFault> {
+fn stamped<B: Book>(
+    store: &mut B,
+    words: &mut Words<'_>,
+) -> Result<Option<StampedDeposit>, StoreFault> {
     store.deposit(words.number())
 }
 
-fn under(store: &mut Kept, words: &mut Words<'_>) -> Result<Option<Deposit>, StoreFault> {
+fn under<B: Book>(store: &mut B, words: &mut Words<'_>) -> Result<Option<Deposit>, StoreFault> {
     let owner = words.next();
     store.by_reference(owner, words.next())
 }
@@ -181,29 +189,69 @@ fn tell_under(printer: Printer<'_>, answer: Result<Option<Deposit>, StoreFault>)
 }
 
 /// Tells what a look-up shows.
-fn show(printer: Printer<'_>, store: &mut Kept, word: &str, words: &mut Words<'_>) {
+fn show<B: Book>(printer: Printer<'_>, store: &mut B, word: &str, words: &mut Words<'_>) {
     match word {
         "calibration" => printer.tell(&calibration(store)),
         "held" => printer.tell(&is_held(store, words)),
         "last" => printer.tell(&last(store)),
         "count" => printer.tell(&count(store, words)),
-        "list" => printer.list(list(store, words)),
+        "list" => tell_list(printer, list(store, words)),
         "visible" => printer.tell(&is_visible(store, words)),
         "deposit" => tell_stamped(printer, stamped(store, words)),
         "under" => tell_under(printer, under(store, words)),
-        "walk" => walk(printer, store, words),
-        "check" => check(printer, store, words),
-        "flip" => flip(printer, store, words),
         "faults" => printer.number("faults", store.faults()),
         _ => printer.line("  no such call"),
     }
 }
 
-/// Makes the call that the words name.
-pub fn call(printer: Printer<'_>, store: &mut Kept, words: &mut Words<'_>) {
-    let word = words.next();
+/// Makes a change, or asks.
+fn call_book<B: Book>(printer: Printer<'_>, store: &mut B, word: &str, words: &mut Words<'_>) {
     match changed(store, printer.names, word, words) {
         Some(ending) => printer.tell(&ending),
         None => show(printer, store, word, words),
+    }
+}
+
+/// Tells what is asked of the stamps of the range that the next words name.
+fn ask_between<S: Alter + Drop>(
+    printer: Printer<'_>,
+    store: &mut Store<S>,
+    asked: AskedOfStamps<'_>,
+    words: &mut Words<'_>,
+) {
+    let from = words.number();
+    tell_stamps(
+        printer,
+        &mut store.stamps_between(from, words.number()),
+        asked,
+    );
+}
+
+fn identities<B: Book>(store: &mut B) -> Result<Vec<IdentityRow>, StoreFault> {
+    store.identities()
+}
+
+fn check<S: Alter + Drop>(printer: Printer<'_>, store: &mut Store<S>, words: &mut Words<'_>) {
+    let count = words.number();
+    match identities(store) {
+        Ok(rows) => ask_between(printer, store, AskedOfStamps::Check(count, &rows), words),
+        Err(fault) => printer.tell(&fault),
+    }
+}
+
+/// Makes the call that the words name.
+pub fn call<S: Alter + Drop>(printer: Printer<'_>, store: &mut Store<S>, words: &mut Words<'_>) {
+    let word = words.next();
+    match word {
+        "walk" => {
+            let asked = AskedOfStamps::Walk(words.number());
+            ask_between(printer, store, asked, words);
+        }
+        "check" => check(printer, store, words),
+        "flip" => {
+            let asked = AskedOfStamps::Flip(words.next());
+            ask_between(printer, store, asked, words);
+        }
+        _ => call_book(printer, store, word, words),
     }
 }

@@ -1,29 +1,24 @@
 //! Changes of the tables, and queries of them.
 use crate::bench::{Bench, Place};
-use crate::names::Names;
-use crate::printing::Printer;
 use crate::stamps::tell_stamp;
-use crate::words::Words;
 use book::Reservation;
-use sqlite::Connection;
+use sqlite::{Alter, Connection};
 use tables::{
     Base, Change, ColumnNumber, Deposit, Label, LastStamp, LatestCalibration, OpenFault, Origin,
     Stamp, TableFault,
 };
+use transcript::{Names, Printer, Words};
 
-/// The tables of a scenario.
-pub type Tables = Base<Place>;
+type Opened<S> = Result<Base<S>, (OpenFault, Connection<S>)>;
 
-type Opened = Result<Tables, (OpenFault, Connection<Place>)>;
-
-fn create(conn: Connection<Place>) -> Opened {
+fn create<S: Alter + Drop>(conn: Connection<S>) -> Opened<S> {
     if !conn.is_autocommit() {
         return Err((OpenFault::Database, conn));
     }
     Base::create(conn)
 }
 
-fn adopt(conn: Connection<Place>) -> Opened {
+fn adopt<S: Alter + Drop>(conn: Connection<S>) -> Opened<S> {
     if !conn.is_autocommit() {
         return Err((OpenFault::Database, conn));
     }
@@ -31,7 +26,7 @@ fn adopt(conn: Connection<Place>) -> Opened {
 }
 
 /// Keeps the tables that were opened, or the connection and why they were refused.
-fn keep(bench: &mut Bench<'_>, opened: Opened) {
+fn keep(bench: &mut Bench<'_>, opened: Opened<Place>) {
     match opened {
         Ok(base) => bench.tables = Some(base),
         Err((fault, conn)) => {
@@ -140,87 +135,125 @@ fn change_of<'w>(names: &'w Names, word: &str, words: Words<'w>) -> Option<Chang
     })
 }
 
-fn commit(base: &mut Tables, change: &Change<'_>) -> Result<(), TableFault> {
+fn commit<S: Alter + Drop>(base: &mut Base<S>, change: &Change<'_>) -> Result<(), TableFault> {
     base.commit(change)
 }
 
-fn latest_calibration(base: &mut Tables) -> Result<Option<LatestCalibration>, TableFault> {
+fn latest_calibration<S: Alter + Drop>(
+    base: &mut Base<S>,
+) -> Result<Option<LatestCalibration>, TableFault> {
     base.latest_calibration()
 }
 
-fn greatest_hold(base: &mut Tables) -> Result<Option<u64>, TableFault> {
+fn greatest_hold<S: Alter + Drop>(base: &mut Base<S>) -> Result<Option<u64>, TableFault> {
     base.greatest_hold()
 }
 
-fn held_at(base: &mut Tables, words: &mut Words<'_>) -> Result<bool, TableFault> {
+fn held_at<S: Alter + Drop>(base: &mut Base<S>, words: &mut Words<'_>) -> Result<bool, TableFault> {
     base.held_at(words.signed())
 }
 
-fn greatest_stamp(base: &mut Tables) -> Result<Option<LastStamp>, TableFault> {
+fn greatest_stamp<S: Alter + Drop>(base: &mut Base<S>) -> Result<Option<LastStamp>, TableFault> {
     base.greatest_stamp()
 }
 
-fn tally(base: &mut Tables, words: &mut Words<'_>) -> Result<Option<u64>, TableFault> {
+fn tally<S: Alter + Drop>(
+    base: &mut Base<S>,
+    words: &mut Words<'_>,
+) -> Result<Option<u64>, TableFault> {
     let account = words.next();
     base.tally(account, ColumnNumber::at_most(words.number()))
 }
 
-fn found(base: &mut Tables, words: &mut Words<'_>) -> Result<Option<Deposit>, TableFault> {
+fn found<S: Alter + Drop>(
+    base: &mut Base<S>,
+    words: &mut Words<'_>,
+) -> Result<Option<Deposit>, TableFault> {
     base.deposit(words.number())
 }
 
-fn under(base: &mut Tables, words: &mut Words<'_>) -> Result<Option<Deposit>, TableFault> {
+fn under<S: Alter + Drop>(
+    base: &mut Base<S>,
+    words: &mut Words<'_>,
+) -> Result<Option<Deposit>, TableFault> {
     let owner = words.next();
     base.deposit_under(owner, words.next())
 }
 
-fn label(base: &mut Tables, words: &mut Words<'_>) -> Result<Option<Label>, TableFault> {
+fn label<S: Alter + Drop>(
+    base: &mut Base<S>,
+    words: &mut Words<'_>,
+) -> Result<Option<Label>, TableFault> {
     let serial = words.number();
     base.label(serial, words.next())
 }
 
-fn is_owner(base: &mut Tables, words: &mut Words<'_>) -> Result<bool, TableFault> {
+fn is_owner<S: Alter + Drop>(
+    base: &mut Base<S>,
+    words: &mut Words<'_>,
+) -> Result<bool, TableFault> {
     let serial = words.number();
     base.is_owner(serial, words.next())
 }
 
-fn is_reader(base: &mut Tables, words: &mut Words<'_>) -> Result<bool, TableFault> {
+fn is_reader<S: Alter + Drop>(
+    base: &mut Base<S>,
+    words: &mut Words<'_>,
+) -> Result<bool, TableFault> {
     let serial = words.number();
     base.is_reader(serial, words.next())
 }
 
-fn is_group_reader(base: &mut Tables, words: &mut Words<'_>) -> Result<bool, TableFault> {
+fn is_group_reader<S: Alter + Drop>(
+    base: &mut Base<S>,
+    words: &mut Words<'_>,
+) -> Result<bool, TableFault> {
     let serial = words.number();
     base.is_group_reader(serial, words.next())
 }
 
-fn next_owned(base: &mut Tables, words: &mut Words<'_>) -> Result<Option<u64>, TableFault> {
+fn next_owned<S: Alter + Drop>(
+    base: &mut Base<S>,
+    words: &mut Words<'_>,
+) -> Result<Option<u64>, TableFault> {
     let account = words.next();
     base.next_owned(account, words.number())
 }
 
-fn next_readable(base: &mut Tables, words: &mut Words<'_>) -> Result<Option<u64>, TableFault> {
+fn next_readable<S: Alter + Drop>(
+    base: &mut Base<S>,
+    words: &mut Words<'_>,
+) -> Result<Option<u64>, TableFault> {
     let account = words.next();
     base.next_readable(account, words.number())
 }
 
-fn next_group_readable(
-    base: &mut Tables,
+fn next_group_readable<S: Alter + Drop>(
+    base: &mut Base<S>,
     words: &mut Words<'_>,
 ) -> Result<Option<u64>, TableFault> {
     let name = words.next();
     base.next_group_readable(name, words.number())
 }
 
-fn stamp(base: &mut Tables, words: &mut Words<'_>) -> Result<Option<Stamp>, TableFault> {
+fn stamp<S: Alter + Drop>(
+    base: &mut Base<S>,
+    words: &mut Words<'_>,
+) -> Result<Option<Stamp>, TableFault> {
     base.stamp(words.number())
 }
 
-fn origin(base: &mut Tables, words: &mut Words<'_>) -> Result<Option<Origin>, TableFault> {
+fn origin<S: Alter + Drop>(
+    base: &mut Base<S>,
+    words: &mut Words<'_>,
+) -> Result<Option<Origin>, TableFault> {
     base.origin(words.number())
 }
 
-fn next_stamp(base: &mut Tables, words: &mut Words<'_>) -> Result<Option<Stamp>, TableFault> {
+fn next_stamp<S: Alter + Drop>(
+    base: &mut Base<S>,
+    words: &mut Words<'_>,
+) -> Result<Option<Stamp>, TableFault> {
     let from = ColumnNumber::at_most(words.number());
     base.next_stamp(from, ColumnNumber::at_most(words.number()))
 }
@@ -234,7 +267,12 @@ fn tell_found(printer: Printer<'_>, answer: Result<Option<Stamp>, TableFault>) {
 }
 
 /// Tells what a query of stamps, rights and moments shows.
-fn show_others(printer: Printer<'_>, base: &mut Tables, word: &str, words: &mut Words<'_>) {
+fn show_others<S: Alter + Drop>(
+    printer: Printer<'_>,
+    base: &mut Base<S>,
+    word: &str,
+    words: &mut Words<'_>,
+) {
     match word {
         "owner" => printer.tell(&is_owner(base, words)),
         "reader" => printer.tell(&is_reader(base, words)),
@@ -251,7 +289,12 @@ fn show_others(printer: Printer<'_>, base: &mut Tables, word: &str, words: &mut 
 }
 
 /// Tells what a query shows.
-fn show(printer: Printer<'_>, base: &mut Tables, word: &str, words: &mut Words<'_>) {
+fn show<S: Alter + Drop>(
+    printer: Printer<'_>,
+    base: &mut Base<S>,
+    word: &str,
+    words: &mut Words<'_>,
+) {
     match word {
         "calibration" => printer.tell(&latest_calibration(base)),
         "holds" => printer.tell(&greatest_hold(base)),
@@ -266,7 +309,12 @@ fn show(printer: Printer<'_>, base: &mut Tables, word: &str, words: &mut Words<'
 }
 
 /// Makes a change, or asks.
-fn call_base(printer: Printer<'_>, base: &mut Tables, word: &str, words: &mut Words<'_>) {
+fn call_base<S: Alter + Drop>(
+    printer: Printer<'_>,
+    base: &mut Base<S>,
+    word: &str,
+    words: &mut Words<'_>,
+) {
     match change_of(printer.names, word, *words) {
         Some(change) => printer.tell(&commit(base, &change)),
         None => show(printer, base, word, words),

@@ -1,44 +1,37 @@
-//! Trials of the counter: requests, heads and files of which each front and each change of one octet is tried.
+//! Trials of the counter in one process: hostile octets, a disk and a memory that fail, and work for other programs to
+//! time or to read.
 #![tactic(auto)]
 
-mod answers;
-mod certificates;
-mod changes;
+mod books;
+mod failing;
 mod fields;
-mod heads;
-mod policies;
-mod requests;
+mod octets;
 mod setting;
+mod tally;
+mod work;
 
-use changes::Tally;
-use std::{env, fs};
+use std::env;
 
-/// Tries a line of a kind.
-fn try_line(rt: &HostRuntime, kind: &str, line: &str) -> anyhow::Result<Tally> {
-    match kind {
-        "request" | "head" => setting::try_line(rt, kind, line),
-        "policy" => policies::try_line(rt, line),
-        _ => certificates::try_line(rt, kind, line),
+/// The word between two parts.
+const THEN: &str = "then";
+
+/// Does what the words of a part ask for.
+fn perform(rt: &HostRuntime, words: &[String]) -> anyhow::Result<()> {
+    match words {
+        [word, files @ ..] if word.as_str() == "octets" => octets::try_files(rt, files),
+        [word, words @ ..] if word.as_str() == "work" => work::perform(rt, words),
+        words => failing::perform(rt, words),
     }
 }
 
-/// Tries the lines of a text.
-fn try_text(rt: &HostRuntime, text: &str) -> anyhow::Result<Tally> {
-    let mut tally = Tally::NONE;
-    for line in text.lines() {
-        if let Some((kind, rest)) = line.split_once(' ') {
-            tally = tally.plus(try_line(rt, kind, rest)?);
-        }
-    }
-    Ok(tally)
-}
-
-/// Makes the trials of the files that the words name, and tells of each how many they were and how many were wrong.
+/// Does what the words ask for, part by part.
 fn main(rt: HostRuntime) -> anyhow::Result<()> {
-    for path in env::args(&rt)?.skip(1) {
-        let text = fs::read_to_string(&rt, path.as_str())?;
-        let tally = try_text(&rt, &text)?;
-        println!(rt; "{path}: {} tried; {} wrong", tally.tried, tally.wrong)?;
+    let mut words = Vec::new(rt.alloc());
+    for word in env::args(&rt)?.skip(1) {
+        words.push(word)?;
+    }
+    for part in words.split(|word| word.as_str() == THEN) {
+        perform(&rt, part)?;
     }
     Ok(())
 }

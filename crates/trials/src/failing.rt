@@ -1,0 +1,49 @@
+//! The counter where its disk stops at a call or is full from a call on, where a growth of memory is refused, and where
+//! ends give and take few octets.
+mod calls;
+mod checks;
+mod dump;
+mod filling;
+mod growths;
+mod journey;
+mod ledger;
+mod medium;
+mod noting;
+mod opening;
+mod pieces;
+mod platter;
+mod refusing;
+mod soundness;
+mod stopping;
+mod trial;
+mod versions;
+
+use crate::setting::{Setting, example_setting};
+use std::fs;
+
+/// Refuses the growths of the calls in files.
+fn refuse_growths(rt: &HostRuntime, setting: &Setting, paths: &[String]) -> anyhow::Result<()> {
+    for path in paths {
+        let text = fs::read_to_string(rt, path.as_str())?;
+        refusing::try_lines(rt, setting, &text)?;
+    }
+    Ok(())
+}
+
+/// Does what the words ask for, and nothing where there are none.
+pub fn perform(rt: &HostRuntime, words: &[String]) -> anyhow::Result<()> {
+    let Some((word, paths)) = words.split_first() else {
+        return Ok(());
+    };
+    let setting = example_setting(rt.alloc())?;
+    match word.as_str() {
+        "pieces" => pieces::try_pieces(rt, &setting),
+        "memory" => stopping::stop_memory(rt, &setting),
+        "stops" => stopping::stop_each(rt, &setting),
+        "migrations-2" => stopping::stop_migrations(rt, &setting, 2),
+        "migrations-1" => stopping::stop_migrations(rt, &setting, 1),
+        "full" => filling::fill_each(rt, &setting),
+        "growths" => refuse_growths(rt, &setting, paths),
+        _ => anyhow::bail!("no such word"),
+    }
+}

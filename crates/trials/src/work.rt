@@ -1,0 +1,66 @@
+//! Work for other programs to time or to read: readings, replies and tokens of one request, exchanges over loopback,
+//! long heads, and a database.
+mod granting;
+mod heads;
+mod reading;
+mod replying;
+mod sample;
+mod serving;
+mod setting;
+
+use crate::setting::CERTIFICATE;
+use service::MOST_OCTETS;
+use std::fs::File;
+use std::io::Read;
+
+/// Does the work as many times as the words say, and tells how many times it was done.
+fn times_done(rt: &HostRuntime, words: &[String]) -> anyhow::Result<u64> {
+    match words {
+        [what, count] if what.as_str() == "read" => Ok(reading::readings(number_of(count))),
+        [what, count] if what.as_str() == "reply" => {
+            replying::replies(rt.alloc(), CERTIFICATE, number_of(count))
+        }
+        [what, count, path] if what.as_str() == "reply" => {
+            let mut certificate = Vec::new(rt.alloc());
+            File::open(rt, path.as_str())?.read_to_end(&mut certificate)?;
+            replying::replies(rt.alloc(), &certificate, number_of(count))
+        }
+        [what, count, path] if what.as_str() == "grant" => {
+            granting::grants(rt, path.as_str(), number_of(count))
+        }
+        [what, count, fields] if what.as_str() == "head" => {
+            heads::heads(rt.alloc(), number_of(count), size_of(fields), MOST_OCTETS)
+        }
+        [what, count, fields, octets] if what.as_str() == "head" => heads::heads(
+            rt.alloc(),
+            number_of(count),
+            size_of(fields),
+            size_of(octets),
+        ),
+        _ => Ok(0),
+    }
+}
+
+/// The number of a word; 0 where it is none.
+fn number_of(word: &String) -> u64 {
+    word.parse().unwrap_or(0)
+}
+
+/// The same, of octets or fields.
+fn size_of(word: &String) -> usize {
+    word.parse().unwrap_or(0)
+}
+
+/// Writes a database for `sqlite3` to read (`sample PATH`), serves connections over loopback (`serve COUNT`), or prints
+/// how many times a request was read (`read COUNT`), and how many times there was a reply with a token: of so many
+/// without store and signer (`reply COUNT`), by a certificate in a file (`reply COUNT FILE`), or over the database at a
+/// path (`grant COUNT PATH`). Or how many times a head of so many fields was read that is as long as heads may be
+/// (`head COUNT FIELDS`), or has so many octets (`head COUNT FIELDS OCTETS`).
+pub fn perform(rt: &HostRuntime, words: &[String]) -> anyhow::Result<()> {
+    match words {
+        [what, path] if what.as_str() == "sample" => sample::write(rt, path.as_str())?,
+        [what, count] if what.as_str() == "serve" => serving::serve(rt, count.parse()?)?,
+        words => println!(rt; "{}", times_done(rt, words)?)?,
+    }
+    Ok(())
+}
