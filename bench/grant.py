@@ -27,7 +27,7 @@ def seconds(path, count):
     with tempfile.TemporaryDirectory(dir=os.path.dirname(path)) as folder:
         copy = shutil.copy(path, folder)
         begun = time.monotonic()
-        counted(count, built("trials"), "work", "grant", str(count), copy)
+        counted(count, built("trials", "--optimized"), "work", "grant", str(count), copy)
         return time.monotonic() - begun
 
 

@@ -60,9 +60,9 @@ class Wrong:
         return self.count > 0
 
 
-def built(crate):
+def built(crate, *options):
     """The path of a crate's program, which is proved and built first if that wasn't done since the sources changed."""
-    words = [os.path.join(SCRIPTS, "built"), crate]
+    words = [os.path.join(SCRIPTS, "built"), *options, crate]
     return subprocess.run(words, stdout=subprocess.PIPE, check=True, text=True).stdout.strip()
 
 
@@ -72,9 +72,9 @@ def built_key_holder(*targets):
     return KEY_HOLDER
 
 
-def build():
+def build(*options):
     """Proves and builds the counter, if that wasn't done yet, and builds the key holder."""
-    built("counter")
+    built("counter", *options)
     built_key_holder()
 
 
