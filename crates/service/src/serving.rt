@@ -1,9 +1,9 @@
 //! One request and its answer.
-ghost use Rattle.std.specs.Prelude.{◌≡◌, ℕ, ℤ, List, Option};
+ghost use Rattle.std.specs.Prelude.{◌≡◌, ℕ, ℤ, length, List, Option};
 ghost use Rattle.std.specs.Io.KnownBytes.{Consumes};
 ghost use Rattle.httparse.specs.Grammar.{RequestHead, print_request};
 ghost use Rattle.policy.specs.Record.{PolicyValue};
-ghost use Rattle.service.specs.Heads.{IsHead, head_value};
+ghost use Rattle.service.specs.Heads.{IsHead, head_value, most_octets};
 ghost use Rattle.service.specs.Reading.{ReadsRequest};
 ghost use Rattle.service.specs.Served.{Serves};
 ghost use Rattle.service.specs.Views.{head_view, IsInPlace};
@@ -64,6 +64,82 @@ fn read_request<R: Read>(
     }
 }
 
+/// Reads the body of a request whose head was read, and answers the request.
+fn serve_head<R: Read, W: Write, B: Book + Drop, G: Signer>(
+    environment: Environment<'_>,
+    head: Head<'_>,
+    reader: &mut R,
+    desk: &mut Desk<'_, B>,
+    signer: &mut G,
+    writer: &mut W,
+) -> Served
+    requires { IsInPlace head }
+    ensures setting { desk.new.setting ≡ desk.old.setting }
+    ensures honest { B.honest desk.new.store → B.honest desk.old.store }
+    ensures served { (before : Option (List ℕ)) (h : RequestHead) → IsHead (print_request h) h
+        → head_view head.entry ≡ head_value h → Consumes before (R.remaining reader.old) (print_request h)
+        → Serves B.Standing G.signs G.fault_count W.contents environment.entry.reading (record {
+          input = before;
+          input_after = R.remaining reader.new;
+          writer = writer.old;
+          writer_after = writer.new;
+          desk = desk.old;
+          desk_after = desk.new;
+          signer = signer.old;
+          signer_after = signer.new;
+        }) result }
+{
+    match read_request(environment.alloc, environment.routes, reader, head) {
+        RequestRead::Refused(refusal) => refuse(writer, refusal),
+        RequestRead::Wanting => wanting(writer),
+        RequestRead::Failed => Served::ReadFailed,
+        RequestRead::Whole(action, body) => {
+            let context = Context {
+                environment,
+                head,
+                body: &body,
+            };
+            handle(action, context, desk, signer, writer)
+        }
+    }
+}
+
+/// Reads one request, whose head takes that room, and answers it.
+fn serve_within<R: Read, W: Write, B: Book + Drop, G: Signer>(
+    environment: Environment<'_>,
+    room: &mut [u8],
+    reader: &mut R,
+    desk: &mut Desk<'_, B>,
+    signer: &mut G,
+    writer: &mut W,
+) -> Served
+    requires { length room.old ≡ most_octets }
+    ensures setting { desk.new.setting ≡ desk.old.setting }
+    ensures honest { B.honest desk.new.store → B.honest desk.old.store }
+    ensures served { Serves B.Standing G.signs G.fault_count W.contents environment.entry.reading (record {
+      input = R.remaining reader.old;
+      input_after = R.remaining reader.new;
+      writer = writer.old;
+      writer_after = writer.new;
+      desk = desk.old;
+      desk_after = desk.new;
+      signer = signer.old;
+      signer_after = signer.new;
+    }) result }
+{
+    let mut headers = [EMPTY_HEADER_SPAN; MOST_FIELDS];
+    match read_head(reader, room, &mut headers) {
+        HeadRead::Closed => Served::Closed,
+        HeadRead::Failed => Served::ReadFailed,
+        HeadRead::Cut => refuse(writer, Refusal::BadRequest),
+        HeadRead::Refused => refuse(writer, Refusal::BadRequest),
+        HeadRead::Whole(spans) => {
+            let head = head_at(room, &headers, spans);
+            serve_head(environment, head, reader, desk, signer, writer)
+        }
+    }
+}
+
 /// Reads one request, has the desk take the one step that it asks for, and writes one answer (RFC 9112, RFC 3161 3.4).
 /// The reading is the clock's, in microseconds.
 ///
@@ -100,31 +176,17 @@ pub fn serve_one<R: Read, W: Write, B: Book + Drop, G: Signer>(
     let Ok(mut room) = vec![in alloc; 0u8; MOST_OCTETS] else {
         return wanting(writer);
     };
-    let mut headers = [EMPTY_HEADER_SPAN; MOST_FIELDS];
-    let spans = match read_head(reader, room.as_mut_slice(), &mut headers) {
-        HeadRead::Closed => return Served::Closed,
-        HeadRead::Failed => return Served::ReadFailed,
-        HeadRead::Cut => return refuse(writer, Refusal::BadRequest),
-        HeadRead::Refused => return refuse(writer, Refusal::BadRequest),
-        HeadRead::Whole(spans) => spans,
+    let environment = Environment {
+        alloc,
+        routes: &routes,
+        reading,
     };
-    let head = head_at(&room, &headers, spans);
-    match read_request(alloc, &routes, reader, head) {
-        RequestRead::Refused(refusal) => refuse(writer, refusal),
-        RequestRead::Wanting => wanting(writer),
-        RequestRead::Failed => Served::ReadFailed,
-        RequestRead::Whole(action, body) => {
-            let environment = Environment {
-                alloc,
-                routes: &routes,
-                reading,
-            };
-            let context = Context {
-                environment,
-                head,
-                body: &body,
-            };
-            handle(action, context, desk, signer, writer)
-        }
-    }
+    serve_within(
+        environment,
+        room.as_mut_slice(),
+        reader,
+        desk,
+        signer,
+        writer,
+    )
 }
