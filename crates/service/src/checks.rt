@@ -146,11 +146,11 @@ pub(crate) fn account_and_reference<'a>(
 /// An active account, and the target's number.
 pub(crate) fn account_and_number<'a>(
     policy: &'a Policy,
-    context: Context<'_>,
+    context: &Context<'_>,
 ) -> Result<(&'a Account, u64), Refusal>
-    requires { IsInPlace context.head }
+    requires { IsInPlace context.now.head }
     ensures { result_by (λ p. (account_view p.0.now, p.1)) result
-        ≡ account_and_number (policy_view policy.now) (head_view context.entry.head) }
+        ≡ account_and_number (policy_view policy.now) (head_view context.now.head) }
 {
     let account = match active_account(policy, context.head) {
         Ok(account) => account,
@@ -165,11 +165,11 @@ pub(crate) fn account_and_number<'a>(
 /// An active account's inquiry into the stamps between the target's two serial numbers.
 pub(crate) fn account_and_range<'a>(
     policy: &'a Policy,
-    context: Context<'_>,
+    context: &Context<'_>,
 ) -> Result<Inquiry<'a>, Refusal>
-    requires { IsInPlace context.head }
+    requires { IsInPlace context.now.head }
     ensures value { result_by (λ i. (account_view i.account.now, i.from, i.to)) result
-        ≡ account_and_range (policy_view policy.now) (head_view context.entry.head) }
+        ≡ account_and_range (policy_view policy.now) (head_view context.now.head) }
     ensures policy { IfOk result (λ i. i.policy.now ≡ policy.now) }
 {
     let account = match active_account(policy, context.head) {

@@ -26,15 +26,15 @@ use std::io::Write;
 /// Answers a whole request.
 pub(crate) fn handle<W: Write, B: Book + Drop, G: Signer>(
     action: Action,
-    context: Context<'_>,
+    context: &Context<'_>,
     desk: &mut Desk<'_, B>,
     signer: &mut G,
     writer: &mut W,
 ) -> Served
-    requires { IsInPlace context.head }
+    requires { IsInPlace context.now.head }
     ensures setting { desk.new.setting ≡ desk.old.setting }
     ensures honest { B.honest desk.new.store → B.honest desk.old.store }
-    ensures served { Handles B.Standing G.signs G.fault_count W.contents (request_view context.entry) action writer.old
+    ensures served { Handles B.Standing G.signs G.fault_count W.contents (request_view context.now) action writer.old
         writer.new desk.old desk.new signer.old signer.new result }
 {
     match action {

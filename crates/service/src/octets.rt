@@ -137,7 +137,7 @@ fn serve_front<W: Write, B: Book + Drop, G: Signer>(
         body,
     };
     Exchanged {
-        served: handle(action, context, desk, signer, writer),
+        served: handle(action, &context, desk, signer, writer),
         taken: length + count,
         is_whole,
     }

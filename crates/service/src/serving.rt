@@ -99,7 +99,7 @@ fn serve_head<R: Read, W: Write, B: Book + Drop, G: Signer>(
                 head,
                 body: &body,
             };
-            handle(action, context, desk, signer, writer)
+            handle(action, &context, desk, signer, writer)
         }
     }
 }

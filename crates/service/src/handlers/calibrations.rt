@@ -15,15 +15,15 @@ use std::io::Write;
 
 /// Adds a calibration for an operator.
 pub(crate) fn calibrate<W: Write, B: Book + Drop, G: Signer>(
-    context: Context<'_>,
+    context: &Context<'_>,
     desk: &mut Desk<'_, B>,
     _signer: &mut G,
     writer: &mut W,
 ) -> Served
-    requires { IsInPlace context.head }
+    requires { IsInPlace context.now.head }
     ensures setting { desk.new.setting ≡ desk.old.setting }
     ensures honest { B.honest desk.new.store → B.honest desk.old.store }
-    ensures served { Handles B.Standing G.signs G.fault_count W.contents (request_view context.entry) Calibrate
+    ensures served { Handles B.Standing G.signs G.fault_count W.contents (request_view context.now) Calibrate
         writer.old writer.new desk.old desk.new _signer.old _signer.new result }
 {
     let calibration = match calibration_asked(desk.policy(), context.head, context.body) {

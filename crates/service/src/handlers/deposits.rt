@@ -18,15 +18,15 @@ use std::io::Write;
 
 /// Takes a deposit.
 pub(crate) fn keep<W: Write, B: Book + Drop, G: Signer>(
-    context: Context<'_>,
+    context: &Context<'_>,
     desk: &mut Desk<'_, B>,
     signer: &mut G,
     writer: &mut W,
 ) -> Served
-    requires { IsInPlace context.head }
+    requires { IsInPlace context.now.head }
     ensures setting { desk.new.setting ≡ desk.old.setting }
     ensures honest { B.honest desk.new.store → B.honest desk.old.store }
-    ensures served { Handles B.Standing G.signs G.fault_count W.contents (request_view context.entry) Keep
+    ensures served { Handles B.Standing G.signs G.fault_count W.contents (request_view context.now) Keep
         writer.old writer.new desk.old desk.new signer.old signer.new result }
 {
     let (account, reference) = match account_and_reference(desk.policy(), context.head) {
@@ -47,15 +47,15 @@ pub(crate) fn keep<W: Write, B: Book + Drop, G: Signer>(
 
 /// Lists deposits. Their lines take memory.
 pub(crate) fn list<W: Write, B: Book + Drop, G: Signer>(
-    context: Context<'_>,
+    context: &Context<'_>,
     desk: &mut Desk<'_, B>,
     _signer: &mut G,
     writer: &mut W,
 ) -> Served
-    requires { IsInPlace context.head }
+    requires { IsInPlace context.now.head }
     ensures setting { desk.new.setting ≡ desk.old.setting }
     ensures honest { B.honest desk.new.store → B.honest desk.old.store }
-    ensures served { Handles B.Standing G.signs G.fault_count W.contents (request_view context.entry) List
+    ensures served { Handles B.Standing G.signs G.fault_count W.contents (request_view context.now) List
         writer.old writer.new desk.old desk.new _signer.old _signer.new result }
 {
     let account = match active_account(desk.policy(), context.head) {

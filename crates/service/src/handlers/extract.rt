@@ -16,15 +16,15 @@ use std::io::Write;
 
 /// Writes stamps out for an auditor.
 pub(crate) fn extract_stamps<W: Write, B: Book + Drop, G: Signer>(
-    context: Context<'_>,
+    context: &Context<'_>,
     desk: &mut Desk<'_, B>,
     _signer: &mut G,
     writer: &mut W,
 ) -> Served
-    requires { IsInPlace context.head }
+    requires { IsInPlace context.now.head }
     ensures setting { desk.new.setting ≡ desk.old.setting }
     ensures honest { B.honest desk.new.store → B.honest desk.old.store }
-    ensures served { Handles B.Standing G.signs G.fault_count W.contents (request_view context.entry) Extract
+    ensures served { Handles B.Standing G.signs G.fault_count W.contents (request_view context.now) Extract
         writer.old writer.new desk.old desk.new _signer.old _signer.new result }
 {
     let inquiry = match account_and_range(desk.policy(), context) {

@@ -15,15 +15,15 @@ use std::io::Write;
 
 /// Lets an account see a deposit.
 pub(crate) fn grant<W: Write, B: Book + Drop, G: Signer>(
-    context: Context<'_>,
+    context: &Context<'_>,
     desk: &mut Desk<'_, B>,
     _signer: &mut G,
     writer: &mut W,
 ) -> Served
-    requires { IsInPlace context.head }
+    requires { IsInPlace context.now.head }
     ensures setting { desk.new.setting ≡ desk.old.setting }
     ensures honest { B.honest desk.new.store → B.honest desk.old.store }
-    ensures served { Handles B.Standing G.signs G.fault_count W.contents (request_view context.entry) Grant
+    ensures served { Handles B.Standing G.signs G.fault_count W.contents (request_view context.now) Grant
         writer.old writer.new desk.old desk.new _signer.old _signer.new result }
 {
     let (account, number) = match account_and_number(desk.policy(), context) {
@@ -40,15 +40,15 @@ pub(crate) fn grant<W: Write, B: Book + Drop, G: Signer>(
 
 /// Takes that right away.
 pub(crate) fn revoke<W: Write, B: Book + Drop, G: Signer>(
-    context: Context<'_>,
+    context: &Context<'_>,
     desk: &mut Desk<'_, B>,
     _signer: &mut G,
     writer: &mut W,
 ) -> Served
-    requires { IsInPlace context.head }
+    requires { IsInPlace context.now.head }
     ensures setting { desk.new.setting ≡ desk.old.setting }
     ensures honest { B.honest desk.new.store → B.honest desk.old.store }
-    ensures served { Handles B.Standing G.signs G.fault_count W.contents (request_view context.entry) Revoke
+    ensures served { Handles B.Standing G.signs G.fault_count W.contents (request_view context.now) Revoke
         writer.old writer.new desk.old desk.new _signer.old _signer.new result }
 {
     let (account, number) = match account_and_number(desk.policy(), context) {

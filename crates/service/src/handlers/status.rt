@@ -16,15 +16,15 @@ use std::io::Write;
 
 /// Tells the counter's state to an operator or an auditor.
 pub(crate) fn tell_status<W: Write, B: Book + Drop, G: Signer>(
-    context: Context<'_>,
+    context: &Context<'_>,
     desk: &mut Desk<'_, B>,
     signer: &mut G,
     writer: &mut W,
 ) -> Served
-    requires { IsInPlace context.head }
+    requires { IsInPlace context.now.head }
     ensures setting { desk.new.setting ≡ desk.old.setting }
     ensures honest { B.honest desk.new.store → B.honest desk.old.store }
-    ensures served { Handles B.Standing G.signs G.fault_count W.contents (request_view context.entry) Status
+    ensures served { Handles B.Standing G.signs G.fault_count W.contents (request_view context.now) Status
         writer.old writer.new desk.old desk.new signer.old signer.new result }
 {
     match watcher_shown(desk.policy(), context.head) {

@@ -15,15 +15,15 @@ use std::io::Write;
 
 /// Answers a time-stamp request.
 pub(crate) fn stamp<W: Write, B: Book + Drop, G: Signer>(
-    context: Context<'_>,
+    context: &Context<'_>,
     desk: &mut Desk<'_, B>,
     signer: &mut G,
     writer: &mut W,
 ) -> Served
-    requires { IsInPlace context.head }
+    requires { IsInPlace context.now.head }
     ensures setting { desk.new.setting ≡ desk.old.setting }
     ensures honest { B.honest desk.new.store → B.honest desk.old.store }
-    ensures served { Handles B.Standing G.signs G.fault_count W.contents (request_view context.entry) Stamp
+    ensures served { Handles B.Standing G.signs G.fault_count W.contents (request_view context.now) Stamp
         writer.old writer.new desk.old desk.new signer.old signer.new result }
 {
     let account = match account_shown(desk.policy(), context.head) {

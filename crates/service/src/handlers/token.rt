@@ -17,15 +17,15 @@ use std::io::Write;
 
 /// Shows the reply with a deposit's token.
 pub(crate) fn show_token<W: Write, B: Book + Drop, G: Signer>(
-    context: Context<'_>,
+    context: &Context<'_>,
     desk: &mut Desk<'_, B>,
     _signer: &mut G,
     writer: &mut W,
 ) -> Served
-    requires { IsInPlace context.head }
+    requires { IsInPlace context.now.head }
     ensures setting { desk.new.setting ≡ desk.old.setting }
     ensures honest { B.honest desk.new.store → B.honest desk.old.store }
-    ensures served { Handles B.Standing G.signs G.fault_count W.contents (request_view context.entry) Token
+    ensures served { Handles B.Standing G.signs G.fault_count W.contents (request_view context.now) Token
         writer.old writer.new desk.old desk.new _signer.old _signer.new result }
 {
     let (account, number) = match account_and_number(desk.policy(), context) {

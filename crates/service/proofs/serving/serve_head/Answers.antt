@@ -1,4 +1,4 @@
-use Rattle.std.proofs.Common.{◌≡◌, List, ℕ, refl, sym, subst}
+use Rattle.std.proofs.Common.{List, ℕ, refl, sym, subst}
 use Rattle.service.specs.Requests.{IsRequest, asked_by}
 use Rattle.service.specs.Views.{head_view}
 use Rattle.service.proofs.ServingLemmas.{turn, refusing, wanting_early}

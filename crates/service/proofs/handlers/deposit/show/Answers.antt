@@ -11,7 +11,7 @@ use Rattle.service.proofs.handlers.deposit.show.Goals as goal
 
 pub returns-in-Err-clause-served : goal.returns-in-Err-clause-served
 returns-in-Err-clause-served g c =
-    refused g.B.Standing g.G.Signer.signs g.G.Signer.fault_count g.W.Write.contents (request_view c.args.context) action.Show
+    refused g.B.Standing g.G.Signer.signs g.G.Signer.fault_count g.W.Write.contents (request_view c.args.context.now) action.Show
     c.args.writer.now c.refuse.new.writer c.args.desk.now c.args.desk.now c.args._signer.now c.args._signer.now
     c.refuse.result c.in-Err.refusal
     (checks _ _ (Err c.in-Err.refusal) (rw c.policy.ensures at c.in-Err.ensures)) refl refl c.refuse.ensures
@@ -19,7 +19,7 @@ returns-in-Err-clause-served g c =
 pub returns-in-Ok-show-clause-served : goal.returns-in-Ok-show-clause-served
 returns-in-Ok-show-clause-served g c =
     let account = account_view c.in-Ok.asked.0.now in
-    told g.B.Standing g.G.Signer.signs g.G.Signer.fault_count g.W.Write.contents (request_view c.args.context) action.Show
+    told g.B.Standing g.G.Signer.signs g.G.Signer.fault_count g.W.Write.contents (request_view c.args.context.now) action.Show
     c.args.writer.now c.succeed.new.writer c.args.desk.now c.show.new.self c.args._signer.now c.args._signer.now
     c.succeed.result (Show account c.in-Ok.asked.1) (Shown c.in-Ok-show.bytes.items)
     (success 200 media.Octets c.deref.result.now)
@@ -29,7 +29,7 @@ returns-in-Ok-show-clause-served g c =
 pub returns-in-Err-show-clause-served : goal.returns-in-Err-show-clause-served
 returns-in-Err-show-clause-served g c =
     let account = account_view c.in-Ok.asked.0.now in
-    told g.B.Standing g.G.Signer.signs g.G.Signer.fault_count g.W.Write.contents (request_view c.args.context) action.Show
+    told g.B.Standing g.G.Signer.signs g.G.Signer.fault_count g.W.Write.contents (request_view c.args.context.now) action.Show
     c.args.writer.now c.refuse-in-Err-show.new.writer c.args.desk.now c.show.new.self c.args._signer.now
     c.args._signer.now c.refuse-in-Err-show.result (Show account c.in-Ok.asked.1) (Refused c.in-Err-show.fault)
     (refusal_answer c.from.result)

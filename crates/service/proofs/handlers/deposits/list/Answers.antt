@@ -12,7 +12,7 @@ use Rattle.service.proofs.handlers.deposits.list.Goals as goal
 
 pub returns-in-Err-clause-served : goal.returns-in-Err-clause-served
 returns-in-Err-clause-served g c =
-    refused g.B.Standing g.G.Signer.signs g.G.Signer.fault_count g.W.Write.contents (request_view c.args.context) action.List
+    refused g.B.Standing g.G.Signer.signs g.G.Signer.fault_count g.W.Write.contents (request_view c.args.context.now) action.List
     c.args.writer.now c.refuse.new.writer c.args.desk.now c.args.desk.now c.args._signer.now c.args._signer.now
     c.refuse.result c.in-Err.refusal
     (checks _ _ (Err c.in-Err.refusal) (rw c.policy.ensures at c.in-Err.ensures)) refl refl c.refuse.ensures
@@ -20,7 +20,7 @@ returns-in-Err-clause-served g c =
 pub returns-in-Err-list-clause-served : goal.returns-in-Err-list-clause-served
 returns-in-Err-list-clause-served g c =
     let account = account_view c.in-Ok.asked.now in
-    told g.B.Standing g.G.Signer.signs g.G.Signer.fault_count g.W.Write.contents (request_view c.args.context) action.List
+    told g.B.Standing g.G.Signer.signs g.G.Signer.fault_count g.W.Write.contents (request_view c.args.context.now) action.List
     c.args.writer.now c.refuse-in-Err-list.new.writer c.args.desk.now c.list.new.self c.args._signer.now c.args._signer.now
     c.refuse-in-Err-list.result (ListAll account) (Refused c.in-Err-list.fault) (refusal_answer c.from.result)
     (checks _ _ (Ok account) (rw c.policy.ensures at c.in-Ok.ensures)) (c.in-Err-list.ensures.step, refl) (plainly (ap refusal_answer c.from.ensures)) c.refuse-in-Err-list.ensures
@@ -28,7 +28,7 @@ returns-in-Err-list-clause-served g c =
 pub returns-in-Some-clause-served : goal.returns-in-Some-clause-served
 returns-in-Some-clause-served g c =
     let account = account_view c.in-Ok.asked.now in
-    told g.B.Standing g.G.Signer.signs g.G.Signer.fault_count g.W.Write.contents (request_view c.args.context) action.List
+    told g.B.Standing g.G.Signer.signs g.G.Signer.fault_count g.W.Write.contents (request_view c.args.context.now) action.List
     c.args.writer.now c.succeed.new.writer c.args.desk.now c.list.new.self c.args._signer.now c.args._signer.now
     c.succeed.result (ListAll account) (Listed (map listed_view c.in-Ok-list.rows.items))
     (success 200 media.Text c.deref-in-Some.result.now)
@@ -39,7 +39,7 @@ returns-in-Some-clause-served g c =
 pub returns-clause-served : goal.returns-clause-served
 returns-clause-served g c =
     let account = account_view c.in-Ok.asked.now in
-    list_wanted g.B.Standing g.G.Signer.signs g.G.Signer.fault_count g.W.Write.contents (request_view c.args.context) action.List
+    list_wanted g.B.Standing g.G.Signer.signs g.G.Signer.fault_count g.W.Write.contents (request_view c.args.context.now) action.List
     c.args.writer.now c.wanting.new.writer c.args.desk.now c.list.new.self c.args._signer.now c.args._signer.now
     c.wanting.result account (map listed_view c.in-Ok-list.rows.items)
     (checks _ _ (Ok account) (rw c.policy.ensures at c.in-Ok.ensures)) (c.in-Ok-list.ensures.step, refl) c.wanting.ensures

@@ -9,7 +9,7 @@ use Rattle.service.proofs.handlers.extract.extract_stamps.Goals as goal
 
 pub returns-in-Err-clause-served : goal.returns-in-Err-clause-served
 returns-in-Err-clause-served g c =
-    refused g.B.Standing g.G.Signer.signs g.G.Signer.fault_count g.W.Write.contents (request_view c.args.context) action.Extract
+    refused g.B.Standing g.G.Signer.signs g.G.Signer.fault_count g.W.Write.contents (request_view c.args.context.now) action.Extract
     c.args.writer.now c.refuse.new.writer c.args.desk.now c.args.desk.now c.args._signer.now c.args._signer.now
     c.refuse.result c.in-Err.refusal
     (checks _ _ (Err c.in-Err.refusal) (rw c.policy.ensures at c.in-Err.ensures.value)) refl refl c.refuse.ensures
@@ -23,7 +23,7 @@ returns-clause-served g c =
     let P : PolicyValue → Type 0 =
     λ f. ServesExtract g.B.Standing g.W.Write.contents c.args.writer.now c.serve_extract.new.writer
     c.args.desk.now.store c.serve_extract.new.desk.store f account asked.from asked.to c.serve_extract.result in
-    extracted g.B.Standing g.G.Signer.signs g.G.Signer.fault_count g.W.Write.contents (request_view c.args.context) action.Extract
+    extracted g.B.Standing g.G.Signer.signs g.G.Signer.fault_count g.W.Write.contents (request_view c.args.context.now) action.Extract
     c.args.writer.now c.serve_extract.new.writer c.args.desk.now c.serve_extract.new.desk c.args._signer.now
     c.args._signer.now c.serve_extract.result account asked.from asked.to
     (checks _ _ (Ok (account, asked.from, asked.to)) (rw c.policy.ensures at c.in-Ok.ensures.value))

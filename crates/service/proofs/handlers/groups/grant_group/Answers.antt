@@ -11,7 +11,7 @@ use Rattle.service.proofs.handlers.groups.grant_group.Goals as goal
 
 pub returns-in-Err-clause-served : goal.returns-in-Err-clause-served
 returns-in-Err-clause-served g c =
-    refused g.B.Standing g.G.Signer.signs g.G.Signer.fault_count g.W.Write.contents (request_view c.args.context) action.GrantGroup
+    refused g.B.Standing g.G.Signer.signs g.G.Signer.fault_count g.W.Write.contents (request_view c.args.context.now) action.GrantGroup
     c.args.writer.now c.refuse.new.writer c.args.desk.now c.args.desk.now c.args._signer.now c.args._signer.now
     c.refuse.result c.in-Err.refusal
     (checks _ _ (Err c.in-Err.refusal) (rw c.policy.ensures at c.in-Err.ensures)) refl refl c.refuse.ensures
@@ -20,7 +20,7 @@ pub returns-clause-served : goal.returns-clause-served
 returns-clause-served g c =
     let account = account_view c.in-Ok.asked.0.now in
     let command = λ (name : List ℕ). Grant account c.in-Ok.asked.1 (readers.Group name) in
-    told g.B.Standing g.G.Signer.signs g.G.Signer.fault_count g.W.Write.contents (request_view c.args.context) action.GrantGroup
+    told g.B.Standing g.G.Signer.signs g.G.Signer.fault_count g.W.Write.contents (request_view c.args.context.now) action.GrantGroup
     c.args.writer.now c.write_done.new.writer c.args.desk.now c.grant_group-outcome.new.self c.args._signer.now
     c.args._signer.now c.write_done.result (command c.parameter-name.result.now) (answered done_as c.grant_group-outcome.result)
     (done_answer c.grant_group-outcome.result)

@@ -8,20 +8,20 @@ use Rattle.service.proofs.handlers.status.tell_status.Goals as goal
 
 pub returns-in-Err-clause-served : goal.returns-in-Err-clause-served
 returns-in-Err-clause-served g c =
-    refused g.B.Standing g.G.Signer.signs g.G.Signer.fault_count g.W.Write.contents (request_view c.args.context) action.Status
+    refused g.B.Standing g.G.Signer.signs g.G.Signer.fault_count g.W.Write.contents (request_view c.args.context.now) action.Status
     c.args.writer.now c.refuse.new.writer c.args.desk.now c.args.desk.now c.args.signer.now c.args.signer.now
     c.refuse.result c.in-Err.refusal
     (checks _ _ (Err c.in-Err.refusal) (rw c.policy.ensures at c.in-Err.ensures)) refl refl c.refuse.ensures
 
 pub returns-clause-served : goal.returns-clause-served
 returns-clause-served g c =
-    let reading = c.args.context.environment.reading in
+    let reading = c.args.context.now.environment.reading in
     let fits : SFits w64 reading = search rules in
     let Q : ℤ → ℕ → Type 0 = λ r n. ServesStatus g.B.Standing g.W.Write.contents c.args.writer.now
     c.serve_status.new.writer c.args.desk.now.store c.serve_status.new.desk.store
     c.args.desk.now.setting.file.counter r n c.serve_status.result in
     let at : Q reading c.faults-faults.result = subst (λ r. Q r c.faults-faults.result) (to_z-of_z fits) c.serve_status.ensures.served in
-    status_told g.B.Standing g.G.Signer.signs g.G.Signer.fault_count g.W.Write.contents (request_view c.args.context) action.Status
+    status_told g.B.Standing g.G.Signer.signs g.G.Signer.fault_count g.W.Write.contents (request_view c.args.context.now) action.Status
     c.args.writer.now c.serve_status.new.writer c.args.desk.now c.serve_status.new.desk c.args.signer.now
     c.args.signer.now c.serve_status.result
     (checks _ _ (Ok (account_view c.in-Ok.field-0.now)) (rw c.policy.ensures at c.in-Ok.ensures))

@@ -10,22 +10,22 @@ use Rattle.service.proofs.handlers.time_stamps.stamp.Goals as goal
 
 pub returns-in-Err-clause-served : goal.returns-in-Err-clause-served
 returns-in-Err-clause-served g c =
-    refused g.B.Standing g.G.Signer.signs g.G.Signer.fault_count g.W.Write.contents (request_view c.args.context) action.Stamp
+    refused g.B.Standing g.G.Signer.signs g.G.Signer.fault_count g.W.Write.contents (request_view c.args.context.now) action.Stamp
     c.args.writer.now c.refuse.new.writer c.args.desk.now c.args.desk.now c.args.signer.now c.args.signer.now
     c.refuse.result c.in-Err.refusal
     (checks _ _ (Err c.in-Err.refusal) (rw c.policy.ensures at c.in-Err.ensures)) refl refl c.refuse.ensures
 
 pub returns-clause-served : goal.returns-clause-served
 returns-clause-served g c =
-    let reading = c.args.context.environment.reading in
+    let reading = c.args.context.now.environment.reading in
     let fits : SFits w64 reading = search rules in
     let account = account_asked c.in-Ok.asked in
-    let body = c.args.context.body.now in
+    let body = c.args.context.now.body.now in
     let reply = c.answer-reply.result in
     let P : ℤ → Type 0 =
     λ r. IsStep g.B.Standing (with_signer g.G.Signer.signs g.G.Signer.fault_count c.args.signer.now
     c.answer-reply.new.signer) (Stamp account r body) c.args.desk.now c.answer-reply.new.self (reply_as reply) in
-    told g.B.Standing g.G.Signer.signs g.G.Signer.fault_count g.W.Write.contents (request_view c.args.context) action.Stamp
+    told g.B.Standing g.G.Signer.signs g.G.Signer.fault_count g.W.Write.contents (request_view c.args.context.now) action.Stamp
     c.args.writer.now c.write_reply.new.writer c.args.desk.now c.answer-reply.new.self c.args.signer.now
     c.answer-reply.new.signer c.write_reply.result (Stamp account reading body) (reply_as reply) (stamp_answer reply)
     (checks _ _ (Ok account) (rw c.policy.ensures at c.in-Ok.ensures))

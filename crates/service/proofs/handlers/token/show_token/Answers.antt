@@ -11,7 +11,7 @@ use Rattle.service.proofs.handlers.token.show_token.Goals as goal
 
 pub returns-in-Err-clause-served : goal.returns-in-Err-clause-served
 returns-in-Err-clause-served g c =
-    refused g.B.Standing g.G.Signer.signs g.G.Signer.fault_count g.W.Write.contents (request_view c.args.context) action.Token
+    refused g.B.Standing g.G.Signer.signs g.G.Signer.fault_count g.W.Write.contents (request_view c.args.context.now) action.Token
     c.args.writer.now c.refuse.new.writer c.args.desk.now c.args.desk.now c.args._signer.now c.args._signer.now
     c.refuse.result c.in-Err.refusal
     (checks _ _ (Err c.in-Err.refusal) (rw c.policy.ensures at c.in-Err.ensures)) refl refl c.refuse.ensures
@@ -19,7 +19,7 @@ returns-in-Err-clause-served g c =
 pub returns-in-Ok-token_of-clause-served : goal.returns-in-Ok-token_of-clause-served
 returns-in-Ok-token_of-clause-served g c =
     let account = account_view c.in-Ok.asked.0.now in
-    told g.B.Standing g.G.Signer.signs g.G.Signer.fault_count g.W.Write.contents (request_view c.args.context) action.Token
+    told g.B.Standing g.G.Signer.signs g.G.Signer.fault_count g.W.Write.contents (request_view c.args.context.now) action.Token
     c.args.writer.now c.succeed.new.writer c.args.desk.now c.token_of.new.self c.args._signer.now c.args._signer.now
     c.succeed.result (Token account c.in-Ok.asked.1) (Shown c.in-Ok-token_of.bytes.items)
     (success 200 media.Reply c.deref.result.now)
@@ -29,7 +29,7 @@ returns-in-Ok-token_of-clause-served g c =
 pub returns-in-Err-token_of-clause-served : goal.returns-in-Err-token_of-clause-served
 returns-in-Err-token_of-clause-served g c =
     let account = account_view c.in-Ok.asked.0.now in
-    told g.B.Standing g.G.Signer.signs g.G.Signer.fault_count g.W.Write.contents (request_view c.args.context) action.Token
+    told g.B.Standing g.G.Signer.signs g.G.Signer.fault_count g.W.Write.contents (request_view c.args.context.now) action.Token
     c.args.writer.now c.refuse-in-Err-token_of.new.writer c.args.desk.now c.token_of.new.self c.args._signer.now
     c.args._signer.now c.refuse-in-Err-token_of.result (Token account c.in-Ok.asked.1) (Refused c.in-Err-token_of.fault)
     (refusal_answer c.from.result)
