@@ -31,15 +31,19 @@ impl<'a, R: Net<Stream = TcpStream> + Clock + AllocGlobal, W: Write> KeyHolder<'
     fn connect(&mut self, algorithm: &Algorithm) -> Option<Session<'a, R>>
         ensures { IfSome result IsOpened }
     {
-        let now = Instant::now(self.rt).ok()?;
+        let Ok(now) = Instant::now(self.rt) else {
+            return None;
+        };
         if let Some(tried) = self.tried
             && now.duration_since(tried) < Duration::from_secs(PAUSE_SECONDS)
         {
             return None;
         }
         self.tried = Some(now);
-        let algorithm = Algorithm::from_bytes(self.rt.alloc(), algorithm.as_slice()).ok()?;
-        connect_signer(self.rt, self.address, self.limit, algorithm).ok()
+        match Algorithm::from_bytes(self.rt.alloc(), algorithm.as_slice()) {
+            Ok(algorithm) => connect_signer(self.rt, self.address, self.limit, algorithm).ok(),
+            Err(_) => None,
+        }
     }
 }
 

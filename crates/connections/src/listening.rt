@@ -8,6 +8,7 @@ use crate::waiting::Waiting;
 use mio::unix::SourceFd;
 use mio::{Events, Interest, Poll, Registry, Token};
 use service::Routes;
+use std::alloc::Global;
 use std::io;
 use std::io::ErrorKind;
 use std::net::{Net, Shutdown, TcpListener, TcpStream};
@@ -115,6 +116,23 @@ fn least_left(
     least
 }
 
+/// What tells of connections of a listener, which doesn't wait for one from now on.
+fn poll_of<N: Net>(net: &N, listener: &TcpListener) -> io::Result<Poll> {
+    listener.set_nonblocking(true)?;
+    let poll = Poll::new(net)?;
+    let descriptor = listener.as_raw_fd();
+    poll.registry()
+        .register(&mut SourceFd(&descriptor), LISTENER, Interest::READABLE)?;
+    Ok(poll)
+}
+
+/// Room for the connections that are read side by side, and for those that are closed.
+fn room(alloc: Global) -> io::Result<(Vec<Waiting>, Vec<Closing>)> {
+    let waiting = Vec::with_capacity(alloc, MOST_WAITING)?;
+    let closing = Vec::with_capacity(alloc, MOST_CLOSING)?;
+    Ok((waiting, closing))
+}
+
 fn lesser(least: Option<Duration>, left: Duration) -> Option<Duration> {
     match least {
         Some(least) => Some(least.min(left)),
@@ -135,20 +153,19 @@ impl<'l, R: AllocGlobal + Clock> Listening<'l, R> {
         ensures { IfOk result (λ listening. listening.limit ≡ limit) }
     {
         let alloc = rt.alloc();
-        listener.set_nonblocking(true)?;
-        let poll = Poll::new(net)?;
-        let descriptor = listener.as_raw_fd();
-        poll.registry()
-            .register(&mut SourceFd(&descriptor), LISTENER, Interest::READABLE)?;
+        let poll = poll_of(net, listener)?;
+        let events = Events::with_capacity(alloc, MOST_EVENTS)?;
+        let routes = Routes::new(alloc)?;
+        let (waiting, closing) = room(alloc)?;
         Ok(Listening {
             rt,
             limit,
             listener,
             poll,
-            events: Events::with_capacity(alloc, MOST_EVENTS)?,
-            routes: Routes::new(alloc)?,
-            waiting: Vec::with_capacity(alloc, MOST_WAITING)?,
-            closing: Vec::with_capacity(alloc, MOST_CLOSING)?,
+            events,
+            routes,
+            waiting,
+            closing,
             is_ready: true,
             is_short: false,
             token: 0,
@@ -158,22 +175,33 @@ impl<'l, R: AllocGlobal + Clock> Listening<'l, R> {
     /// Waits for the next connection whose request is whole; none for one that failed. At most so many are waited for.
     pub(crate) fn next(&mut self, most: usize) -> Option<Waiting> {
         for _ in 0..u64::MAX {
-            let now = Instant::now(self.rt).ok()?;
+            let Ok(now) = Instant::now(self.rt) else {
+                return None;
+            };
             if self.take(now, most.min(MOST_WAITING)) {
                 return None;
             }
-            match first_done(&mut self.waiting, &self.routes, self.poll.registry(), now) {
-                Some((place, Progress::Whole)) => return self.removed(place),
-                Some((place, _)) => {
-                    let _ = self.removed(place);
-                    return None;
-                }
-                None => {}
+            if let Some(done) = self.take_done(now) {
+                return done;
             }
             self.close_some(now);
-            self.wait().ok()?;
+            if self.wait().is_err() {
+                return None;
+            }
         }
         None
+    }
+
+    /// Takes out the first connection that is done with: itself where its request is whole, and else none.
+    fn take_done(&mut self, now: Instant) -> Option<Option<Waiting>> {
+        match first_done(&mut self.waiting, &self.routes, self.poll.registry(), now) {
+            Some((place, Progress::Whole)) => Some(self.removed(place)),
+            Some((place, _)) => {
+                let _ = self.removed(place);
+                Some(None)
+            }
+            None => None,
+        }
     }
 
     /// The connection at a place, which isn't waited for any longer.
@@ -235,8 +263,15 @@ impl<'l, R: AllocGlobal + Clock> Listening<'l, R> {
         Ok(())
     }
 
+    /// Is done with a connection that was answered: closes it now, or once it was read until that moment.
+    pub(crate) fn release(&mut self, waiting: Waiting, end: Option<Instant>) {
+        if let Some(end) = end {
+            let _ = self.close(waiting, end);
+        }
+    }
+
     /// Ends our side of a connection that was answered, and drops what its client still sends, until that moment.
-    pub(crate) fn close(&mut self, waiting: Waiting, end: Instant) -> io::Result<()> {
+    fn close(&mut self, waiting: Waiting, end: Instant) -> io::Result<()> {
         let Waiting { peer, .. } = waiting;
         let now = Instant::now(self.rt)?;
         peer.stream.shutdown(Shutdown::Write)?;
@@ -290,12 +325,17 @@ impl<'l, R: AllocGlobal + Clock> Listening<'l, R> {
             Err(error) if error.kind() == ErrorKind::Interrupted => return Ok(()),
             polled => polled?,
         }
+        self.hear_all();
+        Ok(())
+    }
+
+    /// Those of which the system told may have something.
+    fn hear_all(&mut self) {
         for event in &self.events {
             if event.token() == LISTENER {
                 self.is_ready = true;
             }
             hear(&mut self.waiting, &mut self.closing, event.token());
         }
-        Ok(())
     }
 }

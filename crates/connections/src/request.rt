@@ -19,6 +19,15 @@ pub(crate) enum Progress {
     Failed,
 }
 
+/// How far a request has come where a read fails so.
+fn progress_after(kind: ErrorKind) -> Progress {
+    match kind {
+        ErrorKind::WouldBlock => Progress::Waits,
+        ErrorKind::Interrupted => Progress::Came,
+        _ => Progress::Failed,
+    }
+}
+
 /// What has come of a request. At most a head's 8,192 octets and a body's 1,048,576 are kept.
 #[derive(Drop)]
 pub(crate) struct Request {
@@ -78,11 +87,7 @@ impl Request {
                 self.filled += taken;
                 self.settle(routes)
             }
-            Err(error) => match error.kind() {
-                ErrorKind::WouldBlock => Progress::Waits,
-                ErrorKind::Interrupted => Progress::Came,
-                _ => Progress::Failed,
-            },
+            Err(error) => progress_after(error.kind()),
         }
     }
 

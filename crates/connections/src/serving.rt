@@ -77,11 +77,10 @@ fn serve_connection<R: AllocGlobal + std::time::Clock, C: Clock, B: Book + Drop,
         return Ok(());
     };
     match serve_request(listening, &waiting, clock, desk, signer) {
-        Ok(Some(end)) => {
-            let _ = listening.close(waiting, end);
+        Ok(end) => {
+            listening.release(waiting, end);
             Ok(())
         }
-        Ok(None) => Ok(()),
         Err(failed) => Err(failed),
     }
 }
