@@ -27,6 +27,14 @@ pub struct KeyHolder<'a, R, W> {
 pub type KeyHolderSigner<'a, R, W> = RenewedSigner<Session<'a, R>, KeyHolder<'a, R, W>>;
 
 impl<'a, R: Net<Stream = TcpStream> + Clock + AllocGlobal, W: Write> KeyHolder<'a, R, W> {
+    /// Whether one was tried less than a second before that moment.
+    fn is_early(&self, now: Instant) -> bool {
+        match self.tried {
+            Some(tried) => now.duration_since(tried) < Duration::from_secs(PAUSE_SECONDS),
+            None => false,
+        }
+    }
+
     /// Opens a session, unless one was tried less than a second ago.
     fn connect(&mut self, algorithm: &Algorithm) -> Option<Session<'a, R>>
         ensures { IfSome result IsOpened }
@@ -34,9 +42,7 @@ impl<'a, R: Net<Stream = TcpStream> + Clock + AllocGlobal, W: Write> KeyHolder<'
         let Ok(now) = Instant::now(self.rt) else {
             return None;
         };
-        if let Some(tried) = self.tried
-            && now.duration_since(tried) < Duration::from_secs(PAUSE_SECONDS)
-        {
+        if self.is_early(now) {
             return None;
         }
         self.tried = Some(now);

@@ -8,7 +8,7 @@ use crate::waiting::Waiting;
 use mio::unix::SourceFd;
 use mio::{Events, Interest, Poll, Registry, Token};
 use service::Routes;
-use std::alloc::Global;
+use std::alloc::{AllocError, Global};
 use std::io;
 use std::io::ErrorKind;
 use std::net::{Net, Shutdown, TcpListener, TcpStream};
@@ -127,7 +127,7 @@ fn poll_of<N: Net>(net: &N, listener: &TcpListener) -> io::Result<Poll> {
 }
 
 /// Room for the connections that are read side by side, and for those that are closed.
-fn room(alloc: Global) -> io::Result<(Vec<Waiting>, Vec<Closing>)> {
+fn room(alloc: Global) -> Result<(Vec<Waiting>, Vec<Closing>), AllocError> {
     let waiting = Vec::with_capacity(alloc, MOST_WAITING)?;
     let closing = Vec::with_capacity(alloc, MOST_CLOSING)?;
     Ok((waiting, closing))
@@ -154,16 +154,14 @@ impl<'l, R: AllocGlobal + Clock> Listening<'l, R> {
     {
         let alloc = rt.alloc();
         let poll = poll_of(net, listener)?;
-        let events = Events::with_capacity(alloc, MOST_EVENTS)?;
-        let routes = Routes::new(alloc)?;
         let (waiting, closing) = room(alloc)?;
         Ok(Listening {
             rt,
             limit,
             listener,
             poll,
-            events,
-            routes,
+            events: Events::with_capacity(alloc, MOST_EVENTS)?,
+            routes: Routes::new(alloc)?,
             waiting,
             closing,
             is_ready: true,
@@ -321,12 +319,14 @@ impl<'l, R: AllocGlobal + Clock> Listening<'l, R> {
         };
         let left = least_left(&self.waiting, &self.closing, now, pause);
         match self.poll.poll(&mut self.events, left) {
+            Ok(()) => {
+                self.hear_all();
+                Ok(())
+            }
             // The process was stopped, and goes on.
-            Err(error) if error.kind() == ErrorKind::Interrupted => return Ok(()),
-            polled => polled?,
+            Err(error) if error.kind() == ErrorKind::Interrupted => Ok(()),
+            Err(error) => Err(error),
         }
-        self.hear_all();
-        Ok(())
     }
 
     /// Those of which the system told may have something.

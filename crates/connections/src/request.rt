@@ -7,7 +7,7 @@ use std::alloc::Global;
 use std::io::{ErrorKind, Read};
 
 /// How far a request has come.
-#[derive(Clone, Copy, Debug, PartialEq, Eq)]
+#[derive(Clone, Copy)]
 pub(crate) enum Progress {
     /// Octets came, and others are wanted.
     Came,
