@@ -118,9 +118,16 @@ fn algorithm_from(value: DataValue<'_>) -> Option<(ObjectIdentifier<'_>, Option<
     ensures { option_map (λ found. (found.0, option_map value_view found.1)) result
         ≡ algorithm_of (value_view value.entry) }
 {
-    let mut members = value.components_under(Tag::SEQUENCE)?;
-    let identifier = oid_from(members.next()?)?;
-    let parameters = parameters_from(members)?;
+    let Some(mut rest) = value.components_under(Tag::SEQUENCE) else {
+        return None;
+    };
+    let Some(part) = rest.next() else { return None };
+    let Some(identifier) = oid_from(part) else {
+        return None;
+    };
+    let Some(parameters) = parameters_from(rest) else {
+        return None;
+    };
     Some((identifier, parameters))
 }
 
@@ -128,10 +135,18 @@ fn algorithm_from(value: DataValue<'_>) -> Option<(ObjectIdentifier<'_>, Option<
 pub(crate) fn imprint_from(value: DataValue<'_>) -> Option<MessageImprint<'_>>
     ensures { option_map imprint_view result ≡ imprint_of (value_view value.entry) }
 {
-    let mut members = value.components_under(Tag::SEQUENCE)?;
-    let (algorithm, parameters) = algorithm_from(members.next()?)?;
-    let hash = members.next()?.contents_under(Tag::OCTET_STRING)?;
-    end(&members)?;
+    let Some(mut rest) = value.components_under(Tag::SEQUENCE) else {
+        return None;
+    };
+    let Some(part) = rest.next() else { return None };
+    let Some((algorithm, parameters)) = algorithm_from(part) else {
+        return None;
+    };
+    let Some(part) = rest.next() else { return None };
+    let Some(hash) = part.contents_under(Tag::OCTET_STRING) else {
+        return None;
+    };
+    let Some(_) = end(&rest) else { return None };
     Some(MessageImprint {
         algorithm,
         parameters,
@@ -143,11 +158,21 @@ pub(crate) fn imprint_from(value: DataValue<'_>) -> Option<MessageImprint<'_>>
 pub(crate) fn extension_from(may_state_false: bool, value: DataValue<'_>) -> Option<Extension<'_>>
     ensures { option_map extension_view result ≡ extension_of may_state_false (value_view value.entry) }
 {
-    let mut members = value.components_under(Tag::SEQUENCE)?;
-    let identifier = oid_from(members.next()?)?;
-    let critical = flag(may_state_false, &mut members)?;
-    let value = members.next()?.contents_under(Tag::OCTET_STRING)?;
-    end(&members)?;
+    let Some(mut rest) = value.components_under(Tag::SEQUENCE) else {
+        return None;
+    };
+    let Some(part) = rest.next() else { return None };
+    let Some(identifier) = oid_from(part) else {
+        return None;
+    };
+    let Some(critical) = flag(may_state_false, &mut rest) else {
+        return None;
+    };
+    let Some(part) = rest.next() else { return None };
+    let Some(value) = part.contents_under(Tag::OCTET_STRING) else {
+        return None;
+    };
+    let Some(_) = end(&rest) else { return None };
     Some(Extension {
         identifier,
         critical,

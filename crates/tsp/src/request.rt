@@ -252,14 +252,30 @@ pub fn read_request(octets: &[u8]) -> Result<Request<'_>, TspFault>
 fn request_from(value: DataValue<'_>) -> Option<Request<'_>>
     ensures { option_map request_view result ≡ request_of (value_view value.entry) }
 {
-    let mut members = value.components_under(Tag::SEQUENCE)?;
-    let version = integer_from(members.next()?)?;
-    let imprint = imprint_from(members.next()?)?;
-    let policy = optional_oid(&mut members)?;
-    let nonce = optional_integer(&mut members)?;
-    let cert_req = flag(true, &mut members)?;
-    let extensions = extensions(true, REQUEST_EXTENSIONS, &mut members)?;
-    end(&members)?;
+    let Some(mut rest) = value.components_under(Tag::SEQUENCE) else {
+        return None;
+    };
+    let Some(part) = rest.next() else { return None };
+    let Some(version) = integer_from(part) else {
+        return None;
+    };
+    let Some(part) = rest.next() else { return None };
+    let Some(imprint) = imprint_from(part) else {
+        return None;
+    };
+    let Some(policy) = optional_oid(&mut rest) else {
+        return None;
+    };
+    let Some(nonce) = optional_integer(&mut rest) else {
+        return None;
+    };
+    let Some(cert_req) = flag(true, &mut rest) else {
+        return None;
+    };
+    let Some(extensions) = extensions(true, REQUEST_EXTENSIONS, &mut rest) else {
+        return None;
+    };
+    let Some(_) = end(&rest) else { return None };
     Some(Request {
         version,
         imprint,

@@ -179,16 +179,34 @@ fn accuracy_from(value: DataValue<'_>) -> Option<u32>
 }
 
 #[tactic(auto, unfolding(crate::specs::TstReading::head_of))]
-fn read_head<'a>(members: &mut DataValues<'a>) -> Option<Head<'a>>
-    ensures { option_map (λ found. (head_view found, values_view members.new)) result
-        ≡ head_of (values_view members.old) }
+fn read_head<'a>(rest: &mut DataValues<'a>) -> Option<Head<'a>>
+    ensures { option_map (λ found. (head_view found, values_view rest.new)) result
+        ≡ head_of (values_view rest.old) }
 {
-    number_in(Tag::INTEGER, 1, members.next()?)?;
-    let policy = oid_from(members.next()?)?;
-    let imprint = imprint_from(members.next()?)?;
-    let serial = number_in(Tag::INTEGER, i64::MAX as u64, members.next()?)?;
-    let time = members.next()?.contents_under(Tag::GENERALIZED_TIME)?;
-    let accuracy = accuracy_from(members.next()?)?;
+    let Some(part) = rest.next() else { return None };
+    let Some(_version) = number_in(Tag::INTEGER, 1, part) else {
+        return None;
+    };
+    let Some(part) = rest.next() else { return None };
+    let Some(policy) = oid_from(part) else {
+        return None;
+    };
+    let Some(part) = rest.next() else { return None };
+    let Some(imprint) = imprint_from(part) else {
+        return None;
+    };
+    let Some(part) = rest.next() else { return None };
+    let Some(serial) = number_in(Tag::INTEGER, i64::MAX as u64, part) else {
+        return None;
+    };
+    let Some(part) = rest.next() else { return None };
+    let Some(time) = part.contents_under(Tag::GENERALIZED_TIME) else {
+        return None;
+    };
+    let Some(part) = rest.next() else { return None };
+    let Some(accuracy) = accuracy_from(part) else {
+        return None;
+    };
     Some(Head {
         policy,
         imprint,
@@ -244,13 +262,25 @@ fn optional_tsa<'a>(members: &mut DataValues<'a>) -> Option<Option<DataValue<'a>
 fn parts_from(value: DataValue<'_>) -> Option<Parts<'_>>
     ensures { option_map parts_view result ≡ parts_of (value_view value.entry) }
 {
-    let mut members = value.components_under(Tag::SEQUENCE)?;
-    let head = read_head(&mut members)?;
-    let ordering = flag(false, &mut members)?;
-    let nonce = optional_integer(&mut members)?;
-    let tsa = optional_tsa(&mut members)?;
-    let extensions = extensions(false, TST_EXTENSIONS, &mut members)?;
-    end(&members)?;
+    let Some(mut rest) = value.components_under(Tag::SEQUENCE) else {
+        return None;
+    };
+    let Some(head) = read_head(&mut rest) else {
+        return None;
+    };
+    let Some(ordering) = flag(false, &mut rest) else {
+        return None;
+    };
+    let Some(nonce) = optional_integer(&mut rest) else {
+        return None;
+    };
+    let Some(tsa) = optional_tsa(&mut rest) else {
+        return None;
+    };
+    let Some(extensions) = extensions(false, TST_EXTENSIONS, &mut rest) else {
+        return None;
+    };
+    let Some(_) = end(&rest) else { return None };
     Some(Parts {
         head,
         ordering,
