@@ -1,6 +1,7 @@
 -- A right is entered, or refused.
-use Rattle.std.proofs.Common.{◌≡◌, ℕ, cond, Bool, true, false, List, [], ◌∷◌, ◌++◌, Option, Some, None, Ok, refl}
+use Rattle.std.proofs.Common.{◌≡◌, ℕ, cond, Bool, true, false, List, [], ◌∷◌, ◌++◌, Option, Some, None, Ok, Err, refl}
 use Rattle.std.proofs.Common.{sym, ap, ◌∙◌, subst, inl, inr}
+use Rattle.std.specs.Prelude.{Result, MatchResult}
 use Rattle.std.specs.Str.{bytes_eq}
 use Rattle.std.specs.Hash.DefaultHasher.{wrapping_add}
 use Rattle.policy.specs.Record.{PolicyValue}
@@ -16,7 +17,8 @@ use Rattle.book.specs.Sound.{Fits, FitsRight}
 use Rattle.book.specs.Stands.{Stands, OnlyLooks, LeavesOrAdds}
 use Rattle.desk.specs.Command.{Setting, Command, Done, Refused}
 use Rattle.desk.specs.Effects.{Effect, only, unless, fault_of, objection, accepted, unless_against, right_effect}
-use Rattle.desk.specs.Obstacles.{fault_with, hindered, IsOfRight, MayName, MayNot}
+use Rattle.desk.specs.Obstacles.{fault_with, hindered, outcome_with, IsOfRight, IsOfSight, IsOpposed, IsUnseen}
+use Rattle.desk.specs.Obstacles.{MayName, MayNot, Owns, Sees}
 use Rattle.desk.specs.Outcome.{Call, Fine, Wanting, Failed, Outcome, Cause, OfMemory, OfStore, cause_of, faults_after}
 use Rattle.desk.specs.Outcome.{all_fine}
 use Rattle.desk.specs.Steps.{HasEffect}
@@ -31,6 +33,60 @@ use Rattle.desk.proofs.Denied.{looked_up, denied}
 use Rattle.desk.proofs.Fitting.{none_failed}
 use Rattle.desk.proofs.Sealing.{one_in_doubt}
 use Rattle.desk.proofs.Stepping.{right_seen}
+
+-- what is against seeing a deposit is against its rights
+pub right_unseen : (reader : Reader) (x : Obstacle) → IsOfSight x → IsOfRight reader x
+right_unseen reader obstacle.NotHere of = tt
+right_unseen reader obstacle.NotOwner of = absurd of
+right_unseen reader obstacle.UnknownReader of = absurd of
+right_unseen reader obstacle.UnknownGroup of = absurd of
+right_unseen reader obstacle.SelfGrant of = absurd of
+right_unseen reader (obstacle.Searching f) of = of
+right_unseen reader (obstacle.Looking f) of = of
+right_unseen reader obstacle.Growing of = absurd of
+right_unseen reader (obstacle.Adding f) of = absurd of
+
+pub unseen_named : (file : PolicyValue) (account : List ℕ) (reader : Reader) (n : ℕ) (b : History) (x : Obstacle)
+    → IsOfSight x → IsUnseen (viewer_in file account) n b x → MayNot file account reader n b x
+unseen_named file account reader n b obstacle.NotHere of h = h
+unseen_named file account reader n b obstacle.NotOwner of h = absurd of
+unseen_named file account reader n b obstacle.UnknownReader of h = absurd of
+unseen_named file account reader n b obstacle.UnknownGroup of h = absurd of
+unseen_named file account reader n b obstacle.SelfGrant of h = absurd of
+unseen_named file account reader n b (obstacle.Searching f) of h = tt
+unseen_named file account reader n b (obstacle.Looking f) of h = h
+unseen_named file account reader n b obstacle.Growing of h = absurd of
+unseen_named file account reader n b (obstacle.Adding f) of h = absurd of
+
+-- the owner may give a right, or what is against it stands in the way
+pub named_by : {A : Type 0} (file : PolicyValue) (account : List ℕ) (reader : Reader) (n : ℕ) (b : History)
+    (d : DepositRow) (r : Result A Obstacle) → Owns file account n b d
+    → MatchResult r (λ _. objection file account reader ≡ None) (IsOpposed file account reader)
+    → MatchResult r (λ _. MayName file account reader n b) (MayNot file account reader n b)
+named_by file account reader n b d (Ok a) own h = record { deposit = d; own = own; unopposed = h }
+named_by file account reader n b d (Err obstacle.NotHere) own h = absurd h
+named_by file account reader n b d (Err obstacle.NotOwner) own h = absurd h
+named_by file account reader n b d (Err obstacle.UnknownReader) own h = (d, (own, h))
+named_by file account reader n b d (Err obstacle.UnknownGroup) own h = (d, (own, h))
+named_by file account reader n b d (Err obstacle.SelfGrant) own h = (d, (own, h))
+named_by file account reader n b d (Err (obstacle.Searching f)) own h = absurd h
+named_by file account reader n b d (Err (obstacle.Looking f)) own h = absurd h
+named_by file account reader n b d (Err obstacle.Growing) own h = absurd h
+named_by file account reader n b d (Err (obstacle.Adding f)) own h = absurd h
+
+pub uncounted_by : {A : Type 0} (file : PolicyValue) (account : List ℕ) (reader : Reader) (r : Result A Obstacle)
+    (count : ℕ) → MatchResult r (λ _. objection file account reader ≡ None) (IsOpposed file account reader)
+    → count ≡ faults_after (outcome_with r) count
+uncounted_by file account reader (Ok a) count h = refl
+uncounted_by file account reader (Err obstacle.NotHere) count h = absurd h
+uncounted_by file account reader (Err obstacle.NotOwner) count h = absurd h
+uncounted_by file account reader (Err obstacle.UnknownReader) count h = refl
+uncounted_by file account reader (Err obstacle.UnknownGroup) count h = refl
+uncounted_by file account reader (Err obstacle.SelfGrant) count h = refl
+uncounted_by file account reader (Err (obstacle.Searching f)) count h = absurd h
+uncounted_by file account reader (Err (obstacle.Looking f)) count h = absurd h
+uncounted_by file account reader (Err obstacle.Growing) count h = absurd h
+uncounted_by file account reader (Err (obstacle.Adding f)) count h = absurd h
 
 -- the effect of a right on a history
 abbrev pub righted : Setting → List ℕ → ℕ → Reader → Entry → Outcome → History → Effect

@@ -104,6 +104,18 @@ pub record Owns (file : PolicyValue) (account : List ℕ) (number : ℕ) (b : Hi
   pub seen : seen_by (viewer_in file account) number b ≡ Some d
   pub owns : bytes_eq d.owner account ≡ true
 
+-- what is against a reader's right that the owner gives or takes
+abbrev pub IsOpposed : PolicyValue → List ℕ → Reader → Obstacle → Type 0
+IsOpposed file owner reader obstacle.NotHere = ⊥
+IsOpposed file owner reader obstacle.NotOwner = ⊥
+IsOpposed file owner reader obstacle.UnknownReader = objection file owner reader ≡ Some fault.UnknownReader
+IsOpposed file owner reader obstacle.UnknownGroup = objection file owner reader ≡ Some fault.UnknownGroup
+IsOpposed file owner reader obstacle.SelfGrant = objection file owner reader ≡ Some fault.SelfGrant
+IsOpposed file owner reader (obstacle.Searching f) = ⊥
+IsOpposed file owner reader (obstacle.Looking f) = ⊥
+IsOpposed file owner reader obstacle.Growing = ⊥
+IsOpposed file owner reader (obstacle.Adding f) = ⊥
+
 -- the account may give and take a reader's right to the deposit
 pub record MayName (file : PolicyValue) (account : List ℕ) (reader : Reader) (number : ℕ) (b : History)
     : Type 0 where

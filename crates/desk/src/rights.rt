@@ -1,5 +1,5 @@
 //! Who gives and takes rights.
-ghost use Rattle.std.specs.Prelude.{◌≡◌, ◌∷◌, IfErr, OnOk, OnErr, MatchResult};
+ghost use Rattle.std.specs.Prelude.{◌≡◌, ◌∷◌, None, IfErr, OnOk, OnErr, MatchResult};
 ghost use Rattle.policy.specs.View.{account_view, policy_view};
 ghost use Rattle.book.specs.Fault.{CountsFaults, IsOfStorage};
 ghost use Rattle.book.specs.History.{History, Granted, Revoked};
@@ -7,9 +7,9 @@ ghost use Rattle.book.specs.Sound.{Fits};
 ghost use Rattle.book.specs.Stands.{Stands, OnlyLooks, LeavesOrAdds};
 ghost use Rattle.desk.specs.Calls.{opening_view, reader_view};
 ghost use Rattle.desk.specs.Command.{Grant, Revoke};
-ghost use Rattle.desk.specs.Effects.{has_account, has_group};
+ghost use Rattle.desk.specs.Effects.{has_account, has_group, objection};
 ghost use Rattle.desk.specs.Fault as refused;
-ghost use Rattle.desk.specs.Obstacles.{fault_with, outcome_with, told_with, IsOfRight, MayName, MayNot};
+ghost use Rattle.desk.specs.Obstacles.{fault_with, outcome_with, told_with, IsOfRight, IsOpposed, MayName, MayNot};
 ghost use Rattle.desk.specs.Outcome.{faults_after};
 ghost use Rattle.desk.specs.Shown.{done_as};
 ghost use Rattle.desk.specs.Stepped.{StepsBy, no_signer};
@@ -35,6 +35,31 @@ fn is_group(policy: &Policy, name: &str) -> bool
     policy.group_named(name).is_some()
 }
 
+/// Whether the owner of a deposit may give a reader the right to see it: another account, or a group.
+fn may_read(policy: &Policy, owner: &str, reader: Reader<'_>) -> Result<(), Obstacle>
+    ensures may { MatchResult result
+        (λ _. objection (policy_view policy.now) owner.now (reader_view reader.entry) ≡ None)
+        (IsOpposed (policy_view policy.now) owner.now (reader_view reader.entry)) }
+    ensures refusals { IfErr result (IsOfRight (reader_view reader.entry)) }
+{
+    match reader {
+        Reader::Account(name) => {
+            if !is_known(policy, name) {
+                return Err(Obstacle::UnknownReader);
+            }
+            if name == owner {
+                return Err(Obstacle::SelfGrant);
+            }
+        }
+        Reader::Group(name) => {
+            if !is_group(policy, name) {
+                return Err(Obstacle::UnknownGroup);
+            }
+        }
+    }
+    Ok(())
+}
+
 /// Whether an account may give a reader the right to see a deposit, and take it: the owner may, for another account and
 /// for a group.
 fn may_name<B: Book + Drop>(
@@ -51,29 +76,14 @@ fn may_name<B: Book + Drop>(
         (MayNot (policy_view policy.now) account.now (reader_view reader.entry) number b) }
     ensures refusals { IfErr result (IsOfRight (reader_view reader.entry)) }
 {
-    let found = match see(store, policy, account, number) {
-        Ok(found) => found,
+    let is_own = match see(store, policy, account, number) {
+        Ok(found) => found.deposit.owner.as_str() == account,
         Err(unseen) => return Err(unseen),
     };
-    if found.deposit.owner.as_str() != account {
+    if !is_own {
         return Err(Obstacle::NotOwner);
     }
-    match reader {
-        Reader::Account(name) => {
-            if !is_known(policy, name) {
-                return Err(Obstacle::UnknownReader);
-            }
-            if name == account {
-                return Err(Obstacle::SelfGrant);
-            }
-        }
-        Reader::Group(name) => {
-            if !is_group(policy, name) {
-                return Err(Obstacle::UnknownGroup);
-            }
-        }
-    }
-    Ok(())
+    may_read(policy, account, reader)
 }
 
 /// Gives the right.
