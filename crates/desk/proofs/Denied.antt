@@ -12,6 +12,7 @@ use Rattle.desk.specs.Calls.{call_of}
 use Rattle.desk.specs.Command.{Setting, Command, Answer, Shown, Refused}
 use Rattle.desk.specs.Effects.{only, unless, no_sight, show_effect, token_effect, reply_or_nothing}
 use Rattle.desk.specs.Fit.{IsFit}
+use Rattle.desk.specs.Fault as sight
 use Rattle.desk.specs.Obstacles.{fault_with, hindered, IsOfSight, IsOfRight, IsUnseen}
 use Rattle.desk.specs.Outcome.{Call, Fine, Outcome, OfMemory, cause_of, faults_after, all_fine}
 use Rattle.desk.specs.Steps.{HasEffect}
@@ -91,6 +92,26 @@ denied reader g s c old new x fits opened of looks counted has =
     looks_as g s c old new (hindered x) (Refused (fault_with x)) (denied_fits reader c x fits of) counted
     (blamed reader g c old new x of) (opened (fault_with x)) looks has
 
+-- as a fault it is what a look-up may be refused with
+pub sight_told : (x : Obstacle) → IsOfSight x → sight.IsOfSight (fault_with x)
+sight_told obstacle.NotHere of = tt
+sight_told obstacle.NotOwner of = absurd of
+sight_told obstacle.UnknownReader of = absurd of
+sight_told obstacle.UnknownGroup of = absurd of
+sight_told obstacle.SelfGrant of = absurd of
+sight_told (obstacle.Searching store.Memory) of = tt
+sight_told (obstacle.Searching store.Database) of = tt
+sight_told (obstacle.Searching store.NotOurs) of = tt
+sight_told (obstacle.Searching store.Full) of = tt
+sight_told (obstacle.Searching store.Backwards) of = tt
+sight_told (obstacle.Looking store.Memory) of = tt
+sight_told (obstacle.Looking store.Database) of = tt
+sight_told (obstacle.Looking store.NotOurs) of = tt
+sight_told (obstacle.Looking store.Full) of = tt
+sight_told (obstacle.Looking store.Backwards) of = tt
+sight_told obstacle.Growing of = absurd of
+sight_told (obstacle.Adding f) of = absurd of
+
 pub sight_is_right : (reader : Reader) (x : Obstacle) → IsOfSight x → IsOfRight reader x
 sight_is_right reader obstacle.NotHere of = tt
 sight_is_right reader obstacle.NotOwner of = absurd of
@@ -161,6 +182,13 @@ pub told : (viewer : Viewer) (n : ℕ) (b : History) (d : DepositRow) (token rep
 told viewer n b d token reply seen sealed is =
     ap (λ x. only (Shown x)) is
     ∙ sym (ap (token_effect None (token_of n b)) seen ∙ ap (λ x. only (reply_or_nothing x)) sealed)
+
+-- what is seen has no token
+pub untokened : (viewer : Viewer) (n : ℕ) (b : History) (d : DepositRow) → seen_by viewer n b ≡ Some d
+    → token_of n b ≡ None
+    → only (Refused fault.NotHere) ≡ token_effect None (token_of n b) (seen_by viewer n b)
+untokened viewer n b d seen unsealed =
+    sym (ap (token_effect None (token_of n b)) seen ∙ ap (λ x. only (reply_or_nothing x)) unsealed)
 
 pub ungrown : (viewer : Viewer) (n : ℕ) (b : History) (d : DepositRow) → seen_by viewer n b ≡ Some d
     → only (Refused fault.Memory) ≡ token_effect (Some OfMemory) (token_of n b) (seen_by viewer n b)

@@ -34,18 +34,7 @@ use Rattle.desk.proofs.Fitting.{none_failed}
 use Rattle.desk.proofs.Sealing.{one_in_doubt}
 use Rattle.desk.proofs.Stepping.{right_seen}
 
--- what is against seeing a deposit is against its rights
-pub right_unseen : (reader : Reader) (x : Obstacle) → IsOfSight x → IsOfRight reader x
-right_unseen reader obstacle.NotHere of = tt
-right_unseen reader obstacle.NotOwner of = absurd of
-right_unseen reader obstacle.UnknownReader of = absurd of
-right_unseen reader obstacle.UnknownGroup of = absurd of
-right_unseen reader obstacle.SelfGrant of = absurd of
-right_unseen reader (obstacle.Searching f) of = of
-right_unseen reader (obstacle.Looking f) of = of
-right_unseen reader obstacle.Growing of = absurd of
-right_unseen reader (obstacle.Adding f) of = absurd of
-
+-- what stands in the way of seeing a deposit, stands in the way of its rights
 pub unseen_named : (file : PolicyValue) (account : List ℕ) (reader : Reader) (n : ℕ) (b : History) (x : Obstacle)
     → IsOfSight x → IsUnseen (viewer_in file account) n b x → MayNot file account reader n b x
 unseen_named file account reader n b obstacle.NotHere of h = h

@@ -1,6 +1,6 @@
 -- Who sees a deposit, and whom the policy file names.
 use Rattle.std.proofs.Common.{◌≡◌, ℕ, ◌==◌, ◌||◌, cond, Bool, true, false, is_some, List, [], ◌∷◌, map, Option, Some}
-use Rattle.std.proofs.Common.{None, refl, ap, ◌∙◌, subst}
+use Rattle.std.proofs.Common.{None, refl, sym, ap, ◌∙◌, subst}
 use Rattle.std.specs.List.{find}
 use Rattle.std.specs.Option.{option_and_then, option_map}
 use Rattle.std.specs.Str.{bytes_eq}
@@ -14,9 +14,10 @@ use Rattle.book.specs.History.{Installed, ReservationValue, stamp_of, token_of, 
 use Rattle.book.specs.Readers.{Viewer}
 use Rattle.book.specs.Rights.{may_read, shown_to, seen_by, is_visible, deposit_with_stamp}
 use Rattle.book.specs.Sound.{Along, Fits, FitsSealed, IsSound}
-use Rattle.book.specs.Values.{stamped_view}
+use Rattle.book.specs.Values.{deposit_view, stamped_view}
 use Rattle.book.specs.declared.values.StampedDeposit.{StampedDeposit}
 use Rattle.desk.specs.Effects.{has_account}
+use Rattle.desk.specs.Obstacles.{Sees}
 use Rattle.desk.proofs.Views.{reservation_stays}
 
 abbrev with_stamp : Option (List ℕ) → Option ReservationValue → Option DepositRow → Option (DepositRow × StampRow)
@@ -80,6 +81,40 @@ some_where (Some x) e = (x, refl)
 pub seen_where : (viewer : Viewer) (n : ℕ) (b : History) → true ≡ is_visible viewer n b
     → (d : DepositRow) × (seen_by viewer n b ≡ Some d)
 seen_where viewer n b e = some_where (seen_by viewer n b) e
+
+none_where : {A : Type 0} (o : Option A) → false ≡ is_some o → o ≡ None
+none_where None e = refl
+none_where (Some x) e = cc
+
+-- what isn't visible isn't seen
+pub unseen_where : (viewer : Viewer) (n : ℕ) (b : History) → false ≡ is_visible viewer n b
+    → seen_by viewer n b ≡ None
+unseen_where viewer n b e = none_where (seen_by viewer n b) e
+
+some_if : {A : Type 0} (here : Bool) (x : A) → true ≡ is_some (cond here (Some x) None) → cond here (Some x) None ≡ Some x
+some_if true x e = refl
+some_if false x e = cc
+
+seen_as : (viewer : Viewer) (reads : Bool) (found : StampedDeposit) (token : Option (List ℕ))
+    (reserved : Option ReservationValue) (at : Option DepositRow)
+    → true ≡ is_some (option_and_then (shown_to viewer reads) at)
+    → Some (stamped_view found) ≡ with_stamp token reserved at
+    → (option_and_then (shown_to viewer reads) at ≡ Some (deposit_view found.deposit))
+    × (token ≡ option_map (λ t. t.items) found.stamp.token)
+seen_as viewer reads found token reserved None e is = cc
+seen_as viewer reads found token None (Some d) e is = cc
+seen_as viewer reads found token (Some r) (Some d) e is =
+    let both : stamped_view found ≡ (d, stamp_of token r) = cc in (
+      some_if (bytes_eq d.owner viewer.name || reads) d e ∙ sym (ap (λ x. Some x.0) both),
+      sym (ap (λ x. x.1.token) both),
+    )
+
+-- what is visible and found is what is seen
+pub sees_found : (viewer : Viewer) (n : ℕ) (b : History) (found : StampedDeposit) → true ≡ is_visible viewer n b
+    → found_as (Some found) ≡ deposit_with_stamp n b → Sees viewer n b found
+sees_found viewer n b found e is =
+    let both = seen_as viewer (may_read viewer n b) found (token_of n b) (reservation_at n b) (deposit_at n b) e is in
+    record { seen = both.0; token = both.1 }
 
 -- an account of the file has the name
 known_at : (name : List ℕ) (a : AccountValue) (accounts : List AccountValue) (here : Bool)

@@ -118,15 +118,19 @@ pub(crate) fn token_to<B: Book + Drop>(
     ensures refusals { IfErr result (λ obstacle. sight.IsOfSight (fault_with obstacle)) }
 {
     let policy = opening.policy;
-    match see(store, policy, account.name.as_str(), number) {
-        Err(obstacle) => Err(obstacle),
-        Ok(found) => match &found.stamp.token {
-            None => Err(Obstacle::NotHere),
-            Some(token) => match write_granted(alloc, token) {
-                Ok(reply) => Ok(reply),
-                Err(_) => Err(Obstacle::Growing),
-            },
-        },
+    let token = match see(store, policy, account.name.as_str(), number) {
+        Ok(found) => {
+            let stamp = found.stamp;
+            stamp.token
+        }
+        Err(obstacle) => return Err(obstacle),
+    };
+    let Some(token) = token else {
+        return Err(Obstacle::NotHere);
+    };
+    match write_granted(alloc, &token) {
+        Ok(reply) => Ok(reply),
+        Err(_) => Err(Obstacle::Growing),
     }
 }
 

@@ -10,7 +10,8 @@ use Rattle.desk.specs.Command.{Token, Shown, Refused}
 use Rattle.desk.specs.Obstacles.{Sees, IsUnseen}
 use Rattle.desk.specs.Outcome.{Wanting, all_fine}
 use Rattle.desk.specs.declared.fault.Fault.TheVariants as fault
-use Rattle.desk.proofs.Denied.{looks_as, denied, sight_is_right, untold, told, ungrown}
+use Rattle.desk.proofs.Denied.{looks_as, denied, sight_is_right, sight_told, untold, untokened, told}
+use Rattle.desk.proofs.Denied.{ungrown}
 use Rattle.desk.proofs.Fitting.{none_failed}
 use Rattle.desk.proofs.showing.token_to.Goals as goal
 
@@ -24,6 +25,22 @@ returns-in-Err-clause-step g c =
     (λ f. tt) (sight_is_right (Account a.name) x c.in-Err.ensures.refusals) c.in-Err.ensures.looks c.in-Err.ensures.counted
     (λ honest b st. untold (viewer_in s.file a.name) n b x c.in-Err.ensures.refusals
     (subst (λ k. IsUnseen (viewer_in s.file k) n b x) c.as_str.ensures.value (c.in-Err.ensures.sees honest b st)))
+
+pub returns-in-Err-clause-refusals : goal.returns-in-Err-clause-refusals
+returns-in-Err-clause-refusals g c = sight_told c.in-Err.obstacle c.in-Err.ensures.refusals
+
+pub returns-in_default-clause-step : goal.returns-in_default-clause-step
+returns-in_default-clause-step g c =
+    let s = opening_view c.args.opening in
+    let a = account_view c.args.account.now in
+    let n = c.args.number in
+    looks_as g.B.Standing s (Token a n) c.args.store.now c.see.new.store (all_fine (Ok [])) (Refused fault.NotHere)
+    (refl, (tt, tt)) c.in-Ok.ensures.counted tt tt c.in-Ok.ensures.looks
+    (λ honest b st.
+    let sees = subst (λ k. Sees (viewer_in s.file k) n b c.in-Ok.found) c.as_str.ensures.value
+    (c.in-Ok.ensures.sees honest b st) in
+    untokened (viewer_in s.file a.name) n b (deposit_view c.in-Ok.found.deposit) sees.seen
+    (sees.token ∙ ap (option_map (λ t. t.items)) c.in_default.is))
 
 pub returns-in-Ok-write_granted-clause-step : goal.returns-in-Ok-write_granted-clause-step
 returns-in-Ok-write_granted-clause-step g c =
