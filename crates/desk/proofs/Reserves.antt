@@ -20,6 +20,7 @@ use Rattle.desk.specs.Outcome.{Outcome, Fine, all_fine, Cause, OfStore, cause_of
 use Rattle.desk.specs.Runs.{after}
 use Rattle.desk.specs.Stepped.{committed}
 use Rattle.desk.specs.declared.refusal.Refusal.{Refusal}
+use Rattle.desk.specs.declared.refusal.Refusal.TheVariants as refusal
 use Rattle.desk.specs.Texts.{tst_of, pending_of, reservation_of}
 
 is_spent : (n : ℕ) → greatest_number ≤ n → nat_le greatest_number n ≡ true
@@ -54,6 +55,20 @@ reserves_refused g s account plan octets b old new r e st leaves = record {
     | inr holds ↦ inr (inr holds)
   ];
 }
+
+-- the numbers are spent, or memory for what is written is wanting, and the store is as it was
+pub unwritten : {B : Type 0} (g : Ghosts B) (s : Setting) (account : List ℕ) (plan : StampPlan) (octets : List ℕ)
+    (b : History) (last : ℕ) (old : B) (r : Refusal)
+    → ((r ≡ refusal.Spent) × (greatest_number ≤ last)) ⊎ ((r ≡ refusal.Growing) × (last < greatest_number))
+    → greatest_serial b ≡ last → Stands g b old → Reserves g s account plan octets b old old (Err r)
+unwritten g s account plan octets b last old r why e st =
+    let cause : no_number (refused r) b ≡ Some (cause_with r) = elim why [
+      | inl spent ↦ subst (λ x. no_number (refused x) b ≡ Some (cause_with x)) (sym spent.0)
+          (spent_number (refused refusal.Spent) b (subst (λ n. greatest_number ≤ n) (sym e) spent.1))
+      | inr wanting ↦ subst (λ x. no_number (refused x) b ≡ Some (cause_with x)) (sym wanting.0)
+          (left_number (refused refusal.Growing) b (subst (λ n. n < greatest_number) (sym e) wanting.1))
+    ] in
+    reserves_refused g s account plan octets b old old r cause st (λ left recovers. inl recovers)
 
 -- the next number is
 pub reserves_next : {B : Type 0} (g : Ghosts B) (s : Setting) (account : List ℕ) (plan : StampPlan) (octets : List ℕ)

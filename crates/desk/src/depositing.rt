@@ -126,10 +126,7 @@ fn reserve<'p, B: Book + Drop>(
         Ok(octets) => octets,
         Err(refusal) => return Err(refusal),
     };
-    match reserve_next(store, alloc, opening, account, planned, &octets) {
-        Ok(pending) => Ok(pending),
-        Err(refusal) => Err(refusal),
-    }
+    reserve_next(store, alloc, opening, account, planned, &octets)
 }
 
 /// Judges the request as which a deposit is stamped, and reserves the next serial number where no rule fails. The

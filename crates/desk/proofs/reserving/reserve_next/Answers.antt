@@ -1,4 +1,4 @@
-use Rattle.std.proofs.Common.{◌<◌, ◌∙◌, [], Ok, Err, sym, ap, subst, arith}
+use Rattle.std.proofs.Common.{◌<◌, ◌∙◌, [], Ok, Err, refl, sym, ap, subst, inl, arith}
 use Rattle.der.specs.ObjectIdentifier.{oid_content}
 use Rattle.book.specs.History.{greatest_serial}
 use Rattle.book.specs.Sound.{greatest_number}
@@ -6,7 +6,7 @@ use Rattle.desk.specs.Calls.{refused, plan_of, opening_view, IsOfReserving, Rese
 use Rattle.desk.specs.Outcome.{faults_after, all_fine}
 use Rattle.desk.specs.declared.refusal.Refusal.{Refusal}
 use Rattle.desk.proofs.Reserves.{next_is, fits_next, adding_counted, adding_is, adding_refused, reserves_next}
-use Rattle.desk.proofs.Reserves.{left_number, made, waiting, waits_for}
+use Rattle.desk.proofs.Reserves.{left_number, made, unwritten, waiting, waits_for}
 use Rattle.desk.proofs.reserving.reserve_next.Goals as goal
 
 pub returns-in-Err-clause-counted : goal.returns-in-Err-clause-counted
@@ -56,3 +56,8 @@ returns-clause-reserves g c honest b st e =
     ∙ waits_for s plan r prepared.certificate p.certificate_is)
     honest (c.in-Ok.ensures.opened honest).1
     (c.in-Ok.ensures.ok b st (fits_next r b c.args.planned.last e p.number left p.moment_within))
+
+pub returns-then-planned-ge-GREATEST_NUMBER-clause-reserves : goal.returns-then-planned-ge-GREATEST_NUMBER-clause-reserves
+returns-then-planned-ge-GREATEST_NUMBER-clause-reserves g c honest b st e =
+    unwritten g.B.Standing (opening_view c.args.opening) c.args.account.now (plan_of c.args.planned) c.args.query.now b
+    c.args.planned.last c.args.store.now _ (inl (refl, omega arith)) e st
