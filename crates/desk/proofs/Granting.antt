@@ -18,7 +18,7 @@ use Rattle.book.specs.Stands.{Stands, OnlyLooks, LeavesOrAdds}
 use Rattle.desk.specs.Command.{Setting, Command, Done, Refused}
 use Rattle.desk.specs.Effects.{Effect, only, unless, fault_of, objection, accepted, unless_against, right_effect}
 use Rattle.desk.specs.Obstacles.{fault_with, hindered, outcome_with, IsOfRight, IsOfSight, IsOpposed, IsUnseen}
-use Rattle.desk.specs.Obstacles.{MayName, MayNot, Owns, Sees}
+use Rattle.desk.specs.Obstacles.{MayName, MayNot, Owns}
 use Rattle.desk.specs.Outcome.{Call, Fine, Wanting, Failed, Outcome, Cause, OfMemory, OfStore, cause_of, faults_after}
 use Rattle.desk.specs.Outcome.{all_fine}
 use Rattle.desk.specs.Steps.{HasEffect}

@@ -17,7 +17,7 @@ returns-then-not-is_own-clause-may g c = λ honest b st. (
   (
     (c.in-Ok.ensures.sees honest b st).seen,
     sym (ap (λ x. bytes_eq x c.args.account.now) c.as_str.ensures.value)
-    ∙ (sym c.eq-is_own.ensures ∙ c.if-not-is_own.true),
+        ∙ (sym c.eq-is_own.ensures ∙ c.if-not-is_own.true),
   ),
 )
 

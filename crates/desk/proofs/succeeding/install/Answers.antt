@@ -1,7 +1,6 @@
 use Rattle.std.proofs.Common.{sym, ◌∙◌}
 use Rattle.desk.specs.Calls.{in_force_of}
-use Rattle.desk.specs.Succession.{installed_by}
-use Rattle.desk.proofs.Successions.{FindsOther, succeeded_already, succeeded_now, unlooked, uninstalled}
+use Rattle.desk.proofs.Successions.{succeeded_already, succeeded_now, unlooked, uninstalled}
 use Rattle.desk.proofs.succeeding.install.Goals as goal
 
 pub returns-in-Err-clause-step : goal.returns-in-Err-clause-step
