@@ -91,7 +91,8 @@ pub unseen_where : (viewer : Viewer) (n : ℕ) (b : History) → false ≡ is_vi
     → seen_by viewer n b ≡ None
 unseen_where viewer n b e = none_where (seen_by viewer n b) e
 
-some_if : {A : Type 0} (here : Bool) (x : A) → true ≡ is_some (cond here (Some x) None) → cond here (Some x) None ≡ Some x
+some_if : {A : Type 0} (here : Bool) (x : A) → true ≡ is_some (cond here (Some x) None)
+    → cond here (Some x) None ≡ Some x
 some_if true x e = refl
 some_if false x e = cc
 

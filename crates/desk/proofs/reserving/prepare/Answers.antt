@@ -36,7 +36,8 @@ returns-clause-prepared c =
     record {
       number = refl;
       moment = c.micros_of-micros.ensures.same;
-      moment_within = subst (λ n. n ≤ last_moment) (sym c.micros_of-micros.ensures.same) c.micros_of-micros.ensures.within;
+      moment_within = subst (λ n. n ≤ last_moment) (sym c.micros_of-micros.ensures.same)
+          c.micros_of-micros.ensures.within;
       policy_is = refl;
       algorithm_is = c.algorithm-algorithm.ensures;
       digest_is = c.hash-digest.ensures;

@@ -57,7 +57,8 @@ returns-clause-reserves g c honest b st e =
     honest (c.in-Ok.ensures.opened honest).1
     (c.in-Ok.ensures.ok b st (fits_next r b c.args.planned.last e p.number left p.moment_within))
 
-pub returns-then-planned-ge-GREATEST_NUMBER-clause-reserves : goal.returns-then-planned-ge-GREATEST_NUMBER-clause-reserves
+pub returns-then-planned-ge-GREATEST_NUMBER-clause-reserves
+    : goal.returns-then-planned-ge-GREATEST_NUMBER-clause-reserves
 returns-then-planned-ge-GREATEST_NUMBER-clause-reserves g c honest b st e =
     unwritten g.B.Standing (opening_view c.args.opening) c.args.account.now (plan_of c.args.planned) c.args.query.now b
     c.args.planned.last c.args.store.now _ (inl (refl, omega arith)) e st
