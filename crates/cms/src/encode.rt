@@ -38,8 +38,7 @@ fn append_length(octets: &mut Vec<u8>, count: usize) -> Result<(), AllocError>
         return Ok(());
     }
     octets.push(128 + digit_count(count))?;
-    append_digits(octets, count)?;
-    Ok(())
+    append_digits(octets, count)
 }
 
 /// Appends a value with these contents octets.
@@ -52,8 +51,7 @@ pub(crate) fn append_element(
 {
     octets.push(tag.octet)?;
     append_length(octets, contents.len())?;
-    octets.extend_from_slice(contents)?;
-    Ok(())
+    octets.extend_from_slice(contents)
 }
 
 /// A value with these contents octets.

@@ -1,10 +1,10 @@
 //! Where issuer, serial number and subject stand in a certificate.
-ghost use Rattle.std.specs.Prelude.{◌≡◌, MatchOption, IfSome, option_map, ◌↔◌, IsTrue, nat_le};
+ghost use Rattle.std.specs.Prelude.{◌≡◌, MatchOption, Some, IfSome, option_map, ◌↔◌, IsTrue, nat_le};
 ghost use Rattle.der.specs.DataValueView.{value_view, values_view};
 ghost use Rattle.der.specs.Node.{Node, levels};
 ghost use Rattle.cms.specs.Certificate.{CertificateParts, IsCertificate, IsSubject, IsAlgorithm};
 ghost use Rattle.cms.specs.Outline.{sequence_at, subject_at, serial_at, after_version, outline_of, outline};
-ghost use Rattle.cms.specs.Outline.{is_optional, algorithm_of};
+ghost use Rattle.cms.specs.Outline.{◌>>=◌ as ◌⟫◌, is_optional, algorithm_of};
 ghost use Rattle.cms.specs.OutlineView.{outline_view};
 
 use crate::tags::UNDER_ZERO;
@@ -84,22 +84,31 @@ fn skip_version(members: &mut DataValues<'_>)
     let _version = members.next_under(UNDER_ZERO);
 }
 
-/// The outline of a certificate (RFC 5280 4.1); none where the value isn't of its grammar.
-#[tactic(auto, unfolding(crate::specs::Outline::outline_of))]
-fn outline_from(certificate: DataValue<'_>) -> Option<Outline<'_>>
-    ensures { option_map outline_view result ≡ outline_of (value_view certificate.entry) }
+/// The outline from the members of a TBSCertificate behind its version, and from what follows it.
+fn outline_after<'a>(mut members: DataValues<'a>, after: DataValues<'a>) -> Option<Outline<'a>>
+    ensures { option_map outline_view result ≡ serial_at (values_view members.entry)
+        ⟫ λ serial. sequence_at serial.1 ⟫ λ signature. sequence_at signature.1
+        ⟫ λ issuer. sequence_at issuer.1 ⟫ λ validity. subject_at validity.1
+        ⟫ λ subject. Some (record { serial = serial.0; after_serial = serial.1; issuer = issuer.0;
+        after_issuer = issuer.1; subject = subject.0; after_subject = subject.1; after = values_view after.entry }) }
 {
-    let mut after = certificate.components_under(Tag::SEQUENCE)?;
-    let tbs_certificate = after.next()?;
-    let mut members = tbs_certificate.components_under(Tag::SEQUENCE)?;
-    skip_version(&mut members);
-    let serial = serial(&mut members)?;
+    let Some(serial) = serial(&mut members) else {
+        return None;
+    };
     let after_serial = members;
-    let _signature = sequence(&mut members)?;
-    let issuer = sequence(&mut members)?;
+    let Some(_signature) = sequence(&mut members) else {
+        return None;
+    };
+    let Some(issuer) = sequence(&mut members) else {
+        return None;
+    };
     let after_issuer = members;
-    let _validity = sequence(&mut members)?;
-    let subject = subject(&mut members)?;
+    let Some(_validity) = sequence(&mut members) else {
+        return None;
+    };
+    let Some(subject) = subject(&mut members) else {
+        return None;
+    };
     let after_subject = members;
     Some(Outline {
         serial,
@@ -110,6 +119,18 @@ fn outline_from(certificate: DataValue<'_>) -> Option<Outline<'_>>
         after_subject,
         after,
     })
+}
+
+/// The outline of a certificate (RFC 5280 4.1); none where the value isn't of its grammar.
+#[tactic(auto, unfolding(crate::specs::Outline::outline_of))]
+fn outline_from(certificate: DataValue<'_>) -> Option<Outline<'_>>
+    ensures { option_map outline_view result ≡ outline_of (value_view certificate.entry) }
+{
+    let mut after = certificate.components_under(Tag::SEQUENCE)?;
+    let tbs_certificate = after.next()?;
+    let mut members = tbs_certificate.components_under(Tag::SEQUENCE)?;
+    skip_version(&mut members);
+    outline_after(members, after)
 }
 
 /// The outline of the certificate that octets are; none where they are none.

@@ -44,8 +44,7 @@ fn append_attribute(
     let mut members = Vec::new(alloc);
     append_element(&mut members, Tag::OBJECT_IDENTIFIER, kind)?;
     append_element(&mut members, Tag::SET, value)?;
-    append_element(octets, Tag::SEQUENCE, &members)?;
-    Ok(())
+    append_element(octets, Tag::SEQUENCE, &members)
 }
 
 /// The digest as SigningCertificateV2 (RFC 5035 3).
@@ -55,7 +54,7 @@ fn signing_certificate(alloc: Global, identity: &Identity) -> Result<Vec<u8>, Al
     let digest = element_of(alloc, Tag::OCTET_STRING, &identity.digest())?;
     let identifier = element_of(alloc, Tag::SEQUENCE, &digest)?;
     let identifiers = element_of(alloc, Tag::SEQUENCE, &identifier)?;
-    Ok(element_of(alloc, Tag::SEQUENCE, &identifiers)?)
+    element_of(alloc, Tag::SEQUENCE, &identifiers)
 }
 
 /// SignedAttributes (RFC 5652 5.3), one after the other.
@@ -82,7 +81,7 @@ fn digest_algorithm(alloc: Global) -> Result<Vec<u8>, AllocError>
     ensures { IfOk result (λ octets. octets.items ≡ sha256_identifier) }
 {
     let identifier = element_of(alloc, Tag::OBJECT_IDENTIFIER, &ID_SHA256)?;
-    Ok(element_of(alloc, Tag::SEQUENCE, &identifier)?)
+    element_of(alloc, Tag::SEQUENCE, &identifier)
 }
 
 /// IssuerAndSerialNumber (RFC 5652 10.2.4).
@@ -92,7 +91,7 @@ fn issuer_and_serial(alloc: Global, identity: &Identity) -> Result<Vec<u8>, Allo
     let mut members = Vec::new(alloc);
     members.extend_from_slice(identity.issuer())?;
     members.extend_from_slice(identity.serial())?;
-    Ok(element_of(alloc, Tag::SEQUENCE, &members)?)
+    element_of(alloc, Tag::SEQUENCE, &members)
 }
 
 /// SignerInfo (RFC 5652 5.3).
@@ -115,7 +114,7 @@ fn signer_info(
     append_element(&mut members, UNDER_ZERO, &attributes)?;
     members.extend_from_slice(algorithm.as_slice())?;
     append_element(&mut members, Tag::OCTET_STRING, signature)?;
-    Ok(element_of(alloc, Tag::SEQUENCE, &members)?)
+    element_of(alloc, Tag::SEQUENCE, &members)
 }
 
 /// EncapsulatedContentInfo (RFC 5652 5.2).
@@ -126,7 +125,7 @@ fn encapsulated(alloc: Global, tst: &[u8]) -> Result<Vec<u8>, AllocError>
     let mut members = Vec::new(alloc);
     append_element(&mut members, Tag::OBJECT_IDENTIFIER, &ID_CT_TST_INFO)?;
     append_element(&mut members, UNDER_ZERO, &content)?;
-    Ok(element_of(alloc, Tag::SEQUENCE, &members)?)
+    element_of(alloc, Tag::SEQUENCE, &members)
 }
 
 /// ContentInfo over signed data (RFC 5652 3).
@@ -136,7 +135,7 @@ fn content_info(alloc: Global, content: &[u8]) -> Result<Vec<u8>, AllocError>
     let mut members = Vec::new(alloc);
     append_element(&mut members, Tag::OBJECT_IDENTIFIER, &ID_SIGNED_DATA)?;
     append_element(&mut members, UNDER_ZERO, content)?;
-    Ok(element_of(alloc, Tag::SEQUENCE, &members)?)
+    element_of(alloc, Tag::SEQUENCE, &members)
 }
 
 /// Appends the certificates of SignedData (RFC 5652 5.1): nothing where none is asked for.
@@ -175,7 +174,7 @@ fn signed_data(
     members.extend_from_slice(&content)?;
     append_certificates(&mut members, identity, with_certificate)?;
     append_element(&mut members, Tag::SET, &signer)?;
-    Ok(element_of(alloc, Tag::SEQUENCE, &members)?)
+    element_of(alloc, Tag::SEQUENCE, &members)
 }
 
 /// What is signed: the signed attributes of a TSTInfo's token, under the tag of a SET (RFC 5652 5.4, RFC 3161 2.4.2,

@@ -1,4 +1,5 @@
 use Rattle.std.proofs.Common.{◌++◌, ap, ◌∙◌}
+use Rattle.std.proofs.lemmas.Result.{IfOk-weaker}
 use Rattle.der.specs.Node.{element}
 use Rattle.cms.proofs.Members.{grown_five}
 use Rattle.cms.proofs.Texts.{signed_data_text}
@@ -12,8 +13,8 @@ returns c =
     ∙ ap (λ x. c.append_element-2.new.octets.items ++ x) (c.deref-2.ensures.value ∙ c.in_ok-content.ensures) in
     let five = c.in_ok-append_element-3.ensures ∙ ap (λ x. c.append_certificates.new.octets.items ++ element 49 x)
     (c.deref-3.ensures.value ∙ c.in_ok-signer.ensures) in
-    c.in_ok-element_of.ensures ∙ ap (element 48) (c.deref-4.ensures.value
+    IfOk-weaker c.element_of.result _ _ (λ octets is. is ∙ ap (element 48) (c.deref-4.ensures.value
     ∙ grown_five _ _ _ _ _ _ _ _ _ _ _ c.new-members.ensures.items c.in_ok-append_element.ensures two three
     c.in_ok-append_certificates.ensures five)
     ∙ signed_data_text c.args.identity.now c.args.algorithm.now c.args.tst.now c.args.signature.now
-    c.args.with_certificate
+    c.args.with_certificate) c.element_of.ensures
