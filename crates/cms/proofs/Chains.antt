@@ -1,12 +1,13 @@
 -- Certificates one after the other: what octets begin with, and that a chain's are told apart in one way.
 use Rattle.std.proofs.Common.{◌≡◌, ℕ, zero, suc, ◌+◌, ◌<◌, ◌≤◌, Bool, true, false, List, [], ◌∷◌, ◌++◌, ◌⊎◌, inl, inr}
-use Rattle.std.proofs.Common.{length, map, refl, sym, ap, ◌∙◌, subst, append_assoc, length-append, arith}
+use Rattle.std.proofs.Common.{length, map, drop, refl, sym, ap, ◌∙◌, subst, append_assoc, length-append, arith}
 use mathlib.Core.Logic.{⊎_elim}
 use Rattle.std.specs.Prelude.{◌↔◌, ◌==◌, IsTrue, Result, Ok, Err, IfOk, IfErr, MatchResult}
 use Rattle.std.proofs.Common.{IsErrAnd}
 use Rattle.std.specs.Bool.{MatchBool}
 use Rattle.std.specs.List.{AllByRecursion, AllWithin, Contains, HoldsAt}
 use Rattle.std.proofs.lemmas.Bool.{eqb-true}
+use Rattle.std.proofs.Math.Seq.{drop-append_seam}
 use Rattle.std.proofs.lemmas.List.{length-map, get_or-map}
 use Rattle.std.proofs.lemmas.List.Elements.{Contains-append_right, Contains-push_cases}
 use Rattle.der.specs.Node.{element, encodings, node, IsLowTag}
@@ -193,6 +194,20 @@ none_taken signer chain = record {
   are = refl;
 }
 
+-- the certificate at the front is taken off the octets
+pub is_taken : (before after : List (List ℕ)) (chain first rest : List ℕ) → length before < 4
+    → (Contains before first → ⊥) → BeginsWith chain first → IsShortCertificate first
+    → rest ≡ drop (length first) chain → after ≡ before ++ first ∷ [] → IsTaken before chain after rest
+is_taken before after chain first rest few new begins short left more = record {
+  certificate = first;
+  is = short;
+  few = few;
+  new = new;
+  split = begins.split ∙ ap (λ w. first ++ w)
+      (sym (left ∙ ap (drop (length first)) begins.split ∙ drop-append_seam first begins.rest));
+  more = more;
+}
+
 all_push : (xs : List (List ℕ)) (c : List ℕ) → AllByRecursion IsShortCertificate xs → IsShortCertificate c
     → AllByRecursion IsShortCertificate (xs ++ c ∷ [])
 all_push [] c h is = (is, tt)
@@ -271,6 +286,15 @@ all_taken signer chain certificates further [] law h end fits is =
 all_taken signer chain certificates further (o ∷ rest) law h end fits is =
     let none : length (o ∷ rest) ≡ 0 = eqb-true (length (o ∷ rest)) 0 (sym end) in
     absurd (omega (arith, none))
+
+pub whole_chain : (signer chain : List ℕ) (certificates : List (List ℕ)) (rest : List ℕ)
+    → HaveTaken signer chain certificates rest → true ≡ (length rest == 0)
+    → (further : List (List ℕ)) × AreFurtherCertificates signer further × (chain ≡ joined further)
+    × (certificates ≡ signer ∷ further)
+whole_chain signer chain certificates [] h end =
+    (h.further, h.fits, h.split ∙ append_nothing (joined h.further), h.are)
+whole_chain signer chain certificates (o ∷ rest) h end =
+    let none = eqb-true (length (o ∷ rest)) 0 (sym end) in absurd (omega (arith, none))
 
 -- ---- the identity
 
