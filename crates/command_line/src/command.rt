@@ -1,9 +1,10 @@
 //! The command line, for `clap`.
 ghost use Rattle.std.specs.Prelude.{◌≡◌, IfOk};
-ghost use Rattle.clap.specs.Words.{app_of};
+ghost use Rattle.clap.specs.Words.{app_of, with_rule, with_subcommand};
 ghost use Rattle.command_line.specs.Options.{bare_command, counter_command};
-ghost use Rattle.command_line.specs.Table.{app_in};
+ghost use Rattle.command_line.specs.Table.{app_in, rule_in};
 
+use crate::options::OptionRow;
 use crate::table::{SubcommandRow, subcommand_rows};
 use crate::version::VERSION;
 use clap::Command;
@@ -15,9 +16,20 @@ pub fn subcommand<'a>(alloc: Global, row: &SubcommandRow) -> Result<Command<'a>,
 {
     let mut command = Command::new(alloc, row.name).about(row.about);
     for option in row.options {
-        command = command.arg(option.arg(alloc))?;
+        command = with_option(alloc, command, option)?;
     }
     Ok(command)
+}
+
+/// A command with one option more.
+fn with_option<'a>(
+    alloc: Global,
+    command: Command<'a>,
+    option: &OptionRow,
+) -> Result<Command<'a>, AllocError>
+    ensures { IfOk result (λ more. app_of more ≡ with_rule (app_of command.entry) (rule_in option.now)) }
+{
+    command.arg(option.arg(alloc))
 }
 
 fn bare_command<'a>(alloc: Global) -> Command<'a>
@@ -35,7 +47,19 @@ pub fn command<'a>(alloc: Global) -> Result<Command<'a>, AllocError>
 {
     let mut command = bare_command(alloc);
     for row in subcommand_rows() {
-        command = command.subcommand(subcommand(alloc, row)?)?;
+        command = with_subcommand(alloc, command, row)?;
     }
     Ok(command)
+}
+
+/// A command with the subcommand of one row more.
+fn with_subcommand<'a>(
+    alloc: Global,
+    command: Command<'a>,
+    row: &SubcommandRow,
+) -> Result<Command<'a>, AllocError>
+    ensures { IfOk result (λ more. app_of more ≡ with_subcommand (app_of command.entry) (app_in row.now).top) }
+{
+    let subcommand = subcommand(alloc, row)?;
+    command.subcommand(subcommand)
 }

@@ -3,5 +3,5 @@ use Rattle.command_line.proofs.command.subcommand.Goals as goal
 
 pub loop-option-preserved : goal.loop-option-preserved
 loop-option-preserved c =
-    adds_option c.args.row.now.name.now c.args.row.now.options.now c.loop-option.option-index _ _ _ c.arg.result
-    c.loop-option-test.true c.loop-option.invariant c.in_ok-command.ensures c.arg.ensures.local c.arg.ensures.rule
+    adds_option c.args.row.now.name.now c.args.row.now.options.now c.loop-option.option-index _ _ _
+    c.loop-option-test.true c.loop-option.invariant c.in_ok-command.ensures
