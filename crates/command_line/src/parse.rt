@@ -143,12 +143,24 @@ fn calibrate_word<'a>(matches: &ArgMatches<'a>) -> Option<Word<'a>>
     ensures found { IfSome result (IsAsked (codes "calibrate") (rows_of (found_of matches.now))) }
     ensures none { IsNone result → IsUnasked (codes "calibrate") (rows_of (found_of matches.now)) }
 {
+    let Some(db) = matches.get_str("db") else {
+        return None;
+    };
+    let Some(reading) = number(matches, "reading", WHOLE_NUMBERS) else {
+        return None;
+    };
+    let Some(offset) = number(matches, "offset", WHOLE_NUMBERS) else {
+        return None;
+    };
+    let Some(uncertainty) = number(matches, "uncertainty", UNCERTAINTIES) else {
+        return None;
+    };
     Some(Word::Calibrate(CalibrateWords {
-        db: matches.get_str("db")?,
-        reading: number(matches, "reading", WHOLE_NUMBERS)?,
-        offset: number(matches, "offset", WHOLE_NUMBERS)?,
+        db,
+        reading,
+        offset,
         behind: matches.get_flag("behind"),
-        uncertainty: number(matches, "uncertainty", UNCERTAINTIES)?,
+        uncertainty,
     }))
 }
 
@@ -156,23 +168,43 @@ fn hold_word<'a>(matches: &ArgMatches<'a>) -> Option<Word<'a>>
     ensures found { IfSome result (IsAsked (codes "hold") (rows_of (found_of matches.now))) }
     ensures none { IsNone result → IsUnasked (codes "hold") (rows_of (found_of matches.now)) }
 {
-    Some(Word::Hold(HoldWords {
-        db: matches.get_str("db")?,
-        from: number(matches, "from", WHOLE_NUMBERS)?,
-        to: number(matches, "to", WHOLE_NUMBERS)?,
-    }))
+    let Some(db) = matches.get_str("db") else {
+        return None;
+    };
+    let Some(from) = number(matches, "from", WHOLE_NUMBERS) else {
+        return None;
+    };
+    let Some(to) = number(matches, "to", WHOLE_NUMBERS) else {
+        return None;
+    };
+    Some(Word::Hold(HoldWords { db, from, to }))
 }
 
 fn tst_word<'a>(matches: &ArgMatches<'a>) -> Option<Word<'a>>
     ensures found { IfSome result (IsAsked (codes "tst") (rows_of (found_of matches.now))) }
     ensures none { IsNone result → IsUnasked (codes "tst") (rows_of (found_of matches.now)) }
 {
+    let Some(policy) = matches.get_str("policy") else {
+        return None;
+    };
+    let Some(moment) = number(matches, "moment", MOMENTS) else {
+        return None;
+    };
+    let Some(digits) = number(matches, "digits", DIGITS) else {
+        return None;
+    };
+    let Some(serial) = number(matches, "serial", SERIALS) else {
+        return None;
+    };
+    let Some(accuracy) = number(matches, "accuracy", ACCURACIES) else {
+        return None;
+    };
     Some(Word::Tst(TstWords {
-        policy: matches.get_str("policy")?,
-        moment: number(matches, "moment", MOMENTS)?,
-        digits: number(matches, "digits", DIGITS)? as u8,
-        serial: number(matches, "serial", SERIALS)?,
-        accuracy: number(matches, "accuracy", ACCURACIES)? as u32,
+        policy,
+        moment,
+        digits: digits as u8,
+        serial,
+        accuracy: accuracy as u32,
         ordering: matches.get_flag("ordering"),
     }))
 }
@@ -181,12 +213,24 @@ fn desk_words<'a>(matches: &ArgMatches<'a>) -> Option<DeskWords<'a>>
     ensures found { IfSome result (StatesDesk (rows_of (found_of matches.now))) }
     ensures none { IsNone result → (words : DeskWords) → StatesDesk (rows_of (found_of matches.now)) words → ⊥ }
 {
+    let Some(db) = matches.get_str("db") else {
+        return None;
+    };
+    let Some(rules) = matches.get_str("rules") else {
+        return None;
+    };
+    let Some(certificate) = matches.get_str("certificate") else {
+        return None;
+    };
+    let Some(signer) = signer_words(matches) else {
+        return None;
+    };
     Some(DeskWords {
-        db: matches.get_str("db")?,
-        rules: matches.get_str("rules")?,
-        certificate: matches.get_str("certificate")?,
+        db,
+        rules,
+        certificate,
         chain: matches.get_str("chain"),
-        signer: signer_words(matches)?,
+        signer,
     })
 }
 
@@ -194,9 +238,15 @@ fn answer_word<'a>(matches: &ArgMatches<'a>) -> Option<Word<'a>>
     ensures found { IfSome result (IsAsked (codes "answer") (rows_of (found_of matches.now))) }
     ensures none { IsNone result → IsUnasked (codes "answer") (rows_of (found_of matches.now)) }
 {
+    let Some(desk) = desk_words(matches) else {
+        return None;
+    };
+    let Some(reading) = number(matches, "reading", WHOLE_NUMBERS) else {
+        return None;
+    };
     Some(Word::Answer(AnswerWords {
-        desk: desk_words(matches)?,
-        reading: number(matches, "reading", WHOLE_NUMBERS)?,
+        desk,
+        reading,
         key: matches.get_str("key"),
     }))
 }
@@ -205,20 +255,32 @@ fn exchange_word<'a>(matches: &ArgMatches<'a>) -> Option<Word<'a>>
     ensures found { IfSome result (IsAsked (codes "exchange") (rows_of (found_of matches.now))) }
     ensures none { IsNone result → IsUnasked (codes "exchange") (rows_of (found_of matches.now)) }
 {
-    Some(Word::Exchange(ExchangeWords {
-        desk: desk_words(matches)?,
-        reading: number(matches, "reading", WHOLE_NUMBERS)?,
-    }))
+    let Some(desk) = desk_words(matches) else {
+        return None;
+    };
+    let Some(reading) = number(matches, "reading", WHOLE_NUMBERS) else {
+        return None;
+    };
+    Some(Word::Exchange(ExchangeWords { desk, reading }))
 }
 
 fn serve_word<'a>(matches: &ArgMatches<'a>) -> Option<Word<'a>>
     ensures found { IfSome result (IsAsked (codes "serve") (rows_of (found_of matches.now))) }
     ensures none { IsNone result → IsUnasked (codes "serve") (rows_of (found_of matches.now)) }
 {
+    let Some(desk) = desk_words(matches) else {
+        return None;
+    };
+    let Some(listen) = matches.get_str("listen") else {
+        return None;
+    };
+    let Some(connections) = number(matches, "connections", CONNECTIONS) else {
+        return None;
+    };
     Some(Word::Serve(ServeWords {
-        desk: desk_words(matches)?,
-        listen: matches.get_str("listen")?,
-        connections: number(matches, "connections", CONNECTIONS)? as u32,
+        desk,
+        listen,
+        connections: connections as u32,
     }))
 }
 
@@ -226,12 +288,27 @@ fn audit_word<'a>(matches: &ArgMatches<'a>) -> Option<Word<'a>>
     ensures found { IfSome result (IsAsked (codes "audit") (rows_of (found_of matches.now))) }
     ensures none { IsNone result → IsUnasked (codes "audit") (rows_of (found_of matches.now)) }
 {
+    let Some(db) = matches.get_str("db") else {
+        return None;
+    };
+    let Some(rules) = matches.get_str("rules") else {
+        return None;
+    };
+    let Some(account) = matches.get_str("account") else {
+        return None;
+    };
+    let Some(from) = number(matches, "from", WHOLE_NUMBERS) else {
+        return None;
+    };
+    let Some(to) = number(matches, "to", WHOLE_NUMBERS) else {
+        return None;
+    };
     Some(Word::Audit(AuditWords {
-        db: matches.get_str("db")?,
-        rules: matches.get_str("rules")?,
-        account: matches.get_str("account")?,
-        from: number(matches, "from", WHOLE_NUMBERS)?,
-        to: number(matches, "to", WHOLE_NUMBERS)?,
+        db,
+        rules,
+        account,
+        from,
+        to,
         check: matches.get_flag("check"),
     }))
 }

@@ -11,38 +11,38 @@ returns-clause-found c =
     let flag = one_text-rows found (codes "behind") in (
       refl,
       record {
-        db = reads_text found (codes "db") c.get_str.result c.in_ok-get_str.field-0 c.get_str.ensures c.in_ok-get_str.was;
-        reading = c.in_ok-number.ensures.stated;
-        offset = c.in_ok-number-2.ensures.stated;
+        db = reads_text found (codes "db") c.get_str.result c.in-Some.db c.get_str.ensures c.in-Some.is;
+        reading = c.in-Some-number.ensures.stated;
+        offset = c.in-Some-number-2.ensures.stated;
         behind = record {
           absent = λ is. c.get_flag.ensures.none (flag ∙ is);
           given = λ is. c.get_flag.ensures.value (flag ∙ is);
           default = λ is. c.get_flag.ensures.other (flag ∙ is);
         };
-        uncertainty = c.in_ok-number-3.ensures.stated;
+        uncertainty = c.in-Some-number-3.ensures.stated;
       },
     )
 
-pub returns-in_err-get_str-clause-none : goal.returns-in_err-get_str-clause-none
-returns-in_err-get_str-clause-none c = λ _.
+pub returns-in_default-clause-none : goal.returns-in_default-clause-none
+returns-in_default-clause-none c = λ _.
     no_calibrate (rows_of (found_of c.args.matches.now)) (λ words states.
     unread_text (found_of c.args.matches.now) (codes "db") c.get_str.result words.db.now c.get_str.ensures
-    c.in_err-get_str.was states.db)
+    c.in_default.is states.db)
 
-pub returns-in_err-number-clause-none : goal.returns-in_err-number-clause-none
-returns-in_err-number-clause-none c = λ _.
+pub returns-in_default-number-clause-none : goal.returns-in_default-number-clause-none
+returns-in_default-number-clause-none c = λ _.
     no_calibrate (rows_of (found_of c.args.matches.now)) (λ words states.
-    c.number.ensures.none (rw c.in_err-number.was refl) words.reading states.reading (zero_least words.reading)
+    c.number.ensures.none (rw c.in_default-number.is refl) words.reading states.reading (zero_least words.reading)
     (whole_most words.reading words.some_reading))
 
-pub returns-in_err-number-2-clause-none : goal.returns-in_err-number-2-clause-none
-returns-in_err-number-2-clause-none c = λ _.
+pub returns-in_default-number-2-clause-none : goal.returns-in_default-number-2-clause-none
+returns-in_default-number-2-clause-none c = λ _.
     no_calibrate (rows_of (found_of c.args.matches.now)) (λ words states.
-    c.number-2.ensures.none (rw c.in_err-number-2.was refl) words.offset states.offset (zero_least words.offset)
+    c.number-2.ensures.none (rw c.in_default-number-2.is refl) words.offset states.offset (zero_least words.offset)
     (whole_most words.offset words.some_offset))
 
-pub returns-in_err-number-3-clause-none : goal.returns-in_err-number-3-clause-none
-returns-in_err-number-3-clause-none c = λ _.
+pub returns-in_default-number-3-clause-none : goal.returns-in_default-number-3-clause-none
+returns-in_default-number-3-clause-none c = λ _.
     no_calibrate (rows_of (found_of c.args.matches.now)) (λ words states.
-    c.number-3.ensures.none (rw c.in_err-number-3.was refl) words.uncertainty states.uncertainty (zero_least
+    c.number-3.ensures.none (rw c.in_default-number-3.is refl) words.uncertainty states.uncertainty (zero_least
     words.uncertainty) words.most_uncertainty)

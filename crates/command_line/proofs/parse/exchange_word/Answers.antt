@@ -5,15 +5,15 @@ use Rattle.command_line.proofs.Stated.{whole_most, zero_least}
 use Rattle.command_line.proofs.parse.exchange_word.Goals as goal
 
 pub returns-clause-found : goal.returns-clause-found
-returns-clause-found c = (refl, record { desk = c.in_ok-desk_words.ensures.found; reading = c.in_ok-number.ensures.stated })
+returns-clause-found c = (refl, record { desk = c.in-Some.ensures.found; reading = c.in-Some-number.ensures.stated })
 
-pub returns-in_err-desk_words-clause-none : goal.returns-in_err-desk_words-clause-none
-returns-in_err-desk_words-clause-none c = λ _.
+pub returns-in_default-clause-none : goal.returns-in_default-clause-none
+returns-in_default-clause-none c = λ _.
     no_exchange (rows_of (found_of c.args.matches.now)) (λ words states.
-    c.desk_words.ensures.none (rw c.in_err-desk_words.was refl) words.desk states.desk)
+    c.desk_words.ensures.none (rw c.in_default.is refl) words.desk states.desk)
 
-pub returns-in_err-number-clause-none : goal.returns-in_err-number-clause-none
-returns-in_err-number-clause-none c = λ _.
+pub returns-in_default-number-clause-none : goal.returns-in_default-number-clause-none
+returns-in_default-number-clause-none c = λ _.
     no_exchange (rows_of (found_of c.args.matches.now)) (λ words states.
-    c.number.ensures.none (rw c.in_err-number.was refl) words.reading states.reading (zero_least words.reading)
+    c.number.ensures.none (rw c.in_default-number.is refl) words.reading states.reading (zero_least words.reading)
     (whole_most words.reading words.some_reading))

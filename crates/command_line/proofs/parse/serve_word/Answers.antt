@@ -8,26 +8,26 @@ pub returns-clause-found : goal.returns-clause-found
 returns-clause-found c = (
   refl,
   record {
-    desk = c.in_ok-desk_words.ensures.found;
-    listen = reads_text (found_of c.args.matches.now) (codes "listen") c.get_str.result c.in_ok-get_str.field-0
-        c.get_str.ensures c.in_ok-get_str.was;
-    connections = c.in_ok-number.ensures.stated;
+    desk = c.in-Some.ensures.found;
+    listen = reads_text (found_of c.args.matches.now) (codes "listen") c.get_str.result c.in-Some-get_str.listen
+        c.get_str.ensures c.in-Some-get_str.is;
+    connections = c.in-Some-number.ensures.stated;
   },
 )
 
-pub returns-in_err-desk_words-clause-none : goal.returns-in_err-desk_words-clause-none
-returns-in_err-desk_words-clause-none c = λ _.
+pub returns-in_default-clause-none : goal.returns-in_default-clause-none
+returns-in_default-clause-none c = λ _.
     no_serve (rows_of (found_of c.args.matches.now)) (λ words states.
-    c.desk_words.ensures.none (rw c.in_err-desk_words.was refl) words.desk states.desk)
+    c.desk_words.ensures.none (rw c.in_default.is refl) words.desk states.desk)
 
-pub returns-in_err-get_str-clause-none : goal.returns-in_err-get_str-clause-none
-returns-in_err-get_str-clause-none c = λ _.
+pub returns-in_default-get_str-clause-none : goal.returns-in_default-get_str-clause-none
+returns-in_default-get_str-clause-none c = λ _.
     no_serve (rows_of (found_of c.args.matches.now)) (λ words states.
     unread_text (found_of c.args.matches.now) (codes "listen") c.get_str.result words.listen.now c.get_str.ensures
-    c.in_err-get_str.was states.listen)
+    c.in_default-get_str.is states.listen)
 
-pub returns-in_err-number-clause-none : goal.returns-in_err-number-clause-none
-returns-in_err-number-clause-none c = λ _.
+pub returns-in_default-number-clause-none : goal.returns-in_default-number-clause-none
+returns-in_default-number-clause-none c = λ _.
     no_serve (rows_of (found_of c.args.matches.now)) (λ words states.
-    c.number.ensures.none (rw c.in_err-number.was refl) words.connections states.connections (zero_least
+    c.number.ensures.none (rw c.in_default-number.is refl) words.connections states.connections (zero_least
     words.connections) (connections_most words.connections words.few))

@@ -11,12 +11,12 @@ returns-clause-found c =
     let flag = one_text-rows found (codes "ordering") in (
       refl,
       record {
-        policy = reads_text found (codes "policy") c.get_str.result c.in_ok-get_str.field-0 c.get_str.ensures
-            c.in_ok-get_str.was;
-        moment = c.in_ok-number.ensures.stated;
-        digits = c.in_ok-number-2.ensures.stated;
-        serial = c.in_ok-number-3.ensures.stated;
-        accuracy = c.in_ok-number-4.ensures.stated;
+        policy = reads_text found (codes "policy") c.get_str.result c.in-Some.policy c.get_str.ensures
+            c.in-Some.is;
+        moment = c.in-Some-number.ensures.stated;
+        digits = c.in-Some-number-2.ensures.stated;
+        serial = c.in-Some-number-3.ensures.stated;
+        accuracy = c.in-Some-number-4.ensures.stated;
         ordering = record {
           absent = λ is. c.get_flag.ensures.none (flag ∙ is);
           given = λ is. c.get_flag.ensures.value (flag ∙ is);
@@ -25,32 +25,32 @@ returns-clause-found c =
       },
     )
 
-pub returns-in_err-get_str-clause-none : goal.returns-in_err-get_str-clause-none
-returns-in_err-get_str-clause-none c = λ _.
+pub returns-in_default-clause-none : goal.returns-in_default-clause-none
+returns-in_default-clause-none c = λ _.
     no_tst (rows_of (found_of c.args.matches.now)) (λ words states.
     unread_text (found_of c.args.matches.now) (codes "policy") c.get_str.result words.policy.now c.get_str.ensures
-    c.in_err-get_str.was states.policy)
+    c.in_default.is states.policy)
 
-pub returns-in_err-number-clause-none : goal.returns-in_err-number-clause-none
-returns-in_err-number-clause-none c = λ _.
+pub returns-in_default-number-clause-none : goal.returns-in_default-number-clause-none
+returns-in_default-number-clause-none c = λ _.
     no_tst (rows_of (found_of c.args.matches.now)) (λ words states.
-    c.number.ensures.none (rw c.in_err-number.was refl) words.moment states.moment (zero_least words.moment)
+    c.number.ensures.none (rw c.in_default-number.is refl) words.moment states.moment (zero_least words.moment)
     words.moments)
 
-pub returns-in_err-number-2-clause-none : goal.returns-in_err-number-2-clause-none
-returns-in_err-number-2-clause-none c = λ _.
+pub returns-in_default-number-2-clause-none : goal.returns-in_default-number-2-clause-none
+returns-in_default-number-2-clause-none c = λ _.
     no_tst (rows_of (found_of c.args.matches.now)) (λ words states.
-    c.number-2.ensures.none (rw c.in_err-number-2.was refl) words.digits states.digits (zero_least words.digits)
+    c.number-2.ensures.none (rw c.in_default-number-2.is refl) words.digits states.digits (zero_least words.digits)
     words.fraction)
 
-pub returns-in_err-number-3-clause-none : goal.returns-in_err-number-3-clause-none
-returns-in_err-number-3-clause-none c = λ _.
+pub returns-in_default-number-3-clause-none : goal.returns-in_default-number-3-clause-none
+returns-in_default-number-3-clause-none c = λ _.
     no_tst (rows_of (found_of c.args.matches.now)) (λ words states.
-    c.number-3.ensures.none (rw c.in_err-number-3.was refl) words.serial states.serial words.first_serial (whole_most
+    c.number-3.ensures.none (rw c.in_default-number-3.is refl) words.serial states.serial words.first_serial (whole_most
     words.serial words.last_serial))
 
-pub returns-in_err-number-4-clause-none : goal.returns-in_err-number-4-clause-none
-returns-in_err-number-4-clause-none c = λ _.
+pub returns-in_default-number-4-clause-none : goal.returns-in_default-number-4-clause-none
+returns-in_default-number-4-clause-none c = λ _.
     no_tst (rows_of (found_of c.args.matches.now)) (λ words states.
-    c.number-4.ensures.none (rw c.in_err-number-4.was refl) words.accuracy states.accuracy words.some_accuracy
+    c.number-4.ensures.none (rw c.in_default-number-4.is refl) words.accuracy states.accuracy words.some_accuracy
     words.most_accuracy)
