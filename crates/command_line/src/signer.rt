@@ -39,10 +39,13 @@ fn one_signer<'a>(
                 None => Some(SignerWords::Key(path)),
             },
         },
-        None => Some(SignerWords::Session {
-            address: address?,
-            algorithm: algorithm?,
-        }),
+        None => match address {
+            Some(address) => match algorithm {
+                Some(algorithm) => Some(SignerWords::Session { address, algorithm }),
+                None => None,
+            },
+            None => None,
+        },
     }
 }
 
