@@ -1,6 +1,7 @@
 //! What the words ask for, by what `clap` finds in them.
 ghost use Rattle.std.specs.Prelude.{◌≡◌, ◌≤◌, ◌⊎◌, ℕ, List, Some, IfOk, IfErr, IfSome, IsNone, codes};
-ghost use Rattle.clap.specs.Words.{Row, Text, HasKind, fault_of, found_of, kind_of, rows_of, subcommand_rows_of};
+ghost use Rattle.clap.specs.Words.{Row, Text, FailsBy, HasKind, fault_of, found_of, kind_of, rows_of, subcommand_of};
+ghost use Rattle.clap.specs.Words.{subcommand_rows_of};
 ghost use Rattle.clap.specs.declared.error.kind.ErrorKind.TheVariants.{OutOfMemory};
 ghost use Rattle.command_line.specs.Options.{counter_command};
 ghost use Rattle.command_line.specs.Words.{AskNothing, Asks, IsAsked, IsOwnKind, IsRefusal, IsShown, IsUnasked};
@@ -48,9 +49,18 @@ fn matched<'a>(alloc: Global, words: &'a [String]) -> Result<Word<'a>, Error>
         ⊎ (IsOwnKind (kind_of error)
         × (MixSigners (texts_of words.now) ⊎ AskNothing (texts_of words.now)))) }
 {
-    let mut command = command(alloc)?;
-    let matches = command.try_get_matches_from_mut(words)?;
+    let matches = matches_of(alloc, words)?;
     asked_in(alloc, &matches)
+}
+
+/// What `clap` finds in the words, or its error.
+fn matches_of<'a>(alloc: Global, words: &'a [String]) -> Result<ArgMatches<'a>, Error>
+    ensures kinds { FailsBy (fault_of counter_command (texts_of words.now)) result }
+    ensures found { IfOk result (λ matches.
+        subcommand_rows_of matches ≡ subcommand_of counter_command (texts_of words.now)) }
+{
+    let mut command = command(alloc)?;
+    command.try_get_matches_from_mut(words)
 }
 
 /// The word that is asked for in what was found, or the error where none is.
