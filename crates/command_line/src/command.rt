@@ -1,11 +1,11 @@
 //! The command line, for `clap`.
-ghost use Rattle.std.specs.Prelude.{◌≡◌, IfOk};
+ghost use Rattle.std.specs.Prelude.{◌≡◌, map, IfOk};
 ghost use Rattle.clap.specs.Words.{app_of, with_rule, with_subcommand};
-ghost use Rattle.command_line.specs.Options.{bare_command, counter_command};
+ghost use Rattle.command_line.specs.Options.{bare_command, counter_command, with_subcommands};
 ghost use Rattle.command_line.specs.Table.{app_in, rule_in};
 
 use crate::options::OptionRow;
-use crate::table::{SubcommandRow, subcommand_rows};
+use crate::table::{SubcommandRow, first_rows, last_rows};
 use crate::version::VERSION;
 use clap::Command;
 use std::alloc::{AllocError, Global};
@@ -45,8 +45,20 @@ fn bare_command<'a>(alloc: Global) -> Command<'a>
 pub fn command<'a>(alloc: Global) -> Result<Command<'a>, AllocError>
     ensures { IfOk result (λ command. app_of command ≡ counter_command) }
 {
-    let mut command = bare_command(alloc);
-    for row in subcommand_rows() {
+    let command = with_subcommands(alloc, bare_command(alloc), first_rows())?;
+    with_subcommands(alloc, command, last_rows())
+}
+
+/// A command with the subcommands of these rows.
+fn with_subcommands<'a>(
+    alloc: Global,
+    bare: Command<'a>,
+    rows: &[SubcommandRow],
+) -> Result<Command<'a>, AllocError>
+    ensures { IfOk result (λ more. app_of more ≡ with_subcommands (map app_in rows.now) (app_of bare.entry)) }
+{
+    let mut command = bare;
+    for row in rows {
         command = with_subcommand(alloc, command, row)?;
     }
     Ok(command)

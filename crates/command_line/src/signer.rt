@@ -4,7 +4,7 @@ ghost use Rattle.clap.specs.Words.{found_of, kind_of, rows_of};
 ghost use Rattle.command_line.specs.Words.{IsOwnKind, IsTold, StatesSigner, has_one_signer, tells_one_signer};
 
 use crate::command::{command, subcommand};
-use crate::table::{SubcommandRow, subcommand_rows};
+use crate::table::{SubcommandRow, first_rows, last_rows};
 use crate::words::SignerWords;
 use clap::error::ErrorKind;
 use clap::{ArgMatches, Command, Error};
@@ -69,7 +69,14 @@ fn asked_command<'a>(alloc: Global, matches: &ArgMatches<'_>) -> Result<Command<
 /// The row of the subcommand that is named.
 fn asked_row(matches: &ArgMatches<'_>) -> Option<&'static SubcommandRow> {
     let (name, _) = matches.subcommand()?;
-    subcommand_rows().iter().find(|row| row.name == name)
+    match row_named(first_rows(), name) {
+        Some(row) => Some(row),
+        None => row_named(last_rows(), name),
+    }
+}
+
+fn row_named(rows: &'static [SubcommandRow], name: &str) -> Option<&'static SubcommandRow> {
+    rows.iter().find(|row| row.name == name)
 }
 
 /// Why words with which `clap` finds no fault ask for nothing: they lack a signer, or a value.
