@@ -98,7 +98,9 @@ fn word_of<'a>(matches: &ArgMatches<'a>) -> Option<Word<'a>>
     ensures none { IsNone result → (name : Text) → (rows : List Row) → (word : Word)
         → subcommand_rows_of matches.now ≡ Some (name, rows) → IsAsked name rows word → ⊥ }
 {
-    let (name, words) = matches.subcommand()?;
+    let Some((name, words)) = matches.subcommand() else {
+        return None;
+    };
     word_named(name, words)
 }
 
@@ -126,27 +128,30 @@ fn check_word<'a>(matches: &ArgMatches<'a>) -> Option<Word<'a>>
     ensures found { IfSome result (IsAsked (codes "check") (rows_of (found_of matches.now))) }
     ensures none { IsNone result → IsUnasked (codes "check") (rows_of (found_of matches.now)) }
 {
-    Some(Word::Check(CheckWords {
-        rules: matches.get_str("rules")?,
-    }))
+    let Some(rules) = matches.get_str("rules") else {
+        return None;
+    };
+    Some(Word::Check(CheckWords { rules }))
 }
 
 fn init_word<'a>(matches: &ArgMatches<'a>) -> Option<Word<'a>>
     ensures found { IfSome result (IsAsked (codes "init") (rows_of (found_of matches.now))) }
     ensures none { IsNone result → IsUnasked (codes "init") (rows_of (found_of matches.now)) }
 {
-    Some(Word::Init(InitWords {
-        db: matches.get_str("db")?,
-    }))
+    let Some(db) = matches.get_str("db") else {
+        return None;
+    };
+    Some(Word::Init(InitWords { db }))
 }
 
 fn migrate_word<'a>(matches: &ArgMatches<'a>) -> Option<Word<'a>>
     ensures found { IfSome result (IsAsked (codes "migrate") (rows_of (found_of matches.now))) }
     ensures none { IsNone result → IsUnasked (codes "migrate") (rows_of (found_of matches.now)) }
 {
-    Some(Word::Migrate(MigrateWords {
-        db: matches.get_str("db")?,
-    }))
+    let Some(db) = matches.get_str("db") else {
+        return None;
+    };
+    Some(Word::Migrate(MigrateWords { db }))
 }
 
 fn calibrate_word<'a>(matches: &ArgMatches<'a>) -> Option<Word<'a>>
@@ -330,7 +335,9 @@ fn number(matches: &ArgMatches<'_>, name: &str, numbers: Numbers) -> Option<u64>
     ensures none { IsNone result → (number : ℕ) → StatesNumber (rows_of (found_of matches.now)) name.now number
         → numbers.least ≤ number → number ≤ numbers.most → ⊥ }
 {
-    let number = matches.get_one::<u64>(name)?;
+    let Some(number) = matches.get_one::<u64>(name) else {
+        return None;
+    };
     if numbers.least <= number && number <= numbers.most {
         Some(number)
     } else {

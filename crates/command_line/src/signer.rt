@@ -68,7 +68,9 @@ fn asked_command<'a>(alloc: Global, matches: &ArgMatches<'_>) -> Result<Command<
 
 /// The row of the subcommand that is named.
 fn asked_row(matches: &ArgMatches<'_>) -> Option<&'static SubcommandRow> {
-    let (name, _) = matches.subcommand()?;
+    let Some((name, _)) = matches.subcommand() else {
+        return None;
+    };
     match row_named(first_rows(), name) {
         Some(row) => Some(row),
         None => row_named(last_rows(), name),

@@ -8,13 +8,13 @@ pub returns-clause-found : goal.returns-clause-found
 returns-clause-found c = (
   refl,
   record {
-    rules = reads_text (found_of c.args.matches.now) (codes "rules") c.get_str.result c.in_ok-get_str.field-0
-        c.get_str.ensures c.in_ok-get_str.was;
+    rules = reads_text (found_of c.args.matches.now) (codes "rules") c.get_str.result c.in-Some.rules
+        c.get_str.ensures c.in-Some.is;
   },
 )
 
-pub returns-in_err-get_str-clause-none : goal.returns-in_err-get_str-clause-none
-returns-in_err-get_str-clause-none c = λ _.
+pub returns-in_default-clause-none : goal.returns-in_default-clause-none
+returns-in_default-clause-none c = λ _.
     no_check (rows_of (found_of c.args.matches.now)) (λ words states.
     unread_text (found_of c.args.matches.now) (codes "rules") c.get_str.result words.rules.now c.get_str.ensures
-    c.in_err-get_str.was states.rules)
+    c.in_default.is states.rules)

@@ -8,13 +8,13 @@ pub returns-clause-found : goal.returns-clause-found
 returns-clause-found c = (
   refl,
   record {
-    db = reads_text (found_of c.args.matches.now) (codes "db") c.get_str.result c.in_ok-get_str.field-0
-        c.get_str.ensures c.in_ok-get_str.was;
+    db = reads_text (found_of c.args.matches.now) (codes "db") c.get_str.result c.in-Some.db
+        c.get_str.ensures c.in-Some.is;
   },
 )
 
-pub returns-in_err-get_str-clause-none : goal.returns-in_err-get_str-clause-none
-returns-in_err-get_str-clause-none c = λ _.
+pub returns-in_default-clause-none : goal.returns-in_default-clause-none
+returns-in_default-clause-none c = λ _.
     no_init (rows_of (found_of c.args.matches.now)) (λ words states.
     unread_text (found_of c.args.matches.now) (codes "db") c.get_str.result words.db.now c.get_str.ensures
-    c.in_err-get_str.was states.db)
+    c.in_default.is states.db)
