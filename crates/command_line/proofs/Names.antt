@@ -4,7 +4,7 @@ use Rattle.std.specs.Prelude.{IfSome, IsNone}
 use Rattle.std.specs.Str.{bytes_eq}
 use Rattle.clap.specs.Words.{Row, Text}
 use Rattle.command_line.specs.Words.{IsAsked, IsUnasked, StatesAnswer, StatesAudit, StatesCalibrate, StatesCheck}
-use Rattle.command_line.specs.Words.{StatesExchange, StatesHold, StatesInit, StatesMigrate, StatesServe, StatesTst}
+use Rattle.command_line.specs.Words.{needs_signer, StatesExchange, StatesHold, StatesInit, StatesMigrate, StatesServe, StatesTst}
 use Rattle.command_line.specs.declared.words.AnswerWords.{AnswerWords}
 use Rattle.command_line.specs.declared.words.AuditWords.{AuditWords}
 use Rattle.command_line.specs.declared.words.CalibrateWords.{CalibrateWords}
@@ -117,3 +117,32 @@ pub no_audit : (rows : List Row) → ((words : AuditWords) → StatesAudit rows 
 no_audit rows none (Audit words) asked = none words asked.1
 no_audit rows none word asked =
     differ (codes "audit") (name_of word) refl refl (asked_by_name (codes "audit") rows word asked)
+
+not_needed : (name other : Text) → name ≡ other → needs_signer other ≡ false → needs_signer name ≡ true → ⊥
+not_needed name other is unneeded needs =
+    let both : true ≡ false = sym needs ∙ ap needs_signer is ∙ unneeded in
+    cc
+
+-- the subcommands that need a signer are these three
+pub none_signed : (name : Text) (rows : List Row) → (name ≡ codes "answer" → ⊥) → (name ≡ codes "exchange" → ⊥)
+    → (name ≡ codes "serve" → ⊥) → needs_signer name ≡ true → (word : Word) → IsAsked name rows word → ⊥
+none_signed name rows answer exchange serve needs (Answer words) asked = answer asked.0
+none_signed name rows answer exchange serve needs (Exchange words) asked = exchange asked.0
+none_signed name rows answer exchange serve needs (Serve words) asked = serve asked.0
+none_signed name rows answer exchange serve needs word asked =
+    not_needed name (name_of word) (asked_by_name name rows word asked) refl needs
+
+-- and these are the others
+pub none_other : (name : Text) (rows : List Row) → (name ≡ codes "tst" → ⊥) → (name ≡ codes "check" → ⊥)
+    → (name ≡ codes "init" → ⊥) → (name ≡ codes "migrate" → ⊥) → (name ≡ codes "calibrate" → ⊥)
+    → (name ≡ codes "hold" → ⊥) → (name ≡ codes "audit" → ⊥) → (needs_signer name ≡ true → IsUnasked name rows)
+    → (word : Word) → IsAsked name rows word → ⊥
+none_other name rows tst check init migrate calibrate hold audit signed (Tst words) asked = tst asked.0
+none_other name rows tst check init migrate calibrate hold audit signed (Check words) asked = check asked.0
+none_other name rows tst check init migrate calibrate hold audit signed (Init words) asked = init asked.0
+none_other name rows tst check init migrate calibrate hold audit signed (Migrate words) asked = migrate asked.0
+none_other name rows tst check init migrate calibrate hold audit signed (Calibrate words) asked = calibrate asked.0
+none_other name rows tst check init migrate calibrate hold audit signed (Hold words) asked = hold asked.0
+none_other name rows tst check init migrate calibrate hold audit signed (Audit words) asked = audit asked.0
+none_other name rows tst check init migrate calibrate hold audit signed word asked =
+    signed (ap needs_signer (asked_by_name name rows word asked)) word asked

@@ -1,11 +1,11 @@
 //! What the words ask for, by what `clap` finds in them.
-ghost use Rattle.std.specs.Prelude.{◌≡◌, ◌≤◌, ◌⊎◌, ℕ, List, Some, IfOk, IfErr, IfSome, IsNone, codes};
+ghost use Rattle.std.specs.Prelude.{◌≡◌, ◌≤◌, ◌⊎◌, ℕ, List, Some, IfOk, IfErr, IfSome, IsNone, codes, true};
 ghost use Rattle.clap.specs.Words.{Row, Text, FailsBy, HasKind, fault_of, found_of, kind_of, rows_of, subcommand_of};
 ghost use Rattle.clap.specs.Words.{subcommand_rows_of};
 ghost use Rattle.clap.specs.declared.error.kind.ErrorKind.TheVariants.{OutOfMemory};
 ghost use Rattle.command_line.specs.Options.{counter_command};
 ghost use Rattle.command_line.specs.Words.{AskNothing, Asks, IsAsked, IsOwnKind, IsRefusal, IsShown, IsUnasked};
-ghost use Rattle.command_line.specs.Words.{MixSigners, StatesDesk, StatesNumber, texts_of};
+ghost use Rattle.command_line.specs.Words.{MixSigners, StatesDesk, StatesNumber, needs_signer, texts_of};
 
 use crate::command::command;
 use crate::options::Numbers;
@@ -116,10 +116,20 @@ fn word_named<'a>(name: &str, words: &ArgMatches<'a>) -> Option<Word<'a>>
         "migrate" => migrate_word(words),
         "calibrate" => calibrate_word(words),
         "hold" => hold_word(words),
+        "audit" => audit_word(words),
+        _ => signed_word_named(name, words),
+    }
+}
+
+/// The word of this name, where its subcommand needs a signer.
+fn signed_word_named<'a>(name: &str, words: &ArgMatches<'a>) -> Option<Word<'a>>
+    ensures found { IfSome result (IsAsked name.now (rows_of (found_of words.now))) }
+    ensures none { IsNone result → needs_signer name.now ≡ true → IsUnasked name.now (rows_of (found_of words.now)) }
+{
+    match name {
         "answer" => answer_word(words),
         "exchange" => exchange_word(words),
         "serve" => serve_word(words),
-        "audit" => audit_word(words),
         _ => None,
     }
 }

@@ -1,5 +1,5 @@
 use Rattle.clap.specs.Words.{found_of, rows_of}
-use Rattle.command_line.proofs.Names.{named_found, named_none}
+use Rattle.command_line.proofs.Names.{named_found, named_none, none_other}
 use Rattle.command_line.proofs.parse.word_named.Goals as goal
 
 pub returns-in-tst-clause-found : goal.returns-in-tst-clause-found
@@ -50,30 +50,6 @@ pub returns-in-hold-clause-none : goal.returns-in-hold-clause-none
 returns-in-hold-clause-none c =
     named_none (rows_of (found_of c.args.words.now)) c.hold_word.result c.in-hold.is c.hold_word.ensures.none
 
-pub returns-in-answer-clause-found : goal.returns-in-answer-clause-found
-returns-in-answer-clause-found c =
-    named_found (rows_of (found_of c.args.words.now)) c.answer_word.result c.in-answer.is c.answer_word.ensures.found
-
-pub returns-in-answer-clause-none : goal.returns-in-answer-clause-none
-returns-in-answer-clause-none c =
-    named_none (rows_of (found_of c.args.words.now)) c.answer_word.result c.in-answer.is c.answer_word.ensures.none
-
-pub returns-in-exchange-clause-found : goal.returns-in-exchange-clause-found
-returns-in-exchange-clause-found c =
-    named_found (rows_of (found_of c.args.words.now)) c.exchange_word.result c.in-exchange.is c.exchange_word.ensures.found
-
-pub returns-in-exchange-clause-none : goal.returns-in-exchange-clause-none
-returns-in-exchange-clause-none c =
-    named_none (rows_of (found_of c.args.words.now)) c.exchange_word.result c.in-exchange.is c.exchange_word.ensures.none
-
-pub returns-in-serve-clause-found : goal.returns-in-serve-clause-found
-returns-in-serve-clause-found c =
-    named_found (rows_of (found_of c.args.words.now)) c.serve_word.result c.in-serve.is c.serve_word.ensures.found
-
-pub returns-in-serve-clause-none : goal.returns-in-serve-clause-none
-returns-in-serve-clause-none c =
-    named_none (rows_of (found_of c.args.words.now)) c.serve_word.result c.in-serve.is c.serve_word.ensures.none
-
 pub returns-in-audit-clause-found : goal.returns-in-audit-clause-found
 returns-in-audit-clause-found c =
     named_found (rows_of (found_of c.args.words.now)) c.audit_word.result c.in-audit.is c.audit_word.ensures.found
@@ -81,3 +57,9 @@ returns-in-audit-clause-found c =
 pub returns-in-audit-clause-none : goal.returns-in-audit-clause-none
 returns-in-audit-clause-none c =
     named_none (rows_of (found_of c.args.words.now)) c.audit_word.result c.in-audit.is c.audit_word.ensures.none
+
+pub returns-in_default-clause-none : goal.returns-in_default-clause-none
+returns-in_default-clause-none c = λ none.
+    none_other c.args.name.now (rows_of (found_of c.args.words.now)) c.in_default.not-tst c.in_default.not-check
+    c.in_default.not-init c.in_default.not-migrate c.in_default.not-calibrate c.in_default.not-hold
+    c.in_default.not-audit (c.signed_word_named.ensures.none none)
