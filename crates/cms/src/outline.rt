@@ -89,8 +89,15 @@ fn outline_after<'a>(mut members: DataValues<'a>, after: DataValues<'a>) -> Opti
     ensures { option_map outline_view result ≡ serial_at (values_view members.entry)
         ⟫ λ serial. sequence_at serial.1 ⟫ λ signature. sequence_at signature.1
         ⟫ λ issuer. sequence_at issuer.1 ⟫ λ validity. subject_at validity.1
-        ⟫ λ subject. Some (record { serial = serial.0; after_serial = serial.1; issuer = issuer.0;
-        after_issuer = issuer.1; subject = subject.0; after_subject = subject.1; after = values_view after.entry }) }
+        ⟫ λ subject. Some (record {
+          serial = serial.0;
+          after_serial = serial.1;
+          issuer = issuer.0;
+          after_issuer = issuer.1;
+          subject = subject.0;
+          after_subject = subject.1;
+          after = values_view after.entry;
+        }) }
 {
     let Some(serial) = serial(&mut members) else {
         return None;
@@ -103,20 +110,17 @@ fn outline_after<'a>(mut members: DataValues<'a>, after: DataValues<'a>) -> Opti
         return None;
     };
     let after_issuer = members;
-    let Some(_validity) = sequence(&mut members) else {
-        return None;
-    };
+    let _validity = sequence(&mut members)?;
     let Some(subject) = subject(&mut members) else {
         return None;
     };
-    let after_subject = members;
     Some(Outline {
         serial,
         after_serial,
         issuer,
         after_issuer,
         subject,
-        after_subject,
+        after_subject: members,
         after,
     })
 }
