@@ -4,7 +4,8 @@ use Rattle.std.specs.Prelude.{IfSome, IsNone}
 use Rattle.std.specs.Str.{bytes_eq}
 use Rattle.clap.specs.Words.{Row, Text}
 use Rattle.command_line.specs.Words.{IsAsked, IsUnasked, StatesAnswer, StatesAudit, StatesCalibrate, StatesCheck}
-use Rattle.command_line.specs.Words.{needs_signer, StatesExchange, StatesHold, StatesInit, StatesMigrate, StatesServe, StatesTst}
+use Rattle.command_line.specs.Words.{needs_signer}
+use Rattle.command_line.specs.Words.{StatesExchange, StatesHold, StatesInit, StatesMigrate, StatesServe, StatesTst}
 use Rattle.command_line.specs.declared.words.AnswerWords.{AnswerWords}
 use Rattle.command_line.specs.declared.words.AuditWords.{AuditWords}
 use Rattle.command_line.specs.declared.words.CalibrateWords.{CalibrateWords}

@@ -18,7 +18,8 @@ returns c =
     let five = c.in_ok-extend_from_slice-3.ensures.items
     ∙ ap (λ x. c.append_element-2.new.octets.items ++ x) c.as_slice.ensures in
     let six = c.in_ok-append_element-3.ensures in
-    IfOk-weaker c.element_of.result _ _ (λ octets is. is ∙ ap (element 48) (c.deref-4.ensures.value
+    IfOk-weaker c.element_of.result _ _
+    (λ octets is. is ∙ ap (element 48) (c.deref-4.ensures.value
     ∙ grown_six _ _ _ _ _ _ _ _ _ _ _ _ _ c.new-members.ensures.items c.in_ok-append_element.ensures two three four five
     six)
     ∙ signer_info_text c.args.identity.now c.args.algorithm.now c.args.tst.now c.args.signature.now) c.element_of.ensures

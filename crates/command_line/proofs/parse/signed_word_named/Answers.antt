@@ -12,11 +12,13 @@ returns-in-answer-clause-none c = λ none _.
 
 pub returns-in-exchange-clause-found : goal.returns-in-exchange-clause-found
 returns-in-exchange-clause-found c =
-    named_found (rows_of (found_of c.args.words.now)) c.exchange_word.result c.in-exchange.is c.exchange_word.ensures.found
+    named_found (rows_of (found_of c.args.words.now)) c.exchange_word.result c.in-exchange.is
+    c.exchange_word.ensures.found
 
 pub returns-in-exchange-clause-none : goal.returns-in-exchange-clause-none
 returns-in-exchange-clause-none c = λ none _.
-    named_none (rows_of (found_of c.args.words.now)) c.exchange_word.result c.in-exchange.is c.exchange_word.ensures.none none
+    named_none (rows_of (found_of c.args.words.now)) c.exchange_word.result c.in-exchange.is
+    c.exchange_word.ensures.none none
 
 pub returns-in-serve-clause-found : goal.returns-in-serve-clause-found
 returns-in-serve-clause-found c =
