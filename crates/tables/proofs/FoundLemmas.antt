@@ -1,9 +1,12 @@
 -- What is found of rows, in the words of what is read of the first that an answer has.
-use Rattle.std.proofs.Common.{◌≡◌, ℕ, Bool, List, Option, None, Some, Result, Ok, Err, IfOk}
+use Rattle.std.proofs.Common.{◌≡◌, ◌∙◌, ℕ, Bool, List, Option, None, Some, Result, Ok, Err, IfOk}
+use Rattle.std.specs.List.{list_any}
+use Rattle.std.specs.Option.{is_some}
 use Rattle.sqlite_value.specs.Order.{Row}
 use Rattle.sqlite_trees.specs.Tree.{Trees}
 use Rattle.tables.specs.Asking.{TellsFirst, TellsFirstAs, IsReadAs}
 use Rattle.tables.specs.Found.{IsFoundAs, IsGreatestAs, IsLeastAs}
+use Rattle.tables.proofs.QueryLemmas.{found_any}
 
 module _ {X Y : Type 0} (image : X → Row) (IsRead : Row → Y → Type 0) (Shows : X → Y → Type 0)
     (read : (x : X) (row : Row) (y : Y) → row ≡ image x → IsRead row y → Shows x y)
@@ -40,3 +43,12 @@ module _ {X Y : Type 0} (image : X → Row) (IsRead : Row → Y → Type 0) (Sho
       → IfOk r (λ found. TellsFirstAs IsRead sql params db found) → IfOk r (λ found. IsLeastAs Shows key test xs found)
   least_as key test (Ok found) finds told = least_here key test told.0 found (finds told.0 told.1) told.2
   least_as key test (Err e) finds told = tt
+
+-- whether there is a row that passes
+pub any_as : {X E : Type 0} (Shows : X → Row → Type 0) (test : X → Bool) (xs : List X) (sql : List ℕ) (params : Row)
+    (db : Trees) (r : Result Bool E)
+    → ((row : Option Row) → TellsFirst sql params db row → IsFoundAs Shows test xs row)
+    → IfOk r (λ any. (row : Option Row) × TellsFirst sql params db row × (any ≡ is_some row))
+    → IfOk r (λ any. any ≡ list_any test xs)
+any_as Shows test xs sql params db (Ok any) finds (row, told, is) = is ∙ found_any Shows test xs row (finds row told)
+any_as Shows test xs sql params db (Err e) finds told = tt

@@ -1,6 +1,6 @@
 //! Queries, each asked in a transaction of its own that is undone.
 ghost use Rattle.std.specs.Prelude.{◌≡◌, ◌≢◌, ◌<◌, ◌^◌, ℕ, pos, false, length, IfOk, IfErr, IfSome, OnOk, IsTrue};
-ghost use Rattle.std.specs.Prelude.{string_bytes, option_map};
+ghost use Rattle.std.specs.Prelude.{string_bytes, option_map, is_some};
 ghost use Rattle.sqlite_value.specs.Order.{column};
 ghost use Rattle.sqlite_value.specs.declared.value.Value.TheVariants.{Int, Text, Blob};
 ghost use Rattle.sqlite.specs.Held.{state};
@@ -13,6 +13,19 @@ ghost use Rattle.tables.specs.Asking.{IsQueryText, IsPlainIn, Answers, TellsRows
 
 use sqlite::types::ValueRef;
 use sqlite::{Alter, Connection, Error, ErrorCode, Row};
+
+/// What a row can be read as.
+pub(crate) trait FromRow {
+    // which rows show a value
+    ghost shows: { Row → Self → Type 0 };
+
+    ghost use Rattle.std.specs.Prelude.{IfOk};
+    ghost use Rattle.sqlite_value.specs.Order.{Row};
+
+    /// The value of a row.
+    fn from_row(row: &Row) -> Result<Self, Error>
+        ensures { IfOk result (λ value. shows row.now value) };
+}
 
 /// The rows that a query answers.
 pub(crate) fn rows_of<S: Alter>(
@@ -58,6 +71,50 @@ pub(crate) fn first_row<S: Alter>(
         return Ok(None);
     }
     Ok(Some(rows.swap_remove(0)))
+}
+
+/// Whether a query answers a row.
+pub(crate) fn any_row<S: Alter>(
+    conn: &mut Connection<S>,
+    sql: &str,
+    params: &[ValueRef<'_>],
+) -> Result<bool, Error>
+    requires autocommit { conn.old.in_transaction ≡ false }
+    requires text { IsQueryText sql.now }
+    ensures closed { conn.new.in_transaction ≡ false }
+    ensures looks { Looks (state S.Store conn.old) (state S.Store conn.new) }
+    ensures opened { HasCleanDisk (state S.Store conn.new) → OnOk result (IsTrue (state S.Store conn.old).is_open) }
+    ensures told { HasCleanDisk (state S.Store conn.new) → (state S.Store conn.old).now.schema ≡ the_schema
+        → IfOk result (λ any. (row : _) × TellsFirst sql.now (bound params.now) (state S.Store conn.old).now.trees row
+        × (any ≡ is_some row)) }
+{
+    let found = first_row(conn, sql, params)?;
+    Ok(found.is_some())
+}
+
+/// What the first row that a query answers is read as, if there is a row.
+pub(crate) fn first_as<S: Alter, R: FromRow>(
+    conn: &mut Connection<S>,
+    sql: &str,
+    params: &[ValueRef<'_>],
+) -> Result<Option<R>, Error>
+    requires autocommit { conn.old.in_transaction ≡ false }
+    requires text { IsQueryText sql.now }
+    ensures closed { conn.new.in_transaction ≡ false }
+    ensures looks { Looks (state S.Store conn.old) (state S.Store conn.new) }
+    ensures opened { HasCleanDisk (state S.Store conn.new) → OnOk result (IsTrue (state S.Store conn.old).is_open) }
+    ensures told { HasCleanDisk (state S.Store conn.new) → (state S.Store conn.old).now.schema ≡ the_schema
+        → IfOk result (λ found. TellsFirstAs R.shows sql.now (bound params.now) (state S.Store conn.old).now.trees
+        found) }
+{
+    let found = first_row(conn, sql, params)?;
+    match found {
+        Some(row) => {
+            let value = R::from_row(&row)?;
+            Ok(Some(value))
+        }
+        None => Ok(None),
+    }
 }
 
 /// The number that the first row that a query answers begins with, if there is a row.

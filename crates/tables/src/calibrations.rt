@@ -1,8 +1,6 @@
 //! The table of calibrations: the statement that adds one, inside a transaction, and the look-up.
 
-ghost use Rattle.std.specs.Prelude.{◌≡◌, ◌<◌, ◌^◌, false, IsTrue, IfOk, OnOk, pos};
-ghost use Rattle.sqlite_value.specs.Order.{column};
-ghost use Rattle.sqlite_value.specs.declared.value.Value.TheVariants.{Int};
+ghost use Rattle.std.specs.Prelude.{◌≡◌, ◌<◌, ◌^◌, false, IsTrue, IfOk, OnOk};
 ghost use Rattle.sqlite.specs.Held.{state};
 ghost use Rattle.sqlite.specs.State.{HasCleanDisk};
 ghost use Rattle.tables.specs.Asking.{Looks};
@@ -12,7 +10,7 @@ ghost use Rattle.tables.specs.Holding.{IsDatabaseOf};
 ghost use Rattle.tables.specs.Queries.{ShowsCalibration};
 ghost use Rattle.tables.specs.Tables.{Tables, with_calibration};
 
-use crate::asking::{first_row, number, signed};
+use crate::asking::{FromRow, first_as, number, signed};
 use crate::rows::LatestCalibration;
 use sqlite::types::{ToSql, ValueRef};
 use sqlite::{Alter, Connection, Error, Row, Transaction};
@@ -48,21 +46,26 @@ pub(crate) fn put_calibration<'a, S: Alter>(
     )
 }
 
-/// The calibration of a row.
-fn calibration_of(row: &Row) -> Result<LatestCalibration, Error>
-    ensures { IfOk result (λ c. (column row.now 0 ≡ Int (pos c.n)) × (column row.now 1 ≡ Int c.reading)
-        × (column row.now 2 ≡ Int c.offset) × (column row.now 3 ≡ Int (pos c.uncertainty))) }
-{
-    let n = number(row, 0)?;
-    let reading = signed(row, 1)?;
-    let offset = signed(row, 2)?;
-    let uncertainty = number(row, 3)?;
-    Ok(LatestCalibration {
-        n,
-        reading,
-        offset,
-        uncertainty,
-    })
+impl FromRow for LatestCalibration {
+    ghost use Rattle.std.specs.Prelude.{◌≡◌, pos};
+    ghost use Rattle.sqlite_value.specs.Order.{column};
+    ghost use Rattle.sqlite_value.specs.declared.value.Value.TheVariants.{Int};
+
+    ghost shows = { λ row c. (column row 0 ≡ Int (pos c.n)) × (column row 1 ≡ Int c.reading)
+        × (column row 2 ≡ Int c.offset) × (column row 3 ≡ Int (pos c.uncertainty)) };
+
+    fn from_row(row: &Row) -> Result<LatestCalibration, Error> {
+        let n = number(row, 0)?;
+        let reading = signed(row, 1)?;
+        let offset = signed(row, 2)?;
+        let uncertainty = number(row, 3)?;
+        Ok(LatestCalibration {
+            n,
+            reading,
+            offset,
+            uncertainty,
+        })
+    }
 }
 
 /// The calibration with the greatest number.
@@ -76,12 +79,5 @@ pub(crate) fn latest_calibration<S: Alter>(
     ensures value { HasCleanDisk (state S.Store conn.new) → (t : Tables) → IsDatabaseOf t (state S.Store conn.old).now
         → IfOk result (λ found. IsGreatestAs ShowsCalibration (λ row. row.n) t.calibrations found) }
 {
-    let found = first_row(conn, LATEST_CALIBRATION, &[])?;
-    match found {
-        Some(row) => {
-            let calibration = calibration_of(&row)?;
-            Ok(Some(calibration))
-        }
-        None => Ok(None),
-    }
+    first_as(conn, LATEST_CALIBRATION, &[])
 }

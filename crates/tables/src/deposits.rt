@@ -4,18 +4,14 @@ ghost use Rattle.std.specs.List.{list_any};
 ghost use Rattle.std.specs.Prelude.{◌≡◌, ◌<◌, ◌^◌, false, IsTrue, IfOk, IfSome, OnOk};
 ghost use Rattle.sqlite.specs.Held.{state};
 ghost use Rattle.sqlite.specs.State.{HasCleanDisk};
-ghost use Rattle.sqlite.specs.Values.{bound};
-ghost use Rattle.tables.specs.Asking.{IsQueryText, Looks, TellsFirstAs};
+ghost use Rattle.tables.specs.Asking.{Looks};
 ghost use Rattle.tables.specs.Carrying.{Carries};
 ghost use Rattle.tables.specs.Found.{IsFoundAs, IsLeastAs};
 ghost use Rattle.tables.specs.Holding.{IsDatabaseOf};
-ghost use Rattle.tables.specs.Queries.{ShowsDeposit, ShowsLabel, ShowsDepositSerial, deposit_view, is_owned};
-ghost use Rattle.tables.specs.Queries.{is_owned_after};
-ghost use Rattle.tables.specs.Schema.{the_schema};
-ghost use Rattle.tables.specs.Shown.{deposit_shown, label_shown};
-ghost use Rattle.tables.specs.Tables.{Tables, with_deposit, DepositRow, is_deposit, is_deposit_of};
+ghost use Rattle.tables.specs.Queries.{ShowsDeposit, ShowsLabel, ShowsDepositSerial, is_owned, is_owned_after};
+ghost use Rattle.tables.specs.Tables.{Tables, with_deposit, is_deposit, is_deposit_of};
 
-use crate::asking::{first_number, first_row, number, octets, text};
+use crate::asking::{FromRow, any_row, first_as, first_number, number, octets, text};
 use crate::rows::Label;
 use book::{Deposit, GREATEST_NUMBER};
 use sqlite::types::ValueRef;
@@ -62,53 +58,40 @@ pub(crate) fn put_deposit<'a, S: Alter>(
     )
 }
 
-/// The deposit of a row.
-fn deposit_of(row: &Row) -> Result<Deposit, Error>
-    ensures { IfOk result (λ d. (x : DepositRow) → row.now ≡ deposit_shown x → deposit_view d ≡ x) }
-{
-    let serial = number(row, 0)?;
-    let owner = text(row, 1)?;
-    let reference = text(row, 2)?;
-    let bytes = octets(row, 3)?;
-    Ok(Deposit {
-        serial,
-        owner,
-        reference,
-        bytes,
-    })
+impl FromRow for Deposit {
+    ghost use Rattle.std.specs.Prelude.{◌≡◌};
+    ghost use Rattle.tables.specs.Queries.{deposit_view};
+    ghost use Rattle.tables.specs.Shown.{deposit_shown};
+    ghost use Rattle.tables.specs.Tables.{DepositRow};
+
+    ghost shows = { λ row d. (x : DepositRow) → row ≡ deposit_shown x → deposit_view d ≡ x };
+
+    fn from_row(row: &Row) -> Result<Deposit, Error> {
+        let serial = number(row, 0)?;
+        let owner = text(row, 1)?;
+        let reference = text(row, 2)?;
+        let bytes = octets(row, 3)?;
+        Ok(Deposit {
+            serial,
+            owner,
+            reference,
+            bytes,
+        })
+    }
 }
 
-/// The owner and the reference of a row.
-fn label_of(row: &Row) -> Result<Label, Error>
-    ensures { IfOk result (λ label. (x : DepositRow) → row.now ≡ label_shown x → ShowsLabel x label) }
-{
-    let owner = text(row, 0)?;
-    let reference = text(row, 1)?;
-    Ok(Label { owner, reference })
-}
+impl FromRow for Label {
+    ghost use Rattle.std.specs.Prelude.{◌≡◌};
+    ghost use Rattle.tables.specs.Queries.{ShowsLabel};
+    ghost use Rattle.tables.specs.Shown.{label_shown};
+    ghost use Rattle.tables.specs.Tables.{DepositRow};
 
-/// The deposit of the first row that a query answers, if there is a row.
-fn first_deposit<S: Alter>(
-    conn: &mut Connection<S>,
-    sql: &str,
-    params: &[ValueRef<'_>],
-) -> Result<Option<Deposit>, Error>
-    requires autocommit { conn.old.in_transaction ≡ false }
-    requires text { IsQueryText sql.now }
-    ensures closed { conn.new.in_transaction ≡ false }
-    ensures looks { Looks (state S.Store conn.old) (state S.Store conn.new) }
-    ensures opened { HasCleanDisk (state S.Store conn.new) → OnOk result (IsTrue (state S.Store conn.old).is_open) }
-    ensures told { HasCleanDisk (state S.Store conn.new) → (state S.Store conn.old).now.schema ≡ the_schema
-        → IfOk result (λ found. TellsFirstAs (λ row d. (x : DepositRow) → row ≡ deposit_shown x → deposit_view d ≡ x)
-        sql.now (bound params.now) (state S.Store conn.old).now.trees found) }
-{
-    let found = first_row(conn, sql, params)?;
-    match found {
-        Some(row) => {
-            let deposit = deposit_of(&row)?;
-            Ok(Some(deposit))
-        }
-        None => Ok(None),
+    ghost shows = { λ row label. (x : DepositRow) → row ≡ label_shown x → ShowsLabel x label };
+
+    fn from_row(row: &Row) -> Result<Label, Error> {
+        let owner = text(row, 0)?;
+        let reference = text(row, 1)?;
+        Ok(Label { owner, reference })
     }
 }
 
@@ -127,7 +110,7 @@ pub(crate) fn deposit<S: Alter>(
     if serial > GREATEST_NUMBER {
         return Err(Error::IntegralValueOutOfRange(0));
     }
-    first_deposit(conn, DEPOSIT, &[ValueRef::Int(serial as i64)])
+    first_as(conn, DEPOSIT, &[ValueRef::Int(serial as i64)])
 }
 
 /// The deposit of the owner under the reference.
@@ -143,7 +126,7 @@ pub(crate) fn deposit_under<S: Alter>(
     ensures value { HasCleanDisk (state S.Store conn.new) → (t : Tables) → IsDatabaseOf t (state S.Store conn.old).now
         → IfOk result (λ found. IsFoundAs ShowsDeposit (is_deposit_of owner.now reference.now) t.deposits found) }
 {
-    first_deposit(
+    first_as(
         conn,
         DEPOSIT_UNDER,
         &[
@@ -169,21 +152,14 @@ pub(crate) fn label<S: Alter>(
     if serial > GREATEST_NUMBER {
         return Err(Error::IntegralValueOutOfRange(0));
     }
-    let found = first_row(
+    first_as(
         conn,
         LABEL,
         &[
             ValueRef::Int(serial as i64),
             ValueRef::Text(owner.as_bytes()),
         ],
-    )?;
-    match found {
-        Some(row) => {
-            let label = label_of(&row)?;
-            Ok(Some(label))
-        }
-        None => Ok(None),
-    }
+    )
 }
 
 /// Whether the account owns the deposit with the number.
@@ -202,15 +178,14 @@ pub(crate) fn is_owner<S: Alter>(
     if serial > GREATEST_NUMBER {
         return Err(Error::IntegralValueOutOfRange(0));
     }
-    let found = first_row(
+    any_row(
         conn,
         IS_OWNER,
         &[
             ValueRef::Int(serial as i64),
             ValueRef::Text(account.as_bytes()),
         ],
-    )?;
-    Ok(found.is_some())
+    )
 }
 
 /// The least number after `after` of a deposit that the account owns.

@@ -12,7 +12,7 @@ ghost use Rattle.tables.specs.Queries.{ShowsReaderSerial, is_readable_after};
 ghost use Rattle.tables.specs.Steps.{with_group_reader_alone};
 ghost use Rattle.tables.specs.Tables.{Tables, is_reader_row, without_group_reader};
 
-use crate::asking::{first_number, first_row};
+use crate::asking::{any_row, first_number};
 use book::GREATEST_NUMBER;
 use sqlite::types::ValueRef;
 use sqlite::{Alter, Connection, Error, Transaction};
@@ -80,15 +80,14 @@ pub(crate) fn is_group_reader<S: Alter>(
     if serial > GREATEST_NUMBER {
         return Err(Error::IntegralValueOutOfRange(0));
     }
-    let found = first_row(
+    any_row(
         conn,
         IS_GROUP_READER,
         &[
             ValueRef::Int(serial as i64),
             ValueRef::Text(name.as_bytes()),
         ],
-    )?;
-    Ok(found.is_some())
+    )
 }
 
 /// The least number after `after` of a deposit that the group is a reader of.

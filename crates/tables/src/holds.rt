@@ -11,7 +11,7 @@ ghost use Rattle.tables.specs.Holding.{IsDatabaseOf};
 ghost use Rattle.tables.specs.Queries.{ShowsNumber, holds_at};
 ghost use Rattle.tables.specs.Tables.{Tables, with_hold};
 
-use crate::asking::{first_number, first_row};
+use crate::asking::{any_row, first_number};
 use sqlite::types::{ToSql, ValueRef};
 use sqlite::{Alter, Connection, Error, Transaction};
 
@@ -60,6 +60,5 @@ pub(crate) fn held_at<S: Alter>(conn: &mut Connection<S>, now: &i64) -> Result<b
     ensures value { HasCleanDisk (state S.Store conn.new) → (t : Tables) → IsDatabaseOf t (state S.Store conn.old).now
         → IfOk result (λ found. found ≡ list_any (holds_at now.now) t.holds) }
 {
-    let found = first_row(conn, HOLD_AT, &[ValueRef::Int(*now)])?;
-    Ok(found.is_some())
+    any_row(conn, HOLD_AT, &[ValueRef::Int(*now)])
 }

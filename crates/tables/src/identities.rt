@@ -7,11 +7,10 @@ ghost use Rattle.tables.specs.Asking.{Looks};
 ghost use Rattle.tables.specs.Carrying.{Carries};
 ghost use Rattle.tables.specs.Found.{IsFoundAs, IsGreatestAs};
 ghost use Rattle.tables.specs.Holding.{IsDatabaseOf};
-ghost use Rattle.tables.specs.Queries.{ShowsIdentity, ShowsIdentityNumber, identity_view};
-ghost use Rattle.tables.specs.Shown.{identity_shown};
-ghost use Rattle.tables.specs.Tables.{Tables, InstalledRow, is_identity, with_identity};
+ghost use Rattle.tables.specs.Queries.{ShowsIdentity, ShowsIdentityNumber};
+ghost use Rattle.tables.specs.Tables.{Tables, is_identity, with_identity};
 
-use crate::asking::{first_number, first_row, number, octets};
+use crate::asking::{FromRow, first_as, first_number, number, octets};
 use book::{GREATEST_NUMBER, IdentityRow};
 use sqlite::types::ValueRef;
 use sqlite::{Alter, Connection, Error, Row, Transaction};
@@ -53,20 +52,26 @@ pub(crate) fn put_identity<'a, S: Alter>(
     )
 }
 
-/// The identity of a row.
-fn identity_of(row: &Row) -> Result<IdentityRow, Error>
-    ensures { IfOk result (λ i. (x : InstalledRow) → row.now ≡ identity_shown x → identity_view i ≡ x) }
-{
-    let n = number(row, 0)?;
-    let after_serial = number(row, 1)?;
-    let certificate = octets(row, 2)?;
-    let chain = octets(row, 3)?;
-    Ok(IdentityRow {
-        number: n,
-        after_serial,
-        certificate,
-        chain,
-    })
+impl FromRow for IdentityRow {
+    ghost use Rattle.std.specs.Prelude.{◌≡◌};
+    ghost use Rattle.tables.specs.Queries.{identity_view};
+    ghost use Rattle.tables.specs.Shown.{identity_shown};
+    ghost use Rattle.tables.specs.Tables.{InstalledRow};
+
+    ghost shows = { λ row i. (x : InstalledRow) → row ≡ identity_shown x → identity_view i ≡ x };
+
+    fn from_row(row: &Row) -> Result<IdentityRow, Error> {
+        let n = number(row, 0)?;
+        let after_serial = number(row, 1)?;
+        let certificate = octets(row, 2)?;
+        let chain = octets(row, 3)?;
+        Ok(IdentityRow {
+            number: n,
+            after_serial,
+            certificate,
+            chain,
+        })
+    }
 }
 
 /// The identity with the number.
@@ -84,14 +89,7 @@ pub(crate) fn identity<S: Alter>(
     if number > GREATEST_NUMBER {
         return Err(Error::IntegralValueOutOfRange(0));
     }
-    let found = first_row(conn, IDENTITY, &[ValueRef::Int(number as i64)])?;
-    match found {
-        Some(row) => {
-            let identity = identity_of(&row)?;
-            Ok(Some(identity))
-        }
-        None => Ok(None),
-    }
+    first_as(conn, IDENTITY, &[ValueRef::Int(number as i64)])
 }
 
 /// The greatest number of an identity.

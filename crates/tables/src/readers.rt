@@ -12,7 +12,7 @@ ghost use Rattle.tables.specs.Queries.{ShowsReaderSerial, is_readable_after};
 ghost use Rattle.tables.specs.Steps.{with_reader_alone};
 ghost use Rattle.tables.specs.Tables.{Tables, without_reader, is_reader_row};
 
-use crate::asking::{first_number, first_row};
+use crate::asking::{any_row, first_number};
 use book::GREATEST_NUMBER;
 use sqlite::types::ValueRef;
 use sqlite::{Alter, Connection, Error, Transaction};
@@ -80,15 +80,14 @@ pub(crate) fn is_reader<S: Alter>(
     if serial > GREATEST_NUMBER {
         return Err(Error::IntegralValueOutOfRange(0));
     }
-    let found = first_row(
+    any_row(
         conn,
         IS_READER,
         &[
             ValueRef::Int(serial as i64),
             ValueRef::Text(account.as_bytes()),
         ],
-    )?;
-    Ok(found.is_some())
+    )
 }
 
 /// The least number after `after` of a deposit that the account is a reader of.

@@ -3,20 +3,17 @@
 ghost use Rattle.std.specs.Prelude.{◌≡◌, ◌<◌, ◌^◌, false, IsTrue, IfOk, None, OnOk};
 ghost use Rattle.sqlite.specs.Held.{state};
 ghost use Rattle.sqlite.specs.State.{HasCleanDisk};
-ghost use Rattle.sqlite.specs.Values.{bound};
 ghost use Rattle.book.specs.History.{day_of, stamp_of};
 ghost use Rattle.book.specs.Values.{reservation_view};
-ghost use Rattle.tables.specs.Asking.{IsQueryText, Looks, TellsFirstAs};
+ghost use Rattle.tables.specs.Asking.{Looks};
 ghost use Rattle.tables.specs.Carrying.{Carries};
 ghost use Rattle.tables.specs.Found.{IsFoundAs, IsLeastAs, IsGreatestAs};
 ghost use Rattle.tables.specs.Holding.{IsDatabaseOf};
-ghost use Rattle.tables.specs.Queries.{ShowsStamp, ShowsOrigin, stamp_view, is_within, ShowsLast};
-ghost use Rattle.tables.specs.Schema.{the_schema};
-ghost use Rattle.tables.specs.Shown.{stamp_shown, origin_shown};
+ghost use Rattle.tables.specs.Queries.{ShowsStamp, ShowsOrigin, is_within, ShowsLast};
 ghost use Rattle.tables.specs.Steps.{with_stamp_alone};
-ghost use Rattle.tables.specs.Tables.{Tables, with_token, StampRow, is_stamp};
+ghost use Rattle.tables.specs.Tables.{Tables, with_token, is_stamp};
 
-use crate::asking::{first_row, number, octets, octets_or_none, text};
+use crate::asking::{FromRow, first_as, number, octets, octets_or_none, text};
 use crate::rows::{ColumnNumber, LastStamp, Origin};
 use book::{DAY, GREATEST_NUMBER, Reservation, Stamp};
 use sqlite::types::ValueRef;
@@ -90,65 +87,66 @@ pub(crate) fn set_token<S: Alter>(
     )
 }
 
-/// The stamp of a row.
-fn stamp_of(row: &Row) -> Result<Stamp, Error>
-    ensures { IfOk result (λ s. (x : StampRow) → row.now ≡ stamp_shown x → stamp_view s ≡ x) }
-{
-    let serial = number(row, 0)?;
-    let account = text(row, 1)?;
-    let day = number(row, 2)?;
-    let gen_time = number(row, 3)?;
-    let policy = octets(row, 4)?;
-    let algorithm = octets(row, 5)?;
-    let digest = octets(row, 6)?;
-    let request = octets(row, 7)?;
-    let tst = octets(row, 8)?;
-    let token = octets_or_none(row, 9)?;
-    Ok(Stamp {
-        serial,
-        account,
-        day,
-        gen_time,
-        policy,
-        algorithm,
-        digest,
-        request,
-        tst,
-        token,
-    })
+impl FromRow for Stamp {
+    ghost use Rattle.std.specs.Prelude.{◌≡◌};
+    ghost use Rattle.tables.specs.Queries.{stamp_view};
+    ghost use Rattle.tables.specs.Shown.{stamp_shown};
+    ghost use Rattle.tables.specs.Tables.{StampRow};
+
+    ghost shows = { λ row s. (x : StampRow) → row ≡ stamp_shown x → stamp_view s ≡ x };
+
+    fn from_row(row: &Row) -> Result<Stamp, Error> {
+        let serial = number(row, 0)?;
+        let account = text(row, 1)?;
+        let day = number(row, 2)?;
+        let gen_time = number(row, 3)?;
+        let policy = octets(row, 4)?;
+        let algorithm = octets(row, 5)?;
+        let digest = octets(row, 6)?;
+        let request = octets(row, 7)?;
+        let tst = octets(row, 8)?;
+        let token = octets_or_none(row, 9)?;
+        Ok(Stamp {
+            serial,
+            account,
+            day,
+            gen_time,
+            policy,
+            algorithm,
+            digest,
+            request,
+            tst,
+            token,
+        })
+    }
 }
 
-/// The account and the genTime of a row.
-fn origin_of(row: &Row) -> Result<Origin, Error>
-    ensures { IfOk result (λ origin. (x : StampRow) → row.now ≡ origin_shown x → ShowsOrigin x origin) }
-{
-    let account = text(row, 0)?;
-    let gen_time = number(row, 1)?;
-    Ok(Origin { account, gen_time })
+impl FromRow for Origin {
+    ghost use Rattle.std.specs.Prelude.{◌≡◌};
+    ghost use Rattle.tables.specs.Queries.{ShowsOrigin};
+    ghost use Rattle.tables.specs.Shown.{origin_shown};
+    ghost use Rattle.tables.specs.Tables.{StampRow};
+
+    ghost shows = { λ row origin. (x : StampRow) → row ≡ origin_shown x → ShowsOrigin x origin };
+
+    fn from_row(row: &Row) -> Result<Origin, Error> {
+        let account = text(row, 0)?;
+        let gen_time = number(row, 1)?;
+        Ok(Origin { account, gen_time })
+    }
 }
 
-/// The stamp of the first row that a query answers, if there is a row.
-fn first_stamp<S: Alter>(
-    conn: &mut Connection<S>,
-    sql: &str,
-    params: &[ValueRef<'_>],
-) -> Result<Option<Stamp>, Error>
-    requires autocommit { conn.old.in_transaction ≡ false }
-    requires text { IsQueryText sql.now }
-    ensures closed { conn.new.in_transaction ≡ false }
-    ensures looks { Looks (state S.Store conn.old) (state S.Store conn.new) }
-    ensures opened { HasCleanDisk (state S.Store conn.new) → OnOk result (IsTrue (state S.Store conn.old).is_open) }
-    ensures told { HasCleanDisk (state S.Store conn.new) → (state S.Store conn.old).now.schema ≡ the_schema
-        → IfOk result (λ found. TellsFirstAs (λ row s. (x : StampRow) → row ≡ stamp_shown x → stamp_view s ≡ x)
-        sql.now (bound params.now) (state S.Store conn.old).now.trees found) }
-{
-    let found = first_row(conn, sql, params)?;
-    match found {
-        Some(row) => {
-            let stamp = stamp_of(&row)?;
-            Ok(Some(stamp))
-        }
-        None => Ok(None),
+impl FromRow for LastStamp {
+    ghost use Rattle.std.specs.Prelude.{◌≡◌, pos};
+    ghost use Rattle.sqlite_value.specs.Order.{column};
+    ghost use Rattle.sqlite_value.specs.declared.value.Value.TheVariants.{Int};
+
+    ghost shows = { λ row last. (column row 0 ≡ Int (pos last.serial)) × (column row 1 ≡ Int (pos last.gen_time)) };
+
+    fn from_row(row: &Row) -> Result<LastStamp, Error> {
+        let serial = number(row, 0)?;
+        let gen_time = number(row, 1)?;
+        Ok(LastStamp { serial, gen_time })
     }
 }
 
@@ -164,7 +162,7 @@ pub(crate) fn stamp<S: Alter>(conn: &mut Connection<S>, serial: u64) -> Result<O
     if serial > GREATEST_NUMBER {
         return Err(Error::IntegralValueOutOfRange(0));
     }
-    first_stamp(conn, STAMP, &[ValueRef::Int(serial as i64)])
+    first_as(conn, STAMP, &[ValueRef::Int(serial as i64)])
 }
 
 /// The account and the genTime of the stamp with the serial number.
@@ -182,14 +180,7 @@ pub(crate) fn origin<S: Alter>(
     if serial > GREATEST_NUMBER {
         return Err(Error::IntegralValueOutOfRange(0));
     }
-    let found = first_row(conn, ORIGIN, &[ValueRef::Int(serial as i64)])?;
-    match found {
-        Some(row) => {
-            let origin = origin_of(&row)?;
-            Ok(Some(origin))
-        }
-        None => Ok(None),
-    }
+    first_as(conn, ORIGIN, &[ValueRef::Int(serial as i64)])
 }
 
 /// The stamp with the least serial number from `from` on and up to `to`.
@@ -205,7 +196,7 @@ pub(crate) fn next_stamp<S: Alter>(
     ensures value { HasCleanDisk (state S.Store conn.new) → (t : Tables) → IsDatabaseOf t (state S.Store conn.old).now
         → IfOk result (λ found. IsLeastAs ShowsStamp (λ row. row.serial) (is_within from.value to.value) t.stamps found) }
 {
-    first_stamp(
+    first_as(
         conn,
         NEXT_STAMP,
         &[
@@ -224,13 +215,5 @@ pub(crate) fn greatest_stamp<S: Alter>(conn: &mut Connection<S>) -> Result<Optio
     ensures value { HasCleanDisk (state S.Store conn.new) → (t : Tables) → IsDatabaseOf t (state S.Store conn.old).now
         → IfOk result (λ last. IsGreatestAs ShowsLast (λ row. row.serial) t.stamps last) }
 {
-    let found = first_row(conn, LAST_STAMP, &[])?;
-    match found {
-        Some(row) => {
-            let serial = number(&row, 0)?;
-            let gen_time = number(&row, 1)?;
-            Ok(Some(LastStamp { serial, gen_time }))
-        }
-        None => Ok(None),
-    }
+    first_as(conn, LAST_STAMP, &[])
 }

@@ -2,31 +2,16 @@ use Rattle.std.proofs.Common.{◌<◌, ◌^◌, arith, refl, w64}
 use Rattle.std.proofs.Math.Facts.{to_z_pos}
 use Rattle.tables.proofs.CellLemmas.{int_more, text_more}
 use Rattle.tables.proofs.DepositLookups.{label_found, label_text}
-use Rattle.tables.proofs.AnswerLemmas.{no_answer}
+use Rattle.tables.proofs.FoundLemmas.{found_as}
 use Rattle.tables.proofs.deposits.label.Goals as goal
 
-pub first_row-requires-clause-text : goal.first_row-requires-clause-text
-first_row-requires-clause-text g c = label_text
+pub first_as-requires-clause-text : goal.first_as-requires-clause-text
+first_as-requires-clause-text g c = label_text
 
-pub returns-in_ok-label-in-Some-clause-value : goal.returns-in_ok-label-in-Some-clause-value
-returns-in_ok-label-in-Some-clause-value g c honest t d =
+pub returns-clause-value : goal.returns-clause-value
+returns-clause-value g c honest t d =
     let serial_fits : c.args.serial < 2 ^ 63 = omega arith in
-    let found = label_found t _ c.args.serial c.args.owner.now _ _ d.holds
-    (int_more (to_z_pos w64 serial_fits) (text_more c.as_bytes.ensures.value refl))
-    (c.in_ok-found.ensures.told honest d.schema) in
-    let here = rw c.in-Some.is at found in
-    (here.0, here.1, here.2, c.in_ok-label-in-Some.ensures here.0 here.3)
-
-pub returns-in-None-clause-value : goal.returns-in-None-clause-value
-returns-in-None-clause-value g c honest t d =
-    let serial_fits : c.args.serial < 2 ^ 63 = omega arith in
-    let found = label_found t _ c.args.serial c.args.owner.now _ _ d.holds
-    (int_more (to_z_pos w64 serial_fits) (text_more c.as_bytes.ensures.value refl))
-    (c.in_ok-found.ensures.told honest d.schema) in
-    rw c.in-None.is at found
-
-pub returns-in_err-found-clause-value : goal.returns-in_err-found-clause-value
-returns-in_err-found-clause-value g c clean t d = no_answer _ _ c.from_residual.ensures.0
-
-pub returns-in_err-label-in-Some-clause-value : goal.returns-in_err-label-in-Some-clause-value
-returns-in_err-label-in-Some-clause-value g c clean t d = no_answer _ _ c.from_residual-in_err-label-in-Some.ensures.0
+    found_as _ _ _ (λ x row label is read. read x is) _ _ _ t.deposits _ _
+    (λ row told. label_found t _ c.args.serial c.args.owner.now _ row d.holds
+    (int_more (to_z_pos w64 serial_fits) (text_more c.as_bytes.ensures.value refl)) told)
+    (c.first_as.ensures.told honest d.schema)

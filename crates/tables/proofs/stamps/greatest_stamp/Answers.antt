@@ -1,29 +1,23 @@
-use Rattle.std.proofs.Common.{refl}
+use Rattle.std.proofs.Common.{◌≡◌, ℕ, pos, [], ◌∷◌, ap₂, refl}
+use Rattle.sqlite_value.specs.declared.value.Value.TheVariants.{Int}
+use Rattle.sqlite_value.specs.Order.{Row, column}
+use Rattle.tables.specs.Queries.{ShowsLast}
+use Rattle.tables.specs.Tables.{StampRow}
+use Rattle.tables.specs.declared.rows.LastStamp.{LastStamp}
+use Rattle.tables.proofs.FoundLemmas.{greatest_as}
 use Rattle.tables.proofs.QueryLemmas.{last_stamp_found, last_stamp_text, number_of}
-use Rattle.tables.proofs.AnswerLemmas.{no_answer}
 use Rattle.tables.proofs.stamps.greatest_stamp.Goals as goal
 
-pub first_row-requires-clause-text : goal.first_row-requires-clause-text
-first_row-requires-clause-text g c = last_stamp_text
+last_read : (x : StampRow) (row : Row) (last : LastStamp) → row ≡ Int (pos x.serial) ∷ Int (pos x.gen_time) ∷ []
+    → (column row 0 ≡ Int (pos last.serial)) × (column row 1 ≡ Int (pos last.gen_time)) → ShowsLast x last
+last_read x row last is read =
+    let of : ℕ → ℕ → LastStamp = λ serial gen_time. record { serial = serial; gen_time = gen_time } in
+    ap₂ of (number_of _ _ 0 _ _ is read.0 refl) (number_of _ _ 1 _ _ is read.1 refl)
 
-pub returns-in_ok-gen_time-in-Some-clause-value : goal.returns-in_ok-gen_time-in-Some-clause-value
-returns-in_ok-gen_time-in-Some-clause-value g c honest t d =
-    let found = last_stamp_found t _ _ _ d.holds refl (c.in_ok-found.ensures.told honest d.schema) in
-    let here = rw c.in-Some.is at found in
-    let serial = number_of _ _ 0 _ _ here.3 c.in_ok-serial-in-Some.ensures.read refl in
-    let gen_time = number_of _ _ 1 _ _ here.3 c.in_ok-gen_time-in-Some.ensures.read refl in
-    (here.0, here.1, here.2, rw (serial, gen_time) refl)
+pub first_as-requires-clause-text : goal.first_as-requires-clause-text
+first_as-requires-clause-text g c = last_stamp_text
 
-pub returns-in-None-clause-value : goal.returns-in-None-clause-value
-returns-in-None-clause-value g c honest t d =
-    let found = last_stamp_found t _ _ _ d.holds refl (c.in_ok-found.ensures.told honest d.schema) in
-    rw c.in-None.is at found
-
-pub returns-in_err-found-clause-value : goal.returns-in_err-found-clause-value
-returns-in_err-found-clause-value g c clean t d = no_answer _ _ c.from_residual.ensures.0
-
-pub returns-in_err-serial-in-Some-clause-value : goal.returns-in_err-serial-in-Some-clause-value
-returns-in_err-serial-in-Some-clause-value g c clean t d = no_answer _ _ c.from_residual-in_err-serial-in-Some.ensures.0
-
-pub returns-in_err-gen_time-in-Some-clause-value : goal.returns-in_err-gen_time-in-Some-clause-value
-returns-in_err-gen_time-in-Some-clause-value g c clean t d = no_answer _ _ c.from_residual-in_err-gen_time-in-Some.ensures.0
+pub returns-clause-value : goal.returns-clause-value
+returns-clause-value g c honest t d =
+    greatest_as _ _ _ last_read _ _ _ t.stamps _ _
+    (λ row told. last_stamp_found t _ _ row d.holds refl told) (c.first_as.ensures.told honest d.schema)
