@@ -111,7 +111,10 @@ impl<T: Start + Drop> Store<FileStore<FileFrom<T>>> {
         ensures refusals { IfErr result (IsOfStorageOr StoreFault.NotOurs) }
     {
         let conn = connect(rt, place.path, start)?;
-        create_or_drop(rt.alloc(), conn)
+        match create_or_drop(rt.alloc(), conn) {
+            Ok(store) => Ok(store),
+            Err(fault) => Err(fault),
+        }
     }
 
     /// Takes the tables at a place to the schema of now. The caller's condition is that a database was found there.
@@ -136,10 +139,8 @@ fn migrate_files<D: Disk + Drop>(conn: Connection<FileStore<D>>) -> Result<(), S
 {
     let conn = migrate_or_drop(conn)?;
     // What was committed stays in the log where it can't be copied into the file.
-    match conn.close_files() {
-        Ok(_files) => Ok(()),
-        Err((_error, _left)) => Ok(()),
-    }
+    let _closed = conn.close();
+    Ok(())
 }
 
 /// The place of a database.
