@@ -24,10 +24,15 @@ use Rattle.operations.specs.declared.auditing.AuditFault.{AuditFault}
 use Rattle.operations.specs.declared.auditing.Inquiry.{Inquiry}
 use Rattle.operations.specs.declared.fault.OperationFault.{OperationFault}
 
+module _ {D : Type 0} (disk : Ghosts D) where
+  -- a store over files was left so
+  abbrev pub IsLeft : (BaseValue (FileStore D disk) → Type 0) → Type 0
+  IsLeft Is = (left : BaseValue (FileStore D disk)) × Is left
+
 module _ {D : Type 0} (disk : Ghosts D) (held : Image) where
   -- a store was opened over what the files held, and this was done to it
   abbrev pub IsDoneOver : (BaseValue (FileStore D disk) → BaseValue (FileStore D disk) → Type 0) → Type 0
-  IsDoneOver Does = OpensThen disk held (λ opened. (left : BaseValue (FileStore D disk)) × Does opened left)
+  IsDoneOver Does = OpensThen disk held (λ opened. IsLeft disk (Does opened))
 
   -- its tables were taken to the schema of now
   abbrev pub IsMigratedOver : Type 0

@@ -110,7 +110,10 @@ pub fn audit<F: Start + Drop, O: Write, E: Write>(
     ensures refused { IfErr result (Leaves inquiry.now (O.contents output.old) (O.contents output.new)
         (E.contents errors.old) (E.contents errors.new)) }
 {
-    perform_at(rt, path, start, *inquiry, output, errors)?
+    match perform_at(rt, path, start, *inquiry, output, errors) {
+        Ok(done) => done,
+        Err(fault) => Err(AuditFault::Store(fault)),
+    }
 }
 
 /// Writes the extract of a book, and then checks its stamps where that is asked.

@@ -7,7 +7,7 @@ ghost use Rattle.policy.specs.View.{policy_view};
 ghost use Rattle.sqlite.specs.Files.{over_files};
 ghost use Rattle.store.specs.Opening.{image_at};
 ghost use Rattle.store.specs.Stands.{over_tables};
-ghost use Rattle.operations.specs.Opening.{IsStartingFault, IsUnready, IsUnreached};
+ghost use Rattle.operations.specs.Opening.{IsStartingFault, IsUnready};
 ghost use Rattle.operations.specs.Signing.{algorithm_of};
 ghost use Rattle.operations.specs.OverFiles.{IsVisitedOver};
 ghost use Rattle.operations.specs.Visits.{IsUnopened, IsVisited, Visit, setting_of, visit_of};
@@ -101,18 +101,43 @@ impl<I, O, T: DeskOperation<I, O>> Operation<I, O> for AtDesk<'_, T> {
             renewal,
             operation,
         } = self;
-        match ready(rt, &operation, signing, renewal) {
-            Ok((means, signer)) => {
-                let mut signer = signer;
-                let prepared = Prepared {
-                    terms,
-                    operation,
-                    means,
-                };
-                perform_prepared(prepared, rt, book, &mut signer, input, output)
-            }
+        match signing.reach(rt, renewal) {
+            Ok(signer) => perform_signed(terms, operation, rt, book, signer, input, output),
             Err(fault) => (book, Err(fault)),
         }
+    }
+}
+
+/// Gets what the operation needs besides a signer, opens a desk over a book, and does it there.
+fn perform_signed<B: Book + Drop, G: Signer + Drop, I, O, T: DeskOperation<I, O>>(
+    terms: Terms<'_>,
+    operation: T,
+    rt: &HostRuntime,
+    book: B,
+    signer: G,
+    input: &mut I,
+    output: &mut O,
+) -> (B, Result<T::Answer, OperationFault>)
+    ensures answered { IfOk result.1 (T.answers operation (policy_view terms.entry.policy.now) input.old input.new
+        output.old output.new) }
+    ensures moved { IfOk result.1 (λ answer. IsVisited B.Standing (setting_of terms.entry) (G.algorithm_octets signer)
+        G.algorithm_octets book result.0 (λ desk desk' signer signer'. T.moves B G B.Standing G.Signer operation
+        (visit_of input.old input.new output.old output.new desk desk' signer signer') answer)) }
+    ensures unmoved { IfErr result.1 (IsUnopened B.Standing (setting_of terms.entry) book result.0) }
+    ensures unread { OnErr result.1 ((input.new ≡ input.old) × (output.new ≡ output.old)) }
+    ensures refusals { IfErr result.1 (λ fault. IsUnready fault ⊎ T.lacks fault) }
+{
+    match operation.prepare(rt) {
+        Ok(means) => {
+            let mut signer = signer;
+            let prepared = Prepared {
+                terms,
+                operation,
+                means,
+            };
+            perform_prepared(prepared, rt, book, &mut signer, input, output)
+        }
+        Err(fault) => (book, Err(fault)),
     }
 }
 
@@ -159,22 +184,6 @@ fn perform_prepared<B: Book + Drop, G: Signer, I, O, T: DeskOperation<I, O>>(
     }
 }
 
-/// Reaches who signs, and then gets what the operation needs besides.
-fn ready<'a, I, O, T: DeskOperation<I, O>>(
-    rt: &'a HostRuntime,
-    operation: &T,
-    signing: Signing<'a>,
-    renewal: Renewal,
-) -> Result<(T::Means, HostSigner<'a>), OperationFault>
-    ensures algorithm { IfOk result (λ ready. ⟦<HostSigner<'static> as Signer>⟧.algorithm_octets ready.1
-        ≡ algorithm_of signing.entry) }
-    ensures refusals { IfErr result (λ fault. IsUnreached fault ⊎ T.lacks fault) }
-{
-    let signer = signing.reach(rt, renewal)?;
-    let means = operation.prepare(rt)?;
-    Ok((means, signer))
-}
-
 /// Does it at a desk over the history that the database at the path keeps, with the signer's answers. Refused with
 /// `Memory`, with `Database` where no file stands there, and with `NotOurs` where it isn't a database of the counter's;
 /// then with `Unreached` where the key holder can't be reached, and as what it needs besides. Last the identity is
@@ -212,5 +221,8 @@ pub(crate) fn perform_at_desk<F: Start + Drop, I, O, T: DeskOperation<I, O>>(
         renewal,
         operation,
     };
-    perform_at(rt, path, start, at_desk, input, output)?
+    match perform_at(rt, path, start, at_desk, input, output) {
+        Ok(done) => done,
+        Err(fault) => Err(OperationFault::Store(fault)),
+    }
 }

@@ -5,11 +5,11 @@ ghost use Rattle.tables.specs.Base.{BaseValue};
 ghost use Rattle.store.specs.Opening.{image_at};
 ghost use Rattle.store.specs.Stands.{over_tables};
 ghost use Rattle.operations.specs.Opening.{IsOpeningFault};
-ghost use Rattle.operations.specs.OverFiles.{IsDoneOver, IsMigratedOver};
+ghost use Rattle.operations.specs.OverFiles.{IsDoneOver, IsLeft, IsMigratedOver};
 
 use crate::operation::Operation;
 use book::Book;
-use sqlite::{Alter, FileFrom, Start};
+use sqlite::{Alter, FileFrom, FileStore, Start};
 use sqlite_disk::Disk;
 use store::{Store, StoreFault};
 
@@ -19,10 +19,13 @@ use store::{Store, StoreFault};
 pub fn init<F: Start + Drop>(rt: &HostRuntime, path: &str, start: F) -> Result<(), StoreFault>
     ensures { IfErr result IsOpeningFault }
 {
-    let store = Store::make(rt, path, start)?;
-    // What was committed stays in the log where it can't be copied into the file.
-    let _ = store.close();
-    Ok(())
+    match Store::make(rt, path, start) {
+        Ok(store) => {
+            close(store);
+            Ok(())
+        }
+        Err(fault) => Err(fault),
+    }
 }
 
 /// Takes the database at the path, which an earlier version of the counter may have made, to the schema of now, in one
@@ -38,7 +41,8 @@ pub fn migrate<F: Start + Drop>(rt: &HostRuntime, path: &str, start: F) -> Resul
 /// stands there or it can't be read or written, and with `NotOurs` where it isn't a database of the counter's: that is
 /// left as it is. Nothing is done then.
 ///
-/// This function and those of `init` and `migrate` alone name a store over files.
+/// This function, `init` and `migrate` alone open one, and each hands it on by one call: what names a store over the
+/// machine's files is dear to prove.
 pub(crate) fn perform_at<F: Start + Drop, I, O, T: Operation<I, O>>(
     rt: &HostRuntime,
     path: &str,
@@ -56,11 +60,33 @@ pub(crate) fn perform_at<F: Start + Drop, I, O, T: Operation<I, O>>(
     ensures unwritten { OnErr result (output.new ≡ output.old) }
     ensures refusals { IfErr result IsOpeningFault }
 {
-    let store = Store::open(rt, path, start)?;
+    match Store::open(rt, path, start) {
+        Ok(store) => Ok(perform_and_close(rt, store, operation, input, output)),
+        Err(fault) => Err(fault),
+    }
+}
+
+/// Does it to the history of a store over files, and closes that.
+fn perform_and_close<D: Disk + Drop, I, O, T: Operation<I, O>>(
+    rt: &HostRuntime,
+    store: Store<FileStore<D>>,
+    operation: T,
+    input: &mut I,
+    output: &mut O,
+) -> T::Answer
+    ensures answered { T.answers operation input.old input.new output.old output.new result }
+    ensures moved { IsLeft D.Disk (λ left. T.moves _ (over_tables over_files) operation store left input.old input.new
+        output.old output.new result) }
+{
     let (store, answer) = perform_over(rt, store, operation, input, output);
+    close(store);
+    answer
+}
+
+/// Closes a store over files.
+fn close<D: Disk + Drop>(store: Store<FileStore<D>>) {
     // What was committed stays in the log where it can't be copied into the file.
     let _ = store.close();
-    Ok(answer)
 }
 
 /// Does it to the history of a store, whichever storage that has. No other function takes a store for a book.

@@ -112,9 +112,28 @@ fn serve_at<B: Book + Drop, G: Signer, C: Clock>(
     ensures refusals { IfErr result IsServingFault }
 {
     let limit = Duration::from_secs(CONNECTION_SECONDS);
-    let Ok(mut listening) = Listening::new(rt, rt, listener, limit) else {
-        return Err(OperationFault::Unheard);
-    };
+    match Listening::new(rt, rt, listener, limit) {
+        Ok(listening) => serve_heard(listening, desk, signer, clock, connections),
+        Err(_) => Err(OperationFault::Unheard),
+    }
+}
+
+/// Serves connections that are heard.
+fn serve_heard<B: Book + Drop, G: Signer, C: Clock>(
+    listening: Listening<'_, HostRuntime>,
+    desk: &mut Desk<'_, B>,
+    signer: &mut G,
+    clock: &mut C,
+    connections: u32,
+) -> Result<(), OperationFault>
+    ensures served { ServesAt C.reads B.Standing G.signs G.fault_count connections
+        (record { clock = clock.old; desk = desk.old; signer = signer.old })
+        (record { clock = clock.new; desk = desk.new; signer = signer.new }) result }
+    ensures setting { desk.new.setting ≡ desk.old.setting }
+    ensures honest { B.honest desk.new.store → B.honest desk.old.store }
+    ensures refusals { IfErr result IsServingFault }
+{
+    let mut listening = listening;
     match serve_connections(&mut listening, connections, clock, desk, signer) {
         Ok(()) => Ok(()),
         Err(_) => Err(OperationFault::Clock),

@@ -1,4 +1,4 @@
 use Rattle.operations.proofs.opening.perform_at.Goals as goal
 
-pub returns-clause-moved : goal.returns-clause-moved
-returns-clause-moved g c = (c.in_ok-store.store, c.in_ok-store.ensures.found, (_, c.perform_over-store.ensures.moved))
+pub returns-in-Ok-clause-moved : goal.returns-in-Ok-clause-moved
+returns-in-Ok-clause-moved g c = (c.in-Ok.store, c.in-Ok.ensures.found, c.perform_and_close.ensures.moved)
