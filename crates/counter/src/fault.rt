@@ -23,10 +23,19 @@ pub fn answer_of<T>(done: Result<T, OperationFault>) -> Result<T, Fault>
 {
     match done {
         Ok(answer) => Ok(answer),
-        Err(OperationFault::Store(fault)) => Err(Fault::Store(fault)),
-        Err(OperationFault::Desk(fault)) => Err(Fault::Desk(fault)),
-        Err(OperationFault::Unreached) => Err(Fault::Input(InputFault::Signer)),
-        Err(OperationFault::Unheard) => Err(Fault::Input(InputFault::Address)),
-        Err(OperationFault::Clock) => Err(Fault::Input(InputFault::Failed)),
+        Err(refused) => Err(fault_of(refused)),
+    }
+}
+
+/// The fault that the refusal of an operation is.
+fn fault_of(refused: OperationFault) -> Fault
+    ensures { result ≡ fault_of_operation refused }
+{
+    match refused {
+        OperationFault::Store(fault) => Fault::Store(fault),
+        OperationFault::Desk(fault) => Fault::Desk(fault),
+        OperationFault::Unreached => Fault::Input(InputFault::Signer),
+        OperationFault::Unheard => Fault::Input(InputFault::Address),
+        OperationFault::Clock => Fault::Input(InputFault::Failed),
     }
 }
