@@ -67,12 +67,20 @@ fn finish<O: Write>(served: Result<Served, Fault>, output: &mut O) -> Result<(),
     ensures stopped { IfErr result (HasStopped served (O.contents output.old) (O.contents output.new)) }
 {
     match served {
-        Ok(Served::Closed) => Ok(()),
-        Ok(Served::Answered(_)) => Ok(flush(output)?),
-        Ok(Served::ReadFailed | Served::WriteFailed { .. }) => {
-            Err(Fault::Input(InputFault::Failed))
-        }
+        Ok(served) => finish_served(served, output),
         Err(fault) => Err(fault),
+    }
+}
+
+/// Has the output send the answer of a request that was served. `input` 5 where a stream failed.
+fn finish_served<O: Write>(served: Served, output: &mut O) -> Result<(), Fault>
+    ensures ended { OnOk result (HasEnded (Ok served) (O.contents output.old) (O.contents output.new)) }
+    ensures stopped { IfErr result (HasStopped (Ok served) (O.contents output.old) (O.contents output.new)) }
+{
+    match served {
+        Served::Closed => Ok(()),
+        Served::Answered(_) => Ok(flush(output)?),
+        Served::ReadFailed | Served::WriteFailed { .. } => Err(Fault::Input(InputFault::Failed)),
     }
 }
 
