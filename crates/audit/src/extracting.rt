@@ -20,7 +20,7 @@ use std::alloc::Global;
 use std::io::Write;
 
 /// Of which stamps an account asks for an extract.
-#[derive(Clone, Copy, Debug)]
+#[derive(Clone, Copy)]
 pub struct Inquiry<'a> {
     /// The policy file.
     pub policy: &'a Policy,
@@ -33,7 +33,7 @@ pub struct Inquiry<'a> {
 }
 
 /// What became of an extract.
-#[derive(Debug, Drop)]
+#[derive(Drop)]
 pub struct Extracted {
     /// How many octets of it were written.
     pub octets: u64,

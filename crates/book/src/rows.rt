@@ -1,5 +1,5 @@
 /// A stamp: a reservation, and its token once it is sealed.
-#[derive(Debug, Drop)]
+#[derive(Drop)]
 pub struct Stamp {
     pub serial: u64,
     pub account: String,
@@ -30,7 +30,7 @@ pub struct Deposit {
 }
 
 /// An identity that was installed: who signs from then on.
-#[derive(Debug, Drop)]
+#[derive(Drop)]
 pub struct IdentityRow {
     /// 1, 2, 3 and so on in the order in which they were installed.
     pub number: u64,

@@ -1,7 +1,7 @@
 use crate::rows::{Deposit, Stamp};
 
 /// What is reserved for a stamp before it is signed (RFC 3161 2.4.2).
-#[derive(Clone, Copy, Debug)]
+#[derive(Clone, Copy)]
 pub struct Reservation<'a> {
     /// The serial number: above each that was reserved, at most 2^63 - 1.
     pub serial: u64,
@@ -22,7 +22,7 @@ pub struct Reservation<'a> {
 }
 
 /// What the clock was found to be at one of its readings.
-#[derive(Clone, Copy, Debug, PartialEq, Eq)]
+#[derive(Clone, Copy, Debug)]
 pub struct Calibration {
     /// The clock's reading then, in microseconds.
     pub reading: i64,
@@ -34,7 +34,7 @@ pub struct Calibration {
 }
 
 /// Moments at which no token is given, as around a leap second.
-#[derive(Clone, Copy, Debug, PartialEq, Eq)]
+#[derive(Clone, Copy)]
 pub struct Hold {
     /// The first of them, in microseconds since 1970-01-01T00:00:00Z.
     pub from: i64,
@@ -43,7 +43,7 @@ pub struct Hold {
 }
 
 /// What was reserved last.
-#[derive(Clone, Copy, Debug, PartialEq, Eq)]
+#[derive(Clone, Copy, Debug)]
 pub struct Last {
     /// The greatest serial number, 0 where none is reserved.
     pub serial: u64,
@@ -52,7 +52,7 @@ pub struct Last {
 }
 
 /// A deposit with its stamp, which has its token.
-#[derive(Debug, Drop)]
+#[derive(Drop)]
 pub struct StampedDeposit {
     /// The deposit.
     pub deposit: Deposit,

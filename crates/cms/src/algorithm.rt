@@ -11,7 +11,7 @@ use std::marker::Model;
 const MAX_ALGORITHM: usize = 256;
 
 /// An AlgorithmIdentifier (RFC 5280 4.1.1.2) of at most 256 octets, in its encoding.
-#[derive(Debug, Drop)]
+#[derive(Drop)]
 pub struct Algorithm {
     pub(crate) octets: Vec<u8>,
 }

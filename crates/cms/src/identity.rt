@@ -20,7 +20,7 @@ use std::marker::Model;
 
 /// Who signs: a certificate, where its issuer, its serial number and its subject stand in it, its SHA-256, and the
 /// certificates that go with it.
-#[derive(Debug, Drop)]
+#[derive(Drop)]
 pub struct Identity {
     certificate: Vec<u8>,
     chain: Vec<u8>,

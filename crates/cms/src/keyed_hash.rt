@@ -10,7 +10,7 @@ use std::marker::Model;
 
 /// A stand-in for a signer, for tests and first steps: its answer is SHA-256 of its key followed by the text. It is no
 /// signature, and protects nothing.
-#[derive(Debug, Drop)]
+#[derive(Drop)]
 pub struct KeyedHash {
     alloc: Global,
     key: Vec<u8>,

@@ -7,7 +7,7 @@ use crate::outline::outline_in;
 use der::{DataValue, DataValues, encodings_are_read};
 
 /// Where octets stand in others: from `start` on, and before `end`.
-#[derive(Clone, Copy, Debug)]
+#[derive(Clone, Copy)]
 pub(crate) struct Place {
     pub start: usize,
     pub end: usize,

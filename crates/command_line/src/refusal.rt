@@ -4,7 +4,7 @@ ghost use Rattle.command_line.specs.declared.refusal.Refusal.TheVariants.{Memory
 use std::alloc::AllocError;
 
 /// Why there is nothing to do.
-#[derive(Debug, Drop)]
+#[derive(Drop)]
 pub enum Refusal {
     /// The words ask for help or for the version, and this is its text.
     Help(String),

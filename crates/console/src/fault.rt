@@ -16,7 +16,7 @@ use std::io::Write;
 use tsp::TspFault;
 
 /// Why the program did not do what its words ask for: the part that refused, and its refusal.
-#[derive(Clone, Copy, Debug, PartialEq, Eq)]
+#[derive(Clone, Copy)]
 pub enum Fault {
     /// An object identifier is malformed.
     Der(DerFault),
@@ -157,7 +157,7 @@ fn line_end(number: u8) -> &'static str
 }
 
 /// Why what the program is given can't be used.
-#[derive(Clone, Copy, Debug, PartialEq, Eq)]
+#[derive(Clone, Copy)]
 pub enum InputFault {
     /// Standard input isn't hexadecimal text.
     NotHexadecimal = 1,

@@ -11,7 +11,7 @@ use gentime::GenTime;
 use std::alloc::Global;
 
 /// What a TSTInfo says besides what its request says.
-#[derive(Debug, Drop)]
+#[derive(Drop)]
 pub struct Settings {
     /// The policy of a request that states none.
     pub policy: Oid,

@@ -35,7 +35,7 @@ const FAULT: u8 = 1;
 const WORDS_REFUSED: u8 = 2;
 
 /// What was done.
-#[derive(Clone, Copy, Debug, PartialEq, Eq)]
+#[derive(Clone, Copy)]
 pub enum Outcome {
     /// A request was answered, by its TSTInfo or by a rejection.
     Replied,

@@ -3,7 +3,7 @@ ghost use Rattle.std.specs.Prelude.{◌≡◌};
 use cms::{Algorithm, Signer, SignerFault};
 
 /// A signer that fails at chosen calls, and passes the others to a signer behind it. It counts all calls.
-#[derive(Debug, Drop)]
+#[derive(Drop)]
 pub struct FailingSigner<S> {
     /// The signer behind it.
     pub signer: S,

@@ -10,7 +10,7 @@ use gentime::GenTime;
 use policy::Counter;
 
 /// Whether a token may be given.
-#[derive(Clone, Copy, Debug, PartialEq, Eq)]
+#[derive(Clone, Copy)]
 pub enum ClockState {
     /// It may, with this genTime.
     Good(GenTime),

@@ -4,7 +4,7 @@ ghost use Rattle.std.specs.Prelude.{◌↔◌, ◌≤ℤ◌, ◌<ℤ◌, IsTrue}
 use gentime::GenTime;
 
 /// What the clock was found to be at one of its readings.
-#[derive(Clone, Copy, Debug, PartialEq, Eq)]
+#[derive(Clone, Copy)]
 pub struct Calibration {
     /// The clock's reading then, in microseconds.
     pub reading: i64,
@@ -16,7 +16,7 @@ pub struct Calibration {
 }
 
 /// Moments at which no token is given, as around a leap second.
-#[derive(Clone, Copy, Debug, PartialEq, Eq)]
+#[derive(Clone, Copy)]
 pub struct Hold {
     /// The first of them, in microseconds since 1970-01-01T00:00:00Z.
     pub from: i64,
@@ -34,7 +34,7 @@ impl Hold {
 }
 
 /// What tells whether the clock is good, and a token's genTime.
-#[derive(Clone, Copy, Debug, PartialEq, Eq)]
+#[derive(Clone, Copy)]
 pub struct ClockFacts {
     /// The clock's reading, in microseconds.
     pub reading: i64,
@@ -47,7 +47,7 @@ pub struct ClockFacts {
 }
 
 /// What a request is decided on, besides the policy file and the account.
-#[derive(Clone, Copy, Debug, PartialEq, Eq)]
+#[derive(Clone, Copy)]
 pub struct Facts {
     /// The facts of the clock.
     pub clock: ClockFacts,

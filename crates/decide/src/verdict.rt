@@ -3,7 +3,7 @@ use gentime::GenTime;
 use tsp::Rule;
 
 /// What a stamp will say besides what its request says.
-#[derive(Clone, Copy, Debug, PartialEq, Eq)]
+#[derive(Clone, Copy)]
 pub struct Plan<'p> {
     /// The policy under which the token is given: the request's, and else the account's default.
     pub policy: &'p Oid,
@@ -14,7 +14,7 @@ pub struct Plan<'p> {
 }
 
 /// The decision on a request.
-#[derive(Clone, Copy, Debug, PartialEq, Eq)]
+#[derive(Clone, Copy)]
 pub enum Verdict<'p> {
     /// No rule fails, and this is the stamp's plan.
     Allow(Plan<'p>),

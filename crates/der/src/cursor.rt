@@ -11,7 +11,7 @@ use std::marker::Model;
 
 /// A value where it lies in octets that were read: its identifier octet, its contents octets, and all its octets
 /// (X.690 8.1.1). What its contents are is not looked at.
-#[derive(Clone, Copy, Debug)]
+#[derive(Clone, Copy)]
 pub struct Element<'a> {
     /// The identifier octet.
     pub tag: Tag,
@@ -24,7 +24,7 @@ pub struct Element<'a> {
 }
 
 /// Octets from which one element after the other is taken. Takes no memory. A refused call leaves it as it was.
-#[derive(Debug, Drop)]
+#[derive(Drop)]
 pub struct Cursor<'a> {
     rest: &'a [u8],
 }

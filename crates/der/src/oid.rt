@@ -18,7 +18,7 @@ mod text;
 
 /// An OBJECT IDENTIFIER (X.690 8.19): 1 to 32 subidentifiers, each below 2^128, of which the first is 40 * X + Y for
 /// the arcs X and Y. The value keeps its contents octets, so that comparing and lending them takes no memory.
-#[derive(Drop, Debug)]
+#[derive(Drop)]
 pub struct Oid {
     content: Vec<u8>,
 }

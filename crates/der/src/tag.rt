@@ -2,7 +2,7 @@ ghost use Rattle.std.specs.Prelude.{◌≡◌, ◌<◌, ◌%◌, ◌/◌, ◌==�
 
 /// An identifier octet: the class in bits 8 and 7, bit 6 set where further values follow, and in bits 5 to 1 the tag
 /// number, 0 to 30 (X.690 8.1.2.2).
-#[derive(Clone, Copy, Debug, PartialEq, Eq)]
+#[derive(Clone, Copy, PartialEq, Eq)]
 pub struct Tag {
     /// The octet itself.
     pub octet: u8,

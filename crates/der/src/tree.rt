@@ -4,7 +4,7 @@ ghost use Rattle.der.specs.Node.{Node, encoding, contents_octets, IsFormed, IsLa
 use crate::tag::Tag;
 
 /// A value: contents octets under a tag, or further values under a tag (X.690 8.1.1, 8.1.4).
-#[derive(Debug, Drop)]
+#[derive(Drop)]
 pub enum Tree {
     /// Contents octets, under a tag whose bit 6 is 0 where the value is lawful.
     Primitive(Tag, Vec<u8>),

@@ -13,7 +13,7 @@ use std::marker::Model;
 /// value: a value is written from the inside outwards, so that its length is known when its length octets are due.
 ///
 /// It keeps the allocator that it was made with. A refused call leaves it as it was.
-#[derive(Debug, Drop)]
+#[derive(Drop)]
 pub struct Writer {
     alloc: Global,
     octets: Vec<u8>,

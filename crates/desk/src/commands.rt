@@ -5,7 +5,7 @@ use cms::{Algorithm, Identity};
 use policy::Account;
 
 /// What a desk may be asked, with the arguments of its call.
-#[derive(Clone, Copy, Debug)]
+#[derive(Clone, Copy)]
 pub enum Command<'a, 'p> {
     /// `answer`.
     Stamp {

@@ -40,7 +40,7 @@ use tsp::{Rejection, Request, requests_have_one_reading, write_request};
 const MOST: usize = 1_048_576;
 
 /// What stands under a reference.
-#[derive(Clone, Copy, Debug, PartialEq, Eq)]
+#[derive(Clone, Copy)]
 pub(crate) enum Known {
     /// No deposit.
     Nothing,

@@ -26,7 +26,7 @@ use policy::{Account, Policy};
 use tsp::{Request, Rule, read_request, requests_have_one_reading};
 
 /// A stamp that no rule refuses: its request, its policy and its genTime, and the greatest serial number so far.
-#[derive(Debug, Drop)]
+#[derive(Drop)]
 pub(crate) struct Planned<'p, 'a> {
     pub(crate) request: Request<'a>,
     pub(crate) policy: &'p Oid,
@@ -35,7 +35,7 @@ pub(crate) struct Planned<'p, 'a> {
 }
 
 /// What is found, where each call was answered.
-#[derive(Debug, Drop)]
+#[derive(Drop)]
 pub(crate) enum Found<'p, 'a> {
     /// The first rule of 1 to 11 that fails.
     Fails(Rule),

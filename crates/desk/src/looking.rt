@@ -15,7 +15,7 @@ use decide::{Calibration, ClockFacts, now_of};
 use gentime::{GenTime, LAST_MOMENT};
 
 /// What a look at the store finds.
-#[derive(Clone, Copy, Debug)]
+#[derive(Clone, Copy)]
 pub struct Looked {
     /// The facts of the clock.
     pub clock: ClockFacts,

@@ -7,7 +7,7 @@ use crate::refusal::fault_of;
 use book::StoreFault;
 
 /// What stands in the way: what the account may not, or the call that was refused.
-#[derive(Clone, Copy, Debug, PartialEq, Eq)]
+#[derive(Clone, Copy)]
 pub(crate) enum Obstacle {
     /// No deposit with that number is visible to the account.
     NotHere,

@@ -12,7 +12,7 @@ use policy::{Counter, Policy, TsaPolicy};
 
 /// By what a desk answers: the policy file, and what is in force, whose certificate its tokens name and under which
 /// algorithm they are signed.
-#[derive(Clone, Copy, Debug)]
+#[derive(Clone, Copy)]
 pub(crate) struct Opening<'p> {
     pub(crate) policy: &'p Policy,
     pub(crate) identity: &'p Identity,

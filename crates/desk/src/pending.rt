@@ -3,7 +3,6 @@ use std::marker::Model;
 
 /// A reservation that waits for its signature. It has to be spent, by `finish` or by `abandon` of the desk that
 /// answered it, and keeps the identity and the algorithm of its `begin`.
-#[derive(Debug)]
 pub struct Pending<'p> {
     pub(crate) serial: u64,
     pub(crate) tst: Vec<u8>,

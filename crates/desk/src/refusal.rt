@@ -8,7 +8,7 @@ use book::StoreFault;
 use cms::SignerFault;
 
 /// The call that was refused.
-#[derive(Clone, Copy, Debug, PartialEq, Eq)]
+#[derive(Clone, Copy)]
 pub(crate) enum Refusal {
     /// The facts of the clock.
     Looking(StoreFault),

@@ -2,7 +2,6 @@ use crate::pending::Pending;
 use tsp::Rejection;
 
 /// What `begin` answers to a request.
-#[derive(Debug)]
 pub enum Begun<'p> {
     /// A rule of 1 to 11 fails, and nothing is reserved.
     Rejected(Rejection),

@@ -25,7 +25,7 @@ use std::alloc::Global;
 use tsp::{ObjectIdentifier, requests_have_one_reading, write_tst};
 
 /// A stamp whose texts are written.
-#[derive(Debug, Drop)]
+#[derive(Drop)]
 struct Prepared<'p, 'a> {
     serial: u64,
     gen_time: u64,

@@ -7,7 +7,7 @@ use std::alloc::{AllocError, AllocFailed};
 use thiserror::Error;
 
 /// A refusal. Of several that hold, the one with the lowest number is answered; `Memory` comes where it is met.
-#[derive(Clone, Copy, Debug, PartialEq, Eq, Hash, Error)]
+#[derive(Clone, Copy, Debug, PartialEq, Eq, Error)]
 pub enum GenTimeFault {
     /// The octets haven't the form of a GeneralizedTime in DER (X.690 11.7), whether or not there is such a time.
     #[error("not a GeneralizedTime in DER")]

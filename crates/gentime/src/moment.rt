@@ -14,7 +14,7 @@ pub const LAST_MOMENT: i64 = 253_402_300_799_999_999;
 
 /// A moment from 1970-01-01T00:00:00Z to 9999-12-31T23:59:59.999999Z: whole microseconds since the first, without leap
 /// seconds.
-#[derive(Clone, Copy, Debug, PartialEq, Eq, PartialOrd, Ord, Hash)]
+#[derive(Clone, Copy, PartialEq, Eq, PartialOrd, Ord)]
 pub struct GenTime {
     micros: u64,
 }

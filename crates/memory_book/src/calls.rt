@@ -4,7 +4,7 @@ ghost use Rattle.std.specs.Hash.DefaultHasher.{wrapping_add};
 use book::StoreFault;
 
 /// Which calls of a book fail, and how many did.
-#[derive(Debug, Drop)]
+#[derive(Drop)]
 pub(crate) struct Calls {
     /// The calls that fail, by their numbers; the first call is 1.
     pub chosen: Vec<u64>,

@@ -9,7 +9,7 @@ ghost use Rattle.memory_book.specs.Entries.{right_about};
 use book::{Calibration, Deposit, Hold};
 
 /// What was reserved for a stamp.
-#[derive(Debug, Drop)]
+#[derive(Drop)]
 pub(crate) struct OwnedReservation {
     pub serial: u64,
     pub account: String,
@@ -22,14 +22,14 @@ pub(crate) struct OwnedReservation {
 }
 
 /// Whom a right names: an account or a group.
-#[derive(Debug, Drop)]
+#[derive(Drop)]
 pub(crate) enum OwnedReader {
     Account(String),
     Group(String),
 }
 
 /// An account or a group, by its name.
-#[derive(Clone, Copy, Debug)]
+#[derive(Clone, Copy)]
 pub(crate) enum ReaderName<'a> {
     Account(&'a str),
     Group(&'a str),
@@ -49,7 +49,7 @@ impl OwnedReader {
 }
 
 /// An entry of a history.
-#[derive(Debug, Drop)]
+#[derive(Drop)]
 pub(crate) enum OwnedEntry {
     Reservation(OwnedReservation),
     /// The token of a serial number.

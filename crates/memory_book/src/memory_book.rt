@@ -21,7 +21,7 @@ use std::alloc::Global;
 
 /// A history in memory. It refuses a call with `Database` where the call is chosen, and with `Memory` where a growth is
 /// refused; a call so refused changes nothing else. A look-up of a number above 2^63 - 1 is no such call.
-#[derive(Debug, Drop)]
+#[derive(Drop)]
 pub struct MemoryBook {
     /// The newest first.
     entries: Vec<OwnedEntry>,

@@ -15,7 +15,7 @@ use sqlite::{FileFrom, Start};
 use sqlite_disk::Disk;
 
 /// What an operator adds to the history.
-#[derive(Clone, Copy, Debug, PartialEq, Eq)]
+#[derive(Clone, Copy)]
 pub enum Addition {
     /// What the clock was found to be.
     Calibration(Calibration),

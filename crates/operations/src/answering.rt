@@ -25,7 +25,7 @@ use sqlite::{FileFrom, Start};
 use sqlite_disk::Disk;
 
 /// A request, and who asks when.
-#[derive(Clone, Copy, Debug)]
+#[derive(Clone, Copy)]
 pub struct Question<'a> {
     /// The account that asks, if it is known.
     pub account: Option<&'a Account>,

@@ -24,7 +24,7 @@ use std::alloc::{AllocError, Global};
 use std::io::Write;
 
 /// Of which stamps an account asks for an extract.
-#[derive(Clone, Copy, Debug)]
+#[derive(Clone, Copy)]
 pub struct Inquiry<'a> {
     /// The policy file.
     pub policy: &'a Policy,
@@ -39,7 +39,7 @@ pub struct Inquiry<'a> {
 }
 
 /// Why there is no extract, or no check of it.
-#[derive(Clone, Copy, Debug, PartialEq, Eq)]
+#[derive(Clone, Copy)]
 pub enum AuditFault {
     /// The database refused, or isn't the counter's.
     Store(StoreFault),

@@ -6,7 +6,7 @@ use book::StoreFault;
 use desk::Fault;
 
 /// Why nothing is answered.
-#[derive(Clone, Copy, Debug, PartialEq, Eq)]
+#[derive(Clone, Copy)]
 pub enum OperationFault {
     /// The database refused, or isn't the counter's.
     Store(StoreFault),

@@ -26,7 +26,7 @@ pub enum Signing<'a> {
 }
 
 /// Whether another session with a key holder is opened where one was lost.
-#[derive(Clone, Copy, Debug, PartialEq, Eq)]
+#[derive(Clone, Copy)]
 pub(crate) enum Renewal {
     /// One session is kept to the end.
     Never,

@@ -2,7 +2,7 @@ use cms::{Algorithm, Identity};
 use policy::Policy;
 
 /// By what requests are judged and answered.
-#[derive(Clone, Copy, Debug)]
+#[derive(Clone, Copy)]
 pub struct Terms<'a> {
     /// The policy file.
     pub policy: &'a Policy,

@@ -3,7 +3,7 @@ ghost use Rattle.std.specs.Prelude.{◌≤◌};
 use der::Oid;
 
 /// How the counter keeps time (the table `counter`).
-#[derive(Debug, Drop)]
+#[derive(Drop)]
 pub struct Counter {
     /// How far the true moment may be away from a token's genTime, 1 to 1,000,000 microseconds (RFC 3161 2.4.2,
     /// accuracy).
@@ -26,7 +26,7 @@ pub struct Counter {
 }
 
 /// A hash algorithm that requests may name (the array `algorithm`).
-#[derive(Debug, Drop)]
+#[derive(Drop)]
 pub struct Algorithm {
     /// The name by which policies list it.
     pub name: String,
@@ -37,7 +37,7 @@ pub struct Algorithm {
 }
 
 /// An extension that requests may bring (the array `extension`).
-#[derive(Debug, Drop)]
+#[derive(Drop)]
 pub struct Extension {
     /// The name by which policies list it.
     pub name: String,
@@ -48,7 +48,7 @@ pub struct Extension {
 }
 
 /// A TSA policy, under which tokens are given (RFC 3161 2.4.1, TSAPolicyId; the array `policy`).
-#[derive(Debug, Drop)]
+#[derive(Drop)]
 pub struct TsaPolicy {
     /// The name by which accounts list it.
     pub name: String,
@@ -63,7 +63,7 @@ pub struct TsaPolicy {
 }
 
 /// Somebody for whom tokens are given (the array `account`).
-#[derive(Debug, Drop)]
+#[derive(Drop)]
 pub struct Account {
     /// The name, which no other account has.
     pub name: String,
@@ -82,7 +82,7 @@ pub struct Account {
 }
 
 /// Accounts with whom a deposit can be shared under one name (the array `group`).
-#[derive(Debug, Drop)]
+#[derive(Drop)]
 pub struct Group {
     /// The name, which no other group has.
     pub name: String,

@@ -19,7 +19,7 @@ impl Group {
 }
 
 /// The names of groups, at most 16, lent by the policy file's record.
-#[derive(Debug, Drop)]
+#[derive(Drop)]
 pub struct GroupNames<'p> {
     names: [&'p str; 16],
     count: usize,

@@ -6,7 +6,7 @@ ghost use Rattle.der.specs.ObjectIdentifier.{oid_content};
 ghost use Rattle.policy.specs.HashAlgorithms.{value_of, hash_algorithms};
 
 /// A hash algorithm of the Secure Hash Standard (FIPS 180-4), or SHA-1.
-#[derive(Clone, Copy, Debug, PartialEq, Eq)]
+#[derive(Clone, Copy, Debug)]
 pub enum HashAlgorithm {
     Sha1,
     Sha224,

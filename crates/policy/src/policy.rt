@@ -9,7 +9,7 @@ use sha2::{Digest, Sha256};
 use std::alloc::Global;
 
 /// What a policy file says.
-#[derive(Debug, Drop)]
+#[derive(Drop)]
 pub struct Policy {
     /// How the counter keeps time.
     pub counter: Counter,

@@ -15,7 +15,7 @@ use itoa::Buffer;
 pub(crate) type ShortText = ArrayString<512>;
 
 /// The type of a body.
-#[derive(Clone, Copy, Debug, PartialEq, Eq)]
+#[derive(Clone, Copy)]
 pub enum Media {
     /// The reply to a time-stamp request.
     Reply,

@@ -9,7 +9,7 @@ use crate::wanted::wanted_by;
 use httparse::spans::EMPTY_HEADER_SPAN;
 
 /// How many octets a request has, as far as the first of them tell.
-#[derive(Clone, Copy, Debug, PartialEq, Eq)]
+#[derive(Clone, Copy)]
 pub enum Extent {
     /// Its head isn't whole yet: others are wanted.
     Open,

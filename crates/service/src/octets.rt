@@ -41,7 +41,7 @@ struct Begun<'o> {
 }
 
 /// What became of a request that came in pieces.
-#[derive(Clone, Copy, Debug, PartialEq, Eq)]
+#[derive(Clone, Copy)]
 pub struct Exchanged {
     /// What became of it.
     pub served: Served,

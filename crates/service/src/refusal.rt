@@ -15,7 +15,7 @@ use http::StatusCode;
 use tsp::Rule;
 
 /// Why a request is refused.
-#[derive(Clone, Copy, Debug, PartialEq, Eq)]
+#[derive(Clone, Copy)]
 pub enum Refusal {
     /// There is no whole request, or it shows two keys.
     BadRequest,

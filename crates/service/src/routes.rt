@@ -7,7 +7,7 @@ use matchit::{InsertError, Router};
 use std::alloc::{AllocError, Global};
 
 /// What a method does at a target.
-#[derive(Clone, Copy, Debug, PartialEq, Eq)]
+#[derive(Clone, Copy)]
 pub(crate) enum Action {
     /// Answers a time-stamp request.
     Stamp,
@@ -38,7 +38,7 @@ pub(crate) enum Action {
 }
 
 /// What each method does at a target, if anything.
-#[derive(Clone, Copy, Debug, PartialEq, Eq)]
+#[derive(Clone, Copy)]
 pub struct Methods {
     pub(crate) get: Option<Action>,
     pub(crate) post: Option<Action>,

@@ -9,7 +9,7 @@ use std::fs::File;
 use std::io::{self, ErrorKind, Read};
 
 /// What stands at a path.
-#[derive(Clone, Copy, Debug, PartialEq, Eq)]
+#[derive(Clone, Copy)]
 pub(crate) enum Found {
     /// No file.
     Nothing,
@@ -25,7 +25,7 @@ pub(crate) enum Found {
 const BEGINNING: &[u8; 16] = b"SQLite format 3\0";
 
 /// A path, and what was found there.
-#[derive(Clone, Copy, Debug)]
+#[derive(Clone, Copy)]
 pub(crate) struct Place<'path> {
     pub(crate) path: &'path str,
     pub(crate) found: Found,

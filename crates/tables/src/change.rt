@@ -1,7 +1,7 @@
 use book::Reservation;
 
 /// A change of the tables, committed at once.
-#[derive(Clone, Copy, Debug)]
+#[derive(Clone, Copy)]
 pub enum Change<'a> {
     /// A stamp without a token, counted on its UTC day.
     Reserve(Reservation<'a>),

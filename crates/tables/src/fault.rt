@@ -6,7 +6,7 @@ use book::StoreFault;
 use sqlite::{Error, ErrorCode};
 
 /// Why a call on the tables was refused.
-#[derive(Clone, Copy, Debug, PartialEq, Eq)]
+#[derive(Clone, Copy, Debug)]
 pub enum TableFault {
     /// A growth was refused, or the database answered that it found no memory.
     Memory,
@@ -15,7 +15,7 @@ pub enum TableFault {
 }
 
 /// Why a connection wasn't taken.
-#[derive(Clone, Copy, Debug, PartialEq, Eq)]
+#[derive(Clone, Copy, Debug)]
 pub enum OpenFault {
     /// A growth was refused, or the database answered that it found no memory.
     Memory,
@@ -26,7 +26,7 @@ pub enum OpenFault {
 }
 
 /// What the database was asked for, which says what its error tells.
-#[derive(Clone, Copy, Debug, PartialEq, Eq)]
+#[derive(Clone, Copy)]
 pub enum Task {
     /// To open its files.
     Open,

@@ -40,7 +40,7 @@ const FIRST_COLUMNS: &str =
 const VERSION: &str = "SELECT version FROM meta";
 
 /// A version of the schema.
-#[derive(Clone, Copy, Debug, PartialEq, Eq)]
+#[derive(Clone, Copy)]
 pub enum Version {
     /// 1, without the rights of groups.
     First,

@@ -4,7 +4,7 @@ ghost use Rattle.book.specs.Sound.{greatest_number};
 use book::GREATEST_NUMBER;
 
 /// A number that a column of INTEGER can have.
-#[derive(Clone, Copy, Debug, PartialEq, Eq)]
+#[derive(Clone, Copy)]
 pub struct ColumnNumber {
     pub value: u64,
     ghost small: { value < 2 ^ 63 },
@@ -22,7 +22,7 @@ impl ColumnNumber {
 }
 
 /// What a look-up of the stamp with the greatest serial number shows.
-#[derive(Clone, Copy, Debug, PartialEq, Eq)]
+#[derive(Clone, Copy, Debug)]
 pub struct LastStamp {
     pub serial: u64,
     /// In microseconds since 1970-01-01T00:00:00Z.
@@ -30,7 +30,7 @@ pub struct LastStamp {
 }
 
 /// The calibration with the greatest number.
-#[derive(Clone, Copy, Debug, PartialEq, Eq)]
+#[derive(Clone, Copy, Debug)]
 pub struct LatestCalibration {
     pub n: u64,
     pub reading: i64,

@@ -11,7 +11,7 @@ use der::DataValues;
 use std::marker::Model;
 
 /// An extension (RFC 5280 4.1, Extension).
-#[derive(Debug, Drop)]
+#[derive(Drop)]
 pub struct Extension<'a> {
     /// Its object identifier (extnID).
     pub identifier: ObjectIdentifier<'a>,
@@ -23,7 +23,7 @@ pub struct Extension<'a> {
 
 /// Extensions one after the other where their encodings lie, in their order (RFC 5280 4.1, Extensions). The iterator
 /// reads each where it stands, and takes no memory.
-#[derive(Debug, Drop)]
+#[derive(Drop)]
 pub struct Extensions<'a> {
     members: DataValues<'a>,
 }

@@ -3,7 +3,7 @@ use der::DataValue;
 
 /// What a time-stamp is for, known by its digest: the hash algorithm with its parameters, and the hash (RFC 3161 2.4.1,
 /// MessageImprint).
-#[derive(Debug, Drop)]
+#[derive(Drop)]
 pub struct MessageImprint<'a> {
     /// The hash algorithm's object identifier (RFC 5280 4.1.1.2).
     pub algorithm: ObjectIdentifier<'a>,

@@ -7,7 +7,7 @@ use der::is_number_content;
 use std::marker::Model;
 
 /// An INTEGER of any size, by its contents octets where they lie (X.690 8.3).
-#[derive(Debug, Drop)]
+#[derive(Drop)]
 pub struct Integer<'a> {
     content: &'a [u8],
 }

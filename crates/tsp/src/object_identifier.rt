@@ -10,7 +10,7 @@ use std::marker::Model;
 const SHA256: [u8; 9] = [0x60, 0x86, 0x48, 0x01, 0x65, 0x03, 0x04, 0x02, 0x01];
 
 /// An OBJECT IDENTIFIER, by its contents octets where they lie (X.690 8.19).
-#[derive(Debug, Drop)]
+#[derive(Drop)]
 pub struct ObjectIdentifier<'a> {
     content: &'a [u8],
 }

@@ -30,7 +30,7 @@ use gentime::GenTime;
 const MAX_OCTETS: usize = 65_536;
 
 /// A time-stamp request (RFC 3161 2.4.1, TimeStampReq), whose parts lie in the octets that `read_request` read.
-#[derive(Debug, Drop)]
+#[derive(Drop)]
 pub struct Request<'a> {
     pub(crate) version: Integer<'a>,
     pub(crate) imprint: MessageImprint<'a>,

@@ -7,7 +7,7 @@ use gentime::GenTime;
 
 /// What a token says (RFC 3161 2.4.2, TSTInfo), of version 1. Its parts lie in a request, in a certificate, or in the
 /// octets that `read_tst` read.
-#[derive(Debug, Drop)]
+#[derive(Drop)]
 pub struct TstInfo<'a> {
     /// The policy under which the token was given.
     pub policy: ObjectIdentifier<'a>,
