@@ -2,7 +2,11 @@
 use Rattle.std.specs.Prelude.{ℤ, pos, ◌≤ℤ◌, Result, Ok, Err}
 use Rattle.connections.specs.declared.clock.ClockFailed.{ClockFailed}
 
+-- what a clock answers
+abbrev pub Reading : Type 0
+Reading = Result ℤ ClockFailed
+
 -- a reading isn't before 1970
-abbrev pub IsSince1970 : Result ℤ ClockFailed → Type 0
+abbrev pub IsSince1970 : Reading → Type 0
 IsSince1970 (Ok reading) = pos 0 ≤ℤ reading
 IsSince1970 (Err failed) = Unit {0}

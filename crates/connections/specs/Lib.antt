@@ -1,4 +1,3 @@
 pub mod Clock
-pub mod Renewed
 pub mod Run
 pub mod Turns

@@ -5,14 +5,14 @@ use super::exchanges::{exchanged, listening, long, short};
 use super::octets::{GRANTED_WITH, RULE_12, WITH_CERTIFICATE};
 use super::setting::{QUERY, REPLY, algorithm, answer, request};
 use cms::Signer;
-use connections::{SignerUnreached, connect_signer};
+use sessions::{SignerUnreached, connect_signer};
 use std::io::{Read, Write};
 use std::net::{TcpListener, TcpStream};
 use std::test::Fail;
 use std::time::Duration;
 
 /// A signer of a key holder.
-type Session<'a> = connections::Session<'a, HostRuntime>;
+type Session<'a> = sessions::Session<'a, HostRuntime>;
 
 fn connect<'a>(
     rt: &'a HostRuntime,

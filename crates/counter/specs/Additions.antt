@@ -6,6 +6,7 @@ use Rattle.book.specs.declared.values.Calibration.{Calibration}
 use Rattle.book.specs.declared.values.Hold.{Hold}
 use Rattle.command_line.specs.declared.words.CalibrateWords.{CalibrateWords}
 use Rattle.command_line.specs.declared.words.HoldWords.{HoldWords}
+use Rattle.connections.specs.Clock.{Reading}
 use Rattle.operations.specs.OverFiles.{IsAddedOver}
 use Rattle.operations.specs.declared.adding.Addition.TheVariants as addition
 use Rattle.operations.specs.Machine.{Machine}
@@ -26,13 +27,13 @@ abbrev pub hold_of : HoldWords → HoldValue
 hold_of words = record { from = pos words.from; to = pos words.to }
 
 -- it was added to the history that the database keeps
-pub record AddsCalibration {D X C : Type 0} (m : Machine D X C) (words : CalibrateWords) : Type 0 where
+pub record AddsCalibration {D X C : Type 0} (m : Machine D X C Reading) (words : CalibrateWords) : Type 0 where
   pub calibration : Calibration
   pub number : ℕ
   pub stated : calibration_view calibration ≡ calibration_of words
   pub added : IsAddedOver m.disk m.held (addition.Calibration calibration) (Ok number)
 
-pub record AddsHold {D X C : Type 0} (m : Machine D X C) (words : HoldWords) : Type 0 where
+pub record AddsHold {D X C : Type 0} (m : Machine D X C Reading) (words : HoldWords) : Type 0 where
   pub hold : Hold
   pub number : ℕ
   pub stated : hold_view hold ≡ hold_of words

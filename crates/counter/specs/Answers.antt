@@ -7,6 +7,7 @@ use Rattle.console.specs.Counts.{Counts}
 use Rattle.counter.specs.Exchange.{Exchanges}
 use Rattle.counter.specs.Desks.{IsSettingOf, ServesConnections}
 use Rattle.console.specs.Hexadecimal.{IsHexadecimal, line}
+use Rattle.connections.specs.Clock.{Reading}
 use Rattle.operations.specs.Machine.{Machine}
 use Rattle.console.specs.Settings.{SettingsValue, States}
 use Rattle.counter.specs.Replies.{IsJudgedReply, IsReplyOf}
@@ -34,7 +35,7 @@ pub record Answers (words : TstWords) (text written : List ℕ) : Type 0 where
 -- The text spells a request's octets, the desk is set as the words tell, and where a key is shown an account of its
 -- policy has that key. The reply is what the machine's step answers, over the store of the words' database: by the first
 -- rule of 1 to 9 that fails of the octets, that rule's rejection, whatever the database holds.
-pub record RepliesTo {D X C : Type 0} (m : Machine D X C) (words : AnswerWords) (text reply : List ℕ) : Type 0 where
+pub record RepliesTo {D X C : Type 0} (m : Machine D X C Reading) (words : AnswerWords) (text reply : List ℕ) : Type 0 where
   pub setting : Setting
   pub set : IsSettingOf words.desk setting
   pub known : IsKnown setting.file words.key
@@ -47,7 +48,7 @@ pub record RepliesTo {D X C : Type 0} (m : Machine D X C) (words : AnswerWords) 
       (account_shown setting.file words.key) (pos words.reading) query answer
 
 -- the same, at a desk of that setting, where that algorithm signs
-pub record IsReplyAt {D X C : Type 0} (m : Machine D X C) (words : AnswerWords) (setting : Setting)
+pub record IsReplyAt {D X C : Type 0} (m : Machine D X C Reading) (words : AnswerWords) (setting : Setting)
     (algorithm text reply : List ℕ) : Type 0 where
   pub known : IsKnown setting.file words.key
   pub query : List ℕ
@@ -61,7 +62,7 @@ pub record IsReplyAt {D X C : Type 0} (m : Machine D X C) (words : AnswerWords) 
 -- What is written is what was asked for: nothing by the words that change the database or serve connections. The
 -- input is left as `old`, and then as `new`: it is none where a reader doesn't tell its octets. The output is `out`
 -- before.
-abbrev pub Does : {D X C O : Type 0} → Machine D X C → (O → Option (List ℕ)) → O → Word → (old new : Option (List ℕ))
+abbrev pub Does : {D X C O : Type 0} → Machine D X C Reading → (O → Option (List ℕ)) → O → Word → (old new : Option (List ℕ))
     → (List ℕ → Type 0) → Type 0
 Does m contents out (Tst words) old new IsWritten =
     IfSome old (λ text. (written : List ℕ) × Answers words text written × IsWritten written)

@@ -3,13 +3,14 @@ use Rattle.std.specs.Prelude.{◌≡◌, ℕ, List, [], None, Ok, Result}
 use Rattle.command_line.specs.declared.words.DeskWords.{DeskWords}
 use Rattle.command_line.specs.declared.words.ServeWords.{ServeWords}
 use Rattle.desk.specs.Command.{Setting}
-use Rattle.operations.specs.OverFiles.{AreServedOver}
+use Rattle.connections.specs.Clock.{Reading}
 use Rattle.operations.specs.Signing.{algorithm_of}
 use Rattle.operations.specs.declared.fault.OperationFault.{OperationFault}
 use Rattle.operations.specs.declared.signing.Signing.{Signing}
 use Rattle.policy.specs.Meaning.{meaning_of}
 use Rattle.operations.specs.Machine.{Machine}
 use Rattle.console.specs.Identity.{IsIdentity}
+use Rattle.counter.specs.Serving.{AreServedOver}
 use Rattle.counter.specs.Signers.{SignsAs}
 
 -- by a policy that some text means, an identity, whose chain is empty where the words name none, and the algorithm of
@@ -25,8 +26,8 @@ pub record IsSettingOf (words : DeskWords) (setting : Setting) : Type 0 where
 
 -- The connections that the words ask for were served, as a run of the machine over the store of their database, or
 -- fewer where that is told.
-pub record ServesConnections {D X C : Type 0} (m : Machine D X C) (words : ServeWords)
+pub record ServesConnections {D X C : Type 0} (m : Machine D X C Reading) (words : ServeWords)
     (done : Result (Unit {0}) OperationFault) : Type 0 where
   pub setting : Setting
   pub set : IsSettingOf words.desk setting
-  pub served : AreServedOver m.disk m.held m.signs setting (algorithm_of set.signing) m.reads words.connections done
+  pub served : AreServedOver m setting (algorithm_of set.signing) words.connections done

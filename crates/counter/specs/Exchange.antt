@@ -6,6 +6,7 @@ use Rattle.desk.specs.Command.{Setting}
 use Rattle.service.specs.Answers.{AnswerValue, answer_text}
 use Rattle.service.specs.declared.served.Served.{Served}
 use Rattle.service.specs.declared.served.Served.TheVariants.{Closed, Answered, ReadFailed, WriteFailed}
+use Rattle.connections.specs.Clock.{Reading}
 use Rattle.operations.specs.Exchanges.{AsksExtract, IsAnswerFor}
 use Rattle.operations.specs.OverFiles.{IsServedOver}
 use Rattle.operations.specs.Signing.{algorithm_of}
@@ -27,7 +28,7 @@ WritesAnswer policy reading old new IsWritten =
 -- The desk is set as the words tell, and by its policy the input, which is left as `old` and then as `new`, is answered
 -- at the reading that the words state. The output was `out`: until it is flushed, the request is served as by the
 -- machine, over the store of the words' database.
-pub record Exchanges {D X C O : Type 0} (m : Machine D X C) (contents : O → Option (List ℕ)) (out : O)
+pub record Exchanges {D X C O : Type 0} (m : Machine D X C Reading) (contents : O → Option (List ℕ)) (out : O)
     (words : ExchangeWords) (old new : Option (List ℕ)) (IsWritten : List ℕ → Type 0) : Type 0 where
   pub setting : Setting
   pub set : IsSettingOf words.desk setting

@@ -3,6 +3,7 @@ pub mod Audits
 pub mod Desks
 pub mod Answers
 pub mod Fault
+pub mod Serving
 pub mod Replies
 pub mod Signers
 pub mod Exchange

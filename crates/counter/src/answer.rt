@@ -27,7 +27,7 @@ pub fn answer<F: Start + Drop, I: Read>(
 ) -> Result<Reply, Fault>
     ensures { IfOk result (λ reply. IfSome (I.remaining input.old) (λ text. RepliesTo
         (machine_of ⟦<FileFrom<F> as Disk>⟧ F.Start ⟦<HostSigner<'static> as Signer>⟧
-        ⟦<SystemClock<'static, HostRuntime> as Clock>⟧) words.now text (octets_of reply))) }
+        ⟦<SystemClock<'static, HostRuntime> as Clock>⟧.reads) words.now text (octets_of reply))) }
 {
     let Files {
         policy,
@@ -58,7 +58,7 @@ fn answer_at<F: Start + Drop, I: Read>(
 ) -> Result<Reply, Fault>
     ensures { IfOk result (λ reply. IfSome (I.remaining input.old) (λ text. IsReplyAt
         (machine_of ⟦<FileFrom<F> as Disk>⟧ F.Start ⟦<HostSigner<'static> as Signer>⟧
-        ⟦<SystemClock<'static, HostRuntime> as Clock>⟧) words.now (setting_of desk.entry.terms)
+        ⟦<SystemClock<'static, HostRuntime> as Clock>⟧.reads) words.now (setting_of desk.entry.terms)
         (algorithm_of desk.entry.signing) text (octets_of reply))) }
 {
     let account = account_of(desk.terms.policy, words.key)?;

@@ -9,6 +9,7 @@ ghost use Rattle.console.specs.Writing.{Begins};
 
 use crate::fault::answer_of;
 use crate::files::{Files, read_files};
+use crate::serving;
 use cms::Signer;
 use command_line::{ExchangeWords, ServeWords};
 use connections::{Clock, SystemClock};
@@ -29,14 +30,14 @@ pub fn exchange<F: Start + Drop, I: Read, O: Write>(
     output: &mut O,
 ) -> Result<(), Fault>
     ensures answered { OnOk result (Exchanges (machine_of ⟦<FileFrom<F> as Disk>⟧ F.Start ⟦<HostSigner<'static> as Signer>⟧
-        ⟦<SystemClock<'static, HostRuntime> as Clock>⟧) O.contents output.old words.now (I.remaining input.old) (I.remaining input.new)
+        ⟦<SystemClock<'static, HostRuntime> as Clock>⟧.reads) O.contents output.old words.now (I.remaining input.old) (I.remaining input.new)
         (Appends (O.contents output.old) (O.contents output.new))) }
 
     // Before a fault nothing is written, but where there is an answer and writing it fails.
     ensures kept { IfErr result (λ fault. (O.contents output.new ≡ O.contents output.old)
         ⊎ ((fault ≡ Fault.Input InputFault.Failed)
         × Exchanges (machine_of ⟦<FileFrom<F> as Disk>⟧ F.Start ⟦<HostSigner<'static> as Signer>⟧
-        ⟦<SystemClock<'static, HostRuntime> as Clock>⟧) O.contents output.old words.now (I.remaining input.old) (I.remaining input.new)
+        ⟦<SystemClock<'static, HostRuntime> as Clock>⟧.reads) O.contents output.old words.now (I.remaining input.old) (I.remaining input.new)
         (Begins (O.contents output.old) (O.contents output.new)))) }
 {
     let Files {
@@ -97,14 +98,14 @@ fn flush<O: Write>(output: &mut O) -> Result<(), InputFault>
 
 /// Serves HTTP connections at an address. The files are read first, then the database is opened, the key holder
 /// reached, and the address listened on. It reads and writes no stream of the process. Refused as `read_files` and
-/// `operations::serve`.
+/// `serving::serve`.
 pub fn serve<F: Start + Drop>(
     rt: &HostRuntime,
     words: &ServeWords<'_>,
     start: F,
 ) -> Result<(), Fault>
     ensures served { OnOk result (ServesConnections (machine_of ⟦<FileFrom<F> as Disk>⟧ F.Start ⟦<HostSigner<'static> as Signer>⟧
-        ⟦<SystemClock<'static, HostRuntime> as Clock>⟧) words.now (Ok tt)) }
+        ⟦<SystemClock<'static, HostRuntime> as Clock>⟧.reads) words.now (Ok tt)) }
     ensures faults { IfErr result IsServeFault }
 {
     let Files {
@@ -124,5 +125,5 @@ pub fn serve<F: Start + Drop>(
         terms,
         signing,
     };
-    answer_of(operations::serve(rt, desk, words.listen, words.connections))
+    answer_of(serving::serve(rt, desk, words.listen, words.connections))
 }

@@ -41,7 +41,7 @@ pub fn calibrate<F: Start + Drop>(
     start: F,
 ) -> Result<(), Fault>
     ensures added { IfOk result (λ _. AddsCalibration (machine_of ⟦<FileFrom<F> as Disk>⟧ F.Start ⟦<HostSigner<'static> as Signer>⟧
-        ⟦<SystemClock<'static, HostRuntime> as Clock>⟧) words.now) }
+        ⟦<SystemClock<'static, HostRuntime> as Clock>⟧.reads) words.now) }
     ensures faults { IfErr result IsStoreFault }
 {
     let calibration = calibration_of(words);
@@ -53,7 +53,7 @@ pub fn calibrate<F: Start + Drop>(
 /// looked at.
 pub fn hold<F: Start + Drop>(rt: &HostRuntime, words: &HoldWords<'_>, start: F) -> Result<(), Fault>
     ensures added { IfOk result (λ _. AddsHold (machine_of ⟦<FileFrom<F> as Disk>⟧ F.Start ⟦<HostSigner<'static> as Signer>⟧
-        ⟦<SystemClock<'static, HostRuntime> as Clock>⟧) words.now) }
+        ⟦<SystemClock<'static, HostRuntime> as Clock>⟧.reads) words.now) }
     ensures some { IfOk result (λ _. words.now.from < words.now.to) }
     ensures none { words.now.to ≤ words.now.from → result ≡ Err (Fault.Input InputFault.Hold) }
     ensures faults { words.now.from < words.now.to → IfErr result IsStoreFault }

@@ -8,6 +8,7 @@ mod fault;
 mod files;
 mod history;
 mod run;
+mod serving;
 
 use std::process::ExitCode;
 

@@ -125,7 +125,7 @@ pub fn run_words<F: Start + Drop, I: Read, O: Write, E: Write>(
     // Where all is done, what the words ask for is written, or they ask for help.
     ensures done { result ≡ 0 → ((word : Word) × Asks (texts_of words.now) word
         × Does (machine_of ⟦<FileFrom<F> as Disk>⟧ F.Start ⟦<HostSigner<'static> as Signer>⟧
-        ⟦<SystemClock<'static, HostRuntime> as Clock>⟧) O.contents output.old word (I.remaining input.old) (I.remaining input.new)
+        ⟦<SystemClock<'static, HostRuntime> as Clock>⟧.reads) O.contents output.old word (I.remaining input.old) (I.remaining input.new)
         (Appends (O.contents output.old) (O.contents output.new)))
         ⊎ AsksHelp (texts_of words.now) }
 
@@ -150,7 +150,7 @@ pub fn run_words<F: Start + Drop, I: Read, O: Write, E: Write>(
         ⊎ (AsksHelp (texts_of words.now)
         ⊎ (((word : Word) × Asks (texts_of words.now) word
         × Does (machine_of ⟦<FileFrom<F> as Disk>⟧ F.Start ⟦<HostSigner<'static> as Signer>⟧
-        ⟦<SystemClock<'static, HostRuntime> as Clock>⟧) O.contents output.old word (I.remaining input.old) (I.remaining input.new)
+        ⟦<SystemClock<'static, HostRuntime> as Clock>⟧.reads) O.contents output.old word (I.remaining input.old) (I.remaining input.new)
         (Begins (O.contents output.old) (O.contents output.new))
         × Begins (E.contents errors.old) (E.contents errors.new) (fault_line (Fault.Input InputFault.Failed)))
         ⊎ ((audited : AuditWords) × Asks (texts_of words.now) (Word.Audit audited)
@@ -177,7 +177,7 @@ fn run_word<F: Start + Drop, I: Read, O: Write, E: Write>(
 ) -> Result<Outcome, Fault>
     ensures done { IfOk result (λ outcome. outcome ≢ Outcome.Failing
         → Does (machine_of ⟦<FileFrom<F> as Disk>⟧ F.Start ⟦<HostSigner<'static> as Signer>⟧
-        ⟦<SystemClock<'static, HostRuntime> as Clock>⟧) O.contents output.old word.now (I.remaining input.old) (I.remaining input.new)
+        ⟦<SystemClock<'static, HostRuntime> as Clock>⟧.reads) O.contents output.old word.now (I.remaining input.old) (I.remaining input.new)
         (Appends (O.contents output.old) (O.contents output.new))) }
     ensures silent { IfOk result (λ outcome. outcome ≢ Outcome.Failing
         → E.contents errors.new ≡ E.contents errors.old) }
@@ -191,7 +191,7 @@ fn run_word<F: Start + Drop, I: Read, O: Write, E: Write>(
     ensures kept { IsNoAudit word.now → IfErr result (λ fault. (O.contents output.new ≡ O.contents output.old)
         ⊎ ((fault ≡ Fault.Input InputFault.Failed)
         × Does (machine_of ⟦<FileFrom<F> as Disk>⟧ F.Start ⟦<HostSigner<'static> as Signer>⟧
-        ⟦<SystemClock<'static, HostRuntime> as Clock>⟧) O.contents output.old word.now (I.remaining input.old) (I.remaining input.new)
+        ⟦<SystemClock<'static, HostRuntime> as Clock>⟧.reads) O.contents output.old word.now (I.remaining input.old) (I.remaining input.new)
         (Begins (O.contents output.old) (O.contents output.new)))) }
     ensures untold { IsNoAudit word.now → IfErr result (λ _. E.contents errors.new ≡ E.contents errors.old) }
 
@@ -296,14 +296,14 @@ fn answer_request<F: Start + Drop, I: Read, O: Write>(
 ) -> Result<(), Fault>
     ensures answered { OnOk result (IfSome (I.remaining input.old) (λ text.
         (reply : List ℕ) × RepliesTo (machine_of ⟦<FileFrom<F> as Disk>⟧ F.Start ⟦<HostSigner<'static> as Signer>⟧
-        ⟦<SystemClock<'static, HostRuntime> as Clock>⟧) words.now text reply
+        ⟦<SystemClock<'static, HostRuntime> as Clock>⟧.reads) words.now text reply
         × Appends (O.contents output.old) (O.contents output.new) (line reply))) }
 
     // Before a fault nothing is written, but where there is a reply and writing it fails.
     ensures kept { IfErr result (λ fault. (O.contents output.new ≡ O.contents output.old)
         ⊎ ((fault ≡ Fault.Input InputFault.Failed) × IfSome (I.remaining input.old) (λ text.
         (reply : List ℕ) × RepliesTo (machine_of ⟦<FileFrom<F> as Disk>⟧ F.Start ⟦<HostSigner<'static> as Signer>⟧
-        ⟦<SystemClock<'static, HostRuntime> as Clock>⟧) words.now text reply
+        ⟦<SystemClock<'static, HostRuntime> as Clock>⟧.reads) words.now text reply
         × Begins (O.contents output.old) (O.contents output.new) (line reply)))) }
 {
     let reply = answer(rt, words, start, input)?;

@@ -6,10 +6,8 @@ use Rattle.sqlite_wal.specs.Recovery.{Image}
 use Rattle.tables.specs.Base.{BaseValue}
 use Rattle.book.specs.declared.fault.StoreFault.{StoreFault}
 use Rattle.book.specs.declared.fault.StoreFault.TheVariants.{Backwards}
-use Rattle.operations.specs.Opening.{IsOpeningFault, IsStartingFault, IsUnheard}
+use Rattle.operations.specs.Opening.{IsOpeningFault}
 use Rattle.operations.specs.OverFiles.{IsDoneOver}
-use Rattle.operations.specs.declared.fault.OperationFault.{OperationFault}
-use Rattle.operations.specs.declared.fault.OperationFault.TheVariants as operation
 
 -- what is said of an answer, where there is one
 pub answered_over : {D : Type 0} (disk : Ghosts D) (held : Image) {A E : Type 0} (r : Result A E)
@@ -33,13 +31,3 @@ pub not_backwards : {A : Type 0} (fault : StoreFault) → IsOpeningFault fault �
 not_backwards fault (inl memory) is = cc (memory, is)
 not_backwards fault (inr (inl database)) is = cc (database, is)
 not_backwards fault (inr (inr foreign)) is = cc (foreign, is)
-
--- nor as a clock that fails
-pub not_clock : {A : Type 0} (fault : OperationFault) → IsStartingFault fault ⊎ IsUnheard fault
-    → refused_as {A = A} fault ≡ Err operation.Clock → ⊥
-not_clock operation.Unreached refused is = cc is
-not_clock operation.Unheard refused is = cc is
-not_clock (operation.Store fault) refused is = cc is
-not_clock (operation.Desk fault) refused is = cc is
-not_clock operation.Clock (inl starting) is = starting
-not_clock operation.Clock (inr unheard) is = cc unheard

@@ -6,6 +6,5 @@ pub mod Judged
 pub mod Machine
 pub mod OverFiles
 pub mod Reached
-pub mod Serving
 pub mod Signing
 pub mod Visits

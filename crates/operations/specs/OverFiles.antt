@@ -7,6 +7,7 @@ use Rattle.sqlite.specs.Files.{over_files}
 use Rattle.policy.specs.Record.{AccountValue}
 use Rattle.cms.specs.declared.signer.Signer.{Ghosts as Signs}
 use Rattle.book.specs.declared.fault.StoreFault.{StoreFault}
+use Rattle.book.specs.declared.standing.Standing.{Ghosts as Book}
 use Rattle.tables.specs.Base.{BaseValue}
 use Rattle.store.specs.Opening.{MigratesFound, OpensThen}
 use Rattle.store.specs.Stands.{over_tables}
@@ -14,10 +15,8 @@ use Rattle.desk.specs.Command.{Answer, Setting, Stamp}
 use Rattle.desk.specs.Stepped.{DeskValue, IsStep, with_signer}
 use Rattle.service.specs.Served.{Serves}
 use Rattle.service.specs.declared.served.Served.{Served}
-use Rattle.connections.specs.declared.clock.ClockFailed.{ClockFailed}
 use Rattle.operations.specs.Addition.{IsAdded}
 use Rattle.operations.specs.Auditing.{IsAuditOf}
-use Rattle.operations.specs.Serving.{ServesAt}
 use Rattle.operations.specs.Visits.{IsUnopened, IsVisited}
 use Rattle.operations.specs.declared.adding.Addition.{Addition}
 use Rattle.operations.specs.declared.auditing.AuditFault.{AuditFault}
@@ -55,6 +54,12 @@ module _ {D : Type 0} (disk : Ghosts D) (held : Image) where
         IsDoneOver (λ opened left. IsVisited (over_tables over_files) setting algorithm signs.algorithm_octets opened
         left Does)
 
+    -- so was this, which is said of a desk over any book
+    abbrev pub IsVisitedAsAny : ((B : Type 0) → Book B → (desk desk' : DeskValue B) (signer signer' : X) → Type 0)
+        → Type 0
+    IsVisitedAsAny Does =
+        IsVisitedOver (λ desk desk' signer signer'. Does _ (over_tables over_files) desk desk' signer signer')
+
     -- no desk could be opened over it
     abbrev pub IsUnopenedOver : OperationFault → Type 0
     IsUnopenedOver fault = IsDoneOver (λ opened left. IsUnopened (over_tables over_files) setting opened left fault)
@@ -80,12 +85,3 @@ module _ {D : Type 0} (disk : Ghosts D) (held : Image) where
           signer = signer;
           signer_after = signer';
         }) served)
-
-    -- so many connections were served, or fewer: a run of the machine
-    abbrev pub AreServedOver : {C : Type 0} → (C → Result ℤ ClockFailed → C → Type 0) → ℕ
-        → Result (Unit {0}) OperationFault → Type 0
-    AreServedOver {C} reads connections done =
-        IsVisitedOver (λ desk desk' signer signer'. (clock clock' : C)
-        × ServesAt reads (over_tables over_files) signs.signs signs.fault_count connections
-        (record { clock = clock; desk = desk; signer = signer })
-        (record { clock = clock'; desk = desk'; signer = signer' }) done)

@@ -28,7 +28,7 @@ use sqlite_disk::Disk;
 
 /// What is done at a desk with a signer, over any book. Input and output are what it reads from and writes to; `()`
 /// where it does neither.
-pub(crate) trait DeskOperation<I, O>: Drop {
+pub trait DeskOperation<I, O>: Drop {
     /// What it answers.
     type Answer;
 
@@ -189,7 +189,7 @@ fn perform_prepared<B: Book + Drop, G: Signer, I, O, T: DeskOperation<I, O>>(
 /// then with `Unreached` where the key holder can't be reached, and as what it needs besides. Last the identity is
 /// installed, unless it is the one that was installed last: refused with `Desk` where memory runs out, or the database
 /// refuses it. Nothing is done then.
-pub(crate) fn perform_at_desk<F: Start + Drop, I, O, T: DeskOperation<I, O>>(
+pub fn perform_at_desk<F: Start + Drop, I, O, T: DeskOperation<I, O>>(
     rt: &HostRuntime,
     desk: DatabaseDesk<'_, F>,
     renewal: Renewal,

@@ -1,6 +1,6 @@
 //! A signer that was reached.
 use cms::{Algorithm, KeyedHash, Signer, SignerFault};
-use connections::{KeyHolderSigner, Session};
+use sessions::{KeyHolderSigner, Session};
 use std::io::Stderr;
 
 /// A signer that was reached, whichever it is: it answers as that.

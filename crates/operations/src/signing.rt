@@ -6,7 +6,7 @@ ghost use Rattle.operations.specs.Signing.{algorithm_of};
 use crate::fault::OperationFault;
 use crate::reached::{HostSigner, ReachedSigner};
 use cms::{Algorithm, KeyedHash, Signer};
-use connections::{KeyHolderSigner, SIGNER_SECONDS, Session, connect_renewed, connect_signer};
+use sessions::{KeyHolderSigner, SIGNER_SECONDS, Session, connect_renewed, connect_signer};
 use std::io::Stderr;
 use std::time::Duration;
 
@@ -27,7 +27,7 @@ pub enum Signing<'a> {
 
 /// Whether another session with a key holder is opened where one was lost.
 #[derive(Clone, Copy)]
-pub(crate) enum Renewal {
+pub enum Renewal {
     /// One session is kept to the end.
     Never,
     /// Another is opened when the next signature is asked for.

@@ -1,7 +1,7 @@
 //! How much was tried.
 
 /// How much was tried, and how much of it was wrong.
-#[derive(Clone, Copy, Debug)]
+#[derive(Clone, Copy)]
 pub struct Tally {
     pub tried: u64,
     /// How much of it fared otherwise than it has to.

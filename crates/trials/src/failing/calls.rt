@@ -18,7 +18,7 @@ const REJECTION_HEAD: &[u8] = b"HTTP/1.1 200 OK\r\nContent-Type: application/tim
     Content-Length: 25\r\nConnection: close\r\n\r\n";
 
 /// What is called.
-#[derive(Clone, Copy, Debug, PartialEq, Eq)]
+#[derive(Clone, Copy)]
 pub enum Kind {
     /// A request of an account is answered.
     Answer,
@@ -39,7 +39,7 @@ pub struct Call {
 }
 
 /// How a call ended.
-#[derive(Clone, Copy, Debug, PartialEq, Eq)]
+#[derive(Clone, Copy, Debug, PartialEq)]
 pub enum Ending {
     /// A request was granted under this serial number.
     Granted(u64),

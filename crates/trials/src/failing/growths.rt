@@ -15,7 +15,7 @@ const ALONE: usize = 2 << 44;
 const ALL_FROM: usize = 3 << 44;
 
 /// Which growths are refused.
-#[derive(Clone, Copy, Debug, PartialEq, Eq)]
+#[derive(Clone, Copy, Debug)]
 pub enum Refused {
     /// That one alone.
     Alone,

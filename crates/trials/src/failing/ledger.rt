@@ -5,7 +5,7 @@ use cms::{CmsFault, KeyedHash};
 use std::alloc::{AllocError, Global};
 
 /// What is asked of the counter, one after the other.
-#[derive(Clone, Copy, Debug, PartialEq, Eq)]
+#[derive(Clone, Copy)]
 pub enum Step {
     /// A calibration.
     Calibrate,
@@ -53,7 +53,7 @@ impl Step {
 }
 
 /// Whether bob has to see the deposit.
-#[derive(Clone, Copy, Debug, PartialEq, Eq)]
+#[derive(Clone, Copy)]
 pub enum Sight {
     /// It was told that he does, or that was seen.
     Sees,

@@ -48,7 +48,7 @@ impl Fates {
 }
 
 /// What is looked at of a history once the files are opened, and after the last step. It makes calls of the disk.
-#[derive(Clone, Copy, Debug, PartialEq, Eq)]
+#[derive(Clone, Copy)]
 pub enum Look {
     /// Nothing.
     None,

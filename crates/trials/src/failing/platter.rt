@@ -4,7 +4,7 @@ use std::alloc::Global;
 use std::io;
 
 /// What a stop leaves of what was written to a file and isn't synced.
-#[derive(Clone, Copy, Debug, PartialEq, Eq)]
+#[derive(Clone, Copy)]
 pub enum Outcome {
     /// All of it, as where the process dies and the machine goes on.
     Written,
@@ -15,7 +15,7 @@ pub enum Outcome {
 }
 
 /// How a stop is read, and what it leaves.
-#[derive(Clone, Copy, Debug)]
+#[derive(Clone, Copy)]
 pub struct Reading {
     /// Whether the database is told that a stop leaves each octet of a write old or new. It then syncs once for most
     /// commits, and else twice.

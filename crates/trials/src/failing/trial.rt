@@ -7,7 +7,7 @@ use crate::tally::Tally;
 use std::alloc::Global;
 
 /// One of the two files.
-#[derive(Clone, Copy, Debug, PartialEq, Eq)]
+#[derive(Clone, Copy, Debug)]
 pub enum Place {
     Log,
     Database,

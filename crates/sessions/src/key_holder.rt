@@ -1,6 +1,6 @@
 //! Sessions with the key holder at an address.
 ghost use Rattle.std.specs.Prelude.{◌≡◌, false, IfSome, IfOk};
-ghost use Rattle.connections.specs.Renewed.{IsOpened};
+ghost use Rattle.sessions.specs.Renewed.{IsOpened};
 
 use crate::renewed::{RenewedSigner, Sessions};
 use crate::signer::{Session, SignerUnreached, connect_signer};
@@ -55,7 +55,7 @@ impl<'a, R: Net<Stream = TcpStream> + Clock + AllocGlobal, W: Write> KeyHolder<'
 
 impl<'a, R: Net<Stream = TcpStream> + Clock + AllocGlobal, W: Write> Sessions<Session<'a, R>>
     for KeyHolder<'a, R, W> {
-    ghost use Rattle.connections.specs.Renewed.{IsOpened};
+    ghost use Rattle.sessions.specs.Renewed.{IsOpened};
 
     ghost fresh = { IsOpened };
 

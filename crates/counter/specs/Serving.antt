@@ -1,10 +1,14 @@
 -- What serving connections at an address does to the clock, the desk and the signer.
-use Rattle.std.specs.Prelude.{◌≡◌, ℕ, ℤ, List, Result, Ok, Err}
+use Rattle.std.specs.Prelude.{◌≡◌, ℕ, List, Result, Ok, Err}
 use Rattle.book.specs.declared.standing.Standing.{Ghosts}
 use Rattle.cms.specs.declared.signer.SignerFault.{SignerFault}
+use Rattle.connections.specs.Clock.{Reading}
 use Rattle.connections.specs.Run.{ServesEach}
 use Rattle.connections.specs.Turns.{State}
 use Rattle.connections.specs.declared.clock.ClockFailed.{ClockFailed}
+use Rattle.desk.specs.Command.{Setting}
+use Rattle.operations.specs.Machine.{Machine}
+use Rattle.operations.specs.OverFiles.{IsVisitedAsAny}
 use Rattle.operations.specs.Visits.{Visit}
 use Rattle.operations.specs.declared.fault.OperationFault.{OperationFault}
 use Rattle.operations.specs.declared.fault.OperationFault.TheVariants as operation
@@ -16,7 +20,7 @@ state_before clock visit = record { clock = clock; desk = visit.desk; signer = v
 abbrev pub state_after : {I O C B X : Type 0} → C → Visit I O B X → State C B X
 state_after clock visit = record { clock = clock; desk = visit.desk_after; signer = visit.signer_after }
 
-module _ {C B X : Type 0} (reads : C → Result ℤ ClockFailed → C → Type 0) (g : Ghosts B)
+module _ {C B X : Type 0} (reads : C → Reading → C → Type 0) (g : Ghosts B)
     (signs : X → List ℕ → Result (List ℕ) SignerFault → X → Type 0) (count : X → ℕ) where
   -- So many connections were served, or fewer, as the clock failed: a run of the machine. Where the address can't be
   -- listened on nothing is done.
@@ -28,3 +32,13 @@ module _ {C B X : Type 0} (reads : C → Result ℤ ClockFailed → C → Type 0
   ServesAt connections old new (Err operation.Unreached) = ⊥
   ServesAt connections old new (Err (operation.Store fault)) = ⊥
   ServesAt connections old new (Err (operation.Desk fault)) = ⊥
+
+-- So many connections were served, or fewer, at a desk over the store that was opened over what the files held: a run
+-- of the machine.
+abbrev pub AreServedOver : {D X C : Type 0} → Machine D X C Reading → Setting → (algorithm : List ℕ) → ℕ
+    → Result (Unit {0}) OperationFault → Type 0
+AreServedOver {C = C} m setting algorithm connections done =
+    IsVisitedAsAny m.disk m.held m.signs setting algorithm (λ _ g desk desk' signer signer'. (clock clock' : C)
+    × ServesAt m.reads g m.signs.signs m.signs.fault_count connections
+    (record { clock = clock; desk = desk; signer = signer })
+    (record { clock = clock'; desk = desk'; signer = signer' }) done)

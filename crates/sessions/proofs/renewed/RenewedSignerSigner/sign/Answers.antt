@@ -1,5 +1,5 @@
-use Rattle.connections.specs.Renewed.{asks}
-use Rattle.connections.proofs.renewed.RenewedSignerSigner.sign.Goals as goal
+use Rattle.sessions.specs.Renewed.{asks}
+use Rattle.sessions.proofs.renewed.RenewedSignerSigner.sign.Goals as goal
 
 pub returns-in-Err-Failed-clause-signs : goal.returns-in-Err-Failed-clause-signs
 returns-in-Err-Failed-clause-signs g c = asks c.in-Some.session c.in-Some.ensures.taken c.ask-answer.ensures.asks

@@ -1,23 +1,19 @@
 //! How HTTP connections are served over the database at a path.
 ghost use Rattle.std.specs.Prelude.{◌≡◌, ◌⊎◌, Err, IfErr, IfOk, Ok};
-ghost use Rattle.store.specs.Opening.{image_at};
 ghost use Rattle.operations.specs.Opening.{IsServingFault, IsUnheard};
-ghost use Rattle.operations.specs.Serving.{ServesAt, state_after, state_before};
+ghost use Rattle.counter.specs.Serving.{AreServedOver, ServesAt, state_after, state_before};
+ghost use Rattle.operations.specs.Machine.{machine_of};
 ghost use Rattle.operations.specs.Signing.{algorithm_of};
-ghost use Rattle.operations.specs.OverFiles.{AreServedOver};
 ghost use Rattle.operations.specs.Visits.{setting_of};
 
-use crate::database_desk::DatabaseDesk;
-use crate::desk_operation::{DeskOperation, perform_at_desk};
-use crate::fault::OperationFault;
-use crate::reached::HostSigner;
-use crate::signing::Renewal;
 use book::Book;
 use cms::Signer;
 use connections::{CONNECTION_SECONDS, Clock, Listening, SystemClock, serve_connections};
 use desk::Desk;
-use sqlite::{FileFrom, Start};
-use sqlite_disk::Disk;
+use operations::{
+    DatabaseDesk, DeskOperation, Disk, FileFrom, HostSigner, OperationFault, Renewal, Start,
+    perform_at_desk,
+};
 use std::net::TcpListener;
 use std::time::Duration;
 
@@ -74,14 +70,14 @@ pub fn serve<F: Start + Drop>(
     connections: u32,
 ) -> Result<(), OperationFault>
     // Whatever the files hold: the connections are served at a desk over the store that was opened over them.
-    ensures served { IfOk result (λ _. AreServedOver ⟦<FileFrom<F> as Disk>⟧ (image_at F.Start)
-        ⟦<HostSigner<'static> as Signer>⟧ (setting_of desk.entry.terms) (algorithm_of desk.entry.signing)
-        ⟦<SystemClock<'static, HostRuntime> as Clock>⟧.reads connections result) }
+    ensures served { IfOk result (λ _. AreServedOver (machine_of ⟦<FileFrom<F> as Disk>⟧ F.Start
+        ⟦<HostSigner<'static> as Signer>⟧ ⟦<SystemClock<'static, HostRuntime> as Clock>⟧.reads)
+        (setting_of desk.entry.terms) (algorithm_of desk.entry.signing) connections result) }
 
     // So are those before the clock failed.
-    ensures stopped { result ≡ Err OperationFault.Clock → AreServedOver ⟦<FileFrom<F> as Disk>⟧ (image_at F.Start)
-        ⟦<HostSigner<'static> as Signer>⟧ (setting_of desk.entry.terms) (algorithm_of desk.entry.signing)
-        ⟦<SystemClock<'static, HostRuntime> as Clock>⟧.reads connections result }
+    ensures stopped { result ≡ Err OperationFault.Clock → AreServedOver (machine_of ⟦<FileFrom<F> as Disk>⟧ F.Start
+        ⟦<HostSigner<'static> as Signer>⟧ ⟦<SystemClock<'static, HostRuntime> as Clock>⟧.reads)
+        (setting_of desk.entry.terms) (algorithm_of desk.entry.signing) connections result }
     ensures refusals { IfErr result IsServingFault }
 {
     let serving = Serving {

@@ -1,5 +1,6 @@
-use Rattle.operations.proofs.OverFiles.{always, not_clock}
-use Rattle.operations.proofs.serving.serve.Goals as goal
+use Rattle.operations.proofs.OverFiles.{always}
+use Rattle.counter.proofs.Starting.{not_clock}
+use Rattle.counter.proofs.serving.serve.Goals as goal
 
 pub returns-in-Ok-clause-served : goal.returns-in-Ok-clause-served
 returns-in-Ok-clause-served g c = always c.in-Ok.done _ c.in-Ok.ensures.moved

@@ -1,7 +1,7 @@
 //! A signer whose session is opened anew where it was lost.
 ghost use Rattle.std.specs.Prelude.{◌≡◌, ◌≤◌, IfSome, IfOk, vec_len};
 ghost use Rattle.cms.specs.Signer.{signed_by};
-ghost use Rattle.connections.specs.Renewed.{AsksSession};
+ghost use Rattle.sessions.specs.Renewed.{AsksSession};
 
 use cms::{Algorithm, Signer, SignerFault};
 use std::marker::Model;
@@ -30,7 +30,7 @@ pub struct RenewedSigner<S, O> {
 }
 
 impl<S, O> Model for RenewedSigner<S, O> {
-    ghost use Rattle.connections.specs.Renewed.{RenewedState};
+    ghost use Rattle.sessions.specs.Renewed.{RenewedState};
 
     ghost Value = { RenewedState S };
 
@@ -39,7 +39,7 @@ impl<S, O> Model for RenewedSigner<S, O> {
 
 impl<S: Signer + Drop, O: Sessions<S>> RenewedSigner<S, O> {
     ghost use Rattle.std.specs.Prelude.{Some, None, IfNone};
-    ghost use Rattle.connections.specs.Renewed.{IsTaken};
+    ghost use Rattle.sessions.specs.Renewed.{IsTaken};
 
     /// A signer of that algorithm with an open session, and what opens others. Takes no memory.
     pub fn new(sessions: O, session: S, algorithm: Algorithm) -> RenewedSigner<S, O>
@@ -83,7 +83,7 @@ fn ask<S: Signer + Drop>(session: S, text: &[u8]) -> (Result<Vec<u8>, SignerFaul
 }
 
 impl<S: Signer + Drop, O: Sessions<S>> Signer for RenewedSigner<S, O> {
-    ghost use Rattle.connections.specs.Renewed.{SignsRenewed};
+    ghost use Rattle.sessions.specs.Renewed.{SignsRenewed};
 
     ghost signs = { SignsRenewed S.signs O.fresh };
 

@@ -1,0 +1,12 @@
+//! A key holder in another process, behind a connection.
+#![tactic(auto)]
+
+mod key_holder;
+mod renewed;
+mod session;
+mod signer;
+
+pub use key_holder::{KeyHolder, KeyHolderSigner, connect_renewed};
+pub use renewed::{RenewedSigner, Sessions};
+pub use session::SessionStream;
+pub use signer::{SIGNER_SECONDS, Session, SignerUnreached, connect_signer};
