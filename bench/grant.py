@@ -27,7 +27,7 @@ def seconds(path, count):
     with tempfile.TemporaryDirectory(dir=os.path.dirname(path)) as folder:
         copy = shutil.copy(path, folder)
         begun = time.monotonic()
-        counted(count, built("trials", "--optimized"), "work", "grant", str(count), copy)
+        counted(count, built("player", "--optimized"), "work", "grant", str(count), copy)
         return time.monotonic() - begun
 
 
@@ -57,7 +57,7 @@ def replies(folder):
     subprocess.run(made, check=True, stderr=subprocess.DEVNULL)
     subprocess.run(["openssl", "x509", "-in", certificate, "-outform", "DER", "-out", octets], check=True)
     peers = (
-        ((built("trials"), "work", "reply"), [octets]),
+        ((built("player"), "work", "reply"), [octets]),
         ((openssl, "reply"), [key, certificate]),
         ((openssl, "sign"), [key, certificate]),
     )

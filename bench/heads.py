@@ -20,7 +20,7 @@ def microseconds(program, fields, octets):
 
 
 def ratios(folder):
-    program = built("trials")
+    program = built("player")
     heads = [(fields, octets) for fields in FIELDS for octets in (MOST, SHORT)]
     runs = [[microseconds(program, *head) for head in heads] for _ in range(RUNS)]
     least = dict(zip(heads, map(min, zip(*runs))))

@@ -15,7 +15,7 @@ def nanoseconds(count, *words):
 
 
 def ratios(folder):
-    ours, openssl = built("trials"), compiled_peer("request", folder, "-lcrypto")
+    ours, openssl = built("player"), compiled_peer("request", folder, "-lcrypto")
     runs = [(nanoseconds(OURS, ours, "work", "read"), nanoseconds(OPENSSL, openssl)) for _ in range(RUNS)]
     one, other = (min(times) for times in zip(*runs))
     yield "a request read", f"{one:.0f} ns", f"d2i_TS_REQ and TS_REQ_free {other:.0f} ns", one / other

@@ -50,7 +50,7 @@ def rate_of(words, query):
 def answered(authority, query):
     """A file with the octets of an answer."""
     answer = authority.path("answer")
-    with Running([built("trials"), "work", "serve", "1"]) as running:
+    with Running([built("player"), "work", "serve", "1"]) as running:
         url = f"http://127.0.0.1:{int(running.process.stdout.readline())}/tsp"
         words = ["curl", "-sS", "-i", "-H", f"Content-Type: {TYPE}", "--data-binary", f"@{query}", "-o", answer, url]
         subprocess.run(words, check=True)
@@ -60,7 +60,7 @@ def answered(authority, query):
 def in_memory(authority, query):
     bare = compiled_peer("serve", authority.folder, "-D_GNU_SOURCE")
     bare_words = [bare, answered(authority, query), str(os.path.getsize(query))]
-    words = [built("trials"), "work", "serve", str(EXCHANGES + MORE)]
+    words = [built("player"), "work", "serve", str(EXCHANGES + MORE)]
     runs = [(rate_of(words, query), rate_of(bare_words, query)) for _ in range(RUNS)]
     one, bare = (statistics.median(rates) for rates in zip(*runs))
     ratio = statistics.median(one / bare for one, bare in runs)

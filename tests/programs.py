@@ -1,4 +1,4 @@
-"""The programs that the tests run, and what is found wrong of them: the counter and the crates' other programs, OpenSSL
+"""The programs that the tests run, and what is found wrong of them: the counter, the player of rows and trials, OpenSSL
 and sqlite3."""
 
 import functools
@@ -102,11 +102,12 @@ def refusing(library, mark, number, which, **more):
     }
 
 
-def played(program, text, path, environment):
-    """What a program that plays rows tells of each, as it has them in a file: the row, and the lines behind it."""
+def played(words, text, path, environment):
+    """What the player tells of each row of a text: the row, and the lines behind it. The words are the program, and the
+    kind of the rows."""
     with open(path, "w", encoding="utf-8") as file:
         file.write(text)
-    done = subprocess.run([program, path], capture_output=True, env=environment, timeout=60)
+    done = subprocess.run([*words, path], capture_output=True, env=environment, timeout=60)
     if done.returncode or done.stderr:
         raise RuntimeError(f"{text}: {done}")
     told = []

@@ -75,6 +75,35 @@ fn tell_whole<B: Book + Drop>(
     *room = out.writer;
 }
 
+/// How many lines those octets have.
+fn lines_of(octets: &[u8]) -> u64 {
+    octets.iter().filter(|octet| **octet == b'\n').count() as u64
+}
+
+fn has_length<B: Book + Drop>(
+    alloc: Global,
+    store: &mut B,
+    asked: Inquiry<'_>,
+    octets: usize,
+) -> bool {
+    length(alloc, store, asked) == Ok(octets as u64)
+}
+
+/// Tells of the extract, whether it begins so, how many lines it has, and whether it has the length that is told.
+fn tell_rest<B: Book + Drop>(
+    alloc: Global,
+    printer: Printer<'_>,
+    store: &mut B,
+    asked: Inquiry<'_>,
+    front: &[u8],
+) {
+    let mut out = taker(alloc, usize::MAX);
+    printer.tell(&whole(alloc, store, asked, &mut out));
+    printer.tell(&out.writer.starts_with(front));
+    printer.number("lines", lines_of(&out.writer));
+    printer.tell(&has_length(alloc, store, asked, out.writer.len()));
+}
+
 /// Tells of what a taker of so many octets has, whether the extract begins so, and how many lines and octets that has.
 fn tell_beginning<B: Book + Drop>(
     alloc: Global,
@@ -86,13 +115,7 @@ fn tell_beginning<B: Book + Drop>(
     let mut cut = taker(alloc, octets);
     printer.tell(&whole(alloc, store, asked, &mut cut));
     printer.number("taken", cut.writer.len() as u64);
-    let mut out = taker(alloc, usize::MAX);
-    printer.tell(&whole(alloc, store, asked, &mut out));
-    printer.tell(&out.writer.starts_with(&cut.writer));
-    let lines = out.writer.iter().filter(|octet| **octet == b'\n').count();
-    printer.number("lines", lines as u64);
-    let told = length(alloc, store, asked);
-    printer.tell(&(told == Ok(out.writer.len() as u64)));
+    tell_rest(alloc, printer, store, asked, &cut.writer);
 }
 
 /// Tells of the extract within a limit that is so much less than its length.
@@ -113,7 +136,6 @@ fn tell_limited<B: Book + Drop>(
 
 /// Makes the call that the word names.
 pub fn call<B: Book + Drop>(
-    alloc: Global,
     printer: Printer<'_>,
     store: &mut B,
     word: &str,
@@ -121,6 +143,7 @@ pub fn call<B: Book + Drop>(
     words: &mut Words<'_>,
     room: &mut Vec<u8>,
 ) {
+    let alloc = printer.rt.alloc();
     match word {
         "extract" => tell_whole(alloc, printer, store, asked, room),
         "beginning" => tell_beginning(alloc, printer, store, asked, words.number() as usize),

@@ -1,40 +1,54 @@
 //! On what a scenario is played.
-use crate::setting::Setting;
-use cms::KeyedHash;
-use counter_fakes::FailingSigner;
+use crate::kept::Place;
+use crate::setting::{Holder, Setting, signer_of};
 use desk::{Command, Desk};
-use sqlite::{Connection, MemStore};
+use sqlite::Connection;
 use std::alloc::Global;
-use store::Store;
+use store::Book;
 use tables::Base;
 use transcript::Printer;
 
-/// Where the database lies.
-pub type Place = MemStore;
+/// How many octets of requests and answers there is room for from the beginning.
+const ROOM: usize = 16_384;
 
-/// The store of a scenario.
-pub type Kept = Store<Place>;
-
-/// Its desk.
-pub type Counter<'p> = Desk<'p, Kept>;
-
-/// Its signer.
-pub type Holder = FailingSigner<KeyedHash>;
-
-/// A connection to a database, a desk over its store, or its tables alone; the signer; and the commands that are
-/// collected for a run.
+/// The signer, and what takes octets.
 #[derive(Drop)]
-pub struct Bench<'p> {
-    pub alloc: Global,
-    pub printer: Printer<'p>,
-    pub setting: &'p Setting,
-    pub conn: Option<Connection<Place>>,
-    pub desk: Option<Counter<'p>>,
-    pub tables: Option<Base<Place>>,
+pub struct Tools {
     pub signer: Holder,
-    pub commands: Option<Vec<Command<'p, 'p>>>,
     /// The octets of a request.
     pub request: Vec<u8>,
     /// What takes answers.
     pub room: Vec<u8>,
+}
+
+/// What a scenario is played with.
+pub fn tools_of(alloc: Global, scenario: &str) -> Option<Tools> {
+    let Some(signer) = signer_of(alloc, scenario) else {
+        return None;
+    };
+    let Ok(request) = Vec::with_capacity(alloc, ROOM) else {
+        return None;
+    };
+    let Ok(room) = Vec::with_capacity(alloc, ROOM) else {
+        return None;
+    };
+    Some(Tools {
+        signer,
+        request,
+        room,
+    })
+}
+
+/// A connection to a database, a desk over its store, or its tables alone; the commands that are collected for a run,
+/// and the tools.
+#[derive(Drop)]
+pub struct Bench<'p, B: Book + Drop> {
+    pub alloc: Global,
+    pub printer: Printer<'p>,
+    pub setting: &'p Setting,
+    pub conn: Option<Connection<Place>>,
+    pub desk: Option<Desk<'p, B>>,
+    pub tables: Option<Base<Place>>,
+    pub commands: Option<Vec<Command<'p, 'p>>>,
+    pub tools: Tools,
 }

@@ -29,45 +29,89 @@ fn deposit<'p>(reader: Reader<'p>, account: &'p Account, words: &mut Words<'p>) 
     }
 }
 
-fn of_account<'p>(
-    reader: Reader<'p>,
+fn show<'p>(account: &'p Account, words: &mut Words<'p>) -> Command<'p, 'p> {
+    Command::Show {
+        account,
+        number: words.number(),
+    }
+}
+
+fn token<'p>(account: &'p Account, words: &mut Words<'p>) -> Command<'p, 'p> {
+    Command::Token {
+        account,
+        number: words.number(),
+    }
+}
+
+fn grant<'p>(account: &'p Account, words: &mut Words<'p>) -> Command<'p, 'p> {
+    Command::Grant {
+        account,
+        number: words.number(),
+        reader: words.next(),
+    }
+}
+
+fn revoke<'p>(account: &'p Account, words: &mut Words<'p>) -> Command<'p, 'p> {
+    Command::Revoke {
+        account,
+        number: words.number(),
+        reader: words.next(),
+    }
+}
+
+fn grant_group<'p>(account: &'p Account, words: &mut Words<'p>) -> Command<'p, 'p> {
+    Command::GrantGroup {
+        account,
+        number: words.number(),
+        group: words.next(),
+    }
+}
+
+fn revoke_group<'p>(account: &'p Account, words: &mut Words<'p>) -> Command<'p, 'p> {
+    Command::RevokeGroup {
+        account,
+        number: words.number(),
+        group: words.next(),
+    }
+}
+
+/// The command of an account that changes rights.
+fn of_rights<'p>(
+    account: &'p Account,
     word: &str,
     words: &mut Words<'p>,
 ) -> Option<Command<'p, 'p>> {
-    let account = reader.setting.account(words.next())?;
-    Some(match word {
-        "deposit" => deposit(reader, account, words),
-        "show" => Command::Show {
-            account,
-            number: words.number(),
-        },
-        "token" => Command::Token {
-            account,
-            number: words.number(),
-        },
-        "list" => Command::List { account },
-        "grant" => Command::Grant {
-            account,
-            number: words.number(),
-            reader: words.next(),
-        },
-        "revoke" => Command::Revoke {
-            account,
-            number: words.number(),
-            reader: words.next(),
-        },
-        "grant-group" => Command::GrantGroup {
-            account,
-            number: words.number(),
-            group: words.next(),
-        },
-        "revoke-group" => Command::RevokeGroup {
-            account,
-            number: words.number(),
-            group: words.next(),
-        },
-        _ => return None,
-    })
+    match word {
+        "grant" => Some(grant(account, words)),
+        "revoke" => Some(revoke(account, words)),
+        "grant-group" => Some(grant_group(account, words)),
+        "revoke-group" => Some(revoke_group(account, words)),
+        _ => None,
+    }
+}
+
+/// The command of an account.
+fn of_account<'p>(
+    reader: Reader<'p>,
+    account: &'p Account,
+    word: &str,
+    words: &mut Words<'p>,
+) -> Option<Command<'p, 'p>> {
+    match word {
+        "deposit" => Some(deposit(reader, account, words)),
+        "show" => Some(show(account, words)),
+        "token" => Some(token(account, words)),
+        "list" => Some(Command::List { account }),
+        _ => of_rights(account, word, words),
+    }
+}
+
+/// The command of the account that the next word names.
+fn of_named<'p>(reader: Reader<'p>, word: &str, words: &mut Words<'p>) -> Option<Command<'p, 'p>> {
+    match reader.setting.account(words.next()) {
+        Some(account) => of_account(reader, account, word, words),
+        None => None,
+    }
 }
 
 fn calibrate<'p>(words: &mut Words<'_>) -> Command<'p, 'p> {
@@ -103,6 +147,6 @@ pub fn command_of<'p>(
         "calibrate" => Some(calibrate(words)),
         "hold" => Some(hold(words)),
         "succeed" => Some(succeed(reader)),
-        _ => of_account(reader, word, words),
+        _ => of_named(reader, word, words),
     }
 }

@@ -1,26 +1,11 @@
 //! Connections, and the stores that are made and taken over them.
-use crate::bench::{Bench, Counter, Kept, Place};
+use crate::bench::Bench;
+use crate::kept::{Connected, Opened, Place};
 use crate::setting::Setting;
 use desk::{Desk, Fault};
 use sqlite::{Alter, Connection, Error};
 use std::alloc::Global;
-use store::{Book, Store, StoreFault};
-
-type Opened<S> = Result<Store<S>, (StoreFault, Connection<S>)>;
-
-fn create<S: Alter + Drop>(alloc: Global, conn: Connection<S>) -> Opened<S> {
-    if !conn.is_autocommit() {
-        return Err((StoreFault::Full, conn));
-    }
-    Store::create(alloc, conn)
-}
-
-fn adopt<S: Alter + Drop>(alloc: Global, conn: Connection<S>) -> Opened<S> {
-    if !conn.is_autocommit() {
-        return Err((StoreFault::Full, conn));
-    }
-    Store::adopt(alloc, conn)
-}
+use store::Book;
 
 fn desk_over<B: Book + Drop>(
     alloc: Global,
@@ -37,7 +22,7 @@ fn desk_over<B: Book + Drop>(
 }
 
 /// Connects to an empty database in memory.
-pub fn connect(bench: &mut Bench<'_>) {
+pub fn connect<B: Book + Drop>(bench: &mut Bench<'_, B>) {
     match Connection::open_in_memory(bench.alloc) {
         Ok(conn) => bench.conn = Some(conn),
         Err(fault) => bench.printer.tell(&fault),
@@ -45,18 +30,18 @@ pub fn connect(bench: &mut Bench<'_>) {
 }
 
 /// Keeps a desk over a store, or the connection and why the desk was refused.
-fn keep_over(bench: &mut Bench<'_>, store: Kept) {
+fn keep_over<B: Book + Drop + Connected>(bench: &mut Bench<'_, B>, store: B) {
     match desk_over(bench.alloc, bench.setting, store) {
         Ok(desk) => bench.desk = Some(desk),
         Err((fault, store)) => {
             bench.printer.tell(&fault);
-            bench.conn = Some(store.into_connection());
+            bench.conn = Some(store.connection());
         }
     }
 }
 
 /// Keeps a desk over the store that was opened, or the connection and why it was refused.
-fn keep(bench: &mut Bench<'_>, opened: Opened<Place>) {
+fn keep<B: Book + Drop + Connected>(bench: &mut Bench<'_, B>, opened: Opened<B>) {
     match opened {
         Ok(store) => keep_over(bench, store),
         Err((fault, conn)) => {
@@ -67,27 +52,27 @@ fn keep(bench: &mut Bench<'_>, opened: Opened<Place>) {
 }
 
 /// Makes a store over the connection.
-pub fn make(bench: &mut Bench<'_>) {
+pub fn make<B: Book + Drop + Connected>(bench: &mut Bench<'_, B>) {
     if let Some(conn) = bench.conn.take() {
-        let opened = create(bench.alloc, conn);
+        let opened = B::make(bench.alloc, conn);
         keep(bench, opened);
     }
 }
 
 /// Takes the store that the connection has.
-pub fn take(bench: &mut Bench<'_>) {
+pub fn take<B: Book + Drop + Connected>(bench: &mut Bench<'_, B>) {
     if let Some(conn) = bench.conn.take() {
-        let opened = adopt(bench.alloc, conn);
+        let opened = B::take(bench.alloc, conn);
         keep(bench, opened);
     }
 }
 
-fn connection_of(desk: Counter<'_>) -> Connection<Place> {
-    desk.into_store().into_connection()
+fn connection_of<B: Book + Drop + Connected>(desk: Desk<'_, B>) -> Connection<Place> {
+    desk.into_store().connection()
 }
 
 /// Gives the store's connection back.
-pub fn part(bench: &mut Bench<'_>) {
+pub fn part<B: Book + Drop + Connected>(bench: &mut Bench<'_, B>) {
     if let Some(desk) = bench.desk.take() {
         bench.conn = Some(connection_of(desk));
     }
@@ -106,14 +91,14 @@ fn number_again<S: Alter>(conn: &mut Connection<S>, sql: &str) -> Result<i64, Er
 }
 
 /// Asks the database for a number.
-pub fn ask(bench: &mut Bench<'_>, sql: &str) {
+pub fn ask<B: Book + Drop>(bench: &mut Bench<'_, B>, sql: &str) {
     if let Some(conn) = &mut bench.conn {
         bench.printer.tell(&number_again(conn, sql));
     }
 }
 
 /// Makes statements.
-pub fn execute(bench: &mut Bench<'_>, sql: &str) {
+pub fn execute<B: Book + Drop>(bench: &mut Bench<'_, B>, sql: &str) {
     if let Some(conn) = &mut bench.conn {
         bench.printer.tell(&conn.execute_batch(sql));
     }

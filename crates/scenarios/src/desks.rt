@@ -1,9 +1,9 @@
 //! Calls of the desk.
 use crate::listing::{tell_list, tell_rows};
 use cms::{Algorithm, Identity, Signer};
-use desk::{Answer, Begun, Command, Deposited, Desk, Fault, Pending, Reply};
+use desk::{Answer, Begun, Command, Desk, Fault, Pending, Reply};
 use policy::Account;
-use store::{Book, Listed};
+use store::Book;
 use transcript::Printer;
 
 /// Tells of a reply.
@@ -34,116 +34,146 @@ fn answer<B: Book + Drop, G: Signer>(
     desk.answer(account, reading, query, signer)
 }
 
+fn stamp<B: Book + Drop, G: Signer>(
+    printer: Printer<'_>,
+    desk: &mut Desk<'_, B>,
+    account: Option<&Account>,
+    reading: i64,
+    query: &[u8],
+    signer: &mut G,
+) {
+    tell_reply(printer, &answer(desk, account, reading, query, signer));
+}
+
 fn deposit<B: Book + Drop, G: Signer>(
+    printer: Printer<'_>,
     desk: &mut Desk<'_, B>,
     account: &Account,
     reading: i64,
     reference: &str,
     bytes: &[u8],
     signer: &mut G,
-) -> Result<Deposited, Fault> {
-    desk.deposit(account, reading, reference, bytes, signer)
+) {
+    printer.tell(&desk.deposit(account, reading, reference, bytes, signer));
 }
 
 fn show<B: Book + Drop>(
+    printer: Printer<'_>,
     desk: &mut Desk<'_, B>,
     account: &Account,
     number: u64,
-) -> Result<Vec<u8>, Fault> {
-    desk.show(account, number)
+) {
+    tell_shown(printer, desk.show(account, number));
 }
 
 fn token<B: Book + Drop>(
+    printer: Printer<'_>,
     desk: &mut Desk<'_, B>,
     account: &Account,
     number: u64,
-) -> Result<Vec<u8>, Fault> {
-    desk.token_of(account, number)
+) {
+    tell_shown(printer, desk.token_of(account, number));
 }
 
-fn list<B: Book + Drop>(desk: &mut Desk<'_, B>, account: &Account) -> Result<Vec<Listed>, Fault> {
-    desk.list(account)
+fn list<B: Book + Drop>(printer: Printer<'_>, desk: &mut Desk<'_, B>, account: &Account) {
+    tell_list(printer, desk.list(account));
 }
 
 fn grant<B: Book + Drop>(
+    printer: Printer<'_>,
     desk: &mut Desk<'_, B>,
     account: &Account,
     number: u64,
     reader: &str,
-) -> Result<(), Fault> {
-    desk.grant(account, number, reader)
+) {
+    printer.tell(&desk.grant(account, number, reader));
 }
 
 fn revoke<B: Book + Drop>(
+    printer: Printer<'_>,
     desk: &mut Desk<'_, B>,
     account: &Account,
     number: u64,
     reader: &str,
-) -> Result<(), Fault> {
-    desk.revoke(account, number, reader)
+) {
+    printer.tell(&desk.revoke(account, number, reader));
 }
 
 fn grant_group<B: Book + Drop>(
+    printer: Printer<'_>,
     desk: &mut Desk<'_, B>,
     account: &Account,
     number: u64,
     group: &str,
-) -> Result<(), Fault> {
-    desk.grant_group(account, number, group)
+) {
+    printer.tell(&desk.grant_group(account, number, group));
 }
 
 fn revoke_group<B: Book + Drop>(
+    printer: Printer<'_>,
     desk: &mut Desk<'_, B>,
     account: &Account,
     number: u64,
     group: &str,
-) -> Result<(), Fault> {
-    desk.revoke_group(account, number, group)
+) {
+    printer.tell(&desk.revoke_group(account, number, group));
 }
 
 fn succeed<'p, B: Book + Drop>(
+    printer: Printer<'_>,
     desk: &mut Desk<'p, B>,
     identity: &'p Identity,
     algorithm: &'p Algorithm,
-) -> Result<(), Fault> {
-    desk.succeed(identity, algorithm)
+) {
+    printer.tell(&desk.succeed(identity, algorithm));
 }
 
-/// Makes the call of a command on deposits, or of a succession, and tells of it.
+/// Makes the call of a command that changes rights, or of a succession, and tells of it.
+fn call_about_rights<'p, B: Book + Drop>(
+    printer: Printer<'_>,
+    desk: &mut Desk<'p, B>,
+    command: Command<'_, 'p>,
+) {
+    match command {
+        Command::Grant {
+            account,
+            number,
+            reader,
+        } => grant(printer, desk, account, number, reader),
+        Command::Revoke {
+            account,
+            number,
+            reader,
+        } => revoke(printer, desk, account, number, reader),
+        Command::GrantGroup {
+            account,
+            number,
+            group,
+        } => grant_group(printer, desk, account, number, group),
+        Command::RevokeGroup {
+            account,
+            number,
+            group,
+        } => revoke_group(printer, desk, account, number, group),
+        Command::Succeed {
+            identity,
+            algorithm,
+        } => succeed(printer, desk, identity, algorithm),
+        _ => printer.line("  no such call"),
+    }
+}
+
+/// Makes the call of a command that shows deposits, and tells of it, or of another.
 fn call_about_deposits<'p, B: Book + Drop>(
     printer: Printer<'_>,
     desk: &mut Desk<'p, B>,
     command: Command<'_, 'p>,
 ) {
     match command {
-        Command::Show { account, number } => tell_shown(printer, show(desk, account, number)),
-        Command::Token { account, number } => tell_shown(printer, token(desk, account, number)),
-        Command::List { account } => tell_list(printer, list(desk, account)),
-        Command::Grant {
-            account,
-            number,
-            reader,
-        } => printer.tell(&grant(desk, account, number, reader)),
-        Command::Revoke {
-            account,
-            number,
-            reader,
-        } => printer.tell(&revoke(desk, account, number, reader)),
-        Command::GrantGroup {
-            account,
-            number,
-            group,
-        } => printer.tell(&grant_group(desk, account, number, group)),
-        Command::RevokeGroup {
-            account,
-            number,
-            group,
-        } => printer.tell(&revoke_group(desk, account, number, group)),
-        Command::Succeed {
-            identity,
-            algorithm,
-        } => printer.tell(&succeed(desk, identity, algorithm)),
-        _ => printer.line("  no such call"),
+        Command::Show { account, number } => show(printer, desk, account, number),
+        Command::Token { account, number } => token(printer, desk, account, number),
+        Command::List { account } => list(printer, desk, account),
+        other => call_about_rights(printer, desk, other),
     }
 }
 
@@ -159,13 +189,13 @@ pub fn call<'p, B: Book + Drop, G: Signer>(
             account,
             reading,
             query,
-        } => tell_reply(printer, &answer(desk, account, reading, query, signer)),
+        } => stamp(printer, desk, account, reading, query, signer),
         Command::Deposit {
             account,
             reading,
             reference,
             bytes,
-        } => printer.tell(&deposit(desk, account, reading, reference, bytes, signer)),
+        } => deposit(printer, desk, account, reading, reference, bytes, signer),
         other => call_about_deposits(printer, desk, other),
     }
 }

@@ -5,6 +5,9 @@ use policy::{Account, EXAMPLE, Policy};
 use std::alloc::Global;
 use transcript::{Names, Words};
 
+/// The signer of a scenario.
+pub type Holder = FailingSigner<KeyedHash>;
+
 /// The record of a policy file, that of another, the identities and the algorithm.
 #[derive(Drop)]
 pub struct Setting {
@@ -67,15 +70,56 @@ fn algorithm_of(alloc: Global, names: &Names) -> Option<Algorithm> {
     Algorithm::from_bytes(alloc, names.octets("ALGORITHM")).ok()
 }
 
+/// The two policy files of a scenario.
+fn policies_of(alloc: Global, names: &Names, scenario: &str) -> Option<(Policy, Policy)> {
+    let Some(policy) = policy_by(alloc, names, rest_of(scenario, "policy")) else {
+        return None;
+    };
+    let Some(other) = policy_by(alloc, names, rest_of(scenario, "other")) else {
+        return None;
+    };
+    Some((policy, other))
+}
+
+/// The two identities of a scenario.
+fn identities_of(alloc: Global, names: &Names, scenario: &str) -> Option<(Identity, Identity)> {
+    let Some(identity) = identity_by(alloc, names, rest_of(scenario, "identity")) else {
+        return None;
+    };
+    let Some(next) = identity_by(alloc, names, rest_of(scenario, "next")) else {
+        return None;
+    };
+    Some((identity, next))
+}
+
+/// The setting with those policy files.
+fn setting_with(
+    alloc: Global,
+    names: &Names,
+    scenario: &str,
+    policies: (Policy, Policy),
+) -> Option<Setting> {
+    let Some(identities) = identities_of(alloc, names, scenario) else {
+        return None;
+    };
+    let Some(algorithm) = algorithm_of(alloc, names) else {
+        return None;
+    };
+    Some(Setting {
+        policy: policies.0,
+        other: policies.1,
+        identity: identities.0,
+        next: identities.1,
+        algorithm,
+    })
+}
+
 /// The setting of a scenario.
 pub fn setting_of(alloc: Global, names: &Names, scenario: &str) -> Option<Setting> {
-    Some(Setting {
-        policy: policy_by(alloc, names, rest_of(scenario, "policy"))?,
-        other: policy_by(alloc, names, rest_of(scenario, "other"))?,
-        identity: identity_by(alloc, names, rest_of(scenario, "identity"))?,
-        next: identity_by(alloc, names, rest_of(scenario, "next"))?,
-        algorithm: algorithm_of(alloc, names)?,
-    })
+    match policies_of(alloc, names, scenario) {
+        Some(policies) => setting_with(alloc, names, scenario, policies),
+        None => None,
+    }
 }
 
 /// The numbers of the line `signer NUMBER..`.
@@ -90,7 +134,7 @@ fn chosen_of(alloc: Global, scenario: &str) -> Option<Vec<u64>> {
 }
 
 /// A signer with a key that fails at the calls that a scenario chooses.
-pub fn signer_of(alloc: Global, scenario: &str) -> Option<FailingSigner<KeyedHash>> {
+pub fn signer_of(alloc: Global, scenario: &str) -> Option<Holder> {
     let signer = KeyedHash::new(alloc, b"k").ok()?;
     Some(FailingSigner::new(signer, chosen_of(alloc, scenario)?))
 }

@@ -1,30 +1,30 @@
 //! Calls of the store.
+use crate::kept::Kept;
 use crate::listing::tell_list;
 use crate::stamps::{AskedOfStamps, tell_stamp, tell_stamps};
 use book::IdentityRow;
-use sqlite::Alter;
-use store::{
-    Book, Calibration, Deposit, Hold, Last, Listed, Reservation, StampedDeposit, Store, StoreFault,
-};
+use store::{Book, Calibration, Deposit, Hold, Reservation, StampedDeposit, StoreFault};
 use transcript::{Names, Printer, Words};
 
-type Ending = Result<(), StoreFault>;
+fn tell_ending(printer: Printer<'_>, ending: Result<(), StoreFault>) {
+    printer.tell(&ending);
+}
 
-fn calibrate<B: Book>(store: &mut B, words: &mut Words<'_>) -> Ending {
+fn calibrate<B: Book>(printer: Printer<'_>, store: &mut B, words: &mut Words<'_>) {
     let calibration = Calibration {
         reading: words.signed(),
         offset: words.signed(),
         uncertainty: words.number(),
     };
-    store.calibrate(&calibration).map(|_number| ())
+    tell_ending(printer, store.calibrate(&calibration).map(|_number| ()));
 }
 
-fn hold<B: Book>(store: &mut B, words: &mut Words<'_>) -> Ending {
+fn hold<B: Book>(printer: Printer<'_>, store: &mut B, words: &mut Words<'_>) {
     let hold = Hold {
         from: words.signed(),
         to: words.signed(),
     };
-    store.hold(&hold).map(|_number| ())
+    tell_ending(printer, store.hold(&hold).map(|_number| ()));
 }
 
 /// What is reserved under a serial number.
@@ -42,12 +42,16 @@ fn reservation<'w>(serial: u64, names: &'w Names, words: Words<'w>) -> Reservati
     }
 }
 
-fn reserve<B: Book>(store: &mut B, reservation: &Reservation<'_>) -> Ending {
+fn reserve<B: Book>(store: &mut B, reservation: &Reservation<'_>) -> Result<(), StoreFault> {
     store.reserve(reservation)
 }
 
 /// Reserves under each serial number from one to another, up to the first that is refused.
-fn reserve_all<'w, B: Book>(store: &mut B, names: &'w Names, words: Words<'w>) -> Ending {
+fn reserve_each<'w, B: Book>(
+    store: &mut B,
+    names: &'w Names,
+    words: Words<'w>,
+) -> Result<(), StoreFault> {
     let mut words = words;
     let (from, to) = (words.number(), words.number());
     for serial in from..=to {
@@ -56,74 +60,62 @@ fn reserve_all<'w, B: Book>(store: &mut B, names: &'w Names, words: Words<'w>) -
     Ok(())
 }
 
-fn seal<B: Book>(store: &mut B, names: &Names, words: &mut Words<'_>) -> Ending {
-    let serial = words.number();
-    store.seal(serial, names.octets(words.next()))
+fn reserve_all<B: Book>(printer: Printer<'_>, store: &mut B, words: &mut Words<'_>) {
+    tell_ending(printer, reserve_each(store, printer.names, *words));
 }
 
-fn seal_deposit<B: Book>(store: &mut B, names: &Names, words: &mut Words<'_>) -> Ending {
+fn seal<B: Book>(printer: Printer<'_>, store: &mut B, words: &mut Words<'_>) {
+    let serial = words.number();
+    let token = printer.names.octets(words.next());
+    tell_ending(printer, store.seal(serial, token));
+}
+
+fn seal_deposit<B: Book>(printer: Printer<'_>, store: &mut B, words: &mut Words<'_>) {
     let serial = words.number();
     let (owner, reference) = (words.next(), words.next());
-    let token = names.octets(words.next());
-    store.seal_deposit(serial, token, owner, reference, names.octets(words.next()))
+    let token = printer.names.octets(words.next());
+    let bytes = printer.names.octets(words.next());
+    tell_ending(
+        printer,
+        store.seal_deposit(serial, token, owner, reference, bytes),
+    );
 }
 
-fn grant<B: Book>(store: &mut B, words: &mut Words<'_>) -> Ending {
+fn grant<B: Book>(printer: Printer<'_>, store: &mut B, words: &mut Words<'_>) {
     let number = words.number();
-    store.grant(number, words.next())
+    tell_ending(printer, store.grant(number, words.next()));
 }
 
-fn revoke<B: Book>(store: &mut B, words: &mut Words<'_>) -> Ending {
+fn revoke<B: Book>(printer: Printer<'_>, store: &mut B, words: &mut Words<'_>) {
     let number = words.number();
-    store.revoke(number, words.next())
+    tell_ending(printer, store.revoke(number, words.next()));
 }
 
-fn grant_group<B: Book>(store: &mut B, words: &mut Words<'_>) -> Ending {
+fn grant_group<B: Book>(printer: Printer<'_>, store: &mut B, words: &mut Words<'_>) {
     let number = words.number();
-    store.grant_group(number, words.next())
+    tell_ending(printer, store.grant_group(number, words.next()));
 }
 
-fn revoke_group<B: Book>(store: &mut B, words: &mut Words<'_>) -> Ending {
+fn revoke_group<B: Book>(printer: Printer<'_>, store: &mut B, words: &mut Words<'_>) {
     let number = words.number();
-    store.revoke_group(number, words.next())
+    tell_ending(printer, store.revoke_group(number, words.next()));
 }
 
-/// What becomes of a change; none where the word names none.
-fn changed<B: Book>(
-    store: &mut B,
-    names: &Names,
-    word: &str,
-    words: &mut Words<'_>,
-) -> Option<Ending> {
-    Some(match word {
-        "calibrate" => calibrate(store, words),
-        "hold" => hold(store, words),
-        "reserve" => reserve_all(store, names, *words),
-        "seal" => seal(store, names, words),
-        "seal-deposit" => seal_deposit(store, names, words),
-        "grant" => grant(store, words),
-        "revoke" => revoke(store, words),
-        "grant-group" => grant_group(store, words),
-        "revoke-group" => revoke_group(store, words),
-        _ => return None,
-    })
+fn tell_calibration<B: Book>(printer: Printer<'_>, store: &mut B) {
+    printer.tell(&store.calibration());
 }
 
-fn calibration<B: Book>(store: &mut B) -> Result<Option<Calibration>, StoreFault> {
-    store.calibration()
+fn tell_held<B: Book>(printer: Printer<'_>, store: &mut B, words: &mut Words<'_>) {
+    printer.tell(&store.held_at(words.signed()));
 }
 
-fn is_held<B: Book>(store: &mut B, words: &mut Words<'_>) -> Result<bool, StoreFault> {
-    store.held_at(words.signed())
+fn tell_last<B: Book>(printer: Printer<'_>, store: &mut B) {
+    printer.tell(&store.last());
 }
 
-fn last<B: Book>(store: &mut B) -> Result<Last, StoreFault> {
-    store.last()
-}
-
-fn count<B: Book>(store: &mut B, words: &mut Words<'_>) -> Result<u64, StoreFault> {
+fn tell_count<B: Book>(printer: Printer<'_>, store: &mut B, words: &mut Words<'_>) {
     let account = words.next();
-    store.count_of_day(account, words.number())
+    printer.tell(&store.count_of_day(account, words.number()));
 }
 
 /// The first of two names of groups up to an empty one.
@@ -137,27 +129,17 @@ fn named<'n, 'w>(names: &'n [&'w str; 2]) -> &'n [&'w str] {
     names
 }
 
-fn list<B: Book>(store: &mut B, words: &mut Words<'_>) -> Result<Vec<Listed>, StoreFault> {
+fn list<B: Book>(printer: Printer<'_>, store: &mut B, words: &mut Words<'_>) {
     let account = words.next();
-    store.list(account, named(&[words.next(), words.next()]))
+    let names = [words.next(), words.next()];
+    tell_list(printer, store.list(account, named(&names)));
 }
 
-fn is_visible<B: Book>(store: &mut B, words: &mut Words<'_>) -> Result<bool, StoreFault> {
+fn tell_visible<B: Book>(printer: Printer<'_>, store: &mut B, words: &mut Words<'_>) {
     let number = words.number();
     let account = words.next();
-    store.visible(number, account, named(&[words.next(), words.next()]))
-}
-
-fn stamped<B: Book>(
-    store: &mut B,
-    words: &mut Words<'_>,
-) -> Result<Option<StampedDeposit>, StoreFault> {
-    store.deposit(words.number())
-}
-
-fn under<B: Book>(store: &mut B, words: &mut Words<'_>) -> Result<Option<Deposit>, StoreFault> {
-    let owner = words.next();
-    store.by_reference(owner, words.next())
+    let names = [words.next(), words.next()];
+    printer.tell(&store.visible(number, account, named(&names)));
 }
 
 fn tell_deposit(printer: Printer<'_>, deposit: &Deposit) {
@@ -169,69 +151,90 @@ fn tell_deposit(printer: Printer<'_>, deposit: &Deposit) {
     printer.octets("bytes", &deposit.bytes);
 }
 
-fn tell_stamped(printer: Printer<'_>, answer: Result<Option<StampedDeposit>, StoreFault>) {
-    match answer {
-        Ok(Some(found)) => {
+fn tell_found(printer: Printer<'_>, found: Option<StampedDeposit>) {
+    match found {
+        Some(found) => {
             tell_deposit(printer, &found.deposit);
             tell_stamp(printer, &found.stamp);
         }
-        Ok(None) => printer.line("  None"),
+        None => printer.line("  None"),
+    }
+}
+
+fn tell_stamped<B: Book>(printer: Printer<'_>, store: &mut B, words: &mut Words<'_>) {
+    match store.deposit(words.number()) {
+        Ok(found) => tell_found(printer, found),
         Err(fault) => printer.tell(&fault),
     }
 }
 
-fn tell_under(printer: Printer<'_>, answer: Result<Option<Deposit>, StoreFault>) {
-    match answer {
-        Ok(Some(found)) => tell_deposit(printer, &found),
-        Ok(None) => printer.line("  None"),
+fn tell_referred(printer: Printer<'_>, found: Option<Deposit>) {
+    match found {
+        Some(found) => tell_deposit(printer, &found),
+        None => printer.line("  None"),
+    }
+}
+
+fn tell_under<B: Book>(printer: Printer<'_>, store: &mut B, words: &mut Words<'_>) {
+    let owner = words.next();
+    match store.by_reference(owner, words.next()) {
+        Ok(found) => tell_referred(printer, found),
         Err(fault) => printer.tell(&fault),
     }
+}
+
+fn tell_faults<B: Book>(printer: Printer<'_>, store: &B) {
+    printer.number("faults", store.faults());
 }
 
 /// Tells what a look-up shows.
 fn show<B: Book>(printer: Printer<'_>, store: &mut B, word: &str, words: &mut Words<'_>) {
     match word {
-        "calibration" => printer.tell(&calibration(store)),
-        "held" => printer.tell(&is_held(store, words)),
-        "last" => printer.tell(&last(store)),
-        "count" => printer.tell(&count(store, words)),
-        "list" => tell_list(printer, list(store, words)),
-        "visible" => printer.tell(&is_visible(store, words)),
-        "deposit" => tell_stamped(printer, stamped(store, words)),
-        "under" => tell_under(printer, under(store, words)),
-        "faults" => printer.number("faults", store.faults()),
+        "calibration" => tell_calibration(printer, store),
+        "held" => tell_held(printer, store, words),
+        "last" => tell_last(printer, store),
+        "count" => tell_count(printer, store, words),
+        "list" => list(printer, store, words),
+        "visible" => tell_visible(printer, store, words),
+        "deposit" => tell_stamped(printer, store, words),
+        "under" => tell_under(printer, store, words),
+        "faults" => tell_faults(printer, store),
         _ => printer.line("  no such call"),
     }
 }
 
-/// Makes a change, or asks.
+/// Makes a change and tells of it, or asks.
 fn call_book<B: Book>(printer: Printer<'_>, store: &mut B, word: &str, words: &mut Words<'_>) {
-    match changed(store, printer.names, word, words) {
-        Some(ending) => printer.tell(&ending),
-        None => show(printer, store, word, words),
+    match word {
+        "calibrate" => calibrate(printer, store, words),
+        "hold" => hold(printer, store, words),
+        "reserve" => reserve_all(printer, store, words),
+        "seal" => seal(printer, store, words),
+        "seal-deposit" => seal_deposit(printer, store, words),
+        "grant" => grant(printer, store, words),
+        "revoke" => revoke(printer, store, words),
+        "grant-group" => grant_group(printer, store, words),
+        "revoke-group" => revoke_group(printer, store, words),
+        _ => show(printer, store, word, words),
     }
 }
 
 /// Tells what is asked of the stamps of the range that the next words name.
-fn ask_between<S: Alter + Drop>(
+fn ask_between<B: Kept>(
     printer: Printer<'_>,
-    store: &mut Store<S>,
+    store: &mut B,
     asked: AskedOfStamps<'_>,
     words: &mut Words<'_>,
 ) {
     let from = words.number();
-    tell_stamps(
-        printer,
-        &mut store.stamps_between(from, words.number()),
-        asked,
-    );
+    tell_stamps(printer, &mut store.stamps(from, words.number()), asked);
 }
 
 fn identities<B: Book>(store: &mut B) -> Result<Vec<IdentityRow>, StoreFault> {
     store.identities()
 }
 
-fn check<S: Alter + Drop>(printer: Printer<'_>, store: &mut Store<S>, words: &mut Words<'_>) {
+fn check<B: Kept>(printer: Printer<'_>, store: &mut B, words: &mut Words<'_>) {
     let count = words.number();
     match identities(store) {
         Ok(rows) => ask_between(printer, store, AskedOfStamps::Check(count, &rows), words),
@@ -239,19 +242,23 @@ fn check<S: Alter + Drop>(printer: Printer<'_>, store: &mut Store<S>, words: &mu
     }
 }
 
+fn walk<B: Kept>(printer: Printer<'_>, store: &mut B, words: &mut Words<'_>) {
+    let asked = AskedOfStamps::Walk(words.number());
+    ask_between(printer, store, asked, words);
+}
+
+fn flip<B: Kept>(printer: Printer<'_>, store: &mut B, words: &mut Words<'_>) {
+    let asked = AskedOfStamps::Flip(words.next());
+    ask_between(printer, store, asked, words);
+}
+
 /// Makes the call that the words name.
-pub fn call<S: Alter + Drop>(printer: Printer<'_>, store: &mut Store<S>, words: &mut Words<'_>) {
+pub fn call<B: Kept>(printer: Printer<'_>, store: &mut B, words: &mut Words<'_>) {
     let word = words.next();
     match word {
-        "walk" => {
-            let asked = AskedOfStamps::Walk(words.number());
-            ask_between(printer, store, asked, words);
-        }
+        "walk" => walk(printer, store, words),
         "check" => check(printer, store, words),
-        "flip" => {
-            let asked = AskedOfStamps::Flip(words.next());
-            ask_between(printer, store, asked, words);
-        }
+        "flip" => flip(printer, store, words),
         _ => call_book(printer, store, word, words),
     }
 }

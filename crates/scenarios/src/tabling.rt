@@ -1,12 +1,10 @@
 //! Changes of the tables, and queries of them.
-use crate::bench::{Bench, Place};
+use crate::bench::Bench;
+use crate::kept::Place;
 use crate::stamps::tell_stamp;
-use book::Reservation;
+use book::{Book, Reservation};
 use sqlite::{Alter, Connection};
-use tables::{
-    Base, Change, ColumnNumber, Deposit, Label, LastStamp, LatestCalibration, OpenFault, Origin,
-    Stamp, TableFault,
-};
+use tables::{Base, Change, ColumnNumber, OpenFault, Stamp};
 use transcript::{Names, Printer, Words};
 
 type Opened<S> = Result<Base<S>, (OpenFault, Connection<S>)>;
@@ -26,7 +24,7 @@ fn adopt<S: Alter + Drop>(conn: Connection<S>) -> Opened<S> {
 }
 
 /// Keeps the tables that were opened, or the connection and why they were refused.
-fn keep(bench: &mut Bench<'_>, opened: Opened<Place>) {
+fn keep<B: Book + Drop>(bench: &mut Bench<'_, B>, opened: Opened<Place>) {
     match opened {
         Ok(base) => bench.tables = Some(base),
         Err((fault, conn)) => {
@@ -36,19 +34,19 @@ fn keep(bench: &mut Bench<'_>, opened: Opened<Place>) {
     }
 }
 
-fn make(bench: &mut Bench<'_>) {
+fn make<B: Book + Drop>(bench: &mut Bench<'_, B>) {
     if let Some(conn) = bench.conn.take() {
         keep(bench, create(conn));
     }
 }
 
-fn take(bench: &mut Bench<'_>) {
+fn take<B: Book + Drop>(bench: &mut Bench<'_, B>) {
     if let Some(conn) = bench.conn.take() {
         keep(bench, adopt(conn));
     }
 }
 
-fn part(bench: &mut Bench<'_>) {
+fn part<B: Book + Drop>(bench: &mut Bench<'_, B>) {
     if let Some(base) = bench.tables.take() {
         bench.conn = Some(base.into_connection());
     }
@@ -106,167 +104,154 @@ fn seal<'w>(names: &'w Names, words: Words<'w>) -> Change<'w> {
     }
 }
 
-/// A serial number, and the name of an account or a group.
-fn right(words: Words<'_>) -> (u64, &str) {
+fn grant<'w>(words: Words<'w>) -> Change<'w> {
     let mut words = words;
-    (words.number(), words.next())
+    Change::Grant {
+        serial: words.number(),
+        account: words.next(),
+    }
 }
 
-/// The change that the words spell.
-fn change_of<'w>(names: &'w Names, word: &str, words: Words<'w>) -> Option<Change<'w>> {
-    let (serial, name) = right(words);
-    Some(match word {
-        "reserve" => reserve(names, words),
-        "seal" => seal(names, words),
-        "deposit" => deposit(names, words),
-        "calibrate" => calibrate(words),
-        "hold" => hold(words),
-        "grant" => Change::Grant {
-            serial,
-            account: name,
-        },
-        "revoke" => Change::Revoke {
-            serial,
-            account: name,
-        },
-        "grant-group" => Change::GrantGroup { serial, name },
-        "revoke-group" => Change::RevokeGroup { serial, name },
-        _ => return None,
-    })
+fn revoke<'w>(words: Words<'w>) -> Change<'w> {
+    let mut words = words;
+    Change::Revoke {
+        serial: words.number(),
+        account: words.next(),
+    }
 }
 
-fn commit<S: Alter + Drop>(base: &mut Base<S>, change: &Change<'_>) -> Result<(), TableFault> {
-    base.commit(change)
+fn grant_group<'w>(words: Words<'w>) -> Change<'w> {
+    let mut words = words;
+    Change::GrantGroup {
+        serial: words.number(),
+        name: words.next(),
+    }
 }
 
-fn latest_calibration<S: Alter + Drop>(
-    base: &mut Base<S>,
-) -> Result<Option<LatestCalibration>, TableFault> {
-    base.latest_calibration()
+fn revoke_group<'w>(words: Words<'w>) -> Change<'w> {
+    let mut words = words;
+    Change::RevokeGroup {
+        serial: words.number(),
+        name: words.next(),
+    }
 }
 
-fn greatest_hold<S: Alter + Drop>(base: &mut Base<S>) -> Result<Option<u64>, TableFault> {
-    base.greatest_hold()
+fn commit<S: Alter + Drop>(printer: Printer<'_>, base: &mut Base<S>, change: Change<'_>) {
+    printer.tell(&base.commit(&change));
 }
 
-fn held_at<S: Alter + Drop>(base: &mut Base<S>, words: &mut Words<'_>) -> Result<bool, TableFault> {
-    base.held_at(words.signed())
+fn tell_calibration<S: Alter + Drop>(printer: Printer<'_>, base: &mut Base<S>) {
+    printer.tell(&base.latest_calibration());
 }
 
-fn greatest_stamp<S: Alter + Drop>(base: &mut Base<S>) -> Result<Option<LastStamp>, TableFault> {
-    base.greatest_stamp()
+fn tell_holds<S: Alter + Drop>(printer: Printer<'_>, base: &mut Base<S>) {
+    printer.tell(&base.greatest_hold());
 }
 
-fn tally<S: Alter + Drop>(
-    base: &mut Base<S>,
-    words: &mut Words<'_>,
-) -> Result<Option<u64>, TableFault> {
+fn tell_held<S: Alter + Drop>(printer: Printer<'_>, base: &mut Base<S>, words: &mut Words<'_>) {
+    printer.tell(&base.held_at(words.signed()));
+}
+
+fn tell_last<S: Alter + Drop>(printer: Printer<'_>, base: &mut Base<S>) {
+    printer.tell(&base.greatest_stamp());
+}
+
+fn tell_tally<S: Alter + Drop>(printer: Printer<'_>, base: &mut Base<S>, words: &mut Words<'_>) {
     let account = words.next();
-    base.tally(account, ColumnNumber::at_most(words.number()))
+    printer.tell(&base.tally(account, ColumnNumber::at_most(words.number())));
 }
 
-fn found<S: Alter + Drop>(
-    base: &mut Base<S>,
-    words: &mut Words<'_>,
-) -> Result<Option<Deposit>, TableFault> {
-    base.deposit(words.number())
+fn tell_deposit<S: Alter + Drop>(printer: Printer<'_>, base: &mut Base<S>, words: &mut Words<'_>) {
+    printer.tell(&base.deposit(words.number()));
 }
 
-fn under<S: Alter + Drop>(
-    base: &mut Base<S>,
-    words: &mut Words<'_>,
-) -> Result<Option<Deposit>, TableFault> {
+fn tell_under<S: Alter + Drop>(printer: Printer<'_>, base: &mut Base<S>, words: &mut Words<'_>) {
     let owner = words.next();
-    base.deposit_under(owner, words.next())
+    printer.tell(&base.deposit_under(owner, words.next()));
 }
 
-fn label<S: Alter + Drop>(
-    base: &mut Base<S>,
-    words: &mut Words<'_>,
-) -> Result<Option<Label>, TableFault> {
+fn tell_label<S: Alter + Drop>(printer: Printer<'_>, base: &mut Base<S>, words: &mut Words<'_>) {
     let serial = words.number();
-    base.label(serial, words.next())
+    printer.tell(&base.label(serial, words.next()));
 }
 
-fn is_owner<S: Alter + Drop>(
-    base: &mut Base<S>,
-    words: &mut Words<'_>,
-) -> Result<bool, TableFault> {
+fn tell_owner<S: Alter + Drop>(printer: Printer<'_>, base: &mut Base<S>, words: &mut Words<'_>) {
     let serial = words.number();
-    base.is_owner(serial, words.next())
+    printer.tell(&base.is_owner(serial, words.next()));
 }
 
-fn is_reader<S: Alter + Drop>(
-    base: &mut Base<S>,
-    words: &mut Words<'_>,
-) -> Result<bool, TableFault> {
+fn tell_reader<S: Alter + Drop>(printer: Printer<'_>, base: &mut Base<S>, words: &mut Words<'_>) {
     let serial = words.number();
-    base.is_reader(serial, words.next())
+    printer.tell(&base.is_reader(serial, words.next()));
 }
 
-fn is_group_reader<S: Alter + Drop>(
+fn tell_group_reader<S: Alter + Drop>(
+    printer: Printer<'_>,
     base: &mut Base<S>,
     words: &mut Words<'_>,
-) -> Result<bool, TableFault> {
+) {
     let serial = words.number();
-    base.is_group_reader(serial, words.next())
+    printer.tell(&base.is_group_reader(serial, words.next()));
 }
 
-fn next_owned<S: Alter + Drop>(
+fn tell_next_owned<S: Alter + Drop>(
+    printer: Printer<'_>,
     base: &mut Base<S>,
     words: &mut Words<'_>,
-) -> Result<Option<u64>, TableFault> {
+) {
     let account = words.next();
-    base.next_owned(account, words.number())
+    printer.tell(&base.next_owned(account, words.number()));
 }
 
-fn next_readable<S: Alter + Drop>(
+fn tell_next_readable<S: Alter + Drop>(
+    printer: Printer<'_>,
     base: &mut Base<S>,
     words: &mut Words<'_>,
-) -> Result<Option<u64>, TableFault> {
+) {
     let account = words.next();
-    base.next_readable(account, words.number())
+    printer.tell(&base.next_readable(account, words.number()));
 }
 
-fn next_group_readable<S: Alter + Drop>(
+fn tell_next_group_readable<S: Alter + Drop>(
+    printer: Printer<'_>,
     base: &mut Base<S>,
     words: &mut Words<'_>,
-) -> Result<Option<u64>, TableFault> {
+) {
     let name = words.next();
-    base.next_group_readable(name, words.number())
+    printer.tell(&base.next_group_readable(name, words.number()));
 }
 
-fn stamp<S: Alter + Drop>(
-    base: &mut Base<S>,
-    words: &mut Words<'_>,
-) -> Result<Option<Stamp>, TableFault> {
-    base.stamp(words.number())
+fn tell_found(printer: Printer<'_>, found: Option<Stamp>) {
+    match found {
+        Some(stamp) => tell_stamp(printer, &stamp),
+        None => printer.line("  None"),
+    }
 }
 
-fn origin<S: Alter + Drop>(
-    base: &mut Base<S>,
-    words: &mut Words<'_>,
-) -> Result<Option<Origin>, TableFault> {
-    base.origin(words.number())
-}
-
-fn next_stamp<S: Alter + Drop>(
-    base: &mut Base<S>,
-    words: &mut Words<'_>,
-) -> Result<Option<Stamp>, TableFault> {
-    let from = ColumnNumber::at_most(words.number());
-    base.next_stamp(from, ColumnNumber::at_most(words.number()))
-}
-
-fn tell_found(printer: Printer<'_>, answer: Result<Option<Stamp>, TableFault>) {
-    match answer {
-        Ok(Some(stamp)) => tell_stamp(printer, &stamp),
-        Ok(None) => printer.line("  None"),
+fn tell_one<S: Alter + Drop>(printer: Printer<'_>, base: &mut Base<S>, words: &mut Words<'_>) {
+    match base.stamp(words.number()) {
+        Ok(found) => tell_found(printer, found),
         Err(fault) => printer.tell(&fault),
     }
 }
 
-/// Tells what a query of stamps, rights and moments shows.
+fn tell_next<S: Alter + Drop>(printer: Printer<'_>, base: &mut Base<S>, words: &mut Words<'_>) {
+    let from = ColumnNumber::at_most(words.number());
+    match base.next_stamp(from, ColumnNumber::at_most(words.number())) {
+        Ok(found) => tell_found(printer, found),
+        Err(fault) => printer.tell(&fault),
+    }
+}
+
+fn tell_origin<S: Alter + Drop>(printer: Printer<'_>, base: &mut Base<S>, words: &mut Words<'_>) {
+    printer.tell(&base.origin(words.number()));
+}
+
+fn tell_faults<S: Alter + Drop>(printer: Printer<'_>, base: &mut Base<S>) {
+    printer.number("faults", base.faults());
+}
+
+/// Tells what a query of stamps and moments shows.
 fn show_others<S: Alter + Drop>(
     printer: Printer<'_>,
     base: &mut Base<S>,
@@ -274,17 +259,32 @@ fn show_others<S: Alter + Drop>(
     words: &mut Words<'_>,
 ) {
     match word {
-        "owner" => printer.tell(&is_owner(base, words)),
-        "reader" => printer.tell(&is_reader(base, words)),
-        "next-owned" => printer.tell(&next_owned(base, words)),
-        "next-readable" => printer.tell(&next_readable(base, words)),
-        "group-reader" => printer.tell(&is_group_reader(base, words)),
-        "next-group-readable" => printer.tell(&next_group_readable(base, words)),
-        "stamp" => tell_found(printer, stamp(base, words)),
-        "origin" => printer.tell(&origin(base, words)),
-        "next" => tell_found(printer, next_stamp(base, words)),
-        "faults" => printer.number("faults", base.faults()),
+        "stamp" => tell_one(printer, base, words),
+        "origin" => tell_origin(printer, base, words),
+        "next" => tell_next(printer, base, words),
+        "calibration" => tell_calibration(printer, base),
+        "holds" => tell_holds(printer, base),
+        "held" => tell_held(printer, base, words),
+        "faults" => tell_faults(printer, base),
         _ => printer.line("  no such call"),
+    }
+}
+
+/// Tells what a query of rights shows.
+fn show_rights<S: Alter + Drop>(
+    printer: Printer<'_>,
+    base: &mut Base<S>,
+    word: &str,
+    words: &mut Words<'_>,
+) {
+    match word {
+        "owner" => tell_owner(printer, base, words),
+        "reader" => tell_reader(printer, base, words),
+        "next-owned" => tell_next_owned(printer, base, words),
+        "next-readable" => tell_next_readable(printer, base, words),
+        "group-reader" => tell_group_reader(printer, base, words),
+        "next-group-readable" => tell_next_group_readable(printer, base, words),
+        _ => show_others(printer, base, word, words),
     }
 }
 
@@ -296,41 +296,62 @@ fn show<S: Alter + Drop>(
     words: &mut Words<'_>,
 ) {
     match word {
-        "calibration" => printer.tell(&latest_calibration(base)),
-        "holds" => printer.tell(&greatest_hold(base)),
-        "held" => printer.tell(&held_at(base, words)),
-        "last" => printer.tell(&greatest_stamp(base)),
-        "tally" => printer.tell(&tally(base, words)),
-        "found" => printer.tell(&found(base, words)),
-        "under" => printer.tell(&under(base, words)),
-        "label" => printer.tell(&label(base, words)),
-        _ => show_others(printer, base, word, words),
+        "last" => tell_last(printer, base),
+        "tally" => tell_tally(printer, base, words),
+        "found" => tell_deposit(printer, base, words),
+        "under" => tell_under(printer, base, words),
+        "label" => tell_label(printer, base, words),
+        _ => show_rights(printer, base, word, words),
     }
 }
 
-/// Makes a change, or asks.
+/// Makes a change of rights, or asks.
+fn call_rights<S: Alter + Drop>(
+    printer: Printer<'_>,
+    base: &mut Base<S>,
+    word: &str,
+    words: &mut Words<'_>,
+) {
+    match word {
+        "grant" => commit(printer, base, grant(*words)),
+        "revoke" => commit(printer, base, revoke(*words)),
+        "grant-group" => commit(printer, base, grant_group(*words)),
+        "revoke-group" => commit(printer, base, revoke_group(*words)),
+        _ => show(printer, base, word, words),
+    }
+}
+
+/// Makes a change and tells of it, or asks.
 fn call_base<S: Alter + Drop>(
     printer: Printer<'_>,
     base: &mut Base<S>,
     word: &str,
     words: &mut Words<'_>,
 ) {
-    match change_of(printer.names, word, *words) {
-        Some(change) => printer.tell(&commit(base, &change)),
-        None => show(printer, base, word, words),
+    match word {
+        "reserve" => commit(printer, base, reserve(printer.names, *words)),
+        "seal" => commit(printer, base, seal(printer.names, *words)),
+        "deposit" => commit(printer, base, deposit(printer.names, *words)),
+        "calibrate" => commit(printer, base, calibrate(*words)),
+        "hold" => commit(printer, base, hold(*words)),
+        _ => call_rights(printer, base, word, words),
+    }
+}
+
+fn ask<B: Book + Drop>(bench: &mut Bench<'_, B>, word: &str, words: &mut Words<'_>) {
+    match &mut bench.tables {
+        Some(base) => call_base(bench.printer, base, word, words),
+        None => bench.printer.line("  no tables"),
     }
 }
 
 /// Makes the call that the words name.
-pub fn call(bench: &mut Bench<'_>, words: &mut Words<'_>) {
+pub fn call<B: Book + Drop>(bench: &mut Bench<'_, B>, words: &mut Words<'_>) {
     let word = words.next();
     match word {
         "create" => make(bench),
         "adopt" => take(bench),
         "part" => part(bench),
-        _ => match &mut bench.tables {
-            Some(base) => call_base(bench.printer, base, word, words),
-            None => bench.printer.line("  no tables"),
-        },
+        _ => ask(bench, word, words),
     }
 }

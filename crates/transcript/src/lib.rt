@@ -1,4 +1,4 @@
-//! What programs share that play rows of calls: the words of a line, octets that have a name, and what is told.
+//! What crates share that play rows of calls: the words of a line, octets that have a name, and what is told.
 #![tactic(auto)]
 
 mod names;

@@ -30,20 +30,30 @@ fn refuse_growths(rt: &HostRuntime, setting: &Setting, paths: &[String]) -> anyh
     Ok(())
 }
 
+/// Does what a word asks for, and nothing else.
+fn perform_word(
+    rt: &HostRuntime,
+    setting: &Setting,
+    word: &str,
+    paths: &[String],
+) -> anyhow::Result<()> {
+    match word {
+        "pieces" => pieces::try_pieces(rt, setting),
+        "memory" => stopping::stop_memory(rt, setting),
+        "stops" => stopping::stop_each(rt, setting),
+        "migrations-2" => stopping::stop_migrations(rt, setting, 2),
+        "migrations-1" => stopping::stop_migrations(rt, setting, 1),
+        "full" => filling::fill_each(rt, setting),
+        "growths" => refuse_growths(rt, setting, paths),
+        _ => anyhow::bail!("no such word"),
+    }
+}
+
 /// Does what the words ask for, and nothing where there are none.
 pub fn perform(rt: &HostRuntime, words: &[String]) -> anyhow::Result<()> {
     let Some((word, paths)) = words.split_first() else {
         return Ok(());
     };
     let setting = example_setting(rt.alloc())?;
-    match word.as_str() {
-        "pieces" => pieces::try_pieces(rt, &setting),
-        "memory" => stopping::stop_memory(rt, &setting),
-        "stops" => stopping::stop_each(rt, &setting),
-        "migrations-2" => stopping::stop_migrations(rt, &setting, 2),
-        "migrations-1" => stopping::stop_migrations(rt, &setting, 1),
-        "full" => filling::fill_each(rt, &setting),
-        "growths" => refuse_growths(rt, &setting, paths),
-        _ => anyhow::bail!("no such word"),
-    }
+    perform_word(rt, &setting, word.as_str(), paths)
 }

@@ -6,49 +6,54 @@ mod heads;
 mod policies;
 mod requests;
 
-use crate::books::{calibrated, in_memory};
-use crate::setting::{Setting, example_setting};
+use crate::desks::{AtDesk, at_desk};
+use crate::setting::example_setting;
 use crate::tally::Tally;
-use cms::{KeyedHash, Signer};
-use sqlite::{Alter, Connection};
+use cms::KeyedHash;
+use desk::Desk;
 use std::fs;
 use store::Book;
 
-/// Tries a line's request over a book without stamps.
-fn try_over<B: Book + Drop, G: Signer + Drop>(
-    rt: &HostRuntime,
-    setting: &Setting,
-    book: B,
-    signer: G,
-    kind: &str,
-    line: &str,
-) -> anyhow::Result<Tally> {
-    match kind {
-        "request" => requests::try_over(rt, setting, book, signer, line),
-        _ => heads::try_over(rt, setting, book, signer, line),
+/// A line's request at a desk without stamps, and how much was tried.
+#[derive(Drop)]
+struct Line<'l> {
+    rt: &'l HostRuntime,
+    kind: &'l str,
+    line: &'l str,
+    tally: Tally,
+}
+
+impl AtDesk for Line<'_> {
+    fn at<B: Book + Drop>(
+        &mut self,
+        desk: &mut Desk<'_, B>,
+        signer: &mut KeyedHash,
+    ) -> anyhow::Result<()> {
+        self.tally = match self.kind {
+            "request" => requests::try_line(self.rt, desk, signer, self.line)?,
+            _ => heads::try_line(self.rt, desk, signer, self.line)?,
+        };
+        Ok(())
     }
 }
 
-/// The same over any storage for a book, so that the types of one aren't compared with a book's.
-fn try_stored<S: Alter + Drop>(
-    rt: &HostRuntime,
-    setting: &Setting,
-    conn: Connection<S>,
-    kind: &str,
-    line: &str,
-) -> anyhow::Result<Tally> {
-    let signer = KeyedHash::new(rt.alloc(), b"k")?;
-    let store = calibrated(rt.alloc(), conn, 0)?;
-    try_over(rt, setting, store, signer, kind, line)
+/// Tries a line's request.
+fn try_request(rt: &HostRuntime, kind: &str, line: &str) -> anyhow::Result<Tally> {
+    let setting = example_setting(rt.alloc())?;
+    let mut line = Line {
+        rt,
+        kind,
+        line,
+        tally: Tally::NONE,
+    };
+    at_desk(rt.alloc(), &setting, 0, &mut line)?;
+    Ok(line.tally)
 }
 
 /// Tries a line of a kind.
 fn try_line(rt: &HostRuntime, kind: &str, line: &str) -> anyhow::Result<Tally> {
     match kind {
-        "request" | "head" => {
-            let setting = example_setting(rt.alloc())?;
-            try_stored(rt, &setting, in_memory(rt.alloc())?, kind, line)
-        }
+        "request" | "head" => try_request(rt, kind, line),
         "policy" => policies::try_line(rt, line),
         _ => certificates::try_line(rt, kind, line),
     }

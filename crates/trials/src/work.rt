@@ -11,7 +11,20 @@ mod setting;
 use crate::setting::CERTIFICATE;
 use service::MOST_OCTETS;
 use std::fs::File;
-use std::io::Read;
+use std::io::{self, Read};
+
+/// What a file holds.
+fn octets_of(rt: &HostRuntime, path: &str) -> io::Result<Vec<u8>> {
+    let mut octets = Vec::new(rt.alloc());
+    File::open(rt, path)?.read_to_end(&mut octets)?;
+    Ok(octets)
+}
+
+/// Writes as many replies, by a certificate in a file.
+fn reply_by(rt: &HostRuntime, path: &str, count: u64) -> anyhow::Result<u64> {
+    let certificate = octets_of(rt, path)?;
+    replying::replies(rt.alloc(), &certificate, count)
+}
 
 /// Does the work as many times as the words say, and tells how many times it was done.
 fn times_done(rt: &HostRuntime, words: &[String]) -> anyhow::Result<u64> {
@@ -20,11 +33,7 @@ fn times_done(rt: &HostRuntime, words: &[String]) -> anyhow::Result<u64> {
         [what, count] if what.as_str() == "reply" => {
             replying::replies(rt.alloc(), CERTIFICATE, number_of(count))
         }
-        [what, count, path] if what.as_str() == "reply" => {
-            let mut certificate = Vec::new(rt.alloc());
-            File::open(rt, path.as_str())?.read_to_end(&mut certificate)?;
-            replying::replies(rt.alloc(), &certificate, number_of(count))
-        }
+        [what, count, path] if what.as_str() == "reply" => reply_by(rt, path, number_of(count)),
         [what, count, path] if what.as_str() == "grant" => {
             granting::grants(rt, path.as_str(), number_of(count))
         }

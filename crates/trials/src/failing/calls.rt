@@ -1,10 +1,11 @@
 //! Calls of the counter, and what they tell.
+use crate::desks::serve_octets;
 use crate::fields::{expand, octets, word};
 use crate::setting::RULE_12;
 use audit::{ExtractFault, extract};
 use cms::Signer;
 use desk::{Deposited, Desk, Fault, Reply};
-use service::{Served, serve_one};
+use service::Served;
 use std::alloc::Global;
 use std::mem;
 use store::Book;
@@ -64,6 +65,24 @@ pub struct Told {
     pub octets: Vec<u8>,
 }
 
+/// The octets of a text, with those of digits behind them.
+fn octets_of(alloc: Global, text: &str, digits: &str) -> anyhow::Result<Vec<u8>> {
+    let mut all = Vec::from_slice(alloc, expand(alloc, text)?.as_bytes())?;
+    let digits = expand(alloc, digits)?;
+    all.extend_from_slice(&octets(alloc, digits.as_str())?)?;
+    Ok(all)
+}
+
+/// What a word calls.
+fn kind_of(word: &str) -> Kind {
+    match word {
+        "answer" => Kind::Answer,
+        "deposit" => Kind::Deposit,
+        "extract" => Kind::Extract,
+        _ => Kind::Serve,
+    }
+}
+
 impl Call {
     /// The call of a line: the kind, an account, and the octets: hexadecimal digits, and for a request over HTTP its
     /// text, with digits behind a bar.
@@ -75,17 +94,11 @@ impl Call {
         } else {
             ("", rest)
         };
-        let mut all = Vec::from_slice(alloc, expand(alloc, text)?.as_bytes())?;
-        all.extend_from_slice(&octets(alloc, expand(alloc, digits)?.as_str())?)?;
+        let octets = octets_of(alloc, text, digits)?;
         Ok(Call {
-            kind: match kind {
-                "answer" => Kind::Answer,
-                "deposit" => Kind::Deposit,
-                "extract" => Kind::Extract,
-                _ => Kind::Serve,
-            },
+            kind: kind_of(kind),
             account: String::from_str(alloc, account)?,
-            octets: all,
+            octets,
         })
     }
 }
@@ -159,8 +172,7 @@ pub fn make<B: Book + Drop, G: Signer>(
         Kind::Deposit => deposit(desk, signer, call),
         Kind::Extract => write_extract(alloc, desk, call, &mut room),
         Kind::Serve => {
-            let mut reader = call.octets.as_slice();
-            Ending::Served(serve_one(alloc, &mut reader, &mut room, desk, 0, signer))
+            Ending::Served(serve_octets(alloc, desk, signer, &call.octets, &mut room).0)
         }
     };
     Told {

@@ -80,12 +80,21 @@ fn version_of<S: Alter>(conn: &mut Connection<S>) -> Result<i64, Error> {
     conn.query_row(VERSION, &[])?.get(0)
 }
 
-/// What the tables hold.
-pub fn dump_of<S: Alter>(alloc: Global, conn: &mut Connection<S>) -> anyhow::Result<Dump> {
+/// The rows of each table.
+fn tables_of<S: Alter>(
+    alloc: Global,
+    conn: &mut Connection<S>,
+) -> anyhow::Result<Vec<Option<Vec<u8>>>> {
     let mut tables = Vec::new(alloc);
     for query in TABLES {
         tables.push(rows_of(alloc, conn, query)?)?;
     }
+    Ok(tables)
+}
+
+/// What the tables hold.
+pub fn dump_of<S: Alter>(alloc: Global, conn: &mut Connection<S>) -> anyhow::Result<Dump> {
+    let tables = tables_of(alloc, conn)?;
     Ok(Dump {
         version: version_of(conn)?,
         tables,

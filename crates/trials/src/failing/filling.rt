@@ -35,8 +35,8 @@ impl Trial<'_> {
         };
         let mut ledger = beginning.ledger.copied()?;
         let left = run::<D>(course, &mut ledger, &beginning.image)?;
-        self.end::<D>(&mut ledger, &left.image)?;
-        Ok((self.tell(tally, &ledger, fates)?, left.refusals))
+        let tally = self.end_told::<D>(tally, &mut ledger, &left.image, fates)?;
+        Ok((tally, left.refusals))
     }
 
     /// Makes a journey with no room in a file from each call that writes on: for good, until the files are opened
@@ -64,21 +64,29 @@ impl Trial<'_> {
         Ok(())
     }
 
+    /// Makes the journey with no room in each of the two files.
+    fn fill_both<D: Platter>(self, beginning: &Beginning) -> anyhow::Result<()> {
+        for place in Place::BOTH {
+            self.fill::<D>(beginning, place)?;
+        }
+        Ok(())
+    }
+
+    /// Makes what is left of the journey behind a migration.
+    fn fill_version<D: Platter>(self, version: i64) -> anyhow::Result<()> {
+        let name = format!(in self.alloc(); "{}, tables of version {version}", self.name)?;
+        let trial = Trial {
+            name: name.as_str(),
+            ..self
+        };
+        trial.fill_both::<D>(&trial.earlier::<D>(version, STEPS_BEFORE)?)
+    }
+
     /// Makes the journey, and what is left of it behind a migration, over full files.
     fn fill_each<D: Platter>(self) -> anyhow::Result<()> {
-        for place in Place::BOTH {
-            self.fill::<D>(&self.nothing()?, place)?;
-        }
+        self.fill_both::<D>(&self.nothing()?)?;
         for version in EARLIER {
-            let name = format!(in self.alloc(); "{}, tables of version {version}", self.name)?;
-            let trial = Trial {
-                name: name.as_str(),
-                ..self
-            };
-            let beginning = trial.earlier::<D>(version, STEPS_BEFORE)?;
-            for place in Place::BOTH {
-                trial.fill::<D>(&beginning, place)?;
-            }
+            self.fill_version::<D>(version)?;
         }
         Ok(())
     }

@@ -132,17 +132,23 @@ impl Ledger {
         })
     }
 
+    /// Takes over what was given out and given from another ledger.
+    fn take_over(&mut self, other: &Ledger) -> Result<(), AllocError> {
+        for text in other.signer.texts().unwrap_or(&[]) {
+            self.signer.note(text);
+        }
+        for granted in &other.grants {
+            self.keep(granted.serial, &granted.reply)?;
+        }
+        self.tables = other.tables.copied(self.alloc)?;
+        Ok(())
+    }
+
     /// The same once more.
     pub fn copied(&self) -> anyhow::Result<Ledger> {
         let mut copy = Ledger::new(self.alloc)?;
-        for text in self.signer.texts().unwrap_or(&[]) {
-            copy.signer.note(text);
-        }
-        for granted in &self.grants {
-            copy.keep(granted.serial, &granted.reply)?;
-        }
+        copy.take_over(self)?;
         copy.step = self.step;
-        copy.tables = self.tables.copied(self.alloc)?;
         copy.deposit = self.deposit;
         copy.sight = self.sight;
         copy.is_succeeded = self.is_succeeded;

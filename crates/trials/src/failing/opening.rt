@@ -1,5 +1,5 @@
 //! A counter over two files, from their opening to a stop.
-use crate::books::{Opened, adopt, create};
+use crate::books::{Opened, OverBook, OverConnection, adopt, create, over_store};
 use crate::failing::checks::{check, check_succession, check_void};
 use crate::failing::dump::{Dump, dump_of};
 use crate::failing::journey;
@@ -11,7 +11,7 @@ use crate::setting::Setting;
 use desk::{Desk, Fault};
 use sqlite::{Alter, Connection, FileStore, Options};
 use sqlite_disk::{Crash, Files, Fuse};
-use std::alloc::Global;
+use std::alloc::{AllocError, Global};
 use std::io;
 use store::{Book, Store, StoreFault};
 
@@ -153,6 +153,36 @@ fn are_kept<S: Alter + Drop>(
     Ok(found.is_migrated(earlier) || !is_done && found == *earlier)
 }
 
+/// Looks whether the tables are kept, where that is asked for.
+fn look_at_tables<S: Alter + Drop>(
+    course: Course<'_>,
+    ledger: &mut Ledger,
+    conn: &mut Connection<S>,
+    is_done: bool,
+    wrong: &'static str,
+) -> anyhow::Result<()> {
+    if course.look != Look::None {
+        let are_kept = are_kept(course.alloc, &ledger.tables, conn, is_done)?;
+        ledger.expect(are_kept, wrong);
+    }
+    Ok(())
+}
+
+/// Has a migration made: whether it is done.
+fn is_migrated<S: Alter + Drop>(ledger: &mut Ledger, conn: &mut Connection<S>) -> bool {
+    if !conn.is_autocommit() {
+        return false;
+    }
+    match Store::migrate(conn) {
+        Ok(()) => true,
+        Err(fault) => {
+            let is_stores = fault == StoreFault::Database;
+            ledger.expect(is_stores, "another refusal of a migration");
+            false
+        }
+    }
+}
+
 /// Takes tables of an earlier version to that of now, unless that was told: whether it is then.
 fn migrate<S: Alter + Drop>(
     course: Course<'_>,
@@ -162,24 +192,11 @@ fn migrate<S: Alter + Drop>(
     if !matches!(&ledger.tables, Tables::Earlier(_)) {
         return Ok(true);
     }
-    if course.look != Look::None {
-        let are_kept = are_kept(course.alloc, &ledger.tables, conn, false)?;
-        ledger.expect(are_kept, "a stop leaves other tables");
-    }
-    if !conn.is_autocommit() {
+    look_at_tables(course, ledger, conn, false, "a stop leaves other tables")?;
+    if !is_migrated(ledger, conn) {
         return Ok(false);
     }
-    if let Err(fault) = Store::migrate(conn) {
-        ledger.expect(
-            fault == StoreFault::Database,
-            "another refusal of a migration",
-        );
-        return Ok(false);
-    }
-    if course.look != Look::None {
-        let are_kept = are_kept(course.alloc, &ledger.tables, conn, true)?;
-        ledger.expect(are_kept, "a migration makes other tables");
-    }
+    look_at_tables(course, ledger, conn, true, "a migration makes other tables")?;
     ledger.tables = Tables::Made;
     Ok(true)
 }
@@ -193,79 +210,135 @@ fn store_over<S: Alter + Drop>(alloc: Global, conn: Connection<S>, is_made: bool
     }
 }
 
-/// Goes on over a book.
-fn go_on<B: Book + Drop>(
+/// Looks at a desk's history, where that is asked for.
+fn look_at<B: Book + Drop>(
     course: Course<'_>,
     ledger: &mut Ledger,
-    book: B,
-) -> anyhow::Result<(B, Progress)> {
-    let (alloc, setting) = (course.alloc, course.setting);
-    let mut book = book;
+    desk: &mut Desk<'_, B>,
+) -> Result<(), AllocError> {
     if course.look != Look::None {
-        check_succession(setting, &mut book, ledger);
+        check(course.alloc, course.setting, desk, ledger)?;
     }
-    let identity = setting.identity_after(ledger.is_succeeded);
-    let opened = Desk::open(alloc, &setting.policy, identity, &setting.algorithm, book);
-    let mut desk = match opened {
-        Ok(desk) => desk,
-        Err((fault, book)) => {
-            ledger.expect(fault == Fault::Store, "another refusal of a desk");
-            return Ok((book, UNOPENED));
-        }
-    };
+    Ok(())
+}
+
+/// Goes on at a desk.
+fn go_on_at<'s, B: Book + Drop>(
+    course: Course<'s>,
+    ledger: &mut Ledger,
+    desk: &mut Desk<'s, B>,
+) -> Result<Progress, AllocError> {
     if course.look == Look::Void {
-        check_void(alloc, &mut desk, ledger);
+        check_void(course.alloc, desk, ledger);
     }
-    if course.look != Look::None {
-        check(alloc, setting, &mut desk, ledger)?;
-    }
+    look_at(course, ledger, desk)?;
     let refusals = journey::go_on(
-        &mut desk,
-        setting,
+        desk,
+        course.setting,
         ledger,
         course.steps,
         course.tries,
         course.look,
     );
-    if course.look != Look::None {
-        check(alloc, setting, &mut desk, ledger)?;
-    }
-    let progress = Progress {
+    look_at(course, ledger, desk)?;
+    Ok(Progress {
         is_opened: true,
         refusals,
-    };
-    Ok((desk.into_store(), progress))
+    })
 }
 
-/// Goes on over a connection, which is given back.
-fn go_on_over<S: Alter + Drop>(
-    course: Course<'_>,
-    ledger: &mut Ledger,
-    conn: Connection<S>,
-) -> anyhow::Result<(Connection<S>, Progress)> {
-    let mut conn = conn;
-    if !migrate(course, ledger, &mut conn)? {
-        return Ok((conn, UNOPENED));
-    }
-    let is_made = matches!(&ledger.tables, Tables::Made);
-    match store_over(course.alloc, conn, is_made) {
-        Ok(store) => {
-            ledger.tables = Tables::Made;
-            let (store, progress) = go_on(course, ledger, store)?;
-            let mut conn = store.into_connection();
-            if course.look != Look::None {
-                ledger.expect(are_sound(&mut conn), "tables aren't sound");
+/// A desk over a book, under the identity that was told last.
+fn open<'s, B: Book + Drop>(
+    course: Course<'s>,
+    ledger: &Ledger,
+    book: B,
+) -> Result<Desk<'s, B>, (Fault, B)> {
+    let setting = course.setting;
+    let identity = setting.identity_after(ledger.is_succeeded);
+    Desk::open(
+        course.alloc,
+        &setting.policy,
+        identity,
+        &setting.algorithm,
+        book,
+    )
+}
+
+/// A course over files, and how far it came.
+#[derive(Drop)]
+struct Going<'c, 'l> {
+    course: Course<'c>,
+    ledger: &'l mut Ledger,
+    progress: Progress,
+}
+
+impl OverBook for Going<'_, '_> {
+    fn over<B: Book + Drop>(&mut self, book: B) -> anyhow::Result<B> {
+        let mut book = book;
+        if self.course.look != Look::None {
+            check_succession(self.course.setting, &mut book, self.ledger);
+        }
+        match open(self.course, self.ledger, book) {
+            Ok(mut desk) => {
+                self.progress = go_on_at(self.course, self.ledger, &mut desk)?;
+                Ok(desk.into_store())
             }
-            Ok((conn, progress))
-        }
-        Err((fault, conn)) => {
-            ledger.expect(
-                fault == StoreFault::Database,
-                "another refusal of an opening",
-            );
-            Ok((conn, UNOPENED))
+            Err((fault, book)) => {
+                self.ledger
+                    .expect(fault == Fault::Store, "another refusal of a desk");
+                Ok(book)
+            }
         }
     }
+}
+
+/// Goes on over a store, whose connection is given back.
+fn go_on_over<S: Alter + Drop>(
+    going: &mut Going<'_, '_>,
+    store: Store<S>,
+) -> anyhow::Result<Connection<S>> {
+    going.ledger.tables = Tables::Made;
+    let mut conn = over_store(store, going)?.into_connection();
+    if going.course.look != Look::None {
+        going
+            .ledger
+            .expect(are_sound(&mut conn), "tables aren't sound");
+    }
+    Ok(conn)
+}
+
+impl OverConnection for Going<'_, '_> {
+    fn over<S: Alter + Drop>(&mut self, conn: Connection<S>) -> anyhow::Result<Connection<S>> {
+        let mut conn = conn;
+        if !migrate(self.course, self.ledger, &mut conn)? {
+            return Ok(conn);
+        }
+        let is_made = matches!(&self.ledger.tables, Tables::Made);
+        match store_over(self.course.alloc, conn, is_made) {
+            Ok(store) => go_on_over(self, store),
+            Err((fault, conn)) => {
+                let is_stores = fault == StoreFault::Database;
+                self.ledger
+                    .expect(is_stores, "another refusal of an opening");
+                Ok(conn)
+            }
+        }
+    }
+}
+
+/// Opens files that hold what the image says, does the work over them unless they are refused, and stops: what the stop
+/// leaves. No other function takes files in memory for a storage.
+fn over_files<D: Platter, W: OverConnection>(
+    course: Course<'_>,
+    image: &Image,
+    work: &mut W,
+) -> anyhow::Result<Image> {
+    let files: Files<Fuse<D>> = files_of(course, image)?;
+    let files = match connect(course.alloc, files) {
+        Ok(conn) => work.over(conn)?.into_store().close(),
+        Err(files) => files,
+    };
+    Ok(image_left(course, files)?)
 }
 
 /// Opens files that hold what the image says, goes on with the journey, and stops: what the stop leaves.
@@ -274,30 +347,34 @@ pub fn run<D: Platter>(
     ledger: &mut Ledger,
     image: &Image,
 ) -> anyhow::Result<Left> {
-    let files: Files<Fuse<D>> = files_of(course, image)?;
-    let (files, progress) = match connect(course.alloc, files) {
-        Ok(conn) => {
-            let (conn, progress) = go_on_over(course, ledger, conn)?;
-            (conn.into_store().close(), progress)
-        }
-        Err(files) => (files, UNOPENED),
+    let mut going = Going {
+        course,
+        ledger,
+        progress: UNOPENED,
     };
+    let image = over_files::<D, _>(course, image, &mut going)?;
     Ok(Left {
-        image: image_left(course, files)?,
-        is_opened: progress.is_opened,
-        refusals: progress.refusals,
+        image,
+        is_opened: going.progress.is_opened,
+        refusals: going.progress.refusals,
     })
 }
 
-fn taken_back<S: Alter + Drop>(
+/// Tables that are taken back to an earlier version, and what they hold then.
+#[derive(Drop)]
+struct Aging {
     alloc: Global,
-    conn: Connection<S>,
     version: i64,
-) -> anyhow::Result<(Connection<S>, Dump)> {
-    let mut conn = conn;
-    take_back(&mut conn, version)?;
-    let dump = dump_of(alloc, &mut conn)?;
-    Ok((conn, dump))
+    dump: Option<Dump>,
+}
+
+impl OverConnection for Aging {
+    fn over<S: Alter + Drop>(&mut self, conn: Connection<S>) -> anyhow::Result<Connection<S>> {
+        let mut conn = conn;
+        take_back(&mut conn, self.version)?;
+        self.dump = Some(dump_of(self.alloc, &mut conn)?);
+        Ok(conn)
+    }
 }
 
 /// Takes the tables in files that hold what the image says back to an earlier version: what the files hold then, and
@@ -307,12 +384,14 @@ pub fn age<D: Platter>(
     image: &Image,
     version: i64,
 ) -> anyhow::Result<(Image, Dump)> {
-    let files: Files<Fuse<D>> = files_of(course, image)?;
-    match connect(course.alloc, files) {
-        Ok(conn) => {
-            let (conn, dump) = taken_back(course.alloc, conn, version)?;
-            Ok((image_left(course, conn.into_store().close())?, dump))
-        }
-        Err(_files) => anyhow::bail!("the files aren't opened"),
+    let mut aging = Aging {
+        alloc: course.alloc,
+        version,
+        dump: None,
+    };
+    let image = over_files::<D, _>(course, image, &mut aging)?;
+    match aging.dump {
+        Some(dump) => Ok((image, dump)),
+        None => anyhow::bail!("the files aren't opened"),
     }
 }

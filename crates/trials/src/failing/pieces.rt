@@ -1,12 +1,11 @@
 //! Ends that give and take few octets at a time, and limits that lines just fill.
-use crate::books::{calibrated, in_memory};
-use crate::setting::{ALGORITHM, REQUEST, Setting, open_desk};
+use crate::desks::{AtDesk, at_desk};
+use crate::setting::{ALGORITHM, REQUEST, Setting};
 use crate::tally::Tally;
 use audit::{ExtractFault, Extracted, Inquiry, extract, write_extract};
-use cms::{Algorithm, FramedSigner, KeyedHash, Signer};
+use cms::{Algorithm, CmsFault, FramedSigner, KeyedHash, Signer};
 use desk::Desk;
 use service::{Served, serve_one};
-use sqlite::{Alter, Connection};
 use std::alloc::{AllocError, Global};
 use std::io::{self, Read, Write};
 use store::Book;
@@ -67,33 +66,60 @@ fn sign<S: Signer>(signer: &mut S, text: &[u8]) -> Option<Vec<u8>> {
     signer.sign(text).ok()
 }
 
-/// Whether a key holder behind such ends signs a text of so many octets twice, with answers of so many.
-fn is_signed(alloc: Global, text: usize, answer: usize, size: usize) -> anyhow::Result<bool> {
-    let asked = frame(alloc, b't', text)?;
-    let answered = frame(alloc, b'a', answer)?;
-    let mut answers = Vec::from_slice(alloc, &answered)?;
-    answers.extend_from_slice(&answered)?;
+/// What a key holder behind such ends answers to a text that is signed twice.
+fn signed_twice(
+    alloc: Global,
+    giver: &mut Giver<'_>,
+    taker: &mut Taker,
+    text: &[u8],
+) -> Result<(Option<Vec<u8>>, Option<Vec<u8>>), CmsFault> {
+    let algorithm = Algorithm::from_bytes(alloc, ALGORITHM)?;
+    let mut signer = FramedSigner::new(alloc, giver, taker, algorithm);
+    Ok((sign(&mut signer, text), sign(&mut signer, text)))
+}
+
+/// Whether a key holder behind such ends that gives an answer twice takes what it is asked twice, and the answer comes
+/// as often.
+fn is_answered(
+    alloc: Global,
+    asked: &[u8],
+    answered: &[u8],
+    answers: &[u8],
+    size: usize,
+) -> Result<bool, CmsFault> {
     let mut giver = Giver {
-        octets: &answers,
+        octets: answers,
         size,
     };
     let mut taker = Taker {
         octets: Vec::new(alloc),
         size,
     };
-    let algorithm = Algorithm::from_bytes(alloc, ALGORITHM)?;
-    let mut signer = FramedSigner::new(alloc, &mut giver, &mut taker, algorithm);
     let text = asked.get(4..).unwrap_or(&[]);
-    let (first, second) = (sign(&mut signer, text), sign(&mut signer, text));
-    drop(signer);
+    let (first, second) = signed_twice(alloc, &mut giver, &mut taker, text)?;
     let wanted = answered.get(4..);
-    let is_written = taker.octets.strip_prefix(asked.as_slice()) == Some(asked.as_slice());
+    let is_written = taker.octets.strip_prefix(asked) == Some(asked);
     Ok(
         is_written
             && giver.octets.is_empty()
             && first.as_deref() == wanted
             && second.as_deref() == wanted,
     )
+}
+
+/// Octets twice.
+fn twice(alloc: Global, octets: &[u8]) -> Result<Vec<u8>, AllocError> {
+    let mut both = Vec::from_slice(alloc, octets)?;
+    both.extend_from_slice(octets)?;
+    Ok(both)
+}
+
+/// Whether a key holder behind such ends signs a text of so many octets twice, with answers of so many.
+fn is_signed(alloc: Global, text: usize, answer: usize, size: usize) -> anyhow::Result<bool> {
+    let asked = frame(alloc, b't', text)?;
+    let answered = frame(alloc, b'a', answer)?;
+    let answers = twice(alloc, &answered)?;
+    Ok(is_answered(alloc, &asked, &answered, &answers, size)?)
 }
 
 fn try_signers(alloc: Global) -> anyhow::Result<Tally> {
@@ -252,45 +278,45 @@ fn tell(rt: &HostRuntime, what: &str, tally: Tally) -> io::Result<()> {
     println!(rt; "{what}: {} tried; {} wrong", tally.tried, tally.wrong)
 }
 
-/// Tries all over a book.
-fn try_over<B: Book + Drop>(rt: &HostRuntime, setting: &Setting, book: B) -> anyhow::Result<()> {
-    let alloc = rt.alloc();
-    let mut signer = KeyedHash::new(alloc, b"k")?;
-    let mut desk = open_desk(alloc, setting, book)?;
-    fill(&mut desk, &mut signer)?;
-    let mut whole = Vec::new(alloc);
-    if !extracted(alloc, &mut desk, &mut whole) {
-        anyhow::bail!("no extract");
-    }
-    tell(
-        rt,
-        "extracts to takers of few octets",
-        try_takers(alloc, &mut desk, &whole)?,
-    )?;
-    tell(
-        rt,
-        "extracts within limits",
-        try_limits(alloc, &mut desk, &whole)?,
-    )?;
-    tell(
-        rt,
-        "requests in pieces",
-        try_requests(alloc, &mut desk, &mut signer),
-    )?;
+/// Tries extracts, of which the whole is given.
+fn try_extracts<B: Book + Drop>(
+    rt: &HostRuntime,
+    desk: &mut Desk<'_, B>,
+    whole: &[u8],
+) -> anyhow::Result<()> {
+    let takers = try_takers(rt.alloc(), desk, whole)?;
+    tell(rt, "extracts to takers of few octets", takers)?;
+    let limits = try_limits(rt.alloc(), desk, whole)?;
+    tell(rt, "extracts within limits", limits)?;
     Ok(())
 }
 
-/// The same over any storage for a book, so that the types of one aren't compared with a book's.
-fn try_stored<S: Alter + Drop>(
-    rt: &HostRuntime,
-    setting: &Setting,
-    conn: Connection<S>,
-) -> anyhow::Result<()> {
-    try_over(rt, setting, calibrated(rt.alloc(), conn, 0)?)
+/// What is tried at a desk.
+#[derive(Clone, Copy)]
+struct Pieces<'r> {
+    rt: &'r HostRuntime,
+}
+
+impl AtDesk for Pieces<'_> {
+    fn at<B: Book + Drop>(
+        &mut self,
+        desk: &mut Desk<'_, B>,
+        signer: &mut KeyedHash,
+    ) -> anyhow::Result<()> {
+        let (rt, alloc) = (self.rt, self.rt.alloc());
+        fill(desk, signer)?;
+        let mut whole = Vec::new(alloc);
+        if !extracted(alloc, desk, &mut whole) {
+            anyhow::bail!("no extract");
+        }
+        try_extracts(rt, desk, &whole)?;
+        tell(rt, "requests in pieces", try_requests(alloc, desk, signer))?;
+        Ok(())
+    }
 }
 
 /// Tries ends that give and take few octets, and limits.
 pub fn try_pieces(rt: &HostRuntime, setting: &Setting) -> anyhow::Result<()> {
     tell(rt, "texts signed in pieces", try_signers(rt.alloc())?)?;
-    try_stored(rt, setting, in_memory(rt.alloc())?)
+    at_desk(rt.alloc(), setting, 0, &mut Pieces { rt })
 }

@@ -1,7 +1,7 @@
 //! Journeys with stops.
 use crate::failing::ledger::{Ledger, Step};
 use crate::failing::medium::Medium;
-use crate::failing::opening::{Course, Fates, Image, Look, run};
+use crate::failing::opening::{Course, Fates, Image, Left, Look, run};
 use crate::failing::platter::{Outcome, Platter, Reading};
 use crate::failing::trial::{Beginning, Place, Trial, name_of};
 use crate::failing::versions::EARLIER;
@@ -45,6 +45,27 @@ impl Stops {
 }
 
 impl Trial<'_> {
+    /// Stops a file during the opening after a stop, after a number of calls. Adds to the tally, and tells whether it
+    /// stopped.
+    fn stop_opening<D: Platter>(
+        self,
+        ledger: &Ledger,
+        image: &Image,
+        fates: Fates,
+        tally: &mut Tally,
+    ) -> anyhow::Result<bool> {
+        let course = Course {
+            steps: 0,
+            ..self.course(fates)
+        };
+        let mut ledger = ledger.copied()?;
+        let left = run::<D>(course, &mut ledger, image)?;
+        if !left.is_opened {
+            *tally = self.end_told::<D>(*tally, &mut ledger, &left.image, fates)?;
+        }
+        Ok(!left.is_opened)
+    }
+
     /// Stops a file during the opening after a stop, after each number of calls.
     fn stop_openings<D: Platter>(
         self,
@@ -54,20 +75,58 @@ impl Trial<'_> {
     ) -> anyhow::Result<Tally> {
         let mut tally = Tally::NONE;
         for calls in 0..MOST_CALLS {
-            let fates = place.stop(calls);
-            let course = Course {
-                steps: 0,
-                ..self.course(fates)
-            };
-            let mut ledger = ledger.copied()?;
-            let left = run::<D>(course, &mut ledger, image)?;
-            if left.is_opened {
+            if !self.stop_opening::<D>(ledger, image, place.stop(calls), &mut tally)? {
                 break;
             }
-            self.end::<D>(&mut ledger, &left.image)?;
-            tally = self.tell(tally, &ledger, fates)?;
         }
         Ok(tally)
+    }
+
+    /// Stops each of the two files during the opening after a stop.
+    fn stop_pairs<D: Platter>(self, ledger: &Ledger, image: &Image) -> anyhow::Result<Tally> {
+        let mut pairs = Tally::NONE;
+        for place in Place::BOTH {
+            pairs = pairs.plus(self.stop_openings::<D>(ledger, image, place)?);
+        }
+        Ok(pairs)
+    }
+
+    /// Goes on after a stop, where that is asked for with stops in the opening after it too.
+    fn go_on<D: Platter>(
+        self,
+        ledger: &mut Ledger,
+        image: &Image,
+        fates: Fates,
+        has_pairs: bool,
+        tallies: (Tally, Tally),
+    ) -> anyhow::Result<(Tally, Tally)> {
+        let (tally, mut pairs) = tallies;
+        if has_pairs {
+            pairs = pairs.plus(self.stop_pairs::<D>(ledger, image)?);
+        }
+        let tally = self.end_told::<D>(tally, ledger, image, fates)?;
+        Ok((tally, pairs))
+    }
+
+    /// Stops a file after a number of calls. Adds to both tallies, or answers none where there was no stop.
+    fn stop_at<D: Platter>(
+        self,
+        beginning: &Beginning,
+        fates: Fates,
+        has_pairs: bool,
+        tallies: (Tally, Tally),
+    ) -> anyhow::Result<Option<(Tally, Tally)>> {
+        let course = Course {
+            steps: beginning.steps,
+            ..self.course(fates)
+        };
+        let mut ledger = beginning.ledger.copied()?;
+        let left = run::<D>(course, &mut ledger, &beginning.image)?;
+        if left.refusals.is_some() {
+            return Ok(None);
+        }
+        let tallies = self.go_on::<D>(&mut ledger, &left.image, fates, has_pairs, tallies)?;
+        Ok(Some(tallies))
     }
 
     /// Stops a file after each number of calls, until a journey ends without a stop. Where that is asked for, at each
@@ -78,27 +137,15 @@ impl Trial<'_> {
         place: Place,
         has_pairs: bool,
     ) -> anyhow::Result<(Tally, Tally)> {
-        let (mut tally, mut pairs) = (Tally::NONE, Tally::NONE);
+        let mut tallies = (Tally::NONE, Tally::NONE);
         for calls in 0..MOST_CALLS {
-            let fates = place.stop(calls);
-            let course = Course {
-                steps: beginning.steps,
-                ..self.course(fates)
-            };
-            let mut ledger = beginning.ledger.copied()?;
-            let left = run::<D>(course, &mut ledger, &beginning.image)?;
-            if left.refusals.is_some() {
-                break;
+            let has_pairs = has_pairs && calls % STRIDE == 0;
+            match self.stop_at::<D>(beginning, place.stop(calls), has_pairs, tallies)? {
+                Some(more) => tallies = more,
+                None => break,
             }
-            if has_pairs && calls % STRIDE == 0 {
-                for second in Place::BOTH {
-                    pairs = pairs.plus(self.stop_openings::<D>(&ledger, &left.image, second)?);
-                }
-            }
-            self.end::<D>(&mut ledger, &left.image)?;
-            tally = self.tell(tally, &ledger, fates)?;
         }
-        Ok((tally, pairs))
+        Ok(tallies)
     }
 
     /// Stops each of the two files.
@@ -116,6 +163,26 @@ impl Trial<'_> {
         })
     }
 
+    /// Takes the first step, and one that is stopped between a reservation and its signature: what is left.
+    fn leave<D: Platter>(self, course: Course<'_>, ledger: &mut Ledger) -> anyhow::Result<Left> {
+        let left = run::<D>(course, ledger, &Image::empty(self.alloc()))?;
+        ledger.step = Step::Leave;
+        run::<D>(course, ledger, &left.image)
+    }
+
+    /// The same, and goes on behind it.
+    fn go_on_void<D: Platter>(self, course: Course<'_>, ledger: &mut Ledger) -> anyhow::Result<()> {
+        let left = self.leave::<D>(course, ledger)?;
+        ledger.step = Step::StampLater;
+        let course = Course {
+            look: Look::Void,
+            ..course
+        };
+        let left = run::<D>(course, ledger, &left.image)?;
+        ledger.expect(left.refusals == Some(0), "the journey doesn't go on");
+        Ok(())
+    }
+
     /// Stops between a reservation and its signature.
     fn leave_void<D: Platter>(self) -> anyhow::Result<Tally> {
         let course = Course {
@@ -123,16 +190,7 @@ impl Trial<'_> {
             ..self.course(Fates::NONE)
         };
         let mut ledger = Ledger::new(self.alloc())?;
-        let left = run::<D>(course, &mut ledger, &Image::empty(self.alloc()))?;
-        ledger.step = Step::Leave;
-        let left = run::<D>(course, &mut ledger, &left.image)?;
-        ledger.step = Step::StampLater;
-        let course = Course {
-            look: Look::Void,
-            ..course
-        };
-        let left = run::<D>(course, &mut ledger, &left.image)?;
-        ledger.expect(left.refusals == Some(0), "the journey doesn't go on");
+        self.go_on_void::<D>(course, &mut ledger)?;
         let has_next = ledger
             .grants
             .last()
@@ -164,8 +222,20 @@ impl Trial<'_> {
         self.tell_stops(stops, has_pairs, void.wrong)
     }
 
-    /// Takes tables of an earlier version to that of now between each two steps, with each stop of it and of the step
+    /// Takes tables of an earlier version to that of now behind so many steps, with each stop of it and of the step
     /// behind it.
+    fn stop_behind<D: Platter>(
+        self,
+        version: i64,
+        before: u64,
+        has_pairs: bool,
+    ) -> anyhow::Result<Stops> {
+        let mut beginning = self.earlier::<D>(version, before)?;
+        beginning.steps = 1;
+        self.stop_both::<D>(&beginning, has_pairs && before == STEPS_BEFORE)
+    }
+
+    /// The same between each two steps.
     fn stop_migrations<D: Platter>(self, version: i64, has_pairs: bool) -> anyhow::Result<()> {
         let name = format!(in self.alloc(); "{}, tables of version {version}", self.name)?;
         let trial = Trial {
@@ -174,10 +244,7 @@ impl Trial<'_> {
         };
         let mut stops = Stops::NONE;
         for before in 0..=Step::BEFORE_SUCCESSION {
-            let mut beginning = trial.earlier::<D>(version, before)?;
-            beginning.steps = 1;
-            let has_pairs = has_pairs && before == STEPS_BEFORE;
-            stops = stops.plus(trial.stop_both::<D>(&beginning, has_pairs)?);
+            stops = stops.plus(trial.stop_behind::<D>(version, before, has_pairs)?);
         }
         trial.tell_stops(stops, has_pairs, 0)
     }

@@ -1,4 +1,5 @@
 //! What journeys are made over, where they begin and fail, and what has to hold of them.
+use crate::failing::dump::Dump;
 use crate::failing::ledger::{Ledger, Step, Tables};
 use crate::failing::opening::{Course, Fates, Image, Look, age, run};
 use crate::failing::platter::{Fate, Outcome, Platter, Reading};
@@ -93,6 +94,19 @@ impl<'t> Trial<'t> {
         })
     }
 
+    /// Takes the first steps, and their tables back to an earlier version: what the files hold then, and the tables.
+    fn aged<D: Platter>(
+        self,
+        course: Course<'_>,
+        ledger: &mut Ledger,
+        version: i64,
+    ) -> anyhow::Result<(Image, Dump)> {
+        let left = run::<D>(course, ledger, &Image::empty(self.alloc()))?;
+        let is_done = left.refusals == Some(0);
+        ledger.expect(is_done, "the first steps aren't taken");
+        age::<D>(course, &left.image, version)
+    }
+
     /// What comes behind so many steps, over tables of an earlier version.
     pub fn earlier<D: Platter>(self, version: i64, before: u64) -> anyhow::Result<Beginning> {
         let course = Course {
@@ -100,10 +114,7 @@ impl<'t> Trial<'t> {
             ..self.course(Fates::NONE)
         };
         let mut ledger = Ledger::new(self.alloc())?;
-        let left = run::<D>(course, &mut ledger, &Image::empty(self.alloc()))?;
-        let is_done = left.refusals == Some(0);
-        ledger.expect(is_done, "the first steps aren't taken");
-        let (image, dump) = age::<D>(course, &left.image, version)?;
+        let (image, dump) = self.aged::<D>(course, &mut ledger, version)?;
         ledger.tables = Tables::Earlier(dump);
         Ok(Beginning {
             image,
@@ -114,7 +125,7 @@ impl<'t> Trial<'t> {
 
     /// Goes on to the journey's end over what was left, looks at the history before and after, and opens the files once
     /// more.
-    pub fn end<D: Platter>(self, ledger: &mut Ledger, image: &Image) -> anyhow::Result<()> {
+    fn end<D: Platter>(self, ledger: &mut Ledger, image: &Image) -> anyhow::Result<()> {
         let course = Course {
             look: Look::Whole,
             ..self.course(Fates::NONE)
@@ -125,6 +136,18 @@ impl<'t> Trial<'t> {
         let left = run::<D>(course, ledger, &left.image)?;
         ledger.expect(left.is_opened, "the files aren't opened at the end");
         Ok(())
+    }
+
+    /// The same, and what was found wrong in the journey, which is one more.
+    pub fn end_told<D: Platter>(
+        self,
+        tally: Tally,
+        ledger: &mut Ledger,
+        image: &Image,
+        fates: Fates,
+    ) -> anyhow::Result<Tally> {
+        self.end::<D>(ledger, image)?;
+        self.tell(tally, ledger, fates)
     }
 
     /// One journey more, and what was found wrong in it.

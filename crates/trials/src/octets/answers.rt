@@ -51,29 +51,55 @@ const TYPES: [&str; 4] = [
 
 /// What stands behind a field's name, and the lines after it.
 fn field<'t>(text: &'t str, name: &str) -> Option<(&'t str, &'t str)> {
-    text.strip_prefix(name)?
-        .strip_prefix(": ")?
-        .split_once("\r\n")
+    let Some(rest) = text.strip_prefix(name) else {
+        return None;
+    };
+    let Some(rest) = rest.strip_prefix(": ") else {
+        return None;
+    };
+    rest.split_once("\r\n")
+}
+
+/// Whether a status line is that of the status.
+fn is_status_line(line: &str, status: u16) -> bool {
+    let Some(line) = line.strip_prefix("HTTP/1.1 ") else {
+        return false;
+    };
+    let Some((number, phrase)) = line.split_once(' ') else {
+        return false;
+    };
+    number.parse() == Ok(status) && PHRASES.contains(&(status, phrase))
 }
 
 /// What stands behind the status line, if it is that of the status.
 fn behind_status(head: &str, status: u16) -> Option<&str> {
-    let (line, rest) = head.split_once("\r\n")?;
-    let (number, phrase) = line.strip_prefix("HTTP/1.1 ")?.split_once(' ')?;
-    let is_known = number.parse() == Ok(status) && PHRASES.contains(&(status, phrase));
-    is_known.then_some(rest)
+    match head.split_once("\r\n") {
+        Some((line, rest)) if is_status_line(line, status) => Some(rest),
+        _ => None,
+    }
+}
+
+/// What stands behind the field that tells other methods, where the status is that.
+fn behind_allow(fields: &str, status: u16) -> &str {
+    match field(fields, "Allow") {
+        Some((_, rest)) if status == 405 => rest,
+        _ => fields,
+    }
 }
 
 /// Whether the fields are those of an answer of the status with a body of so many octets: its type.
 fn type_of(head: &str, status: u16, length: usize) -> Option<&str> {
-    let rest = behind_status(head, status)?;
-    let (kind, rest) = field(rest, "Content-Type")?;
-    let (count, rest) = field(rest, "Content-Length")?;
-    let rest = match field(rest, "Allow") {
-        Some((_, rest)) if status == 405 => rest,
-        _ => rest,
+    let Some(fields) = behind_status(head, status) else {
+        return None;
     };
-    let is_whole = count.parse() == Ok(length) && rest == "Connection: close\r\n";
+    let Some((kind, rest)) = field(fields, "Content-Type") else {
+        return None;
+    };
+    let Some((count, rest)) = field(rest, "Content-Length") else {
+        return None;
+    };
+    let is_whole = count.parse() == Ok(length)
+        && behind_allow(rest, status) == "Connection: close\r\n";
     is_whole.then_some(kind)
 }
 

@@ -63,14 +63,19 @@ fn try_algorithm(rt: &HostRuntime, octets: &mut [u8]) -> anyhow::Result<(Tally, 
     Ok((tally, subject.found))
 }
 
+/// Tries octets as an `identity` or an `algorithm`: how many, and how many were one.
+fn try_octets(rt: &HostRuntime, kind: &str, octets: &mut [u8]) -> anyhow::Result<(Tally, u64)> {
+    match kind {
+        "identity" => try_certificate(rt, octets),
+        _ => try_algorithm(rt, octets),
+    }
+}
+
 /// Tries the octets of a line, a name and hexadecimal digits, as an `identity` or an `algorithm`.
 pub fn try_line(rt: &HostRuntime, kind: &str, line: &str) -> anyhow::Result<Tally> {
     let (name, digits) = word(line);
     let mut octets = octets(rt.alloc(), digits)?;
-    let (tally, found) = match kind {
-        "identity" => try_certificate(rt, &mut octets)?,
-        _ => try_algorithm(rt, &mut octets)?,
-    };
+    let (tally, found) = try_octets(rt, kind, &mut octets)?;
     println!(rt;
         "{kind} {name}: {} tried, {found} found; {} wrong",
         tally.tried, tally.wrong

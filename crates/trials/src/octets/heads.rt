@@ -1,39 +1,39 @@
 //! Requests over HTTP, through the service.
+use crate::desks::serve_octets;
 use crate::fields::{controlled, word};
 use crate::octets::answers::is_answer;
 use crate::octets::changes::{Subject, try_all};
-use crate::setting::{Setting, open_desk};
 use crate::tally::Tally;
 use cms::Signer;
 use desk::Desk;
-use service::{Served, serve_one};
-use std::alloc::Global;
+use service::Served;
+use std::alloc::{AllocError, Global};
+use std::io;
 use store::Book;
 
 /// A desk that is asked over HTTP, and what it answered.
 #[derive(Drop)]
-struct Asked<'p, B: Book + Drop, G: Signer> {
+struct Asked<'d, 's, 'p, B: Book + Drop, G: Signer> {
     alloc: Global,
-    desk: Desk<'p, B>,
-    signer: G,
+    desk: &'d mut Desk<'p, B>,
+    signer: &'s mut G,
     /// The answer that was written last.
     answer: Vec<u8>,
     /// How many answers had a status below 300.
     done: u64,
 }
 
-impl<B: Book + Drop, G: Signer> Subject for Asked<'_, B, G> {
+impl<B: Book + Drop, G: Signer> Subject for Asked<'_, '_, '_, B, G> {
     fn takes(&mut self, octets: &[u8]) -> bool {
-        let mut reader = octets;
         self.answer.clear();
-        match serve_one(
+        let (served, _left) = serve_octets(
             self.alloc,
-            &mut reader,
+            self.desk,
+            self.signer,
+            octets,
             &mut self.answer,
-            &mut self.desk,
-            0,
-            &mut self.signer,
-        ) {
+        );
+        match served {
             Served::Closed => octets.is_empty() && self.answer.is_empty(),
             Served::Answered(status) => {
                 if status < 300 {
@@ -54,22 +54,25 @@ fn deposit<B: Book + Drop, G: Signer>(desk: &mut Desk<'_, B>, signer: &mut G) ->
     }
 }
 
-/// Tries the request of a line, its name and its text, over a book with a deposit of alice's. Tells how many were
-/// tried, how many of them weren't refused, and how many were wrong.
-pub fn try_over<B: Book + Drop, G: Signer + Drop>(
+/// Tells how many were tried, how many of them weren't refused, and how many were wrong.
+fn tell(rt: &HostRuntime, name: &str, tally: Tally, done: u64) -> io::Result<()> {
+    print!(rt; "head {name}: {} tried, {done} not refused", tally.tried)?;
+    println!(rt; "; {} wrong", tally.wrong)
+}
+
+/// The octets of a text.
+fn octets_of(alloc: Global, text: &str) -> Result<Vec<u8>, AllocError> {
+    let text = controlled(alloc, text)?;
+    Vec::from_slice(alloc, text.as_bytes())
+}
+
+/// Tries octets at a desk: how many, and how many of them weren't refused.
+fn try_octets<B: Book + Drop, G: Signer>(
     rt: &HostRuntime,
-    setting: &Setting,
-    book: B,
-    mut signer: G,
-    line: &str,
-) -> anyhow::Result<Tally> {
-    let (name, text) = word(line);
-    let text = controlled(rt.alloc(), text)?;
-    let mut octets = Vec::from_slice(rt.alloc(), text.as_bytes())?;
-    let mut desk = open_desk(rt.alloc(), setting, book)?;
-    if !deposit(&mut desk, &mut signer) {
-        anyhow::bail!("no deposit");
-    }
+    desk: &mut Desk<'_, B>,
+    signer: &mut G,
+    octets: &mut [u8],
+) -> io::Result<(Tally, u64)> {
     let mut asked = Asked {
         alloc: rt.alloc(),
         desk,
@@ -78,11 +81,24 @@ pub fn try_over<B: Book + Drop, G: Signer + Drop>(
         done: 0,
     };
     let length = octets.len();
-    let tally = try_all(rt, &mut asked, &mut octets, length)?;
-    print!(rt;
-        "head {name}: {} tried, {} not refused",
-        tally.tried, asked.done
-    )?;
-    println!(rt; "; {} wrong", tally.wrong)?;
+    let tally = try_all(rt, &mut asked, octets, length)?;
+    Ok((tally, asked.done))
+}
+
+/// Tries the request of a line, its name and its text, at a desk with a deposit of alice's. Tells how many were tried,
+/// how many of them weren't refused, and how many were wrong.
+pub fn try_line<B: Book + Drop, G: Signer>(
+    rt: &HostRuntime,
+    desk: &mut Desk<'_, B>,
+    signer: &mut G,
+    line: &str,
+) -> anyhow::Result<Tally> {
+    let (name, text) = word(line);
+    if !deposit(desk, signer) {
+        anyhow::bail!("no deposit");
+    }
+    let mut octets = octets_of(rt.alloc(), text)?;
+    let (tally, done) = try_octets(rt, desk, signer, &mut octets)?;
+    tell(rt, name, tally, done)?;
     Ok(tally)
 }

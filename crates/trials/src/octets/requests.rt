@@ -1,11 +1,11 @@
 //! Time-stamp requests, through the desk.
 use crate::fields::{octets, stand_in, word};
 use crate::octets::changes::{Subject, try_all};
-use crate::setting::{Setting, open_desk};
 use crate::tally::Tally;
 use cms::Signer;
 use desk::{Desk, Reply};
 use policy::Account;
+use std::io;
 use store::{Book, Stamp};
 use tsp::{TstInfo, read_request, read_tst};
 
@@ -30,9 +30,9 @@ const RULES: usize = REJECTIONS.len();
 
 /// A desk that is asked, and what it answered.
 #[derive(Drop)]
-struct Asked<'p, B: Book + Drop, G: Signer> {
-    desk: Desk<'p, B>,
-    signer: G,
+struct Asked<'d, 's, 'p, B: Book + Drop, G: Signer> {
+    desk: &'d mut Desk<'p, B>,
+    signer: &'s mut G,
     account: Option<&'p Account>,
     /// How many requests were granted.
     granted: u64,
@@ -80,57 +80,88 @@ fn count(counts: &mut [u64], at: usize) {
     }
 }
 
-impl<B: Book + Drop, G: Signer> Subject for Asked<'_, B, G> {
+/// Which of the rejections a text is.
+fn rule_of(text: &[u8]) -> Option<usize> {
+    REJECTIONS.iter().position(|known| *known == text)
+}
+
+impl<B: Book + Drop, G: Signer> Subject for Asked<'_, '_, '_, B, G> {
     fn takes(&mut self, octets: &[u8]) -> bool {
-        match self.desk.answer(self.account, 0, octets, &mut self.signer) {
+        match self.desk.answer(self.account, 0, octets, self.signer) {
             Reply::Granted { serial, bytes } => {
                 self.granted = self.granted.saturating_add(1);
                 serial == self.granted && is_stored(self.desk.store(), serial, octets, &bytes)
             }
-            Reply::Rejected(rejection) => {
-                let text = rejection.as_slice();
-                match REJECTIONS.iter().position(|known| *known == text) {
-                    Some(at) => {
-                        count(&mut self.rejected, at);
-                        true
-                    }
-                    None => false,
+            Reply::Rejected(rejection) => match rule_of(rejection.as_slice()) {
+                Some(at) => {
+                    count(&mut self.rejected, at);
+                    true
                 }
-            }
+                None => false,
+            },
         }
     }
 }
 
-/// Tries the request of a line, an account's name, the request's and its hexadecimal digits, over a book without
-/// stamps. Tells how many were tried, granted, rejected by each rule, and wrong.
-pub fn try_over<B: Book + Drop, G: Signer + Drop>(
+/// What came of requests.
+#[derive(Clone, Copy)]
+struct Counts {
+    tally: Tally,
+    granted: u64,
+    rejected: [u64; RULES],
+}
+
+/// Tells how many requests were tried, granted, rejected by each rule, and wrong.
+fn tell(rt: &HostRuntime, account: &str, name: &str, counts: &Counts) -> io::Result<()> {
+    print!(rt;
+        "{account}'s request {name}: {} tried, {} granted",
+        counts.tally.tried, counts.granted
+    )?;
+    for (at, count) in counts.rejected.iter().enumerate() {
+        if *count > 0 {
+            print!(rt; ", {count} by rule {}", at + 1)?;
+        }
+    }
+    println!(rt; "; {} wrong", counts.tally.wrong)
+}
+
+/// Tries the octets of a request as an account's, at a desk without stamps.
+fn try_octets<B: Book + Drop, G: Signer>(
     rt: &HostRuntime,
-    setting: &Setting,
-    book: B,
-    signer: G,
+    desk: &mut Desk<'_, B>,
+    signer: &mut G,
+    account: &str,
+    query: &mut [u8],
+) -> io::Result<Counts> {
+    let account = desk.policy().account_named(account);
+    let mut asked = Asked {
+        desk,
+        signer,
+        account,
+        granted: 0,
+        rejected: [0; RULES],
+    };
+    let length = query.len();
+    let tally = try_all(rt, &mut asked, query, length)?;
+    Ok(Counts {
+        tally,
+        granted: asked.granted,
+        rejected: asked.rejected,
+    })
+}
+
+/// Tries the request of a line, an account's name, the request's and its hexadecimal digits, at a desk without stamps.
+/// Tells how many were tried, granted, rejected by each rule, and wrong.
+pub fn try_line<B: Book + Drop, G: Signer>(
+    rt: &HostRuntime,
+    desk: &mut Desk<'_, B>,
+    signer: &mut G,
     line: &str,
 ) -> anyhow::Result<Tally> {
     let (account, rest) = word(line);
     let (name, digits) = word(rest);
     let mut query = octets(rt.alloc(), digits)?;
-    let mut asked = Asked {
-        desk: open_desk(rt.alloc(), setting, book)?,
-        signer,
-        account: setting.policy.account_named(account),
-        granted: 0,
-        rejected: [0; RULES],
-    };
-    let length = query.len();
-    let tally = try_all(rt, &mut asked, &mut query, length)?;
-    print!(rt;
-        "{account}'s request {name}: {} tried, {} granted",
-        tally.tried, asked.granted
-    )?;
-    for (at, count) in asked.rejected.iter().enumerate() {
-        if *count > 0 {
-            print!(rt; ", {count} by rule {}", at + 1)?;
-        }
-    }
-    println!(rt; "; {} wrong", tally.wrong)?;
-    Ok(tally)
+    let counts = try_octets(rt, desk, signer, account, &mut query)?;
+    tell(rt, account, name, &counts)?;
+    Ok(counts.tally)
 }

@@ -1,60 +1,44 @@
 //! Tokens over a database.
-use crate::setting::{CERTIFICATE, Setting};
+use crate::books::{OverBook, over_path};
+use crate::setting::{CERTIFICATE, Setting, open_desk};
 use crate::work::setting::{REQUEST, setting_of};
 use book::Book;
 use cms::{KeyedHash, Signer};
-use desk::{Desk, Fault, Reply};
+use desk::{Desk, Reply};
 use policy::Account;
-use sqlite::Alter;
 use sqlite_disk::Unknown;
 use std::alloc::Global;
-use store::Store;
+
+/// Answers that are given over a book, and how many of them had a token.
+#[derive(Drop)]
+struct Granting<'s> {
+    alloc: Global,
+    setting: &'s Setting,
+    count: u64,
+    granted: u64,
+}
+
+impl OverBook for Granting<'_> {
+    fn over<B: Book + Drop>(&mut self, book: B) -> anyhow::Result<B> {
+        let mut signer = KeyedHash::new(self.alloc, b"k")?;
+        let mut desk = open_desk(self.alloc, self.setting, book)?;
+        let account = self.setting.policy.anonymous();
+        self.granted = answered(&mut desk, account, &mut signer, self.count);
+        Ok(desk.into_store())
+    }
+}
 
 /// Answers the request as many times, over the database at a path, and tells how many times by a token.
 pub fn grants(rt: &HostRuntime, path: &str, count: u64) -> anyhow::Result<u64> {
-    let alloc = rt.alloc();
-    let setting = setting_of(alloc, CERTIFICATE)?;
-    let mut signer = KeyedHash::new(alloc, b"k")?;
-    let store = Store::open(rt, path, Unknown)?;
-    let (store, granted) = granted_over(alloc, store, &setting, &mut signer, count);
-    let _files = store.close()?;
-    Ok(granted?)
-}
-
-/// Answers the request as many times over a store, which it gives back, and tells how many times by a token, unless the
-/// identity can't be installed. It takes a store over any storage for a book, so that the types of one over files
-/// aren't compared with a book's.
-fn granted_over<S: Alter + Drop, G: Signer>(
-    alloc: Global,
-    store: Store<S>,
-    setting: &Setting,
-    signer: &mut G,
-    count: u64,
-) -> (Store<S>, Result<u64, Fault>) {
-    granted_by(alloc, store, setting, signer, count)
-}
-
-/// The same over any book.
-fn granted_by<B: Book + Drop, G: Signer>(
-    alloc: Global,
-    book: B,
-    setting: &Setting,
-    signer: &mut G,
-    count: u64,
-) -> (B, Result<u64, Fault>) {
-    let Setting {
-        policy,
-        identity,
-        algorithm,
-        successor: _,
-    } = setting;
-    match Desk::open(alloc, policy, identity, algorithm, book) {
-        Ok(mut desk) => {
-            let granted = answered(&mut desk, policy.anonymous(), signer, count);
-            (desk.into_store(), Ok(granted))
-        }
-        Err((fault, book)) => (book, Err(fault)),
-    }
+    let setting = setting_of(rt.alloc(), CERTIFICATE)?;
+    let mut granting = Granting {
+        alloc: rt.alloc(),
+        setting: &setting,
+        count,
+        granted: 0,
+    };
+    over_path(rt, path, Unknown, &mut granting)?;
+    Ok(granting.granted)
 }
 
 fn answered<B: Book + Drop, G: Signer>(

@@ -1,11 +1,10 @@
 //! Requests over HTTP with long heads, through the service alone.
-use crate::books::{calibrated, in_memory};
-use crate::setting::{CERTIFICATE, open_desk};
+use crate::desks::{AtDesk, at_desk, serve_octets};
+use crate::setting::CERTIFICATE;
 use crate::work::setting::setting_of;
 use cms::{KeyedHash, Signer};
 use desk::Desk;
-use service::{Served, serve_one};
-use sqlite::{Alter, Connection};
+use service::Served;
 use std::alloc::{AllocError, Global};
 use store::Book;
 
@@ -46,42 +45,45 @@ fn heads_read<B: Book + Drop, G: Signer>(
     let mut answer = Vec::new(alloc);
     let mut read = 0u64;
     for _ in 0..count {
-        let mut reader = head;
         answer.clear();
-        if serve_one(alloc, &mut reader, &mut answer, desk, 0, signer) == REFUSED
-            && reader.is_empty()
-        {
+        let (served, left) = serve_octets(alloc, desk, signer, head, &mut answer);
+        if served == REFUSED && left == 0 {
             read = read.saturating_add(1);
         }
     }
     read
 }
 
-/// The same of a head over a book.
-fn read_over<B: Book + Drop>(
+/// A head that is read, and how many times it was.
+#[derive(Drop)]
+struct Reading<'h> {
     alloc: Global,
-    book: B,
-    head: &[u8],
+    head: &'h [u8],
     count: u64,
-) -> anyhow::Result<u64> {
-    let setting = setting_of(alloc, CERTIFICATE)?;
-    let mut signer = KeyedHash::new(alloc, b"k")?;
-    let mut desk = open_desk(alloc, &setting, book)?;
-    Ok(heads_read(alloc, &mut desk, &mut signer, head, count))
+    read: u64,
 }
 
-/// The same over any storage for a book, so that the types of one aren't compared with a book's.
-fn read_stored<S: Alter + Drop>(
-    alloc: Global,
-    conn: Connection<S>,
-    head: &[u8],
-    count: u64,
-) -> anyhow::Result<u64> {
-    read_over(alloc, calibrated(alloc, conn, 0)?, head, count)
+impl AtDesk for Reading<'_> {
+    fn at<B: Book + Drop>(
+        &mut self,
+        desk: &mut Desk<'_, B>,
+        signer: &mut KeyedHash,
+    ) -> anyhow::Result<()> {
+        self.read = heads_read(self.alloc, desk, signer, self.head, self.count);
+        Ok(())
+    }
 }
 
 /// Has heads of so many octets in so many fields read, and tells how many were read to their ends.
 pub fn heads(alloc: Global, count: u64, fields: usize, octets: usize) -> anyhow::Result<u64> {
     let head = head_of(alloc, fields, octets)?;
-    read_stored(alloc, in_memory(alloc)?, &head, count)
+    let setting = setting_of(alloc, CERTIFICATE)?;
+    let mut reading = Reading {
+        alloc,
+        head: &head,
+        count,
+        read: 0,
+    };
+    at_desk(alloc, &setting, 0, &mut reading)?;
+    Ok(reading.read)
 }

@@ -54,27 +54,51 @@ pub fn replies(alloc: Global, certificate: &[u8], count: u64) -> anyhow::Result<
 /// The reply to a request, from its octets on: what is signed is written, and the token by a signature that is there.
 fn reply(alloc: Global, setting: &Setting, query: &[u8]) -> Option<Vec<u8>> {
     let policy = &setting.policy;
-    let request = read_request(query).ok()?;
+    let Ok(request) = read_request(query) else {
+        return None;
+    };
     let verdict = decide(policy, policy.anonymous(), &request, &FACTS);
     let Verdict::Allow(plan) = verdict else {
         return None;
     };
     let with_certificate = plan.certificate;
-    let tst = tst_of(alloc, policy, request, plan, query)?;
-    let text = attribute_text(alloc, &setting.identity, &tst).ok()?;
-    if text.is_empty() {
+    match tst_of(alloc, policy, request, plan, query) {
+        Some(tst) => reply_with(alloc, setting, &tst, with_certificate),
+        None => None,
+    }
+}
+
+/// The reply that has a TSTInfo.
+fn reply_with(
+    alloc: Global,
+    setting: &Setting,
+    tst: &[u8],
+    with_certificate: bool,
+) -> Option<Vec<u8>> {
+    if !has_text(alloc, setting, tst) {
         return None;
     }
+    let identity = &setting.identity;
     let token = token(
         alloc,
-        &setting.identity,
+        identity,
         &setting.algorithm,
-        &tst,
+        tst,
         &SIGNATURE,
         with_certificate,
-    )
-    .ok()?;
-    write_granted(alloc, &token).ok()
+    );
+    match token {
+        Ok(token) => write_granted(alloc, &token).ok(),
+        Err(_) => None,
+    }
+}
+
+/// Whether a text that would be signed is written.
+fn has_text(alloc: Global, setting: &Setting, tst: &[u8]) -> bool {
+    match attribute_text(alloc, &setting.identity, tst) {
+        Ok(text) => !text.is_empty(),
+        Err(_) => false,
+    }
 }
 
 /// The TSTInfo by the plan, under serial number 1.

@@ -1,9 +1,8 @@
 //! A database with stamps, deposits and readers.
-use crate::books::{create, opened};
-use sqlite::{Alter, Connection};
+use crate::books::{OverBook, over_new_path};
 use sqlite_disk::Unknown;
 use std::alloc::Global;
-use store::{Book, Calibration, Hold, Reservation, Store, StoreFault};
+use store::{Book, Calibration, Hold, Reservation, StoreFault};
 
 /// The octets of a reservation's parts, of no meaning to the store.
 const OCTETS: &[u8] = b"\x88\x37";
@@ -24,11 +23,8 @@ fn reserve<B: Book>(store: &mut B, serial: u64, account: &str) -> Result<(), Sto
     })
 }
 
-/// Five stamps, of which the fourth is void and three are deposits; two accounts have the same reference.
-fn deposit<B: Book>(alloc: Global, store: &mut B) -> Result<(), StoreFault> {
-    let Ok(greatest) = vec![in alloc; 0xab; MOST] else {
-        return Err(StoreFault::Memory);
-    };
+/// Reserves five stamps.
+fn reserve_each<B: Book>(store: &mut B) -> Result<(), StoreFault> {
     for (serial, account) in [
         (1, "alice"),
         (2, "bob"),
@@ -38,10 +34,26 @@ fn deposit<B: Book>(alloc: Global, store: &mut B) -> Result<(), StoreFault> {
     ] {
         reserve(store, serial, account)?;
     }
+    Ok(())
+}
+
+/// Seals all but the fourth, three of them as deposits; two accounts have the same reference.
+fn seal_each<B: Book>(store: &mut B, greatest: &[u8]) -> Result<(), StoreFault> {
     store.seal_deposit(2, b"token 2", "bob", "plan-7", b"")?;
     store.seal_deposit(1, b"token 1", "alice", "plan-7", b"abc")?;
-    store.seal_deposit(3, b"token 3", "alice", "plan-8", greatest.as_slice())?;
+    store.seal_deposit(3, b"token 3", "alice", "plan-8", greatest)?;
     store.seal(5, b"token 5")
+}
+
+/// Five stamps, of which the fourth is void and three are deposits.
+fn deposit<B: Book>(alloc: Global, store: &mut B) -> Result<(), StoreFault> {
+    match vec![in alloc; 0xab; MOST] {
+        Ok(greatest) => {
+            reserve_each(store)?;
+            seal_each(store, &greatest)
+        }
+        Err(_) => Err(StoreFault::Memory),
+    }
 }
 
 /// Rights given, taken, given again and given twice, one of them to an account that owns another deposit.
@@ -68,18 +80,22 @@ fn fill<B: Book>(alloc: Global, store: &mut B) -> Result<(), StoreFault> {
     give_rights(store)
 }
 
-/// A store over a new database, with what it is to hold.
-fn filled<S: Alter + Drop>(alloc: Global, conn: Connection<S>) -> Result<Store<S>, StoreFault> {
-    let mut store = opened(create(alloc, conn))?;
-    fill(alloc, &mut store)?;
-    Ok(store)
+/// A book that is filled.
+#[derive(Clone, Copy)]
+struct Sample {
+    alloc: Global,
 }
 
-/// Writes it at a path where no file stands.
-pub fn write(rt: &HostRuntime, path: &str) -> Result<(), StoreFault> {
-    let Ok(conn) = Connection::open_from(rt, path, false, Unknown) else {
-        return Err(StoreFault::Database);
-    };
-    filled(rt.alloc(), conn)?.close()?;
-    Ok(())
+impl OverBook for Sample {
+    fn over<B: Book + Drop>(&mut self, book: B) -> anyhow::Result<B> {
+        let mut book = book;
+        fill(self.alloc, &mut book)?;
+        Ok(book)
+    }
+}
+
+/// Writes a database with what it is to hold at a path where no file stands.
+pub fn write(rt: &HostRuntime, path: &str) -> anyhow::Result<()> {
+    let mut sample = Sample { alloc: rt.alloc() };
+    over_new_path(rt, path, Unknown, &mut sample)
 }

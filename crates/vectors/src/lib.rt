@@ -21,25 +21,15 @@ mod values;
 mod writing;
 
 use policy::EXAMPLE;
-use std::{env, fs, io};
+use std::alloc::AllocError;
 use transcript::Names;
 
-/// The texts of the files that the words name, one behind the other.
-fn texts(rt: &HostRuntime) -> io::Result<String> {
-    let mut whole = String::new(rt.alloc());
-    for path in env::args(rt)?.skip(1) {
-        let text = fs::read_to_string(rt, path.as_str())?;
-        whole.push_str(&text)?;
-        whole.push_str("\n")?;
-    }
-    Ok(whole)
-}
-
-fn main(rt: HostRuntime) -> io::Result<()> {
-    let text = texts(&rt)?;
+/// Plays the rows of a text, whose blocks are parted by empty lines, with the octets that its lines name and those of
+/// the example of a policy file.
+pub fn play(rt: &HostRuntime, text: &str) -> Result<(), AllocError> {
     let mut names = Names::new(rt.alloc());
     names.add("EXAMPLE", Vec::from_slice(rt.alloc(), EXAMPLE.as_bytes())?)?;
-    names.read(&text)?;
-    playing::play(&rt, &names, &text);
+    names.read(text)?;
+    playing::play(rt, &names, text);
     Ok(())
 }

@@ -1,0 +1,69 @@
+//! The store of a scenario, and what it offers besides a book's calls.
+use sqlite::{Alter, Connection, MemStore};
+use std::alloc::Global;
+use store::{Book, StampsBetween, Store, StoreFault};
+
+/// Where the database lies.
+pub type Place = MemStore;
+
+/// A store, or why it was refused, and the connection.
+pub type Opened<B> = Result<B, (StoreFault, Connection<Place>)>;
+
+/// A book that hands out its stamps. Scenarios are played over any such, so that only the functions here are proved of
+/// the store itself.
+pub trait Kept: Book + Drop {
+    /// The stamps of a range, one at a time.
+    fn stamps(&mut self, from: u64, to: u64) -> StampsBetween<'_, Self>;
+}
+
+/// What lies over a connection.
+pub trait Connected {
+    /// Makes it.
+    fn make(alloc: Global, conn: Connection<Place>) -> Opened<Self>;
+
+    /// Takes the one that the connection has.
+    fn take(alloc: Global, conn: Connection<Place>) -> Opened<Self>;
+
+    /// Gives the connection back.
+    fn connection(self) -> Connection<Place>;
+}
+
+fn create<S: Alter + Drop>(
+    alloc: Global,
+    conn: Connection<S>,
+) -> Result<Store<S>, (StoreFault, Connection<S>)> {
+    if !conn.is_autocommit() {
+        return Err((StoreFault::Full, conn));
+    }
+    Store::create(alloc, conn)
+}
+
+fn adopt<S: Alter + Drop>(
+    alloc: Global,
+    conn: Connection<S>,
+) -> Result<Store<S>, (StoreFault, Connection<S>)> {
+    if !conn.is_autocommit() {
+        return Err((StoreFault::Full, conn));
+    }
+    Store::adopt(alloc, conn)
+}
+
+impl<S: Alter + Drop> Kept for Store<S> {
+    fn stamps(&mut self, from: u64, to: u64) -> StampsBetween<'_, Store<S>> {
+        self.stamps_between(from, to)
+    }
+}
+
+impl Connected for Store<Place> {
+    fn make(alloc: Global, conn: Connection<Place>) -> Opened<Store<Place>> {
+        create(alloc, conn)
+    }
+
+    fn take(alloc: Global, conn: Connection<Place>) -> Opened<Store<Place>> {
+        adopt(alloc, conn)
+    }
+
+    fn connection(self) -> Connection<Place> {
+        self.into_connection()
+    }
+}
