@@ -21,10 +21,7 @@ pub fn answer_of<T>(done: Result<T, OperationFault>) -> Result<T, Fault>
     ensures { MatchResult done (λ answer. result ≡ Ok answer)
         (λ refused. result ≡ Err (fault_of_operation refused)) }
 {
-    match done {
-        Ok(answer) => Ok(answer),
-        Err(refused) => Err(fault_of(refused)),
-    }
+    done.map_err(fault_of)
 }
 
 /// The fault that the refusal of an operation is.
