@@ -1,6 +1,6 @@
 //! Requests that come whole, in part, or with more behind them.
 use super::exchanges::{
-    Exchanged, client, ends_well, exchanged, keyed, listening, long, received, serving, taking,
+    Exchanged, client, exchanged, keyed, listening, long, received, serve_one,
 };
 use super::octets::{GRANTED_WITH, RULE_1, WITH_CERTIFICATE};
 use super::setting::{EMPTY, QUERY, REPLY, answer, request};
@@ -14,13 +14,7 @@ fn told(rt: &HostRuntime, octets: &[u8], readings: u32) -> Result<Vec<u8>, Fail>
     let listener = listening(rt)?;
     let mut stream = client(rt, &listener, octets)?;
     stream.shutdown(Shutdown::Write)?;
-    ends_well(serving(
-        rt.alloc(),
-        &mut taking(rt, rt, &listener, long())?,
-        1,
-        readings,
-        &mut keyed(rt.alloc())?,
-    )?)?;
+    serve_one(rt, rt, &listener, long(), readings)?;
     received(rt.alloc(), &mut stream)
 }
 

@@ -74,33 +74,61 @@ fn rows(listed: Result<Vec<Listed>, Fault>) -> Result<usize, Fault> {
     }
 }
 
+/// What alice's list is, asked for twice at a desk over her book, of whose calls one is refused.
+fn listed_twice(
+    alloc: Global,
+    setting: &Setting,
+    refused: u64,
+) -> Result<[Result<usize, Fault>; 2], Fail> {
+    let account = alice(setting)?;
+    let book = book_with_deposit(alloc, refused)?;
+    let mut desk = desk_of(alloc, setting, book)?;
+    Ok([
+        rows(list(&mut desk, account)),
+        rows(list(&mut desk, account)),
+    ])
+}
+
 #[test]
 fn tells_a_refused_list_as_the_stores(rt: HostRuntime) -> Result<(), Fail> {
     let setting = example(rt.alloc())?;
-    let alice = alice(&setting)?;
-    let book = book_with_deposit(rt.alloc(), CALLS + 1)?;
-    let mut desk = desk_of(rt.alloc(), &setting, book)?;
-    assert_eq!(rt; rows(list(&mut desk, alice)), Err(Fault::Store));
-    assert_eq!(rt; rows(list(&mut desk, alice)), Ok(1));
+    let [refused, answered] = listed_twice(rt.alloc(), &setting, CALLS + 1)?;
+    assert_eq!(rt; refused, Err(Fault::Store));
+    assert_eq!(rt; answered, Ok(1));
     Ok(())
+}
+
+/// Whether alice's deposit is shown.
+fn is_shown(shown: Result<Vec<u8>, Fault>) -> Result<bool, Fault> {
+    match shown {
+        Ok(octets) => Ok(octets.as_slice() == b"abc".as_slice()),
+        Err(fault) => Err(fault),
+    }
+}
+
+/// Whether alice is shown her deposit, asked for twice at a desk over her book, of whose calls one is refused.
+fn shown_twice(
+    alloc: Global,
+    setting: &Setting,
+    refused: u64,
+) -> Result<[Result<bool, Fault>; 2], Fail> {
+    let account = alice(setting)?;
+    let book = book_with_deposit(alloc, refused)?;
+    let mut desk = desk_of(alloc, setting, book)?;
+    Ok([
+        is_shown(show(&mut desk, account)),
+        is_shown(show(&mut desk, account)),
+    ])
 }
 
 /// A deposit that alice sees, asked for while the book refuses to tell whether she does, and to read it.
 #[test]
 fn tells_a_refused_deposit_as_the_stores(rt: HostRuntime) -> Result<(), Fail> {
     let setting = example(rt.alloc())?;
-    let alice = alice(&setting)?;
-    for refused in CALLS + 1..CALLS + 3 {
-        let book = book_with_deposit(rt.alloc(), refused)?;
-        let mut desk = desk_of(rt.alloc(), &setting, book)?;
-        match show(&mut desk, alice) {
-            Ok(_) => return Err(Fail::new("a refused call is answered")),
-            Err(fault) => assert_eq!(rt; fault, Fault::Store),
-        }
-        match show(&mut desk, alice) {
-            Ok(octets) => assert_eq!(rt; octets.as_slice(), b"abc".as_slice()),
-            Err(_) => return Err(Fail::new("the book refuses no more calls")),
-        }
+    for call in CALLS + 1..CALLS + 3 {
+        let [refused, answered] = shown_twice(rt.alloc(), &setting, call)?;
+        assert_eq!(rt; refused, Err(Fault::Store));
+        assert_eq!(rt; answered, Ok(true));
     }
     Ok(())
 }

@@ -107,6 +107,20 @@ pub fn serving<R: AllocGlobal + std::time::Clock, G: Signer>(
     Ok(serve(listening, count, &mut clock, &mut desk, signer))
 }
 
+/// Serves one connection of a listener by a stand-in signer; it has so much time by a clock, and the counter's clock may
+/// be asked so often.
+pub fn serve_one<R: AllocGlobal + std::time::Clock>(
+    net: &HostRuntime,
+    rt: &R,
+    listener: &TcpListener,
+    limit: Duration,
+    readings: u32,
+) -> Result<(), Fail> {
+    let mut signer = keyed(net.alloc())?;
+    let mut listening = taking(net, rt, listener, limit)?;
+    ends_well(serving(net.alloc(), &mut listening, 1, readings, &mut signer)?)
+}
+
 /// Sees that the clock didn't fail.
 pub fn ends_well(ended: Result<(), ClockFailed>) -> Result<(), Fail> {
     match ended {

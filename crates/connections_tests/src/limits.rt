@@ -1,12 +1,12 @@
 //! Limits on time, by a machine whose clock moves on each time that it is looked at.
-use super::exchanges::{client, ends_well, keyed, listening, long, serving, taking};
+use super::exchanges::{client, listening, long, serve_one};
 use super::octets::RULE_1;
 use super::setting::{EMPTY, REPLY, answer};
 use std::alloc::Global;
 use std::cell::Cell;
 use std::io;
 use std::io::{Read, Write};
-use std::net::TcpStream;
+use std::net::{TcpListener, TcpStream};
 use std::test::Fail;
 use std::time::{Clock, Duration};
 
@@ -38,23 +38,27 @@ impl Clock for Machine<'_> {
 /// What a client receives that writes octets before its connection is served, and then one at each look at the clock.
 /// It may be told that the connection was reset, where not all that it wrote was read.
 fn told(rt: &HostRuntime, before: &[u8], octets: &[u8], step: Duration) -> Result<Vec<u8>, Fail> {
-    let alloc = rt.alloc();
     let listener = listening(rt)?;
     let stream = client(rt, &listener, before)?;
+    serve_stepping(rt, &listener, &stream, octets, step)?;
+    Ok(left(rt.alloc(), &stream))
+}
+
+/// Serves a client that writes an octet at each look at the clock.
+fn serve_stepping(
+    rt: &HostRuntime,
+    listener: &TcpListener,
+    client: &TcpStream,
+    octets: &[u8],
+    step: Duration,
+) -> Result<(), Fail> {
     let machine = Machine {
-        client: &stream,
+        client,
         octets,
         step,
         looks: Cell::new(0),
     };
-    ends_well(serving(
-        alloc,
-        &mut taking(rt, &(machine, alloc), &listener, long())?,
-        1,
-        1,
-        &mut keyed(alloc)?,
-    )?)?;
-    Ok(left(alloc, &stream))
+    serve_one(rt, &(machine, rt.alloc()), listener, long(), 1)
 }
 
 /// What comes before the end, or before it is told that the connection was reset.

@@ -1,7 +1,7 @@
 //! A key holder at the other end of a connection.
 //!
 //! Calls without clauses: a test's proof needn't read the contracts of what it calls.
-use super::exchanges::{exchanged, listening, long, short};
+use super::exchanges::{Exchanged, exchanged, listening, long, short};
 use super::octets::{GRANTED_WITH, RULE_12, WITH_CERTIFICATE};
 use super::setting::{QUERY, REPLY, algorithm, answer, request};
 use cms::Signer;
@@ -45,11 +45,21 @@ fn faults(signer: &Session<'_>) -> u64 {
     signer.faults()
 }
 
+/// Requests get answers by a signer.
+fn answered(
+    rt: &HostRuntime,
+    rows: &[Exchanged<'_>],
+    readings: u32,
+    signer: &mut Session<'_>,
+) -> Result<(), Fail> {
+    exchanged(rt, rows, long(), readings, signer)
+}
+
 /// The request is answered by a signer, once.
 fn granted(rt: &HostRuntime, signer: &mut Session<'_>) -> Result<(), Fail> {
     let query = request(rt.alloc(), QUERY, WITH_CERTIFICATE)?;
     let granted = answer(rt.alloc(), "200 OK", REPLY, GRANTED_WITH)?;
-    exchanged(rt, &[(&query, &granted)], long(), 1, signer)
+    answered(rt, &[(&query, &granted)], 1, signer)
 }
 
 /// The request is rejected for want of a signature, twice.
@@ -57,7 +67,7 @@ fn rejected(rt: &HostRuntime, signer: &mut Session<'_>) -> Result<(), Fail> {
     let query = request(rt.alloc(), QUERY, WITH_CERTIFICATE)?;
     let rejected = answer(rt.alloc(), "200 OK", REPLY, RULE_12)?;
     let rows: [(&[u8], &[u8]); 2] = [(&query, &rejected), (&query, &rejected)];
-    exchanged(rt, &rows, long(), 2, signer)
+    answered(rt, &rows, 2, signer)
 }
 
 /// The key holder writes the signature of the reply that is granted.
@@ -74,34 +84,59 @@ fn is_asked(session: &mut TcpStream) -> Result<bool, Fail> {
     Ok(&asked[..7] == b"\x00\x00\x00\x89\x31\x81\x86".as_slice())
 }
 
-#[test]
-fn signs_by_a_key_holder(rt: HostRuntime) -> Result<(), Fail> {
-    let holder = listening(&rt)?;
-    let mut signer = connected(&rt, &holder, long())?;
+/// A session that the key holder accepts, in which it writes a signature before it is asked.
+fn signing(holder: &TcpListener) -> Result<TcpStream, Fail> {
     let (mut session, _) = holder.accept()?;
     sign(&mut session)?;
-    granted(&rt, &mut signer)?;
-    assert!(rt; is_asked(&mut session)?);
+    Ok(session)
+}
+
+/// Whether a key holder is asked for the signature that it gives.
+fn is_granted(rt: &HostRuntime) -> Result<bool, Fail> {
+    let holder = listening(rt)?;
+    let mut signer = connected(rt, &holder, long())?;
+    let mut session = signing(&holder)?;
+    granted(rt, &mut signer)?;
+    is_asked(&mut session)
+}
+
+#[test]
+fn signs_by_a_key_holder(rt: HostRuntime) -> Result<(), Fail> {
+    assert!(rt; is_granted(&rt)?);
     Ok(())
+}
+
+/// How many faults are counted of a key holder that doesn't answer.
+fn faults_of_silent(rt: &HostRuntime) -> Result<u64, Fail> {
+    let holder = listening(rt)?;
+    let mut signer = connected(rt, &holder, short())?;
+    rejected(rt, &mut signer)?;
+    Ok(faults(&signer))
 }
 
 // One that doesn't answer in time has failed, and is counted.
 #[test]
 fn counts_a_key_holder_that_hangs(rt: HostRuntime) -> Result<(), Fail> {
-    let holder = listening(&rt)?;
-    let mut signer = connected(&rt, &holder, short())?;
-    rejected(&rt, &mut signer)?;
-    assert!(rt; faults(&signer) == 2);
+    assert_eq!(rt; faults_of_silent(&rt)?, 2);
     Ok(())
+}
+
+/// An address at which nothing listens any more.
+fn left_address(rt: &HostRuntime) -> Result<String, Fail> {
+    let holder = listening(rt)?;
+    address_of(rt, &holder)
+}
+
+/// Whether a key holder is reached there.
+fn is_reached(rt: &HostRuntime, address: &str) -> Result<bool, Fail> {
+    Ok(connect(rt, address, long())?.is_some())
 }
 
 #[test]
 fn tells_of_a_signer_that_is_not_there(rt: HostRuntime) -> Result<(), Fail> {
-    let holder = listening(&rt)?;
-    let address = address_of(&rt, &holder)?;
-    drop(holder);
-    for address in [address.as_str(), "127.0.0.1", "127.0.0.1:65536"] {
-        assert!(rt; connect(&rt, address, long())?.is_none(), "{address}");
+    let left = left_address(&rt)?;
+    for address in [left.as_str(), "127.0.0.1", "127.0.0.1:65536"] {
+        assert!(rt; !is_reached(&rt, address)?, "{address}");
     }
     Ok(())
 }
