@@ -1,7 +1,5 @@
 //! Requests that come whole, in part, or with more behind them.
-use super::exchanges::{
-    Exchanged, client, exchanged, keyed, listening, long, received, serve_one,
-};
+use super::exchanges::{Exchanged, client, exchanged, keyed, listening, long, received, serve_one};
 use super::octets::{GRANTED_WITH, RULE_1, WITH_CERTIFICATE};
 use super::setting::{EMPTY, QUERY, REPLY, answer, request};
 use std::alloc::Global;
