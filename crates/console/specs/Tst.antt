@@ -11,8 +11,10 @@ use Rattle.tsp.specs.declared.fault.TspFault.TheVariants as tsp
 use Rattle.tsp.specs.declared.rule.Rule.{Rule}
 use Rattle.tsp.specs.declared.rule.Rule.TheVariants.{Spelling, Version, Account, Algorithm, HashLength, Policy}
 use Rattle.tsp.specs.declared.rule.Rule.TheVariants.{PolicyAlgorithm, Extensions, Certificate, Clock, Quota, System}
+use Rattle.command_line.specs.declared.words.TstWords.{TstWords}
+use Rattle.console.specs.Hexadecimal.{IsHexadecimal, line}
 use Rattle.console.specs.Known.{five_algorithms}
-use Rattle.console.specs.Settings.{SettingsValue}
+use Rattle.console.specs.Settings.{SettingsValue, States}
 use Rattle.console.specs.declared.fault.Fault.{Fault}
 use Rattle.console.specs.declared.fault.Fault.TheVariants.{Tsp, Input}
 use Rattle.console.specs.declared.fault.InputFault.TheVariants.{Memory}
@@ -75,3 +77,14 @@ IsReply settings query octets = IsGranted settings query octets ⊎ IsRejected q
 -- Memory is wanting for a reply: of a TSTInfo, where each rule holds, or of the program's own.
 abbrev pub IsReplyFault : List ℕ → Fault → Type 0
 IsReplyFault query fault = (fault ≡ Input Memory) ⊎ ((fault ≡ Tsp tsp.Memory) × ((rule : Rule) → Holds query rule))
+
+-- The text spells a request's octets, the words state settings, and what is written is the line of a reply to the one
+-- by the other.
+pub record Answers (words : TstWords) (text written : List ℕ) : Type 0 where
+  pub settings : SettingsValue
+  pub stated : States words settings
+  pub query : List ℕ
+  pub spelled : IsHexadecimal text query
+  pub reply : List ℕ
+  pub replied : IsReply settings query reply
+  pub digits : written ≡ line reply

@@ -6,16 +6,37 @@ ghost use Rattle.policy.specs.Answers.{IsFirstFault};
 ghost use Rattle.policy.specs.Meaning.{meaning_of};
 ghost use Rattle.policy.specs.View.{policy_view};
 ghost use Rattle.policy.specs.declared.fault.PolicyFault.{PolicyFault};
-ghost use Rattle.console.specs.Counts.{counts_line, line_of_words};
+ghost use Rattle.console.specs.Counts.{Counts, counts_line, line_of_words};
 ghost use Rattle.console.specs.Writing.{Begins};
 
 use crate::fault::{Fault, InputFault};
 use crate::output::write_text;
+use command_line::CheckWords;
 use policy::Policy;
 use std::alloc::{AllocError, Global};
 use std::io::Write;
 use std::rt::HostRuntime;
 use std::{fs, io};
+
+/// Does what the word `check` asks for: reads a policy file, and writes how many entries it has. Refused as
+/// `read_policy`; `input` 5 where the output fails, and 7 where memory runs out.
+pub fn check_policy<O: Write>(
+    rt: &HostRuntime,
+    words: &CheckWords<'_>,
+    output: &mut O,
+) -> Result<(), Fault>
+    ensures counted { OnOk result ((written : List ℕ) × Counts written
+        × Appends (O.contents output.old) (O.contents output.new) written) }
+
+    // Before a fault nothing is written, but where there are counts and writing them fails.
+    ensures kept { IfErr result (λ fault. (O.contents output.new ≡ O.contents output.old)
+        ⊎ ((fault ≡ Fault.Input InputFault.Failed)
+        × ((written : List ℕ) × Counts written × Begins (O.contents output.old) (O.contents output.new) written))) }
+{
+    let policy = read_policy(rt, words.rules)?;
+    write_counts(rt.alloc(), &policy, output)?;
+    Ok(())
+}
 
 /// Reads a policy file. One that can't be read or isn't UTF-8 is `input` 2, and one that is no policy file `policy`
 /// with the number of its first fault. Where memory runs out it is `input` 7 over the file, and `policy` 7 over what
@@ -45,11 +66,7 @@ fn read_text(rt: &HostRuntime, path: &str) -> Result<String, InputFault>
 
 /// Writes the numbers of algorithms, extensions, policies and accounts as one line. A write that fails is `Failed`: a
 /// beginning of the line was written then. `Memory` where memory runs out, before anything is written.
-pub fn write_counts<W: Write>(
-    alloc: Global,
-    policy: &Policy,
-    output: &mut W,
-) -> Result<(), InputFault>
+fn write_counts<W: Write>(alloc: Global, policy: &Policy, output: &mut W) -> Result<(), InputFault>
     ensures written { OnOk result (Appends (W.contents output.old) (W.contents output.new)
         (counts_line (policy_view policy.now))) }
     ensures begun { result ≡ Err InputFault.Failed

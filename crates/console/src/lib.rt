@@ -10,13 +10,13 @@ mod known;
 mod output;
 mod rules;
 mod settings;
+mod status;
 mod tst;
 
 pub use accounts::{account_named, account_of};
-pub use check::{read_policy, write_counts};
+pub use check::{check_policy, read_policy};
 pub use fault::{Fault, InputFault};
 pub use files::{read_algorithm, read_identity, read_signer};
 pub use hexadecimal::{read_octets, write_octets};
-pub use output::write_text;
-pub use settings::Settings;
-pub use tst::tst_reply;
+pub use status::{DONE, FAULT, WORDS_REFUSED, explain, report};
+pub use tst::answer_tst;

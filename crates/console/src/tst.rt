@@ -1,5 +1,6 @@
-//! The reply to a request where no account, policy file or clock is asked.
-ghost use Rattle.std.specs.Prelude.{◌≡◌, unwrap_or, IfSome, IfOk, IfErr};
+//! The word `tst`: the reply to a request where no account, policy file or clock is asked.
+ghost use Rattle.std.specs.Prelude.{◌≡◌, ◌⊎◌, List, ℕ, unwrap_or, IfSome, IfOk, IfErr, OnOk};
+ghost use Rattle.std.specs.Io.KnownBytes.{Appends};
 ghost use Rattle.der.specs.Node.{encoding};
 ghost use Rattle.der.specs.ObjectIdentifier.{IsOid};
 ghost use Rattle.tsp.specs.Rejection.{rejection};
@@ -8,24 +9,55 @@ ghost use Rattle.tsp.specs.Tst.{tst_info};
 ghost use Rattle.tsp.specs.View.{request_view};
 ghost use Rattle.tsp.specs.declared.fault.TspFault.TheVariants.{Memory};
 ghost use Rattle.console.specs.Settings.{settings_value};
-ghost use Rattle.console.specs.Tst.{HasLawfulAnswers, IsReply, IsReplyFault, tst_of};
+ghost use Rattle.console.specs.Tst.{Answers, HasLawfulAnswers, IsReply, IsReplyFault, tst_of};
+ghost use Rattle.console.specs.Writing.{Begins};
 
 use crate::fault::{Fault, InputFault};
+use crate::hexadecimal::{read_octets, write_octets};
 use crate::rules::first_failing;
 use crate::settings::Settings;
+use command_line::TstWords;
 use der::oids_have_one_content_and_text;
 use std::alloc::Global;
+use std::io::{Read, Write};
 use tsp::{
     ObjectIdentifier, Rejection, Request, Rule, TspFault, read_request, requests_have_one_reading,
     write_tst,
 };
+
+/// Does what the word `tst` asks for: reads a request in hexadecimal, and writes the line of the reply to it by the
+/// settings that the words state. Refused as `Settings::of_words`, `read_octets` and `tst_reply`, in this order; then
+/// `input` 5 where the output fails, and 7 where memory runs out.
+pub fn answer_tst<I: Read, O: Write>(
+    alloc: Global,
+    words: &TstWords<'_>,
+    input: &mut I,
+    output: &mut O,
+) -> Result<(), Fault>
+    // The reply to the request that the input spells is written, by the settings that the words state.
+    ensures answered { OnOk result (IfSome (I.remaining input.old) (λ text.
+        (written : List ℕ) × Answers words.now text written
+        × Appends (O.contents output.old) (O.contents output.new) written)) }
+
+    // Before a fault nothing is written, but where there is a reply and writing it fails.
+    ensures kept { IfErr result (λ fault. (O.contents output.new ≡ O.contents output.old)
+        ⊎ ((fault ≡ Fault.Input InputFault.Failed) × IfSome (I.remaining input.old) (λ text.
+        (written : List ℕ) × Answers words.now text written
+        × Begins (O.contents output.old) (O.contents output.new) written))) }
+{
+    let settings = Settings::of_words(alloc, words)?;
+    let query = read_octets(alloc, input)?;
+    let reply = tst_reply(alloc, query.as_slice(), &settings)?;
+    write_octets(alloc, reply.as_slice(), output)?;
+    Ok(())
+}
 
 /// The reply to a request: its TSTInfo (RFC 3161 2.4.2) by these settings, where every rule holds, and else the
 /// rejection by the first rule that fails. Judged are the rules on the request's spelling, its version, its hash
 /// algorithm, of the five that are known, and its hash's length.
 ///
 /// Refused only for want of memory: in place of a rejection as `input` 7, and in place of a TSTInfo as `tsp` 3.
-pub fn tst_reply(alloc: Global, query: &[u8], settings: &Settings) -> Result<Vec<u8>, Fault>
+fn tst_reply(alloc: Global, query: &[u8], settings: &Settings) -> Result<Vec<u8>, Fault>
     ensures reply { IfOk result (λ reply. IsReply (settings_value settings.now) query.now reply.items) }
     ensures memory { IfErr result (IsReplyFault query.now) }
 {

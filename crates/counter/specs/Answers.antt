@@ -9,28 +9,15 @@ use Rattle.counter.specs.Desks.{IsSettingOf, ServesConnections}
 use Rattle.console.specs.Hexadecimal.{IsHexadecimal, line}
 use Rattle.connections.specs.Clock.{Reading}
 use Rattle.operations.specs.Machine.{Machine}
-use Rattle.console.specs.Settings.{SettingsValue, States}
 use Rattle.counter.specs.Replies.{IsJudgedReply, IsReplyOf}
-use Rattle.console.specs.Tst.{IsReply}
+use Rattle.console.specs.Tst.{Answers}
 use Rattle.desk.specs.Command.{Answer as DeskAnswer, Setting}
 use Rattle.operations.specs.OverFiles.{IsAnsweredOver, IsMigratedOver}
 use Rattle.operations.specs.Signing.{algorithm_of}
 use Rattle.command_line.specs.declared.words.AnswerWords.{AnswerWords}
-use Rattle.command_line.specs.declared.words.TstWords.{TstWords}
 use Rattle.command_line.specs.declared.words.Word.{Word}
 use Rattle.command_line.specs.declared.words.Word.TheVariants.{Tst, Check, Init, Migrate, Calibrate, Hold, Answer}
 use Rattle.command_line.specs.declared.words.Word.TheVariants.{Exchange, Serve, Audit}
-
--- The text spells a request's octets, the words state settings, and what is written is the line of a reply to the one
--- by the other.
-pub record Answers (words : TstWords) (text written : List ℕ) : Type 0 where
-  pub settings : SettingsValue
-  pub stated : States words settings
-  pub query : List ℕ
-  pub spelled : IsHexadecimal text query
-  pub reply : List ℕ
-  pub replied : IsReply settings query reply
-  pub digits : written ≡ line reply
 
 -- The text spells a request's octets, the desk is set as the words tell, and where a key is shown an account of its
 -- policy has that key. The reply is what the machine's step answers, over the store of the words' database: by the first

@@ -7,14 +7,13 @@ use Rattle.service.specs.Answers.{AnswerValue, answer_text}
 use Rattle.service.specs.declared.served.Served.{Served}
 use Rattle.service.specs.declared.served.Served.TheVariants.{Closed, Answered, ReadFailed, WriteFailed}
 use Rattle.connections.specs.Clock.{Reading}
-use Rattle.operations.specs.Exchanges.{AsksExtract, IsAnswerFor}
-use Rattle.operations.specs.OverFiles.{IsServedOver}
 use Rattle.operations.specs.Signing.{algorithm_of}
 use Rattle.command_line.specs.declared.words.ExchangeWords.{ExchangeWords}
 use Rattle.console.specs.declared.fault.Fault.{Fault}
 use Rattle.console.specs.declared.fault.Fault.TheVariants.{Input}
 use Rattle.console.specs.declared.fault.InputFault.TheVariants.{Failed}
 use Rattle.counter.specs.Desks.{IsSettingOf}
+use Rattle.counter.specs.Exchanging.{AsksExtract, IsAnswerFor, IsServedOver}
 use Rattle.operations.specs.Machine.{Machine}
 
 -- The input is at its end, and nothing is written; or it is a request, and what is written is an answer's text; or it
@@ -35,7 +34,7 @@ pub record Exchanges {D X C O : Type 0} (m : Machine D X C Reading) (contents : 
   pub writes : WritesAnswer setting.file (pos words.reading) old new IsWritten
   pub written : O
   pub outcome : Served
-  pub served : IsServedOver m.disk m.held m.signs setting (algorithm_of set.signing) contents (pos words.reading) old
+  pub served : IsServedOver m setting (algorithm_of set.signing) contents (pos words.reading) old
       new out written outcome
 
 -- How an exchange ends, of which the operation told this: nothing was asked, or the answer was sent.

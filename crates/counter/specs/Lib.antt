@@ -7,3 +7,4 @@ pub mod Serving
 pub mod Replies
 pub mod Signers
 pub mod Exchange
+pub mod Exchanging

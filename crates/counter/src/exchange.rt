@@ -9,7 +9,7 @@ ghost use Rattle.console.specs.Writing.{Begins};
 
 use crate::fault::answer_of;
 use crate::files::{Files, read_files};
-use crate::serving;
+use crate::{exchanging, serving};
 use cms::Signer;
 use command_line::{ExchangeWords, ServeWords};
 use connections::{Clock, SystemClock};
@@ -58,7 +58,7 @@ pub fn exchange<F: Start + Drop, I: Read, O: Write>(
         signing,
     };
     let reading = words.reading as i64;
-    let served = answer_of(operations::exchange(rt, desk, reading, input, output));
+    let served = answer_of(exchanging::exchange(rt, desk, reading, input, output));
     finish(served, output)
 }
 

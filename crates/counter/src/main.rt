@@ -3,6 +3,7 @@
 
 mod answer;
 mod exchange;
+mod exchanging;
 mod extracting;
 mod fault;
 mod files;

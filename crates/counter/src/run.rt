@@ -1,11 +1,8 @@
-ghost use Rattle.std.specs.Prelude.{◌≡◌, ◌≢◌, ◌≤◌, ◌⊎◌, List, ℕ, OnOk, IfSome, IfErr, IfOk, String};
+ghost use Rattle.std.specs.Prelude.{◌≡◌, ◌≢◌, ◌≤◌, ◌⊎◌, List, ℕ, OnOk, IfSome, IfErr, IfOk};
 ghost use Rattle.std.specs.Io.KnownBytes.{Appends};
-ghost use Rattle.std.specs.declared.alloc.Global.{Global};
 ghost use Rattle.command_line.specs.Words.{AreRefused, AreTaken, Asks, AsksHelp, texts_of};
-ghost use Rattle.command_line.specs.declared.refusal.Refusal.TheVariants.{Help, Mistake};
-ghost use Rattle.counter.specs.Answers.{Answers, Does, RepliesTo};
+ghost use Rattle.counter.specs.Answers.{Does, RepliesTo};
 ghost use Rattle.counter.specs.Audits.{FailsStamps, IsNoAudit, LeavesCut, LeavesExtract, Tells};
-ghost use Rattle.console.specs.Counts.{Counts};
 ghost use Rattle.console.specs.Fault.{fault_line};
 ghost use Rattle.console.specs.Hexadecimal.{line};
 ghost use Rattle.operations.specs.Machine.{machine_of};
@@ -16,23 +13,16 @@ use crate::exchange::{exchange, serve};
 use crate::extracting::audit;
 use crate::history::{calibrate, hold, init, migrate};
 use cms::Signer;
-use command_line::{AnswerWords, AuditWords, CheckWords, Refusal, TstWords, Word};
+use command_line::{AnswerWords, AuditWords, Word};
 use connections::{Clock, SystemClock};
 use console::{
-    Fault, InputFault, Settings, read_octets, read_policy, tst_reply, write_counts, write_octets,
-    write_text,
+    DONE, FAULT, Fault, InputFault, WORDS_REFUSED, answer_tst, check_policy, explain, report,
+    write_octets,
 };
 use operations::{Disk, FileFrom, HostSigner, Start, Unknown};
-use std::alloc::Global;
 use std::io::{Read, Write};
 use std::rt::HostRuntime;
 use std::{env, io};
-
-const DONE: u8 = 0;
-
-const FAULT: u8 = 1;
-
-const WORDS_REFUSED: u8 = 2;
 
 /// What was done.
 #[derive(Clone, Copy)]
@@ -201,11 +191,11 @@ fn run_word<F: Start + Drop, I: Read, O: Write, E: Write>(
 {
     match word {
         Word::Tst(words) => {
-            tst(rt.alloc(), words, input, output)?;
+            answer_tst(rt.alloc(), words, input, output)?;
             Ok(Outcome::Replied)
         }
         Word::Check(words) => {
-            check(rt, words, output)?;
+            check_policy(rt, words, output)?;
             Ok(Outcome::Counted)
         }
         Word::Init(words) => {
@@ -246,46 +236,6 @@ fn run_word<F: Start + Drop, I: Read, O: Write, E: Write>(
     }
 }
 
-/// Reads a policy file, and writes how many entries it has.
-fn check<O: Write>(rt: &HostRuntime, words: &CheckWords<'_>, output: &mut O) -> Result<(), Fault>
-    ensures counted { OnOk result ((written : List ℕ) × Counts written
-        × Appends (O.contents output.old) (O.contents output.new) written) }
-
-    // Before a fault nothing is written, but where there are counts and writing them fails.
-    ensures kept { IfErr result (λ fault. (O.contents output.new ≡ O.contents output.old)
-        ⊎ ((fault ≡ Fault.Input InputFault.Failed)
-        × ((written : List ℕ) × Counts written × Begins (O.contents output.old) (O.contents output.new) written))) }
-{
-    let policy = read_policy(rt, words.rules)?;
-    write_counts(rt.alloc(), &policy, output)?;
-    Ok(())
-}
-
-/// Reads a request, and writes the reply to it.
-fn tst<I: Read, O: Write>(
-    alloc: Global,
-    words: &TstWords<'_>,
-    input: &mut I,
-    output: &mut O,
-) -> Result<(), Fault>
-    // The reply to the request that the input spells is written, by the settings that the words state.
-    ensures answered { OnOk result (IfSome (I.remaining input.old) (λ text.
-        (written : List ℕ) × Answers words.now text written
-        × Appends (O.contents output.old) (O.contents output.new) written)) }
-
-    // Before a fault nothing is written, but where there is a reply and writing it fails.
-    ensures kept { IfErr result (λ fault. (O.contents output.new ≡ O.contents output.old)
-        ⊎ ((fault ≡ Fault.Input InputFault.Failed) × IfSome (I.remaining input.old) (λ text.
-        (written : List ℕ) × Answers words.now text written
-        × Begins (O.contents output.old) (O.contents output.new) written))) }
-{
-    let settings = Settings::of_words(alloc, words)?;
-    let query = read_octets(alloc, input)?;
-    let reply = tst_reply(alloc, query.as_slice(), &settings)?;
-    write_octets(alloc, reply.as_slice(), output)?;
-    Ok(())
-}
-
 /// Reads a request, answers it over the database, and writes the reply.
 fn answer_request<F: Start + Drop, I: Read, O: Write>(
     rt: &HostRuntime,
@@ -309,40 +259,4 @@ fn answer_request<F: Start + Drop, I: Read, O: Write>(
     let reply = answer(rt, words, start, input)?;
     write_octets(rt.alloc(), octets_of(&reply), output)?;
     Ok(())
-}
-
-/// Writes the fault's line.
-fn report<E: Write>(fault: Fault, errors: &mut E) -> u8
-    ensures status { result ≡ 1 }
-    ensures told { Begins (E.contents errors.old) (E.contents errors.new) (fault_line fault) }
-{
-    fault.write_line(errors);
-    FAULT
-}
-
-/// Writes why there are no words to do: help to standard output, a mistake to standard error.
-fn explain<O: Write, E: Write>(refusal: &Refusal, output: &mut O, errors: &mut E) -> u8
-    ensures status { result ≤ 2 }
-    ensures silent { result ≡ 0 → E.contents errors.new ≡ E.contents errors.old }
-
-    // Nothing but help is written to the output.
-    ensures unwritten { (O.contents output.new ≡ O.contents output.old)
-        ⊎ ((text : String Global) × (refusal.now ≡ Help text)) }
-    ensures refused { result ≡ 2 → (text : String Global) × (refusal.now ≡ Mistake text) }
-    ensures shown { result ≡ 0 → (text : String Global) × (refusal.now ≡ Help text) }
-    ensures told { result ≡ 1 → (fault : Fault)
-        × Begins (E.contents errors.old) (E.contents errors.new) (fault_line fault) }
-{
-    match refusal {
-        Refusal::Help(text) => match write_text(text.as_str(), output) {
-            Ok(()) => DONE,
-            Err(fault) => report(Fault::Input(fault), errors),
-        },
-        Refusal::Mistake(text) => {
-            // Where standard error fails, the status alone tells.
-            let _ = write_text(text.as_str(), errors);
-            WORDS_REFUSED
-        }
-        Refusal::Memory => report(Fault::Input(InputFault::Memory), errors),
-    }
 }

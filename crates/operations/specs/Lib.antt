@@ -1,7 +1,6 @@
 pub mod Addition
 pub mod Auditing
 pub mod Opening
-pub mod Exchanges
 pub mod Judged
 pub mod Machine
 pub mod OverFiles

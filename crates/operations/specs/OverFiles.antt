@@ -13,8 +13,6 @@ use Rattle.store.specs.Opening.{MigratesFound, OpensThen}
 use Rattle.store.specs.Stands.{over_tables}
 use Rattle.desk.specs.Command.{Answer, Setting, Stamp}
 use Rattle.desk.specs.Stepped.{DeskValue, IsStep, with_signer}
-use Rattle.service.specs.Served.{Serves}
-use Rattle.service.specs.declared.served.Served.{Served}
 use Rattle.operations.specs.Addition.{IsAdded}
 use Rattle.operations.specs.Auditing.{IsAuditOf}
 use Rattle.operations.specs.Visits.{IsUnopened, IsVisited}
@@ -69,19 +67,3 @@ module _ {D : Type 0} (disk : Ghosts D) (held : Image) where
     IsAnsweredOver account reading query answer =
         IsVisitedOver (λ desk desk' signer signer'. IsStep (over_tables over_files)
         (with_signer signs.signs signs.fault_count signer signer') (Stamp account reading query) desk desk' answer)
-
-    -- an HTTP request was served, of an input that was left as `old` and then as `new`
-    abbrev pub IsServedOver : {W : Type 0} → (W → Option (List ℕ)) → ℤ → (old new : Option (List ℕ)) → W → W → Served
-        → Type 0
-    IsServedOver contents reading old new writer writer' served =
-        IsVisitedOver (λ desk desk' signer signer'. Serves (over_tables over_files) signs.signs signs.fault_count
-        contents reading (record {
-          input = old;
-          input_after = new;
-          writer = writer;
-          writer_after = writer';
-          desk = desk;
-          desk_after = desk';
-          signer = signer;
-          signer_after = signer';
-        }) served)

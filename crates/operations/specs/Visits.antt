@@ -1,5 +1,5 @@
 -- What is done at a desk with a signer, over the history of a book.
-use Rattle.std.specs.Prelude.{◌≡◌, ◌⊎◌, ℕ, List, Option, Ok, Err}
+use Rattle.std.specs.Prelude.{◌≡◌, ◌⊎◌, ℕ, List, Ok, Err}
 use Rattle.book.specs.declared.standing.Standing.{Ghosts}
 use Rattle.book.specs.History.{History}
 use Rattle.book.specs.Stands.{Stands}
@@ -7,7 +7,6 @@ use Rattle.desk.specs.Calls.{setting_of as by_parts}
 use Rattle.desk.specs.declared.fault.Fault.{Fault}
 use Rattle.desk.specs.Command.{Setting}
 use Rattle.desk.specs.Stepped.{DeskValue, HasOpened, StandsInForce}
-use Rattle.service.specs.Served.{Turn}
 use Rattle.operations.specs.declared.fault.OperationFault.{OperationFault}
 use Rattle.operations.specs.declared.fault.OperationFault.TheVariants as operation
 use Rattle.operations.specs.declared.terms.Terms.{Terms}
@@ -37,19 +36,6 @@ visit_of input input' output output' desk desk' signer signer' = record {
   desk_after = desk';
   signer = signer;
   signer_after = signer';
-}
-
--- the turn of the service in it, of a reader and a writer
-abbrev pub turn_of : {I O B X : Type 0} → (I → Option (List ℕ)) → Visit I O B X → Turn O B X
-turn_of remaining visit = record {
-  input = remaining visit.input;
-  input_after = remaining visit.input_after;
-  writer = visit.output;
-  writer_after = visit.output_after;
-  desk = visit.desk;
-  desk_after = visit.desk_after;
-  signer = visit.signer;
-  signer_after = visit.signer_after;
 }
 
 -- A desk was opened over a book by that setting, and what is in force there is the identity that was installed last.

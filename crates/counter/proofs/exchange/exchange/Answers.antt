@@ -6,7 +6,7 @@ use Rattle.desk.specs.Command.{Setting}
 use Rattle.policy.specs.View.{policy_view}
 use Rattle.counter.specs.Desks.{IsSettingOf}
 use Rattle.counter.specs.Fault.{fault_of_operation}
-use Rattle.counter.proofs.Exchanging.{ended, stopped}
+use Rattle.counter.proofs.Exchanged.{ended, stopped}
 use Rattle.counter.proofs.Operating.{told, told_refusal}
 use Rattle.counter.proofs.exchange.exchange.Goals as goal
 

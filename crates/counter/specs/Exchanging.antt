@@ -5,11 +5,12 @@ use Rattle.policy.specs.Record.{AccountValue, PolicyValue}
 use Rattle.audit.specs.Auditor.{IsAllowed, ComesWhere}
 use Rattle.audit.specs.declared.fault.ExtractFault.{ExtractFault}
 use Rattle.book.specs.History.{CalibrationValue}
-use Rattle.desk.specs.Command.{Command, Stamp, ListAll, Calibrate, Answer}
+use Rattle.connections.specs.Clock.{Reading}
+use Rattle.desk.specs.Command.{Command, Stamp, ListAll, Calibrate, Answer, Setting}
 use Rattle.service.specs.Answers.{AnswerValue, answer_text, answer_to, refusal_answer, success}
 use Rattle.service.specs.Refusals.{refusal_of_extract}
 use Rattle.service.specs.Requests.{Step, Look, Extract, Status, IsRequest, IsPart, IsEarly}
-use Rattle.service.specs.Served.{unavailable}
+use Rattle.service.specs.Served.{Serves, Turn, unavailable}
 use Rattle.service.specs.declared.answer.Media.TheVariants as media
 use Rattle.service.specs.declared.answer.Media.TheVariants.{Csv}
 use Rattle.service.specs.declared.refusal.Refusal.{Refusal}
@@ -17,6 +18,9 @@ use Rattle.service.specs.declared.refusal.Refusal.TheVariants as refusal
 use Rattle.service.specs.declared.served.Served.{Served}
 use Rattle.service.specs.declared.served.Served.TheVariants as served
 use Rattle.operations.specs.Judged.{IsJudgedReply}
+use Rattle.operations.specs.Machine.{Machine}
+use Rattle.operations.specs.OverFiles.{IsVisitedAsAny}
+use Rattle.operations.specs.Visits.{Visit}
 
 -- what of the reply to a time-stamp request is certain
 abbrev pub IsJudged : PolicyValue → Command → Answer → Type 0
@@ -85,3 +89,33 @@ Exchanges file reading old new before after (served.WriteFailed status sent) =
     Writes file reading old new before after status (take sent)
     ⊎ (AsksExtract file reading old new
     × ((status ≡ 200) × (octets : List ℕ) × (length octets ≡ sent) × Appends before after octets))
+
+-- the turn of the service in a visit of a desk, by a reader and a writer
+abbrev pub turn_of : {I O B X : Type 0} → (I → Option (List ℕ)) → Visit I O B X → Turn O B X
+turn_of remaining visit = record {
+  input = remaining visit.input;
+  input_after = remaining visit.input_after;
+  writer = visit.output;
+  writer_after = visit.output_after;
+  desk = visit.desk;
+  desk_after = visit.desk_after;
+  signer = visit.signer;
+  signer_after = visit.signer_after;
+}
+
+-- An HTTP request was served at a desk over the store that was opened over what the files held, of an input that was
+-- left as `old` and then as `new`.
+abbrev pub IsServedOver : {D X C W : Type 0} → Machine D X C Reading → Setting → (algorithm : List ℕ)
+    → (W → Option (List ℕ)) → ℤ → (old new : Option (List ℕ)) → W → W → Served → Type 0
+IsServedOver m setting algorithm contents reading old new writer writer' served =
+    IsVisitedAsAny m.disk m.held m.signs setting algorithm (λ _ g desk desk' signer signer'.
+    Serves g m.signs.signs m.signs.fault_count contents reading (record {
+      input = old;
+      input_after = new;
+      writer = writer;
+      writer_after = writer';
+      desk = desk;
+      desk_after = desk';
+      signer = signer;
+      signer_after = signer';
+    }) served)

@@ -2,26 +2,24 @@
 ghost use Rattle.std.specs.Prelude.{◌≡◌, IfOk, IfErr, OnErr};
 ghost use Rattle.policy.specs.View.{policy_view};
 ghost use Rattle.service.specs.Served.{Serves};
-ghost use Rattle.store.specs.Opening.{image_at};
-ghost use Rattle.operations.specs.Exchanges.{Exchanges};
+ghost use Rattle.operations.specs.Machine.{machine_of};
 ghost use Rattle.operations.specs.Opening.{IsStartingFault};
 ghost use Rattle.operations.specs.Signing.{algorithm_of};
-ghost use Rattle.operations.specs.OverFiles.{IsServedOver};
-ghost use Rattle.operations.specs.Visits.{setting_of, turn_of};
+ghost use Rattle.operations.specs.Visits.{setting_of};
+ghost use Rattle.counter.specs.Exchanging.{Exchanges, IsServedOver, turn_of};
 
-use crate::database_desk::DatabaseDesk;
-use crate::desk_operation::{DeskOperation, perform_at_desk};
-use crate::fault::OperationFault;
-use crate::reached::HostSigner;
-use crate::signing::Renewal;
 use book::Book;
 use cms::Signer;
+use connections::{Clock, SystemClock};
 use desk::Desk;
+use operations::{
+    DatabaseDesk, DeskOperation, Disk, FileFrom, HostSigner, OperationFault, Renewal, Start,
+    perform_at_desk,
+};
 use service::{Served, serve_one};
-use sqlite::{FileFrom, Start};
-use sqlite_disk::Disk;
 use std::alloc::Global;
 use std::io::{Read, Write};
+use std::rt::HostRuntime;
 
 /// One HTTP request, which is read and answered.
 #[derive(Drop)]
@@ -61,7 +59,7 @@ impl<R: Read, W: Write> DeskOperation<R, W> for OneRequest {
 }
 
 /// Reads one HTTP request and answers it as `serve_one` does, over the history that the database at the path keeps; the
-/// reading is the clock's, in microseconds. Refused as `answer`; nothing is read or written then.
+/// reading is the clock's, in microseconds. Refused as `operations::answer`; nothing is read or written then.
 pub fn exchange<F: Start + Drop, R: Read, W: Write>(
     rt: &HostRuntime,
     desk: DatabaseDesk<'_, F>,
@@ -73,9 +71,9 @@ pub fn exchange<F: Start + Drop, R: Read, W: Write>(
         (R.remaining reader.old) (R.remaining reader.new) (W.contents writer.old) (W.contents writer.new)) }
 
     // Whatever the files hold: the request is served at a desk over the store that was opened over them.
-    ensures served { IfOk result (IsServedOver ⟦<FileFrom<F> as Disk>⟧ (image_at F.Start)
-        ⟦<HostSigner<'static> as Signer>⟧ (setting_of desk.entry.terms) (algorithm_of desk.entry.signing)
-        W.contents reading
+    ensures served { IfOk result (IsServedOver (machine_of ⟦<FileFrom<F> as Disk>⟧ F.Start
+        ⟦<HostSigner<'static> as Signer>⟧ ⟦<SystemClock<'static, HostRuntime> as Clock>⟧.reads)
+        (setting_of desk.entry.terms) (algorithm_of desk.entry.signing) W.contents reading
         (R.remaining reader.old) (R.remaining reader.new) writer.old writer.new) }
     ensures unread { OnErr result (R.remaining reader.new ≡ R.remaining reader.old) }
     ensures unwritten { OnErr result (W.contents writer.new ≡ W.contents writer.old) }

@@ -1,5 +1,5 @@
 use Rattle.std.proofs.Common.{rules, SFits, w64, to_z-of_z}
-use Rattle.operations.proofs.exchanging.exchange.Goals as goal
+use Rattle.counter.proofs.exchanging.exchange.Goals as goal
 
 pub returns-in-Ok-clause-served : goal.returns-in-Ok-clause-served
 returns-in-Ok-clause-served g c =

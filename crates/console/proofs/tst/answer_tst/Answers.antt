@@ -4,7 +4,7 @@ use Rattle.std.proofs.lemmas.Result.{err_from_is_err_and}
 use Rattle.console.specs.Hexadecimal.{line}
 use Rattle.console.specs.Settings.{settings_value}
 use Rattle.console.specs.declared.fault.Fault.TheVariants.{Input}
-use Rattle.counter.proofs.run.tst.Goals as goal
+use Rattle.console.proofs.tst.answer_tst.Goals as goal
 
 pub returns-in_err-write_octets-clause-kept : goal.returns-in_err-write_octets-clause-kept
 returns-in_err-write_octets-clause-kept g c =

@@ -3,7 +3,7 @@ use Rattle.std.proofs.lemmas.Result.{err_from_is_err_and}
 use Rattle.policy.specs.View.{policy_view}
 use Rattle.console.specs.Counts.{Counts, counts_line}
 use Rattle.console.specs.declared.fault.Fault.TheVariants.{Input}
-use Rattle.counter.proofs.run.check.Goals as goal
+use Rattle.console.proofs.check.check_policy.Goals as goal
 
 pub returns-in_err-write_counts-clause-kept : goal.returns-in_err-write_counts-clause-kept
 returns-in_err-write_counts-clause-kept g c =

@@ -1,5 +1,5 @@
 use Rattle.std.proofs.Common.{inr}
-use Rattle.counter.proofs.run.explain.Goals as goal
+use Rattle.console.proofs.status.explain.Goals as goal
 
 pub returns-in-Ok-clause-unwritten : goal.returns-in-Ok-clause-unwritten
 returns-in-Ok-clause-unwritten g c = inr (c.in-Help.text, c.in-Help.is)

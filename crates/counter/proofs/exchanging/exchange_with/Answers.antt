@@ -1,7 +1,7 @@
 use Rattle.std.proofs.Common.{ℤ, subst, rules, SFits, w64, to_z-of_z}
 use Rattle.service.specs.Served.{Serves, Turn}
-use Rattle.operations.proofs.OfService.{exchanged}
-use Rattle.operations.proofs.exchanging.exchange_with.Goals as goal
+use Rattle.counter.proofs.OfService.{exchanged}
+use Rattle.counter.proofs.exchanging.exchange_with.Goals as goal
 
 pub returns-clause-exchanged : goal.returns-clause-exchanged
 returns-clause-exchanged g c =

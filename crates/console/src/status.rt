@@ -1,0 +1,57 @@
+//! The exit status, and what is written where a fault stopped the program or words aren't taken.
+ghost use Rattle.std.specs.Prelude.{◌≡◌, ◌≤◌, ◌⊎◌, String};
+ghost use Rattle.std.specs.declared.alloc.Global.{Global};
+ghost use Rattle.command_line.specs.declared.refusal.Refusal.TheVariants.{Help, Mistake};
+ghost use Rattle.console.specs.Fault.{fault_line};
+ghost use Rattle.console.specs.Writing.{Begins};
+
+use crate::fault::{Fault, InputFault};
+use crate::output::write_text;
+use command_line::Refusal;
+use std::io::Write;
+
+/// What the words ask for is done; a rejection and help are done too.
+pub const DONE: u8 = 0;
+
+/// A fault stopped it, or stamps fail their check.
+pub const FAULT: u8 = 1;
+
+/// The words are refused.
+pub const WORDS_REFUSED: u8 = 2;
+
+/// Writes the fault's line, and answers the status 1.
+pub fn report<E: Write>(fault: Fault, errors: &mut E) -> u8
+    ensures status { result ≡ 1 }
+    ensures told { Begins (E.contents errors.old) (E.contents errors.new) (fault_line fault) }
+{
+    fault.write_line(errors);
+    FAULT
+}
+
+/// Writes why there are no words to do: help to `output`, with status 0, a mistake to `errors`, with status 2, and else
+/// the line of `input` 5 where help can't be written, and of 7 where memory ran out, with status 1.
+pub fn explain<O: Write, E: Write>(refusal: &Refusal, output: &mut O, errors: &mut E) -> u8
+    ensures status { result ≤ 2 }
+    ensures silent { result ≡ 0 → E.contents errors.new ≡ E.contents errors.old }
+
+    // Nothing but help is written to the output.
+    ensures unwritten { (O.contents output.new ≡ O.contents output.old)
+        ⊎ ((text : String Global) × (refusal.now ≡ Help text)) }
+    ensures refused { result ≡ 2 → (text : String Global) × (refusal.now ≡ Mistake text) }
+    ensures shown { result ≡ 0 → (text : String Global) × (refusal.now ≡ Help text) }
+    ensures told { result ≡ 1 → (fault : Fault)
+        × Begins (E.contents errors.old) (E.contents errors.new) (fault_line fault) }
+{
+    match refusal {
+        Refusal::Help(text) => match write_text(text.as_str(), output) {
+            Ok(()) => DONE,
+            Err(fault) => report(Fault::Input(fault), errors),
+        },
+        Refusal::Mistake(text) => {
+            // Where standard error fails, the status alone tells.
+            let _ = write_text(text.as_str(), errors);
+            WORDS_REFUSED
+        }
+        Refusal::Memory => report(Fault::Input(InputFault::Memory), errors),
+    }
+}
