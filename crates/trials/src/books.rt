@@ -44,14 +44,6 @@ pub fn over_store<S: Alter + Drop, W: OverBook>(
     work.over(store)
 }
 
-/// Does work over a connection, and gives its storage back.
-pub fn over_storage<S: Alter + Drop, W: OverConnection>(
-    conn: Connection<S>,
-    work: &mut W,
-) -> anyhow::Result<S> {
-    Ok(work.over(conn)?.into_store())
-}
-
 /// Does work over the store of a connection, which is given back.
 pub fn over_opened<S: Alter + Drop, W: OverBook>(
     store: Opened<S>,

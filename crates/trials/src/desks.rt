@@ -28,21 +28,12 @@ struct Opening<'s, 'w, W> {
 
 impl<W: AtDesk> OverBook for Opening<'_, '_, W> {
     fn over<B: Book + Drop>(&mut self, book: B) -> anyhow::Result<B> {
+        let mut signer = KeyedHash::new(self.alloc, b"k")?;
         let book = calibrated(book, self.reading)?;
         let mut desk = open_desk(self.alloc, self.setting, book)?;
-        at_with_signer(self.alloc, &mut desk, self.work)?;
+        self.work.at(&mut desk, &mut signer)?;
         Ok(desk.into_store())
     }
-}
-
-/// Does work at a desk.
-fn at_with_signer<B: Book + Drop, W: AtDesk>(
-    alloc: Global,
-    desk: &mut Desk<'_, B>,
-    work: &mut W,
-) -> anyhow::Result<()> {
-    let mut signer = KeyedHash::new(alloc, b"k")?;
-    work.at(desk, &mut signer)
 }
 
 /// Does work at a desk over an empty database in memory, with a calibration of a clock that is right, at a reading.

@@ -1,5 +1,5 @@
 //! A counter over two files, from their opening to a stop.
-use crate::books::{Opened, OverBook, OverConnection, adopt, create, over_storage, over_store};
+use crate::books::{Opened, OverBook, OverConnection, adopt, create, over_store};
 use crate::failing::checks::{check, check_succession, check_void};
 use crate::failing::dump::{Dump, dump_of};
 use crate::failing::journey;
@@ -10,7 +10,7 @@ use crate::failing::versions::take_back;
 use crate::setting::Setting;
 use desk::{Desk, Fault};
 use sqlite::{Alter, Connection, FileStore, Options};
-use sqlite_disk::{Crash, Disk, Files, Fuse};
+use sqlite_disk::{Crash, Files, Fuse};
 use std::alloc::{AllocError, Global};
 use std::io;
 use store::{Book, Store, StoreFault};
@@ -126,10 +126,10 @@ fn image_left<D: Platter>(course: Course<'_>, files: Files<Fuse<D>>) -> io::Resu
 }
 
 /// A connection over the files, or these where they are refused.
-fn connect<K: Disk + Drop>(
+fn connect<D: Platter>(
     alloc: Global,
-    files: Files<K>,
-) -> Result<Connection<FileStore<K>>, Files<K>> {
+    files: Files<Fuse<D>>,
+) -> Result<Connection<FileStore<Fuse<D>>>, Files<Fuse<D>>> {
     if !files.may_be_used() {
         return Err(files);
     }
@@ -272,28 +272,17 @@ struct Going<'c, 'l> {
     progress: Progress,
 }
 
-impl<'c> Going<'c, '_> {
-    /// Looks at the identities of a history, where that is asked for.
-    fn look<B: Book + Drop>(&mut self, book: &mut B) {
-        if self.course.look != Look::None {
-            check_succession(self.course.setting, book, self.ledger);
-        }
-    }
-
-    /// Goes on at a desk, and gives its book back.
-    fn go_on<B: Book + Drop>(&mut self, desk: Desk<'c, B>) -> Result<B, AllocError> {
-        let mut desk = desk;
-        self.progress = go_on_at(self.course, self.ledger, &mut desk)?;
-        Ok(desk.into_store())
-    }
-}
-
 impl OverBook for Going<'_, '_> {
     fn over<B: Book + Drop>(&mut self, book: B) -> anyhow::Result<B> {
         let mut book = book;
-        self.look(&mut book);
+        if self.course.look != Look::None {
+            check_succession(self.course.setting, &mut book, self.ledger);
+        }
         match open(self.course, self.ledger, book) {
-            Ok(desk) => Ok(self.go_on(desk)?),
+            Ok(mut desk) => {
+                self.progress = go_on_at(self.course, self.ledger, &mut desk)?;
+                Ok(desk.into_store())
+            }
             Err((fault, book)) => {
                 self.ledger
                     .expect(fault == Fault::Store, "another refusal of a desk");
@@ -337,28 +326,18 @@ impl OverConnection for Going<'_, '_> {
     }
 }
 
-/// Does the work over files unless they are refused, and closes them. No other function takes files in memory for a
-/// storage, and this one takes any disk's: it costs a third of what it would over files that can be made to stop.
-fn over_files<K: Disk + Drop, W: OverConnection>(
-    alloc: Global,
-    files: Files<K>,
-    work: &mut W,
-) -> anyhow::Result<Files<K>> {
-    match connect(alloc, files) {
-        Ok(conn) => Ok(over_storage(conn, work)?.close()),
-        Err(files) => Ok(files),
-    }
-}
-
 /// Opens files that hold what the image says, does the work over them unless they are refused, and stops: what the stop
-/// leaves.
-fn over_image<D: Platter, W: OverConnection>(
+/// leaves. No other function takes files in memory for a storage.
+fn over_files<D: Platter, W: OverConnection>(
     course: Course<'_>,
     image: &Image,
     work: &mut W,
 ) -> anyhow::Result<Image> {
     let files: Files<Fuse<D>> = files_of(course, image)?;
-    let files = over_files(course.alloc, files, work)?;
+    let files = match connect(course.alloc, files) {
+        Ok(conn) => work.over(conn)?.into_store().close(),
+        Err(files) => files,
+    };
     Ok(image_left(course, files)?)
 }
 
@@ -373,7 +352,7 @@ pub fn run<D: Platter>(
         ledger,
         progress: UNOPENED,
     };
-    let image = over_image::<D, _>(course, image, &mut going)?;
+    let image = over_files::<D, _>(course, image, &mut going)?;
     Ok(Left {
         image,
         is_opened: going.progress.is_opened,
@@ -410,7 +389,7 @@ pub fn age<D: Platter>(
         version,
         dump: None,
     };
-    let image = over_image::<D, _>(course, image, &mut aging)?;
+    let image = over_files::<D, _>(course, image, &mut aging)?;
     match aging.dump {
         Some(dump) => Ok((image, dump)),
         None => anyhow::bail!("the files aren't opened"),

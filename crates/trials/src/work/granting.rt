@@ -31,14 +31,9 @@ impl OverBook for Granting<'_> {
 /// Answers the request as many times, over the database at a path, and tells how many times by a token.
 pub fn grants(rt: &HostRuntime, path: &str, count: u64) -> anyhow::Result<u64> {
     let setting = setting_of(rt.alloc(), CERTIFICATE)?;
-    grants_by(rt, &setting, path, count)
-}
-
-/// The same by this setting.
-fn grants_by(rt: &HostRuntime, setting: &Setting, path: &str, count: u64) -> anyhow::Result<u64> {
     let mut granting = Granting {
         alloc: rt.alloc(),
-        setting,
+        setting: &setting,
         count,
         granted: 0,
     };

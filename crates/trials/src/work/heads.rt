@@ -1,6 +1,6 @@
 //! Requests over HTTP with long heads, through the service alone.
 use crate::desks::{AtDesk, at_desk, serve_octets};
-use crate::setting::{CERTIFICATE, Setting};
+use crate::setting::CERTIFICATE;
 use crate::work::setting::setting_of;
 use cms::{KeyedHash, Signer};
 use desk::Desk;
@@ -78,17 +78,12 @@ impl AtDesk for Reading<'_> {
 pub fn heads(alloc: Global, count: u64, fields: usize, octets: usize) -> anyhow::Result<u64> {
     let head = head_of(alloc, fields, octets)?;
     let setting = setting_of(alloc, CERTIFICATE)?;
-    read_by(alloc, &setting, &head, count)
-}
-
-/// Has a head read so many times, at a desk of this setting, and tells how many times it was read to its end.
-fn read_by(alloc: Global, setting: &Setting, head: &[u8], count: u64) -> anyhow::Result<u64> {
     let mut reading = Reading {
         alloc,
-        head,
+        head: &head,
         count,
         read: 0,
     };
-    at_desk(alloc, setting, 0, &mut reading)?;
+    at_desk(alloc, &setting, 0, &mut reading)?;
     Ok(reading.read)
 }

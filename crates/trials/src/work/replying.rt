@@ -38,28 +38,17 @@ const DIGEST_OCTET: usize = 40;
 /// written.
 pub fn replies(alloc: Global, certificate: &[u8], count: u64) -> anyhow::Result<u64> {
     let setting = setting_of(alloc, certificate)?;
-    Ok(replies_by(alloc, &setting, count))
-}
-
-/// The same by this setting.
-fn replies_by(alloc: Global, setting: &Setting, count: u64) -> u64 {
     let mut query = REQUEST;
     let mut written = 0u64;
     for round in 0..count {
         query[DIGEST_OCTET] = (round % 256) as u8;
-        if is_granted(alloc, setting, &query) {
+        if let Some(reply) = reply(alloc, &setting, &query)
+            && reply.len() > SIGNATURE.len()
+        {
             written = written.saturating_add(1);
         }
     }
-    written
-}
-
-/// Whether the reply to a request is longer than a signature, as none but a granted one is.
-fn is_granted(alloc: Global, setting: &Setting, query: &[u8]) -> bool {
-    match reply(alloc, setting, query) {
-        Some(reply) => reply.len() > SIGNATURE.len(),
-        None => false,
-    }
+    Ok(written)
 }
 
 /// The reply to a request, from its octets on: what is signed is written, and the token by a signature that is there.

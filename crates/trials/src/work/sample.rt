@@ -56,39 +56,17 @@ fn deposit<B: Book>(alloc: Global, store: &mut B) -> Result<(), StoreFault> {
     }
 }
 
-/// Rights given, taken, given again and given twice, one of them to an account that owns another deposit: whether each
-/// is given, on which deposit, and whose it is.
-const RIGHTS: [(bool, u64, &str); 9] = [
-    (true, 1, "bob"),
-    (true, 1, "carol"),
-    (false, 1, "carol"),
-    (true, 3, "carol"),
-    (true, 3, "carol"),
-    (false, 2, "guest"),
-    (true, 2, "alice"),
-    (false, 2, "alice"),
-    (true, 2, "alice"),
-];
-
-/// Gives a right, or takes it.
-fn change_right<B: Book>(
-    store: &mut B,
-    is_given: bool,
-    deposit: u64,
-    reader: &str,
-) -> Result<(), StoreFault> {
-    if is_given {
-        store.grant(deposit, reader)
-    } else {
-        store.revoke(deposit, reader)
-    }
-}
-
+/// Rights given, taken, given again and given twice, one of them to an account that owns another deposit.
 fn give_rights<B: Book>(store: &mut B) -> Result<(), StoreFault> {
-    for (is_given, deposit, reader) in RIGHTS {
-        change_right(store, is_given, deposit, reader)?;
-    }
-    Ok(())
+    store.grant(1, "bob")?;
+    store.grant(1, "carol")?;
+    store.revoke(1, "carol")?;
+    store.grant(3, "carol")?;
+    store.grant(3, "carol")?;
+    store.revoke(2, "guest")?;
+    store.grant(2, "alice")?;
+    store.revoke(2, "alice")?;
+    store.grant(2, "alice")
 }
 
 fn fill<B: Book>(alloc: Global, store: &mut B) -> Result<(), StoreFault> {

@@ -3,9 +3,7 @@ use crate::desks::{AtDesk, at_desk};
 use crate::setting::CERTIFICATE;
 use crate::work::setting::setting_of;
 use cms::KeyedHash;
-use connections::{
-    CONNECTION_SECONDS, Clock, ClockFailed, Listening, SystemClock, serve_connections,
-};
+use connections::{CONNECTION_SECONDS, Clock, Listening, SystemClock, serve_connections};
 use desk::Desk;
 use std::net::TcpListener;
 use std::time::Duration;
@@ -25,23 +23,13 @@ impl AtDesk for Serving<'_> {
         desk: &mut Desk<'_, B>,
         signer: &mut KeyedHash,
     ) -> anyhow::Result<()> {
+        let rt = self.rt;
+        let mut clock = SystemClock { machine: rt };
         let limit = Duration::from_secs(CONNECTION_SECONDS);
-        let mut listening = Listening::new(self.rt, self.rt, self.listener, limit)?;
-        serve_heard(self.rt, &mut listening, self.count, desk, signer)?;
+        let mut listening = Listening::new(rt, rt, self.listener, limit)?;
+        serve_connections(&mut listening, self.count, &mut clock, desk, signer)?;
         Ok(())
     }
-}
-
-/// Serves so many connections that are heard, by the machine's clock.
-fn serve_heard<B: Book + Drop>(
-    rt: &HostRuntime,
-    listening: &mut Listening<'_, HostRuntime>,
-    count: u32,
-    desk: &mut Desk<'_, B>,
-    signer: &mut KeyedHash,
-) -> Result<(), ClockFailed> {
-    let mut clock = SystemClock { machine: rt };
-    serve_connections(listening, count, &mut clock, desk, signer)
 }
 
 /// Serves so many connections at a desk whose clock is calibrated at its reading.
