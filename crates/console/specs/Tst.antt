@@ -1,7 +1,8 @@
 -- The reply to a request where no account, policy file or clock is asked: the TSTInfo of the request, or the rejection
 -- by the first rule that fails (RFC 3161 2.4.2).
-use Rattle.std.specs.Prelude.{◌≡◌, ℕ, ◌⊎◌, List, None, IfSome, unwrap_or}
+use Rattle.std.specs.Prelude.{◌≡◌, ℕ, ◌⊎◌, List, Option, None, IfSome, unwrap_or}
 use Rattle.der.specs.Node.{encoding, IsLawful}
+use Rattle.der.specs.declared.fault.DerFault.TheVariants.{BadValue}
 use Rattle.gentime.specs.GenTime.{round_down}
 use Rattle.tsp.specs.Request.{RequestValue, Spells}
 use Rattle.tsp.specs.Rejection.{rejection}
@@ -16,8 +17,8 @@ use Rattle.console.specs.Hexadecimal.{IsHexadecimal, line}
 use Rattle.console.specs.Known.{five_algorithms}
 use Rattle.console.specs.Settings.{SettingsValue, States}
 use Rattle.console.specs.declared.fault.Fault.{Fault}
-use Rattle.console.specs.declared.fault.Fault.TheVariants.{Tsp, Input}
-use Rattle.console.specs.declared.fault.InputFault.TheVariants.{Memory}
+use Rattle.console.specs.declared.fault.Fault.TheVariants.{Der, Tsp, Input}
+use Rattle.console.specs.declared.fault.InputFault.TheVariants.{Failed, Memory, NotHexadecimal}
 
 -- the TSTInfo of a request: its policy is the request's where it states one, its genTime the moment rounded down, and it
 -- names no authority
@@ -77,6 +78,17 @@ IsReply settings query octets = IsGranted settings query octets ⊎ IsRejected q
 -- Memory is wanting for a reply: of a TSTInfo, where each rule holds, or of the program's own.
 abbrev pub IsReplyFault : List ℕ → Fault → Type 0
 IsReplyFault query fault = (fault ≡ Input Memory) ⊎ ((fault ≡ Tsp tsp.Memory) × ((rule : Rule) → Holds query rule))
+
+-- Why nothing is replied to an input: the words' policy is no object identifier's text; the text of the input spells no
+-- octets; a stream fails; memory is wanting, of a TSTInfo only where each rule holds of the octets.
+abbrev pub IsTstFault : Option (List ℕ) → Fault → Type 0
+IsTstFault input fault =
+    (fault ≡ Der BadValue)
+    ⊎ (((fault ≡ Input NotHexadecimal) × IfSome input (λ text. (octets : List ℕ) → IsHexadecimal text octets → ⊥))
+    ⊎ ((fault ≡ Input Failed)
+    ⊎ ((fault ≡ Input Memory)
+    ⊎ ((fault ≡ Tsp tsp.Memory) × IfSome input (λ text. (query : List ℕ) × IsHexadecimal text query
+    × ((rule : Rule) → Holds query rule))))))
 
 -- The text spells a request's octets, the words state settings, and what is written is the line of a reply to the one
 -- by the other.

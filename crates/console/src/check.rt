@@ -1,4 +1,4 @@
-//! What a policy file has.
+//! The word `check`: what a policy file has.
 ghost use Rattle.std.specs.Prelude.{◌≡◌, ◌⊎◌, List, ℕ, Ok, Err, OnOk, IfOk, IfErr, ◌∷◌, [], string_bytes};
 ghost use Rattle.std.specs.Fmt.{decimal};
 ghost use Rattle.std.specs.Io.KnownBytes.{Appends};
@@ -18,8 +18,11 @@ use std::io::Write;
 use std::rt::HostRuntime;
 use std::{fs, io};
 
-/// Does what the word `check` asks for: reads a policy file, and writes how many entries it has. Refused as
-/// `read_policy`; `input` 5 where the output fails, and 7 where memory runs out.
+/// Does what the word `check` asks for: reads a policy file, and writes how many algorithms, extensions, policies and
+/// accounts it has, as one line of four decimal numbers with a space between them and LF at its end.
+///
+/// Refused as `read_policy`, before anything is written; then as `input` 7 where memory runs out over the line, before
+/// anything is written too, and as `input` 5 where the output fails: a beginning of the line may stand there then.
 pub fn check_policy<O: Write>(
     rt: &HostRuntime,
     words: &CheckWords<'_>,
@@ -32,6 +35,11 @@ pub fn check_policy<O: Write>(
     ensures kept { IfErr result (λ fault. (O.contents output.new ≡ O.contents output.old)
         ⊎ ((fault ≡ Fault.Input InputFault.Failed)
         × ((written : List ℕ) × Counts written × Begins (O.contents output.old) (O.contents output.new) written))) }
+    ensures faults { IfErr result (λ fault. (fault ≡ Fault.Input InputFault.Failed)
+        ⊎ ((fault ≡ Fault.Input InputFault.File)
+        ⊎ ((fault ≡ Fault.Input InputFault.Memory)
+        ⊎ ((text : List ℕ) × ((first : PolicyFault) × (fault ≡ Fault.Policy first)
+        × IsFirstFault first (meaning_of text)))))) }
 {
     let policy = read_policy(rt, words.rules)?;
     write_counts(rt.alloc(), &policy, output)?;

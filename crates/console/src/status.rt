@@ -1,5 +1,6 @@
 //! The exit status, and what is written where a fault stopped the program or words aren't taken.
-ghost use Rattle.std.specs.Prelude.{◌≡◌, ◌≤◌, ◌⊎◌, String};
+ghost use Rattle.std.specs.Prelude.{◌≡◌, ◌≤◌, ◌⊎◌, String, string_bytes};
+ghost use Rattle.std.specs.Io.KnownBytes.{Appends};
 ghost use Rattle.std.specs.declared.alloc.Global.{Global};
 ghost use Rattle.command_line.specs.declared.refusal.Refusal.TheVariants.{Help, Mistake};
 ghost use Rattle.console.specs.Fault.{fault_line};
@@ -19,7 +20,7 @@ pub const FAULT: u8 = 1;
 /// The words are refused.
 pub const WORDS_REFUSED: u8 = 2;
 
-/// Writes the fault's line, and answers the status 1.
+/// Writes the fault's line, or a beginning of it where `errors` fails, and answers the status 1.
 pub fn report<E: Write>(fault: Fault, errors: &mut E) -> u8
     ensures status { result ≡ 1 }
     ensures told { Begins (E.contents errors.old) (E.contents errors.new) (fault_line fault) }
@@ -37,8 +38,15 @@ pub fn explain<O: Write, E: Write>(refusal: &Refusal, output: &mut O, errors: &m
     // Nothing but help is written to the output.
     ensures unwritten { (O.contents output.new ≡ O.contents output.old)
         ⊎ ((text : String Global) × (refusal.now ≡ Help text)) }
-    ensures refused { result ≡ 2 → (text : String Global) × (refusal.now ≡ Mistake text) }
-    ensures shown { result ≡ 0 → (text : String Global) × (refusal.now ≡ Help text) }
+    ensures begun { result ≡ 1 → (O.contents output.new ≡ O.contents output.old)
+        ⊎ ((text : String Global) × (refusal.now ≡ Help text)
+        × Begins (O.contents output.old) (O.contents output.new) (string_bytes text)) }
+    ensures shown { result ≡ 0 → (text : String Global) × (refusal.now ≡ Help text)
+        × Appends (O.contents output.old) (O.contents output.new) (string_bytes text) }
+
+    // A mistake is written as far as `errors` takes it.
+    ensures refused { result ≡ 2 → (text : String Global) × (refusal.now ≡ Mistake text)
+        × Begins (E.contents errors.old) (E.contents errors.new) (string_bytes text) }
     ensures told { result ≡ 1 → (fault : Fault)
         × Begins (E.contents errors.old) (E.contents errors.new) (fault_line fault) }
 {

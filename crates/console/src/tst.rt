@@ -1,15 +1,17 @@
 //! The word `tst`: the reply to a request where no account, policy file or clock is asked.
-ghost use Rattle.std.specs.Prelude.{◌≡◌, ◌⊎◌, List, ℕ, unwrap_or, IfSome, IfOk, IfErr, OnOk};
+ghost use Rattle.std.specs.Prelude.{◌≡◌, ◌⊎◌, ◌↔◌, List, ℕ, None, Err, unwrap_or, IfSome, IfOk, IfErr, OnOk};
 ghost use Rattle.std.specs.Io.KnownBytes.{Appends};
 ghost use Rattle.der.specs.Node.{encoding};
 ghost use Rattle.der.specs.ObjectIdentifier.{IsOid};
+ghost use Rattle.der.specs.OidText.{oid_of_text};
+ghost use Rattle.der.specs.declared.fault.DerFault.TheVariants.{BadValue};
 ghost use Rattle.tsp.specs.Rejection.{rejection};
 ghost use Rattle.tsp.specs.Request.{IsRequest};
 ghost use Rattle.tsp.specs.Tst.{tst_info};
 ghost use Rattle.tsp.specs.View.{request_view};
 ghost use Rattle.tsp.specs.declared.fault.TspFault.TheVariants.{Memory};
 ghost use Rattle.console.specs.Settings.{settings_value};
-ghost use Rattle.console.specs.Tst.{Answers, HasLawfulAnswers, IsReply, IsReplyFault, tst_of};
+ghost use Rattle.console.specs.Tst.{Answers, HasLawfulAnswers, IsReply, IsReplyFault, IsTstFault, tst_of};
 ghost use Rattle.console.specs.Writing.{Begins};
 
 use crate::fault::{Fault, InputFault};
@@ -25,9 +27,12 @@ use tsp::{
     write_tst,
 };
 
-/// Does what the word `tst` asks for: reads a request in hexadecimal, and writes the line of the reply to it by the
-/// settings that the words state. Refused as `Settings::of_words`, `read_octets` and `tst_reply`, in this order; then
-/// `input` 5 where the output fails, and 7 where memory runs out.
+/// Does what the word `tst` asks for: reads a request in hexadecimal, and writes the line of the reply to it, TSTInfo
+/// (RFC 3161 2.4.2) or rejection, in hexadecimal digits of lower case, by the settings that the words state.
+///
+/// Refused, in this order, as `der` 8 where the words' policy is no object identifier's text, `input` 5 where the input
+/// fails, `input` 1 where it spells no octets, and `input` 5 where the output fails: a beginning of the line may stand
+/// there then. Where memory runs out it is `tsp` 3 over a TSTInfo, and else `input` 7; nothing is written then.
 pub fn answer_tst<I: Read, O: Write>(
     alloc: Global,
     words: &TstWords<'_>,
@@ -44,6 +49,8 @@ pub fn answer_tst<I: Read, O: Write>(
         ⊎ ((fault ≡ Fault.Input InputFault.Failed) × IfSome (I.remaining input.old) (λ text.
         (written : List ℕ) × Answers words.now text written
         × Begins (O.contents output.old) (O.contents output.new) written))) }
+    ensures refused { (result ≡ Err (Fault.Der BadValue)) ↔ (oid_of_text words.now.policy.now ≡ None) }
+    ensures faults { IfErr result (IsTstFault (I.remaining input.old)) }
 {
     let settings = Settings::of_words(alloc, words)?;
     let query = read_octets(alloc, input)?;

@@ -19,7 +19,7 @@ use Rattle.console.proofs.Writing.{appends_nothing, keeps_beginning}
 
 module _ (policy : PolicyValue) (reading : ℤ) (old new before : Option (List ℕ)) where
   -- the input is at its end
-  pub writes_nothing : (after : Option (List ℕ)) → known.Exchanges policy reading old new before after Closed
+  pub writes_nothing : (after : Option (List ℕ)) → known.IsExchanged policy reading old new before after Closed
       → WritesAnswer policy reading old new (Appends before after)
   writes_nothing after e =
       let P : Option (List ℕ) → Type 0 = λ x. Appends before x [] in
@@ -27,7 +27,7 @@ module _ (policy : PolicyValue) (reading : ℤ) (old new before : Option (List �
 
   -- the answer is written, and the output flushed
   pub writes_all : (mid after : Option (List ℕ)) (status : ℕ)
-      → known.Exchanges policy reading old new before mid (Answered status) → Keeps mid after
+      → known.IsExchanged policy reading old new before mid (Answered status) → Keeps mid after
       → WritesAnswer policy reading old new (Appends before after)
   writes_all mid after status (inl e) kept =
       inr (inl (e.answer, e.is, keeps_beginning before mid after (answer_text e.answer) e.written kept))
@@ -42,7 +42,7 @@ module _ (policy : PolicyValue) (reading : ℤ) (old new before : Option (List �
 
   -- the answer is written, and the output not flushed
   pub writes_unflushed : (mid after : Option (List ℕ)) (status : ℕ)
-      → known.Exchanges policy reading old new before mid (Answered status) → Keeps mid after
+      → known.IsExchanged policy reading old new before mid (Answered status) → Keeps mid after
       → WritesAnswer policy reading old new (Begins before after)
   writes_unflushed mid after status (inl e) kept =
       inr (inl (e.answer, e.is, begun mid after (answer_text e.answer) e.written kept))
@@ -52,7 +52,7 @@ module _ (policy : PolicyValue) (reading : ℤ) (old new before : Option (List �
 
   -- a beginning of the answer is written
   pub writes_part : (after : Option (List ℕ)) (status sent : ℕ)
-      → known.Exchanges policy reading old new before after (WriteFailed status sent)
+      → known.IsExchanged policy reading old new before after (WriteFailed status sent)
       → WritesAnswer policy reading old new (Begins before after)
   writes_part after status sent (inl e) = inr (inl (e.answer, e.is, (sent, e.written)))
   writes_part after status sent (inr e) =
@@ -61,7 +61,7 @@ module _ (policy : PolicyValue) (reading : ℤ) (old new before : Option (List �
 
   -- what is known of the exchange, and what is written, where it has ended
   pub ended : (mid after : Option (List ℕ)) (outcome : Result Served Fault) (IsServed : Served → Type 0)
-      → IfOk outcome (known.Exchanges policy reading old new before mid) → IfOk outcome IsServed
+      → IfOk outcome (known.IsExchanged policy reading old new before mid) → IfOk outcome IsServed
       → HasEnded outcome mid after
       → ((s : Served) × IsServed s) × WritesAnswer policy reading old new (Appends before after)
   ended mid after (Ok Closed) IsServed told served end =
@@ -76,7 +76,7 @@ module _ (policy : PolicyValue) (reading : ℤ) (old new before : Option (List �
   -- and where it is stopped
   pub stopped : (mid after : Option (List ℕ)) (outcome : Result Served Fault) (IsServed : Served → Type 0)
       (fault : Fault)
-      → IfOk outcome (known.Exchanges policy reading old new before mid) → IfOk outcome IsServed
+      → IfOk outcome (known.IsExchanged policy reading old new before mid) → IfOk outcome IsServed
       → OnErr outcome (mid ≡ before) → HasStopped outcome mid after fault
       → (after ≡ before)
       ⊎ ((fault ≡ Input Failed)

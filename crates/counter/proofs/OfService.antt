@@ -10,7 +10,7 @@ use Rattle.service.specs.Served.{keeps_back, overflows, tells_status, wants_stat
 use Rattle.service.specs.declared.served.Served.{Served}
 use Rattle.service.specs.declared.served.Served.TheVariants as served
 use Rattle.counter.specs.Exchanging as known
-use Rattle.counter.specs.Exchanging.{AsksExtract, Exchanges, IsAnswerFor, IsJudged}
+use Rattle.counter.specs.Exchanging.{AsksExtract, IsExchanged, IsAnswerFor, IsJudged}
 
 module _ {W B X : Type 0} (g : Ghosts B) (signs : X → List ℕ → Result (List ℕ) SignerFault → X → Type 0)
     (count : X → ℕ) (contents : W → Option (List ℕ)) (reading : ℤ) (t : Turn W B X) where
@@ -38,7 +38,7 @@ module _ {W B X : Type 0} (g : Ghosts B) (signs : X → List ℕ → Result (Lis
       record { account = e.account; from = e.from; to = e.to; read = e.read; allowed = e.allowed }
 
   pub exchanged : (outcome : Served) → Serves g signs count contents reading t outcome
-      → Exchanges t.desk.setting.file reading t.input t.input_after (contents t.writer) (contents t.writer_after)
+      → IsExchanged t.desk.setting.file reading t.input t.input_after (contents t.writer) (contents t.writer_after)
       outcome
   exchanged served.Closed s = (s.0, s.1, ap contents s.2.writer)
   exchanged (served.Answered status) (inl s) =

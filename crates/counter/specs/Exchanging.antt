@@ -1,4 +1,5 @@
--- What answering one HTTP request does to a reader and a writer, where nothing is known of what the database holds.
+-- What answering one HTTP request does to a reader and a writer, where nothing is known of what the database holds; and
+-- over which store it is served.
 use Rattle.std.specs.Prelude.{◌≡◌, ◌⊎◌, ℕ, ℤ, List, [], length, take, Option, Ok, Err}
 use Rattle.std.specs.Io.KnownBytes.{Appends, Consumes, IsAtEnd}
 use Rattle.policy.specs.Record.{AccountValue, PolicyValue}
@@ -77,15 +78,15 @@ pub record AsksExtract (file : PolicyValue) (reading : ℤ) (old new : Option (L
   pub allowed : IsAllowed file account from to
 
 -- What each outcome says: the output's octets were `before`, and are `after`.
-abbrev pub Exchanges : PolicyValue → ℤ → (old new before after : Option (List ℕ)) → Served → Type 0
-Exchanges file reading old new before after served.Closed =
+abbrev pub IsExchanged : PolicyValue → ℤ → (old new before after : Option (List ℕ)) → Served → Type 0
+IsExchanged file reading old new before after served.Closed =
     Consumes old new [] × IsAtEnd new × (after ≡ before)
-Exchanges file reading old new before after (served.Answered status) =
+IsExchanged file reading old new before after (served.Answered status) =
     Writes file reading old new before after status (λ text. text)
     ⊎ (AsksExtract file reading old new
     × ((body : List ℕ) × ((200 ≡ status) × Appends before after (answer_text (success 200 Csv body)))))
-Exchanges file reading old new before after served.ReadFailed = IsPart old new × (after ≡ before)
-Exchanges file reading old new before after (served.WriteFailed status sent) =
+IsExchanged file reading old new before after served.ReadFailed = IsPart old new × (after ≡ before)
+IsExchanged file reading old new before after (served.WriteFailed status sent) =
     Writes file reading old new before after status (take sent)
     ⊎ (AsksExtract file reading old new
     × ((status ≡ 200) × (octets : List ℕ) × (length octets ≡ sent) × Appends before after octets))

@@ -6,7 +6,7 @@ ghost use Rattle.operations.specs.Machine.{machine_of};
 ghost use Rattle.operations.specs.Opening.{IsStartingFault};
 ghost use Rattle.operations.specs.Signing.{algorithm_of};
 ghost use Rattle.operations.specs.Visits.{setting_of};
-ghost use Rattle.counter.specs.Exchanging.{Exchanges, IsServedOver, turn_of};
+ghost use Rattle.counter.specs.Exchanging.{IsExchanged, IsServedOver, turn_of};
 
 use book::Book;
 use cms::Signer;
@@ -24,7 +24,7 @@ use std::rt::HostRuntime;
 /// One HTTP request, which is read and answered.
 #[derive(Drop)]
 struct OneRequest {
-    /// The clock's reading, in microseconds.
+    /// The clock's reading, in microseconds since 1970-01-01T00:00:00Z.
     reading: i64,
 }
 
@@ -35,7 +35,7 @@ impl<R: Read, W: Write> DeskOperation<R, W> for OneRequest {
 
     ghost lacks = { λ _. ⊥ };
 
-    ghost answers = { λ exchange file reader reader' writer writer' served. Exchanges file exchange.reading
+    ghost answers = { λ exchange file reader reader' writer writer' served. IsExchanged file exchange.reading
         (R.remaining reader) (R.remaining reader') (W.contents writer) (W.contents writer') served };
 
     ghost moves = { λ _ _ g signs exchange visit served. Serves g signs.signs signs.fault_count W.contents
@@ -59,7 +59,8 @@ impl<R: Read, W: Write> DeskOperation<R, W> for OneRequest {
 }
 
 /// Reads one HTTP request and answers it as `serve_one` does, over the history that the database at the path keeps; the
-/// reading is the clock's, in microseconds. Refused as `operations::answer`; nothing is read or written then.
+/// reading is the clock's, in microseconds since 1970-01-01T00:00:00Z. Refused as `operations::perform_at_desk`; nothing
+/// is read or written then.
 pub fn exchange<F: Start + Drop, R: Read, W: Write>(
     rt: &HostRuntime,
     desk: DatabaseDesk<'_, F>,
@@ -67,7 +68,7 @@ pub fn exchange<F: Start + Drop, R: Read, W: Write>(
     reader: &mut R,
     writer: &mut W,
 ) -> Result<Served, OperationFault>
-    ensures exchanged { IfOk result (Exchanges (policy_view desk.entry.terms.policy.now) reading
+    ensures exchanged { IfOk result (IsExchanged (policy_view desk.entry.terms.policy.now) reading
         (R.remaining reader.old) (R.remaining reader.new) (W.contents writer.old) (W.contents writer.new)) }
 
     // Whatever the files hold: the request is served at a desk over the store that was opened over them.
@@ -96,7 +97,7 @@ fn exchange_with<B: Book + Drop, G: Signer, R: Read, W: Write>(
     reader: &mut R,
     writer: &mut W,
 ) -> Served
-    ensures exchanged { Exchanges desk.old.setting.file reading (R.remaining reader.old) (R.remaining reader.new)
+    ensures exchanged { IsExchanged desk.old.setting.file reading (R.remaining reader.old) (R.remaining reader.new)
         (W.contents writer.old) (W.contents writer.new) result }
     ensures served { Serves B.Standing G.signs G.fault_count W.contents reading (record {
       input = R.remaining reader.old;
