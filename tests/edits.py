@@ -6,8 +6,6 @@ when a check has reached the prover, is as the toolchain's `rt` has it.
 """
 
 import dataclasses
-import importlib.machinery
-import importlib.util
 import os
 import re
 import shutil
@@ -15,6 +13,8 @@ import subprocess
 import sys
 import tempfile
 import time
+
+from toolchain import is_usable, rt
 
 FOLDERS = ("must-fail", "edits")
 FUNCTION = re.compile(r"^([ \t]*)(?:pub(?:\([a-z ]+\))?\s+)?(?:const\s+)?fn\s+(\w+)")
@@ -26,19 +26,6 @@ PLACE = re.compile(r"(?:note: )?(?:\./)?([\w+/]+\.(?:rt|antt)):\d+:\d+: (?!note)
 NAMES = re.compile(r"has no field|is not in scope|has no `|was not admitted|which was rejected")
 SAYS_LITTLE = "only since a proof file names what the edit took away: "
 LONGEST_LINE = 116
-
-
-def toolchain():
-    """The toolchain's program `rt`, as a module."""
-    page = subprocess.run(["rt", "doc"], stdout=subprocess.PIPE, check=True, text=True).stdout.strip()
-    loader = importlib.machinery.SourceFileLoader("rt", os.path.join(os.path.dirname(page), "bin", "rt"))
-    module = importlib.util.module_from_spec(importlib.util.spec_from_loader("rt", loader))
-    sys.dont_write_bytecode = True
-    loader.exec_module(module)
-    return module
-
-
-rt = toolchain()
 
 
 class TimeUp(Exception):
@@ -202,14 +189,6 @@ def told_of(turned, said):
         return Refusal(turned, not waits, function, line, waits)
     why = "it is still proved" if told else "a check tells nothing of it"
     return Refusal(turned, False, turned.name, f"NOT REFUSED: {why}")
-
-
-def is_usable(crate):
-    """Whether the crate's library is of its sources: by its stamp, or, as `rt ci` leaves none, since it is younger."""
-    if not os.path.isdir(crate.rlib):
-        return False
-    sources = [file for it in [*crate.below(), crate] for file in rt.rtlib.files_of(it.folder)]
-    return crate.is_built() or max(map(os.path.getmtime, sources)) < os.path.getmtime(crate.rlib)
 
 
 def make_libraries(crates):
