@@ -5,7 +5,9 @@ import functools
 import json
 import os
 import re
+import shutil
 import subprocess
+import tempfile
 import time
 
 ROOT = os.path.dirname(os.path.dirname(os.path.abspath(__file__)))
@@ -102,16 +104,57 @@ def refusing(library, mark, number, which, **more):
     }
 
 
-def played(words, text, path, environment):
+def refused_in_turn(words, text, folder, library, which, **more):
+    """What a program writes to its ends, and its status: with memory, and by number with that allocation refused, that
+    `one` or `all` from it on. The library `refused_memory` has it go on from each of them in a process of its own."""
+    own = tempfile.mkdtemp(dir=folder)
+    ends = [os.path.join(own, name) for name in ("in", "out", "err")]
+    with open(ends[0], "wb") as file:
+        file.write(text)
+    environment = {"LD_PRELOAD": library, "REFUSALS": own, "REFUSED_ALLOCATIONS": which, **more}
+    with open(ends[0], "rb") as stdin, open(ends[1], "wb") as stdout, open(ends[2], "wb") as stderr:
+        done = subprocess.run(words, stdin=stdin, stdout=stdout, stderr=stderr, env=environment, timeout=600)
+    refused = {}
+    if os.path.exists(os.path.join(own, "statuses")):
+        for line in octets_of(os.path.join(own, "statuses")).splitlines():
+            number, status = map(int, line.split())
+            written = [octets_of(os.path.join(own, f"{number}.{end}")) for end in ("out", "err")]
+            refused[number] = (*written, status)
+    whole = octets_of(ends[1]), octets_of(ends[2]), done.returncode
+    shutil.rmtree(own)
+    return whole, refused
+
+
+def octets_of(path):
+    with open(path, "rb") as file:
+        return file.read()
+
+
+def played(words, text, path):
     """What the player tells of each row of a text: the row, and the lines behind it. The words are the program, and the
     kind of the rows."""
     with open(path, "w", encoding="utf-8") as file:
         file.write(text)
-    done = subprocess.run([*words, path], capture_output=True, env=environment, timeout=60)
-    if done.returncode or done.stderr:
-        raise RuntimeError(f"{text}: {done}")
+    done = subprocess.run([*words, path], capture_output=True, env={}, timeout=60)
+    return told_by_rows(done.stdout, done.stderr, done.returncode)
+
+
+def played_refused(words, text, path, library, which, **more):
+    """The same with memory, and by number with that allocation refused behind the mark of the rows."""
+    with open(path, "w", encoding="utf-8") as file:
+        file.write(text)
+    folder, more = os.path.dirname(path), BEHIND_MARK | more
+    whole, refused = refused_in_turn([*words, path], b"", folder, library, which, **more)
+    told = {written: told_by_rows(*written) for written in {whole, *refused.values()}}
+    return told[whole], {number: told[written] for number, written in refused.items()}
+
+
+def told_by_rows(output, errors, status):
+    """What the player told of each row, by what it wrote and its status."""
+    if status or errors:
+        raise RuntimeError(f"the player ended with {status}, and said: {output.decode()}{errors.decode()}")
     told = []
-    for line in done.stdout.decode().rstrip("\n").split("\n"):
+    for line in output.decode().rstrip("\n").split("\n"):
         if line.startswith("  "):
             told[-1].append(line[2:])
         else:

@@ -1,17 +1,32 @@
-/* Loaded into a program before the C library: refuses the allocation of the number REFUSED_ALLOCATION, counted from 1,
-   and with REFUSED_ALLOCATIONS=all each one after it. With REFUSED_AFTER=SIZE it counts those after the first of that
-   many octets. If it refused any, it makes the file REFUSAL_MARK. */
+/* Loaded into a program before the C library: refuses allocations, which are counted from 1. With REFUSED_AFTER=SIZE
+   those are counted that come after the first of that many octets.
+
+   With REFUSED_ALLOCATION=NUMBER the one of that number is refused, and with REFUSED_ALLOCATIONS=all each one after it.
+   If any was refused, it makes the file REFUSAL_MARK.
+
+   With REFUSALS=FOLDER in place of the number each one is refused in turn, or each from REFUSED_FROM to REFUSED_TO. The
+   program goes on without it in a process of its own, from there to its end, while the first process waits, and then
+   has its memory. Standard input, output and errors are files then. What comes of the allocation NUMBER stands in
+   FOLDER/NUMBER.out and FOLDER/NUMBER.err, with what was written before it, and in FOLDER/statuses stands a line for
+   each, its number and the status. */
 #include <errno.h>
 #include <fcntl.h>
+#include <stdio.h>
 #include <stdlib.h>
 #include <string.h>
+#include <sys/wait.h>
 #include <unistd.h>
 
 extern void *__libc_malloc(size_t size);
 extern void *__libc_realloc(void *old, size_t size);
 
 static long allocations;
-static int is_begun;
+static int is_begun, is_refused_from_here, is_at_work;
+
+static const char *word(const char *name) {
+  const char *value = getenv(name);
+  return value ? value : "";
+}
 
 /* Whether allocations are counted: from the first on, or after the one of that size. */
 static int is_counted(size_t size) {
@@ -21,19 +36,82 @@ static int is_counted(size_t size) {
   return 0;
 }
 
-static int is_refused(size_t size) {
-  const char *number = getenv("REFUSED_ALLOCATION");
-  const char *which = getenv("REFUSED_ALLOCATIONS");
-  const char *mark = getenv("REFUSAL_MARK");
-  if (!number || !which || !mark || !is_counted(size)) return 0;
+static int are_all_refused(void) { return strcmp(word("REFUSED_ALLOCATIONS"), "all") == 0; }
+
+/* Has a descriptor write into a file of its own, which begins with what was written through it before. */
+static void part(int descriptor, const char *folder, const char *ending) {
+  char path[4096], own[64], octets[4096];
+  snprintf(path, sizeof path, "%s/%ld.%s", folder, allocations, ending);
+  snprintf(own, sizeof own, "/proc/self/fd/%d", descriptor);
+  int to = open(path, O_CREAT | O_TRUNC | O_WRONLY, 0600), from = open(own, O_RDONLY);
+  off_t left = lseek(descriptor, 0, SEEK_CUR);
+  while (left > 0) {
+    ssize_t count = read(from, octets, left < (off_t)sizeof octets ? (size_t)left : sizeof octets);
+    if (count <= 0 || write(to, octets, (size_t)count) != count) _exit(99);
+    left -= count;
+  }
+  close(from);
+  if (to < 0 || dup2(to, descriptor) < 0) _exit(99);
+  close(to);
+}
+
+/* Has standard input read on from where it is, whatever another process reads. */
+static void read_apart(void) {
+  off_t at = lseek(0, 0, SEEK_CUR);
+  int own = open("/proc/self/fd/0", O_RDONLY);
+  if (own < 0 || lseek(own, at, SEEK_SET) != at || dup2(own, 0) < 0) _exit(99);
+  close(own);
+}
+
+/* Whether it is refused here: in the process that goes on without it. */
+static int is_refused_apart(const char *folder) {
+  const char *from = getenv("REFUSED_FROM"), *to = getenv("REFUSED_TO");
+  if ((from && allocations < strtol(from, NULL, 10)) || (to && allocations > strtol(to, NULL, 10))) return 0;
+  pid_t process = fork();
+  if (process == 0) {
+    read_apart();
+    part(1, folder, "out");
+    part(2, folder, "err");
+    is_refused_from_here = 1;
+    return 1;
+  }
+  char path[4096], line[64];
+  int status = 0, statuses;
+  waitpid(process, &status, 0);
+  snprintf(path, sizeof path, "%s/statuses", folder);
+  int ended = WIFEXITED(status) ? WEXITSTATUS(status) : -WTERMSIG(status);
+  int length = snprintf(line, sizeof line, "%ld %d\n", allocations, ended);
+  statuses = open(path, O_CREAT | O_APPEND | O_WRONLY, 0600);
+  if (process < 0 || write(statuses, line, (size_t)length) != length) _exit(99);
+  close(statuses);
+  return 0;
+}
+
+static int is_refused_at_its_number(void) {
+  const char *number = getenv("REFUSED_ALLOCATION"), *mark = getenv("REFUSAL_MARK");
+  if (!number || !mark) return 0;
   long first = strtol(number, NULL, 10);
-  allocations++;
-  if (allocations < first || (allocations > first && strcmp(which, "all") != 0)) return 0;
+  if (allocations < first || (allocations > first && !are_all_refused())) return 0;
   if (allocations == first) close(open(mark, O_CREAT | O_WRONLY, 0600));
-  errno = ENOMEM;
   return 1;
 }
 
-void *malloc(size_t size) { return is_refused(size) ? NULL : __libc_malloc(size); }
+static int is_refused(size_t size) {
+  if (is_at_work || !is_counted(size)) return 0;
+  if (is_refused_from_here) return are_all_refused();
+  const char *folder = getenv("REFUSALS");
+  is_at_work = 1;
+  allocations++;
+  int is_refused = folder ? is_refused_apart(folder) : is_refused_at_its_number();
+  is_at_work = 0;
+  return is_refused;
+}
 
-void *realloc(void *old, size_t size) { return is_refused(size) ? NULL : __libc_realloc(old, size); }
+static void *refusal(void) {
+  errno = ENOMEM;
+  return NULL;
+}
+
+void *malloc(size_t size) { return is_refused(size) ? refusal() : __libc_malloc(size); }
+
+void *realloc(void *old, size_t size) { return is_refused(size) ? refusal() : __libc_realloc(old, size); }
