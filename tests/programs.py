@@ -108,24 +108,27 @@ def refused_in_turn(words, text, folder, library, which, **more):
     """What a program writes to its ends, and its status: with memory, and by number with that allocation refused, that
     `one` or `all` from it on. The library `refused_memory` has it go on from each of them in a process of its own."""
     own = tempfile.mkdtemp(dir=folder)
-    ends = [os.path.join(own, name) for name in ("in", "out", "err")]
-    with open(ends[0], "wb") as file:
+    first = [os.path.join(own, f"first.{name}") for name in ("in", "out", "err")]
+    with open(first[0], "wb") as file:
         file.write(text)
     environment = {"LD_PRELOAD": library, "REFUSALS": own, "REFUSED_ALLOCATIONS": which, **more}
-    with open(ends[0], "rb") as stdin, open(ends[1], "wb") as stdout, open(ends[2], "wb") as stderr:
+    with open(first[0], "rb") as stdin, open(first[1], "wb") as stdout, open(first[2], "wb") as stderr:
         done = subprocess.run(words, stdin=stdin, stdout=stdout, stderr=stderr, env=environment, timeout=600)
-    refused = {}
-    if os.path.exists(os.path.join(own, "statuses")):
-        for line in octets_of(os.path.join(own, "statuses")).splitlines():
-            number, status = map(int, line.split())
-            written = [octets_of(os.path.join(own, f"{number}.{end}")) for end in ("out", "err")]
-            refused[number] = (*written, status)
-    whole = octets_of(ends[1]), octets_of(ends[2]), done.returncode
+    output, errors, ended = (octets_of(os.path.join(own, name)) for name in ("out", "err", "ended"))
+    refused, output_at, errors_at = {}, 0, 0
+    for line in ended.splitlines():
+        number, status, output_end, errors_end = map(int, line.split())
+        refused[number] = output[output_at:output_end], errors[errors_at:errors_end], status
+        output_at, errors_at = output_end, errors_end
+    whole = octets_of(first[1]), octets_of(first[2]), done.returncode
     shutil.rmtree(own)
     return whole, refused
 
 
 def octets_of(path):
+    """What a file holds; nothing where there is none."""
+    if not os.path.exists(path):
+        return b""
     with open(path, "rb") as file:
         return file.read()
 

@@ -6,9 +6,9 @@
 
    With REFUSALS=FOLDER in place of the number each one is refused in turn, or each from REFUSED_FROM to REFUSED_TO. The
    program goes on without it in a process of its own, from there to its end, while the first process waits, and then
-   has its memory. Standard input, output and errors are files then. What comes of the allocation NUMBER stands in
-   FOLDER/NUMBER.out and FOLDER/NUMBER.err, with what was written before it, and in FOLDER/statuses stands a line for
-   each, its number and the status. */
+   has its memory. Standard input, output and errors are files then. What comes of each, with what was written before
+   it, goes behind that of the others into FOLDER/out and FOLDER/err. FOLDER/ended has a line for each: its number, the
+   status, and how many octets both files have then. */
 #include <errno.h>
 #include <fcntl.h>
 #include <stdio.h>
@@ -38,12 +38,19 @@ static int is_counted(size_t size) {
 
 static int are_all_refused(void) { return strcmp(word("REFUSED_ALLOCATIONS"), "all") == 0; }
 
-/* Has a descriptor write into a file of its own, which begins with what was written through it before. */
-static void part(int descriptor, const char *folder, const char *ending) {
-  char path[4096], own[64], octets[4096];
-  snprintf(path, sizeof path, "%s/%ld.%s", folder, allocations, ending);
+static int file_in(const char *folder, const char *name) {
+  char path[4096];
+  snprintf(path, sizeof path, "%s/%s", folder, name);
+  int file = open(path, O_CREAT | O_APPEND | O_WRONLY, 0600);
+  if (file < 0) _exit(99);
+  return file;
+}
+
+/* Has a descriptor write to the end of a file, and first what was written through it before. */
+static void write_apart(int descriptor, const char *folder, const char *name) {
+  char own[64], octets[4096];
   snprintf(own, sizeof own, "/proc/self/fd/%d", descriptor);
-  int to = open(path, O_CREAT | O_TRUNC | O_WRONLY, 0600), from = open(own, O_RDONLY);
+  int to = file_in(folder, name), from = open(own, O_RDONLY);
   off_t left = lseek(descriptor, 0, SEEK_CUR);
   while (left > 0) {
     ssize_t count = read(from, octets, left < (off_t)sizeof octets ? (size_t)left : sizeof octets);
@@ -51,8 +58,15 @@ static void part(int descriptor, const char *folder, const char *ending) {
     left -= count;
   }
   close(from);
-  if (to < 0 || dup2(to, descriptor) < 0) _exit(99);
+  if (dup2(to, descriptor) < 0) _exit(99);
   close(to);
+}
+
+static long length_of(const char *folder, const char *name) {
+  int file = file_in(folder, name);
+  long length = lseek(file, 0, SEEK_END);
+  close(file);
+  return length;
 }
 
 /* Has standard input read on from where it is, whatever another process reads. */
@@ -70,20 +84,20 @@ static int is_refused_apart(const char *folder) {
   pid_t process = fork();
   if (process == 0) {
     read_apart();
-    part(1, folder, "out");
-    part(2, folder, "err");
+    write_apart(1, folder, "out");
+    write_apart(2, folder, "err");
     is_refused_from_here = 1;
     return 1;
   }
-  char path[4096], line[64];
-  int status = 0, statuses;
-  waitpid(process, &status, 0);
-  snprintf(path, sizeof path, "%s/statuses", folder);
-  int ended = WIFEXITED(status) ? WEXITSTATUS(status) : -WTERMSIG(status);
-  int length = snprintf(line, sizeof line, "%ld %d\n", allocations, ended);
-  statuses = open(path, O_CREAT | O_APPEND | O_WRONLY, 0600);
-  if (process < 0 || write(statuses, line, (size_t)length) != length) _exit(99);
-  close(statuses);
+  int status = 0;
+  if (waitpid(process, &status, 0) != process) _exit(99);
+  status = WIFEXITED(status) ? WEXITSTATUS(status) : -WTERMSIG(status);
+  char line[128];
+  int length = snprintf(line, sizeof line, "%ld %d %ld %ld\n", allocations, status, length_of(folder, "out"),
+                        length_of(folder, "err"));
+  int ended = file_in(folder, "ended");
+  if (write(ended, line, (size_t)length) != length) _exit(99);
+  close(ended);
   return 0;
 }
 
