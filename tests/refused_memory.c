@@ -8,7 +8,8 @@
    program goes on without it in a process of its own, from there to its end, while the first process waits, and then
    has its memory. Standard input, output and errors are files then. What comes of each, with what was written before
    it, goes behind that of the others into FOLDER/out and FOLDER/err. FOLDER/ended has a line for each: its number, the
-   status, and how many octets both files have then. */
+   status, and how many octets both files have then. Other files that the program had opened are read on by both
+   processes from one place. So what the first one writes has to be compared with what it does without this library. */
 #include <errno.h>
 #include <fcntl.h>
 #include <stdio.h>
