@@ -13,12 +13,34 @@ pub struct Printer<'p> {
     pub names: &'p Names,
 }
 
-fn print_character(rt: &HostRuntime, octet: u8) -> io::Result<()> {
+/// Whether an octet is told as the character that it is.
+fn is_plain(octet: u8) -> bool {
+    matches!(octet, b' '..=b'~')
+}
+
+fn print_control(rt: &HostRuntime, octet: u8) -> io::Result<()> {
     match octet {
         b'\r' => print!(rt; "\\r"),
         b'\n' => print!(rt; "\\n"),
-        b' '..=b'~' => print!(rt; "{}", char::from(octet)),
         _ => print!(rt; "\\x{octet:02x}"),
+    }
+}
+
+/// Prints characters at once.
+fn print_plain(rt: &HostRuntime, octets: &[u8]) {
+    if let Ok(text) = str::from_utf8(octets) {
+        let _ = print!(rt; "{text}");
+    }
+}
+
+/// Prints characters, and the octet behind them.
+fn print_piece(rt: &HostRuntime, piece: &[u8]) {
+    match piece.split_last() {
+        Some((last, front)) if !is_plain(*last) => {
+            print_plain(rt, front);
+            let _ = print_control(rt, *last);
+        }
+        _ => print_plain(rt, piece),
     }
 }
 
@@ -26,8 +48,8 @@ fn print_characters(rt: &HostRuntime, octets: &[u8]) {
     if octets.is_empty() {
         let _ = print!(rt; "nothing");
     }
-    for octet in octets {
-        let _ = print_character(rt, *octet);
+    for piece in octets.split_inclusive(|octet| !is_plain(*octet)) {
+        print_piece(rt, piece);
     }
 }
 
