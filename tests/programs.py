@@ -42,8 +42,8 @@ print(rfc3161ng.get_timestamp(token), file=sys.stderr)
 sys.stdout.buffer.write(token)
 """
 
-# where rows have their mark, behind which memory is refused: an allocation of so many octets
-BEHIND_MARK = {"REFUSED_AFTER": "1000003"}
+# where rows have their marks, between which memory is refused: allocations of so many octets
+BETWEEN_MARKS = {"REFUSED_AFTER": "1000003", "REFUSED_BEFORE": "1000033"}
 
 
 class Wrong:
@@ -143,10 +143,10 @@ def played(words, text, path):
 
 
 def played_refused(words, text, path, library, which, **more):
-    """The same with memory, and by number with that allocation refused behind the mark of the rows."""
+    """The same with memory, and by number with that allocation refused between the marks of the rows."""
     with open(path, "w", encoding="utf-8") as file:
         file.write(text)
-    folder, more = os.path.dirname(path), BEHIND_MARK | more
+    folder, more = os.path.dirname(path), BETWEEN_MARKS | more
     whole, refused = refused_in_turn([*words, path], b"", folder, library, which, **more)
     told = {written: told_by_rows(*written) for written in {whole, *refused.values()}}
     return told[whole], {number: told[written] for number, written in refused.items()}

@@ -1,5 +1,6 @@
 /* Loaded into a program before the C library: refuses allocations, which are counted from 1. With REFUSED_AFTER=SIZE
-   those are counted that come after the first of that many octets.
+   those are counted that come after the first of that many octets, and with REFUSED_BEFORE=SIZE too those of them that
+   come before the next one of that many. The others are never refused.
 
    With REFUSED_ALLOCATION=NUMBER the one of that number is refused, and with REFUSED_ALLOCATIONS=all each one after it.
    If any was refused, it makes the file REFUSAL_MARK.
@@ -22,18 +23,24 @@ extern void *__libc_malloc(size_t size);
 extern void *__libc_realloc(void *old, size_t size);
 
 static long allocations;
-static int is_begun, is_refused_from_here, is_at_work;
+static int is_begun, is_ended, is_refused_from_here, is_at_work;
 
 static const char *word(const char *name) {
   const char *value = getenv(name);
   return value ? value : "";
 }
 
-/* Whether allocations are counted: from the first on, or after the one of that size. */
+static int is_of(size_t size, const char *octets) { return octets && size == strtoul(octets, NULL, 10); }
+
+/* Whether allocations are counted: from the first on, or after the one of that size and before that of the other. */
 static int is_counted(size_t size) {
   const char *after = getenv("REFUSED_AFTER");
-  if (!after || is_begun) return 1;
-  is_begun = size == strtoul(after, NULL, 10);
+  if (!after) return 1;
+  if (is_begun) {
+    is_ended = is_ended || is_of(size, getenv("REFUSED_BEFORE"));
+    return !is_ended;
+  }
+  is_begun = is_of(size, after);
   return 0;
 }
 

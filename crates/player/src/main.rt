@@ -1,6 +1,8 @@
 //! Plays rows of calls and makes trials, part by part.
 #![tactic(auto)]
 
+mod serving;
+
 use std::{env, fs, io};
 
 /// The word between two parts.
@@ -34,6 +36,9 @@ fn perform(rt: &HostRuntime, words: &[String]) -> anyhow::Result<()> {
     match words {
         [word, paths @ ..] if word.as_str() == "vectors" => play_vectors(rt, paths),
         [word, paths @ ..] if word.as_str() == "scenarios" => play_scenarios(rt, paths),
+        [work, what, count] if work.as_str() == "work" && what.as_str() == "serve" => {
+            serving::serve(rt, count.parse()?)
+        }
         words => trials::perform(rt, words),
     }
 }

@@ -9,7 +9,7 @@ use tables::Base;
 use transcript::Printer;
 
 /// How many octets of requests and answers there is room for from the beginning.
-const ROOM: usize = 16_384;
+const ROOM: usize = 2_097_152;
 
 /// The signer, and what takes octets.
 #[derive(Drop)]

@@ -11,6 +11,7 @@ mod kept;
 mod laws;
 mod listing;
 mod playing;
+mod rows;
 mod serving;
 mod setting;
 mod stamps;

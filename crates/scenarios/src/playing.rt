@@ -6,7 +6,7 @@ use crate::desks::{self, finish_backwards, leave, run_all};
 use crate::kept::{Connected, Kept, Place};
 use crate::laws::{call_of_desk, call_of_store, number};
 use crate::setting::{Setting, setting_of};
-use crate::{auditing, serving, stores, tabling};
+use crate::{auditing, rows, serving, stores, tabling};
 use audit::Inquiry;
 use desk::{Command, Desk};
 use policy::{Account, EXAMPLE};
@@ -17,9 +17,12 @@ use transcript::{Names, Printer, Words};
 /// The size in octets of the allocation after which growths may be refused.
 const MARK: usize = 1_000_003;
 
-/// Makes that allocation.
-fn mark(alloc: Global) {
-    drop(Vec::<u8>::with_capacity(alloc, MARK));
+/// That of the one after which they may not.
+const UNMARK: usize = 1_000_033;
+
+/// Makes such an allocation.
+fn mark(alloc: Global, octets: usize) {
+    drop(Vec::<u8>::with_capacity(alloc, octets));
 }
 
 /// Makes a call of the store.
@@ -181,7 +184,9 @@ fn call_below<'p, B: Kept + Connected>(
         "ask" => ask(bench, words.rest),
         "execute" => execute(bench, words.rest),
         "tables" => tabling::call(bench, words),
-        "mark" => mark(bench.alloc),
+        "rows" => rows::tell(bench, words.rest),
+        "mark" => mark(bench.alloc, MARK),
+        "unmark" => mark(bench.alloc, UNMARK),
         _ => call_above(bench, word, words),
     }
 }

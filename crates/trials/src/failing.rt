@@ -1,10 +1,7 @@
-//! The counter where its disk stops at a call or is full from a call on, where a growth of memory is refused, and where
-//! ends give and take few octets.
-mod calls;
+//! The counter where its disk stops at a call or is full from a call on, and where ends give and take few octets.
 mod checks;
 mod dump;
 mod filling;
-mod growths;
 mod journey;
 mod ledger;
 mod medium;
@@ -12,31 +9,15 @@ mod noting;
 mod opening;
 mod pieces;
 mod platter;
-mod refusing;
 mod soundness;
 mod stopping;
 mod trial;
 mod versions;
 
 use crate::setting::{Setting, example_setting};
-use std::fs;
-
-/// Refuses the growths of the calls in files.
-fn refuse_growths(rt: &HostRuntime, setting: &Setting, paths: &[String]) -> anyhow::Result<()> {
-    for path in paths {
-        let text = fs::read_to_string(rt, path.as_str())?;
-        refusing::try_lines(rt, setting, &text)?;
-    }
-    Ok(())
-}
 
 /// Does what a word asks for, and nothing else.
-fn perform_word(
-    rt: &HostRuntime,
-    setting: &Setting,
-    word: &str,
-    paths: &[String],
-) -> anyhow::Result<()> {
+fn perform_word(rt: &HostRuntime, setting: &Setting, word: &str) -> anyhow::Result<()> {
     match word {
         "pieces" => pieces::try_pieces(rt, setting),
         "memory" => stopping::stop_memory(rt, setting),
@@ -44,16 +25,15 @@ fn perform_word(
         "migrations-2" => stopping::stop_migrations(rt, setting, 2),
         "migrations-1" => stopping::stop_migrations(rt, setting, 1),
         "full" => filling::fill_each(rt, setting),
-        "growths" => refuse_growths(rt, setting, paths),
         _ => anyhow::bail!("no such word"),
     }
 }
 
 /// Does what the words ask for, and nothing where there are none.
 pub fn perform(rt: &HostRuntime, words: &[String]) -> anyhow::Result<()> {
-    let Some((word, paths)) = words.split_first() else {
+    let Some(word) = words.first() else {
         return Ok(());
     };
     let setting = example_setting(rt.alloc())?;
-    perform_word(rt, &setting, word.as_str(), paths)
+    perform_word(rt, &setting, word.as_str())
 }

@@ -1,5 +1,5 @@
-//! Trials of the counter in one process: hostile octets, a disk and a memory that fail, and work for other programs to
-//! time or to read.
+//! Trials of the counter in one process: hostile octets, a disk that fails, and work for other programs to time or to
+//! read.
 #![tactic(auto)]
 
 mod books;
@@ -10,6 +10,9 @@ mod octets;
 mod setting;
 mod tally;
 mod work;
+
+pub use desks::AtDesk;
+pub use work::at_desk_of_work;
 
 /// Does what the words of a part ask for.
 pub fn perform(rt: &HostRuntime, words: &[String]) -> anyhow::Result<()> {

@@ -1,15 +1,17 @@
-//! Work for other programs to time or to read: readings, replies and tokens of one request, exchanges over loopback,
-//! long heads, and a database.
+//! Work for other programs to time or to read: readings, replies and tokens of one request, long heads, a database, and
+//! a desk for what its caller does.
 mod granting;
 mod heads;
 mod reading;
 mod replying;
 mod sample;
-mod serving;
 mod setting;
 
+use crate::desks::{AtDesk, at_desk};
 use crate::setting::CERTIFICATE;
+use crate::work::setting::setting_of;
 use service::MOST_OCTETS;
+use std::alloc::Global;
 use std::fs::File;
 use std::io::{self, Read};
 
@@ -60,15 +62,21 @@ fn size_of(word: &String) -> usize {
     word.parse().unwrap_or(0)
 }
 
-/// Writes a database for `sqlite3` to read (`sample PATH`), serves connections over loopback (`serve COUNT`), or prints
-/// how many times a request was read (`read COUNT`), and how many times there was a reply with a token: of so many
-/// without store and signer (`reply COUNT`), by a certificate in a file (`reply COUNT FILE`), or over the database at a
-/// path (`grant COUNT PATH`). Or how many times a head of so many fields was read that is as long as heads may be
-/// (`head COUNT FIELDS`), or has so many octets (`head COUNT FIELDS OCTETS`).
+/// Does work at a desk over an empty database in memory, whose account's quota isn't used up. Its clock is calibrated at
+/// a reading, in microseconds since 1970.
+pub fn at_desk_of_work<W: AtDesk>(alloc: Global, reading: i64, work: &mut W) -> anyhow::Result<()> {
+    let setting = setting_of(alloc, CERTIFICATE)?;
+    at_desk(alloc, &setting, reading, work)
+}
+
+/// Writes a database for `sqlite3` to read (`sample PATH`), or prints how many times a request was read (`read COUNT`),
+/// and how many times there was a reply with a token: of so many without store and signer (`reply COUNT`), by a
+/// certificate in a file (`reply COUNT FILE`), or over the database at a path (`grant COUNT PATH`). Or how many times a
+/// head of so many fields was read that is as long as heads may be (`head COUNT FIELDS`), or has so many octets (`head
+/// COUNT FIELDS OCTETS`).
 pub fn perform(rt: &HostRuntime, words: &[String]) -> anyhow::Result<()> {
     match words {
         [what, path] if what.as_str() == "sample" => sample::write(rt, path.as_str())?,
-        [what, count] if what.as_str() == "serve" => serving::serve(rt, count.parse()?)?,
         words => println!(rt; "{}", times_done(rt, words)?)?,
     }
     Ok(())

@@ -1,13 +1,11 @@
 //! Exchanges over loopback, with the database in memory.
-use crate::desks::{AtDesk, at_desk};
-use crate::setting::CERTIFICATE;
-use crate::work::setting::setting_of;
+use book::Book;
 use cms::KeyedHash;
 use connections::{CONNECTION_SECONDS, Clock, Listening, SystemClock, serve_connections};
 use desk::Desk;
 use std::net::TcpListener;
 use std::time::Duration;
-use store::Book;
+use trials::{AtDesk, at_desk_of_work};
 
 /// Connections that are served.
 #[derive(Clone, Copy)]
@@ -36,13 +34,12 @@ impl AtDesk for Serving<'_> {
 fn serve_at(rt: &HostRuntime, listener: &TcpListener, count: u32) -> anyhow::Result<()> {
     let mut clock = SystemClock { machine: rt };
     let reading = clock.reading()?;
-    let setting = setting_of(rt.alloc(), CERTIFICATE)?;
     let mut serving = Serving {
         rt,
         listener,
         count,
     };
-    at_desk(rt.alloc(), &setting, reading, &mut serving)
+    at_desk_of_work(rt.alloc(), reading, &mut serving)
 }
 
 /// Prints the port on which it listens, and serves so many connections. For none it neither listens nor prints.
