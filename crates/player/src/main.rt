@@ -2,6 +2,7 @@
 #![tactic(auto)]
 
 mod serving;
+mod vectors;
 
 use std::{env, fs, io};
 

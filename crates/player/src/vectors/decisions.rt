@@ -1,6 +1,6 @@
 //! Decisions on requests.
-use crate::clocks::facts_of;
-use crate::files::Files;
+use crate::vectors::clocks::facts_of;
+use crate::vectors::files::Files;
 use decide::{Facts, Plan, Verdict, decide, judge_request};
 use policy::{Account, Policy};
 use std::alloc::Global;

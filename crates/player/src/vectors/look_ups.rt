@@ -1,5 +1,5 @@
 //! Look-ups in a policy file's record.
-use crate::files::Files;
+use crate::vectors::files::Files;
 use policy::{Account, Algorithm, Extension, Group, HashAlgorithm, Policy, TsaPolicy};
 use transcript::{Printer, Words};
 

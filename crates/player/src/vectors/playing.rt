@@ -1,6 +1,6 @@
 //! Rows of calls, line by line.
-use crate::files::Files;
-use crate::{
+use crate::vectors::files::Files;
+use crate::vectors::{
     clocks, decisions, elements, ends, files, identifiers, laws, look_ups, moments, refusals,
     requests, signers, tokens, tst_infos, values, writing,
 };

@@ -3,8 +3,8 @@ ghost use Rattle.std.specs.Prelude.{◌<◌, ◌≤◌, ◌^◌, IfSome, option_
 ghost use Rattle.der.specs.DataValueView.{value_view};
 ghost use Rattle.tsp.specs.Tst.{IsTsaName};
 
-use crate::requests::{tell_extension, tell_written};
-use crate::tokens::identity_of;
+use crate::vectors::requests::{tell_extension, tell_written};
+use crate::vectors::tokens::identity_of;
 use cms::Identity;
 use der::{DataValue, DerFault, Oid};
 use gentime::GenTime;

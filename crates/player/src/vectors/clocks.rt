@@ -1,5 +1,5 @@
 //! The clock's state, and holds.
-use crate::files::Files;
+use crate::vectors::files::Files;
 use decide::{Calibration, ClockFacts, ClockState, Hold, clock_state, now_of};
 use gentime::GenTime;
 use transcript::{Printer, Words};

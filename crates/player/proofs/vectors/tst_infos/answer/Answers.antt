@@ -5,7 +5,7 @@ use Rattle.der.specs.Node.{IsLawful}
 use Rattle.der.specs.ObjectIdentifier.{IsOid}
 use Rattle.tsp.specs.Tst.{tst_info}
 use Rattle.tsp.specs.View.{request_view}
-use Rattle.vectors.proofs.tst_infos.answer.Goals as goal
+use Rattle.player.proofs.vectors.tst_infos.answer.Goals as goal
 
 -- what answers a request is lawful
 pub write_tst-requires-clause-lawful : goal.write_tst-requires-clause-lawful

@@ -1,5 +1,5 @@
 //! Ends that fail when they are told to.
-use crate::signers::chosen_of;
+use crate::vectors::signers::chosen_of;
 use counter_fakes::{FailingReader, FailingWriter};
 use std::alloc::{AllocError, Global};
 use std::io::{Read, Write};

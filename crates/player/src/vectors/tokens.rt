@@ -1,5 +1,5 @@
 //! Certificates, algorithms, what is signed, and tokens.
-use crate::requests::tell_written;
+use crate::vectors::requests::tell_written;
 use cms::{Algorithm, CmsFault, Identity, attribute_text, subject_of, token};
 use std::alloc::{AllocError, Global};
 use transcript::{Printer, Words};

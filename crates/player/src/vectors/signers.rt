@@ -1,6 +1,6 @@
 //! Signers: the stand-in, one that fails at chosen calls, and a key holder over frames.
-use crate::ends::{Reader, Writer, reader_of, writer_of};
-use crate::tokens::algorithm_of;
+use crate::vectors::ends::{Reader, Writer, reader_of, writer_of};
+use crate::vectors::tokens::algorithm_of;
 use cms::{CmsFault, FramedSigner, KeyedHash, Signer, SignerFault};
 use counter_fakes::FailingSigner;
 use std::alloc::{AllocError, Global};

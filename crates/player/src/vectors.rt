@@ -1,6 +1,4 @@
 //! Plays rows of calls of the lower crates, from values up to tokens, a line for each, and prints what they tell.
-#![tactic(auto)]
-
 mod clocks;
 mod decisions;
 mod elements;
