@@ -4,7 +4,6 @@ use crate::vectors::{
     clocks, decisions, elements, ends, files, identifiers, laws, look_ups, moments, refusals,
     requests, signers, tokens, tst_infos, values, writing,
 };
-use command_line::{Refusal, Word};
 use std::alloc::{AllocError, Global};
 use transcript::{Names, Printer, Words};
 
@@ -14,33 +13,6 @@ const MARK: usize = 1_000_003;
 /// Makes that allocation.
 fn mark(alloc: Global) {
     drop(Vec::<u8>::with_capacity(alloc, MARK));
-}
-
-/// The words of a line, parted by spaces; `''` is the empty word.
-fn words_of(alloc: Global, line: &str) -> Result<Vec<String>, AllocError> {
-    let mut words = Vec::new(alloc);
-    for word in line.split(' ') {
-        let word = if word == "''" { "" } else { word };
-        words.push(String::from_str(alloc, word)?)?;
-    }
-    Ok(words)
-}
-
-fn parse<'a>(alloc: Global, words: &'a [String]) -> Result<Word<'a>, Refusal> {
-    Word::parse(alloc, words)
-}
-
-/// Tells what the words of a command line ask for, which may have a name.
-fn ask(alloc: Global, printer: Printer<'_>, line: &str) -> Result<(), AllocError> {
-    let named = printer.names.text(line);
-    let words = words_of(alloc, if named.is_empty() { line } else { named })?;
-    match parse(alloc, &words) {
-        Ok(word) => printer.tell(&word),
-        Err(Refusal::Help(_)) => printer.line("  help"),
-        Err(Refusal::Mistake(_)) => printer.line("  a mistake"),
-        Err(Refusal::Memory) => printer.line("  Memory"),
-    }
-    Ok(())
 }
 
 /// Makes a call about tokens, signers or ends.
@@ -54,7 +26,6 @@ fn call_upper(
         "cms" => tokens::call(alloc, printer, words),
         "signer" => signers::call(alloc, printer, words),
         "ends" => ends::call(alloc, printer, words),
-        "words" => ask(alloc, printer, words.rest),
         "numbers" => {
             refusals::tell_all(printer);
             Ok(())
