@@ -1,7 +1,7 @@
 ghost use Rattle.std.specs.Prelude.{◌^◌, ◌<◌, ◌≤◌};
 
 /// What the program is asked to do.
-#[derive(Clone, Copy, Debug)]
+#[derive(Clone, Copy)]
 pub enum Word<'a> {
     /// Answers a request by its TSTInfo, or by the rejection of the first rule that fails.
     Tst(TstWords<'a>),
@@ -26,7 +26,7 @@ pub enum Word<'a> {
 }
 
 /// Who signs.
-#[derive(Clone, Copy, Debug)]
+#[derive(Clone, Copy)]
 pub enum SignerWords<'a> {
     /// The stand-in signer, with the key in the file at this path.
     Key(&'a str),
@@ -40,7 +40,7 @@ pub enum SignerWords<'a> {
 }
 
 /// What the words of `answer`, `exchange` and `serve` have in common: what the desk that answers stands on.
-#[derive(Clone, Copy, Debug)]
+#[derive(Clone, Copy)]
 pub struct DeskWords<'a> {
     /// The database's path.
     pub db: &'a str,
@@ -55,7 +55,7 @@ pub struct DeskWords<'a> {
 }
 
 /// The words of `answer`.
-#[derive(Clone, Copy, Debug)]
+#[derive(Clone, Copy)]
 pub struct AnswerWords<'a> {
     /// What the desk stands on.
     pub desk: DeskWords<'a>,
@@ -67,7 +67,7 @@ pub struct AnswerWords<'a> {
 }
 
 /// The words of `exchange`.
-#[derive(Clone, Copy, Debug)]
+#[derive(Clone, Copy)]
 pub struct ExchangeWords<'a> {
     /// What the desk stands on.
     pub desk: DeskWords<'a>,
@@ -77,7 +77,7 @@ pub struct ExchangeWords<'a> {
 }
 
 /// The words of `serve`.
-#[derive(Clone, Copy, Debug)]
+#[derive(Clone, Copy)]
 pub struct ServeWords<'a> {
     /// What the desk stands on.
     pub desk: DeskWords<'a>,
@@ -89,7 +89,7 @@ pub struct ServeWords<'a> {
 }
 
 /// The words of `audit`.
-#[derive(Clone, Copy, Debug)]
+#[derive(Clone, Copy)]
 pub struct AuditWords<'a> {
     /// The database's path.
     pub db: &'a str,
@@ -108,21 +108,21 @@ pub struct AuditWords<'a> {
 }
 
 /// The words of `init`.
-#[derive(Clone, Copy, Debug)]
+#[derive(Clone, Copy)]
 pub struct InitWords<'a> {
     /// The database's path.
     pub db: &'a str,
 }
 
 /// The words of `migrate`.
-#[derive(Clone, Copy, Debug)]
+#[derive(Clone, Copy)]
 pub struct MigrateWords<'a> {
     /// The database's path.
     pub db: &'a str,
 }
 
 /// The words of `calibrate`.
-#[derive(Clone, Copy, Debug)]
+#[derive(Clone, Copy)]
 pub struct CalibrateWords<'a> {
     /// The database's path.
     pub db: &'a str,
@@ -140,7 +140,7 @@ pub struct CalibrateWords<'a> {
 }
 
 /// The words of `hold`.
-#[derive(Clone, Copy, Debug)]
+#[derive(Clone, Copy)]
 pub struct HoldWords<'a> {
     /// The database's path.
     pub db: &'a str,
@@ -153,14 +153,14 @@ pub struct HoldWords<'a> {
 }
 
 /// The words of `check`.
-#[derive(Clone, Copy, Debug)]
+#[derive(Clone, Copy)]
 pub struct CheckWords<'a> {
     /// The policy file's path.
     pub rules: &'a str,
 }
 
 /// The words of `tst`.
-#[derive(Clone, Copy, Debug)]
+#[derive(Clone, Copy)]
 pub struct TstWords<'a> {
     /// The policy of a request that states none, in dotted text.
     pub policy: &'a str,
