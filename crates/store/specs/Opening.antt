@@ -15,6 +15,8 @@ use Rattle.book.specs.declared.fault.StoreFault.{StoreFault}
 use Rattle.book.specs.declared.fault.StoreFault.TheVariants.{Database, NotOurs}
 use Rattle.store.specs.declared.finding.Found.{Found}
 use Rattle.store.specs.declared.finding.Found.TheVariants as found
+use Rattle.store.specs.declared.path.Course.{Course}
+use Rattle.store.specs.declared.path.Course.TheVariants as course
 use Rattle.sqlite.specs.Closing.{HoldsAlone}
 use Rattle.sqlite.specs.Does.{lacks_sequence}
 use Rattle.sqlite.specs.declared.file.Leftover.{Leftover}
@@ -144,6 +146,11 @@ fault_where_made found.Nothing = Ok tt
 fault_where_made found.Empty = Ok tt
 fault_where_made found.Database = Ok tt
 fault_where_made found.Other = Err NotOurs
+
+-- and of either, by what becomes of the tables
+abbrev pub fault_at : Course → Found → Result (Unit {0}) StoreFault
+fault_at course.Adopt = fault_where
+fault_at course.Create = fault_where_made
 
 -- by the database's error, where its files are opened
 abbrev pub told_opening : Error → StoreFault

@@ -16,7 +16,7 @@ ghost use Rattle.store.specs.Stands.{Stands};
 ghost use Rattle.store.specs.Opening.{OpensFound, IsForeign, OpensNothing, SeemsForeign, IsMigrated, HasMigrated};
 ghost use Rattle.store.specs.Opening.{MigratesFound};
 ghost use Rattle.store.specs.Opening.{told_opening};
-ghost use Rattle.store.specs.Opening.{fault_where, fault_where_made};
+ghost use Rattle.store.specs.Opening.{fault_where, fault_where_made, fault_at};
 ghost use Rattle.book.specs.Fault.{IsOfStorageOr};
 
 use crate::finding::{Found, Place, find};
@@ -26,6 +26,13 @@ use sqlite::{Alter, Connection, Error, ErrorCode, FileFrom, FileStore, Start};
 use sqlite_disk::Disk;
 use std::alloc::Global;
 use tables::{OpenFault, Task};
+
+/// What becomes of a connection's tables: those that are there are adopted, or new ones are created.
+#[derive(Clone, Copy)]
+pub(crate) enum Course {
+    Adopt,
+    Create,
+}
 
 impl<T: Start + Drop> Store<FileStore<FileFrom<T>>> {
     /// Opens the counter's database at a path. Refused with `Memory`; with `Database` where no file stands there, or it
@@ -42,7 +49,7 @@ impl<T: Start + Drop> Store<FileStore<FileFrom<T>>> {
         ensures refusals { IfErr result (IsOfStorageOr StoreFault.NotOurs) }
     {
         let place = find_database(rt, path)?;
-        Store::open_files(rt, place, start)
+        Store::open_files(rt, place, start, Course::Adopt)
     }
 
     /// Makes the tables in a new database at a path, where no file stands, one of no octets, or a database without
@@ -62,7 +69,7 @@ impl<T: Start + Drop> Store<FileStore<FileFrom<T>>> {
     {
         let place = find(rt, path)?;
         may_make(place.found)?;
-        Store::make_files(rt, place, start)
+        Store::open_files(rt, place, start, Course::Create)
     }
 
     /// Takes the counter's database at a path to the schema of now, in one commit, and keeps each row; one of that
@@ -76,42 +83,27 @@ impl<T: Start + Drop> Store<FileStore<FileFrom<T>>> {
         Store::migrate_at_place(rt, place, start)
     }
 
-    /// Opens the files at a place. The caller's condition is that a database was found there.
+    /// Opens the files at a place, and adopts the tables there or creates them. The caller's condition is that what was
+    /// found there allows that.
     fn open_files(
         rt: &HostRuntime,
         place: Place<'_>,
         start: T,
+        course: Course,
     ) -> Result<Store<FileStore<FileFrom<T>>>, StoreFault>
-        requires { fault_where place.found ≡ Ok tt }
-        ensures found { IfOk result (λ store. HasCleanDisk (file_state store.conn)
+        requires { fault_at course place.found ≡ Ok tt }
+        ensures found { course ≡ Course.Adopt → IfOk result (λ store. HasCleanDisk (file_state store.conn)
             → OpensFound (image_at T.Start) store) }
-        ensures foreign { IfErr result (λ e. e ≡ StoreFault.NotOurs → IsForeign ⟦<FileFrom<T> as Disk>⟧ (image_at T.Start)) }
-        ensures uncounted { IfOk result (λ store. store.faults ≡ 0) }
-        ensures refusals { IfErr result (IsOfStorageOr StoreFault.NotOurs) }
-    {
-        let conn = connect(rt, place.path, start)?;
-        match adopt_or_drop(rt.alloc(), conn) {
-            Ok(store) => Ok(store),
-            Err(fault) => Err(fault),
-        }
-    }
-
-    /// Makes the tables at a place. The caller's condition is that no file was found there, one of no octets, or a
-    /// database.
-    fn make_files(
-        rt: &HostRuntime,
-        place: Place<'_>,
-        start: T,
-    ) -> Result<Store<FileStore<FileFrom<T>>>, StoreFault>
-        requires { fault_where_made place.found ≡ Ok tt }
-        ensures made { IfOk result (λ store. Stands over_files [] store) }
-        ensures opened { IfOk result (λ store. HasCleanDisk (file_state store.conn)
+        ensures foreign { course ≡ Course.Adopt → IfErr result (λ e. e ≡ StoreFault.NotOurs
+            → IsForeign ⟦<FileFrom<T> as Disk>⟧ (image_at T.Start)) }
+        ensures made { course ≡ Course.Create → IfOk result (λ store. Stands over_files [] store) }
+        ensures opened { course ≡ Course.Create → IfOk result (λ store. HasCleanDisk (file_state store.conn)
             → IsTrue (file_state store.conn).is_open) }
         ensures uncounted { IfOk result (λ store. store.faults ≡ 0) }
         ensures refusals { IfErr result (IsOfStorageOr StoreFault.NotOurs) }
     {
         let conn = connect(rt, place.path, start)?;
-        match create_or_drop(rt.alloc(), conn) {
+        match store_or_drop(rt.alloc(), conn, course) {
             Ok(store) => Ok(store),
             Err(fault) => Err(fault),
         }
@@ -217,6 +209,31 @@ fn migrate_or_drop<S: Alter + Drop>(mut conn: Connection<S>) -> Result<Connectio
     match Store::migrate(&mut conn) {
         Ok(()) => Ok(conn),
         Err(fault) => Err(fault),
+    }
+}
+
+/// Adopts the tables of a connection or creates them, or drops it with a refusal.
+fn store_or_drop<S: Alter + Drop>(
+    alloc: Global,
+    conn: Connection<S>,
+    course: Course,
+) -> Result<Store<S>, StoreFault>
+    requires { conn.in_transaction ≡ false }
+    ensures stands { course ≡ Course.Adopt → IfOk result (λ store. (b : History) → IsSound b
+        → IsFound (tables_of b) (state S.Store conn) → Stands S.Store b store) }
+    ensures ours { course ≡ Course.Adopt → IfOk result (λ store. HasCleanDisk (state S.Store store.conn)
+        → LooksOurs (state S.Store conn)) }
+    ensures looks { course ≡ Course.Adopt → IfOk result (λ store. Looks (state S.Store conn) (state S.Store store.conn)) }
+    ensures foreign { course ≡ Course.Adopt → IfErr result (λ e. e ≡ StoreFault.NotOurs → SeemsForeign S.Store conn) }
+    ensures made { course ≡ Course.Create → IfOk result (λ store. Stands S.Store [] store) }
+    ensures opened { course ≡ Course.Create → IfOk result (λ store. HasCleanDisk (state S.Store store.conn)
+        → IsTrue (state S.Store store.conn).is_open) }
+    ensures uncounted { IfOk result (λ store. store.faults ≡ 0) }
+    ensures refusals { IfErr result (IsOfStorageOr StoreFault.NotOurs) }
+{
+    match course {
+        Course::Adopt => adopt_or_drop(alloc, conn),
+        Course::Create => create_or_drop(alloc, conn),
     }
 }
 

@@ -2,20 +2,20 @@ use Rattle.std.proofs.Common.{inr}
 use Rattle.store.proofs.path.Store+FileStore+FileFrom+T.open_files.Goals as goal
 
 pub returns-in-Ok-clause-found : goal.returns-in-Ok-clause-found
-returns-in-Ok-clause-found g c clean =
-    let looks = c.in-Ok.ensures.looks in
+returns-in-Ok-clause-found g c is clean =
+    let looks = c.in-Ok.ensures.looks is in
     let early = looks.clean clean in record {
       was = c.in_ok-conn.conn;
       opened = c.in_ok-conn.ensures.opened early;
       found = c.in_ok-conn.ensures.found early;
-      ours = c.in-Ok.ensures.ours clean;
+      ours = c.in-Ok.ensures.ours is clean;
       looks = looks;
-      stands = c.in-Ok.ensures.stands;
+      stands = c.in-Ok.ensures.stands is;
     }
 
 pub returns-in-Err-clause-foreign : goal.returns-in-Err-clause-foreign
-returns-in-Err-clause-foreign g c is =
-    let seems = c.in-Err.ensures.foreign is in
+returns-in-Err-clause-foreign g c adopts is =
+    let seems = c.in-Err.ensures.foreign adopts is in
     inr (record {
       was = c.in_ok-conn.conn;
       seems = seems;
