@@ -326,6 +326,14 @@ impl OverConnection for Going<'_, '_> {
     }
 }
 
+/// Does the work over a connection, and gives its storage back.
+fn over_storage<S: Alter + Drop, W: OverConnection>(
+    conn: Connection<S>,
+    work: &mut W,
+) -> anyhow::Result<S> {
+    Ok(work.over(conn)?.into_store())
+}
+
 /// Opens files that hold what the image says, does the work over them unless they are refused, and stops: what the stop
 /// leaves. No other function takes files in memory for a storage.
 fn over_files<D: Platter, W: OverConnection>(
@@ -335,7 +343,7 @@ fn over_files<D: Platter, W: OverConnection>(
 ) -> anyhow::Result<Image> {
     let files: Files<Fuse<D>> = files_of(course, image)?;
     let files = match connect(course.alloc, files) {
-        Ok(conn) => work.over(conn)?.into_store().close(),
+        Ok(conn) => over_storage(conn, work)?.close(),
         Err(files) => files,
     };
     Ok(image_left(course, files)?)
