@@ -34,10 +34,10 @@ def listening_port(running):
 class Running:
     """A process of the test's own; it is killed at the end, if not before."""
 
-    def __init__(self, words):
+    def __init__(self, words, environment=None):
         # a file, since nobody reads it before the end
         self.errors = tempfile.TemporaryFile()
-        how = {"stdin": subprocess.DEVNULL, "stdout": subprocess.PIPE, "stderr": self.errors}
+        how = {"stdin": subprocess.DEVNULL, "stdout": subprocess.PIPE, "stderr": self.errors, "env": environment}
         self.process = subprocess.Popen(words, **how)
 
     def __enter__(self):
@@ -70,8 +70,8 @@ class KeyHolder(Running):
 class Server(Running):
     """`counter serve`, at work on a port that the system picked."""
 
-    def __init__(self, words):
-        super().__init__(words)
+    def __init__(self, words, environment=None):
+        super().__init__(words, environment)
         self.port = listening_port(self.process)
         if self.port is None:
             raise RuntimeError(f"it doesn't listen: {words}: {self.kill()}")
