@@ -1,8 +1,7 @@
 //! What a desk answers where its book refuses a call, counted, and to a long list of commands.
 //!
 //! Calls without clauses: a test's proof needn't read the contracts of what it calls.
-use super::exchanges::keyed;
-use super::setting::{Setting, desk_of, example};
+use super::setting::{Setting, desk_of, example, keyed};
 use book::{Book, Listed, Reservation, StoreFault};
 use cms::KeyedHash;
 use desk::{Answer, Command, Desk, Fault};
