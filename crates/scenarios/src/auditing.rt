@@ -2,18 +2,19 @@
 use audit::{ExtractFault, Extracted, Inquiry, extract, extract_length, write_extract};
 use counter_fakes::FailingWriter;
 use std::alloc::Global;
+use std::io::Write;
 use std::mem;
 use store::Book;
-use transcript::{Printer, Words};
+use transcript::{Gathered, Printer, Words};
 
 /// What takes an extract.
 type Taker = FailingWriter<Vec<u8>>;
 
-fn whole<B: Book + Drop>(
+fn whole<B: Book + Drop, W: Write>(
     alloc: Global,
     store: &mut B,
     asked: Inquiry<'_>,
-    out: &mut Taker,
+    out: &mut W,
 ) -> Result<(), ExtractFault> {
     extract(
         alloc,
@@ -134,6 +135,22 @@ fn tell_limited<B: Book + Drop>(
     printer.octets("extract", &out.writer);
 }
 
+/// Tells of the extract, written so many octets at a time.
+fn tell_pieces<B: Book + Drop>(
+    alloc: Global,
+    printer: Printer<'_>,
+    store: &mut B,
+    asked: Inquiry<'_>,
+    size: usize,
+) {
+    let mut out = Gathered {
+        octets: Vec::new(alloc),
+        size,
+    };
+    printer.tell(&whole(alloc, store, asked, &mut out));
+    printer.octets("extract", &out.octets);
+}
+
 /// Makes the call that the word names.
 pub fn call<B: Book + Drop>(
     printer: Printer<'_>,
@@ -147,6 +164,7 @@ pub fn call<B: Book + Drop>(
     match word {
         "extract" => tell_whole(alloc, printer, store, asked, room),
         "beginning" => tell_beginning(alloc, printer, store, asked, words.number() as usize),
+        "pieces" => tell_pieces(alloc, printer, store, asked, words.number() as usize),
         _ => tell_limited(alloc, printer, store, asked, words.number()),
     }
 }

@@ -4,32 +4,15 @@ use counter_fakes::{FailingReader, FailingWriter};
 use desk::Desk;
 use service::{Served, serve_one};
 use std::alloc::Global;
-use std::io::{self, Read};
 use std::mem;
 use store::Book;
-use transcript::Printer;
-
-/// Octets that are given so many at a time.
-#[derive(Drop)]
-struct Pieces<'r> {
-    octets: &'r [u8],
-    size: usize,
-}
-
-impl Read for Pieces<'_> {
-    fn read(&mut self, buf: &mut [u8]) -> io::Result<usize> {
-        let mut piece = self.octets.get(..self.size).unwrap_or(self.octets);
-        let count = piece.read(buf)?;
-        self.octets = self.octets.get(count..).unwrap_or(&[]);
-        Ok(count)
-    }
-}
+use transcript::{Gathered, Pieces, Printer};
 
 /// What gives a request's octets.
 type Source<'r> = FailingReader<Pieces<'r>>;
 
 /// What takes an answer's octets.
-type Sink = FailingWriter<Vec<u8>>;
+type Sink = FailingWriter<Gathered>;
 
 /// A source of these octets, so many at a time, which fails once it has given so many.
 fn source(alloc: Global, octets: &[u8], size: usize, given: u64) -> Source<'_> {
@@ -46,21 +29,22 @@ fn serve<B: Book + Drop, G: Signer>(
     serve_one(alloc, source, sink, desk, 0, signer)
 }
 
-/// What becomes of a request whose answer a sink takes that fails once it has taken so many octets. They are in the
-/// room afterwards.
+/// What becomes of a request whose answer goes to a sink that takes so many octets at a time, and fails once it has
+/// taken so many in all. They are in the room afterwards.
 fn served<B: Book + Drop, G: Signer>(
     alloc: Global,
     desk: &mut Desk<'_, B>,
     signer: &mut G,
     room: &mut Vec<u8>,
     source: &mut Source<'_>,
+    size: usize,
     taken: usize,
 ) -> Served {
     let mut octets = mem::replace(room, Vec::new(alloc));
     octets.clear();
-    let mut sink = FailingWriter::new(octets, Vec::new(alloc), taken);
+    let mut sink = FailingWriter::new(Gathered { octets, size }, Vec::new(alloc), taken);
     let served = serve(alloc, source, &mut sink, desk, signer);
-    *room = sink.writer;
+    *room = sink.writer.octets;
     served
 }
 
@@ -83,7 +67,8 @@ fn tell_answer(printer: Printer<'_>, answer: &[u8]) {
     printer.octets("body", body);
 }
 
-/// Tells what becomes of a request that comes so many octets at a time, how many aren't read, and the answer.
+/// Tells what becomes of a request that comes, and is answered, so many octets at a time, how many aren't read, and the
+/// answer.
 fn tell<B: Book + Drop, G: Signer>(
     printer: Printer<'_>,
     desk: &mut Desk<'_, B>,
@@ -94,7 +79,7 @@ fn tell<B: Book + Drop, G: Signer>(
 ) {
     let alloc = printer.rt.alloc();
     let mut source = source(alloc, request, size, u64::MAX);
-    let served = served(alloc, desk, signer, room, &mut source, usize::MAX);
+    let served = served(alloc, desk, signer, room, &mut source, size, usize::MAX);
     printer.tell(&served);
     let read = u64::MAX.wrapping_sub(source.reader.limit());
     printer.number("unread", (request.len() as u64).saturating_sub(read));
@@ -111,7 +96,7 @@ fn cut<B: Book + Drop, G: Signer>(
     sent: usize,
 ) -> Served {
     let mut source = source(alloc, request, usize::MAX, u64::MAX);
-    served(alloc, desk, signer, room, &mut source, sent)
+    served(alloc, desk, signer, room, &mut source, usize::MAX, sent)
 }
 
 /// Of how many numbers of octets that are less than the whole answer sinks that take those are told to have failed.
@@ -168,7 +153,15 @@ fn fares<B: Book + Drop, G: Signer>(
         u64::MAX
     };
     let mut source = source(alloc, front, usize::MAX, given);
-    served(alloc, desk, signer, room, &mut source, usize::MAX)
+    served(
+        alloc,
+        desk,
+        signer,
+        room,
+        &mut source,
+        usize::MAX,
+        usize::MAX,
+    )
 }
 
 /// Tells what becomes of a request's fronts, and of how many one after the other.

@@ -4,7 +4,7 @@ use crate::vectors::tokens::algorithm_of;
 use cms::{CmsFault, FramedSigner, KeyedHash, Signer, SignerFault};
 use counter_fakes::FailingSigner;
 use std::alloc::{AllocError, Global};
-use transcript::{Printer, Words};
+use transcript::{Pieces, Printer, Words};
 
 /// The algorithm 2.999.9, without parameters.
 static ALGORITHM: &[u8] = b"\x30\x05\x06\x03\x88\x37\x09";
@@ -78,22 +78,30 @@ fn framed<'e, 'r, 'i>(
     Ok(FramedSigner::new(alloc, reader, writer, algorithm))
 }
 
-/// A key holder over frames signs: the words are those of its reader and its writer, and then names. Tells what was
-/// written, what wasn't read, and how often either end was called.
-fn sign_framed(alloc: Global, printer: Printer<'_>, words: Words<'_>) -> Result<(), AllocError> {
+/// A key holder over frames signs, whose reader gives and whose writer takes so many octets at a time: the words are
+/// those of both, and then names. Tells what was written, what wasn't read, and how often either end was called.
+fn sign_framed(
+    alloc: Global,
+    printer: Printer<'_>,
+    size: usize,
+    words: Words<'_>,
+) -> Result<(), AllocError> {
     let mut words = words;
-    let mut input = printer.names.octets(words.next());
+    let mut input = Pieces {
+        octets: printer.names.octets(words.next()),
+        size,
+    };
     let mut reader = reader_of(alloc, &mut input, &mut words)?;
-    let mut writer = writer_of(alloc, &mut words)?;
+    let mut writer = writer_of(alloc, size, &mut words)?;
     match framed(alloc, &mut reader, &mut writer) {
         Ok(mut signer) => sign_all(printer, &mut signer, words),
         Err(fault) => printer.tell(&fault),
     }
     printer.number("reads", reader.calls);
     printer.number("writes", writer.calls);
-    printer.digits("written", &writer.writer);
+    printer.digits("written", &writer.writer.octets);
     drop(reader);
-    printer.digits("unread", input);
+    printer.digits("unread", input.octets);
     Ok(())
 }
 
@@ -106,6 +114,10 @@ pub fn call(alloc: Global, printer: Printer<'_>, words: Words<'_>) -> Result<(),
             Ok(())
         }
         "failing" => sign_failing(alloc, printer, words),
-        _ => sign_framed(alloc, printer, words),
+        "pieces" => {
+            let size = words.number() as usize;
+            sign_framed(alloc, printer, size, words)
+        }
+        _ => sign_framed(alloc, printer, usize::MAX, words),
     }
 }
