@@ -1,4 +1,4 @@
-//! The counter where its disk stops at a call or is full from a call on, and where ends give and take few octets.
+//! The counter where its disk stops at a call or is full from a call on.
 mod checks;
 mod dump;
 mod filling;
@@ -7,7 +7,6 @@ mod ledger;
 mod medium;
 mod noting;
 mod opening;
-mod pieces;
 mod platter;
 mod soundness;
 mod stopping;
@@ -19,7 +18,6 @@ use crate::setting::{Setting, example_setting};
 /// Does what a word asks for, and nothing else.
 fn perform_word(rt: &HostRuntime, setting: &Setting, word: &str) -> anyhow::Result<()> {
     match word {
-        "pieces" => pieces::try_pieces(rt, setting),
         "memory" => stopping::stop_memory(rt, setting),
         "stops" => stopping::stop_each(rt, setting),
         "migrations-2" => stopping::stop_migrations(rt, setting, 2),

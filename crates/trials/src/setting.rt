@@ -20,7 +20,7 @@ const SECOND_CERTIFICATE: &[u8] =
     \x05\x06\x03\x88\x37\x09\x03\x02\x00\x01\x30\x05\x06\x03\x88\x37\x09\x03\x02\x00\x01";
 
 /// The AlgorithmIdentifier of the stand-in signer, 2.999.9.
-pub const ALGORITHM: &[u8] = b"\x30\x05\x06\x03\x88\x37\x09";
+const ALGORITHM: &[u8] = b"\x30\x05\x06\x03\x88\x37\x09";
 
 /// A time-stamp request for the SHA-256 digest of `abc` (RFC 3161 2.4.1).
 pub const REQUEST: &[u8] =
