@@ -1,4 +1,5 @@
 pub mod Identities
 pub mod Numbers
 pub mod Rights
+pub mod Showing
 mod Worked

@@ -1,3 +1,4 @@
+pub mod Entries
 pub mod Fault
 pub mod History
 pub mod Identities
@@ -5,6 +6,7 @@ pub mod Ranges
 pub mod Readers
 pub mod Rights
 pub mod Rows
+pub mod Shows
 pub mod Sound
 pub mod Stands
 pub mod Values

@@ -1,26 +1,30 @@
-//! The book: each change of the history is one commit, each look-up answers a view of it.
-ghost use Rattle.std.specs.Prelude.{◌≡◌, ◌∷◌, ◌+◌, ◌<◌, ◌≤◌, ◌^◌, true, false, map, length, None, option_map};
-ghost use Rattle.std.specs.Prelude.{Ok, Err, IfOk, IfErr, IfSome, IsErr, OnOk, OnErr};
+//! The book: a list of entries is added in one commit, each look-up answers a view of the history.
+ghost use Rattle.std.specs.Prelude.{◌≡◌, ◌↔◌, [], ◌∷◌, ◌+◌, ◌<◌, ◌≤◌, ◌^◌, true, false, map, length, None, option_map};
+ghost use Rattle.std.specs.Prelude.{Ok, Err, IfOk, IfErr, IfSome, IsErr, OnOk, IsTrue};
+ghost use Rattle.book.specs.Entries.{entries_view, Appends};
 ghost use Rattle.book.specs.History.{History, Reserved, Sealed, Deposited, Calibrated, Held, Granted, Revoked};
 ghost use Rattle.book.specs.History.{Installed, count_of_day, calibrations, holds, latest_calibration, is_held};
 ghost use Rattle.book.specs.History.{deposit_under};
 ghost use Rattle.book.specs.Identities.{identities};
 ghost use Rattle.book.specs.Readers.{Account, Group};
-ghost use Rattle.book.specs.Rights.{is_reader, is_visible, listed, deposit_with_stamp};
-ghost use Rattle.book.specs.Sound.{Fits, IsSpent, IsBackwards, greatest_number};
-ghost use Rattle.book.specs.Stands.{Stands, OnlyLooks, LeavesOrAdds, LeavesAsBefore};
+ghost use Rattle.book.specs.Rights.{is_visible, listed, deposit_with_stamp};
+ghost use Rattle.book.specs.Shows.{ShowsSame};
+ghost use Rattle.book.specs.Sound.{IsSound, IsSpent, IsBackwards, greatest_number};
+ghost use Rattle.book.specs.Stands.{Stands, OnlyLooks, LeavesAsBefore};
 ghost use Rattle.book.specs.Fault.{CountsFaults, IsOfStorage, IsOfStorageOr};
 ghost use Rattle.book.specs.Values.{reservation_view, calibration_view, hold_view, last_of, calibration_option};
 ghost use Rattle.book.specs.Values.{deposit_of, stamped_view, listed_view, deposit_view, viewer_of, installed_of};
 ghost use Rattle.book.specs.Values.{identity_view};
 ghost use Rattle.book.specs.Ranges.{IsNextStamp, IsWithin};
 
+use crate::entries::{Entry, Reader};
 use crate::fault::StoreFault;
+use crate::limits::GREATEST_NUMBER;
 use crate::rows::{Deposit, IdentityRow, Stamp};
 use crate::standing::Standing;
 use crate::values::{Calibration, Hold, Last, Listed, Reservation, StampedDeposit};
 
-/// The history of what the counter accepted. Each change is one commit.
+/// The history of what the counter accepted, to which `append` alone adds.
 ///
 /// A call refused with `Memory` or `Database` changes nothing that the book shows, and `faults` counts exactly the
 /// refusals with `Database`. After a fault it may be shut; each later call is then refused, and where the fault came in
@@ -60,58 +64,6 @@ pub trait Book: Standing {
         ensures opened { Self.honest self.new → OnOk result (Self.is_open self.old) }
         ensures value { Self.honest self.new → (b : History) → Stands Self.Standing b self.old
             → IfOk result (λ held. held ≡ is_held now b) }
-        ensures refusals { IfErr result IsOfStorage }
-        ensures faults { CountsFaults result (Self.fault_count self.old) (Self.fault_count self.new) };
-
-    /// Reserves a stamp, which counts on its UTC day from now on, whether it is sealed or not. The caller's condition
-    /// is that its serial number is above the greatest, where that is less than 2^63 - 1. Refused with `Full`, and
-    /// nothing is added, where the greatest is 2^63 - 1.
-    fn reserve(&mut self, reservation: &Reservation<'_>) -> Result<(), StoreFault>
-        ensures honest { Self.honest self.new → Self.honest self.old }
-        ensures opened { Self.honest self.new → OnOk result (Self.is_open self.old × Self.is_open self.new) }
-        ensures ok { (b : History) → Stands Self.Standing b self.old
-            → Fits (Reserved (reservation_view reservation.now)) b
-            → OnOk result (Stands Self.Standing (Reserved (reservation_view reservation.now) ∷ b) self.new) }
-        ensures err { (b : History) → Stands Self.Standing b self.old → OnErr result (Stands Self.Standing b self.new) }
-        ensures crash { LeavesOrAdds Self.Standing (Reserved (reservation_view reservation.now)) self.old self.new }
-        ensures full { Self.honest self.new → (b : History) → Stands Self.Standing b self.old
-            → result ≡ Err StoreFault.Full → IsSpent b }
-        ensures spent { Self.honest self.new → (b : History) → Stands Self.Standing b self.old → IsSpent b
-            → IsErr result × LeavesAsBefore Self.Standing self.old self.new }
-        ensures refusals { IfErr result (IsOfStorageOr StoreFault.Full) }
-        ensures faults { CountsFaults result (Self.fault_count self.old) (Self.fault_count self.new) };
-
-    /// Stores the token of a serial number. The caller's condition is that the number is reserved and not sealed.
-    fn seal(&mut self, serial: u64, token: &[u8]) -> Result<(), StoreFault>
-        ensures honest { Self.honest self.new → Self.honest self.old }
-        ensures opened { Self.honest self.new → OnOk result (Self.is_open self.old × Self.is_open self.new) }
-        ensures ok { (b : History) → Stands Self.Standing b self.old → Fits (Sealed serial token.now) b
-            → OnOk result (Stands Self.Standing (Sealed serial token.now ∷ b) self.new) }
-        ensures err { (b : History) → Stands Self.Standing b self.old → OnErr result (Stands Self.Standing b self.new) }
-        ensures crash { LeavesOrAdds Self.Standing (Sealed serial token.now) self.old self.new }
-        ensures refusals { IfErr result IsOfStorage }
-        ensures faults { CountsFaults result (Self.fault_count self.old) (Self.fault_count self.new) };
-
-    /// Stores a deposit and its token in one commit, which seals its serial number: that is the deposit's number from
-    /// now on. The caller's condition is that it is reserved for the owner and not sealed, and that the owner hasn't
-    /// used the reference.
-    fn seal_deposit(
-        &mut self,
-        serial: u64,
-        token: &[u8],
-        owner: &str,
-        reference: &str,
-        bytes: &[u8],
-    ) -> Result<(), StoreFault>
-        ensures honest { Self.honest self.new → Self.honest self.old }
-        ensures opened { Self.honest self.new → OnOk result (Self.is_open self.old × Self.is_open self.new) }
-        ensures ok { (b : History) → Stands Self.Standing b self.old
-            → Fits (Deposited (deposit_of serial owner.now reference.now bytes.now) token.now) b
-            → OnOk result (Stands Self.Standing
-            (Deposited (deposit_of serial owner.now reference.now bytes.now) token.now ∷ b) self.new) }
-        ensures err { (b : History) → Stands Self.Standing b self.old → OnErr result (Stands Self.Standing b self.new) }
-        ensures crash { LeavesOrAdds Self.Standing
-            (Deposited (deposit_of serial owner.now reference.now bytes.now) token.now) self.old self.new }
         ensures refusals { IfErr result IsOfStorage }
         ensures faults { CountsFaults result (Self.fault_count self.old) (Self.fault_count self.new) };
 
@@ -159,111 +111,6 @@ pub trait Book: Standing {
         ensures refusals { IfErr result IsOfStorage }
         ensures faults { CountsFaults result (Self.fault_count self.old) (Self.fault_count self.new) };
 
-    /// Lets an account read a deposit, from now on. The caller's condition is that the number is a deposit's. A right
-    /// that the account has already is accepted again, and nothing changes.
-    fn grant(&mut self, number: u64, account: &str) -> Result<(), StoreFault>
-        ensures honest { Self.honest self.new → Self.honest self.old }
-        ensures opened { Self.honest self.new → OnOk result (Self.is_open self.old × Self.is_open self.new) }
-        ensures ok { (b : History) → Stands Self.Standing b self.old → Fits (Granted number (Account account.now)) b
-            → OnOk result (Stands Self.Standing (Granted number (Account account.now) ∷ b) self.new) }
-        ensures err { (b : History) → Stands Self.Standing b self.old → OnErr result (Stands Self.Standing b self.new) }
-        ensures crash { LeavesOrAdds Self.Standing (Granted number (Account account.now)) self.old self.new }
-        ensures repeated { (b : History) → Stands Self.Standing b self.old
-            → is_reader number (Account account.now) b ≡ true → OnOk result (Stands Self.Standing b self.new) }
-        ensures refusals { IfErr result IsOfStorage }
-        ensures faults { CountsFaults result (Self.fault_count self.old) (Self.fault_count self.new) };
-
-    /// Takes the right to read a deposit from an account, from now on. The caller's condition is that the number is a
-    /// deposit's. A right that the account doesn't have may be taken all the same, and nothing changes.
-    fn revoke(&mut self, number: u64, account: &str) -> Result<(), StoreFault>
-        ensures honest { Self.honest self.new → Self.honest self.old }
-        ensures opened { Self.honest self.new → OnOk result (Self.is_open self.old × Self.is_open self.new) }
-        ensures ok { (b : History) → Stands Self.Standing b self.old → Fits (Revoked number (Account account.now)) b
-            → OnOk result (Stands Self.Standing (Revoked number (Account account.now) ∷ b) self.new) }
-        ensures err { (b : History) → Stands Self.Standing b self.old → OnErr result (Stands Self.Standing b self.new) }
-        ensures crash { LeavesOrAdds Self.Standing (Revoked number (Account account.now)) self.old self.new }
-        ensures unneeded { (b : History) → Stands Self.Standing b self.old
-            → is_reader number (Account account.now) b ≡ false → OnOk result (Stands Self.Standing b self.new) }
-        ensures refusals { IfErr result IsOfStorage }
-        ensures faults { CountsFaults result (Self.fault_count self.old) (Self.fault_count self.new) };
-
-    /// Lets each member of a group read a deposit, from now on. The caller's condition is that the number is a
-    /// deposit's. A right that the group has already is accepted again, and nothing changes.
-    fn grant_group(&mut self, number: u64, name: &str) -> Result<(), StoreFault>
-        ensures honest { Self.honest self.new → Self.honest self.old }
-        ensures opened { Self.honest self.new → OnOk result (Self.is_open self.old × Self.is_open self.new) }
-        ensures ok { (b : History) → Stands Self.Standing b self.old → Fits (Granted number (Group name.now)) b
-            → OnOk result (Stands Self.Standing (Granted number (Group name.now) ∷ b) self.new) }
-        ensures err { (b : History) → Stands Self.Standing b self.old → OnErr result (Stands Self.Standing b self.new) }
-        ensures crash { LeavesOrAdds Self.Standing (Granted number (Group name.now)) self.old self.new }
-        ensures repeated { (b : History) → Stands Self.Standing b self.old
-            → is_reader number (Group name.now) b ≡ true → OnOk result (Stands Self.Standing b self.new) }
-        ensures refusals { IfErr result IsOfStorage }
-        ensures faults { CountsFaults result (Self.fault_count self.old) (Self.fault_count self.new) };
-
-    /// Takes the right to read a deposit from a group, from now on. The caller's condition is that the number is a
-    /// deposit's. A right that the group doesn't have may be taken all the same, and nothing changes.
-    fn revoke_group(&mut self, number: u64, name: &str) -> Result<(), StoreFault>
-        ensures honest { Self.honest self.new → Self.honest self.old }
-        ensures opened { Self.honest self.new → OnOk result (Self.is_open self.old × Self.is_open self.new) }
-        ensures ok { (b : History) → Stands Self.Standing b self.old → Fits (Revoked number (Group name.now)) b
-            → OnOk result (Stands Self.Standing (Revoked number (Group name.now) ∷ b) self.new) }
-        ensures err { (b : History) → Stands Self.Standing b self.old → OnErr result (Stands Self.Standing b self.new) }
-        ensures crash { LeavesOrAdds Self.Standing (Revoked number (Group name.now)) self.old self.new }
-        ensures unneeded { (b : History) → Stands Self.Standing b self.old
-            → is_reader number (Group name.now) b ≡ false → OnOk result (Stands Self.Standing b self.new) }
-        ensures refusals { IfErr result IsOfStorage }
-        ensures faults { CountsFaults result (Self.fault_count self.old) (Self.fault_count self.new) };
-
-    /// Adds a calibration, which is the latest from now on. The caller's condition is an uncertainty of at most 10^12.
-    /// Refused with `Backwards` where its reading is before that of the latest. The answer is its number: calibrations
-    /// count 1, 2, 3 and so on.
-    fn calibrate(&mut self, calibration: &Calibration) -> Result<u64, StoreFault>
-        ensures honest { Self.honest self.new → Self.honest self.old }
-        ensures opened { Self.honest self.new → OnOk result (Self.is_open self.old × Self.is_open self.new) }
-        ensures ok { (b : History) → Stands Self.Standing b self.old
-            → Fits (Calibrated (calibration_view calibration.now)) b
-            → OnOk result (Stands Self.Standing (Calibrated (calibration_view calibration.now) ∷ b) self.new) }
-        ensures err { (b : History) → Stands Self.Standing b self.old → OnErr result (Stands Self.Standing b self.new) }
-        ensures crash { LeavesOrAdds Self.Standing (Calibrated (calibration_view calibration.now)) self.old self.new }
-        ensures number { Self.honest self.new → (b : History) → Stands Self.Standing b self.old
-            → IfOk result (λ number. number ≡ length (calibrations b) + 1) }
-        ensures backwards { Self.honest self.new → (b : History) → Stands Self.Standing b self.old
-            → result ≡ Err StoreFault.Backwards
-            → IsBackwards (calibration_view calibration.now) (latest_calibration b) }
-        ensures refused { Self.honest self.new → (b : History) → Stands Self.Standing b self.old
-            → IsBackwards (calibration_view calibration.now) (latest_calibration b)
-            → IsErr result × LeavesAsBefore Self.Standing self.old self.new }
-        ensures refusals { IfErr result (IsOfStorageOr StoreFault.Backwards) }
-        ensures faults { CountsFaults result (Self.fault_count self.old) (Self.fault_count self.new) };
-
-    /// Adds a hold. The caller's condition is that its first moment is before its end. The answer is its number: holds
-    /// count 1, 2, 3 and so on.
-    fn hold(&mut self, hold: &Hold) -> Result<u64, StoreFault>
-        ensures honest { Self.honest self.new → Self.honest self.old }
-        ensures opened { Self.honest self.new → OnOk result (Self.is_open self.old × Self.is_open self.new) }
-        ensures ok { (b : History) → Stands Self.Standing b self.old → Fits (Held (hold_view hold.now)) b
-            → OnOk result (Stands Self.Standing (Held (hold_view hold.now) ∷ b) self.new) }
-        ensures err { (b : History) → Stands Self.Standing b self.old → OnErr result (Stands Self.Standing b self.new) }
-        ensures crash { LeavesOrAdds Self.Standing (Held (hold_view hold.now)) self.old self.new }
-        ensures number { Self.honest self.new → (b : History) → Stands Self.Standing b self.old
-            → IfOk result (λ number. number ≡ length (holds b) + 1) }
-        ensures refusals { IfErr result IsOfStorage }
-        ensures faults { CountsFaults result (Self.fault_count self.old) (Self.fault_count self.new) };
-
-    /// Installs an identity, which is in force from now on: the signer's certificate, and the further certificates of
-    /// its chain, one after the other. They are kept as they are handed in.
-    fn install(&mut self, certificate: &[u8], chain: &[u8]) -> Result<(), StoreFault>
-        ensures honest { Self.honest self.new → Self.honest self.old }
-        ensures opened { Self.honest self.new → OnOk result (Self.is_open self.old × Self.is_open self.new) }
-        ensures ok { (b : History) → Stands Self.Standing b self.old
-            → OnOk result (Stands Self.Standing (Installed (installed_of certificate.now chain.now) ∷ b) self.new) }
-        ensures err { (b : History) → Stands Self.Standing b self.old → OnErr result (Stands Self.Standing b self.new) }
-        ensures crash { LeavesOrAdds Self.Standing (Installed (installed_of certificate.now chain.now)) self.old
-            self.new }
-        ensures refusals { IfErr result IsOfStorage }
-        ensures faults { CountsFaults result (Self.fault_count self.old) (Self.fault_count self.new) };
-
     /// The identities that were installed, by number.
     fn identities(&mut self) -> Result<Vec<IdentityRow>, StoreFault>
         ensures looks { OnlyLooks Self.Standing self.old self.new }
@@ -284,7 +131,188 @@ pub trait Book: Standing {
         ensures refusals { IfErr result IsOfStorage }
         ensures faults { CountsFaults result (Self.fault_count self.old) (Self.fault_count self.new) };
 
+    /// How many calibrations there are.
+    fn calibration_count(&mut self) -> Result<u64, StoreFault>
+        ensures looks { OnlyLooks Self.Standing self.old self.new }
+        ensures opened { Self.honest self.new → OnOk result (Self.is_open self.old) }
+        ensures value { Self.honest self.new → (b : History) → Stands Self.Standing b self.old
+            → IfOk result (λ count. count ≡ length (calibrations b)) }
+        ensures small { IfOk result (λ count. count < 2 ^ 63) }
+        ensures refusals { IfErr result IsOfStorage }
+        ensures faults { CountsFaults result (Self.fault_count self.old) (Self.fault_count self.new) };
+
+    /// How many holds there are.
+    fn hold_count(&mut self) -> Result<u64, StoreFault>
+        ensures looks { OnlyLooks Self.Standing self.old self.new }
+        ensures opened { Self.honest self.new → OnOk result (Self.is_open self.old) }
+        ensures value { Self.honest self.new → (b : History) → Stands Self.Standing b self.old
+            → IfOk result (λ count. count ≡ length (holds b)) }
+        ensures small { IfOk result (λ count. count < 2 ^ 63) }
+        ensures refusals { IfErr result IsOfStorage }
+        ensures faults { CountsFaults result (Self.fault_count self.old) (Self.fault_count self.new) };
+
+    /// Adds entries, the first of them first, all in one commit. The caller's condition is that each fits the history
+    /// before it.
+    fn append(&mut self, entries: &[Entry<'_>]) -> Result<(), StoreFault>
+        requires { 0 < length entries.now }
+        ensures appends { Appends Self.Standing (entries_view entries.now) self.old self.new result }
+        ensures refusals { IfErr result IsOfStorage };
+
+    /// For proofs alone: a book that stands for a history stands for each sound one that shows the same. So a right
+    /// that is given to whom it was given before, or taken from whom it wasn't given, changes nothing.
+    fn tell_the_same(&self)
+        ensures { (b d : History) → Stands Self.Standing b self.now → IsSound d → ShowsSame b d
+            → Stands Self.Standing d self.now };
+
+    /// Reserves a stamp, which counts on its UTC day from now on, whether it is sealed or not. The caller's condition
+    /// is that its serial number is above the greatest, where that is less than 2^63 - 1. Refused with `Full`, and
+    /// nothing is added, where the greatest is 2^63 - 1.
+    final fn reserve(&mut self, reservation: &Reservation<'_>) -> Result<(), StoreFault>
+        ensures appends { Appends Self.Standing (Reserved (reservation_view reservation.now) ∷ []) self.old self.new
+            result }
+        ensures full { Self.honest self.new → (b : History) → Stands Self.Standing b self.old
+            → result ≡ Err StoreFault.Full → IsSpent b }
+        ensures spent { Self.honest self.new → (b : History) → Stands Self.Standing b self.old → IsSpent b
+            → IsErr result × LeavesAsBefore Self.Standing self.old self.new }
+        ensures refusals { IfErr result (IsOfStorageOr StoreFault.Full) }
+    {
+        let last = self.last()?;
+        if last.serial == GREATEST_NUMBER {
+            return Err(StoreFault::Full);
+        }
+        self.append(&[Entry::Reserved(*reservation)])
+    }
+
+    /// Stores the token of a serial number. The caller's condition is that the number is reserved and not sealed.
+    final fn seal(&mut self, serial: u64, token: &[u8]) -> Result<(), StoreFault>
+        ensures appends { Appends Self.Standing (Sealed serial token.now ∷ []) self.old self.new result }
+        ensures refusals { IfErr result IsOfStorage }
+    {
+        self.append(&[Entry::Sealed { serial, token }])
+    }
+
+    /// Stores a deposit and its token in one commit, which seals its serial number: that is the deposit's number from
+    /// now on. The caller's condition is that it is reserved for the owner and not sealed, and that the owner hasn't
+    /// used the reference.
+    final fn seal_deposit(
+        &mut self,
+        serial: u64,
+        token: &[u8],
+        owner: &str,
+        reference: &str,
+        bytes: &[u8],
+    ) -> Result<(), StoreFault>
+        ensures appends { Appends Self.Standing
+            (Deposited (deposit_of serial owner.now reference.now bytes.now) token.now ∷ []) self.old self.new result }
+        ensures refusals { IfErr result IsOfStorage }
+    {
+        self.append(&[Entry::Deposited {
+            serial,
+            token,
+            owner,
+            reference,
+            bytes,
+        }])
+    }
+
+    /// Lets an account read a deposit, from now on. The caller's condition is that the number is a deposit's.
+    final fn grant(&mut self, number: u64, account: &str) -> Result<(), StoreFault>
+        ensures appends { Appends Self.Standing (Granted number (Account account.now) ∷ []) self.old self.new result }
+        ensures refusals { IfErr result IsOfStorage }
+    {
+        let reader = Reader::Account(account);
+        self.append(&[Entry::Granted { number, reader }])
+    }
+
+    /// Takes the right to read a deposit from an account, from now on. The caller's condition is that the number is a
+    /// deposit's.
+    final fn revoke(&mut self, number: u64, account: &str) -> Result<(), StoreFault>
+        ensures appends { Appends Self.Standing (Revoked number (Account account.now) ∷ []) self.old self.new result }
+        ensures refusals { IfErr result IsOfStorage }
+    {
+        let reader = Reader::Account(account);
+        self.append(&[Entry::Revoked { number, reader }])
+    }
+
+    /// Lets each member of a group read a deposit, from now on. The caller's condition is that the number is a
+    /// deposit's.
+    final fn grant_group(&mut self, number: u64, name: &str) -> Result<(), StoreFault>
+        ensures appends { Appends Self.Standing (Granted number (Group name.now) ∷ []) self.old self.new result }
+        ensures refusals { IfErr result IsOfStorage }
+    {
+        let reader = Reader::Group(name);
+        self.append(&[Entry::Granted { number, reader }])
+    }
+
+    /// Takes the right to read a deposit from a group, from now on. The caller's condition is that the number is a
+    /// deposit's.
+    final fn revoke_group(&mut self, number: u64, name: &str) -> Result<(), StoreFault>
+        ensures appends { Appends Self.Standing (Revoked number (Group name.now) ∷ []) self.old self.new result }
+        ensures refusals { IfErr result IsOfStorage }
+    {
+        let reader = Reader::Group(name);
+        self.append(&[Entry::Revoked { number, reader }])
+    }
+
+    /// Adds a calibration, which is the latest from now on. The caller's condition is an uncertainty of at most 10^12.
+    /// Refused with `Backwards` where its reading is before that of the latest. The answer is its number: calibrations
+    /// count 1, 2, 3 and so on.
+    final fn calibrate(&mut self, calibration: &Calibration) -> Result<u64, StoreFault>
+        ensures appends { Appends Self.Standing (Calibrated (calibration_view calibration.now) ∷ []) self.old self.new
+            result }
+        ensures number { Self.honest self.new → (b : History) → Stands Self.Standing b self.old
+            → IfOk result (λ number. number ≡ length (calibrations b) + 1) }
+        ensures backwards { Self.honest self.new → (b : History) → Stands Self.Standing b self.old
+            → result ≡ Err StoreFault.Backwards
+            → IsBackwards (calibration_view calibration.now) (latest_calibration b) }
+        ensures refused { Self.honest self.new → (b : History) → Stands Self.Standing b self.old
+            → IsBackwards (calibration_view calibration.now) (latest_calibration b)
+            → IsErr result × LeavesAsBefore Self.Standing self.old self.new }
+        ensures refusals { IfErr result (IsOfStorageOr StoreFault.Backwards) }
+    {
+        let latest = self.calibration()?;
+        if is_before(calibration, latest) {
+            return Err(StoreFault::Backwards);
+        }
+        let count = self.calibration_count()?;
+        self.append(&[Entry::Calibrated(*calibration)])?;
+        Ok(count + 1)
+    }
+
+    /// Adds a hold. The caller's condition is that its first moment is before its end. The answer is its number: holds
+    /// count 1, 2, 3 and so on.
+    final fn hold(&mut self, hold: &Hold) -> Result<u64, StoreFault>
+        ensures appends { Appends Self.Standing (Held (hold_view hold.now) ∷ []) self.old self.new result }
+        ensures number { Self.honest self.new → (b : History) → Stands Self.Standing b self.old
+            → IfOk result (λ number. number ≡ length (holds b) + 1) }
+        ensures refusals { IfErr result IsOfStorage }
+    {
+        let count = self.hold_count()?;
+        self.append(&[Entry::Held(*hold)])?;
+        Ok(count + 1)
+    }
+
+    /// Installs an identity, which is in force from now on: the signer's certificate, and the further certificates of
+    /// its chain, one after the other. They are kept as they are handed in.
+    final fn install(&mut self, certificate: &[u8], chain: &[u8]) -> Result<(), StoreFault>
+        ensures appends { Appends Self.Standing (Installed (installed_of certificate.now chain.now) ∷ []) self.old
+            self.new result }
+        ensures refusals { IfErr result IsOfStorage }
+    {
+        self.append(&[Entry::Installed { certificate, chain }])
+    }
+
     /// How many calls were refused for another cause than memory, modulo 2^64. Takes no memory.
     fn faults(&self) -> u64
         ensures { result ≡ Self.fault_count self.now };
+}
+
+/// Whether the reading is before that of the latest calibration.
+fn is_before(calibration: &Calibration, latest: Option<Calibration>) -> bool
+    ensures { IsTrue result ↔ IsBackwards (calibration_view calibration.now) (calibration_option latest) }
+{
+    match latest {
+        Some(latest) => calibration.reading < latest.reading,
+        None => false,
+    }
 }

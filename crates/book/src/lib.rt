@@ -2,6 +2,7 @@
 #![tactic(auto)]
 
 mod book;
+mod entries;
 mod fault;
 mod laws;
 mod limits;
@@ -11,8 +12,9 @@ mod standing;
 mod values;
 
 pub use book::Book;
+pub use entries::{Entry, Reader};
 pub use fault::StoreFault;
-pub use laws::identities_tell_who_signed;
+pub use laws::{histories_show_the_same, identities_tell_who_signed};
 pub use limits::{DAY, GREATEST_NUMBER};
 pub use ranges::StampsBetween;
 pub use rows::{Deposit, IdentityRow, Stamp};

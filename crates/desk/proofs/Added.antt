@@ -1,11 +1,11 @@
 -- A calibration and a hold are steps of the machine.
-use Rattle.std.proofs.Common.{◌≡◌, ℕ, ◌⊎◌, cond, Bool, true, false, [], ◌∷◌, ◌++◌, Option, Some, None, Ok, refl, sym}
+use Rattle.std.proofs.Common.{◌≡◌, ℕ, ◌⊎◌, cond, Bool, true, false, [], ◌∷◌, ◌++◌, Option, Some, None, Ok, Err, refl, sym}
 use Rattle.std.proofs.Common.{ap, ◌∙◌, subst, inl, inr}
 use Rattle.book.specs.declared.standing.Standing.{Ghosts}
-use Rattle.book.specs.Fault.{count_after}
 use Rattle.book.specs.History.{Entry, History}
 use Rattle.book.specs.Sound.{Fits}
-use Rattle.book.specs.Stands.{Stands, LeavesOrAdds, LeavesAsBefore}
+use Rattle.book.specs.Entries.{Appends}
+use Rattle.book.specs.Stands.{Stands, LeavesAsBefore}
 use Rattle.book.specs.declared.fault.StoreFault.{StoreFault}
 use Rattle.book.specs.declared.fault.StoreFault.TheVariants as store
 use Rattle.desk.specs.Fit.{IsFit}
@@ -41,21 +41,20 @@ unturned false free = refl
 
 -- the entry stands
 pub enters_as : {B : Type 0} (g : Ghosts B) (s : Setting) (c : Command) (entry : Entry) (numbers : History → ℕ)
-    (turns : History → Bool) (old new : B) (number : ℕ) → Enters s c entry numbers turns → g.fault_count new ≡ g.fault_count old
-    → (g.honest new → g.is_open old × g.is_open new)
-    → ((b : History) → Stands g b old → Fits entry b → Stands g (entry ∷ b) new)
+    (turns : History → Bool) (old new : B) (number : ℕ) → Enters s c entry numbers turns
+    → Appends g (entry ∷ []) old new (Ok number)
     → (g.honest new → (b : History) → Stands g b old → turns b ≡ true → ⊥)
     → (g.honest new → (b : History) → Stands g b old → number ≡ numbers b)
     → (g.is_open new → IsOpened g c (Numbered number) new)
     → StepsBy g no_signer s c (all_fine (Ok [])) old new (Numbered number)
-enters_as g s c entry numbers turns old new number enters same opened ok free counts opens = record {
+enters_as g s c entry numbers turns old new number enters a free counts opens = record {
   fits = enters.made Fine;
-  counted = same;
+  counted = a.faults;
   signer = tt;
   blames = tt;
-  opened = λ honest. opens (opened honest).1;
+  opened = λ honest. opens (a.opened honest).1;
   steps = λ honest b stands met.
-      let now = ok b stands (enters.fits b met) in
+      let now = a.ok b stands (enters.fits b met, tt) in
       record {
         effect = numbered entry (numbers b);
         has = enters.has (all_fine (Ok [])) b (numbered entry (numbers b))
@@ -63,7 +62,7 @@ enters_as g s c entry numbers turns old new number enters same opened ok free co
         says = ap Numbered (counts honest b stands);
         moves = refl;
         stands = now;
-        left = λ left r. inr (inl (now.settled honest (opened honest).1 left r));
+        left = λ left r. inr (inl (now.settled honest (a.opened honest).1 left r));
       };
 }
 
@@ -74,11 +73,10 @@ refused_as : {B : Type 0} (g : Ghosts B) (s : Setting) (c : Command) (entry : En
     → (o.adding ≡ Fine → o.sealing ≡ Fine → ⊥)
     → IsFit c o → IsBlamed g c o old new (Refused (fault_of cause))
     → g.fault_count new ≡ faults_after o (g.fault_count old)
-    → ((b : History) → Stands g b old → Stands g b new)
-    → LeavesOrAdds g entry old new
+    → (f : StoreFault) → Appends {A = ℕ} g (entry ∷ []) old new (Err f)
     → (g.honest new → (b : History) → Stands g b old → turns b ≡ true → LeavesAsBefore g old new)
     → StepsBy g no_signer s c o old new (Refused (fault_of cause))
-refused_as g s c entry numbers turns old new o cause enters why answered was_refused fits blamed counted err crash before =
+refused_as g s c entry numbers turns old new o cause enters why answered was_refused fits blamed counted f a before =
     record {
       fits = fits;
       counted = counted;
@@ -90,11 +88,11 @@ refused_as g s c entry numbers turns old new o cause enters why answered was_ref
         has = enters.has o b (only (Refused (fault_of cause))) (ap (λ x. entering entry (numbers b) x (turns b)) (sym why));
         says = refl;
         moves = refl;
-        stands = err b stands;
+        stands = a.err b stands;
         left = λ left r.
             let doubt : (t : Bool) → turns b ≡ t → MayBeLeft g s c o b old (only (Refused (fault_of cause))) left = elim [
               | true ↦ λ e. inl (refl, before honest b stands e left r)
-              | false ↦ λ e. elim (crash honest left r) [
+              | false ↦ λ e. elim (a.crash honest left r) [
                 | inl left ↦ inl (refl, left)
                 | inr adds ↦ inr (inr (record {
                   refused = was_refused;
@@ -103,7 +101,7 @@ refused_as g s c entry numbers turns old new o cause enters why answered was_ref
                       (sym (ap (λ x. entering entry (numbers b) x (turns b)) answered
                       ∙ ap (λ t. entering entry (numbers b) None t) e));
                   holds = subst (λ es. g.holds left (es ++ b)) (sym (one_in_doubt o.adding entry))
-                      (adds b stands (enters.fits b met));
+                      (adds b stands (enters.fits b met, tt));
                 }))
               ]
             ] in doubt (turns b) refl;
@@ -112,15 +110,15 @@ refused_as g s c entry numbers turns old new o cause enters why answered was_ref
 
 -- the store turns it back
 turned_back : {B : Type 0} (g : Ghosts B) (s : Setting) (c : Command) (entry : Entry) (numbers : History → ℕ)
-    (turns : History → Bool) (old new : B) → Enters s c entry numbers turns → g.fault_count new ≡ g.fault_count old
-    → ((b : History) → Stands g b old → Stands g b new)
+    (turns : History → Bool) (old new : B) → Enters s c entry numbers turns
+    → Appends {A = ℕ} g (entry ∷ []) old new (Err store.Backwards)
     → (g.honest new → (b : History) → Stands g b old → turns b ≡ true)
     → IsExcused g c old new
     → (g.honest new → (b : History) → Stands g b old → turns b ≡ true → LeavesAsBefore g old new)
     → StepsBy g no_signer s c (all_fine (Ok [])) old new (Refused fault.Store)
-turned_back g s c entry numbers turns old new enters same err turned excused before = record {
+turned_back g s c entry numbers turns old new enters a turned excused before = record {
   fits = enters.made Fine;
-  counted = same;
+  counted = a.faults;
   signer = tt;
   blames = inr excused;
   opened = λ honest. tt;
@@ -130,7 +128,7 @@ turned_back g s c entry numbers turns old new enters same err turned excused bef
         (sym (ap (λ t. entering entry (numbers b) None t) (turned honest b stands)));
     says = refl;
     moves = refl;
-    stands = err b stands;
+    stands = a.err b stands;
     left = λ left r. inl (refl, before honest b stands (turned honest b stands) left r);
   };
 }
@@ -139,24 +137,22 @@ turned_back g s c entry numbers turns old new enters same err turned excused bef
 pub refuses_by : {B : Type 0} (g : Ghosts B) (s : Setting) (c : Command) (entry : Entry) (numbers : History → ℕ)
     (turns : History → Bool) (old new : B) (f : StoreFault) → Enters s c entry numbers turns
     → (f ≡ store.Memory) ⊎ ((f ≡ store.Database) ⊎ (f ≡ store.Backwards))
-    → g.fault_count new ≡ count_after f (g.fault_count old)
-    → ((b : History) → Stands g b old → Stands g b new)
-    → LeavesOrAdds g entry old new
+    → Appends {A = ℕ} g (entry ∷ []) old new (Err f)
     → (g.honest new → (b : History) → Stands g b old → f ≡ store.Backwards → turns b ≡ true)
     → (f ≡ store.Backwards → IsExcused g c old new)
     → (g.honest new → (b : History) → Stands g b old → turns b ≡ true → LeavesAsBefore g old new)
     → StepsBy g no_signer s c (hindered (obstacle.Adding f)) old new (Refused (fault_of (store_cause f)))
-refuses_by g s c entry numbers turns old new store.Memory enters which counted err crash turned excuses before =
+refuses_by g s c entry numbers turns old new store.Memory enters which a turned excuses before =
     refused_as g s c entry numbers turns old new (hindered (obstacle.Adding store.Memory)) OfMemory enters refl refl
     (λ a e. cc) (enters.made Wanting)
-    (none_failed _ tt tt tt tt tt tt tt tt) counted err crash before
-refuses_by g s c entry numbers turns old new store.Database enters which counted err crash turned excuses before =
+    (none_failed _ tt tt tt tt tt tt tt tt) a.faults store.Memory a before
+refuses_by g s c entry numbers turns old new store.Database enters which a turned excuses before =
     refused_as g s c entry numbers turns old new (hindered (obstacle.Adding store.Database)) OfStore enters refl refl
-    (λ a e. cc) (enters.made Failed) (inl (inr (inr (inr (inr (inl refl)))))) counted err crash before
-refuses_by g s c entry numbers turns old new store.Backwards enters which counted err crash turned excuses before =
-    turned_back g s c entry numbers turns old new enters counted err (λ honest b stands. turned honest b stands refl)
+    (λ a e. cc) (enters.made Failed) (inl (inr (inr (inr (inr (inl refl)))))) a.faults store.Database a before
+refuses_by g s c entry numbers turns old new store.Backwards enters which a turned excuses before =
+    turned_back g s c entry numbers turns old new enters a (λ honest b stands. turned honest b stands refl)
     (excuses refl) before
-refuses_by g s c entry numbers turns old new store.NotOurs enters which counted err crash turned excuses before =
+refuses_by g s c entry numbers turns old new store.NotOurs enters which a turned excuses before =
     absurd (elim which [ inl e ↦ cc | inr e ↦ elim e [ inl k ↦ cc | inr k ↦ cc ] ])
-refuses_by g s c entry numbers turns old new store.Full enters which counted err crash turned excuses before =
+refuses_by g s c entry numbers turns old new store.Full enters which a turned excuses before =
     absurd (elim which [ inl e ↦ cc | inr e ↦ elim e [ inl k ↦ cc | inr k ↦ cc ] ])

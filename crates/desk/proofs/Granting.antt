@@ -8,13 +8,14 @@ use Rattle.policy.specs.Record.{PolicyValue}
 use Rattle.book.specs.declared.fault.StoreFault.{StoreFault}
 use Rattle.book.specs.declared.fault.StoreFault.TheVariants as store
 use Rattle.book.specs.declared.standing.Standing.{Ghosts}
-use Rattle.book.specs.Fault.{count_after, IsOfStorage}
+use Rattle.book.specs.Fault.{IsOfStorage}
 use Rattle.book.specs.History.{Entry, History}
 use Rattle.book.specs.Readers.{Reader}
 use Rattle.book.specs.Rights.{seen_by}
 use Rattle.book.specs.Rows.{DepositRow}
 use Rattle.book.specs.Sound.{Fits, FitsRight}
-use Rattle.book.specs.Stands.{Stands, OnlyLooks, LeavesOrAdds}
+use Rattle.book.specs.Entries.{Appends}
+use Rattle.book.specs.Stands.{Stands, OnlyLooks}
 use Rattle.desk.specs.Command.{Setting, Command, Done, Refused}
 use Rattle.desk.specs.Effects.{Effect, only, unless, fault_of, objection, accepted, unless_against, right_effect}
 use Rattle.desk.specs.Obstacles.{fault_with, hindered, outcome_with, IsOfRight, IsOfSight, IsOpposed, IsUnseen}
@@ -126,19 +127,18 @@ pub record Allows {B : Type 0} (g : Ghosts B) (s : Setting) (c : Command) (accou
 -- the right is entered
 pub right_entered : {B : Type 0} (g : Ghosts B) (s : Setting) (c : Command) (account : List ℕ) (reader : Reader)
     (n : ℕ) (entry : Entry) (old mid new : B) → Allows g s c account reader n entry old mid new
-    → (g.honest new → g.honest mid) → g.fault_count new ≡ g.fault_count mid
-    → (g.honest new → g.is_open mid × g.is_open new)
-    → ((b : History) → Stands g b mid → Fits entry b → Stands g (entry ∷ b) new)
+    → Appends {A = Unit {0}} g (entry ∷ []) mid new (Ok tt)
     → StepsBy g no_signer s c (all_fine (Ok [])) old new Done
-right_entered g s c account reader n entry old mid new a before same opened ok = record {
+right_entered g s c account reader n entry old mid new a x = record {
   fits = a.made;
-  counted = same ∙ a.uncounted;
+  counted = x.faults ∙ a.uncounted;
   signer = tt;
   blames = tt;
-  opened = λ honest. a.opens (opened honest).1;
+  opened = λ honest. a.opens (x.opened honest).1;
   steps = λ honest b st met.
-      let m = a.may (before honest) b st in
-      let now = ok b (a.looks.stands b st) (a.fits b (right_seen (viewer_in s.file account) n b m.deposit m.own.seen)) in
+      let m = a.may (x.honest honest) b st in
+      let now = x.ok b (a.looks.stands b st)
+      (a.fits b (right_seen (viewer_in s.file account) n b m.deposit m.own.seen), tt) in
       record {
         effect = accepted entry;
         has = a.righting (all_fine (Ok [])) b (accepted entry)
@@ -146,7 +146,7 @@ right_entered g s c account reader n entry old mid new a before same opened ok =
         says = refl;
         moves = refl;
         stands = now;
-        left = λ left r. inr (inl (now.settled honest (opened honest).1 left r));
+        left = λ left r. inr (inl (now.settled honest (x.opened honest).1 left r));
       };
 }
 
@@ -210,18 +210,18 @@ refused_as : {B : Type 0} (g : Ghosts B) (s : Setting) (c : Command) (account : 
     → cause_of (committed o).searching ≡ None → cause_of (committed o).looking ≡ None
     → cause_of (committed o).adding ≡ None → (o.adding ≡ Fine → o.sealing ≡ Fine → ⊥) → IsFit c o
     → ((f : Fault) → IsOpened g c (Refused f) new) → IsBlamed g c o old new (Refused (fault_of cause))
-    → g.fault_count new ≡ faults_after o (g.fault_count old) → (g.honest new → g.honest mid)
-    → ((b : History) → Stands g b mid → Stands g b new) → LeavesOrAdds g entry mid new
+    → g.fault_count new ≡ faults_after o (g.fault_count old) → (f : StoreFault)
+    → Appends {A = Unit {0}} g (entry ∷ []) mid new (Err f)
     → StepsBy g no_signer s c o old new (Refused (fault_of cause))
 refused_as g s c account reader n entry old mid new o cause a searched looked why also_searched also_looked answered
-    was_refused fits opened blames counted before err crash = record {
+    was_refused fits opened blames counted f x = record {
       fits = fits;
       counted = counted;
       signer = tt;
       blames = blames;
       opened = λ honest. opened (fault_of cause);
       steps = λ honest b st met.
-          let m = a.may (before honest) b st in
+          let m = a.may (x.honest honest) b st in
           let stood = a.looks.stands b st in
           record {
             effect = only (Refused (fault_of cause));
@@ -229,16 +229,16 @@ refused_as g s c account reader n entry old mid new o cause a searched looked wh
                 (sym (made s account reader n b entry o m searched looked (Some cause) why));
             says = refl;
             moves = refl;
-            stands = err b stood;
-            left = λ left r. elim (crash honest left r) [
-              | inl same ↦ inl (refl, a.looks.leaves (before honest) left same)
+            stands = x.err b stood;
+            left = λ left r. elim (x.crash honest left r) [
+              | inl same ↦ inl (refl, a.looks.leaves (x.honest honest) left same)
               | inr adds ↦ inr (inr (record {
                 refused = was_refused;
                 doubted = accepted entry;
                 has = a.righting (committed o) b (accepted entry)
                     (sym (made s account reader n b entry (committed o) m also_searched also_looked None answered));
                 holds = subst (λ es. g.holds left (es ++ b)) (sym (one_in_doubt o.adding entry))
-                    (adds b stood (a.fits b (right_seen (viewer_in s.file account) n b m.deposit m.own.seen)));
+                    (adds b stood (a.fits b (right_seen (viewer_in s.file account) n b m.deposit m.own.seen), tt));
               }))
             ];
           };
@@ -248,20 +248,19 @@ pub right_refused : {B : Type 0} (g : Ghosts B) (s : Setting) (c : Command) (acc
     (n : ℕ) (entry : Entry) (old mid new : B) (f : StoreFault) → Allows g s c account reader n entry old mid new
     → ((call : Call) → IsFit c (record (all_fine (Ok [])) { adding = call }))
     → ((f : Fault) → IsOpened g c (Refused f) new) → IsOfStorage f
-    → g.fault_count new ≡ count_after f (g.fault_count mid) → (g.honest new → g.honest mid)
-    → ((b : History) → Stands g b mid → Stands g b new) → LeavesOrAdds g entry mid new
+    → Appends {A = Unit {0}} g (entry ∷ []) mid new (Err f)
     → StepsBy g no_signer s c (hindered (obstacle.Adding f)) old new (Refused (fault_with (obstacle.Adding f)))
-right_refused g s c account reader n entry old mid new store.Memory a fits opened of counted before err crash =
+right_refused g s c account reader n entry old mid new store.Memory a fits opened of x =
     refused_as g s c account reader n entry old mid new (hindered (obstacle.Adding store.Memory)) OfMemory a refl refl
     refl refl refl refl (λ fine sealed. cc) (fits Wanting) opened (none_failed _ tt tt tt tt tt tt tt tt)
-    (counted ∙ a.uncounted) before err crash
-right_refused g s c account reader n entry old mid new store.Database a fits opened of counted before err crash =
+    (x.faults ∙ a.uncounted) store.Memory x
+right_refused g s c account reader n entry old mid new store.Database a fits opened of x =
     refused_as g s c account reader n entry old mid new (hindered (obstacle.Adding store.Database)) OfStore a refl refl
     refl refl refl refl (λ fine sealed. cc) (fits Failed) opened (inl (inr (inr (inr (inr (inl refl))))))
-    (counted ∙ ap (λ n. wrapping_add n 1) a.uncounted) before err crash
-right_refused g s c account reader n entry old mid new store.NotOurs a fits opened of counted before err crash =
+    (x.faults ∙ ap (λ n. wrapping_add n 1) a.uncounted) store.Database x
+right_refused g s c account reader n entry old mid new store.NotOurs a fits opened of x =
     absurd (elim of [ inl e ↦ cc | inr e ↦ cc ])
-right_refused g s c account reader n entry old mid new store.Full a fits opened of counted before err crash =
+right_refused g s c account reader n entry old mid new store.Full a fits opened of x =
     absurd (elim of [ inl e ↦ cc | inr e ↦ cc ])
-right_refused g s c account reader n entry old mid new store.Backwards a fits opened of counted before err crash =
+right_refused g s c account reader n entry old mid new store.Backwards a fits opened of x =
     absurd (elim of [ inl e ↦ cc | inr e ↦ cc ])

@@ -16,8 +16,8 @@ use Rattle.book.specs.History.{Entry, Reserved, Deposited, History, ReservationV
 use Rattle.book.specs.History.{deposit_under}
 use Rattle.book.specs.Rows.{DepositRow}
 use Rattle.book.specs.Sound.{Along, Fits, FitsDeposited}
-use Rattle.book.specs.Stands.{Stands, LeavesOrAdds}
-use Rattle.book.specs.Fault.{count_after as count_with}
+use Rattle.book.specs.Entries.{Appends}
+use Rattle.book.specs.Stands.{Stands}
 use Rattle.book.specs.declared.fault.StoreFault.{StoreFault}
 use Rattle.book.specs.declared.fault.StoreFault.TheVariants as store
 use Rattle.book.specs.Values.{deposit_of}
@@ -67,41 +67,33 @@ unwrapped g p d signature v = record {
 
 -- token and deposit are stored
 stored_as : {B : Type 0} (g : Ghosts B) (p : PendingValue) (d : DepositRow) (signature : List ℕ)
-    (old new : B) → g.fault_count new ≡ g.fault_count old
-    → (g.honest new → g.is_open old × g.is_open new)
-    → ((b : History) → Stands g b old → Fits (Deposited d (token_with p signature)) b
-    → Stands g (Deposited d (token_with p signature) ∷ b) new)
+    (old new : B) → Appends {A = Unit {0}} g (Deposited d (token_with p signature) ∷ []) old new (Ok tt)
     → KeepsBy g p d (Ok signature) (all_fine (Ok [])) old new (Kept d.serial true)
-stored_as g p d signature old new same opened ok = record {
+stored_as g p d signature old new a = record {
   grows = tt;
-  counted = same;
-  opened = λ c honest. (opened honest).1;
+  counted = a.faults;
+  opened = λ c honest. (a.opened honest).1;
   blames = λ c first. tt;
   steps = λ honest b stands fits.
-      let now = ok b stands fits in
+      let now = a.ok b stands (fits, tt) in
       record {
         says = refl;
         stands = now;
-        left = λ left r. inr (inl (now.settled honest (opened honest).1 left r));
+        left = λ left r. inr (inl (now.settled honest (a.opened honest).1 left r));
       };
 }
 
 pub stored : {B : Type 0} (g : Ghosts B) (p : PendingValue) (owner reference bytes signature : List ℕ) (serial : ℕ)
     (token : List ℕ) (old new : B) → serial ≡ p.serial → token ≡ token_with p signature
-    → g.fault_count new ≡ g.fault_count old
-    → (g.honest new → g.is_open old × g.is_open new)
-    → ((b : History) → Stands g b old → Fits (Deposited (deposit_of serial owner reference bytes) token) b
-    → Stands g (Deposited (deposit_of serial owner reference bytes) token ∷ b) new)
+    → Appends {A = Unit {0}} g (Deposited (deposit_of serial owner reference bytes) token ∷ []) old new (Ok tt)
     → KeepsBy g p (deposit_of p.serial owner reference bytes) (Ok signature) (all_fine (Ok [])) old new
     (Kept serial true)
-stored g p owner reference bytes signature serial token old new number is same opened ok =
+stored g p owner reference bytes signature serial token old new number is a =
     let row = λ (n : ℕ). deposit_of n owner reference bytes in
     subst (λ n. KeepsBy g p (row p.serial) (Ok signature) (all_fine (Ok [])) old new (Kept n true)) (sym number)
-    (stored_as g p (row p.serial) signature old new same opened
-    (subst (λ x. (b : History) → Stands g b old → Fits (Deposited (row p.serial) x) b
-    → Stands g (Deposited (row p.serial) x ∷ b) new) is
-    (subst (λ n. (b : History) → Stands g b old → Fits (Deposited (row n) token) b
-    → Stands g (Deposited (row n) token ∷ b) new) number ok)))
+    (stored_as g p (row p.serial) signature old new
+    (subst (λ x. Appends {A = Unit {0}} g (Deposited (row p.serial) x ∷ []) old new (Ok tt)) is
+    (subst (λ n. Appends {A = Unit {0}} g (Deposited (row n) token ∷ []) old new (Ok tt)) number a)))
 
 -- the commit is refused by this fault
 unstored_as : {B : Type 0} (g : Ghosts B) (p : PendingValue) (d : DepositRow) (signature : List ℕ)
@@ -109,23 +101,22 @@ unstored_as : {B : Type 0} (g : Ghosts B) (p : PendingValue) (d : DepositRow) (s
     → no_seal o ≡ Some cause → no_seal (record o { sealing = Fine }) ≡ None → (o.sealing ≡ Fine → ⊥)
     → IsUncounted o.wrapping → ((c : Command) (first : B)
     → IsBlamed g c (joined (all_fine (Ok [])) (Ok signature) o) first new (Refused (fault_of cause)))
-    → g.fault_count new ≡ counted o.sealing (counted o.wrapping (g.fault_count old))
-    → ((b : History) → Stands g b old → Stands g b new)
-    → LeavesOrAdds g (Deposited d (token_with p signature)) old new
+    → g.fault_count new ≡ counted o.sealing (counted o.wrapping (g.fault_count old)) → (f : StoreFault)
+    → Appends {A = Unit {0}} g (Deposited d (token_with p signature) ∷ []) old new (Err f)
     → KeepsBy g p d (Ok signature) o old new (Refused (fault_of cause))
-unstored_as g p d signature old new o cause why answered was_refused grows blamed faults err crash = record {
+unstored_as g p d signature old new o cause why answered was_refused grows blamed faults f a = record {
   grows = grows;
   counted = faults;
   opened = λ c honest. tt;
   blames = blamed;
   steps = λ honest b stands fits. record {
     says = sym (ap (λ x. (kept_by p d signature [] x).says) why);
-    stands = subst (λ x. Stands g ((kept_by p d signature [] x).adds ++ b) new) (sym why) (err b stands);
-    left = λ left r. elim (crash honest left r) [
+    stands = subst (λ x. Stands g ((kept_by p d signature [] x).adds ++ b) new) (sym why) (a.err b stands);
+    left = λ left r. elim (a.crash honest left r) [
       | inl before ↦ inl (ap (λ x. (kept_by p d signature [] x).adds) why, before)
       | inr adds ↦ inr (inr (
         was_refused,
-        subst (λ x. g.holds left ((kept_by p d signature [] x).adds ++ b)) (sym answered) (adds b stands fits),
+        subst (λ x. g.holds left ((kept_by p d signature [] x).adds ++ b)) (sym answered) (adds b stands (fits, tt)),
       ))
     ];
   };
@@ -133,36 +124,32 @@ unstored_as g p d signature old new o cause why answered was_refused grows blame
 
 unstored_by : {B : Type 0} (g : Ghosts B) (p : PendingValue) (d : DepositRow) (signature : List ℕ)
     (old new : B) (f : StoreFault) → (f ≡ store.Memory) ⊎ (f ≡ store.Database)
-    → g.fault_count new ≡ count_with f (g.fault_count old)
-    → ((b : History) → Stands g b old → Stands g b new)
-    → LeavesOrAdds g (Deposited d (token_with p signature)) old new
+    → Appends {A = Unit {0}} g (Deposited d (token_with p signature) ∷ []) old new (Err f)
     → KeepsBy g p d (Ok signature) (refused (refusal.Sealing f)) old new (Refused (fault_of (store_cause f)))
-unstored_by g p d signature old new store.Memory which faults err crash =
+unstored_by g p d signature old new store.Memory which a =
     unstored_as g p d signature old new (refused (refusal.Sealing store.Memory)) _ refl refl (λ e. cc) tt
-    (λ c first. none_failed _ tt tt tt tt tt tt tt tt) faults err crash
-unstored_by g p d signature old new store.Database which faults err crash =
+    (λ c first. none_failed _ tt tt tt tt tt tt tt tt) a.faults store.Memory a
+unstored_by g p d signature old new store.Database which a =
     unstored_as g p d signature old new (refused (refusal.Sealing store.Database)) _ refl refl (λ e. cc) tt
-    (λ c first. inl (inr (inr (inr (inr (inr (inr refl))))))) faults err crash
-unstored_by g p d signature old new store.NotOurs which faults err crash =
+    (λ c first. inl (inr (inr (inr (inr (inr (inr refl))))))) a.faults store.Database a
+unstored_by g p d signature old new store.NotOurs which a =
     absurd (elim which [ inl e ↦ cc | inr e ↦ cc ])
-unstored_by g p d signature old new store.Full which faults err crash =
+unstored_by g p d signature old new store.Full which a =
     absurd (elim which [ inl e ↦ cc | inr e ↦ cc ])
-unstored_by g p d signature old new store.Backwards which faults err crash =
+unstored_by g p d signature old new store.Backwards which a =
     absurd (elim which [ inl e ↦ cc | inr e ↦ cc ])
 
 pub unstored : {B : Type 0} (g : Ghosts B) (p : PendingValue) (owner reference bytes signature : List ℕ) (serial : ℕ)
     (token : List ℕ) (old new : B) (f : StoreFault) → serial ≡ p.serial → token ≡ token_with p signature
     → (f ≡ store.Memory) ⊎ (f ≡ store.Database)
-    → g.fault_count new ≡ count_with f (g.fault_count old)
-    → ((b : History) → Stands g b old → Stands g b new)
-    → LeavesOrAdds g (Deposited (deposit_of serial owner reference bytes) token) old new
+    → Appends {A = Unit {0}} g (Deposited (deposit_of serial owner reference bytes) token ∷ []) old new (Err f)
     → KeepsBy g p (deposit_of p.serial owner reference bytes) (Ok signature) (refused (refusal.Sealing f)) old new
     (Refused (fault_of (store_cause f)))
-unstored g p owner reference bytes signature serial token old new f number is which faults err crash =
+unstored g p owner reference bytes signature serial token old new f number is which a =
     let row = λ (n : ℕ). deposit_of n owner reference bytes in
-    unstored_by g p (row p.serial) signature old new f which faults err
-    (subst (λ x. LeavesOrAdds g (Deposited (row p.serial) x) old new) is
-    (subst (λ n. LeavesOrAdds g (Deposited (row n) token) old new) number crash))
+    unstored_by g p (row p.serial) signature old new f which
+    (subst (λ x. Appends {A = Unit {0}} g (Deposited (row p.serial) x ∷ []) old new (Err f)) is
+    (subst (λ n. Appends {A = Unit {0}} g (Deposited (row n) token ∷ []) old new (Err f)) number a))
 
 -- From the reservation on.
 

@@ -8,7 +8,8 @@ use Rattle.book.specs.declared.standing.Standing.{Ghosts}
 use Rattle.cms.specs.Identity.{IdentityValue}
 use Rattle.book.specs.History.{History, Reserved, ReservationValue, greatest_serial}
 use Rattle.book.specs.Sound.{Fits, IsSpent, greatest_number}
-use Rattle.book.specs.Stands.{Stands, LeavesOrAdds}
+use Rattle.book.specs.Entries.{Appends}
+use Rattle.book.specs.Stands.{Stands}
 use Rattle.book.specs.Fault.{count_after}
 use Rattle.book.specs.declared.fault.StoreFault.{StoreFault}
 use Rattle.book.specs.declared.fault.StoreFault.TheVariants as store
@@ -197,16 +198,16 @@ pub adding_refused : {B : Type 0} (g : Ghosts B) (s : Setting) (account : List �
     (b : History) (old new : B) (f : StoreFault) (r : ReservationValue)
     → RefusesReserving f → greatest_serial b < greatest_number → (f ≡ store.Full → IsSpent b)
     → r ≡ next_reservation s account plan octets b → Fits (Reserved r) b → g.honest new → Stands g b old
-    → Stands g b new → LeavesOrAdds g (Reserved r) old new
+    → Appends {A = Unit {0}} g (Reserved r ∷ []) old new (Err f)
     → Reserves g s account plan octets b old new (Err (adding_refusal f))
-adding_refused g s account plan octets b old new f r h unspent full same fits honest stood st crash =
-    reserves_refused g s account plan octets b old new (adding_refusal f) (adding_cause f b h unspent full) st
-    (λ left recovers. elim (crash honest left recovers) [
+adding_refused g s account plan octets b old new f r h unspent full same fits honest stood a =
+    reserves_refused g s account plan octets b old new (adding_refusal f) (adding_cause f b h unspent full)
+    (a.err b stood) (λ left recovers. elim (a.crash honest left recovers) [
       | inl before ↦ inl before
       | inr adds ↦ inr (
         adding_met f b h unspent full,
         subst (λ x. g.holds left (after (begin_effect s account plan octets b x) b))
             (sym (doubted_none f b unspent))
-            (subst (λ x. g.holds left (Reserved x ∷ b)) same (adds b stood fits)),
+            (subst (λ x. g.holds left (Reserved x ∷ b)) same (adds b stood (fits, tt))),
       )
     ])

@@ -1,6 +1,6 @@
 -- An identity is installed, unless it is the one that was installed last.
 use Rattle.std.proofs.Common.{◌≡◌, true, false, List, [], ◌∷◌, ◌++◌, length, map, reverse, Option, Some, None}
-use Rattle.std.proofs.Common.{Ok, refl, sym, ◌∙◌, ap, subst, inl, inr, arith}
+use Rattle.std.proofs.Common.{Ok, Err, refl, sym, ◌∙◌, ap, subst, inl, inr, arith}
 use Rattle.std.specs.Prelude.{option_map}
 use Rattle.std.proofs.lemmas.List.{reverse-append, reverse-reverse, map-append}
 use Rattle.std.specs.Hash.DefaultHasher.{wrapping_add}
@@ -13,7 +13,8 @@ use Rattle.book.specs.History.{Reserved, Sealed, Deposited, Calibrated, Held, Gr
 use Rattle.book.specs.History.{InstalledValue, first_of}
 use Rattle.book.specs.Identities.{latest_identity, installed_rows, identities, installed_as}
 use Rattle.book.specs.Rows.{InstalledRow}
-use Rattle.book.specs.Stands.{Stands, OnlyLooks, LeavesOrAdds}
+use Rattle.book.specs.Entries.{Appends}
+use Rattle.book.specs.Stands.{Stands, OnlyLooks}
 use Rattle.book.specs.Values.{identity_view}
 use Rattle.desk.specs.Command.{InForce, Setting, Succeed, Done, Refused}
 use Rattle.desk.specs.Effects.{only, unless, fault_of, accepted, succeed_effect}
@@ -95,25 +96,24 @@ pub record FindsOther {B : Type 0} (g : Ghosts B) (i : InstalledValue) (old mid 
 
 -- it is installed
 pub succeeded_now : {B : Type 0} (g : Ghosts B) (s : Setting) (next : InForce) (old mid new : B)
-    → FindsOther g (installed_by next.identity) old mid → (g.honest new → g.honest mid)
-    → g.fault_count new ≡ g.fault_count mid → (g.honest new → g.is_open mid × g.is_open new)
-    → ((b : History) → Stands g b mid → Stands g (Installed (installed_by next.identity) ∷ b) new)
+    → FindsOther g (installed_by next.identity) old mid
+    → Appends {A = Unit {0}} g (Installed (installed_by next.identity) ∷ []) mid new (Ok tt)
     → StepsBy g no_signer s (Succeed next) (all_fine (Ok [])) old new Done
-succeeded_now g s next old mid new finds before same opened ok = record {
+succeeded_now g s next old mid new finds a = record {
   fits = (refl, (tt, tt));
-  counted = same ∙ finds.uncounted;
+  counted = a.faults ∙ finds.uncounted;
   signer = tt;
   blames = tt;
   opened = λ honest. tt;
   steps = λ honest b st met.
-      let now = ok b (finds.looks.stands b st) in
+      let now = a.ok b (finds.looks.stands b st) (tt, tt) in
       record {
         effect = accepted (Installed (installed_by next.identity));
-        has = ap (succeed_effect (all_fine (Ok [])) (installed_by next.identity)) (finds.other (before honest) b st);
+        has = ap (succeed_effect (all_fine (Ok [])) (installed_by next.identity)) (finds.other (a.honest honest) b st);
         says = refl;
         moves = refl;
         stands = now;
-        left = λ left r. inr (inl (now.settled honest (opened honest).1 left r));
+        left = λ left r. inr (inl (now.settled honest (a.opened honest).1 left r));
       };
 }
 
@@ -170,12 +170,11 @@ uninstalled_by : {B : Type 0} (g : Ghosts B) (s : Setting) (next : InForce) (old
     → cause_of o.looking ≡ None → cause_of o.adding ≡ Some cause → cause_of (committed o).looking ≡ None
     → cause_of (committed o).adding ≡ None → (o.adding ≡ Fine → o.sealing ≡ Fine → ⊥) → IsFit (Succeed next) o
     → IsBlamed g (Succeed next) o old new (Refused (fault_of cause))
-    → g.fault_count new ≡ faults_after o (g.fault_count old) → (g.honest new → g.honest mid)
-    → ((b : History) → Stands g b mid → Stands g b new)
-    → LeavesOrAdds g (Installed (installed_by next.identity)) mid new
+    → g.fault_count new ≡ faults_after o (g.fault_count old) → (f : StoreFault)
+    → Appends {A = Unit {0}} g (Installed (installed_by next.identity) ∷ []) mid new (Err f)
     → StepsBy g no_signer s (Succeed next) o old new (Refused (fault_of cause))
-uninstalled_by g s next old mid new o cause finds looked why also_looked answered was_refused fits blames counted before
-    err crash = record {
+uninstalled_by g s next old mid new o cause finds looked why also_looked answered was_refused fits blames counted f
+    a = record {
       fits = fits;
       counted = counted;
       signer = tt;
@@ -184,21 +183,21 @@ uninstalled_by g s next old mid new o cause finds looked why also_looked answere
       steps = λ honest b st met.
           let i = installed_by next.identity in
           let stood = finds.looks.stands b st in
-          let other = finds.other (before honest) b st in
+          let other = finds.other (a.honest honest) b st in
           record {
             effect = only (Refused (fault_of cause));
             has = sym (succession_is i o b looked (sym other) (Some cause) why);
             says = refl;
             moves = refl;
-            stands = err b stood;
-            left = λ left r. elim (crash honest left r) [
-              | inl same ↦ inl (refl, finds.looks.leaves (before honest) left same)
+            stands = a.err b stood;
+            left = λ left r. elim (a.crash honest left r) [
+              | inl same ↦ inl (refl, finds.looks.leaves (a.honest honest) left same)
               | inr adds ↦ inr (inr (record {
                 refused = was_refused;
                 doubted = accepted (Installed i);
                 has = sym (succession_is i (committed o) b also_looked (sym other) None answered);
                 holds = subst (λ es. g.holds left (es ++ b)) (sym (one_in_doubt o.adding (Installed i)))
-                    (adds b stood tt);
+                    (adds b stood (tt, tt));
               }))
             ];
           };
@@ -206,22 +205,19 @@ uninstalled_by g s next old mid new o cause finds looked why also_looked answere
 
 pub uninstalled : {B : Type 0} (g : Ghosts B) (s : Setting) (next : InForce) (old mid new : B) (f : StoreFault)
     → FindsOther g (installed_by next.identity) old mid → IsOfStorage f
-    → g.fault_count new ≡ count_after f (g.fault_count mid) → (g.honest new → g.honest mid)
-    → ((b : History) → Stands g b mid → Stands g b new)
-    → LeavesOrAdds g (Installed (installed_by next.identity)) mid new
+    → Appends {A = Unit {0}} g (Installed (installed_by next.identity) ∷ []) mid new (Err f)
     → StepsBy g no_signer s (Succeed next) (hindered (obstacle.Adding f)) old new
     (Refused (fault_with (obstacle.Adding f)))
-uninstalled g s next old mid new store.Memory finds of counted before err crash =
+uninstalled g s next old mid new store.Memory finds of a =
     uninstalled_by g s next old mid new (hindered (obstacle.Adding store.Memory)) OfMemory finds refl refl refl refl
-    (λ fine sealed. cc) (refl, (tt, tt)) (none_failed _ tt tt tt tt tt tt tt tt) (counted ∙ finds.uncounted) before err
-    crash
-uninstalled g s next old mid new store.Database finds of counted before err crash =
+    (λ fine sealed. cc) (refl, (tt, tt)) (none_failed _ tt tt tt tt tt tt tt tt) (a.faults ∙ finds.uncounted) store.Memory a
+uninstalled g s next old mid new store.Database finds of a =
     uninstalled_by g s next old mid new (hindered (obstacle.Adding store.Database)) OfStore finds refl refl refl refl
     (λ fine sealed. cc) (refl, (tt, tt)) (inl (inr (inr (inr (inr (inl refl))))))
-    (counted ∙ ap (λ n. wrapping_add n 1) finds.uncounted) before err crash
-uninstalled g s next old mid new store.NotOurs finds of counted before err crash =
+    (a.faults ∙ ap (λ n. wrapping_add n 1) finds.uncounted) store.Database a
+uninstalled g s next old mid new store.NotOurs finds of a =
     absurd (elim of [ inl e ↦ cc | inr e ↦ cc ])
-uninstalled g s next old mid new store.Full finds of counted before err crash =
+uninstalled g s next old mid new store.Full finds of a =
     absurd (elim of [ inl e ↦ cc | inr e ↦ cc ])
-uninstalled g s next old mid new store.Backwards finds of counted before err crash =
+uninstalled g s next old mid new store.Backwards finds of a =
     absurd (elim of [ inl e ↦ cc | inr e ↦ cc ])

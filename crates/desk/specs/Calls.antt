@@ -18,7 +18,6 @@ use Rattle.book.specs.declared.fault.StoreFault.{StoreFault}
 use Rattle.book.specs.declared.fault.StoreFault.TheVariants as store
 use Rattle.book.specs.declared.standing.Standing.{Ghosts}
 use Rattle.book.specs.History.{History, CalibrationValue, greatest_serial, count_of_day}
-use Rattle.book.specs.Readers as readers
 use Rattle.book.specs.Stands.{Stands}
 use Rattle.desk.specs.Facts.{calibration_of, clock_of}
 use Rattle.desk.specs.Outcome.{Call, Fine, Wanting, Failed, Outcome, Cause, OfMemory, OfStore, OfSigner, all_fine}
@@ -34,8 +33,6 @@ use Rattle.desk.specs.declared.finding.Planned.{Planned}
 use Rattle.desk.specs.declared.looking.Looked.{Looked}
 use Rattle.desk.specs.declared.reserving.Prepared.{Prepared}
 use Rattle.desk.specs.declared.opening.Opening.{Opening}
-use Rattle.desk.specs.declared.reader.Reader.{Reader}
-use Rattle.desk.specs.declared.reader.Reader.TheVariants as reader
 use Rattle.desk.specs.declared.refusal.Refusal.{Refusal}
 use Rattle.desk.specs.declared.refusal.Refusal.TheVariants as refusal
 
@@ -120,11 +117,6 @@ setting_of policy identity algorithm = record { file = policy_view policy; in_fo
 
 abbrev pub opening_view : Opening → Setting
 opening_view o = setting_of o.policy.now o.identity.now o.algorithm.now
-
--- whom a right names
-abbrev pub reader_view : Reader → readers.Reader
-reader_view (reader.Account name) = readers.Account name.now
-reader_view (reader.Group name) = readers.Group name.now
 
 abbrev pub looked_at : ℤ → History → Looked
 looked_at reading b = record { clock = clock_of reading b; serial = greatest_serial b }

@@ -12,11 +12,10 @@ use crate::depositing::deposit_with;
 use crate::desk::Desk;
 use crate::fault::Fault;
 use crate::laws::steps_keep_their_promises;
-use crate::reader::Reader;
 use crate::reply::Deposited;
 use crate::rights::{grant_by, revoke_by};
 use crate::showing::{list_to, show_to, token_to};
-use book::{Book, Listed};
+use book::{Book, Listed, Reader};
 use cms::Signer;
 use policy::Account;
 

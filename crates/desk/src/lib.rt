@@ -17,7 +17,6 @@ mod looking;
 mod obstacle;
 mod opening;
 mod pending;
-mod reader;
 mod refusal;
 mod reply;
 mod reserving;

@@ -1,11 +1,10 @@
 //! Who gives and takes rights.
-ghost use Rattle.std.specs.Prelude.{◌≡◌, ◌∷◌, None, IfErr, OnOk, OnErr, MatchResult};
+ghost use Rattle.std.specs.Prelude.{◌≡◌, None, IfErr, MatchResult};
 ghost use Rattle.policy.specs.View.{account_view, policy_view};
-ghost use Rattle.book.specs.Fault.{CountsFaults, IsOfStorage};
-ghost use Rattle.book.specs.History.{History, Granted, Revoked};
-ghost use Rattle.book.specs.Sound.{Fits};
-ghost use Rattle.book.specs.Stands.{Stands, OnlyLooks, LeavesOrAdds};
-ghost use Rattle.desk.specs.Calls.{opening_view, reader_view};
+ghost use Rattle.book.specs.Entries.{reader_view};
+ghost use Rattle.book.specs.History.{History};
+ghost use Rattle.book.specs.Stands.{Stands, OnlyLooks};
+ghost use Rattle.desk.specs.Calls.{opening_view};
 ghost use Rattle.desk.specs.Command.{Grant, Revoke};
 ghost use Rattle.desk.specs.Effects.{has_account, has_group, objection};
 ghost use Rattle.desk.specs.Fault as refused;
@@ -16,9 +15,8 @@ ghost use Rattle.desk.specs.Stepped.{StepsBy, no_signer};
 
 use crate::obstacle::Obstacle;
 use crate::opening::Opening;
-use crate::reader::Reader;
 use crate::showing::see;
-use book::{Book, StoreFault};
+use book::{Book, Entry, Reader};
 use policy::{Account, Policy};
 
 /// Whether the policy file has an account of that name, active or not.
@@ -86,40 +84,6 @@ fn may_name<B: Book + Drop>(
     may_read(policy, account, reader)
 }
 
-/// Gives the right.
-fn give<B: Book + Drop>(store: &mut B, number: u64, reader: Reader<'_>) -> Result<(), StoreFault>
-    ensures honest { B.honest store.new → B.honest store.old }
-    ensures opened { B.honest store.new → OnOk result (B.is_open store.old × B.is_open store.new) }
-    ensures ok { (b : History) → Stands B.Standing b store.old → Fits (Granted number (reader_view reader.entry)) b
-        → OnOk result (Stands B.Standing (Granted number (reader_view reader.entry) ∷ b) store.new) }
-    ensures err { (b : History) → Stands B.Standing b store.old → OnErr result (Stands B.Standing b store.new) }
-    ensures crash { LeavesOrAdds B.Standing (Granted number (reader_view reader.entry)) store.old store.new }
-    ensures refusals { IfErr result IsOfStorage }
-    ensures faults { CountsFaults result (B.fault_count store.old) (B.fault_count store.new) }
-{
-    match reader {
-        Reader::Account(name) => store.grant(number, name),
-        Reader::Group(name) => store.grant_group(number, name),
-    }
-}
-
-/// Takes the right.
-fn take<B: Book + Drop>(store: &mut B, number: u64, reader: Reader<'_>) -> Result<(), StoreFault>
-    ensures honest { B.honest store.new → B.honest store.old }
-    ensures opened { B.honest store.new → OnOk result (B.is_open store.old × B.is_open store.new) }
-    ensures ok { (b : History) → Stands B.Standing b store.old → Fits (Revoked number (reader_view reader.entry)) b
-        → OnOk result (Stands B.Standing (Revoked number (reader_view reader.entry) ∷ b) store.new) }
-    ensures err { (b : History) → Stands B.Standing b store.old → OnErr result (Stands B.Standing b store.new) }
-    ensures crash { LeavesOrAdds B.Standing (Revoked number (reader_view reader.entry)) store.old store.new }
-    ensures refusals { IfErr result IsOfStorage }
-    ensures faults { CountsFaults result (B.fault_count store.old) (B.fault_count store.new) }
-{
-    match reader {
-        Reader::Account(name) => store.revoke(number, name),
-        Reader::Group(name) => store.revoke_group(number, name),
-    }
-}
-
 /// Lets a reader see a deposit, from now on.
 pub(crate) fn grant_by<B: Book + Drop>(
     store: &mut B,
@@ -139,7 +103,7 @@ pub(crate) fn grant_by<B: Book + Drop>(
         Ok(()) => {}
         Err(obstacle) => return Err(obstacle),
     }
-    match give(store, number, reader) {
+    match store.append(&[Entry::Granted { number, reader }]) {
         Ok(()) => Ok(()),
         Err(fault) => Err(Obstacle::Adding(fault)),
     }
@@ -164,7 +128,7 @@ pub(crate) fn revoke_by<B: Book + Drop>(
         Ok(()) => {}
         Err(obstacle) => return Err(obstacle),
     }
-    match take(store, number, reader) {
+    match store.append(&[Entry::Revoked { number, reader }]) {
         Ok(()) => Ok(()),
         Err(fault) => Err(Obstacle::Adding(fault)),
     }

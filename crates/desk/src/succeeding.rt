@@ -1,9 +1,10 @@
 //! Which identity is in force: an opening and a succession install it.
-ghost use Rattle.std.specs.Prelude.{◌≡◌, ◌⊎◌, ◌∷◌, ℕ, List, Some, map, IfOk, IfErr, OnOk, OnErr};
+ghost use Rattle.std.specs.Prelude.{◌≡◌, ◌⊎◌, [], ◌∷◌, ℕ, List, Some, map, IfOk, IfErr, OnOk};
+ghost use Rattle.book.specs.Entries.{Appends};
 ghost use Rattle.book.specs.Fault.{CountsFaults, IsOfStorage};
 ghost use Rattle.book.specs.History.{History, Installed};
 ghost use Rattle.book.specs.Identities.{identities, latest_identity, installed_as};
-ghost use Rattle.book.specs.Stands.{Stands, OnlyLooks, LeavesOrAdds};
+ghost use Rattle.book.specs.Stands.{Stands, OnlyLooks};
 ghost use Rattle.book.specs.Values.{identity_view};
 ghost use Rattle.desk.specs.Answers.{answered};
 ghost use Rattle.desk.specs.Calls.{in_force_of, opening_view, succeeded_as};
@@ -54,14 +55,8 @@ fn is_installed<B: Book + Drop>(store: &mut B, identity: &Identity) -> Result<bo
 
 /// Adds an identity, which is the latest from now on.
 fn add<B: Book + Drop>(store: &mut B, identity: &Identity) -> Result<(), StoreFault>
-    ensures honest { B.honest store.new → B.honest store.old }
-    ensures opened { B.honest store.new → OnOk result (B.is_open store.old × B.is_open store.new) }
-    ensures ok { (b : History) → Stands B.Standing b store.old
-        → OnOk result (Stands B.Standing (Installed (installed_by identity.now) ∷ b) store.new) }
-    ensures err { (b : History) → Stands B.Standing b store.old → OnErr result (Stands B.Standing b store.new) }
-    ensures crash { LeavesOrAdds B.Standing (Installed (installed_by identity.now)) store.old store.new }
+    ensures appends { Appends B.Standing (Installed (installed_by identity.now) ∷ []) store.old store.new result }
     ensures refusals { IfErr result IsOfStorage }
-    ensures faults { CountsFaults result (B.fault_count store.old) (B.fault_count store.new) }
 {
     store.install(identity.certificate(), identity.chain())
 }

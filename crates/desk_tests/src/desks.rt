@@ -29,8 +29,8 @@ fn keep(book: &mut MemoryBook) -> Result<(), StoreFault> {
     book.seal_deposit(1, b"", "alice", "plan-7", b"abc")
 }
 
-/// The calls by which a book is made, and a desk opened over it.
-const CALLS: u64 = 4;
+/// The calls by which a book is made, and a desk opened over it: a reservation asks for the last one before it is added.
+const CALLS: u64 = 5;
 
 /// A book with alice's deposit 1, of whose calls this one is refused.
 fn book_with_deposit(alloc: Global, refused: u64) -> Result<MemoryBook, Fail> {

@@ -1,6 +1,5 @@
 pub mod Changes
 pub mod Falling
 pub mod Numbers
-pub mod Repeats
 pub mod SameViews
 pub mod Walk

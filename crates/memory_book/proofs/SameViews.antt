@@ -1,73 +1,90 @@
--- The views of a history are those of what is kept of it.
-use Rattle.std.proofs.Common.{◌≡◌, ℕ, ℤ, List, [], ◌∷◌, ◌++◌, refl, ap, ◌∙◌}
+-- Histories that show the same have the same views.
+use Rattle.std.proofs.Common.{◌≡◌, ℕ, ℤ, List, [], ◌∷◌, ◌++◌, length, reverse, refl, sym, ap, ◌∙◌}
 use Rattle.std.specs.List.{list_any}
 use Rattle.std.specs.Option.{option_to_list}
-use Rattle.book.specs.History.{History, ReservationValue, reservations, greatest_serial, count_of_day}
+use Rattle.book.specs.History.{History, ReservationValue, reservations, count_of_day, calibrations, holds}
 use Rattle.book.specs.History.{latest_calibration, is_held, deposit_under}
+use Rattle.book.specs.Identities.{identities}
 use Rattle.book.specs.Readers.{Reader, Viewer, readers_as}
 use Rattle.book.specs.Rights.{is_reader, may_read, is_visible, listed_at, deposit_with_stamp}
+use Rattle.book.specs.Shows.{ShowsSame}
 use Rattle.book.specs.Values.{last_of}
 use Rattle.memory_book.specs.Listing.{listed_along}
-use Rattle.memory_book.specs.Repeats.{without_repeats}
-use Rattle.memory_book.proofs.Repeats.{same_reservations, same_calibrations, same_holds, same_deposits, same_tokens}
-use Rattle.memory_book.proofs.Repeats.{same_readers}
 
--- what is said of the entries is said of the history
-pub told : {X : Type 0} (f : History → X) (kept b : History) → kept ≡ without_repeats b
-    → f (without_repeats b) ≡ f b → f kept ≡ f b
-told f kept b is same = ap f is ∙ same
+-- what is said of the slice is said of the history
+pub told : {X : Type 0} (f : History → X) (lent kept b : History) → lent ≡ kept → f kept ≡ f b → f lent ≡ f b
+told f lent kept b is same = ap f is ∙ same
 
-pub same_last : (b : History) → last_of (without_repeats b) ≡ last_of b
-same_last b = rw (same_reservations b) refl
+pub shows_sym : (b d : History) → ShowsSame b d → ShowsSame d b
+shows_sym b d s = record {
+  reserved = sym s.reserved;
+  tokens = λ serial. sym (s.tokens serial);
+  calibrated = sym s.calibrated;
+  held = sym s.held;
+  deposited = sym s.deposited;
+  readers = λ number reader. sym (s.readers number reader);
+  installed = sym s.installed;
+}
 
-pub same_greatest : (b : History) → greatest_serial (without_repeats b) ≡ greatest_serial b
-same_greatest b = rw (same_reservations b) refl
+pub shows_trans : (b c d : History) → ShowsSame b c → ShowsSame c d → ShowsSame b d
+shows_trans b c d s t = record {
+  reserved = s.reserved ∙ t.reserved;
+  tokens = λ serial. s.tokens serial ∙ t.tokens serial;
+  calibrated = s.calibrated ∙ t.calibrated;
+  held = s.held ∙ t.held;
+  deposited = s.deposited ∙ t.deposited;
+  readers = λ number reader. s.readers number reader ∙ t.readers number reader;
+  installed = s.installed ∙ t.installed;
+}
 
-pub same_count : (account : List ℕ) (day : ℕ) (b : History)
-    → count_of_day account day (without_repeats b) ≡ count_of_day account day b
-same_count account day b = rw (same_reservations b) refl
+module _ (b d : History) (s : ShowsSame b d) where
+  pub same_last : last_of b ≡ last_of d
+  same_last = rw s.reserved refl
 
-pub same_latest : (b : History) → latest_calibration (without_repeats b) ≡ latest_calibration b
-same_latest b = rw (same_calibrations b) refl
+  pub same_count : (account : List ℕ) (day : ℕ) → count_of_day account day b ≡ count_of_day account day d
+  same_count account day = rw s.reserved refl
 
-pub same_held : (now : ℤ) (b : History) → is_held now (without_repeats b) ≡ is_held now b
-same_held now b = rw (same_holds b) refl
+  pub same_latest : latest_calibration b ≡ latest_calibration d
+  same_latest = rw s.calibrated refl
 
-pub same_under : (owner reference : List ℕ) (b : History)
-    → deposit_under owner reference (without_repeats b) ≡ deposit_under owner reference b
-same_under owner reference b = rw (same_deposits b) refl
+  pub same_calibrations : length (calibrations b) ≡ length (calibrations d)
+  same_calibrations = ap length s.calibrated
 
-pub same_with_stamp : (number : ℕ) (b : History)
-    → deposit_with_stamp number (without_repeats b) ≡ deposit_with_stamp number b
-same_with_stamp number b = rw (same_deposits b, same_tokens number b, same_reservations b) refl
+  pub same_holds : length (holds b) ≡ length (holds d)
+  same_holds = ap length s.held
 
-reads_the_same : (viewer : Viewer) (number : ℕ) (b : History)
-    → may_read viewer number (without_repeats b) ≡ may_read viewer number b
-reads_the_same viewer number b = any_the_same (readers_as viewer) where
-  any_the_same : (readers : List Reader)
-      → list_any (λ reader. is_reader number reader (without_repeats b)) readers
-      ≡ list_any (λ reader. is_reader number reader b) readers
-  any_the_same [] = refl
-  any_the_same (reader ∷ readers) = rw (same_readers number reader b, any_the_same readers) refl
+  pub same_held : (now : ℤ) → is_held now b ≡ is_held now d
+  same_held now = rw s.held refl
 
-pub same_visible : (viewer : Viewer) (number : ℕ) (b : History)
-    → is_visible viewer number (without_repeats b) ≡ is_visible viewer number b
-same_visible viewer number b = rw (reads_the_same viewer number b, same_deposits b) refl
+  pub same_under : (owner reference : List ℕ) → deposit_under owner reference b ≡ deposit_under owner reference d
+  same_under owner reference = rw s.deposited refl
 
-same_listed_at : (viewer : Viewer) (b : History) (number : ℕ)
-    → listed_at viewer (without_repeats b) number ≡ listed_at viewer b number
-same_listed_at viewer b number =
-    rw (reads_the_same viewer number b, same_deposits b, same_reservations b) refl
+  pub same_with_stamp : (number : ℕ) → deposit_with_stamp number b ≡ deposit_with_stamp number d
+  same_with_stamp number = rw (s.deposited, s.tokens number, s.reserved) refl
 
-same_along : (viewer : Viewer) (b : History) (rs : List ReservationValue)
-    → listed_along viewer (without_repeats b) rs ≡ listed_along viewer b rs
-same_along viewer b [] = refl
-same_along viewer b (r ∷ rs) =
-    ap (λ l. l ++ option_to_list (listed_at viewer (without_repeats b) r.serial)) (same_along viewer b rs)
-    ∙ ap (λ o. listed_along viewer b rs ++ option_to_list o) (same_listed_at viewer b r.serial)
+  pub same_identities : identities b ≡ identities d
+  same_identities = ap reverse s.installed
 
-pub same_listed : (viewer : Viewer) (b : History)
-    → listed_along viewer (without_repeats b) (reservations (without_repeats b))
-    ≡ listed_along viewer b (reservations b)
-same_listed viewer b =
-    ap (listed_along viewer (without_repeats b)) (same_reservations b) ∙ same_along viewer b (reservations b)
+  any_same : (number : ℕ) (readers : List Reader) → list_any (λ reader. is_reader number reader b) readers
+      ≡ list_any (λ reader. is_reader number reader d) readers
+  any_same number [] = refl
+  any_same number (reader ∷ readers) = rw (s.readers number reader, any_same number readers) refl
+
+  reads_same : (viewer : Viewer) (number : ℕ) → may_read viewer number b ≡ may_read viewer number d
+  reads_same viewer number = any_same number (readers_as viewer)
+
+  pub same_visible : (viewer : Viewer) (number : ℕ) → is_visible viewer number b ≡ is_visible viewer number d
+  same_visible viewer number = rw (reads_same viewer number, s.deposited) refl
+
+  same_listed_at : (viewer : Viewer) (number : ℕ) → listed_at viewer b number ≡ listed_at viewer d number
+  same_listed_at viewer number = rw (reads_same viewer number, s.deposited, s.reserved) refl
+
+  same_along : (viewer : Viewer) (rs : List ReservationValue) → listed_along viewer b rs ≡ listed_along viewer d rs
+  same_along viewer [] = refl
+  same_along viewer (r ∷ rs) =
+      ap (λ l. l ++ option_to_list (listed_at viewer b r.serial)) (same_along viewer rs)
+      ∙ ap (λ o. listed_along viewer d rs ++ option_to_list o) (same_listed_at viewer r.serial)
+
+  pub same_listed : (viewer : Viewer)
+      → listed_along viewer b (reservations b) ≡ listed_along viewer d (reservations d)
+  same_listed viewer = ap (listed_along viewer b) s.reserved ∙ same_along viewer (reservations d)

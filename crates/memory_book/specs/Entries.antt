@@ -9,8 +9,6 @@ use Rattle.book.specs.Values.{calibration_view, hold_view, deposit_view, install
 use Rattle.memory_book.specs.declared.entry.OwnedReservation.{OwnedReservation}
 use Rattle.memory_book.specs.declared.entry.OwnedReader.{OwnedReader}
 use Rattle.memory_book.specs.declared.entry.OwnedReader.TheVariants as owned
-use Rattle.memory_book.specs.declared.entry.ReaderName.{ReaderName}
-use Rattle.memory_book.specs.declared.entry.ReaderName.TheVariants as named
 use Rattle.memory_book.specs.declared.entry.OwnedEntry.{OwnedEntry}
 use Rattle.memory_book.specs.declared.entry.OwnedEntry.TheVariants.{Reservation, Seal, Deposit, Calibration, Hold}
 use Rattle.memory_book.specs.declared.entry.OwnedEntry.TheVariants.{Grant, Revocation, Installation}
@@ -27,27 +25,23 @@ reservation_value r = record {
   tst = r.tst.items;
 }
 
-abbrev pub reader_view : OwnedReader → Reader
-reader_view (owned.Account name) = Account (string_bytes name)
-reader_view (owned.Group name) = Group (string_bytes name)
+abbrev pub owned_reader : OwnedReader → Reader
+owned_reader (owned.Account name) = Account (string_bytes name)
+owned_reader (owned.Group name) = Group (string_bytes name)
 
-abbrev pub reader_named : ReaderName → Reader
-reader_named (named.Account name) = Account name.now
-reader_named (named.Group name) = Group name.now
-
-abbrev pub entry_view : OwnedEntry → Entry
-entry_view (Reservation r) = Reserved (reservation_value r)
-entry_view (Seal serial token) = Sealed serial token.items
-entry_view (Deposit d token) = Deposited (deposit_view d) token.items
-entry_view (Calibration c) = Calibrated (calibration_view c)
-entry_view (Hold h) = Held (hold_view h)
-entry_view (Grant number reader) = Granted number (reader_view reader)
-entry_view (Revocation number reader) = Revoked number (reader_view reader)
-entry_view (Installation certificate chain) = Installed (installed_of certificate.items chain.items)
+abbrev pub owned_entry : OwnedEntry → Entry
+owned_entry (Reservation r) = Reserved (reservation_value r)
+owned_entry (Seal serial token) = Sealed serial token.items
+owned_entry (Deposit d token) = Deposited (deposit_view d) token.items
+owned_entry (Calibration c) = Calibrated (calibration_view c)
+owned_entry (Hold h) = Held (hold_view h)
+owned_entry (Grant number reader) = Granted number (owned_reader reader)
+owned_entry (Revocation number reader) = Revoked number (owned_reader reader)
+owned_entry (Installation certificate chain) = Installed (installed_of certificate.items chain.items)
 
 -- a list of entries, the newest first
 abbrev pub history_of : List OwnedEntry → History
-history_of entries = map entry_view entries
+history_of entries = map owned_entry entries
 
 -- the token, if the entry seals the serial number
 abbrev pub token_in : ℕ → Entry → Option (List ℕ)

@@ -3,10 +3,10 @@ ghost use Rattle.std.specs.Prelude.{◌≡◌, option_map};
 ghost use Rattle.book.specs.History.{reservation_in, calibration_in, hold_in, deposit_in, installed_in};
 ghost use Rattle.book.specs.Values.{calibration_view, hold_view, deposit_view, installed_of};
 ghost use Rattle.book.specs.Readers.{is_same};
-ghost use Rattle.memory_book.specs.Entries.{reservation_value, reader_view, reader_named, entry_view, token_in};
-ghost use Rattle.memory_book.specs.Entries.{right_about};
+ghost use Rattle.book.specs.Entries.{reader_view};
+ghost use Rattle.memory_book.specs.Entries.{reservation_value, owned_reader, owned_entry, token_in, right_about};
 
-use book::{Calibration, Deposit, Hold};
+use book::{Calibration, Deposit, Hold, Reader};
 
 /// What was reserved for a stamp.
 #[derive(Drop)]
@@ -28,21 +28,14 @@ pub(crate) enum OwnedReader {
     Group(String),
 }
 
-/// An account or a group, by its name.
-#[derive(Clone, Copy)]
-pub(crate) enum ReaderName<'a> {
-    Account(&'a str),
-    Group(&'a str),
-}
-
 impl OwnedReader {
     /// Whether both are accounts or both are groups, and of one name.
-    pub(crate) fn is_named(&self, reader: ReaderName<'_>) -> bool
-        ensures { result ≡ is_same (reader_view self.now) (reader_named reader.entry) }
+    pub(crate) fn is_named(&self, reader: Reader<'_>) -> bool
+        ensures { result ≡ is_same (owned_reader self.now) (reader_view reader.entry) }
     {
         match (self, reader) {
-            (OwnedReader::Account(name), ReaderName::Account(other)) => name.as_str() == other,
-            (OwnedReader::Group(name), ReaderName::Group(other)) => name.as_str() == other,
+            (OwnedReader::Account(name), Reader::Account(other)) => name.as_str() == other,
+            (OwnedReader::Group(name), Reader::Group(other)) => name.as_str() == other,
             _ => false,
         }
     }
@@ -68,7 +61,7 @@ pub(crate) enum OwnedEntry {
 
 impl OwnedEntry {
     pub(crate) fn reservation(&self) -> Option<&OwnedReservation>
-        ensures { option_map (λ r. reservation_value r.now) result ≡ reservation_in (entry_view self.now) }
+        ensures { option_map (λ r. reservation_value r.now) result ≡ reservation_in (owned_entry self.now) }
     {
         match self {
             OwnedEntry::Reservation(reservation) => Some(reservation),
@@ -77,7 +70,7 @@ impl OwnedEntry {
     }
 
     pub(crate) fn deposit(&self) -> Option<&Deposit>
-        ensures { option_map (λ d. deposit_view d.now) result ≡ deposit_in (entry_view self.now) }
+        ensures { option_map (λ d. deposit_view d.now) result ≡ deposit_in (owned_entry self.now) }
     {
         match self {
             OwnedEntry::Deposit(deposit, _) => Some(deposit),
@@ -86,7 +79,7 @@ impl OwnedEntry {
     }
 
     pub(crate) fn calibration(&self) -> Option<&Calibration>
-        ensures { option_map (λ c. calibration_view c.now) result ≡ calibration_in (entry_view self.now) }
+        ensures { option_map (λ c. calibration_view c.now) result ≡ calibration_in (owned_entry self.now) }
     {
         match self {
             OwnedEntry::Calibration(calibration) => Some(calibration),
@@ -95,7 +88,7 @@ impl OwnedEntry {
     }
 
     pub(crate) fn hold(&self) -> Option<&Hold>
-        ensures { option_map (λ h. hold_view h.now) result ≡ hold_in (entry_view self.now) }
+        ensures { option_map (λ h. hold_view h.now) result ≡ hold_in (owned_entry self.now) }
     {
         match self {
             OwnedEntry::Hold(hold) => Some(hold),
@@ -105,7 +98,7 @@ impl OwnedEntry {
 
     /// The certificate and the chain of an identity.
     pub(crate) fn installation(&self) -> Option<(&[u8], &[u8])>
-        ensures { option_map (λ i. installed_of i.0.now i.1.now) result ≡ installed_in (entry_view self.now) }
+        ensures { option_map (λ i. installed_of i.0.now i.1.now) result ≡ installed_in (owned_entry self.now) }
     {
         match self {
             OwnedEntry::Installation(certificate, chain) => Some((
@@ -118,7 +111,7 @@ impl OwnedEntry {
 
     /// The token, if the entry seals the serial number.
     pub(crate) fn token_of(&self, serial: u64) -> Option<&[u8]>
-        ensures { option_map (λ t. t.now) result ≡ token_in serial (entry_view self.now) }
+        ensures { option_map (λ t. t.now) result ≡ token_in serial (owned_entry self.now) }
     {
         match self {
             OwnedEntry::Seal(sealed, token) if *sealed == serial => Some(token.as_slice()),
@@ -130,8 +123,8 @@ impl OwnedEntry {
     }
 
     /// Whether the entry lets the reader read the deposit, if it is about both.
-    pub(crate) fn right_of(&self, number: u64, reader: ReaderName<'_>) -> Option<bool>
-        ensures { result ≡ right_about number (reader_named reader.entry) (entry_view self.now) }
+    pub(crate) fn right_of(&self, number: u64, reader: Reader<'_>) -> Option<bool>
+        ensures { result ≡ right_about number (reader_view reader.entry) (owned_entry self.now) }
     {
         match self {
             OwnedEntry::Grant(n, to) if *n == number && to.is_named(reader) => Some(true),

@@ -11,5 +11,5 @@ mod memory_book;
 mod rights;
 mod views;
 
-pub use laws::one_history_is_kept;
+pub use laws::one_history_is_shown;
 pub use memory_book::MemoryBook;

@@ -1,9 +1,8 @@
 //! What an account sees, and what is asked of one number.
-ghost use Rattle.std.specs.Prelude.{◌≡◌, ◌∷◌, ◌↔◌, map, option_map, MatchResult, IsTrue};
+ghost use Rattle.std.specs.Prelude.{◌≡◌, ◌∷◌, map, option_map, MatchResult};
 ghost use Rattle.book.specs.History.{reservations, deposit_under};
 ghost use Rattle.book.specs.Rights.{seen_by, is_visible, listed_at, deposit_with_stamp};
-ghost use Rattle.book.specs.Sound.{IsBackwards};
-ghost use Rattle.book.specs.Values.{calibration_view, calibration_option, deposit_view, listed_view, stamped_view};
+ghost use Rattle.book.specs.Values.{deposit_view, listed_view, stamped_view};
 ghost use Rattle.book.specs.Values.{viewer_of};
 ghost use Rattle.memory_book.specs.Entries.{history_of};
 ghost use Rattle.memory_book.specs.Listing.{listed_along};
@@ -12,7 +11,7 @@ use crate::copies::{deposit_of, stamp_of, text_of};
 use crate::entry::OwnedEntry;
 use crate::rights::may_read;
 use crate::views::{deposit_at, deposit_under, reservation_at, token_of};
-use book::{Calibration, Deposit, Listed, StampedDeposit, StoreFault};
+use book::{Deposit, Listed, StampedDeposit, StoreFault};
 use std::alloc::Global;
 
 /// The deposit with a number, if the account sees it.
@@ -145,14 +144,4 @@ pub(crate) fn stamped_deposit(
         deposit: deposit_of(alloc, deposit)?,
         stamp: stamp_of(alloc, reservation, token_of(entries, number))?,
     }))
-}
-
-/// Whether the reading is before that of the latest calibration.
-pub(crate) fn is_backwards(calibration: &Calibration, latest: Option<Calibration>) -> bool
-    ensures { IsTrue result ↔ IsBackwards (calibration_view calibration.now) (calibration_option latest) }
-{
-    match latest {
-        Some(latest) => calibration.reading < latest.reading,
-        None => false,
-    }
 }

@@ -1,21 +1,20 @@
-//! The book: each change is one entry more, each look-up a search of the entries.
+//! The book: entries are put before those that there are, each look-up is a search of them.
 ghost use Rattle.std.specs.Prelude.{◌≡◌, []};
 ghost use Rattle.book.specs.History.{History};
 ghost use Rattle.book.specs.Stands.{Stands};
 
 use crate::calls::Calls;
-use crate::copies::{add, octets_of, reservation_of, stamp_of, text_of};
-use crate::entry::{OwnedEntry, ReaderName};
+use crate::copies::{add_all, entries_of, stamp_of};
+use crate::entry::OwnedEntry;
 use crate::identities::identities;
-use crate::listing::{by_reference, is_backwards, is_visible, listed, stamped_deposit};
-use crate::rights::{grant, revoke};
+use crate::listing::{by_reference, is_visible, listed, stamped_deposit};
 use crate::views::{
-    count_of_calibrations, count_of_day, count_of_holds, greatest_serial, is_held, last_of,
-    latest_calibration, oldest_within, token_of,
+    count_of_calibrations, count_of_day, count_of_holds, is_held, last_of, latest_calibration,
+    oldest_within, token_of,
 };
 use book::{
-    Book, Calibration, Deposit, GREATEST_NUMBER, Hold, IdentityRow, Last, Listed, Reservation,
-    Stamp, StampedDeposit, Standing, StoreFault,
+    Book, Calibration, Deposit, Entry, GREATEST_NUMBER, IdentityRow, Last, Listed, Stamp,
+    StampedDeposit, Standing, StoreFault,
 };
 use std::alloc::Global;
 
@@ -31,19 +30,19 @@ pub struct MemoryBook {
 
 impl Standing for MemoryBook {
     ghost use Rattle.memory_book.specs.Entries.{history_of};
-    ghost use Rattle.memory_book.specs.Repeats.{without_repeats};
+    ghost use Rattle.book.specs.Shows.{ShowsSame};
 
     ghost honest = { λ _. Unit {0} };
 
     ghost is_open = { λ _. Unit {0} };
 
-    ghost keeps = { λ book b. history_of book.entries.items ≡ without_repeats b };
+    ghost keeps = { λ book b. ShowsSame (history_of book.entries.items) b };
 
     ghost Left = { History };
 
     ghost leaves = { λ book left. left ≡ history_of book.entries.items };
 
-    ghost holds = { λ left b. left ≡ without_repeats b };
+    ghost holds = { ShowsSame };
 
     ghost fault_count = { λ book. book.calls.faults };
 }
@@ -87,40 +86,6 @@ impl Book for MemoryBook {
         Ok(is_held(self.entries.as_slice(), now))
     }
 
-    fn reserve(&mut self, reservation: &Reservation<'_>) -> Result<(), StoreFault> {
-        self.calls.begin()?;
-        if greatest_serial(self.entries.as_slice()) == GREATEST_NUMBER {
-            return Err(StoreFault::Full);
-        }
-        let reservation = reservation_of(self.alloc, reservation)?;
-        add(&mut self.entries, OwnedEntry::Reservation(reservation))
-    }
-
-    fn seal(&mut self, serial: u64, token: &[u8]) -> Result<(), StoreFault> {
-        self.calls.begin()?;
-        let token = octets_of(self.alloc, token)?;
-        add(&mut self.entries, OwnedEntry::Seal(serial, token))
-    }
-
-    fn seal_deposit(
-        &mut self,
-        serial: u64,
-        token: &[u8],
-        owner: &str,
-        reference: &str,
-        bytes: &[u8],
-    ) -> Result<(), StoreFault> {
-        self.calls.begin()?;
-        let deposit = Deposit {
-            serial,
-            owner: text_of(self.alloc, owner)?,
-            reference: text_of(self.alloc, reference)?,
-            bytes: octets_of(self.alloc, bytes)?,
-        };
-        let token = octets_of(self.alloc, token)?;
-        add(&mut self.entries, OwnedEntry::Deposit(deposit, token))
-    }
-
     fn deposit(&mut self, number: u64) -> Result<Option<StampedDeposit>, StoreFault> {
         if number > GREATEST_NUMBER {
             return Ok(None);
@@ -151,54 +116,24 @@ impl Book for MemoryBook {
         listed(self.alloc, self.entries.as_slice(), account, groups)
     }
 
-    fn grant(&mut self, number: u64, account: &str) -> Result<(), StoreFault> {
+    fn calibration_count(&mut self) -> Result<u64, StoreFault> {
         self.calls.begin()?;
-        let to = ReaderName::Account(account);
-        grant(self.alloc, &mut self.entries, number, to)
-    }
-
-    fn revoke(&mut self, number: u64, account: &str) -> Result<(), StoreFault> {
-        self.calls.begin()?;
-        let from = ReaderName::Account(account);
-        revoke(self.alloc, &mut self.entries, number, from)
-    }
-
-    fn grant_group(&mut self, number: u64, name: &str) -> Result<(), StoreFault> {
-        self.calls.begin()?;
-        let to = ReaderName::Group(name);
-        grant(self.alloc, &mut self.entries, number, to)
-    }
-
-    fn revoke_group(&mut self, number: u64, name: &str) -> Result<(), StoreFault> {
-        self.calls.begin()?;
-        let from = ReaderName::Group(name);
-        revoke(self.alloc, &mut self.entries, number, from)
-    }
-
-    fn calibrate(&mut self, calibration: &Calibration) -> Result<u64, StoreFault> {
-        self.calls.begin()?;
-        if is_backwards(calibration, latest_calibration(self.entries.as_slice())) {
-            return Err(StoreFault::Backwards);
-        }
-        add(&mut self.entries, OwnedEntry::Calibration(*calibration))?;
         Ok(count_of_calibrations(self.entries.as_slice()))
     }
 
-    fn hold(&mut self, hold: &Hold) -> Result<u64, StoreFault> {
+    fn hold_count(&mut self) -> Result<u64, StoreFault> {
         self.calls.begin()?;
-        add(&mut self.entries, OwnedEntry::Hold(*hold))?;
         Ok(count_of_holds(self.entries.as_slice()))
     }
 
-    fn install(&mut self, certificate: &[u8], chain: &[u8]) -> Result<(), StoreFault> {
+    fn append(&mut self, entries: &[Entry<'_>]) -> Result<(), StoreFault> {
         self.calls.begin()?;
-        let certificate = octets_of(self.alloc, certificate)?;
-        let chain = octets_of(self.alloc, chain)?;
-        add(
-            &mut self.entries,
-            OwnedEntry::Installation(certificate, chain),
-        )
+        let newest = entries_of(self.alloc, entries)?;
+        add_all(&mut self.entries, newest)?;
+        Ok(())
     }
+
+    fn tell_the_same(&self) {}
 
     fn identities(&mut self) -> Result<Vec<IdentityRow>, StoreFault> {
         self.calls.begin()?;

@@ -169,7 +169,8 @@ pub(crate) fn oldest_within(entries: &[OwnedEntry], from: u64, to: u64) -> Optio
 
 /// How many calibrations there are.
 pub(crate) fn count_of_calibrations(entries: &[OwnedEntry]) -> u64
-    ensures { result ≡ length (calibrations (history_of entries.now)) }
+    ensures value { result ≡ length (calibrations (history_of entries.now)) }
+    ensures most { result ≤ length entries.now }
 {
     let mut count = 0;
     for entry in entries {
@@ -182,7 +183,8 @@ pub(crate) fn count_of_calibrations(entries: &[OwnedEntry]) -> u64
 
 /// How many holds there are.
 pub(crate) fn count_of_holds(entries: &[OwnedEntry]) -> u64
-    ensures { result ≡ length (holds (history_of entries.now)) }
+    ensures value { result ≡ length (holds (history_of entries.now)) }
+    ensures most { result ≤ length entries.now }
 {
     let mut count = 0;
     for entry in entries {

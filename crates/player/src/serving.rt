@@ -3,6 +3,7 @@ use book::Book;
 use cms::KeyedHash;
 use connections::{CONNECTION_SECONDS, Clock, Listening, SystemClock, serve_connections};
 use desk::Desk;
+use sockets::Listener;
 use std::net::TcpListener;
 use std::time::Duration;
 use trials::{AtDesk, at_desk_of_work};
@@ -11,7 +12,7 @@ use trials::{AtDesk, at_desk_of_work};
 #[derive(Clone, Copy)]
 struct Serving<'l> {
     rt: &'l HostRuntime,
-    listener: &'l TcpListener,
+    listener: &'l Listener,
     count: u32,
 }
 
@@ -22,7 +23,7 @@ impl AtDesk for Serving<'_> {
         signer: &mut KeyedHash,
     ) -> anyhow::Result<()> {
         let rt = self.rt;
-        let mut clock = SystemClock { machine: rt };
+        let mut clock = SystemClock::new(rt);
         let limit = Duration::from_secs(CONNECTION_SECONDS);
         let mut listening = Listening::new(rt, rt, self.listener, limit)?;
         serve_connections(&mut listening, self.count, &mut clock, desk, signer)?;
@@ -31,8 +32,8 @@ impl AtDesk for Serving<'_> {
 }
 
 /// Serves so many connections at a desk whose clock is calibrated at its reading.
-fn serve_at(rt: &HostRuntime, listener: &TcpListener, count: u32) -> anyhow::Result<()> {
-    let mut clock = SystemClock { machine: rt };
+fn serve_at(rt: &HostRuntime, listener: &Listener, count: u32) -> anyhow::Result<()> {
+    let mut clock = SystemClock::new(rt);
     let reading = clock.reading()?;
     let mut serving = Serving {
         rt,
@@ -47,7 +48,7 @@ pub fn serve(rt: &HostRuntime, count: u32) -> anyhow::Result<()> {
     if count > 0 {
         let listener = TcpListener::bind(rt, "127.0.0.1:0")?;
         println!(rt; "{}", listener.local_addr()?.port())?;
-        serve_at(rt, &listener, count)?;
+        serve_at(rt, &Listener::Tcp(listener), count)?;
     }
     Ok(())
 }

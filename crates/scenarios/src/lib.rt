@@ -7,6 +7,7 @@ mod bench;
 mod commands;
 mod connecting;
 mod desks;
+mod entries;
 mod kept;
 mod laws;
 mod listing;

@@ -1,8 +1,9 @@
 //! Calls of the store.
+use crate::entries::entries_of;
 use crate::kept::Kept;
 use crate::listing::tell_list;
 use crate::stamps::{AskedOfStamps, tell_stamp, tell_stamps};
-use book::IdentityRow;
+use book::{Entry, IdentityRow};
 use store::{Book, Calibration, Deposit, Hold, Reservation, StampedDeposit, StoreFault};
 use transcript::{Names, Printer, Words};
 
@@ -99,6 +100,23 @@ fn grant_group<B: Book>(printer: Printer<'_>, store: &mut B, words: &mut Words<'
 fn revoke_group<B: Book>(printer: Printer<'_>, store: &mut B, words: &mut Words<'_>) {
     let number = words.number();
     tell_ending(printer, store.revoke_group(number, words.next()));
+}
+
+fn add_each<B: Book>(printer: Printer<'_>, store: &mut B, entries: &[Entry<'_>]) {
+    if entries.is_empty() {
+        printer.line("  no entries");
+        return;
+    }
+    tell_ending(printer, store.append(entries));
+}
+
+/// Adds all entries that the words name in one commit.
+fn append<B: Book>(printer: Printer<'_>, store: &mut B, words: &mut Words<'_>) {
+    let mut rest = *words;
+    match entries_of(printer.rt.alloc(), printer.names, &mut rest) {
+        Ok(entries) => add_each(printer, store, &entries),
+        Err(fault) => tell_ending(printer, Err(fault)),
+    }
 }
 
 fn tell_calibration<B: Book>(printer: Printer<'_>, store: &mut B) {
@@ -215,6 +233,7 @@ fn call_book<B: Book>(printer: Printer<'_>, store: &mut B, word: &str, words: &m
         "revoke" => revoke(printer, store, words),
         "grant-group" => grant_group(printer, store, words),
         "revoke-group" => revoke_group(printer, store, words),
+        "append" => append(printer, store, words),
         _ => show(printer, store, word, words),
     }
 }

@@ -1,11 +1,12 @@
 //! Changes of the tables, and queries of them.
 use crate::bench::Bench;
+use crate::entries::entry;
 use crate::kept::Place;
 use crate::stamps::tell_stamp;
-use book::{Book, Reservation};
+use book::{Book, Entry, Reader};
 use sqlite::{Alter, Connection};
-use tables::{Base, Change, ColumnNumber, OpenFault, Stamp};
-use transcript::{Names, Printer, Words};
+use tables::{Base, ColumnNumber, OpenFault, Stamp};
+use transcript::{Printer, Words};
 
 type Opened<S> = Result<Base<S>, (OpenFault, Connection<S>)>;
 
@@ -52,92 +53,8 @@ fn part<B: Book + Drop>(bench: &mut Bench<'_, B>) {
     }
 }
 
-fn reserve<'w>(names: &'w Names, words: Words<'w>) -> Change<'w> {
-    let mut words = words;
-    Change::Reserve(Reservation {
-        serial: words.number(),
-        account: words.next(),
-        gen_time: words.number(),
-        policy: names.octets(words.next()),
-        algorithm: names.octets(words.next()),
-        digest: names.octets(words.next()),
-        request: names.octets(words.next()),
-        tst: names.octets(words.next()),
-    })
-}
-
-fn deposit<'w>(names: &'w Names, words: Words<'w>) -> Change<'w> {
-    let mut words = words;
-    Change::Deposit {
-        serial: words.number(),
-        token: names.octets(words.next()),
-        owner: words.next(),
-        reference: words.next(),
-        bytes: names.octets(words.next()),
-    }
-}
-
-fn calibrate<'w>(words: Words<'w>) -> Change<'w> {
-    let mut words = words;
-    Change::Calibrate {
-        n: words.number(),
-        reading: words.signed(),
-        offset: words.signed(),
-        uncertainty: words.number(),
-    }
-}
-
-fn hold<'w>(words: Words<'w>) -> Change<'w> {
-    let mut words = words;
-    Change::Hold {
-        n: words.number(),
-        from: words.signed(),
-        to: words.signed(),
-    }
-}
-
-fn seal<'w>(names: &'w Names, words: Words<'w>) -> Change<'w> {
-    let mut words = words;
-    Change::Seal {
-        serial: words.number(),
-        token: names.octets(words.next()),
-    }
-}
-
-fn grant<'w>(words: Words<'w>) -> Change<'w> {
-    let mut words = words;
-    Change::Grant {
-        serial: words.number(),
-        account: words.next(),
-    }
-}
-
-fn revoke<'w>(words: Words<'w>) -> Change<'w> {
-    let mut words = words;
-    Change::Revoke {
-        serial: words.number(),
-        account: words.next(),
-    }
-}
-
-fn grant_group<'w>(words: Words<'w>) -> Change<'w> {
-    let mut words = words;
-    Change::GrantGroup {
-        serial: words.number(),
-        name: words.next(),
-    }
-}
-
-fn revoke_group<'w>(words: Words<'w>) -> Change<'w> {
-    let mut words = words;
-    Change::RevokeGroup {
-        serial: words.number(),
-        name: words.next(),
-    }
-}
-
-fn commit<S: Alter + Drop>(printer: Printer<'_>, base: &mut Base<S>, change: Change<'_>) {
-    printer.tell(&base.commit(&change));
+fn commit<S: Alter + Drop>(printer: Printer<'_>, base: &mut Base<S>, entry: Entry<'_>) {
+    printer.tell(&base.commit(&[entry]));
 }
 
 fn tell_calibration<S: Alter + Drop>(printer: Printer<'_>, base: &mut Base<S>) {
@@ -182,7 +99,7 @@ fn tell_owner<S: Alter + Drop>(printer: Printer<'_>, base: &mut Base<S>, words: 
 
 fn tell_reader<S: Alter + Drop>(printer: Printer<'_>, base: &mut Base<S>, words: &mut Words<'_>) {
     let serial = words.number();
-    printer.tell(&base.is_reader(serial, words.next()));
+    printer.tell(&base.is_reader(serial, Reader::Account(words.next())));
 }
 
 fn tell_group_reader<S: Alter + Drop>(
@@ -191,7 +108,7 @@ fn tell_group_reader<S: Alter + Drop>(
     words: &mut Words<'_>,
 ) {
     let serial = words.number();
-    printer.tell(&base.is_group_reader(serial, words.next()));
+    printer.tell(&base.is_reader(serial, Reader::Group(words.next())));
 }
 
 fn tell_next_owned<S: Alter + Drop>(
@@ -209,7 +126,7 @@ fn tell_next_readable<S: Alter + Drop>(
     words: &mut Words<'_>,
 ) {
     let account = words.next();
-    printer.tell(&base.next_readable(account, words.number()));
+    printer.tell(&base.next_readable(Reader::Account(account), words.number()));
 }
 
 fn tell_next_group_readable<S: Alter + Drop>(
@@ -218,7 +135,7 @@ fn tell_next_group_readable<S: Alter + Drop>(
     words: &mut Words<'_>,
 ) {
     let name = words.next();
-    printer.tell(&base.next_group_readable(name, words.number()));
+    printer.tell(&base.next_readable(Reader::Group(name), words.number()));
 }
 
 fn tell_found(printer: Printer<'_>, found: Option<Stamp>) {
@@ -305,36 +222,17 @@ fn show<S: Alter + Drop>(
     }
 }
 
-/// Makes a change of rights, or asks.
-fn call_rights<S: Alter + Drop>(
-    printer: Printer<'_>,
-    base: &mut Base<S>,
-    word: &str,
-    words: &mut Words<'_>,
-) {
-    match word {
-        "grant" => commit(printer, base, grant(*words)),
-        "revoke" => commit(printer, base, revoke(*words)),
-        "grant-group" => commit(printer, base, grant_group(*words)),
-        "revoke-group" => commit(printer, base, revoke_group(*words)),
-        _ => show(printer, base, word, words),
-    }
-}
-
-/// Makes a change and tells of it, or asks.
+/// Adds an entry and tells of it, or asks.
 fn call_base<S: Alter + Drop>(
     printer: Printer<'_>,
     base: &mut Base<S>,
     word: &str,
     words: &mut Words<'_>,
 ) {
-    match word {
-        "reserve" => commit(printer, base, reserve(printer.names, *words)),
-        "seal" => commit(printer, base, seal(printer.names, *words)),
-        "deposit" => commit(printer, base, deposit(printer.names, *words)),
-        "calibrate" => commit(printer, base, calibrate(*words)),
-        "hold" => commit(printer, base, hold(*words)),
-        _ => call_rights(printer, base, word, words),
+    let mut rest = *words;
+    match entry(printer.names, word, &mut rest) {
+        Some(entry) => commit(printer, base, entry),
+        None => show(printer, base, word, words),
     }
 }
 

@@ -18,7 +18,8 @@ use Rattle.book.specs.Readers.{Reader, Account, Group, Viewer, readers_as}
 use Rattle.book.specs.Rights.{is_reader, may_read, seen_by, listed, listed_at}
 use Rattle.book.specs.Sound.{IsSound}
 use Rattle.store.specs.Replay.{replayed}
-use Rattle.store.specs.TablesOf.{calibration_row, hold_row, numbered}
+use Rattle.tables.specs.Changes.{calibration_row, hold_row}
+use Rattle.store.specs.TablesOf.{numbered}
 use Rattle.store.proofs.Members.{IsFalling, IsSingle, member_here, member_after, member_cases, no_member, all_of}
 use Rattle.store.proofs.Members.{some_pass, none_pass, fails_each, true_or_false, find_none, find_single, found_member}
 use Rattle.store.proofs.Falling.{stamps_fall}

@@ -5,18 +5,19 @@ use Rattle.std.proofs.Common.{Contains}
 use Rattle.std.specs.List.{AllByRecursion}
 use Rattle.std.proofs.lemmas.Bool.{eqb-true, eq-eqb}
 use Rattle.std.proofs.lemmas.List.{length-reverse, reverse-append}
-use Rattle.tables.specs.Found.{IsFoundAs, IsGreatestAs}
-use Rattle.tables.specs.Queries.{ShowsIdentity, ShowsIdentityNumber, identity_view}
-use Rattle.tables.specs.Tables.{InstalledRow, is_identity, with_identity}
+use Rattle.tables.specs.Changes.{greatest_by}
+use Rattle.tables.specs.Found.{IsFoundAs}
+use Rattle.tables.specs.Queries.{ShowsIdentity, identity_view}
+use Rattle.tables.specs.Tables.{InstalledRow, StampRow, is_identity}
 use Rattle.book.specs.History.{Installed, InstalledValue, ReservationValue, History}
 use Rattle.book.specs.History.{installations, reservations, greatest_of, greatest_serial, stamp_of, token_of}
 use Rattle.book.specs.Identities.{identities, installed_row, installed_rows}
 use Rattle.book.specs.Sound.{IsSound}
 use Rattle.book.specs.declared.rows.IdentityRow.{IdentityRow}
-use Rattle.store.specs.Replay.{replayed, greatest_row}
-use Rattle.store.specs.Steps.{next_number}
-use Rattle.store.proofs.Members.{IsFalling, IsFirstAs, greatest_is_first, member_here, member_after, member_cases}
+use Rattle.store.specs.Replay.{replayed}
+use Rattle.store.proofs.Members.{IsFalling, member_here, member_after, member_cases}
 use Rattle.store.proofs.Members.{no_member}
+use Rattle.store.proofs.Numbered.{max_more}
 use Rattle.store.proofs.Stamps.{stamps_are}
 
 -- ---- the rows
@@ -30,37 +31,40 @@ length_identities : (b : History) → length (identities b) ≡ length (installa
 length_identities b = length-reverse (installed_rows b) ∙ length_rows b
 
 greatest_stamped : (token : ReservationValue → Option (List ℕ)) (rs : List ReservationValue)
-    → greatest_row (map (λ r. stamp_of (token r) r) rs) ≡ greatest_of rs
+    → greatest_by (λ (row : StampRow). row.serial) (map (λ r. stamp_of (token r) r) rs) ≡ greatest_of rs
 greatest_stamped token [] = refl
 greatest_stamped token (r ∷ rs) = ap (max r.serial) (greatest_stamped token rs)
 
-greatest_is : (b : History) → IsSound b → greatest_row (replayed b).stamps ≡ greatest_serial b
-greatest_is b s = ap greatest_row (stamps_are b s) ∙ greatest_stamped (λ r. token_of r.serial b) (reservations b)
+greatest_is : (b : History) → IsSound b → greatest_by (λ (row : StampRow). row.serial) (replayed b).stamps ≡ greatest_serial b
+greatest_is b s = ap (greatest_by (λ (row : StampRow). row.serial)) (stamps_are b s) ∙ greatest_stamped (λ r. token_of r.serial b) (reservations b)
+
+-- so the greatest of their numbers is how many there are
+greatest_installed : (b : History) → greatest_by (λ (row : InstalledRow). row.number) (installed_rows b)
+    ≡ length (installations b)
+greatest_installed [] = refl
+greatest_installed (Installed i ∷ b) =
+    ap (max (length (installations b) + 1)) (greatest_installed b) ∙ max_more (length (installations b))
+greatest_installed (_ ∷ b) = greatest_installed b
+
+abbrev row_with : InstalledValue → ℕ → ℕ → InstalledRow
+row_with i number after_serial = record {
+  number = number;
+  after_serial = after_serial;
+  certificate = i.certificate;
+  chain = i.chain;
+}
 
 pub identities_are : (b : History) → IsSound b → (replayed b).identities ≡ installed_rows b
 identities_are [] s = refl
 identities_are (Installed i ∷ b) s =
     let rest = identities_are b s.1 in
-    let long : length (replayed b).identities ≡ length (installations b) = ap length rest ∙ length_rows b in
-    rw (long, greatest_is b s.1, rest) refl
+    let rows = (replayed b).identities in
+    let next : greatest_by (λ (row : InstalledRow). row.number) rows ≡ length (installations b) =
+    ap (greatest_by (λ (row : InstalledRow). row.number)) rest ∙ greatest_installed b in
+    ap (λ n. row_with i (n + 1) (greatest_by (λ (row : StampRow). row.serial) (replayed b).stamps) ∷ rows) next
+    ∙ ap (λ n. row_with i (length (installations b) + 1) n ∷ rows) (greatest_is b s.1)
+    ∙ ap (λ rows. row_with i (length (installations b) + 1) (greatest_serial b) ∷ rows) rest
 identities_are (_ ∷ b) s = identities_are b s.1
-
--- the row that is added is the entry's
-pub identity_step : (b : History) (i : InstalledValue) (number after_serial : ℕ) → IsSound b
-    → number ≡ length (installations b) + 1
-    → after_serial ≡ greatest_serial b
-    → with_identity record {
-      number = number;
-      after_serial = after_serial;
-      certificate = i.certificate;
-      chain = i.chain;
-    } (replayed b) ≡ replayed (Installed i ∷ b)
-identity_step b i number after_serial s n a =
-    let long : length (replayed b).identities ≡ length (installations b) =
-    ap length (identities_are b s) ∙ length_rows b in
-    rw (n, a, long, greatest_is b s) refl
-
--- ---- the next number
 
 below : (b : History) (n : ℕ) → length (installations b) < n → AllByRecursion (λ row. row.number < n) (installed_rows b)
 below [] n l = tt
@@ -71,25 +75,6 @@ pub rows_fall : (b : History) → IsFalling (λ (row : InstalledRow). row.number
 rows_fall [] = tt
 rows_fall (Installed i ∷ b) = (below b (length (installations b) + 1) (omega arith), rows_fall b)
 rows_fall (_ ∷ b) = rows_fall b
-
-after_first : (b : History) (answer : Option ℕ) → IsFirstAs ShowsIdentityNumber (installed_rows b) answer
-    → next_number answer ≡ length (installations b) + 1
-after_first [] None first = refl
-after_first [] (Some n) (row, is, shows) = cc
-after_first (Installed i ∷ b) None first = cc
-after_first (Installed i ∷ b) (Some n) (row, is, shows) =
-    let row_is : installed_row i b ≡ row = cc in
-    let number : length (installations b) + 1 ≡ row.number = ap (λ (r : InstalledRow). r.number) row_is in
-    omega (arith, shows, number)
-after_first (_ ∷ b) answer first = after_first b answer first
-
-pub identity_number : (b : History) (answer : Option ℕ) → IsSound b
-    → IsGreatestAs ShowsIdentityNumber (λ row. row.number) (replayed b).identities answer
-    → next_number answer ≡ length (installations b) + 1
-identity_number b answer s found =
-    let P : List InstalledRow → Type 0 = λ rows. IsGreatestAs ShowsIdentityNumber (λ row. row.number) rows answer in
-    after_first b answer (greatest_is_first ShowsIdentityNumber (λ row. row.number) _ answer
-    (rows_fall b) (subst P (identities_are b s) found))
 
 -- ---- one by its place
 

@@ -18,6 +18,7 @@ pub mod Moving
 pub mod Numbered
 pub mod Readers
 pub mod Replayed
+pub mod Same
 pub mod Stamps
 pub mod Stops
 pub mod Tables

@@ -9,11 +9,11 @@ use Rattle.std.specs.Str.{bytes_eq}
 use Rattle.std.proofs.lemmas.Bool.{eqb-true, eq-eqb, ltb-true, ltb-false, lt-ltb, le-leb}
 use Rattle.std.proofs.lemmas.List.Elements.{filter_map-append}
 use Rattle.tables.specs.Found.{IsLeastAs}
-use Rattle.tables.specs.Tables.{DepositRow, ReaderRow, is_reader_row}
+use Rattle.tables.specs.Tables.{DepositRow, ReaderRow, is_reader_row, name_of, rights_of}
 use Rattle.tables.specs.Queries.{ShowsDepositSerial, ShowsReaderSerial, is_owned}
 use Rattle.tables.specs.Queries.{is_owned_after, is_readable_after}
 use Rattle.book.specs.History.{History, deposit_at, reservation_at, greatest_serial}
-use Rattle.book.specs.Readers.{Account, Group, Viewer}
+use Rattle.book.specs.Readers.{Reader, Account, Group, Viewer}
 use Rattle.book.specs.Rights.{ListedValue, listed_as, is_reader, may_read, shown_to, seen_by, is_visible}
 use Rattle.book.specs.Rights.{listed_at, listed}
 use Rattle.book.specs.Sound.{IsSound, greatest_number}
@@ -21,7 +21,7 @@ use Rattle.store.specs.Steps.{IsNextOf, IsNextSeen, IsNextReadable, AreCursors, 
 use Rattle.store.specs.Steps.{later_of, listing_at}
 use Rattle.store.specs.Replay.{replayed}
 use Rattle.store.proofs.DepositRows.{visible_view, none_beyond, serials_within}
-use Rattle.store.proofs.Readers.{readers_are, group_readers_are}
+use Rattle.store.proofs.Readers.{rights_are}
 use Rattle.store.proofs.Members.{both_true, true_or_false, none_pass, some_pass}
 
 -- ---- the next row
@@ -109,26 +109,16 @@ next_same p q after None same next = λ n later. sym (same n) ∙ next n later
 next_same p q after (Some m) same next =
     (next.0, sym (same m) ∙ next.1, λ n later before. sym (same n) ∙ next.2 n later before)
 
--- the next reader's row is the next deposit that the account reads
-pub readable_view : (b : History) (account : List ℕ) (after : ℕ) (readable : Option ℕ)
-    → IsLeastAs ShowsReaderSerial (λ row. row.serial) (is_readable_after account after) (replayed b).readers readable
-    → IsNextReadable (Account account) after b readable
-readable_view b account after readable found =
-    let rows : ℕ → Bool = λ n. list_any (is_reader_row n account) (replayed b).readers in
-    next_same rows (λ n. is_reader n (Account account) b) after readable (λ n. readers_are b n account)
-    (next_row (λ (row : ReaderRow). row.serial) (λ (row : ReaderRow). bytes_eq row.name account)
-    (replayed b).readers after readable found)
-
--- and a group's row that of one that it reads
-pub group_readable_view : (b : History) (name : List ℕ) (after : ℕ) (readable : Option ℕ)
-    → IsLeastAs ShowsReaderSerial (λ row. row.serial) (is_readable_after name after)
-    (replayed b).group_readers readable
-    → IsNextReadable (Group name) after b readable
-group_readable_view b name after readable found =
-    let rows : ℕ → Bool = λ n. list_any (is_reader_row n name) (replayed b).group_readers in
-    next_same rows (λ n. is_reader n (Group name) b) after readable (λ n. group_readers_are b n name)
-    (next_row (λ (row : ReaderRow). row.serial) (λ (row : ReaderRow). bytes_eq row.name name)
-    (replayed b).group_readers after readable found)
+-- the next row of a reader is the next deposit that it reads
+pub right_view : (reader : Reader) (b : History) (after : ℕ) (readable : Option ℕ)
+    → IsLeastAs ShowsReaderSerial (λ row. row.serial) (is_readable_after (name_of reader) after)
+    (rights_of reader (replayed b)) readable
+    → IsNextReadable reader after b readable
+right_view reader b after readable found =
+    let rows : ℕ → Bool = λ n. list_any (is_reader_row n (name_of reader)) (rights_of reader (replayed b)) in
+    next_same rows (λ n. is_reader n reader b) after readable (λ n. rights_are reader b n)
+    (next_row (λ (row : ReaderRow). row.serial) (λ (row : ReaderRow). bytes_eq row.name (name_of reader))
+    (rights_of reader (replayed b)) after readable found)
 
 -- what is beyond all serial numbers isn't seen
 unseen_beyond : (b : History) (viewer : Viewer) (n : ℕ) → IsSound b → greatest_serial b < n

@@ -7,21 +7,18 @@ use Rattle.std.specs.Str.{bytes_eq}
 use Rattle.std.proofs.lemmas.Bool.{eqb-true, eq-eqb}
 use Rattle.std.proofs.lemmas.Slice.Eq.{bytes_eq-Decides}
 use Rattle.std.proofs.lemmas.Map.Views.{any-filter_same}
-use Rattle.std.proofs.lemmas.List.Sorted.{IsPermutation-refl, IsPermutation-sym, IsPermutation-trans}
+use Rattle.std.proofs.lemmas.List.Sorted.{IsPermutation-refl, IsPermutation-trans}
 use Rattle.std.proofs.lemmas.List.Sorted.{IsPermutation-cons, IsPermutation-append_left, IsPermutation-append_comm}
 use Rattle.std.proofs.lemmas.List.Sorted.{IsPermutation-map}
 use Rattle.sqlite_trees.specs.Tree.{Trees}
-use Rattle.sqlite_trees.specs.declared.store.Store.{Ghosts}
 use Rattle.sqlite.specs.State.{State}
-use Rattle.tables.specs.Base.{BaseValue, Keeps, StandsFor}
+use Rattle.tables.specs.Base.{StandsFor}
 use Rattle.tables.specs.Holding.{Holds, cells_of, rows_of}
 use Rattle.tables.specs.Names.{Name}
-use Rattle.tables.specs.Names as name
 use Rattle.tables.specs.Schema.{the_version}
-use Rattle.tables.specs.Tables.{Tables, ReaderRow, is_reader_row, with_reader, without_reader, with_group_reader}
-use Rattle.tables.specs.Tables.{without_group_reader}
+use Rattle.tables.specs.Tables.{Tables, ReaderRow, is_reader_row, name_of, rights_of}
 use Rattle.book.specs.History.{Granted, Revoked, History}
-use Rattle.book.specs.Readers.{Account, Group}
+use Rattle.book.specs.Readers.{Reader, Account, Group}
 use Rattle.book.specs.Rights.{is_reader}
 use Rattle.book.proofs.Rights.{reader_after_grant, reader_after_revocation}
 use Rattle.store.specs.Replay.{replayed}
@@ -127,6 +124,11 @@ group_readers_are (Revoked m (Account x) ∷ b) n a =
     ∙ sym (reader_after_revocation n (Group a) m (Account x) b)
 group_readers_are (_ ∷ b) n a = group_readers_are b n a
 
+pub rights_are : (reader : Reader) (b : History) (n : ℕ)
+    → list_any (is_reader_row n (name_of reader)) (rights_of reader (replayed b)) ≡ is_reader n reader b
+rights_are (Account name) b n = readers_are b n name
+rights_are (Group name) b n = group_readers_are b n name
+
 -- no key stands twice
 abbrev pub AreOnce : List ReaderRow → Type 0
 AreOnce [] = Unit {0}
@@ -217,7 +219,7 @@ reordered t others db same tallies h = record {
   counts = subst (AllByRecursion (λ row. row.count < 2 ^ 63)) tallies h.counts;
 }
 
-stands_reordered : (t others : Tables) (s : State)
+pub stands_reordered : (t others : Tables) (s : State)
     → ((n : Name) → IsPermutation (rows_of the_version n t) (rows_of the_version n others)) → others.tallies ≡ t.tallies
     → StandsFor others s → StandsFor t s
 stands_reordered t others s same tallies stands = record {
@@ -233,46 +235,27 @@ stands_reordered t others s same tallies stands = record {
       record { holds = reordered t others db same tallies left.holds; listed = left.listed };
 }
 
--- readers in another order
-readers_reordered : (t : Tables) (rows : List ReaderRow) → IsPermutation rows t.readers → (n : Name)
-    → IsPermutation (rows_of the_version n t) (rows_of the_version n (record t { readers = rows }))
-readers_reordered t rows same name.Reader = IsPermutation-sym _ _ same
-readers_reordered t rows same n = IsPermutation-refl _
-
-groups_reordered : (t : Tables) (rows : List ReaderRow) → IsPermutation rows t.group_readers → (n : Name)
-    → IsPermutation (rows_of the_version n t) (rows_of the_version n (record t { group_readers = rows }))
-groups_reordered t rows same name.GroupReader = IsPermutation-sym _ _ same
-groups_reordered t rows same n = IsPermutation-refl _
-
--- a right that is granted again leaves the tables
-pub granted_again : {S : Type 0} (g : Ghosts S) (b : History) (n : ℕ) (a : List ℕ) (store : BaseValue S)
-    → is_reader n (Account a) b ≡ true → Keeps g (with_reader n a (replayed b)) store → Keeps g (replayed b) store
-granted_again g b n a store has kept honest is_open =
-    let same = put_again n a (replayed b).readers (readers_once b) (readers_are b n a ∙ has) in
-    stands_reordered (replayed b) (with_reader n a (replayed b)) _ (readers_reordered (replayed b) _ same) refl
-    (kept honest is_open)
-
-pub group_granted_again : {S : Type 0} (g : Ghosts S) (b : History) (n : ℕ) (a : List ℕ) (store : BaseValue S)
-    → is_reader n (Group a) b ≡ true → Keeps g (with_group_reader n a (replayed b)) store → Keeps g (replayed b) store
-group_granted_again g b n a store has kept honest is_open =
-    let same = put_again n a (replayed b).group_readers (group_readers_once b) (group_readers_are b n a ∙ has) in
-    stands_reordered (replayed b) (with_group_reader n a (replayed b)) _ (groups_reordered (replayed b) _ same) refl
-    (kept honest is_open)
-
--- as does a revocation of what wasn't granted
-pub revoked_unneeded : {S : Type 0} (g : Ghosts S) (b : History) (n : ℕ) (a : List ℕ) (store : BaseValue S)
-    → is_reader n (Account a) b ≡ false → Keeps g (without_reader n a (replayed b)) store → Keeps g (replayed b) store
-revoked_unneeded g b n a store hasnt kept =
-    let same : without_reader n a (replayed b) ≡ replayed b =
-    ap (λ (rows : List ReaderRow). record (replayed b) { readers = rows })
-    (none_taken (is_reader_row n a) (replayed b).readers (readers_are b n a ∙ hasnt)) in
-    subst (λ t. Keeps g t store) same kept
-
-pub group_revoked_unneeded : {S : Type 0} (g : Ghosts S) (b : History) (n : ℕ) (a : List ℕ) (store : BaseValue S)
-    → is_reader n (Group a) b ≡ false → Keeps g (without_group_reader n a (replayed b)) store
-    → Keeps g (replayed b) store
-group_revoked_unneeded g b n a store hasnt kept =
-    let same : without_group_reader n a (replayed b) ≡ replayed b =
-    ap (λ (rows : List ReaderRow). record (replayed b) { group_readers = rows })
-    (none_taken (is_reader_row n a) (replayed b).group_readers (group_readers_are b n a ∙ hasnt)) in
-    subst (λ t. Keeps g t store) same kept
+-- rows that stand once are the same, up to their order, where the same keys stand
+pub once_same : (xs ys : List ReaderRow) → AreOnce xs → AreOnce ys
+    → ((n : ℕ) (a : List ℕ) → list_any (is_reader_row n a) xs ≡ list_any (is_reader_row n a) ys) → IsPermutation xs ys
+once_same [] [] once twice same = IsPermutation-refl []
+once_same [] (y ∷ ys) once twice same =
+    let here : is_reader_row y.serial y.name y ≡ true = key_passes y.serial y.name y.serial y.name refl refl in
+    let none : false ≡ true = same y.serial y.name ∙ rw here refl in absurd cc
+once_same (x ∷ xs) ys once twice same =
+    let here : is_reader_row x.serial x.name x ≡ true = key_passes x.serial x.name x.serial x.name refl refl in
+    let there : list_any (is_reader_row x.serial x.name) ys ≡ true = sym (same x.serial x.name) ∙ rw here refl in
+    let others : ReaderRow → Bool = λ row. not (is_reader_row x.serial x.name row) in
+    let rest : IsPermutation xs (filter others ys) =
+    once_same xs (filter others ys) once.1 (left_once others ys twice)
+    (λ n a. elim (true_or_false (is_reader_row n a x)) [
+      | inl t ↦ (let k = key_is n a x.serial x.name t in
+          let P : ℕ → List ℕ → Type 0 = λ m name. list_any (is_reader_row m name) xs ≡ false in
+          let none : list_any (is_reader_row n a) xs ≡ false =
+          subst (λ name. P n name) k.1 (subst (λ m. P m x.name) k.0 once.0) in
+          none ∙ sym (taken_same n a x.serial x.name ys t))
+      | inr f ↦ (let left : list_any (is_reader_row n a) (x ∷ xs) ≡ list_any (is_reader_row n a) xs = rw f refl in
+          sym left ∙ same n a ∙ sym (taken_other n a x.serial x.name ys f))
+    ]) in
+    IsPermutation-trans _ _ _ (IsPermutation-cons x xs (filter others ys) rest)
+    (put_again x.serial x.name ys twice there)

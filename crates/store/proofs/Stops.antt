@@ -50,7 +50,7 @@ module _ (found : (t : Tables) (d : Database) → IsDatabase d → IsStored t d.
   nothing_or_empty g files old stopped empty leaves clean left may held holds opened opens =
       elim (leaves clean left may) [
         | inl before ↦ inl before
-        | inr made ↦ inr (opened_over [] held left opened opens tt (made.0 empty) (opens.found.holds left holds))
+        | inr made ↦ inr (opened_over [] held left opened opens tt (made empty) (opens.found.holds left holds))
       ]
 
   pub old_or_migrated : {S D : Type 0} (g : store.Ghosts S) (files : Ghosts D) → FindsOldOrMigrated g files

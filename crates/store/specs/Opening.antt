@@ -18,7 +18,6 @@ use Rattle.store.specs.declared.finding.Found.TheVariants as found
 use Rattle.store.specs.declared.path.Course.{Course}
 use Rattle.store.specs.declared.path.Course.TheVariants as course
 use Rattle.sqlite.specs.Closing.{HoldsAlone}
-use Rattle.sqlite.specs.Does.{lacks_sequence}
 use Rattle.sqlite.specs.declared.file.Leftover.{Leftover}
 use Rattle.sqlite.specs.Files.{file_state, over_files, image_of, IsOpened, IsCleanLeft, HoldsDatabase, IsNothing}
 use Rattle.sqlite.specs.Held.{Held, state}
@@ -26,7 +25,6 @@ use Rattle.sqlite.specs.Start.{FindsIn}
 use Rattle.sqlite.specs.State.{State, HasCleanDisk}
 use Rattle.tables.specs.Asking.{Looks, StaysUsable}
 use Rattle.tables.specs.Base.{BaseValue, IsStored}
-use Rattle.tables.specs.Beside.{IsStoredBeside}
 use Rattle.tables.specs.Faults.{fault_of, opening_fault_of, told, told_using}
 use Rattle.tables.specs.Migrating.{Migrates}
 use Rattle.tables.specs.Opening.{IsFound, IsFoundIn, LooksOurs, LooksForeign, number_of}
@@ -47,14 +45,12 @@ pub record LeavesAsItWas (old new : State) : Type 0 where
       → (new.now ≡ old.now) × (new.now ≡ new.committed)
   pub usable : StaysUsable old new
 
--- What a crash in it, or at its end, may leave: what it could leave before, or our tables beside those that were there,
--- each with the rows that it held; of an empty database, the tables of the empty history.
+-- what a crash in it, or at its end, may leave: what it could leave before, or of an empty database the tables of the
+-- empty history
 abbrev pub LeavesOrMakes : State → State → Type 0
 LeavesOrMakes old new =
     HasCleanDisk new → (db : Trees) → new.may_leave db
-    → old.may_leave db
-    ⊎ ((old.now.schema ≡ no_schema → IsStored (tables_of []) db)
-    × (lacks_sequence old.now.schema ≡ false → IsStoredBeside old.now db))
+    → old.may_leave db ⊎ (old.now.schema ≡ no_schema → IsStored (tables_of []) db)
 
 -- what a crash in a migration, or at its end, may leave: what it could leave before or, of a history's tables in any
 -- version, its tables of now

@@ -1,7 +1,8 @@
 -- What the calls make of a look-up's answer: stepping stones, no definitions.
-use Rattle.std.specs.Prelude.{◌≡◌, ℕ, ◌+◌, ◌<◌, ◌&&◌, min, nat_lt, nat_le, if◌then◌else◌, Bool, true, false}
+use Rattle.std.specs.Prelude.{◌≡◌, ℕ, ◌<◌, ◌&&◌, min, nat_lt, nat_le, if◌then◌else◌, Bool, true, false}
 use Rattle.std.specs.Prelude.{List, [], ◌∷◌, length, get_or, IfSome, Option, Some, None, option_map, option_and_then}
 use Rattle.std.specs.Prelude.{string_bytes}
+use Rattle.std.specs.Option.{unwrap_or}
 use Rattle.tables.specs.declared.rows.LastStamp.{LastStamp}
 use Rattle.tables.specs.declared.rows.LatestCalibration.{LatestCalibration}
 use Rattle.tables.specs.declared.rows.Origin.{Origin}
@@ -19,13 +20,9 @@ last_from (Some stamp) = record { serial = stamp.serial; gen_time = Some stamp.g
 abbrev pub calibration_from : LatestCalibration → CalibrationValue
 calibration_from c = record { reading = c.reading; offset = c.offset; uncertainty = c.uncertainty }
 
--- the next number of a list
-abbrev pub next_number : Option ℕ → ℕ
-next_number None = 1
-next_number (Some n) = n + 1
-
-abbrev pub next_calibration : Option LatestCalibration → ℕ
-next_calibration latest = next_number (option_map (λ c. c.n) latest)
+-- how many there are, by the greatest of their numbers
+abbrev pub count_of : Option ℕ → ℕ
+count_of found = unwrap_or found 0
 
 -- the least number after another that passes a test, if there is one
 abbrev pub IsNextOf : (ℕ → Bool) → ℕ → Option ℕ → Type 0

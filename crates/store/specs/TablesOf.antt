@@ -2,9 +2,10 @@
 use Rattle.std.specs.Prelude.{ℕ, ◌+◌, not, List, [], ◌∷◌, length, map, filter, filter_map, Option, None, Some}
 use Rattle.std.specs.Prelude.{if◌then◌else◌}
 use Rattle.std.specs.List.{list_any}
-use Rattle.tables.specs.Tables.{Tables, CalibrationRow, HoldRow, ReaderRow, TallyRow, is_reader_row}
+use Rattle.tables.specs.Changes.{calibration_row, hold_row}
+use Rattle.tables.specs.Tables.{Tables, ReaderRow, TallyRow, is_reader_row}
 use Rattle.book.specs.History.{Entry, Granted, History}
-use Rattle.book.specs.History.{CalibrationValue, HoldValue, ReservationValue, stamps, calibrations, holds, deposits}
+use Rattle.book.specs.History.{ReservationValue, stamps, calibrations, holds, deposits}
 use Rattle.book.specs.History.{reservations, day_of, is_of_day, count_of_day}
 use Rattle.book.specs.Identities.{installed_rows}
 use Rattle.book.specs.Readers.{Account, Group}
@@ -14,12 +15,6 @@ use Rattle.book.specs.Rights.{is_reader}
 abbrev pub numbered : {X Y : Type 0} → (X → ℕ → Y) → List X → List Y
 numbered row [] = []
 numbered row (x ∷ xs) = row x (length xs + 1) ∷ numbered row xs
-
-abbrev pub calibration_row : CalibrationValue → ℕ → CalibrationRow
-calibration_row c n = record { n = n; reading = c.reading; offset = c.offset; uncertainty = c.uncertainty }
-
-abbrev pub hold_row : HoldValue → ℕ → HoldRow
-hold_row h n = record { n = n; from = h.from; to = h.to }
 
 -- the rights of accounts that were ever granted, as rows, and those of groups
 abbrev pub granted_in : Entry → Option ReaderRow

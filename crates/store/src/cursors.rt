@@ -5,7 +5,7 @@ ghost use Rattle.std.specs.Prelude.{IsTrue};
 ghost use Rattle.tables.specs.Base.{IsHonest, IsOpen};
 ghost use Rattle.book.specs.History.{History};
 ghost use Rattle.book.specs.Fault.{CountsFaults, IsOfStorage};
-ghost use Rattle.book.specs.Readers.{Account, Group};
+ghost use Rattle.book.specs.Entries.{reader_view};
 ghost use Rattle.book.specs.Values.{viewer_of};
 ghost use Rattle.book.specs.Stands.{Stands, OnlyLooks};
 ghost use Rattle.store.specs.Stands.{over_tables};
@@ -13,7 +13,7 @@ ghost use Rattle.store.specs.Steps.{IsNextSeen, IsNextReadable, IsCursor, AreCur
 ghost use Rattle.store.specs.Steps.{least_of, least_in, later_of};
 
 use crate::store::Store;
-use book::{GREATEST_NUMBER, StoreFault};
+use book::{GREATEST_NUMBER, Reader, StoreFault};
 use sqlite::Alter;
 use std::alloc::Global;
 
@@ -104,52 +104,31 @@ impl<S: Alter + Drop> Store<S> {
         ensures refusals { IfErr result IsOfStorage }
         ensures faults { CountsFaults result self.old.faults self.new.faults }
     {
-        cursors.own = self.next_own(account, after, cursors.own)?;
+        cursors.own = self.next_right(Reader::Account(account), after, cursors.own)?;
         for (i, name) in groups.iter().enumerate() {
-            cursors.shared[i] = self.next_shared(name, after, cursors.shared[i])?;
+            cursors.shared[i] = self.next_right(Reader::Group(name), after, cursors.shared[i])?;
         }
         Ok(())
     }
 
-    /// The first deposit after a number that the account reads by its own name.
-    fn next_own(
+    /// The first deposit after a number that the reader reads.
+    fn next_right(
         &mut self,
-        account: &str,
+        reader: Reader<'_>,
         after: u64,
         found: Option<u64>,
     ) -> Result<Option<u64>, StoreFault>
         ensures looks { OnlyLooks (over_tables S.Store) self.old self.new }
         ensures value { IsHonest S.Store self.new → (b : History) → Stands (over_tables S.Store) b self.old
-            → IsCursor (Account account.now) after b found
-            → IfOk result (λ next. IsNextReadable (Account account.now) after b next) }
+            → IsCursor (reader_view reader.entry) after b found
+            → IfOk result (λ next. IsNextReadable (reader_view reader.entry) after b next) }
         ensures refusals { IfErr result IsOfStorage }
         ensures faults { CountsFaults result self.old.faults self.new.faults }
     {
         if is_after(found, after) {
             return Ok(found);
         }
-        let next = self.base.next_readable(account, after)?;
-        Ok(next)
-    }
-
-    /// The first deposit after a number that the group reads.
-    fn next_shared(
-        &mut self,
-        name: &str,
-        after: u64,
-        found: Option<u64>,
-    ) -> Result<Option<u64>, StoreFault>
-        ensures looks { OnlyLooks (over_tables S.Store) self.old self.new }
-        ensures value { IsHonest S.Store self.new → (b : History) → Stands (over_tables S.Store) b self.old
-            → IsCursor (Group name.now) after b found
-            → IfOk result (λ next. IsNextReadable (Group name.now) after b next) }
-        ensures refusals { IfErr result IsOfStorage }
-        ensures faults { CountsFaults result self.old.faults self.new.faults }
-    {
-        if is_after(found, after) {
-            return Ok(found);
-        }
-        let next = self.base.next_group_readable(name, after)?;
+        let next = self.base.next_readable(reader, after)?;
         Ok(next)
     }
 }

@@ -4,7 +4,7 @@ ghost use Rattle.std.specs.Prelude.{◌++◌, option_to_list};
 ghost use Rattle.tables.specs.Base.{IsHonest, IsOpen};
 ghost use Rattle.book.specs.History.{History};
 ghost use Rattle.book.specs.Fault.{CountsFaults, IsOfStorage};
-ghost use Rattle.book.specs.Readers.{Account, Group};
+ghost use Rattle.book.specs.Entries.{reader_view};
 ghost use Rattle.book.specs.Rights.{is_reader, may_read};
 ghost use Rattle.book.specs.Values.{listed_view, viewer_of};
 ghost use Rattle.book.specs.Stands.{Stands, OnlyLooks};
@@ -12,7 +12,7 @@ ghost use Rattle.store.specs.Stands.{over_tables};
 ghost use Rattle.store.specs.Steps.{listing_at};
 
 use crate::store::Store;
-use book::{Listed, StoreFault};
+use book::{Listed, Reader, StoreFault};
 use sqlite::Alter;
 
 impl<S: Alter + Drop> Store<S> {
@@ -31,12 +31,12 @@ impl<S: Alter + Drop> Store<S> {
         ensures refusals { IfErr result IsOfStorage }
         ensures faults { CountsFaults result self.old.faults self.new.faults }
     {
-        let reads = self.is_reader(number, account)?;
+        let reads = self.is_reader(number, Reader::Account(account))?;
         if reads {
             return Ok(true);
         }
         for name in groups {
-            let reads = self.is_group_reader(number, name)?;
+            let reads = self.is_reader(number, Reader::Group(name))?;
             if reads {
                 return Ok(true);
             }
@@ -44,29 +44,16 @@ impl<S: Alter + Drop> Store<S> {
         Ok(false)
     }
 
-    /// Whether the account reads the deposit with a number by its own name.
-    fn is_reader(&mut self, number: u64, account: &str) -> Result<bool, StoreFault>
+    /// Whether the reader reads the deposit with a number.
+    fn is_reader(&mut self, number: u64, reader: Reader<'_>) -> Result<bool, StoreFault>
         ensures looks { OnlyLooks (over_tables S.Store) self.old self.new }
         ensures opened { IsHonest S.Store self.new → OnOk result (IsOpen S.Store self.old) }
         ensures value { IsHonest S.Store self.new → (b : History) → Stands (over_tables S.Store) b self.old
-            → IfOk result (λ reads. reads ≡ is_reader number (Account account.now) b) }
+            → IfOk result (λ reads. reads ≡ is_reader number (reader_view reader.entry) b) }
         ensures refusals { IfErr result IsOfStorage }
         ensures faults { CountsFaults result self.old.faults self.new.faults }
     {
-        let reads = self.base.is_reader(number, account)?;
-        Ok(reads)
-    }
-
-    /// Whether the group reads the deposit with a number.
-    fn is_group_reader(&mut self, number: u64, name: &str) -> Result<bool, StoreFault>
-        ensures looks { OnlyLooks (over_tables S.Store) self.old self.new }
-        ensures opened { IsHonest S.Store self.new → OnOk result (IsOpen S.Store self.old) }
-        ensures value { IsHonest S.Store self.new → (b : History) → Stands (over_tables S.Store) b self.old
-            → IfOk result (λ reads. reads ≡ is_reader number (Group name.now) b) }
-        ensures refusals { IfErr result IsOfStorage }
-        ensures faults { CountsFaults result self.old.faults self.new.faults }
-    {
-        let reads = self.base.is_group_reader(number, name)?;
+        let reads = self.base.is_reader(number, reader)?;
         Ok(reads)
     }
 

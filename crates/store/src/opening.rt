@@ -2,11 +2,9 @@
 ghost use Rattle.std.specs.Prelude.{◌≡◌, ◌⊎◌, [], false, IfOk, IfErr, OnOk, IsTrue, MatchResult};
 ghost use Rattle.sqlite_wal.specs.Reads.{AreClean};
 ghost use Rattle.sqlite.specs.Files.{over_files};
-ghost use Rattle.sqlite.specs.Does.{lacks_sequence};
 ghost use Rattle.sqlite.specs.Held.{state};
 ghost use Rattle.sqlite.specs.State.{HasCleanDisk};
 ghost use Rattle.tables.specs.Asking.{Looks};
-ghost use Rattle.tables.specs.Beside.{MakesBeside, IsUntaken};
 ghost use Rattle.tables.specs.Migrating.{Migrates};
 ghost use Rattle.tables.specs.Opening.{IsFound, IsFoundIn, LooksOurs, LooksAs, LooksForeign, IsInTheWay};
 ghost use Rattle.tables.specs.Opening.{IsUntold, number_of, takes_name};
@@ -27,16 +25,14 @@ use std::alloc::Global;
 use tables::{Base, TableFault, migrate};
 
 impl<S: Alter + Drop> Store<S> {
-    /// Makes all tables, in one commit, beside those that a database has, which stay as they are. The caller's
-    /// condition is a connection outside any transaction, which comes back with a refusal: `Memory`, `Database`, or
-    /// `NotOurs` where a table's name is taken.
+    /// Makes all tables in an empty database, in one commit. The caller's condition is a connection outside any
+    /// transaction, which comes back with a refusal: `Memory`, `Database`, or `NotOurs` where a table's name is taken.
     pub fn create(
         alloc: Global,
         conn: Connection<S>,
     ) -> Result<Store<S>, (StoreFault, Connection<S>)>
         requires { conn.in_transaction ≡ false }
         ensures stands { IfOk result (λ store. (state S.Store conn).now.schema ≡ no_schema → Stands S.Store [] store) }
-        ensures beside { IfOk result (λ store. MakesBeside (state S.Store conn) (state S.Store store.conn)) }
         ensures unused { IfOk result (λ store. HasCleanDisk (state S.Store store.conn)
             → takes_name (state S.Store conn).now.schema ≡ false) }
         ensures opened { IfOk result (λ store. HasCleanDisk (state S.Store store.conn)
@@ -46,10 +42,6 @@ impl<S: Alter + Drop> Store<S> {
             (λ e. LeavesOrMakes (state S.Store conn) (state S.Store e.1)) }
         ensures taken { IfErr result (λ e. e.0 ≡ StoreFault.NotOurs → HasCleanDisk (state S.Store e.1)
             → IsInTheWay (state S.Store conn).now.schema) }
-        ensures untold { IfErr result (λ e. e.0 ≡ StoreFault.Database → HasCleanDisk (state S.Store e.1)
-            → lacks_sequence (state S.Store conn).now.schema ≡ false
-            → IsTrue (takes_name (state S.Store conn).now.schema)
-            → IsUntaken (state S.Store conn) (state S.Store e.1)) }
         ensures closed { IfErr result (λ e. e.1.in_transaction ≡ false) }
         ensures uncounted { IfOk result (λ store. store.faults ≡ 0) }
         ensures refusals { IfErr result (λ e. IsOfStorageOr StoreFault.NotOurs e.0) }

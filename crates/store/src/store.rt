@@ -1,26 +1,24 @@
 //! The store: a book that is kept in tables.
-ghost use Rattle.std.specs.Prelude.{◌≡◌, ◌↔◌, ◌<◌, ◌^◌, false, IsTrue, option_map};
-ghost use Rattle.std.specs.Option.{ForSome};
+ghost use Rattle.std.specs.Prelude.{◌≡◌, false, option_map};
 ghost use Rattle.sqlite_trees.specs.Tree.{Trees};
 ghost use Rattle.tables.specs.Base.{IsHonest, IsOpen, Keeps, Recovers, IsStored};
-ghost use Rattle.book.specs.Sound.{IsBackwards};
-ghost use Rattle.book.specs.Values.{calibration_view, calibration_option};
-ghost use Rattle.store.specs.Steps.{last_from, calibration_from, next_calibration, next_number};
+ghost use Rattle.book.specs.Values.{calibration_option};
+ghost use Rattle.store.specs.Steps.{last_from, calibration_from, count_of};
 ghost use Rattle.store.specs.TablesOf.{tables_of};
 
 use crate::cursors::Cursors;
 use crate::deposits::add_listed;
 use crate::ranges::only_within;
 use book::{
-    Book, Calibration, Deposit, GREATEST_NUMBER, Hold, IdentityRow, Last, Listed, Reservation,
-    Stamp, StampedDeposit, Standing, StoreFault,
+    Book, Calibration, Deposit, Entry, GREATEST_NUMBER, IdentityRow, Last, Listed, Stamp,
+    StampedDeposit, Standing, StoreFault,
 };
 use sqlite::{Alter, Connection};
 use std::alloc::Global;
 use std::marker::Model;
-use tables::{Base, Change, ColumnNumber, LastStamp, LatestCalibration};
+use tables::{Base, ColumnNumber, LastStamp, LatestCalibration};
 
-/// The history of what the counter accepted, kept in tables. Each change is one commit.
+/// The history of what the counter accepted, kept in tables. Entries that are added together are one commit.
 ///
 /// A call refused with `Memory` or `Database` changes nothing that the store shows, and `faults` counts exactly the
 /// refusals with `Database`. After a fault the database may be shut; each later call is then refused, and where the
@@ -81,38 +79,6 @@ impl<S: Alter + Drop> Book for Store<S> {
         Ok(held)
     }
 
-    fn reserve(&mut self, reservation: &Reservation<'_>) -> Result<(), StoreFault> {
-        let last = self.last()?;
-        if last.serial == GREATEST_NUMBER {
-            return Err(StoreFault::Full);
-        }
-        self.base.commit(&Change::Reserve(*reservation))?;
-        Ok(())
-    }
-
-    fn seal(&mut self, serial: u64, token: &[u8]) -> Result<(), StoreFault> {
-        self.base.commit(&Change::Seal { serial, token })?;
-        Ok(())
-    }
-
-    fn seal_deposit(
-        &mut self,
-        serial: u64,
-        token: &[u8],
-        owner: &str,
-        reference: &str,
-        bytes: &[u8],
-    ) -> Result<(), StoreFault> {
-        self.base.commit(&Change::Deposit {
-            serial,
-            token,
-            owner,
-            reference,
-            bytes,
-        })?;
-        Ok(())
-    }
-
     fn deposit(&mut self, number: u64) -> Result<Option<StampedDeposit>, StoreFault> {
         if number > GREATEST_NUMBER {
             return Ok(None);
@@ -159,77 +125,24 @@ impl<S: Alter + Drop> Book for Store<S> {
         Ok(rows)
     }
 
-    fn grant(&mut self, number: u64, account: &str) -> Result<(), StoreFault> {
-        self.base.commit(&Change::Grant {
-            serial: number,
-            account,
-        })?;
-        Ok(())
-    }
-
-    fn revoke(&mut self, number: u64, account: &str) -> Result<(), StoreFault> {
-        self.base.commit(&Change::Revoke {
-            serial: number,
-            account,
-        })?;
-        Ok(())
-    }
-
-    fn grant_group(&mut self, number: u64, name: &str) -> Result<(), StoreFault> {
-        self.base.commit(&Change::GrantGroup {
-            serial: number,
-            name,
-        })?;
-        Ok(())
-    }
-
-    fn revoke_group(&mut self, number: u64, name: &str) -> Result<(), StoreFault> {
-        self.base.commit(&Change::RevokeGroup {
-            serial: number,
-            name,
-        })?;
-        Ok(())
-    }
-
-    fn calibrate(&mut self, calibration: &Calibration) -> Result<u64, StoreFault> {
+    fn calibration_count(&mut self) -> Result<u64, StoreFault> {
         let latest = self.base.latest_calibration()?;
-        if is_backwards(calibration, latest) {
-            return Err(StoreFault::Backwards);
-        }
-        let Calibration {
-            reading,
-            offset,
-            uncertainty,
-        } = *calibration;
-        let n = next_calibration(latest);
-        self.base.commit(&Change::Calibrate {
-            n,
-            reading,
-            offset,
-            uncertainty,
-        })?;
-        Ok(n)
+        Ok(number_of(latest))
     }
 
-    fn hold(&mut self, hold: &Hold) -> Result<u64, StoreFault> {
+    fn hold_count(&mut self) -> Result<u64, StoreFault> {
         let greatest = self.base.greatest_hold()?;
-        let Hold { from, to } = *hold;
-        let n = next_number(greatest);
-        self.base.commit(&Change::Hold { n, from, to })?;
-        Ok(n)
+        Ok(greatest.unwrap_or(0))
     }
 
-    fn install(&mut self, certificate: &[u8], chain: &[u8]) -> Result<(), StoreFault> {
-        let last = self.last()?;
-        let number = self.next_identity()?;
-        self.base.commit(&Change::Install {
-            number,
-            after_serial: last.serial,
-            certificate,
-            chain,
-        })?;
-        Ok(())
+    fn append(&mut self, entries: &[Entry<'_>]) -> Result<(), StoreFault> {
+        match self.base.commit(entries) {
+            Ok(()) => Ok(()),
+            Err(fault) => Err(StoreFault::from(fault)),
+        }
     }
+
+    fn tell_the_same(&self) {}
 
     fn identities(&mut self) -> Result<Vec<IdentityRow>, StoreFault> {
         let mut identities = Vec::new(self.alloc);
@@ -292,31 +205,12 @@ fn calibration_from(latest: Option<LatestCalibration>) -> Option<Calibration>
     }
 }
 
-/// Whether the reading is before that of the latest calibration.
-fn is_backwards(calibration: &Calibration, latest: Option<LatestCalibration>) -> bool
-    ensures { IsTrue result ↔ IsBackwards (calibration_view calibration.now) (option_map calibration_from latest) }
+/// Calibrations are numbered from 1 on, so the latest one's number is how many there are.
+fn number_of(latest: Option<LatestCalibration>) -> u64
+    ensures { result ≡ count_of (option_map (λ row. row.n) latest) }
 {
     match latest {
-        Some(row) => calibration.reading < row.reading,
-        None => false,
-    }
-}
-
-fn next_calibration(latest: Option<LatestCalibration>) -> u64
-    ensures { result ≡ next_calibration latest }
-{
-    match latest {
-        Some(row) => row.n + 1,
-        None => 1,
-    }
-}
-
-pub(crate) fn next_number(greatest: Option<u64>) -> u64
-    requires { ForSome greatest (λ n. n < 2 ^ 63) }
-    ensures { result ≡ next_number greatest }
-{
-    match greatest {
-        Some(n) => n + 1,
-        None => 1,
+        Some(row) => row.n,
+        None => 0,
     }
 }

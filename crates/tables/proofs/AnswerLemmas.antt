@@ -1,7 +1,8 @@
 -- What is said of an answer, where there is a refusal: nothing.
-use Rattle.std.proofs.Common.{Result, Ok, Err, IsErr, IfOk, OnOk}
+use Rattle.std.proofs.Common.{Result, Ok, Err, IsErr, IfOk, OnOk, refl, inl, arith}
 use Rattle.sqlite.specs.declared.error.Error.{Error}
-use Rattle.sqlite.specs.State.{State}
+use Rattle.sqlite_trees.specs.Tree.{Trees}
+use Rattle.sqlite.specs.State.{State, Survives, KeepsCommit}
 use Rattle.tables.specs.Carrying.{Carries}
 use Rattle.tables.specs.Tables.{Tables}
 
@@ -19,3 +20,24 @@ pub refused_carries : {X Y : Type 0} (step other : Tables → Tables) (old new :
 refused_carries step other old new r (Ok y) c isnt = absurd cc
 refused_carries step other old new r (Err e) c is =
     record { survives = c.survives; kept = c.kept; ok = λ clean inside. tt }
+
+-- what is read of an answer changes nothing
+pub read_carries : {X Y : Type 0} (step : Tables → Tables) (old new : State) (x : X) (r : Result Y Error)
+    → Carries step old new (Ok x) → Carries step old new r
+read_carries step old new x (Ok y) c = record { survives = c.survives; kept = c.kept; ok = c.ok }
+read_carries step old new x (Err e) c = record { survives = c.survives; kept = c.kept; ok = λ clean inside. tt }
+
+-- where nothing is run
+
+pub survives_same : (s : State) (Commits : Trees → Type 0) → Survives s s Commits
+survives_same s Commits = record {
+  clean = omega arith;
+  shield = λ shielded. shielded;
+  counts = omega arith;
+  limit = refl;
+  closes = λ clean is_open. inl is_open;
+  crash = λ clean db may. inl may;
+}
+
+pub keeps_same : (s : State) → KeepsCommit s s
+keeps_same s = record { was_open = λ is_open. is_open; committed = λ is_open. refl }

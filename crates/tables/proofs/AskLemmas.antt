@@ -1,11 +1,11 @@
--- A query in a transaction that is undone.
+-- A query in a transaction, which goes on or is undone.
 use Rattle.std.proofs.Common.{◌≡◌, ◌⊎◌, ℕ, List, None, Some, true, Result, Ok, Err, IfOk, IfErr, OnOk}
-use Rattle.std.proofs.Common.{IsTrue, refl, sym, ◌∙◌, subst, inl, inr, arith, append-nil, ◌≢◌, ◌≤◌}
+use Rattle.std.proofs.Common.{IsTrue, refl, sym, ap, ◌∙◌, subst, inl, inr, arith, append-nil, ◌≢◌, ◌≤◌}
 use Rattle.std.specs.Prelude.{Option, IsSome}
 use Rattle.sqlite_value.specs.Order.{Row}
 use Rattle.sqlite_trees.specs.declared.store.Store.{Ghosts}
 use Rattle.sqlite.specs.declared.error.Error.{Error}
-use Rattle.sqlite.specs.Effect.{Reads, RefusesToRead}
+use Rattle.sqlite.specs.Effect.{IsDatabase, Reads, RefusesToRead}
 use Rattle.sqlite_schema.specs.declared.command.Returning.{Returning}
 use Rattle.sqlite_resolve.specs.declared.compiled.Compiled.{Compiled}
 use Rattle.sqlite.specs.Held.{Held, state}
@@ -16,7 +16,10 @@ use Rattle.sqlite.specs.declared.error.Error.TheVariants.{SqliteFailure}
 use Rattle.sqlite.specs.declared.error.ErrorCode.TheVariants as code
 use Rattle.sqlite_trees.specs.declared.error.StoreError.TheVariants as stored
 use Rattle.tables.specs.Opening.{HasFailed, IsRefused, IsUnanswered, IsUnderstood}
-use Rattle.sqlite.proofs.Callers.{reads_as, command_of}
+use Rattle.sqlite.proofs.Callers.{IsPlain, reads_as, command_of}
+use Rattle.tables.specs.Carrying.{Goes, Carries, IsSoundOf}
+use Rattle.tables.specs.Holding.{IsDatabaseOf}
+use Rattle.tables.specs.Tables.{Tables}
 use Rattle.tables.specs.Schema.{the_schema}
 use Rattle.tables.specs.Asking.{IsQueryText, IsPlainIn, Answers, TellsRows, Looks, StaysUsable}
 use Rattle.tables.proofs.UsableLemmas.{survivor_usable, usable_in_turn}
@@ -56,6 +59,11 @@ module _ (sql : List ℕ) (params : Row) (old new : State) where
   shows_opens c given rows None h = h.3.0.was_open
   shows_opens c given rows (Some what) h = h.1.shown.was_open
 
+  shows_inside : (c : Compiled) (given : Row) (rows : List Row) (returning : Option Returning)
+      → ShowsRows old new sql c given rows returning → new.in_transaction ≡ old.in_transaction
+  shows_inside c given rows None h = h.3.0.mode
+  shows_inside c given rows (Some what) h = h.1.shown.mode
+
   fails_shows : (c : Compiled) (given : Row) (e : Error) (returning : Option Returning)
       → FailsToShow old new sql c given e returning → KeepsCommit old new
   fails_shows c given e None h = unchanged_keeps old new h.3
@@ -69,6 +77,18 @@ module _ (sql : List ℕ) (params : Row) (old new : State) where
   pub shown_opens : (rows : List Row) → Shown sql params old new rows → IsTrue old.is_open
   unfolding Shown
   shown_opens rows h = shows_opens h.0 _ rows h.0.returning h.2
+
+  pub shown_inside : (rows : List Row) → Shown sql params old new rows → new.in_transaction ≡ old.in_transaction
+  unfolding Shown
+  shown_inside rows h = shows_inside h.0 _ rows h.0.returning h.2
+
+  pub shown_same : IsQueryText sql → old.now.schema ≡ the_schema → (rows : List Row) → Shown sql params old new rows
+      → new.now ≡ old.now
+  unfolding Shown
+  shown_same text has rows h =
+      let known = sym h.1.is ∙ ap (λ s. understood s sql) has in
+      let bare = subst IsPlain (sym known) text.plain in
+      (rw bare.0 at h.2).3.0.now_is
 
   pub fails_keeps : (e : Error) → FailsToQuery sql params old new e → KeepsCommit old new
   unfolding FailsToQuery IsNotRun
@@ -122,93 +142,107 @@ module _ (sql : List ℕ) (params : Row) (old new : State) where
   late_unanswered plain e (c, it, some, out, is, same) =
       absurd (let none = (plain c it.is).0 in let there = subst IsSome none some in cc)
 
-module _ {S R : Type 0} (g : Ghosts S) (items : R → List Row) (old mid last : Held S) (sql : List ℕ) (params : Row)
-    (text : IsQueryText sql) (result : Result R Error)
-    (first : Survives (state g (record old { in_transaction = true })) (state g mid) (λ _. ⊥))
+-- a query in a transaction that goes on
+module _ {R : Type 0} (items : R → List Row) (sql : List ℕ) (params : Row) (old new : State) (result : Result R Error)
+    (ok : HasCleanDisk new → IfOk result (λ rows. Shown sql params old new (items rows)))
+    (err : HasCleanDisk new → IfErr result (λ e. FailsToQuery sql params old new e ⊎ IsTooLate sql params old new e)) where
+  module _ (text : IsQueryText sql) where
+    keeps : (r : Result R Error) → old.in_transaction ≡ true → IfOk r (λ rows. Shown sql params old new (items rows))
+        → IfErr r (λ e. FailsToQuery sql params old new e ⊎ IsTooLate sql params old new e) → KeepsCommit old new
+    keeps (Ok rows) inside ok err = shown_keeps sql params old new (items rows) inside ok
+    keeps (Err e) inside ok (inl fails) = fails_keeps sql params old new e fails
+    keeps (Err e) inside ok (inr late) = late_keeps sql params old new e late
+
+    went : (r : Result R Error) → old.in_transaction ≡ true → IfOk r (λ rows. Shown sql params old new (items rows))
+        → OnOk r (Goes (λ t. t) old new)
+    went (Err e) inside ok = tt
+    went (Ok rows) inside shown =
+        let same = λ (t : Tables) (d : IsSoundOf t old.now).
+        shown_same sql params old new text d.database.schema (items rows) shown in
+        record {
+          was_open = λ _. shown_opens sql params old new (items rows) shown;
+          inside = shown_inside sql params old new (items rows) shown ∙ inside;
+          goes = λ t d. subst (IsDatabaseOf t) (sym (same t d)) d.database;
+          sound = λ t d. subst IsDatabase (sym (same t d)) d.sound;
+        }
+
+    pub asked_carries : Survives old new (λ _. ⊥) → Carries (λ t. t) old new result
+    asked_carries survives = record {
+      survives = survives;
+      kept = λ clean inside. keeps result inside (ok clean) (err clean);
+      ok = λ clean inside. went result inside (ok clean);
+    }
+
+    tells : (r : Result R Error) → old.now.schema ≡ the_schema
+        → IfOk r (λ rows. Shown sql params old new (items rows))
+        → IfOk r (λ rows. TellsRows sql params old.now.trees (items rows))
+    tells (Ok rows) has ok = shown_tells sql params old new text has (items rows) ok
+    tells (Err e) has ok = tt
+
+    pub asked_told : HasCleanDisk new → old.now.schema ≡ the_schema
+        → IfOk result (λ rows. TellsRows sql params old.now.trees (items rows))
+    asked_told clean has = tells result has (ok clean)
+
+  answers : (r : Result R Error) → IsPlainIn old.now.schema sql
+      → IfOk r (λ rows. Shown sql params old new (items rows))
+      → IfOk r (λ rows. Answers sql params old.now (items rows))
+  answers (Ok rows) plain ok = shown_answers sql params old new plain (items rows) ok
+  answers (Err e) plain ok = tt
+
+  pub asked_answered : HasCleanDisk new → IsPlainIn old.now.schema sql
+      → IfOk result (λ rows. Answers sql params old.now (items rows))
+  asked_answered clean plain = answers result plain (ok clean)
+
+  misses : (r : Result R Error) → IsPlainIn old.now.schema sql
+      → IfErr r (λ e. FailsToQuery sql params old new e ⊎ IsTooLate sql params old new e)
+      → IfErr r (λ e. e ≢ SqliteFailure code.OutOfMemory → IsUnanswered sql params old new)
+  misses (Ok rows) plain err = tt
+  misses (Err e) plain (inl fails) = λ other. fails_unanswered sql params old new plain e other fails
+  misses (Err e) plain (inr late) = late_unanswered sql params old new plain e late
+
+  pub asked_unanswered : HasCleanDisk new → IsPlainIn old.now.schema sql
+      → IfErr result (λ e. e ≢ SqliteFailure code.OutOfMemory → IsUnanswered sql params old new)
+  asked_unanswered clean plain = misses result plain (err clean)
+
+-- one that is undone
+module _ {S R : Type 0} (g : Ghosts S) (old mid last : Held S) (sql : List ℕ) (params : Row) (result : Result R Error)
+    (first : Carries (λ t. t) (state g (record old { in_transaction = true })) (state g mid) result)
     (then : Survives (state g mid) (state g last) (λ _. ⊥))
-    (undone : HasCleanDisk (state g last) → IsRolledBack (state g mid) (state g last))
-    (ok : HasCleanDisk (state g mid)
-    → IfOk result (λ rows. Shown sql params (state g (record old { in_transaction = true })) (state g mid)
-    (items rows)))
-    (err : HasCleanDisk (state g mid)
-    → IfErr result (λ e. FailsToQuery sql params (state g (record old { in_transaction = true })) (state g mid) e
-    ⊎ IsTooLate sql params (state g (record old { in_transaction = true })) (state g mid) e)) where
+    (undone : HasCleanDisk (state g last) → IsRolledBack (state g mid) (state g last)) where
   middle : HasCleanDisk (state g last) → HasCleanDisk (state g mid)
   middle clean = omega (arith, then.clean)
 
-  keeps : (r : Result R Error)
-      → IfOk r (λ rows. Shown sql params (state g (record old { in_transaction = true })) (state g mid) (items rows))
-      → IfErr r (λ e. FailsToQuery sql params (state g (record old { in_transaction = true })) (state g mid) e
-      ⊎ IsTooLate sql params (state g (record old { in_transaction = true })) (state g mid) e)
-      → KeepsCommit (state g (record old { in_transaction = true })) (state g mid)
-  keeps (Ok rows) ok err =
-      shown_keeps sql params (state g (record old { in_transaction = true })) (state g mid) (items rows) refl ok
-  keeps (Err e) ok (inl fails) =
-      fails_keeps sql params (state g (record old { in_transaction = true })) (state g mid) e fails
-  keeps (Err e) ok (inr late) =
-      late_keeps sql params (state g (record old { in_transaction = true })) (state g mid) e late
-
   usable : StaysUsable (state g (record old { in_transaction = true })) (state g last)
   usable =
-      usable_in_turn _ (state g mid) (state g last) middle (survivor_usable _ (state g mid) _ first)
+      usable_in_turn _ (state g mid) (state g last) middle (survivor_usable _ (state g mid) _ first.survives)
       (survivor_usable (state g mid) (state g last) _ then)
 
   pub looked : Looks (state g old) (state g last)
   looked = record {
-    clean = λ clean. omega (arith, then.clean, first.clean);
-    reopens = λ clean is_open. (keeps result (ok (middle clean)) (err (middle clean))).was_open
-        ((undone clean).was_open is_open);
+    clean = λ clean. omega (arith, then.clean, first.survives.clean);
+    reopens = λ clean is_open. (first.kept (middle clean) refl).was_open ((undone clean).was_open is_open);
     kept = λ clean is_open settled.
         let back = (undone clean).undone is_open in
-        let before = (keeps result (ok (middle clean)) (err (middle clean))).committed
-        ((undone clean).was_open is_open) in
+        let before = (first.kept (middle clean) refl).committed ((undone clean).was_open is_open) in
         (back.0 ∙ before ∙ sym settled, back.0 ∙ sym back.1);
     leaves = λ clean db leaves. elim (then.crash clean db leaves) [
-      | inl before ↦ elim (first.crash (middle clean) db before) [ inl start ↦ start | inr none ↦ absurd none ]
+      | inl before ↦ elim (first.survives.crash (middle clean) db before) [
+        | inl start ↦ start
+        | inr none ↦ absurd none
+      ]
       | inr none ↦ absurd none
     ];
     usable = record { counts = usable.counts; stays = usable.stays; limit = usable.limit };
   }
 
   opens : (r : Result R Error)
-      → IfOk r (λ rows. Shown sql params (state g (record old { in_transaction = true })) (state g mid) (items rows))
+      → OnOk r (Goes (λ t. t) (state g (record old { in_transaction = true })) (state g mid))
       → OnOk r (IsTrue (state g old).is_open)
-  opens (Ok rows) ok =
-      shown_opens sql params (state g (record old { in_transaction = true })) (state g mid) (items rows) ok
+  opens (Ok rows) ok = ok.was_open tt
   opens (Err e) ok = tt
 
-  tells : (r : Result R Error) → (state g old).now.schema ≡ the_schema
-      → IfOk r (λ rows. Shown sql params (state g (record old { in_transaction = true })) (state g mid) (items rows))
-      → IfOk r (λ rows. TellsRows sql params (state g old).now.trees (items rows))
-  tells (Ok rows) has ok =
-      shown_tells sql params (state g (record old { in_transaction = true })) (state g mid) text has (items rows) ok
-  tells (Err e) has ok = tt
-
-  pub told : HasCleanDisk (state g last) → (state g old).now.schema ≡ the_schema
-      → IfOk result (λ rows. TellsRows sql params (state g old).now.trees (items rows))
-  told clean has = tells result has (ok (middle clean))
-
-  answers : (r : Result R Error) → IsPlainIn (state g old).now.schema sql
-      → IfOk r (λ rows. Shown sql params (state g (record old { in_transaction = true })) (state g mid) (items rows))
-      → IfOk r (λ rows. Answers sql params (state g old).now (items rows))
-  answers (Ok rows) plain ok =
-      shown_answers sql params (state g (record old { in_transaction = true })) (state g mid) plain (items rows) ok
-  answers (Err e) plain ok = tt
-
-  pub answered : HasCleanDisk (state g last) → IsPlainIn (state g old).now.schema sql
-      → IfOk result (λ rows. Answers sql params (state g old).now (items rows))
-  answered clean plain = answers result plain (ok (middle clean))
-
-  misses : (r : Result R Error) → IsPlainIn (state g old).now.schema sql
-      → IfErr r (λ e. FailsToQuery sql params (state g (record old { in_transaction = true })) (state g mid) e
-      ⊎ IsTooLate sql params (state g (record old { in_transaction = true })) (state g mid) e)
-      → IfErr r (λ e. e ≢ SqliteFailure code.OutOfMemory → IsUnanswered sql params (state g old) (state g mid))
-  misses (Ok rows) plain err = tt
-  misses (Err e) plain (inl fails) =
-      λ other. fails_unanswered sql params (state g (record old { in_transaction = true })) (state g mid) plain e other
-      fails
-  misses (Err e) plain (inr late) =
-      late_unanswered sql params (state g (record old { in_transaction = true })) (state g mid) plain e late
+  pub was_opened : HasCleanDisk (state g last) → OnOk result (IsTrue (state g old).is_open)
+  was_opened clean = opens result (first.ok (middle clean) refl)
 
   later : IsUnanswered sql params (state g old) (state g mid) → IsUnanswered sql params (state g old) (state g last)
   later (inl failed) = inl (failed_later (state g old) (state g mid) (state g last) then.counts failed)
@@ -220,9 +254,8 @@ module _ {S R : Type 0} (g : Ghosts S) (items : R → List Row) (old mid last : 
   missed (Ok rows) why = tt
   missed (Err e) why = λ other. later (why other)
 
-  pub unanswered : HasCleanDisk (state g last) → IsPlainIn (state g old).now.schema sql
+  pub still_unanswered : (HasCleanDisk (state g mid) → IsPlainIn (state g old).now.schema sql
+      → IfErr result (λ e. e ≢ SqliteFailure code.OutOfMemory → IsUnanswered sql params (state g old) (state g mid)))
+      → HasCleanDisk (state g last) → IsPlainIn (state g old).now.schema sql
       → IfErr result (λ e. e ≢ SqliteFailure code.OutOfMemory → IsUnanswered sql params (state g old) (state g last))
-  unanswered clean plain = missed result (misses result plain (err (middle clean)))
-
-  pub was_opened : HasCleanDisk (state g last) → OnOk result (IsTrue (state g old).is_open)
-  was_opened clean = opens result (ok (middle clean))
+  still_unanswered why clean plain = missed result (why (middle clean) plain)

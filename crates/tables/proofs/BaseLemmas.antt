@@ -40,7 +40,7 @@ module _ {S X : Type 0} (g : Ghosts S) (settled : IsSettled g) (step : Tables �
   keeps_on (Err e) c = tt
   keeps_on (Ok x) c = λ clean is_open.
       let s = keeps (c.clean clean) (c.opened clean).0 in
-      let now = c.ok clean t s.database in
+      let now = c.ok clean t (record { database = s.database; sound = s.sound }) in
       stands g settled new (step t) closed is_open now.1 now.0 now.2
 
   pub keeps_still : (r : Result X Error) → Commits step (state g old) (state g new) r
@@ -61,7 +61,7 @@ pub crash_leaves : {S X : Type 0} (g : Ghosts S) (step : Tables → Tables) (old
 crash_leaves g step old new r c clean db may = elim (c.crash clean db may) [
   | inl before ↦ inl before
   | inr now ↦ inr (λ t keeps. let s = keeps (c.clean clean) (now.0 tt) in
-      now.1 t s.database)
+      now.1 t (record { database = s.database; sound = s.sound }))
 ]
 
 pub created_keeps : {S : Type 0} (g : Ghosts S) → IsSettled g → (old new : Held S) → new.in_transaction ≡ false

@@ -78,7 +78,7 @@ module _ (sql : List ℕ) (params : Row) (command : Command) (is : command_of (u
       went (Ok count) h = record {
         was_open = λ _. h.1.was_open;
         inside = h.1.mode;
-        goes = λ t d. let it = did old new count d.schema h in
-            makes old.step_limit it.1 t old.now.trees (it.0, new.now) d.holds it.2;
-        sound = λ t d. (did old new count d.schema h).4;
+        goes = λ t d. let it = did old new count d.database.schema h in
+            makes old.step_limit it.1 t old.now.trees (it.0, new.now) d.database.holds it.2;
+        sound = λ t d. (did old new count d.database.schema h).4;
       }

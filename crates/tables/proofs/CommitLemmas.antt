@@ -1,7 +1,6 @@
 -- A transaction that ends in a commit.
-use Rattle.std.proofs.Common.{◌≡◌, ◌⊎◌, [], true, false, Result, Ok, Err, OnOk, OnErr, IfErr, IsTrue, refl, sym}
+use Rattle.std.proofs.Common.{◌≡◌, [], true, false, Result, Ok, Err, OnOk, OnErr, IfErr, IsTrue, refl, sym}
 use Rattle.std.proofs.Common.{◌∙◌, subst, inl, inr, arith}
-use Rattle.sqlite_trees.specs.Tree.{Trees}
 use Rattle.sqlite_trees.specs.declared.store.Store.{Ghosts}
 use Rattle.sqlite.specs.declared.error.Error.{Error}
 use Rattle.sqlite_catalog.specs.Listing.{IsSound}
@@ -100,28 +99,3 @@ module _ {S X : Type 0} (g : Ghosts S) (Before : Tables → Database → Type 0)
       ];
       usable = record { counts = usable.counts; stays = usable.stays; limit = usable.limit };
     }
-
--- the same of whatever is made of the database, beside the tables
-module _ {S : Type 0} (g : Ghosts S) (Made : Database → Type 0) (Left : Trees → Type 0)
-    (leaves : (d : Database) → Made d → Left d.trees) (old mid last : Held S)
-    (survived : Survives (state g old) (state g mid) (λ _. ⊥))
-    (made : HasCleanDisk (state g mid) → Made (state g mid).now)
-    (survives : Survives (state g mid) (state g last) (λ db. db ≡ (state g mid).now.trees)) where
-  now_clean : HasCleanDisk (state g last) → HasCleanDisk (state g mid)
-  now_clean clean = omega (arith, survives.clean)
-
-  pub made_committed : (r : Result (Unit {0}) Error)
-      → (HasCleanDisk (state g last) → EndsWell (state g mid) (state g last) r)
-      → OnOk r (HasCleanDisk (state g last)
-      → Made (state g last).now × ((state g last).now ≡ (state g last).committed))
-  made_committed (Err e) ok = tt
-  made_committed (Ok u) ok = λ clean.
-      let end = ok clean in
-      (subst Made (sym end.1.now_is) (made (now_clean clean)), end.1.now_is ∙ sym end.1.committed_is)
-
-  pub made_left : HasCleanDisk (state g last) → (db : Trees) → (state g last).may_leave db
-      → (state g old).may_leave db ⊎ Left db
-  made_left clean db may = elim (survives.crash clean db may) [
-    | inl before ↦ elim (survived.crash (now_clean clean) db before) [ inl first ↦ inl first | inr none ↦ absurd none ]
-    | inr now ↦ inr (subst Left (sym now) (leaves (state g mid).now (made (now_clean clean))))
-  ]

@@ -8,63 +8,67 @@ use Rattle.sqlite.proofs.StateLemmas.{survives_then}
 use Rattle.tables.specs.Tables.{Tables, TallyRow, is_tally_of, raised_row}
 use Rattle.tables.specs.Steps.{with_raised, with_first_tally, with_count}
 use Rattle.tables.specs.Holding.{IsDatabaseOf}
-use Rattle.tables.specs.Carrying.{Goes, Carries}
+use Rattle.tables.specs.Carrying.{GoesFrom, CarriesFrom, IsSoundOf, Goes, Carries}
 use Rattle.tables.proofs.ListLemmas.{none_any, some_any}
 
 pub keeps_then : (a b c : State) → KeepsCommit a b → KeepsCommit b c → KeepsCommit a c
 keeps_then a b c p q =
     record { was_open = λ o. p.was_open (q.was_open o); committed = λ o. q.committed o ∙ p.committed (q.was_open o) }
 
--- one statement, and then another
-pub chained : {X Y : Type 0} (f h : Tables → Tables) (a b c : State) (x : X) (result : Result Y Error)
-    → Carries f a b (Ok x) → Carries h b c result → Carries (λ t. h (f t)) a c result
-chained {X} {Y} f h a b c x result p q = record {
+-- one step, whatever is known by it, and then another
+pub chained : {X Y : Type 0} {K : Type 0} (f h : Tables → Tables) (a b c : State) (x : X) (result : Result Y Error)
+    → CarriesFrom IsSoundOf K f a b (Ok x) → Carries h b c result → Carries (λ t. h (f t)) a c result
+chained {X} {Y} {K} f h a b c x result p q = record {
   survives = survives_then a b c (λ _. ⊥) (λ _. ⊥) (λ _. ⊥) (λ _ db none. none) (λ _ db none. none) p.survives
       q.survives;
   kept = λ clean inside. let early = clean_before clean in let one = p.ok early inside in
       keeps_then a b c (p.kept early inside) (q.kept clean one.inside);
   ok = λ clean inside. let early = clean_before clean in let one = p.ok early inside in
-      both one result (q.ok clean one.inside);
+      both (p.kept early inside) one result (q.ok clean one.inside);
 }
   where
     clean_before : HasCleanDisk c → HasCleanDisk b
     clean_before clean = omega (arith, q.survives.clean)
 
-    both : Goes f a b → (r : Result Y Error) → OnOk r (Goes h b c) → OnOk r (Goes (λ t. h (f t)) a c)
-    both one (Err e) two = tt
-    both one (Ok y) two =
-        record {
-          was_open = one.was_open;
-          inside = two.inside;
-          goes = λ t d. two.goes (f t) (one.goes t d);
-          sound = λ t d. two.sound (f t) (one.goes t d);
-        }
+    after : GoesFrom IsSoundOf K f a b → (t : Tables) → IsSoundOf t a.now → IsSoundOf (f t) b.now
+    after one t d = record { database = one.goes t d; sound = one.sound t d }
 
--- a refusal, whatever was to follow
-pub refused : {X Y : Type 0} (f h : Tables → Tables) (a b : State) (e : Error) → Carries {X = X} f a b (Err e)
-    → Carries {X = Y} h a b (Err e)
-refused f h a b e p = record { survives = p.survives; kept = p.kept; ok = λ clean inside. tt }
+    both : KeepsCommit a b → GoesFrom IsSoundOf K f a b → (r : Result Y Error) → OnOk r (Goes h b c)
+        → OnOk r (Goes (λ t. h (f t)) a c)
+    both kept one (Err e) two = tt
+    both kept one (Ok y) two = record {
+      was_open = λ known. kept.was_open (two.was_open known);
+      inside = two.inside;
+      goes = λ t d. two.goes (f t) (after one t d);
+      sound = λ t d. two.sound (f t) (after one t d);
+    }
 
--- the same step in other words
-pub reworded : {X : Type 0} (f h : Tables → Tables) (a b : State) (result : Result X Error) → Carries f a b result
-    → (HasCleanDisk b → IsTrue a.in_transaction → (t : Tables) → IsDatabaseOf t a.now → f t ≡ h t)
-    → Carries h a b result
-reworded {X} f h a b result p same =
+-- the same step in other words, of what is known by it or less
+pub restated : {X : Type 0} {K L : Type 0} (f h : Tables → Tables) (a b : State) (result : Result X Error) → (L → K)
+    → CarriesFrom IsSoundOf K f a b result
+    → (HasCleanDisk b → IsTrue a.in_transaction → (t : Tables) → IsSoundOf t a.now → f t ≡ h t)
+    → CarriesFrom IsSoundOf L h a b result
+restated {X} {K} {L} f h a b result less p same =
     record {
       survives = p.survives;
       kept = p.kept;
       ok = λ clean inside. go result (same clean inside) (p.ok clean inside);
     }
   where
-    go : (r : Result X Error) → ((t : Tables) → IsDatabaseOf t a.now → f t ≡ h t) → OnOk r (Goes f a b)
-        → OnOk r (Goes h a b)
+    go : (r : Result X Error) → ((t : Tables) → IsSoundOf t a.now → f t ≡ h t) → OnOk r (GoesFrom IsSoundOf K f a b)
+        → OnOk r (GoesFrom IsSoundOf L h a b)
     go (Err e) is one = tt
     go (Ok y) is one = record {
-      was_open = one.was_open;
+      was_open = λ known. one.was_open (less known);
       inside = one.inside;
       goes = λ t d. subst (λ s. IsDatabaseOf s b.now) (is t d) (one.goes t d);
       sound = one.sound;
     }
+
+pub reworded : {X : Type 0} (f h : Tables → Tables) (a b : State) (result : Result X Error) → Carries f a b result
+    → (HasCleanDisk b → IsTrue a.in_transaction → (t : Tables) → IsSoundOf t a.now → f t ≡ h t)
+    → Carries h a b result
+reworded f h a b result p same = restated f h a b result (λ known. known) p same
 
 unraised : (account : List ℕ) (day : ℕ) (xs : List TallyRow) → list_any (is_tally_of account day) xs ≡ false
     → map (raised_row account day) xs ≡ xs
@@ -88,7 +92,7 @@ module _ (account : List ℕ) (day : ℕ) (a b : State) (count : ℕ)
       (chained (with_raised account day) (with_first_tally account day) a b c count result raised first)
       (λ clean inside t d.
       let early : HasCleanDisk b = omega (arith, first.survives.clean) in
-      let absent = none_any (is_tally_of account day) t.tallies (sym (counts early inside t d) ∙ none) in
+      let absent = none_any (is_tally_of account day) t.tallies (sym (counts early inside t d.database) ∙ none) in
       ap (λ (l : List TallyRow). let u : Tables = record t { tallies = l } in
       u) (ap (λ l. record { account = account; day = day; count = 1 } ∷ l) (unraised account day t.tallies absent)
       ∙ sym (ap (λ v. cond v (map (raised_row account day) t.tallies)
@@ -98,7 +102,7 @@ module _ (account : List ℕ) (day : ℕ) (a b : State) (count : ℕ)
   counted_more some =
       reworded (with_raised account day) (with_count account day) a b (Ok count) raised
       (λ clean inside t d.
-      let present = some_any (is_tally_of account day) t.tallies (λ e. some (counts clean inside t d ∙ e)) in
+      let present = some_any (is_tally_of account day) t.tallies (λ e. some (counts clean inside t d.database ∙ e)) in
       ap (λ (l : List TallyRow). let u : Tables = record t { tallies = l } in u)
       (sym (ap (λ v. cond v (map (raised_row account day) t.tallies) (record { account = account; day = day; count = 1 }
       ∷ t.tallies)) present)))

@@ -1,54 +1,82 @@
--- What is found of rows, in the words of what is read of the first that an answer has.
-use Rattle.std.proofs.Common.{◌≡◌, ◌∙◌, ℕ, Bool, List, Option, None, Some, Result, Ok, Err, IfOk}
+-- What a look-up tells of the tables, in the words of what is read of the first row of an answer.
+use Rattle.std.proofs.Common.{◌≡◌, ◌∙◌, ℕ, Bool, true, false, ◌||◌, List, [], ◌∷◌, Option, None, Some, Result, refl}
+use Rattle.std.proofs.Common.{sym, ap, subst, inl, inr, Contains}
 use Rattle.std.specs.List.{list_any}
 use Rattle.std.specs.Option.{is_some}
 use Rattle.sqlite_value.specs.Order.{Row}
-use Rattle.sqlite_trees.specs.Tree.{Trees}
-use Rattle.tables.specs.Asking.{TellsFirst, TellsFirstAs, IsReadAs}
+use Rattle.sqlite_trees.specs.declared.store.Store.{Ghosts}
+use Rattle.sqlite_rules.specs.Lists.{Has}
+use Rattle.sqlite_rules.proofs.ListLemmas.{has_contained, contains_had}
+use Rattle.tables.specs.Asking.{TellsFirst, IsReadAs}
+use Rattle.tables.specs.Base.{BaseValue}
 use Rattle.tables.specs.Found.{IsFoundAs, IsGreatestAs, IsLeastAs}
-use Rattle.tables.proofs.QueryLemmas.{found_any}
+use Rattle.tables.specs.Queries.{LooksUp, TellsRow, TellsAs}
+use Rattle.tables.specs.Tables.{Tables}
+use Rattle.tables.specs.declared.fault.TableFault.{TableFault}
+use Rattle.tables.proofs.BaseReads.{retold}
+use Rattle.tables.proofs.LookupLemmas.{Finds, FindsLeast, FindsGreatest}
 
 module _ {X Y : Type 0} (image : X → Row) (IsRead : Row → Y → Type 0) (Shows : X → Y → Type 0)
-    (read : (x : X) (row : Row) (y : Y) → row ≡ image x → IsRead row y → Shows x y)
-    (sql : List ℕ) (params : Row) (db : Trees) (xs : List X) where
-  found_here : (test : X → Bool) (row : Option Row) (found : Option Y)
+    (read : (x : X) (row : Row) (y : Y) → row ≡ image x → IsRead row y → Shows x y) (xs : List X) where
+  found_as : (test : X → Bool) (row : Option Row) (found : Option Y)
       → IsFoundAs (λ x r. r ≡ image x) test xs row → IsReadAs IsRead row found → IsFoundAs Shows test xs found
-  found_here test None found h e = rw e h
-  found_here test (Some row) found h (y, e, is) = rw e (h.0, h.1, h.2, read h.0 row y h.3 is)
+  found_as test None found h e = rw e h
+  found_as test (Some row) found h (y, e, is) = rw e (h.0, h.1, h.2, read h.0 row y h.3 is)
 
-  pub found_as : {E : Type 0} (test : X → Bool) (r : Result (Option Y) E)
-      → ((row : Option Row) → TellsFirst sql params db row → IsFoundAs (λ x r. r ≡ image x) test xs row)
-      → IfOk r (λ found. TellsFirstAs IsRead sql params db found) → IfOk r (λ found. IsFoundAs Shows test xs found)
-  found_as test (Ok found) finds told = found_here test told.0 found (finds told.0 told.1) told.2
-  found_as test (Err e) finds told = tt
-
-  greatest_here : (key : X → ℕ) (row : Option Row) (found : Option Y)
+  greatest_as : (key : X → ℕ) (row : Option Row) (found : Option Y)
       → IsGreatestAs (λ x r. r ≡ image x) key xs row → IsReadAs IsRead row found → IsGreatestAs Shows key xs found
-  greatest_here key None found h e = rw e h
-  greatest_here key (Some row) found h (y, e, is) = rw e (h.0, h.1, h.2, read h.0 row y h.3 is)
+  greatest_as key None found h e = rw e h
+  greatest_as key (Some row) found h (y, e, is) = rw e (h.0, h.1, h.2, read h.0 row y h.3 is)
 
-  pub greatest_as : {E : Type 0} (key : X → ℕ) (r : Result (Option Y) E)
-      → ((row : Option Row) → TellsFirst sql params db row → IsGreatestAs (λ x r. r ≡ image x) key xs row)
-      → IfOk r (λ found. TellsFirstAs IsRead sql params db found) → IfOk r (λ found. IsGreatestAs Shows key xs found)
-  greatest_as key (Ok found) finds told = greatest_here key told.0 found (finds told.0 told.1) told.2
-  greatest_as key (Err e) finds told = tt
-
-  least_here : (key : X → ℕ) (test : X → Bool) (row : Option Row) (found : Option Y)
+  least_as : (key : X → ℕ) (test : X → Bool) (row : Option Row) (found : Option Y)
       → IsLeastAs (λ x r. r ≡ image x) key test xs row → IsReadAs IsRead row found → IsLeastAs Shows key test xs found
-  least_here key test None found h e = rw e h
-  least_here key test (Some row) found h (y, e, is) = rw e (h.0, h.1, h.2, h.3, read h.0 row y h.4 is)
+  least_as key test None found h e = rw e h
+  least_as key test (Some row) found h (y, e, is) = rw e (h.0, h.1, h.2, h.3, read h.0 row y h.4 is)
 
-  pub least_as : {E : Type 0} (key : X → ℕ) (test : X → Bool) (r : Result (Option Y) E)
-      → ((row : Option Row) → TellsFirst sql params db row → IsLeastAs (λ x r. r ≡ image x) key test xs row)
-      → IfOk r (λ found. TellsFirstAs IsRead sql params db found) → IfOk r (λ found. IsLeastAs Shows key test xs found)
-  least_as key test (Ok found) finds told = least_here key test told.0 found (finds told.0 told.1) told.2
-  least_as key test (Err e) finds told = tt
+-- whether one is found is whether any passes
+found_any : {X Y : Type 0} (Shows : X → Y → Type 0) (test : X → Bool) (xs : List X) (row : Option Y)
+    → IsFoundAs Shows test xs row → is_some row ≡ list_any test xs
+found_any Shows test xs None found = sym (none test xs found) where
+  none : {X : Type 0} (p : X → Bool) (xs : List X) → ((x : X) → Contains xs x → p x ≡ false) → list_any p xs ≡ false
+  none p [] f = refl
+  none p (x ∷ xs) f = rw (f x (contains_had (x ∷ xs) x (inl refl)))
+      (none p xs (λ y m. f y (contains_had (x ∷ xs) y (inr (has_contained xs y m)))))
+found_any Shows test xs (Some y) (x, m, passes, shows) = sym (some test xs x (has_contained xs x m) passes) where
+  some : {X : Type 0} (p : X → Bool) (xs : List X) (x : X) → Has xs x → p x ≡ true → list_any p xs ≡ true
+  some p [] x h e = absurd h
+  some p (y ∷ xs) x (inl same) e = rw (ap p (sym same) ∙ e) refl
+  some p (y ∷ xs) x (inr h) e = rw (some p xs x h e) (or_true (p y)) where
+    or_true : (b : Bool) → (b || true) ≡ true
+    or_true true = refl
+    or_true false = refl
 
--- whether there is a row that passes
-pub any_as : {X E : Type 0} (Shows : X → Row → Type 0) (test : X → Bool) (xs : List X) (sql : List ℕ) (params : Row)
-    (db : Trees) (r : Result Bool E)
-    → ((row : Option Row) → TellsFirst sql params db row → IsFoundAs Shows test xs row)
-    → IfOk r (λ any. (row : Option Row) × TellsFirst sql params db row × (any ≡ is_some row))
-    → IfOk r (λ any. any ≡ list_any test xs)
-any_as Shows test xs sql params db (Ok any) finds (row, told, is) = is ∙ found_any Shows test xs row (finds row told)
-any_as Shows test xs sql params db (Err e) finds told = tt
+-- of a text, with its parameters as they were given
+module _ {S X : Type 0} (g : Ghosts S) {sql : List ℕ} {params : Row} {rows : Tables → List X} {image : X → Row}
+    (given : Row) (same : given ≡ params) (old new : BaseValue S) where
+  module _ {Y : Type 0} (IsRead : Row → Y → Type 0) (Shows : X → Y → Type 0)
+      (read : (x : X) (row : Row) (y : Y) → row ≡ image x → IsRead row y → Shows x y)
+      (r : Result (Option Y) TableFault) (l : LooksUp g (TellsAs IsRead sql given) old new r) where
+    pub found_looks : {test : X → Bool} → Finds sql params rows image test
+        → LooksUp g (λ t found. IsFoundAs Shows test (rows t) found) old new r
+    found_looks {test} finds = retold g _ _ old new r
+        (λ t found (row, (db, h, told), is). found_as image IsRead Shows read (rows t) test row found
+        (finds.found t db row h (subst (λ p. TellsFirst sql p db row) same told)) is) l
+
+    pub least_looks : {test : X → Bool} {key : X → ℕ} → FindsLeast sql params rows image test key
+        → LooksUp g (λ t found. IsLeastAs Shows key test (rows t) found) old new r
+    least_looks {test} {key} finds = retold g _ _ old new r
+        (λ t found (row, (db, h, told), is). least_as image IsRead Shows read (rows t) key test row found
+        (finds.found t db row h (subst (λ p. TellsFirst sql p db row) same told)) is) l
+
+    pub greatest_looks : {key : X → ℕ} → FindsGreatest sql params rows image key
+        → LooksUp g (λ t found. IsGreatestAs Shows key (rows t) found) old new r
+    greatest_looks {key} finds = retold g _ _ old new r
+        (λ t found (row, (db, h, told), is). greatest_as image IsRead Shows read (rows t) key row found
+        (finds.found t db row h (subst (λ p. TellsFirst sql p db row) same told)) is) l
+
+  pub any_looks : {test : X → Bool} (r : Result Bool TableFault)
+      → LooksUp g (λ t any. (row : Option Row) × TellsRow sql given t row × (any ≡ is_some row)) old new r
+      → Finds sql params rows image test → LooksUp g (λ t any. any ≡ list_any test (rows t)) old new r
+  any_looks {test} r l finds = retold g _ _ old new r
+      (λ t any (row, (db, h, told), is). is ∙ found_any _ test (rows t) row
+      (finds.found t db row h (subst (λ p. TellsFirst sql p db row) same told))) l

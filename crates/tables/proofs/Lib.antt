@@ -3,7 +3,6 @@ mod AskLemmas
 mod BaseLemmas
 mod BaseReads
 mod BatchLemmas
-mod BesideLemmas
 mod CarryLemmas
 mod CellLemmas
 mod ChangeLemmas
@@ -11,11 +10,11 @@ mod CommitLemmas
 mod CountLemmas
 mod CreateLemmas
 mod DepositLookups
+mod EachLemmas
 mod FillLemmas
 mod FoundLemmas
 mod FrameLemmas
 mod FreeLemmas
-mod GroupReaderLemmas
 mod IdentityLemmas
 mod InsertLemmas
 mod ListLemmas
@@ -23,10 +22,11 @@ mod LookupLemmas
 mod MakingLemmas
 mod MigrateLemmas
 mod NameLemmas
+mod NumberLemmas
 mod OpenLemmas
-mod QueryLemmas
+mod OtherLookups
+mod ReadCells
 mod ReadLemmas
-mod ReaderLemmas
 mod RefusalLemmas
 mod RightLemmas
 mod RowLemmas
@@ -34,7 +34,6 @@ mod SchemaLemmas
 mod SealLemmas
 mod StampLookups
 mod TestLemmas
-mod UntakenLemmas
 mod UpdateLemmas
 mod UsableLemmas
 mod WriteLemmas

@@ -1,7 +1,7 @@
--- What a look-up tells of one table: a row that passes its tests, or of these the one with the least key.
-use Rattle.std.proofs.Common.{◌≡◌, ◌≢◌, ◌⊎◌, ℕ, pos, ◌≤◌, Bool, true, false, List, [], ◌∷◌, map, filter, Option, refl}
-use Rattle.std.proofs.Common.{sym, ap, ap₂, ◌∙◌, subst, subst₂, inl, inr, arith, IsPermutation, is_lt, int_cmp, Less}
-use Rattle.std.proofs.Common.{Equal, Greater, Ordering}
+-- What a query tells of one table: a row that passes its tests, or of these the first in the order of a key.
+use Rattle.std.proofs.Common.{◌≡◌, ◌≢◌, ◌⊎◌, ℕ, pos, ◌≤◌, ◌&&◌, Bool, true, false, List, [], ◌∷◌, map, filter, Option}
+use Rattle.std.proofs.Common.{None, Some, refl, sym, ap, ap₂, ◌∙◌, subst, subst₂, inl, inr, arith, Contains}
+use Rattle.std.proofs.Common.{IsPermutation, is_lt, int_cmp, Less, Equal, Greater, Ordering}
 use Rattle.std.specs.Ordering.{ordering_then}
 use Rattle.std.specs.List.{slice_get}
 use Rattle.std.specs.Prelude.{IsSorted}
@@ -14,114 +14,205 @@ use Rattle.sqlite_value.specs.declared.keys.Collation.TheVariants.{Binary}
 use Rattle.sqlite_value.specs.Order.{Row, value_cmp}
 use Rattle.sqlite_value.proofs.OrderLemmas.{value_cmp-Int}
 use Rattle.sqlite_trees.specs.Tree.{Trees}
-use Rattle.sqlite_sql.specs.Term.{Term, eval_all}
+use Rattle.sqlite_sql.specs.Term.{Term, lit, eval_all}
 use Rattle.sqlite_sql.specs.Query.{Query, Output, output, output_cmp, page}
 use Rattle.sqlite_sql.proofs.QueryLemmas.{output_cmp_total}
+use Rattle.sqlite_schema.specs.declared.command.Command.{Command}
 use Rattle.sqlite_schema.specs.declared.command.Command.TheVariants.{Select}
 use Rattle.sqlite_rules.proofs.ListLemmas.{has_contained, contains_had, has_filtered, has_kept}
 use Rattle.sqlite.specs.Effect.{Reads}
 use Rattle.sqlite.specs.Listing.{understood}
 use Rattle.sqlite.proofs.Callers.{command_of}
-use Rattle.tables.specs.Asking.{TellsFirst}
-use Rattle.tables.specs.Found.{IsFoundAs, IsLeastAs}
-use Rattle.tables.specs.Holding.{AreRows}
-use Rattle.tables.specs.Schema.{the_schema}
+use Rattle.tables.specs.Asking.{IsQueryText, TellsFirst}
+use Rattle.tables.specs.Found.{IsFoundAs, IsLeastAs, IsGreatestAs}
+use Rattle.tables.specs.Holding.{Holds, RowOf, cells_of, is_keyed, tree_of, rows_of}
+use Rattle.tables.specs.Names.{Name}
+use Rattle.tables.specs.Names as name
+use Rattle.tables.specs.Schema.{the_schema, the_version}
+use Rattle.tables.specs.Tables.{Tables}
 use Rattle.tables.proofs.ChangeLemmas.{raw, found_are}
+use Rattle.tables.proofs.FrameLemmas.{is_current}
 use Rattle.tables.proofs.ListLemmas.{has_permutation, has_image, image_has}
-use Rattle.tables.proofs.QueryLemmas.{first_found, one}
 use Rattle.tables.proofs.ReadLemmas.{program_of, query_of, no_limit, passes, shows, answered, ordered_by}
 
-abbrev pub rising_key : Key
-rising_key = record { collation = Binary; descending = false }
+-- a query, as our schema has its text
+pub record Asks (sql : List ℕ) (command : Command) : Type 0 where
+  pub is : command_of (understood the_schema sql) ≡ command
+  pub text : IsQueryText sql
+
+-- what the first row of its answer shows of the rows of a table
+module _ {X : Type 0} (sql : List ℕ) (params : Row) (rows : Tables → List X) (image : X → Row) where
+  pub record Finds (test : X → Bool) : Type 0 where
+    pub found : (t : Tables) (db : Trees) (row : Option Row) → Holds t db → TellsFirst sql params db row
+        → IsFoundAs (λ x r. r ≡ image x) test (rows t) row
+
+  pub record FindsLeast (test : X → Bool) (key : X → ℕ) : Type 0 where
+    pub found : (t : Tables) (db : Trees) (row : Option Row) → Holds t db → TellsFirst sql params db row
+        → IsLeastAs (λ x r. r ≡ image x) key test (rows t) row
+
+  pub record FindsGreatest (key : X → ℕ) : Type 0 where
+    pub found : (t : Tables) (db : Trees) (row : Option Row) → Holds t db → TellsFirst sql params db row
+        → IsGreatestAs (λ x r. r ≡ image x) key (rows t) row
+
+pub and_true : (b : Bool) → (b && true) ≡ b
+and_true true = refl
+and_true false = refl
 
 true_or_not : (b : Bool) → (b ≡ true) ⊎ (b ≡ false)
 true_or_not true = inl refl
 true_or_not false = inr refl
+
+-- the rows that pass, in some order: the first is one of them, and where there is none no row passes
+first_found : {X : Type 0} (image : X → Row) (test : X → Bool) (xs : List X) (rows : List Row)
+    → IsPermutation (map image (filter test xs)) rows
+    → IsFoundAs (λ x r. r ≡ image x) test xs (slice_get rows 0)
+first_found image test xs [] same = λ x m.
+    elim (true_or_not (test x)) [
+      | inl t ↦ absurd (has_permutation _ [] (image x) same
+          (has_image image (filter test xs) x (has_kept test xs x (has_contained xs x m) t)))
+      | inr f ↦ f
+    ]
+first_found image test xs (r ∷ rows) same =
+    let found = image_has image (filter test xs) r (has_permutation _ _ r (IsPermutation-sym _ _ same) (inl refl)) in
+    let kept = has_filtered test xs found.0 found.1 in
+    (found.0, contains_had xs found.0 kept.0, kept.1, found.2)
+
+pub cells_some : (n : Name) (x : RowOf n) → cells_of n x ≢ []
+cells_some name.Meta x e = cc
+cells_some name.Stamp x e = cc
+cells_some name.Calibration x e = cc
+cells_some name.Hold x e = cc
+cells_some name.Deposit x e = cc
+cells_some name.Reader x e = cc
+cells_some name.Tally x e = cc
+cells_some name.GroupReader x e = cc
+cells_some name.Identity x e = cc
+
+abbrev pub one : Term
+one = lit (Int (pos 1))
+
+abbrev pub rising : Key
+rising = record { collation = Binary; descending = false }
+
+abbrev pub falling : Key
+falling = record { collation = Binary; descending = true }
 
 lt_then : (o : Ordering) → is_lt (ordering_then o Equal) ≡ is_lt o
 lt_then Less = refl
 lt_then Equal = refl
 lt_then Greater = refl
 
-not_less : (m n : ℕ) → is_lt (int_cmp (pos m) (pos n)) ≡ false → n ≤ m
-not_less m n e = grind (arith)
+not_less : (m n : ℕ) → is_lt (ordering_then (value_cmp (Int (pos m)) (Int (pos n))) Equal) ≡ false → n ≤ m
+not_less m n e =
+    let least : is_lt (int_cmp (pos m) (pos n)) ≡ false =
+    sym (ap is_lt (value_cmp-Int (pos m) (pos n))) ∙ sym (lt_then _) ∙ e in
+    grind (arith)
 
--- one table, its rows, the tests and what is shown
-module _ {X : Type 0} (cells : X → Row) (some : (x : X) → cells x ≢ []) (tree : ℕ) (keyed : Bool) (xs : List X)
-    (params : Row) (tests project : List Term)
-    (test : X → Bool) (image : X → Row) (agree : (y : Value × X) → passes tests params (raw cells some keyed y)
-    ≡ test y.1)
-    (each : (y : Value × X) → shows project params (raw cells some keyed y) ≡ image y.1) (db : Trees)
-    (h : AreRows keyed cells xs (db tree)) where
-  pub found_by : (sql : List ℕ) (names : List (List ℕ))
-      → command_of (understood the_schema sql) ≡ Select (program_of tree tests project [] no_limit) names
-      → (given : Row) (row : Option Row) → given ≡ params → TellsFirst sql given db row
-      → IsFoundAs (λ x r. r ≡ image x) test xs row
-  found_by sql names is given row same told =
-      let reads = subst (λ k. Reads k (record { schema = the_schema; trees = db }) given told.0) is told.1 in
-      let here = subst (λ p. Reads (Select (program_of tree tests project [] no_limit) names)
-      (record { schema = the_schema; trees = db }) p told.0) same reads in
-      let typed = found_are cells some keyed xs (db tree) h (passes tests params) test agree (shows project params)
-      image each told.0
-      (answered the_schema db params tree tests project told.0 here) in
-      subst (IsFoundAs (λ x r. r ≡ image x) test xs) told.2 (first_found image test xs told.0 typed)
+-- a table, the tests and what is shown
+module _ (n : Name) (params : Row) (tests project : List Term) (test : RowOf n → Bool) (image : RowOf n → Row)
+    (agree : (y : Value × RowOf n) → passes tests params (raw (cells_of n) (cells_some n) (is_keyed n) y) ≡ test y.1)
+    (each : (y : Value × RowOf n) → shows project params (raw (cells_of n) (cells_some n) (is_keyed n) y) ≡ image y.1)
+  where
+    pub finds : (sql : List ℕ) (names : List (List ℕ))
+        → Asks sql (Select (program_of (tree_of n) tests project [] no_limit) names)
+        → Finds sql params (rows_of the_version n) image test
+    finds sql names asks = record {
+      found = λ t db row h told.
+          let reads = subst (λ k. Reads k (record { schema = the_schema; trees = db }) params told.0) asks.is told.1 in
+          let typed = found_are (cells_of n) (cells_some n) (is_keyed n) (rows_of the_version n t) (db (tree_of n))
+          (h.rows n (is_current n)) (passes tests params) test agree (shows project params) image each told.0
+          (answered the_schema db params (tree_of n) tests project told.0 reads) in
+          subst (IsFoundAs (λ x r. r ≡ image x) test (rows_of the_version n t)) told.2
+          (first_found image test (rows_of the_version n t) told.0 typed);
+    }
 
-  -- the rows in the order of a key
-  module _ (place : Term) (key : X → ℕ) (keys : (y : Value × X)
-      → eval_all (place ∷ []) (params ∷ raw cells some keyed y ∷ []) ≡ Int (pos (key y.1)) ∷ []) where
-    abbrev its_query : Query
-    its_query = query_of tree tests project ((place, rising_key) ∷ []) one
+    -- the rows in the order of a key
+    module _ (place : Term) (key : RowOf n → ℕ) (keys : (y : Value × RowOf n)
+        → eval_all (place ∷ []) (params ∷ raw (cells_of n) (cells_some n) (is_keyed n) y ∷ []) ≡ Int (pos (key y.1)) ∷ [])
+      where
+        abbrev its_query : Key → Query
+        its_query order = query_of (tree_of n) tests project ((place, order) ∷ []) one
 
-    abbrev out_of : X → Output
-    out_of x = (Int (pos (key x)) ∷ [], image x)
+        abbrev out_of : RowOf n → Output
+        out_of x = (Int (pos (key x)) ∷ [], image x)
 
-    -- an output that isn't before another has no lesser key
-    not_before : (x y : X) → is_lt (output_cmp its_query (out_of y) (out_of x)) ≡ false → key x ≤ key y
-    not_before x y e =
-        let here : is_lt (ordering_then (value_cmp (Int (pos (key y))) (Int (pos (key x)))) Equal) ≡ false = e in
-        not_less (key y) (key x) (sym (ap is_lt (value_cmp-Int (pos (key y)) (pos (key x)))) ∙ sym (lt_then _) ∙ here)
+        module _ (order : Key) (Before : ℕ → ℕ → Type 0)
+            (not_before : (x y : RowOf n) → is_lt (output_cmp (its_query order) (out_of y) (out_of x)) ≡ false
+            → Before (key x) (key y)) where
+          -- none passes, or this is what the first that does shows
+          abbrev IsFirst : List (RowOf n) → Option Row → Type 0
+          IsFirst xs None = (x : RowOf n) → Contains xs x → test x ≡ false
+          IsFirst xs (Some r) =
+              (x : RowOf n) × Contains xs x × (test x ≡ true)
+              × ((other : RowOf n) → Contains xs other → test other ≡ true → Before (key x) (key other)) × (r ≡ image x)
 
-    shown_of : (y : Value × X) → output its_query (params ∷ raw cells some keyed y ∷ []) ≡ out_of y.1
-    shown_of y = ap₂ (λ k r. (k, r)) (keys y) (each y)
+          shown_of : (y : Value × RowOf n)
+              → output (its_query order) (params ∷ raw (cells_of n) (cells_some n) (is_keyed n) y ∷ []) ≡ out_of y.1
+          shown_of y = ap₂ (λ k r. (k, r)) (keys y) (each y)
 
-    go : (ordered : List Output) → IsPermutation (map out_of (filter test xs)) ordered
-        → IsSorted (output_cmp its_query) ordered
-        → IsLeastAs (λ x r. r ≡ image x) key test xs (slice_get (page its_query params (map (λ o. o.1) ordered)) 0)
-    go [] same sorted = λ x m.
-        elim (true_or_not (test x)) [
-          | inl t ↦ absurd (has_permutation _ [] (out_of x) same
-              (has_image out_of (filter test xs) x (has_kept test xs x (has_contained xs x m) t)))
-          | inr f ↦ f
-        ]
-    go (p ∷ ps) same sorted =
-        let found = image_has out_of (filter test xs) p
-        (has_permutation _ _ p (IsPermutation-sym _ _ same) (inl refl)) in
-        let kept = has_filtered test xs found.0 found.1 in (
-          found.0,
-          contains_had xs found.0 kept.0,
-          kept.1,
-          λ other m passes.
-              let there = contains_had (p ∷ ps) (out_of other) (has_permutation _ _ (out_of other) same
-              (has_image out_of (filter test xs) other (has_kept test xs other (has_contained xs other m) passes))) in
-              let far = sorted_far (λ a b. is_lt (output_cmp its_query a b))
-              (ranks_by (output_cmp_total its_query) (λ o. o)) (p ∷ ps) sorted 0 there.0 (out_of other)
-              (omega arith) there.1 in
-              not_before found.0 other (subst₂ (λ a b. is_lt (output_cmp its_query a b) ≡ false) there.2 found.2 far),
-          ap (λ o. o.1) found.2,
-        )
+          go : (xs : List (RowOf n)) (ordered : List Output) → IsPermutation (map out_of (filter test xs)) ordered
+              → IsSorted (output_cmp (its_query order)) ordered
+              → IsFirst xs (slice_get (page (its_query order) params (map (λ o. o.1) ordered)) 0)
+          go xs [] same sorted = λ x m.
+              elim (true_or_not (test x)) [
+                | inl t ↦ absurd (has_permutation _ [] (out_of x) same
+                    (has_image out_of (filter test xs) x (has_kept test xs x (has_contained xs x m) t)))
+                | inr f ↦ f
+              ]
+          go xs (p ∷ ps) same sorted =
+              let found = image_has out_of (filter test xs) p
+              (has_permutation _ _ p (IsPermutation-sym _ _ same) (inl refl)) in
+              let kept = has_filtered test xs found.0 found.1 in (
+                found.0,
+                contains_had xs found.0 kept.0,
+                kept.1,
+                λ other m passes.
+                    let there = contains_had (p ∷ ps) (out_of other) (has_permutation _ _ (out_of other) same
+                    (has_image out_of (filter test xs) other (has_kept test xs other (has_contained xs other m) passes))) in
+                    let far = sorted_far (λ a b. is_lt (output_cmp (its_query order) a b))
+                    (ranks_by (output_cmp_total (its_query order)) (λ o. o)) (p ∷ ps) sorted 0 there.0 (out_of other)
+                    (omega arith) there.1 in
+                    not_before found.0 other
+                    (subst₂ (λ a b. is_lt (output_cmp (its_query order) a b) ≡ false) there.2 found.2 far),
+                ap (λ o. o.1) found.2,
+              )
 
-    pub least_by : (sql : List ℕ) (names : List (List ℕ))
-        → command_of (understood the_schema sql) ≡ Select (program_of tree tests project ((place, rising_key) ∷ []) one)
-        names
-        → (given : Row) (row : Option Row) → given ≡ params → TellsFirst sql given db row
-        → IsLeastAs (λ x r. r ≡ image x) key test xs row
-    least_by sql names is given row same told =
-        let reads = subst (λ k. Reads k (record { schema = the_schema; trees = db }) given told.0) is told.1 in
-        let here = subst (λ p. Reads (Select (program_of tree tests project ((place, rising_key) ∷ []) one) names)
-        (record { schema = the_schema; trees = db }) p told.0) same reads in
-        let order = ordered_by the_schema db params tree tests project ((place, rising_key) ∷ []) one told.0 here in
-        let typed = found_are cells some keyed xs (db tree) h (passes tests params) test agree
-        (λ r. output its_query (params ∷ r ∷ [])) out_of shown_of order.ordered order.same in
-        subst (IsLeastAs (λ x r. r ≡ image x) key test xs) told.2
-        (subst (λ rs. IsLeastAs (λ x r. r ≡ image x) key test xs (slice_get rs 0)) (sym order.shown)
-        (go order.ordered typed order.sorted))
+          first : (sql : List ℕ) (names : List (List ℕ))
+              → Asks sql (Select (program_of (tree_of n) tests project ((place, order) ∷ []) one) names)
+              → (t : Tables) (db : Trees) (row : Option Row) → Holds t db → TellsFirst sql params db row
+              → IsFirst (rows_of the_version n t) row
+          first sql names asks t db row h told =
+              let xs = rows_of the_version n t in
+              let reads = subst (λ k. Reads k (record { schema = the_schema; trees = db }) params told.0) asks.is told.1 in
+              let by = ordered_by the_schema db params (tree_of n) tests project ((place, order) ∷ []) one told.0 reads in
+              let typed = found_are (cells_of n) (cells_some n) (is_keyed n) xs (db (tree_of n)) (h.rows n (is_current n))
+              (passes tests params) test agree (λ r. output (its_query order) (params ∷ r ∷ [])) out_of shown_of by.ordered
+              by.same in
+              subst (IsFirst xs) told.2
+              (subst (λ rs. IsFirst xs (slice_get rs 0)) (sym by.shown) (go xs by.ordered typed by.sorted))
+
+        pub least : (sql : List ℕ) (names : List (List ℕ))
+            → Asks sql (Select (program_of (tree_of n) tests project ((place, rising) ∷ []) one) names)
+            → FindsLeast sql params (rows_of the_version n) image test key
+        least sql names asks = record {
+          found = λ t db row h told. as_least _ row
+              (first rising (λ a b. a ≤ b) (λ x y e. not_less (key y) (key x) e) sql names asks t db row h told);
+        }
+          where
+            as_least : (xs : List (RowOf n)) (row : Option Row) → IsFirst rising (λ a b. a ≤ b)
+                (λ x y e. not_less (key y) (key x) e) xs row → IsLeastAs (λ x r. r ≡ image x) key test xs row
+            as_least xs None h = h
+            as_least xs (Some r) h = h
+
+        pub greatest : (sql : List ℕ) (names : List (List ℕ)) → ((x : RowOf n) → test x ≡ true)
+            → Asks sql (Select (program_of (tree_of n) tests project ((place, falling) ∷ []) one) names)
+            → FindsGreatest sql params (rows_of the_version n) image key
+        greatest sql names all asks = record {
+          found = λ t db row h told. as_greatest _ row
+              (first falling (λ a b. b ≤ a) (λ x y e. not_less (key x) (key y) e) sql names asks t db row h told);
+        }
+          where
+            as_greatest : (xs : List (RowOf n)) (row : Option Row) → IsFirst falling (λ a b. b ≤ a)
+                (λ x y e. not_less (key x) (key y) e) xs row → IsGreatestAs (λ x r. r ≡ image x) key xs row
+            as_greatest xs None h = λ x there. absurd (let no = h x there in let yes = all x in cc)
+            as_greatest xs (Some r) h = (h.0, h.1, λ other there. h.3 other there (all other), h.4)

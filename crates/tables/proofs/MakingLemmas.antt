@@ -1,13 +1,8 @@
 -- The texts that make our tables: each makes its table, and they are the statements of the batch.
-use Rattle.std.proofs.Common.{◌≡◌, ℕ, ◌&&◌, ◌==◌, Bool, true, false, List, length, Ok, Err, refl}
-use Rattle.std.specs.Prelude.{nat_le}
+use Rattle.std.proofs.Common.{refl}
 use Rattle.std.specs.List.{AllByRecursion}
-use Rattle.sqlite_resolve.specs.declared.compiled.Compiled.{Compiled}
-use Rattle.sqlite_resolve.specs.Lowering.{Checked}
 use Rattle.sqlite_tied.specs.Compute.{everything}
 use Rattle.sqlite.specs.Listing.{understood}
-use Rattle.tables.specs.Making.{Making}
-use Rattle.tables.specs.Schema.{no_schema}
 use Rattle.tables.specs.Making.{make_meta, make_stamp, make_calibration, make_hold, make_deposit, make_reader}
 use Rattle.tables.specs.Making.{make_tally, make_group_reader, make_identity, makings, insert_version}
 use Rattle.tables.proofs.BatchLemmas.{AreCut}
@@ -72,18 +67,6 @@ are_makings = (
     ),
   ),
 )
-
--- each is one whole statement without parameters
-abbrev pub is_whole : List ℕ → Checked Compiled → Bool
-is_whole text (Ok c) = nat_le (length text) c.tail && (length c.names == 0)
-is_whole text (Err e) = false
-
-abbrev pub IsWhole : Making → Type 0
-IsWhole making = is_whole making.text (understood no_schema making.text) ≡ true
-
-pub are_whole : AllByRecursion IsWhole makings
-unfolding understood everything
-are_whole = (refl, (refl, (refl, (refl, (refl, (refl, (refl, (refl, (refl, tt)))))))))
 
 pub are_cut : AreCut makings insert_version
 unfolding everything

@@ -154,16 +154,6 @@ free_as_alone sql table depends alone_is s free =
     ∙ ap (λ o. made_of false None o alone) same in
     depends s ∙ ap (heard sql) apart ∙ made_free sql alone alone_is.0 alone_is.2
 
--- where the text is understood, it is what it is in an empty schema
-pub known_alone : (sql : List ℕ) (table : Table) → Depends sql table.name → Alone sql table → (s : Schema)
-    → (c : Compiled) → understood s sql ≡ Ok c → understood no_schema sql ≡ Ok c
-known_alone sql table depends alone_is s c is =
-    elim (cases sql (understood no_schema sql) alone_is.0 alone_is.2 (is_attached s table.name)
-    (index_named s table.name) (option_or (table_named s table.name) (view_named s table.name))) [
-      | inl isnt ↦ absurd (isnt (subst IsUnderstood (sym is ∙ depends s) tt))
-      | inr same ↦ sym same ∙ sym (depends s) ∙ is
-    ]
-
 understood_if : {r : Result Compiled CompileError} {c : Compiled} → r ≡ Ok c → IsUnderstood r
 understood_if is = subst IsUnderstood (sym is) tt
 

@@ -1,8 +1,9 @@
 -- What a query tells, asked in a transaction of its own that is undone.
-use Rattle.std.specs.Prelude.{◌≡◌, ◌⊎◌, ℕ, ◌≤◌, false, List, [], IsTrue, Option, None, Some, Ok}
+use Rattle.std.specs.Prelude.{◌≡◌, ◌⊎◌, ℕ, pos, ◌≤◌, false, List, [], IsTrue, Option, None, Some, Ok, unwrap_or}
 use Rattle.std.specs.List.{slice_get}
 use Rattle.sqlite_disk.specs.Disk.{MoreFaults}
-use Rattle.sqlite_value.specs.Order.{Row}
+use Rattle.sqlite_value.specs.declared.value.Value.TheVariants.{Int}
+use Rattle.sqlite_value.specs.Order.{Row, column}
 use Rattle.sqlite_trees.specs.Tree.{Trees}
 use Rattle.sqlite_schema.specs.declared.schema.Schema.{Schema}
 use Rattle.sqlite_resolve.specs.declared.compiled.Compiled.{Compiled}
@@ -62,3 +63,8 @@ IsReadAs {Y} Shows (Some row) found = (y : Y) × (found ≡ Some y) × Shows row
 abbrev pub TellsFirstAs : {Y : Type 0} → (Row → Y → Type 0) → List ℕ → Row → Trees → Option Y → Type 0
 TellsFirstAs Shows sql params db found =
     (row : Option Row) × TellsFirst sql params db row × IsReadAs Shows row found
+
+-- the number that it begins with, 0 where there is none
+abbrev pub TellsNumber : List ℕ → Trees → ℕ → Type 0
+TellsNumber sql db n =
+    (found : Option ℕ) × TellsFirstAs (λ row m. column row 0 ≡ Int (pos m)) sql [] db found × (n ≡ unwrap_or found 0)

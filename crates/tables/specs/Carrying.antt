@@ -52,11 +52,16 @@ module _ (Before After : Tables → Database → Type 0) where
     pub kept : HasCleanDisk new → IsTrue old.in_transaction → KeepsCommit old new
     pub ok : HasCleanDisk new → IsTrue old.in_transaction → OnOk result (IsLed old new)
 
+-- a sound database of the tables
+pub record IsSoundOf (t : Tables) (d : Database) : Type 0 where
+  pub database : IsDatabaseOf t d
+  pub sound : IsDatabase d
+
 abbrev pub Goes : (Tables → Tables) → State → State → Type 0
-Goes = GoesFrom IsDatabaseOf (Unit {0})
+Goes = GoesFrom IsSoundOf (Unit {0})
 
 abbrev pub Carries : {X : Type 0} → (Tables → Tables) → State → State → Result X Error → Type 0
-Carries = CarriesFrom IsDatabaseOf (Unit {0})
+Carries = CarriesFrom IsSoundOf (Unit {0})
 
 abbrev pub Commits : {X : Type 0} → (Tables → Tables) → State → State → Result X Error → Type 0
-Commits = CommitsFrom IsDatabaseOf (Unit {0})
+Commits = CommitsFrom IsSoundOf (Unit {0})

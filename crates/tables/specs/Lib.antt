@@ -1,6 +1,5 @@
 pub mod Asking
 pub mod Base
-pub mod Beside
 pub mod Carrying
 pub mod Changes
 pub mod Faults

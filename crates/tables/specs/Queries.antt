@@ -1,12 +1,17 @@
 -- What the queries show of a row.
-use Rattle.std.specs.Prelude.{◌≡◌, ◌==◌, ℕ, ℤ, ◌&&◌, Bool, List, int_le, int_lt, nat_le, nat_lt, bytes_eq, string_bytes}
+use Rattle.std.specs.Prelude.{◌≡◌, ◌==◌, ℕ, ℤ, ◌&&◌, Bool, List, Option, Result, IfOk, IfErr, OnOk, int_le, int_lt}
+use Rattle.std.specs.Prelude.{nat_le, nat_lt, bytes_eq, string_bytes}
+use Rattle.sqlite_value.specs.Order.{Row}
 use Rattle.sqlite.specs.Held.{state}
 use Rattle.sqlite_trees.specs.Tree.{Trees}
 use Rattle.sqlite_trees.specs.declared.store.Store.{Ghosts}
-use Rattle.tables.specs.Asking.{StaysUsable}
+use Rattle.tables.specs.Asking.{StaysUsable, TellsFirst, IsReadAs}
+use Rattle.tables.specs.Changes.{IsCounted}
+use Rattle.tables.specs.Holding.{Holds}
 use Rattle.tables.specs.Tables.{Tables, StampRow, CalibrationRow, HoldRow, TallyRow, DepositRow, ReaderRow}
 use Rattle.tables.specs.Tables.{InstalledRow}
-use Rattle.tables.specs.Base.{BaseValue, IsHonest, Keeps, Recovers}
+use Rattle.tables.specs.Base.{BaseValue, IsHonest, IsOpen, Keeps, Recovers}
+use Rattle.tables.specs.declared.fault.TableFault.{TableFault}
 use Rattle.tables.specs.declared.rows.LastStamp.{LastStamp}
 use Rattle.tables.specs.declared.rows.LatestCalibration.{LatestCalibration}
 use Rattle.book.specs.declared.rows.Stamp.{Stamp}
@@ -22,6 +27,22 @@ pub record OnlyReads {S : Type 0} (g : Ghosts S) (old new : BaseValue S) : Type 
   pub kept : (t : Tables) → Keeps g t old → Keeps g t new
   pub leaves : IsHonest g new → (db : Trees) → Recovers g new db → Recovers g old db
   pub usable : StaysUsable (state g old.conn) (state g new.conn)
+
+-- a look-up, and what its answer tells of the tables
+pub record LooksUp {S X : Type 0} (g : Ghosts S) (Tells : Tables → X → Type 0) (old new : BaseValue S)
+    (result : Result X TableFault) : Type 0 where
+  pub reads : OnlyReads g old new
+  pub opened : IsHonest g new → OnOk result (IsOpen g old)
+  pub value : IsHonest g new → (t : Tables) → Keeps g t old → IfOk result (Tells t)
+  pub counted : IfErr result (λ e. IsCounted e old.faults new.faults)
+  pub uncounted : OnOk result (new.faults ≡ old.faults)
+
+-- what a query's first row tells of the tables, and what is read of it
+abbrev pub TellsRow : List ℕ → Row → Tables → Option Row → Type 0
+TellsRow sql params t row = (db : Trees) × Holds t db × TellsFirst sql params db row
+
+abbrev pub TellsAs : {Y : Type 0} → (Row → Y → Type 0) → List ℕ → Row → Tables → Option Y → Type 0
+TellsAs Shows sql params t found = (row : Option Row) × TellsRow sql params t row × IsReadAs Shows row found
 
 abbrev pub ShowsLast : StampRow → LastStamp → Type 0
 ShowsLast row last = last ≡ record { serial = row.serial; gen_time = row.gen_time }
@@ -55,9 +76,6 @@ ShowsOrigin row origin = (string_bytes origin.account ≡ row.account) × (origi
 
 abbrev pub ShowsIdentity : InstalledRow → IdentityRow → Type 0
 ShowsIdentity row i = identity_view i ≡ row
-
-abbrev pub ShowsIdentityNumber : InstalledRow → ℕ → Type 0
-ShowsIdentityNumber row number = number ≡ row.number
 
 abbrev pub ShowsDepositSerial : DepositRow → ℕ → Type 0
 ShowsDepositSerial row serial = serial ≡ row.serial

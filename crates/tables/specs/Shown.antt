@@ -3,7 +3,7 @@ use Rattle.std.specs.Prelude.{pos, [], ◌∷◌}
 use Rattle.sqlite_value.specs.declared.value.Value.TheVariants.{Int, Text, Blob}
 use Rattle.sqlite_value.specs.Order.{Row}
 use Rattle.tables.specs.Holding.{token_cell}
-use Rattle.tables.specs.Tables.{StampRow, DepositRow, ReaderRow, InstalledRow}
+use Rattle.tables.specs.Tables.{StampRow, TallyRow, CalibrationRow, HoldRow, DepositRow, ReaderRow, InstalledRow}
 
 abbrev pub stamp_shown : StampRow → Row
 stamp_shown s =
@@ -13,6 +13,18 @@ stamp_shown s =
 
 abbrev pub origin_shown : StampRow → Row
 origin_shown s = Text s.account ∷ Int (pos s.gen_time) ∷ []
+
+abbrev pub last_shown : StampRow → Row
+last_shown s = Int (pos s.serial) ∷ Int (pos s.gen_time) ∷ []
+
+abbrev pub count_shown : TallyRow → Row
+count_shown t = Int (pos t.count) ∷ []
+
+abbrev pub calibration_shown : CalibrationRow → Row
+calibration_shown c = Int (pos c.n) ∷ Int c.reading ∷ Int c.offset ∷ Int (pos c.uncertainty) ∷ []
+
+abbrev pub hold_number_shown : HoldRow → Row
+hold_number_shown h = Int (pos h.n) ∷ []
 
 abbrev pub deposit_shown : DepositRow → Row
 deposit_shown d = Int (pos d.serial) ∷ Text d.owner ∷ Text d.reference ∷ Blob d.bytes ∷ []

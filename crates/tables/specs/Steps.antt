@@ -1,6 +1,7 @@
--- The step of each statement, of which a change may take several.
+-- The step of each statement, of which an entry may take several.
 use Rattle.std.specs.Prelude.{ℕ, List, ◌∷◌, map}
-use Rattle.tables.specs.Tables.{Tables, StampRow, raised_row, with_one_more}
+use Rattle.book.specs.Readers.{Reader}
+use Rattle.tables.specs.Tables.{Tables, StampRow, raised_row, with_one_more, changed_right}
 
 abbrev pub with_stamp_alone : StampRow → Tables → Tables
 with_stamp_alone row t = record t { stamps = row ∷ t.stamps }
@@ -14,9 +15,6 @@ with_first_tally account day t = record t { tallies = record { account = account
 abbrev pub with_count : List ℕ → ℕ → Tables → Tables
 with_count account day t = record t { tallies = with_one_more account day t.tallies }
 
-abbrev pub with_reader_alone : ℕ → List ℕ → Tables → Tables
-with_reader_alone serial account t = record t { readers = record { serial = serial; name = account } ∷ t.readers }
-
-abbrev pub with_group_reader_alone : ℕ → List ℕ → Tables → Tables
-with_group_reader_alone serial name t =
-    record t { group_readers = record { serial = serial; name = name } ∷ t.group_readers }
+abbrev pub with_right_alone : ℕ → Reader → Tables → Tables
+with_right_alone serial reader t =
+    changed_right reader (λ name rows. record { serial = serial; name = name } ∷ rows) t

@@ -4,6 +4,7 @@
 use Rattle.std.specs.Prelude.{ℕ, ◌+◌, ℤ, Bool, not, ◌&&◌, ◌==◌, if◌then◌else◌, List, [], ◌∷◌, map, filter, bytes_eq}
 use Rattle.std.specs.Prelude.{Some}
 use Rattle.std.specs.List.{list_any}
+use Rattle.book.specs.Readers.{Reader, Account, Group}
 pub use Rattle.book.specs.Rows.{StampRow, DepositRow, InstalledRow}
 
 pub record CalibrationRow : Type 0 where
@@ -108,21 +109,40 @@ with_hold row t = record t { holds = row ∷ t.holds }
 abbrev pub with_identity : InstalledRow → Tables → Tables
 with_identity row t = record t { identities = row ∷ t.identities }
 
-abbrev pub without_reader : ℕ → List ℕ → Tables → Tables
-without_reader serial account t =
-    record t { readers = filter (λ row. not (is_reader_row serial account row)) t.readers }
+-- The right of a name to a deposit, taken, and given: it is there once, however often it is given.
+abbrev pub without_name : ℕ → List ℕ → List ReaderRow → List ReaderRow
+without_name serial name rows = filter (λ row. not (is_reader_row serial name row)) rows
 
--- a right is there once, however often it is granted
-abbrev pub with_reader : ℕ → List ℕ → Tables → Tables
-with_reader serial account t =
-    let others = without_reader serial account t in
-    record others { readers = record { serial = serial; name = account } ∷ others.readers }
+abbrev pub with_name : ℕ → List ℕ → List ReaderRow → List ReaderRow
+with_name serial name rows = record { serial = serial; name = name } ∷ without_name serial name rows
 
-abbrev pub without_group_reader : ℕ → List ℕ → Tables → Tables
-without_group_reader serial name t =
-    record t { group_readers = filter (λ row. not (is_reader_row serial name row)) t.group_readers }
+-- a change of the rights of accounts, where the reader is one
+abbrev pub if_account : Reader → (List ℕ → List ReaderRow → List ReaderRow) → List ReaderRow → List ReaderRow
+if_account (Account name) change rows = change name rows
+if_account (Group name) change rows = rows
 
-abbrev pub with_group_reader : ℕ → List ℕ → Tables → Tables
-with_group_reader serial name t =
-    let others = without_group_reader serial name t in
-    record others { group_readers = record { serial = serial; name = name } ∷ others.group_readers }
+-- and of groups
+abbrev pub if_group : Reader → (List ℕ → List ReaderRow → List ReaderRow) → List ReaderRow → List ReaderRow
+if_group (Account name) change rows = rows
+if_group (Group name) change rows = change name rows
+
+abbrev pub changed_right : Reader → (List ℕ → List ReaderRow → List ReaderRow) → Tables → Tables
+changed_right reader change t = record t {
+  readers = if_account reader change t.readers;
+  group_readers = if_group reader change t.group_readers;
+}
+
+abbrev pub without_right : ℕ → Reader → Tables → Tables
+without_right serial reader t = changed_right reader (without_name serial) t
+
+abbrev pub with_right : ℕ → Reader → Tables → Tables
+with_right serial reader t = changed_right reader (with_name serial) t
+
+-- the rights of accounts, and of groups
+abbrev pub rights_of : Reader → Tables → List ReaderRow
+rights_of (Account name) t = t.readers
+rights_of (Group name) t = t.group_readers
+
+abbrev pub name_of : Reader → List ℕ
+name_of (Account name) = name
+name_of (Group name) = name

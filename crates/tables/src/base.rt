@@ -1,36 +1,33 @@
 //! A connection to the tables' database, with the count of its faults.
 
-ghost use Rattle.std.specs.Prelude.{◌≡◌, ◌⊎◌, false, Ok, Err, IfOk, IfErr, OnOk, OnErr, MatchResult, IsTrue};
-ghost use Rattle.sqlite.specs.Does.{lacks_sequence};
+ghost use Rattle.std.specs.Prelude.{◌≡◌, ◌⊎◌, ◌<◌, length, false, Ok, Err, IfOk, IfErr, OnOk, OnErr};
 ghost use Rattle.sqlite.specs.Held.{state};
 ghost use Rattle.sqlite.specs.State.{HasCleanDisk};
+ghost use Rattle.book.specs.Entries.{entries_view};
 ghost use Rattle.tables.specs.Asking.{Looks, StaysUsable};
-ghost use Rattle.tables.specs.Beside.{MakesBeside, LeavesOrMakesBeside, IsUntaken};
 ghost use Rattle.tables.specs.Opening.{IsFound, LooksOurs, LooksForeign, Creates, IsInTheWay, IsUntold, takes_name};
 ghost use Rattle.tables.specs.Schema.{no_schema};
 ghost use Rattle.sqlite_trees.specs.Tree.{Trees};
 ghost use Rattle.tables.specs.Tables.{Tables, no_rows};
 ghost use Rattle.tables.specs.Base.{IsHonest, IsOpen, Keeps, Recovers, IsStored};
-ghost use Rattle.tables.specs.Changes.{applied, IsCounted};
+ghost use Rattle.tables.specs.Changes.{applied_all, IsCounted};
 ghost use Rattle.tables.specs.Faults.{told_using};
 
-mod groups;
-mod identities;
-mod lookups;
-mod queries;
-
-use crate::change::Change;
 use crate::creating::make_tables;
 use crate::fault::{OpenFault, TableFault, Task};
 use crate::opening::{Version, found_version};
-use crate::writing::commit_change;
+use crate::writing::commit_entries;
+use book::Entry;
 use sqlite::{Alter, Connection, Error};
 use std::marker::Model;
 
 /// A connection, and how many of its calls were refused for another cause than memory.
+///
+/// A look-up or a commit is refused with `Memory`, or with `Database`, which counts as a fault: a number of 2^63 or
+/// more is one, since no column can have it.
 #[derive(Drop)]
 pub struct Base<S: Alter + Drop> {
-    conn: Connection<S>,
+    pub(crate) conn: Connection<S>,
     faults: u64,
 }
 
@@ -48,8 +45,7 @@ impl<S: Alter + Drop> Model for Base<S> {
 }
 
 impl<S: Alter + Drop> Base<S> {
-    /// Makes the tables, all in one commit, beside those that the database has, and gives the connection back with a
-    /// refusal.
+    /// Makes the tables in an empty database, all in one commit, and gives the connection back with a refusal.
     pub fn create(mut conn: Connection<S>) -> Result<Base<S>, (OpenFault, Connection<S>)>
         requires { conn.in_transaction ≡ false }
         ensures made { IfOk result (λ base. Creates (state S.Store conn) (state S.Store base.conn) (Ok tt)) }
@@ -59,15 +55,8 @@ impl<S: Alter + Drop> Base<S> {
         ensures uncounted { IfOk result (λ base. base.faults ≡ 0) }
         ensures undone { IfErr result (λ e. (error : _)
             × Creates (state S.Store conn) (state S.Store e.1) (Err error)) }
-        ensures beside { IfOk result (λ base. MakesBeside (state S.Store conn) (state S.Store base.conn)) }
-        ensures left { MatchResult result (λ base. LeavesOrMakesBeside (state S.Store conn) (state S.Store base.conn))
-            (λ e. LeavesOrMakesBeside (state S.Store conn) (state S.Store e.1)) }
         ensures taken { IfErr result (λ e. e.0 ≡ OpenFault.NotOurs → HasCleanDisk (state S.Store e.1)
             → IsInTheWay (state S.Store conn).now.schema) }
-        ensures untold { IfErr result (λ e. e.0 ≡ OpenFault.Database → HasCleanDisk (state S.Store e.1)
-            → lacks_sequence (state S.Store conn).now.schema ≡ false
-            → IsTrue (takes_name (state S.Store conn).now.schema)
-            → IsUntaken (state S.Store conn) (state S.Store e.1)) }
         ensures closed { IfErr result (λ e. e.1.in_transaction ≡ false) }
     {
         match make_tables(&mut conn) {
@@ -103,7 +92,7 @@ impl<S: Alter + Drop> Base<S> {
     }
 
     /// Want of memory as it is, and any other refusal as a fault that is counted.
-    fn fault(&mut self, error: Error) -> TableFault
+    pub(crate) fn fault(&mut self, error: Error) -> TableFault
         ensures value { result ≡ told_using error }
         ensures same { self.new.conn ≡ self.old.conn }
         ensures counted { IsCounted result self.old.faults self.new.faults }
@@ -116,21 +105,23 @@ impl<S: Alter + Drop> Base<S> {
         fault
     }
 
-    /// Makes the change in one commit.
-    pub fn commit(&mut self, change: &Change<'_>) -> Result<(), TableFault>
+    /// Makes what the entries change, the first of them first, all in one commit. The caller's condition is that there
+    /// is an entry.
+    pub fn commit(&mut self, entries: &[Entry<'_>]) -> Result<(), TableFault>
+        requires { 0 < length entries.now }
         ensures honest { IsHonest S.Store self.new → IsHonest S.Store self.old }
         ensures opened { IsHonest S.Store self.new → OnOk result (IsOpen S.Store self.old × IsOpen S.Store self.new) }
         ensures ok { (t : Tables) → Keeps S.Store t self.old
-            → OnOk result (Keeps S.Store (applied change.now t) self.new) }
+            → OnOk result (Keeps S.Store (applied_all (entries_view entries.now) t) self.new) }
         ensures err { (t : Tables) → Keeps S.Store t self.old → OnErr result (Keeps S.Store t self.new) }
         ensures crash { IsHonest S.Store self.new → (db : Trees) → Recovers S.Store self.new db
             → Recovers S.Store self.old db
-            ⊎ ((t : Tables) → Keeps S.Store t self.old → IsStored (applied change.now t) db) }
+            ⊎ ((t : Tables) → Keeps S.Store t self.old → IsStored (applied_all (entries_view entries.now) t) db) }
         ensures usable { StaysUsable (state S.Store self.old.conn) (state S.Store self.new.conn) }
         ensures counted { IfErr result (λ e. IsCounted e self.old.faults self.new.faults) }
         ensures uncounted { OnOk result (self.new.faults ≡ self.old.faults) }
     {
-        match commit_change(&mut self.conn, change) {
+        match commit_entries(&mut self.conn, entries) {
             Ok(()) => Ok(()),
             Err(error) => Err(self.fault(error)),
         }

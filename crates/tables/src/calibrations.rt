@@ -1,19 +1,21 @@
 //! The table of calibrations: the statement that adds one, inside a transaction, and the look-up.
 
-ghost use Rattle.std.specs.Prelude.{◌≡◌, ◌<◌, ◌^◌, false, IsTrue, IfOk, OnOk};
+ghost use Rattle.std.specs.Prelude.{◌≡◌};
 ghost use Rattle.sqlite.specs.Held.{state};
-ghost use Rattle.sqlite.specs.State.{HasCleanDisk};
-ghost use Rattle.tables.specs.Asking.{Looks};
+ghost use Rattle.book.specs.History.{Calibrated};
+ghost use Rattle.book.specs.Values.{calibration_view};
 ghost use Rattle.tables.specs.Carrying.{Carries};
+ghost use Rattle.tables.specs.Changes.{applied};
 ghost use Rattle.tables.specs.Found.{IsGreatestAs};
-ghost use Rattle.tables.specs.Holding.{IsDatabaseOf};
-ghost use Rattle.tables.specs.Queries.{ShowsCalibration};
-ghost use Rattle.tables.specs.Tables.{Tables, with_calibration};
+ghost use Rattle.tables.specs.Queries.{LooksUp, ShowsCalibration};
 
-use crate::asking::{FromRow, first_as, number, signed};
-use crate::rows::LatestCalibration;
-use sqlite::types::{ToSql, ValueRef};
-use sqlite::{Alter, Connection, Error, Row, Transaction};
+use crate::asking::{FromRow, number, number_in, signed};
+use crate::base::Base;
+use crate::fault::TableFault;
+use crate::rows::{LatestCalibration, column};
+use book::Calibration;
+use sqlite::types::ToSql;
+use sqlite::{Alter, Error, Row, Transaction};
 
 const INSERT_CALIBRATION: &str =
     "INSERT INTO calibration (n, reading, offset_us, uncertainty) VALUES (?1, ?2, ?3, ?4)";
@@ -21,28 +23,26 @@ const INSERT_CALIBRATION: &str =
 const LATEST_CALIBRATION: &str =
     "SELECT n, reading, offset_us, uncertainty FROM calibration ORDER BY n DESC LIMIT 1";
 
-pub(crate) fn put_calibration<'a, S: Alter>(
+/// Adds a calibration, under the number that comes next.
+pub(crate) fn put_calibration<S: Alter>(
     tx: &mut Transaction<'_, S>,
-    n: u64,
-    reading: &'a i64,
-    offset: &'a i64,
-    uncertainty: u64,
+    calibration: &Calibration,
 ) -> Result<usize, Error>
-    requires number { n < 2 ^ 63 }
-    requires uncertainty { uncertainty < 2 ^ 63 }
     ensures same_reference { tx.new.conn.ghost_name ≡ tx.old.conn.ghost_name }
-    ensures carries { Carries
-        (with_calibration (record { n = n; reading = reading.now; offset = offset.now; uncertainty = uncertainty }))
+    ensures carries { Carries (applied (Calibrated (calibration_view calibration.now)))
         (state S.Store tx.old.conn.now) (state S.Store tx.new.conn.now) result }
 {
+    let greatest = number_in(tx, LATEST_CALIBRATION)?;
+    let n = column(greatest + 1)?;
+    let uncertainty = column(calibration.uncertainty)?;
+    let Calibration {
+        reading,
+        offset,
+        ..
+    } = calibration;
     tx.execute(
         INSERT_CALIBRATION,
-        &[
-            ValueRef::Int(n as i64),
-            reading.to_sql(),
-            offset.to_sql(),
-            ValueRef::Int(uncertainty as i64),
-        ],
+        &[n, reading.to_sql(), offset.to_sql(), uncertainty],
     )
 }
 
@@ -68,16 +68,12 @@ impl FromRow for LatestCalibration {
     }
 }
 
-/// The calibration with the greatest number.
-pub(crate) fn latest_calibration<S: Alter>(
-    conn: &mut Connection<S>,
-) -> Result<Option<LatestCalibration>, Error>
-    requires { conn.old.in_transaction ≡ false }
-    ensures closed { conn.new.in_transaction ≡ false }
-    ensures looks { Looks (state S.Store conn.old) (state S.Store conn.new) }
-    ensures opened { HasCleanDisk (state S.Store conn.new) → OnOk result (IsTrue (state S.Store conn.old).is_open) }
-    ensures value { HasCleanDisk (state S.Store conn.new) → (t : Tables) → IsDatabaseOf t (state S.Store conn.old).now
-        → IfOk result (λ found. IsGreatestAs ShowsCalibration (λ row. row.n) t.calibrations found) }
-{
-    first_as(conn, LATEST_CALIBRATION, &[])
+impl<S: Alter + Drop> Base<S> {
+    /// The calibration with the greatest number.
+    pub fn latest_calibration(&mut self) -> Result<Option<LatestCalibration>, TableFault>
+        ensures { LooksUp S.Store (λ t c. IsGreatestAs ShowsCalibration (λ row. row.n) t.calibrations c)
+            self.old self.new result }
+    {
+        self.first_as(LATEST_CALIBRATION, &[])
+    }
 }

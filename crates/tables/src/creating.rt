@@ -1,17 +1,14 @@
 //! Making the tables.
 
-ghost use Rattle.std.specs.Prelude.{◌≡◌, ◌≢◌, true, false, IsTrue, IfOk, IfErr, OnOk};
-ghost use Rattle.sqlite.specs.Does.{lacks_sequence};
-ghost use Rattle.sqlite.specs.Effect.{IsDatabase};
+ghost use Rattle.std.specs.Prelude.{◌≡◌, true, false, IsTrue, IfOk, IfErr};
 ghost use Rattle.sqlite.specs.Held.{state};
 ghost use Rattle.sqlite.specs.State.{HasCleanDisk};
-ghost use Rattle.tables.specs.Beside.{IsMadeBeside, MakesBeside, LeavesOrMakesBeside, IsUntaken};
 ghost use Rattle.tables.specs.Carrying.{CarriesFrom, CommitsFrom};
 ghost use Rattle.tables.specs.Opening.{IsInTheWay, takes_name, tells_taken};
 ghost use Rattle.tables.specs.Schema.{no_schema};
 ghost use Rattle.tables.specs.Tables.{no_rows};
 
-use sqlite::{Alter, Connection, Error, ErrorCode, Transaction};
+use sqlite::{Alter, Connection, Error, Transaction};
 
 const MAKE_ALL: &str = "CREATE TABLE meta (version INTEGER NOT NULL) STRICT;\
     CREATE TABLE stamp (serial INTEGER PRIMARY KEY, account TEXT NOT NULL, day INTEGER NOT NULL, gen INTEGER NOT NULL, \
@@ -40,15 +37,6 @@ fn make_all<S: Alter>(tx: &mut Transaction<'_, S>) -> Result<(), Error>
         → IfErr result (λ e. tells_taken e ≡ true → IsInTheWay (state S.Store tx.old.conn.now).now.schema) }
     ensures unused { HasCleanDisk (state S.Store tx.new.conn.now)
         → IfOk result (λ _. takes_name (state S.Store tx.old.conn.now).now.schema ≡ false) }
-    ensures beside { HasCleanDisk (state S.Store tx.new.conn.now)
-        → OnOk result (lacks_sequence (state S.Store tx.old.conn.now).now.schema ≡ false
-        → IsMadeBeside (state S.Store tx.old.conn.now).now (state S.Store tx.new.conn.now).now
-        × IsDatabase (state S.Store tx.new.conn.now).now) }
-    ensures untaken { HasCleanDisk (state S.Store tx.new.conn.now) → IsTrue tx.old.conn.now.in_transaction
-        → lacks_sequence (state S.Store tx.old.conn.now).now.schema ≡ false
-        → IsTrue (takes_name (state S.Store tx.old.conn.now).now.schema)
-        → IfErr result (λ e. tells_taken e ≡ false → e ≢ Error.SqliteFailure ErrorCode.OutOfMemory
-        → IsUntaken (state S.Store tx.old.conn.now) (state S.Store tx.new.conn.now)) }
 {
     tx.execute_batch(MAKE_ALL)
 }
@@ -63,12 +51,6 @@ pub fn make_tables<S: Alter>(conn: &mut Connection<S>) -> Result<(), Error>
         → IfErr result (λ e. tells_taken e ≡ true → IsInTheWay (state S.Store conn.old).now.schema) }
     ensures unused { HasCleanDisk (state S.Store conn.new)
         → IfOk result (λ _. takes_name (state S.Store conn.old).now.schema ≡ false) }
-    ensures beside { OnOk result (MakesBeside (state S.Store conn.old) (state S.Store conn.new)) }
-    ensures left { LeavesOrMakesBeside (state S.Store conn.old) (state S.Store conn.new) }
-    ensures untaken { HasCleanDisk (state S.Store conn.new) → lacks_sequence (state S.Store conn.old).now.schema ≡ false
-        → IsTrue (takes_name (state S.Store conn.old).now.schema)
-        → IfErr result (λ e. tells_taken e ≡ false → e ≢ Error.SqliteFailure ErrorCode.OutOfMemory
-        → IsUntaken (state S.Store conn.old) (state S.Store conn.new)) }
 {
     let mut tx = conn.transaction();
     make_all(&mut tx)?;

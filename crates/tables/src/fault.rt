@@ -1,4 +1,4 @@
-ghost use Rattle.std.specs.Prelude.{◌≡◌, ◌≢◌, true, false};
+ghost use Rattle.std.specs.Prelude.{◌≡◌, ◌≢◌, true};
 ghost use Rattle.tables.specs.Faults.{fault_of, opening_fault_of, told, told_using};
 ghost use Rattle.tables.specs.Opening.{tells_taken};
 
@@ -44,7 +44,6 @@ impl OpenFault {
         ensures value { result ≡ told error task }
         ensures never { task ≡ Task.Use → result ≢ OpenFault.NotOurs }
         ensures taken { task ≡ Task.Make → result ≡ OpenFault.NotOurs → tells_taken error ≡ true }
-        ensures named { task ≡ Task.Make → result ≡ OpenFault.Database → tells_taken error ≡ false }
         ensures none { task ≡ Task.Open → result ≡ OpenFault.NotOurs
             → error ≡ Error.SqliteFailure ErrorCode.NotADatabase }
         ensures memory { result ≡ OpenFault.Database → error ≢ Error.SqliteFailure ErrorCode.OutOfMemory }

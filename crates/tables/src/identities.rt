@@ -1,19 +1,23 @@
 //! Identities that follow one another: the statement that adds one, inside a transaction, and the look-ups.
 
-ghost use Rattle.std.specs.Prelude.{◌≡◌, ◌<◌, ◌^◌, false, IfOk, IfSome, OnOk, IsTrue};
+ghost use Rattle.std.specs.Prelude.{◌≡◌};
 ghost use Rattle.sqlite.specs.Held.{state};
-ghost use Rattle.sqlite.specs.State.{HasCleanDisk};
-ghost use Rattle.tables.specs.Asking.{Looks};
+ghost use Rattle.book.specs.History.{Installed};
+ghost use Rattle.book.specs.Values.{installed_of};
 ghost use Rattle.tables.specs.Carrying.{Carries};
-ghost use Rattle.tables.specs.Found.{IsFoundAs, IsGreatestAs};
-ghost use Rattle.tables.specs.Holding.{IsDatabaseOf};
-ghost use Rattle.tables.specs.Queries.{ShowsIdentity, ShowsIdentityNumber};
-ghost use Rattle.tables.specs.Tables.{Tables, is_identity, with_identity};
+ghost use Rattle.tables.specs.Changes.{applied};
+ghost use Rattle.tables.specs.Found.{IsFoundAs};
+ghost use Rattle.tables.specs.Queries.{LooksUp, ShowsIdentity};
+ghost use Rattle.tables.specs.Tables.{is_identity};
 
-use crate::asking::{FromRow, first_as, first_number, number, octets};
-use book::{GREATEST_NUMBER, IdentityRow};
+use crate::asking::{FromRow, number, number_in, octets};
+use crate::base::Base;
+use crate::fault::TableFault;
+use crate::rows::column;
+use crate::stamps::LAST_STAMP;
+use book::IdentityRow;
 use sqlite::types::ValueRef;
-use sqlite::{Alter, Connection, Error, Row, Transaction};
+use sqlite::{Alter, Error, Row, Transaction};
 
 const INSERT_IDENTITY: &str =
     "INSERT INTO identity (n, after_serial, certificate, chain) VALUES (?1, ?2, ?3, ?4)";
@@ -22,30 +26,25 @@ const IDENTITY: &str = "SELECT n, after_serial, certificate, chain FROM identity
 
 const GREATEST_IDENTITY: &str = "SELECT n FROM identity ORDER BY n DESC LIMIT 1";
 
-pub(crate) fn put_identity<'a, S: Alter>(
+/// Adds an identity, under the number that comes next, after the stamps that are there.
+pub(crate) fn put_identity<S: Alter>(
     tx: &mut Transaction<'_, S>,
-    number: u64,
-    after_serial: u64,
-    certificate: &'a [u8],
-    chain: &'a [u8],
+    certificate: &[u8],
+    chain: &[u8],
 ) -> Result<usize, Error>
-    requires number { number < 2 ^ 63 }
-    requires after_serial { after_serial < 2 ^ 63 }
     ensures same_reference { tx.new.conn.ghost_name ≡ tx.old.conn.ghost_name }
-    ensures carries { Carries
-        (with_identity (record {
-          number = number;
-          after_serial = after_serial;
-          certificate = certificate.now;
-          chain = chain.now;
-        }))
+    ensures carries { Carries (applied (Installed (installed_of certificate.now chain.now)))
         (state S.Store tx.old.conn.now) (state S.Store tx.new.conn.now) result }
 {
+    let greatest = number_in(tx, GREATEST_IDENTITY)?;
+    let serial = number_in(tx, LAST_STAMP)?;
+    let number = column(greatest + 1)?;
+    let after_serial = column(serial)?;
     tx.execute(
         INSERT_IDENTITY,
         &[
-            ValueRef::Int(number as i64),
-            ValueRef::Int(after_serial as i64),
+            number,
+            after_serial,
             ValueRef::Blob(certificate),
             ValueRef::Blob(chain),
         ],
@@ -74,33 +73,13 @@ impl FromRow for IdentityRow {
     }
 }
 
-/// The identity with the number.
-pub(crate) fn identity<S: Alter>(
-    conn: &mut Connection<S>,
-    number: u64,
-) -> Result<Option<IdentityRow>, Error>
-    requires { conn.old.in_transaction ≡ false }
-    ensures closed { conn.new.in_transaction ≡ false }
-    ensures looks { Looks (state S.Store conn.old) (state S.Store conn.new) }
-    ensures opened { HasCleanDisk (state S.Store conn.new) → OnOk result (IsTrue (state S.Store conn.old).is_open) }
-    ensures value { HasCleanDisk (state S.Store conn.new) → (t : Tables) → IsDatabaseOf t (state S.Store conn.old).now
-        → IfOk result (λ found. IsFoundAs ShowsIdentity (is_identity number) t.identities found) }
-{
-    if number > GREATEST_NUMBER {
-        return Err(Error::IntegralValueOutOfRange(0));
+impl<S: Alter + Drop> Base<S> {
+    /// The identity with the number.
+    pub fn identity(&mut self, number: u64) -> Result<Option<IdentityRow>, TableFault>
+        ensures { LooksUp S.Store (λ t found. IsFoundAs ShowsIdentity (is_identity number) t.identities found)
+            self.old self.new result }
+    {
+        let number = self.column(number)?;
+        self.first_as(IDENTITY, &[number])
     }
-    first_as(conn, IDENTITY, &[ValueRef::Int(number as i64)])
-}
-
-/// The greatest number of an identity.
-pub(crate) fn greatest_identity<S: Alter>(conn: &mut Connection<S>) -> Result<Option<u64>, Error>
-    requires { conn.old.in_transaction ≡ false }
-    ensures closed { conn.new.in_transaction ≡ false }
-    ensures looks { Looks (state S.Store conn.old) (state S.Store conn.new) }
-    ensures opened { HasCleanDisk (state S.Store conn.new) → OnOk result (IsTrue (state S.Store conn.old).is_open) }
-    ensures value { HasCleanDisk (state S.Store conn.new) → (t : Tables) → IsDatabaseOf t (state S.Store conn.old).now
-        → IfOk result (λ found. IsGreatestAs ShowsIdentityNumber (λ row. row.number) t.identities found) }
-    ensures small { IfOk result (λ found. IfSome found (λ n. n < 2 ^ 63)) }
-{
-    first_number(conn, GREATEST_IDENTITY, &[])
 }

@@ -1,7 +1,22 @@
-ghost use Rattle.std.specs.Prelude.{◌≡◌, ◌<◌, ◌^◌, min};
+ghost use Rattle.std.specs.Prelude.{◌≡◌, ◌<◌, ◌^◌, min, pos, IfOk, IfErr};
+ghost use Rattle.sqlite_value.specs.Value.{owned};
+ghost use Rattle.sqlite_value.specs.declared.value.Value.TheVariants.{Int};
 ghost use Rattle.book.specs.Sound.{greatest_number};
 
 use book::GREATEST_NUMBER;
+use sqlite::Error;
+use sqlite::types::ValueRef;
+
+/// A number as a column of INTEGER has it, where it can.
+pub(crate) fn column<'a>(number: u64) -> Result<ValueRef<'a>, Error>
+    ensures value { IfOk result (λ cell. owned cell ≡ Int (pos number)) }
+    ensures refused { IfErr result (λ _. greatest_number < number) }
+{
+    if number > GREATEST_NUMBER {
+        return Err(Error::IntegralValueOutOfRange(0));
+    }
+    Ok(ValueRef::Int(number as i64))
+}
 
 /// A number that a column of INTEGER can have.
 #[derive(Clone, Copy)]
@@ -18,6 +33,13 @@ impl ColumnNumber {
         ColumnNumber {
             value: number.min(GREATEST_NUMBER),
         }
+    }
+
+    /// As a column of INTEGER has it.
+    pub(crate) fn cell<'a>(self) -> ValueRef<'a>
+        ensures { owned result ≡ Int (pos self.value) }
+    {
+        ValueRef::Int(self.value as i64)
     }
 }
 

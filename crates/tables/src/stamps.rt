@@ -1,23 +1,22 @@
 //! The table of stamps: the statements that change it, inside a transaction, and the look-ups.
 
-ghost use Rattle.std.specs.Prelude.{◌≡◌, ◌<◌, ◌^◌, false, IsTrue, IfOk, None, OnOk};
+ghost use Rattle.std.specs.Prelude.{◌≡◌, None};
 ghost use Rattle.sqlite.specs.Held.{state};
-ghost use Rattle.sqlite.specs.State.{HasCleanDisk};
 ghost use Rattle.book.specs.History.{day_of, stamp_of};
 ghost use Rattle.book.specs.Values.{reservation_view};
-ghost use Rattle.tables.specs.Asking.{Looks};
 ghost use Rattle.tables.specs.Carrying.{Carries};
 ghost use Rattle.tables.specs.Found.{IsFoundAs, IsLeastAs, IsGreatestAs};
-ghost use Rattle.tables.specs.Holding.{IsDatabaseOf};
-ghost use Rattle.tables.specs.Queries.{ShowsStamp, ShowsOrigin, is_within, ShowsLast};
+ghost use Rattle.tables.specs.Queries.{LooksUp, ShowsStamp, ShowsOrigin, ShowsLast, is_within};
 ghost use Rattle.tables.specs.Steps.{with_stamp_alone};
-ghost use Rattle.tables.specs.Tables.{Tables, with_token, is_stamp};
+ghost use Rattle.tables.specs.Tables.{with_token, is_stamp};
 
-use crate::asking::{FromRow, first_as, number, octets, octets_or_none, text};
-use crate::rows::{ColumnNumber, LastStamp, Origin};
-use book::{DAY, GREATEST_NUMBER, Reservation, Stamp};
+use crate::asking::{FromRow, number, octets, octets_or_none, text};
+use crate::base::Base;
+use crate::fault::TableFault;
+use crate::rows::{ColumnNumber, LastStamp, Origin, column};
+use book::{DAY, Reservation, Stamp};
 use sqlite::types::ValueRef;
-use sqlite::{Alter, Connection, Error, Row, Transaction};
+use sqlite::{Alter, Error, Row, Transaction};
 
 const INSERT_STAMP: &str =
     "INSERT INTO stamp (serial, account, day, gen, policy, algorithm, digest, request, tst) VALUES (?1, ?2, ?3, ?4, \
@@ -34,12 +33,11 @@ const NEXT_STAMP: &str =
     "SELECT serial, account, day, gen, policy, algorithm, digest, request, tst, token FROM stamp WHERE serial >= ?1 \
     AND serial <= ?2 ORDER BY serial LIMIT 1";
 
-const LAST_STAMP: &str = "SELECT serial, gen FROM stamp ORDER BY serial DESC LIMIT 1";
+pub(crate) const LAST_STAMP: &str = "SELECT serial, gen FROM stamp ORDER BY serial DESC LIMIT 1";
 
 /// The UTC day of a genTime, counted from 1970-01-01.
 pub(crate) fn day_of(gen_time: u64) -> u64
-    ensures value { result ≡ day_of gen_time }
-    ensures small { gen_time < 2 ^ 63 → result < 2 ^ 63 }
+    ensures { result ≡ day_of gen_time }
 {
     gen_time / DAY
 }
@@ -48,20 +46,20 @@ pub(crate) fn put_stamp<S: Alter>(
     tx: &mut Transaction<'_, S>,
     reservation: &Reservation<'_>,
 ) -> Result<usize, Error>
-    requires serial { reservation.now.serial < 2 ^ 63 }
-    requires gen_time { reservation.now.gen_time < 2 ^ 63 }
     ensures same_reference { tx.new.conn.ghost_name ≡ tx.old.conn.ghost_name }
     ensures carries { Carries (with_stamp_alone (stamp_of None (reservation_view reservation.now)))
         (state S.Store tx.old.conn.now) (state S.Store tx.new.conn.now) result }
 {
-    let day = day_of(reservation.gen_time);
+    let serial = column(reservation.serial)?;
+    let gen_time = column(reservation.gen_time)?;
+    let day = column(day_of(reservation.gen_time))?;
     tx.execute(
         INSERT_STAMP,
         &[
-            ValueRef::Int(reservation.serial as i64),
+            serial,
             ValueRef::Text(reservation.account.as_bytes()),
-            ValueRef::Int(day as i64),
-            ValueRef::Int(reservation.gen_time as i64),
+            day,
+            gen_time,
             ValueRef::Blob(reservation.policy),
             ValueRef::Blob(reservation.algorithm),
             ValueRef::Blob(reservation.digest),
@@ -76,15 +74,12 @@ pub(crate) fn set_token<S: Alter>(
     serial: u64,
     token: &[u8],
 ) -> Result<usize, Error>
-    requires { serial < 2 ^ 63 }
     ensures same_reference { tx.new.conn.ghost_name ≡ tx.old.conn.ghost_name }
     ensures carries { Carries (with_token serial token.now) (state S.Store tx.old.conn.now)
         (state S.Store tx.new.conn.now) result }
 {
-    tx.execute(
-        SET_TOKEN,
-        &[ValueRef::Int(serial as i64), ValueRef::Blob(token)],
-    )
+    let serial = column(serial)?;
+    tx.execute(SET_TOKEN, &[serial, ValueRef::Blob(token)])
 }
 
 impl FromRow for Stamp {
@@ -150,70 +145,42 @@ impl FromRow for LastStamp {
     }
 }
 
-/// The stamp with the serial number.
-pub(crate) fn stamp<S: Alter>(conn: &mut Connection<S>, serial: u64) -> Result<Option<Stamp>, Error>
-    requires { conn.old.in_transaction ≡ false }
-    ensures closed { conn.new.in_transaction ≡ false }
-    ensures looks { Looks (state S.Store conn.old) (state S.Store conn.new) }
-    ensures opened { HasCleanDisk (state S.Store conn.new) → OnOk result (IsTrue (state S.Store conn.old).is_open) }
-    ensures value { HasCleanDisk (state S.Store conn.new) → (t : Tables) → IsDatabaseOf t (state S.Store conn.old).now
-        → IfOk result (λ found. IsFoundAs ShowsStamp (is_stamp serial) t.stamps found) }
-{
-    if serial > GREATEST_NUMBER {
-        return Err(Error::IntegralValueOutOfRange(0));
+impl<S: Alter + Drop> Base<S> {
+    /// The stamp with the serial number.
+    pub fn stamp(&mut self, serial: u64) -> Result<Option<Stamp>, TableFault>
+        ensures { LooksUp S.Store (λ t found. IsFoundAs ShowsStamp (is_stamp serial) t.stamps found)
+            self.old self.new result }
+    {
+        let serial = self.column(serial)?;
+        self.first_as(STAMP, &[serial])
     }
-    first_as(conn, STAMP, &[ValueRef::Int(serial as i64)])
-}
 
-/// The account and the genTime of the stamp with the serial number.
-pub(crate) fn origin<S: Alter>(
-    conn: &mut Connection<S>,
-    serial: u64,
-) -> Result<Option<Origin>, Error>
-    requires { conn.old.in_transaction ≡ false }
-    ensures closed { conn.new.in_transaction ≡ false }
-    ensures looks { Looks (state S.Store conn.old) (state S.Store conn.new) }
-    ensures opened { HasCleanDisk (state S.Store conn.new) → OnOk result (IsTrue (state S.Store conn.old).is_open) }
-    ensures value { HasCleanDisk (state S.Store conn.new) → (t : Tables) → IsDatabaseOf t (state S.Store conn.old).now
-        → IfOk result (λ found. IsFoundAs ShowsOrigin (is_stamp serial) t.stamps found) }
-{
-    if serial > GREATEST_NUMBER {
-        return Err(Error::IntegralValueOutOfRange(0));
+    /// The account and the genTime of the stamp with the serial number.
+    pub fn origin(&mut self, serial: u64) -> Result<Option<Origin>, TableFault>
+        ensures { LooksUp S.Store (λ t found. IsFoundAs ShowsOrigin (is_stamp serial) t.stamps found)
+            self.old self.new result }
+    {
+        let serial = self.column(serial)?;
+        self.first_as(ORIGIN, &[serial])
     }
-    first_as(conn, ORIGIN, &[ValueRef::Int(serial as i64)])
-}
 
-/// The stamp with the least serial number from `from` on and up to `to`.
-pub(crate) fn next_stamp<S: Alter>(
-    conn: &mut Connection<S>,
-    from: ColumnNumber,
-    to: ColumnNumber,
-) -> Result<Option<Stamp>, Error>
-    requires { conn.old.in_transaction ≡ false }
-    ensures closed { conn.new.in_transaction ≡ false }
-    ensures looks { Looks (state S.Store conn.old) (state S.Store conn.new) }
-    ensures opened { HasCleanDisk (state S.Store conn.new) → OnOk result (IsTrue (state S.Store conn.old).is_open) }
-    ensures value { HasCleanDisk (state S.Store conn.new) → (t : Tables) → IsDatabaseOf t (state S.Store conn.old).now
-        → IfOk result (λ found. IsLeastAs ShowsStamp (λ row. row.serial) (is_within from.value to.value) t.stamps found) }
-{
-    first_as(
-        conn,
-        NEXT_STAMP,
-        &[
-            ValueRef::Int(from.value as i64),
-            ValueRef::Int(to.value as i64),
-        ],
-    )
-}
+    /// The stamp with the least serial number from `from` on and up to `to`.
+    pub fn next_stamp(
+        &mut self,
+        from: ColumnNumber,
+        to: ColumnNumber,
+    ) -> Result<Option<Stamp>, TableFault>
+        ensures { LooksUp S.Store (λ t found. IsLeastAs ShowsStamp (λ row. row.serial) (is_within from.value to.value)
+            t.stamps found) self.old self.new result }
+    {
+        self.first_as(NEXT_STAMP, &[from.cell(), to.cell()])
+    }
 
-/// The stamp with the greatest serial number.
-pub(crate) fn greatest_stamp<S: Alter>(conn: &mut Connection<S>) -> Result<Option<LastStamp>, Error>
-    requires { conn.old.in_transaction ≡ false }
-    ensures closed { conn.new.in_transaction ≡ false }
-    ensures looks { Looks (state S.Store conn.old) (state S.Store conn.new) }
-    ensures opened { HasCleanDisk (state S.Store conn.new) → OnOk result (IsTrue (state S.Store conn.old).is_open) }
-    ensures value { HasCleanDisk (state S.Store conn.new) → (t : Tables) → IsDatabaseOf t (state S.Store conn.old).now
-        → IfOk result (λ last. IsGreatestAs ShowsLast (λ row. row.serial) t.stamps last) }
-{
-    first_as(conn, LAST_STAMP, &[])
+    /// The stamp with the greatest serial number.
+    pub fn greatest_stamp(&mut self) -> Result<Option<LastStamp>, TableFault>
+        ensures { LooksUp S.Store (λ t last. IsGreatestAs ShowsLast (λ row. row.serial) t.stamps last)
+            self.old self.new result }
+    {
+        self.first_as(LAST_STAMP, &[])
+    }
 }

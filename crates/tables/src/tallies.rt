@@ -1,20 +1,20 @@
 //! The table of tallies: the statements that raise one, inside a transaction, and the look-up.
 
-ghost use Rattle.std.specs.Prelude.{◌≡◌, ◌<◌, ◌^◌, false, IsTrue, IfOk, length, filter, OnOk};
+ghost use Rattle.std.specs.Prelude.{◌≡◌, IsTrue, IfOk, length, filter};
 ghost use Rattle.sqlite.specs.Held.{state};
 ghost use Rattle.sqlite.specs.State.{HasCleanDisk};
-ghost use Rattle.tables.specs.Asking.{Looks};
 ghost use Rattle.tables.specs.Carrying.{Carries};
 ghost use Rattle.tables.specs.Found.{IsFoundAs};
 ghost use Rattle.tables.specs.Holding.{IsDatabaseOf};
-ghost use Rattle.tables.specs.Queries.{ShowsCount};
+ghost use Rattle.tables.specs.Queries.{LooksUp, ShowsCount};
 ghost use Rattle.tables.specs.Steps.{with_raised, with_first_tally, with_count};
 ghost use Rattle.tables.specs.Tables.{Tables, is_tally_of};
 
-use crate::asking::first_number;
-use crate::rows::ColumnNumber;
+use crate::base::Base;
+use crate::fault::TableFault;
+use crate::rows::{ColumnNumber, column};
 use sqlite::types::ValueRef;
-use sqlite::{Alter, Connection, Error, Transaction};
+use sqlite::{Alter, Error, Transaction};
 
 const RAISE_TALLY: &str = "UPDATE tally SET count = count + 1 WHERE account = ?1 AND day = ?2";
 
@@ -27,7 +27,6 @@ fn raise_tally<S: Alter>(
     account: &str,
     day: u64,
 ) -> Result<usize, Error>
-    requires { day < 2 ^ 63 }
     ensures same_reference { tx.new.conn.ghost_name ≡ tx.old.conn.ghost_name }
     ensures carries { Carries (with_raised account.now day) (state S.Store tx.old.conn.now)
         (state S.Store tx.new.conn.now) result }
@@ -36,13 +35,8 @@ fn raise_tally<S: Alter>(
         → IfOk result (λ count. (t : Tables) → IsDatabaseOf t (state S.Store tx.old.conn.now).now → count
         ≡ length (filter (is_tally_of account.now day) t.tallies)) }
 {
-    tx.execute(
-        RAISE_TALLY,
-        &[
-            ValueRef::Text(account.as_bytes()),
-            ValueRef::Int(day as i64),
-        ],
-    )
+    let day = column(day)?;
+    tx.execute(RAISE_TALLY, &[ValueRef::Text(account.as_bytes()), day])
 }
 
 fn first_tally<S: Alter>(
@@ -50,18 +44,12 @@ fn first_tally<S: Alter>(
     account: &str,
     day: u64,
 ) -> Result<usize, Error>
-    requires { day < 2 ^ 63 }
     ensures same_reference { tx.new.conn.ghost_name ≡ tx.old.conn.ghost_name }
     ensures carries { Carries (with_first_tally account.now day) (state S.Store tx.old.conn.now)
         (state S.Store tx.new.conn.now) result }
 {
-    tx.execute(
-        FIRST_TALLY,
-        &[
-            ValueRef::Text(account.as_bytes()),
-            ValueRef::Int(day as i64),
-        ],
-    )
+    let day = column(day)?;
+    tx.execute(FIRST_TALLY, &[ValueRef::Text(account.as_bytes()), day])
 }
 
 /// One more for the account on the day.
@@ -70,7 +58,6 @@ pub(crate) fn count_stamp<S: Alter>(
     account: &str,
     day: u64,
 ) -> Result<usize, Error>
-    requires { day < 2 ^ 63 }
     ensures same_reference { tx.new.conn.ghost_name ≡ tx.old.conn.ghost_name }
     ensures carries { Carries (with_count account.now day) (state S.Store tx.old.conn.now)
         (state S.Store tx.new.conn.now) result }
@@ -83,25 +70,12 @@ pub(crate) fn count_stamp<S: Alter>(
     }
 }
 
-/// How many stamps the account has on the day, where a row says it.
-pub(crate) fn tally<S: Alter>(
-    conn: &mut Connection<S>,
-    account: &str,
-    day: ColumnNumber,
-) -> Result<Option<u64>, Error>
-    requires { conn.old.in_transaction ≡ false }
-    ensures closed { conn.new.in_transaction ≡ false }
-    ensures looks { Looks (state S.Store conn.old) (state S.Store conn.new) }
-    ensures opened { HasCleanDisk (state S.Store conn.new) → OnOk result (IsTrue (state S.Store conn.old).is_open) }
-    ensures value { HasCleanDisk (state S.Store conn.new) → (t : Tables) → IsDatabaseOf t (state S.Store conn.old).now
-        → IfOk result (λ count. IsFoundAs ShowsCount (is_tally_of account.now day.value) t.tallies count) }
-{
-    first_number(
-        conn,
-        TALLY,
-        &[
-            ValueRef::Text(account.as_bytes()),
-            ValueRef::Int(day.value as i64),
-        ],
-    )
+impl<S: Alter + Drop> Base<S> {
+    /// How many stamps the account has on the day, where a row says it.
+    pub fn tally(&mut self, account: &str, day: ColumnNumber) -> Result<Option<u64>, TableFault>
+        ensures { LooksUp S.Store (λ t count. IsFoundAs ShowsCount (is_tally_of account.now day.value) t.tallies count)
+            self.old self.new result }
+    {
+        self.first_number(TALLY, &[ValueRef::Text(account.as_bytes()), day.cell()])
+    }
 }

@@ -1,36 +1,34 @@
-//! The change of each kind, made inside a transaction, and the one commit.
+//! What each entry changes, made inside a transaction, and the one commit.
 
-ghost use Rattle.std.specs.Prelude.{◌≡◌, ◌↔◌, false, IsTrue};
+ghost use Rattle.std.specs.Prelude.{◌≡◌, ◌<◌, false, length};
 ghost use Rattle.sqlite.specs.Held.{state};
+ghost use Rattle.book.specs.Entries.{entry_view, entries_view};
 ghost use Rattle.tables.specs.Carrying.{Carries, Commits};
-ghost use Rattle.tables.specs.Changes.{applied, FitsColumns};
+ghost use Rattle.tables.specs.Changes.{applied, applied_all};
 
 use crate::calibrations::put_calibration;
-use crate::change::Change;
 use crate::deposits::put_deposit;
-use crate::group_readers::{drop_group_reader, put_group_reader};
 use crate::holds::put_hold;
 use crate::identities::put_identity;
-use crate::readers::{drop_reader, put_reader};
+use crate::rights::{drop_right, put_right};
 use crate::stamps::{day_of, put_stamp, set_token};
 use crate::tallies::count_stamp;
-use book::GREATEST_NUMBER;
+use book::Entry;
 use sqlite::{Alter, Connection, Error, Transaction};
 
-/// Makes the change, whose numbers the columns can have.
-fn make<S: Alter>(tx: &mut Transaction<'_, S>, change: &Change<'_>) -> Result<usize, Error>
-    requires { FitsColumns change.now }
+/// Makes what an entry changes.
+fn make<S: Alter>(tx: &mut Transaction<'_, S>, entry: &Entry<'_>) -> Result<usize, Error>
     ensures same_reference { tx.new.conn.ghost_name ≡ tx.old.conn.ghost_name }
-    ensures carries { Carries (applied change.now) (state S.Store tx.old.conn.now) (state S.Store tx.new.conn.now)
-        result }
+    ensures carries { Carries (applied (entry_view entry.now)) (state S.Store tx.old.conn.now)
+        (state S.Store tx.new.conn.now) result }
 {
-    match change {
-        Change::Reserve(reservation) => {
+    match entry {
+        Entry::Reserved(reservation) => {
             put_stamp(tx, reservation)?;
             count_stamp(tx, reservation.account, day_of(reservation.gen_time))
         }
-        Change::Seal { serial, token } => set_token(tx, *serial, token),
-        Change::Deposit {
+        Entry::Sealed { serial, token } => set_token(tx, *serial, token),
+        Entry::Deposited {
             serial,
             token,
             owner,
@@ -40,67 +38,42 @@ fn make<S: Alter>(tx: &mut Transaction<'_, S>, change: &Change<'_>) -> Result<us
             set_token(tx, *serial, token)?;
             put_deposit(tx, *serial, owner, reference, bytes)
         }
-        Change::Calibrate {
-            n,
-            reading,
-            offset,
-            uncertainty,
-        } => put_calibration(tx, *n, reading, offset, *uncertainty),
-        Change::Hold { n, from, to } => put_hold(tx, *n, from, to),
-        Change::Grant { serial, account } => {
-            drop_reader(tx, *serial, account)?;
-            put_reader(tx, *serial, account)
+        Entry::Calibrated(calibration) => put_calibration(tx, calibration),
+        Entry::Held(hold) => put_hold(tx, hold),
+        Entry::Granted { number, reader } => {
+            drop_right(tx, *number, reader)?;
+            put_right(tx, *number, reader)
         }
-        Change::Revoke { serial, account } => drop_reader(tx, *serial, account),
-        Change::GrantGroup { serial, name } => {
-            drop_group_reader(tx, *serial, name)?;
-            put_group_reader(tx, *serial, name)
-        }
-        Change::RevokeGroup { serial, name } => drop_group_reader(tx, *serial, name),
-        Change::Install {
-            number,
-            after_serial,
-            certificate,
-            chain,
-        } => put_identity(tx, *number, *after_serial, certificate, chain),
+        Entry::Revoked { number, reader } => drop_right(tx, *number, reader),
+        Entry::Installed { certificate, chain } => put_identity(tx, certificate, chain),
     }
 }
 
-/// Whether the columns can have the numbers of the change.
-fn fits(change: &Change<'_>) -> bool
-    ensures { IsTrue result ↔ FitsColumns change.now }
+/// Makes what each entry changes, in turn.
+fn make_each<S: Alter>(tx: &mut Transaction<'_, S>, entries: &[Entry<'_>]) -> Result<(), Error>
+    requires { 0 < length entries.now }
+    ensures same_reference { tx.new.conn.ghost_name ≡ tx.old.conn.ghost_name }
+    ensures carries { Carries (applied_all (entries_view entries.now)) (state S.Store tx.old.conn.now)
+        (state S.Store tx.new.conn.now) result }
 {
-    match *change {
-        Change::Reserve(reservation) => {
-            reservation.serial <= GREATEST_NUMBER && reservation.gen_time <= GREATEST_NUMBER
-        }
-        Change::Seal { serial, .. }
-        | Change::Deposit { serial, .. }
-        | Change::Grant { serial, .. }
-        | Change::Revoke { serial, .. }
-        | Change::GrantGroup { serial, .. }
-        | Change::RevokeGroup { serial, .. } => serial <= GREATEST_NUMBER,
-        Change::Calibrate { n, uncertainty, .. } => n <= GREATEST_NUMBER
-            && uncertainty <= GREATEST_NUMBER,
-        Change::Hold { n, .. } => n <= GREATEST_NUMBER,
-        Change::Install {
-            number,
-            after_serial,
-            ..
-        } => number <= GREATEST_NUMBER && after_serial <= GREATEST_NUMBER,
+    for entry in entries {
+        make(tx, entry)?;
     }
+    Ok(())
 }
 
-/// Makes the change in one commit.
-pub fn commit_change<S: Alter>(conn: &mut Connection<S>, change: &Change<'_>) -> Result<(), Error>
-    requires { conn.old.in_transaction ≡ false }
+/// Makes what each entry changes, in turn, in one commit.
+pub fn commit_entries<S: Alter>(
+    conn: &mut Connection<S>,
+    entries: &[Entry<'_>],
+) -> Result<(), Error>
+    requires settled { conn.old.in_transaction ≡ false }
+    requires some { 0 < length entries.now }
     ensures closed { conn.new.in_transaction ≡ false }
-    ensures commits { Commits (applied change.now) (state S.Store conn.old) (state S.Store conn.new) result }
+    ensures commits { Commits (applied_all (entries_view entries.now)) (state S.Store conn.old) (state S.Store conn.new)
+        result }
 {
-    if !fits(change) {
-        return Err(Error::IntegralValueOutOfRange(0));
-    }
     let mut tx = conn.transaction();
-    make(&mut tx, change)?;
+    make_each(&mut tx, entries)?;
     tx.commit()
 }

@@ -1,5 +1,5 @@
 //! What has to hold of a counter's history, by what those who asked it were told.
-use crate::failing::journey::OCTETS;
+use crate::failing::journey::{EARLY_HOLDS, OCTETS, READERS};
 use crate::failing::ledger::{Ledger, Sight};
 use crate::fields::stand_in;
 use crate::setting::Setting;
@@ -172,6 +172,25 @@ fn check_sight<B: Book + Drop>(desk: &mut Desk<'_, B>, ledger: &mut Ledger, numb
     ledger.sight = found;
 }
 
+/// Whether the entries of the one commit are there; none where a part of them is, or where it isn't answered.
+fn are_added<B: Book>(book: &mut B, number: u64) -> Option<bool> {
+    let [first, second] = EARLY_HOLDS;
+    let first = book.held_at(first.from).ok()?;
+    let second = book.held_at(second.from).ok()?;
+    let reads = book.visible(number, "", &[READERS]).ok()?;
+    (first == second && second == reads).then_some(first)
+}
+
+/// Looks whether a commit left all of its entries or none, and all if it was acknowledged.
+fn check_entries<B: Book>(book: &mut B, ledger: &mut Ledger, number: u64) {
+    let found = are_added(book, number);
+    ledger.expect(found.is_some(), "a part of a commit is there");
+    ledger.expect(
+        !ledger.is_appended || found == Some(true),
+        "entries of a commit are lost",
+    );
+}
+
 /// Whether the stamps of an account are counted on the first two days.
 fn are_counted<B: Book>(book: &mut B, stamps: &[Stamp], account: &str) -> bool {
     for day in 0..2u64 {
@@ -234,6 +253,7 @@ fn check_desk<B: Book + Drop>(desk: &mut Desk<'_, B>, ledger: &mut Ledger, stamp
     if let Some(number) = ledger.deposit {
         check_deposit(desk, ledger, stamps, number);
         check_sight(desk, ledger, number);
+        check_entries(desk.store(), ledger, number);
     }
 }
 

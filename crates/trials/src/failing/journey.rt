@@ -3,6 +3,7 @@ use crate::books::calibration_at;
 use crate::failing::ledger::{Ledger, Sight, Step};
 use crate::failing::opening::Look;
 use crate::setting::{REQUEST, RULE_12, Setting};
+use book::{Entry, Hold, Reader};
 use desk::{Begun, Desk, Fault, Reply};
 use policy::Account;
 use store::{Book, StoreFault};
@@ -14,6 +15,11 @@ const LATER: i64 = 86_400_000_000;
 pub const REFERENCE: &str = "plan-7";
 
 pub const OCTETS: &[u8] = b"abc";
+
+/// Holds of moments before all readings, and the group that is given a right beside them.
+pub const EARLY_HOLDS: [Hold; 2] = [Hold { from: -2, to: -1 }, Hold { from: -4, to: -3 }];
+
+pub const READERS: &str = "council";
 
 /// The desk's accounts.
 fn account<'p, B: Book + Drop>(desk: &Desk<'p, B>, name: &str) -> Option<&'p Account> {
@@ -143,6 +149,31 @@ fn succeed<'p, B: Book + Drop>(
     }
 }
 
+/// Adds two holds, and a right of a group between them, in one commit.
+fn append<B: Book + Drop>(desk: &mut Desk<'_, B>, ledger: &mut Ledger) -> bool {
+    let Some(number) = ledger.deposit else {
+        return false;
+    };
+    let [first, second] = EARLY_HOLDS;
+    let right = Entry::Granted {
+        number,
+        reader: Reader::Group(READERS),
+    };
+    match desk
+        .store()
+        .append(&[Entry::Held(first), right, Entry::Held(second)])
+    {
+        Ok(()) => {
+            ledger.is_appended = true;
+            true
+        }
+        Err(fault) => {
+            ledger.expect(fault == StoreFault::Database, "another refusal of entries");
+            false
+        }
+    }
+}
+
 /// Takes the step that isn't acknowledged yet, and tells whether it is then. Where it is looked at, no call of the disk
 /// may count.
 fn take_step<'p, B: Book + Drop>(
@@ -160,6 +191,7 @@ fn take_step<'p, B: Book + Drop>(
         Step::Revoke => set_right(desk, ledger, false),
         Step::Succeed => succeed(desk, setting, ledger),
         Step::StampLater | Step::StampUnder => stamp(desk, ledger, LATER, look),
+        Step::Append => append(desk, ledger),
         Step::Nothing => true,
     }
 }

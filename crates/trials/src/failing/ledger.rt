@@ -25,13 +25,15 @@ pub enum Step {
     Succeed,
     /// A request under it.
     StampUnder,
+    /// Several entries in one commit.
+    Append,
     /// Nothing more.
     Nothing,
 }
 
 impl Step {
     /// How many steps there are.
-    pub const COUNT: u64 = 9;
+    pub const COUNT: u64 = 10;
 
     /// How many there are before the succession, as programs of earlier versions knew them.
     pub const BEFORE_SUCCESSION: u64 = 7;
@@ -47,7 +49,8 @@ impl Step {
             Step::Revoke => Step::StampLater,
             Step::StampLater => Step::Succeed,
             Step::Succeed => Step::StampUnder,
-            Step::StampUnder | Step::Nothing => Step::Nothing,
+            Step::StampUnder => Step::Append,
+            Step::Append | Step::Nothing => Step::Nothing,
         }
     }
 }
@@ -96,6 +99,8 @@ pub struct Ledger {
     pub sight: Sight,
     /// Whether the succession was acknowledged.
     pub is_succeeded: bool,
+    /// Whether the entries of one commit were acknowledged.
+    pub is_appended: bool,
     /// What was found wrong first.
     wrong: Option<&'static str>,
 }
@@ -128,6 +133,7 @@ impl Ledger {
             deposit: None,
             sight: Sight::SeesNot,
             is_succeeded: false,
+            is_appended: false,
             wrong: None,
         })
     }
@@ -152,6 +158,7 @@ impl Ledger {
         copy.deposit = self.deposit;
         copy.sight = self.sight;
         copy.is_succeeded = self.is_succeeded;
+        copy.is_appended = self.is_appended;
         copy.wrong = self.wrong;
         Ok(copy)
     }

@@ -10,8 +10,7 @@ returns-in-Ok-seal_deposit-clause-keeps g c =
     c.deref.result.now c.pending.view_is c.deref.ensures.value c.deref-2.ensures.value c.in-Ok.ensures.text in
     stored g.B.Standing c.args.pending c.args.owner.now c.args.reference.now c.args.bytes.now c.args.signature.now
     c.pending.inside.serial c.deref-2.result.now c.args.store.now c.seal_deposit.new.self
-    (ap (λ (p : PendingValue). p.serial) c.pending.view_is) is c.in-Ok-seal_deposit.ensures.faults
-    c.in-Ok-seal_deposit.ensures.opened c.in-Ok-seal_deposit.ensures.ok
+    (ap (λ (p : PendingValue). p.serial) c.pending.view_is) is c.in-Ok-seal_deposit.ensures.appends
 
 pub returns-clause-keeps : goal.returns-clause-keeps
 returns-clause-keeps g c =
@@ -20,5 +19,4 @@ returns-clause-keeps g c =
     unstored g.B.Standing c.args.pending c.args.owner.now c.args.reference.now c.args.bytes.now c.args.signature.now
     c.pending.inside.serial c.deref-2.result.now c.args.store.now c.seal_deposit.new.self
     c.in-Err-seal_deposit.fault (ap (λ (p : PendingValue). p.serial) c.pending.view_is) is
-    c.in-Err-seal_deposit.ensures.refusals c.in-Err-seal_deposit.ensures.faults c.in-Err-seal_deposit.ensures.err
-    c.in-Err-seal_deposit.ensures.crash
+    c.in-Err-seal_deposit.ensures.refusals c.in-Err-seal_deposit.ensures.appends

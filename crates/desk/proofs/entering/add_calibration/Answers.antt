@@ -10,8 +10,8 @@ pub returns-in-Ok-clause-step : goal.returns-in-Ok-clause-step
 returns-in-Ok-clause-step g c s =
     let x = calibration_view c.args.calibration.now in
     enters_as g.B.Standing s (Calibrate x) (Calibrated x) (λ b. length (calibrations b) + 1)
-    (λ b. is_backwards x (latest_calibration b)) c.args.store.now c.calibrate.new.self c.in-Ok.number (record { has = λ o b e h. h; fits = λ b m. m; made = λ call. (refl, (tt, tt)) }) c.in-Ok.ensures.faults c.in-Ok.ensures.opened
-    c.in-Ok.ensures.ok
+    (λ b. is_backwards x (latest_calibration b)) c.args.store.now c.calibrate.new.self c.in-Ok.number (record { has = λ o b e h. h; fits = λ b m. m; made = λ call. (refl, (tt, tt)) })
+    c.in-Ok.ensures.appends
     (λ honest b stands e.
     let k : false ≡ true = (c.in-Ok.ensures.refused honest b stands e).0 in
     cc) c.in-Ok.ensures.number (λ k. k)
@@ -21,7 +21,7 @@ returns-in-Err-clause-step g c s =
     let x = calibration_view c.args.calibration.now in
     refuses_by g.B.Standing s (Calibrate x) (Calibrated x) (λ b. length (calibrations b) + 1)
     (λ b. is_backwards x (latest_calibration b)) c.args.store.now c.calibrate.new.self c.in-Err.fault (record { has = λ o b e h. h; fits = λ b m. m; made = λ call. (refl, (tt, tt)) }) c.in-Err.ensures.refusals
-    c.in-Err.ensures.faults c.in-Err.ensures.err c.in-Err.ensures.crash
+    c.in-Err.ensures.appends
     (λ honest b stands e. c.in-Err.ensures.backwards honest b stands (ap Err e))
     (λ e honest b stands. c.in-Err.ensures.backwards honest b stands (ap Err e))
     (λ honest b stands e. (c.in-Err.ensures.refused honest b stands e).1)

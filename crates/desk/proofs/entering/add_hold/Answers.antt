@@ -9,7 +9,8 @@ pub returns-in-Ok-clause-step : goal.returns-in-Ok-clause-step
 returns-in-Ok-clause-step g c s =
     let x = hold_view c.args.hold.now in
     enters_as g.B.Standing s (Hold x) (Held x) (λ b. length (holds b) + 1) (λ b. false) c.args.store.now
-    c.hold.new.self c.in-Ok.number (record { has = λ o b e h. h; fits = λ b m. m; made = λ call. (refl, (tt, tt)) }) c.in-Ok.ensures.faults c.in-Ok.ensures.opened c.in-Ok.ensures.ok
+    c.hold.new.self c.in-Ok.number (record { has = λ o b e h. h; fits = λ b m. m; made = λ call. (refl, (tt, tt)) })
+    c.in-Ok.ensures.appends
     (λ honest b stands e. cc) c.in-Ok.ensures.number (λ k. k)
 
 pub returns-in-Err-clause-step : goal.returns-in-Err-clause-step
@@ -18,8 +19,8 @@ returns-in-Err-clause-step g c s =
     refuses_by g.B.Standing s (Hold x) (Held x) (λ b. length (holds b) + 1) (λ b. false) c.args.store.now
     c.hold.new.self c.in-Err.fault
     (record { has = λ o b e h. h; fits = λ b m. m; made = λ call. (refl, (tt, tt)) })
-    (elim c.in-Err.ensures.refusals [ inl e ↦ inl e | inr e ↦ inr (inl e) ]) c.in-Err.ensures.faults
-    c.in-Err.ensures.err c.in-Err.ensures.crash (λ honest b stands e. absurd (elim c.in-Err.ensures.refusals [
+    (elim c.in-Err.ensures.refusals [ inl e ↦ inl e | inr e ↦ inr (inl e) ]) c.in-Err.ensures.appends
+    (λ honest b stands e. absurd (elim c.in-Err.ensures.refusals [
       | inl k ↦ cc
       | inr k ↦ cc
     ])) (λ e. absurd (elim c.in-Err.ensures.refusals [

@@ -14,7 +14,7 @@ returns-in-Ok-seal-clause-step g c s =
     seals g.B.Standing s c.args.pending c.args.signature.now c.pending.inside.serial c.deref-3.result.now
     c.in-Ok-write_granted.bytes.items c.args.store.now c.seal.new.self
     (ap (λ (p : PendingValue). p.serial) c.pending.view_is)
-    is reply c.in-Ok-seal.ensures.faults c.in-Ok-seal.ensures.opened c.in-Ok-seal.ensures.ok
+    is reply c.in-Ok-seal.ensures.appends
 
 pub returns-clause-step : goal.returns-clause-step
 returns-clause-step g c s =
@@ -22,4 +22,4 @@ returns-clause-step g c s =
     c.deref.result.now c.pending.view_is c.deref.ensures.value c.deref-3.ensures.value c.in-Ok.ensures.text in
     refuses g.B.Standing s c.args.pending c.args.signature.now c.pending.inside.serial c.deref-3.result.now
     c.args.store.now c.seal.new.self c.in-Err-seal.fault (ap (λ (p : PendingValue). p.serial) c.pending.view_is) is
-    c.in-Err-seal.ensures.refusals c.in-Err-seal.ensures.faults c.in-Err-seal.ensures.err c.in-Err-seal.ensures.crash
+    c.in-Err-seal.ensures.refusals c.in-Err-seal.ensures.appends

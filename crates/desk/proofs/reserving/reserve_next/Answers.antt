@@ -11,7 +11,7 @@ use Rattle.desk.proofs.reserving.reserve_next.Goals as goal
 
 pub returns-in-Err-clause-counted : goal.returns-in-Err-clause-counted
 returns-in-Err-clause-counted g c =
-    c.in-Err.ensures.faults ∙ (adding_counted c.in-Err.fault (g.B.Standing.fault_count c.args.store.now)
+    c.in-Err.ensures.appends.faults ∙ (adding_counted c.in-Err.fault (g.B.Standing.fault_count c.args.store.now)
     ∙ ap (λ r. faults_after (refused r) (g.B.Standing.fault_count c.args.store.now)) (sym c.adding_refusal.ensures))
 
 pub returns-in-Err-clause-refusals : goal.returns-in-Err-clause-refusals
@@ -33,8 +33,7 @@ returns-in-Err-clause-reserves g c honest b st e =
     (next_is s c.args.account.now plan octets b c.args.planned.last _ _ _ _ _ _ e p.number p.moment
     (c.content.ensures.encoded ∙ ap oid_content p.policy_is) p.algorithm_is p.digest_is
     (c.deref.ensures.value ∙ p.tst_is))
-    (fits_next _ b c.args.planned.last e p.number left p.moment_within) honest st (c.in-Err.ensures.err b st)
-    c.in-Err.ensures.crash)
+    (fits_next _ b c.args.planned.last e p.number left p.moment_within) honest st c.in-Err.ensures.appends)
 
 pub returns-clause-reserves : goal.returns-clause-reserves
 returns-clause-reserves g c honest b st e =
@@ -54,8 +53,8 @@ returns-clause-reserves g c honest b st e =
     (c.deref.ensures.value ∙ p.tst_is))
     (ap (λ t. waiting prepared.serial t prepared.certificate s.in_force.identity s.in_force.algorithm) (sym c.deref.ensures.value)
     ∙ waits_for s plan r prepared.certificate p.certificate_is)
-    honest (c.in-Ok.ensures.opened honest).1
-    (c.in-Ok.ensures.ok b st (fits_next r b c.args.planned.last e p.number left p.moment_within))
+    honest (c.in-Ok.ensures.appends.opened honest).1
+    (c.in-Ok.ensures.appends.ok b st (fits_next r b c.args.planned.last e p.number left p.moment_within, tt))
 
 pub returns-then-planned-ge-GREATEST_NUMBER-clause-reserves
     : goal.returns-then-planned-ge-GREATEST_NUMBER-clause-reserves

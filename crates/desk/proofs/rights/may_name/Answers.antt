@@ -2,7 +2,7 @@ use Rattle.std.proofs.Common.{ap, sym, ◌∙◌}
 use Rattle.std.specs.Str.{bytes_eq}
 use Rattle.policy.specs.View.{policy_view}
 use Rattle.book.specs.Values.{deposit_view}
-use Rattle.desk.specs.Calls.{reader_view}
+use Rattle.book.specs.Entries.{reader_view}
 use Rattle.desk.proofs.Granting.{unseen_named, named_by, uncounted_by}
 use Rattle.desk.proofs.rights.may_name.Goals as goal
 

@@ -1,20 +1,21 @@
 use Rattle.std.proofs.Common.{refl, subst}
 use Rattle.policy.specs.View.{account_view}
+use Rattle.book.specs.Entries.{reader_view}
 use Rattle.book.specs.History.{Revoked}
-use Rattle.desk.specs.Calls.{opening_view, reader_view}
+use Rattle.desk.specs.Calls.{opening_view}
 use Rattle.desk.specs.Command.{Revoke}
 use Rattle.desk.specs.Obstacles.{MayName, MayNot}
 use Rattle.desk.proofs.Granting.{right_entered, right_denied, right_refused}
 use Rattle.desk.proofs.rights.revoke_by.Goals as goal
 
-pub returns-in-Ok-take-clause-step : goal.returns-in-Ok-take-clause-step
-returns-in-Ok-take-clause-step g c =
+pub returns-in-Ok-append-clause-step : goal.returns-in-Ok-append-clause-step
+returns-in-Ok-append-clause-step g c =
     let s = opening_view c.args.opening in
     let a = account_view c.args.account.now in
     let name = reader_view c.args.reader in
     let n = c.args.number in
     right_entered g.B.Standing s (Revoke a n name) a.name name n (Revoked n name) c.args.store.now c.may_name.new.store
-    c.take.new.store (record {
+    c.append.new.self (record {
       righting = λ o b e h. h;
       fits = λ b f. f;
       made = (refl, (tt, tt));
@@ -23,8 +24,7 @@ returns-in-Ok-take-clause-step g c =
       uncounted = c.in-Ok.ensures.counted;
       may = λ honest b st. subst (λ x. MayName s.file x name n b) c.as_str.ensures.value
           (c.in-Ok.ensures.may honest b st);
-    }) c.in-Ok-take.ensures.honest c.in-Ok-take.ensures.faults c.in-Ok-take.ensures.opened
-    c.in-Ok-take.ensures.ok
+    }) c.in-Ok-append.ensures.appends
 
 pub returns-in-Err-clause-step : goal.returns-in-Err-clause-step
 returns-in-Err-clause-step g c =
@@ -38,14 +38,14 @@ returns-in-Err-clause-step g c =
     c.in-Err.ensures.counted (λ honest b st. subst (λ k. MayNot s.file k name n b x) c.as_str.ensures.value
     (c.in-Err.ensures.may honest b st))
 
-pub returns-in-Err-take-clause-step : goal.returns-in-Err-take-clause-step
-returns-in-Err-take-clause-step g c =
+pub returns-in-Err-append-clause-step : goal.returns-in-Err-append-clause-step
+returns-in-Err-append-clause-step g c =
     let s = opening_view c.args.opening in
     let a = account_view c.args.account.now in
     let name = reader_view c.args.reader in
     let n = c.args.number in
     right_refused g.B.Standing s (Revoke a n name) a.name name n (Revoked n name) c.args.store.now c.may_name.new.store
-    c.take.new.store c.in-Err-take.fault (record {
+    c.append.new.self c.in-Err-append.fault (record {
       righting = λ o b e h. h;
       fits = λ b f. f;
       made = (refl, (tt, tt));
@@ -54,5 +54,5 @@ returns-in-Err-take-clause-step g c =
       uncounted = c.in-Ok.ensures.counted;
       may = λ honest b st. subst (λ x. MayName s.file x name n b) c.as_str.ensures.value
           (c.in-Ok.ensures.may honest b st);
-    }) (λ call. (refl, (tt, tt))) (λ f. tt) c.in-Err-take.ensures.refusals
-    c.in-Err-take.ensures.faults c.in-Err-take.ensures.honest c.in-Err-take.ensures.err c.in-Err-take.ensures.crash
+    }) (λ call. (refl, (tt, tt))) (λ f. tt) c.in-Err-append.ensures.refusals
+    c.in-Err-append.ensures.appends

@@ -21,7 +21,7 @@ returns-in-Ok-add-clause-step g c s algorithm =
       looks = c.in-Ok.ensures.looks;
       uncounted = c.in-Ok.ensures.faults;
       other = λ honest b st. sym c.if-latest.false ∙ c.in-Ok.ensures.value honest b st;
-    }) c.in-Ok-add.ensures.honest c.in-Ok-add.ensures.faults c.in-Ok-add.ensures.opened c.in-Ok-add.ensures.ok
+    }) c.in-Ok-add.ensures.appends
 
 pub returns-in-Err-add-clause-step : goal.returns-in-Err-add-clause-step
 returns-in-Err-add-clause-step g c s algorithm =
@@ -30,5 +30,4 @@ returns-in-Err-add-clause-step g c s algorithm =
       looks = c.in-Ok.ensures.looks;
       uncounted = c.in-Ok.ensures.faults;
       other = λ honest b st. sym c.if-latest.false ∙ c.in-Ok.ensures.value honest b st;
-    }) c.in-Err-add.ensures.refusals c.in-Err-add.ensures.faults c.in-Err-add.ensures.honest c.in-Err-add.ensures.err
-    c.in-Err-add.ensures.crash
+    }) c.in-Err-add.ensures.refusals c.in-Err-add.ensures.appends

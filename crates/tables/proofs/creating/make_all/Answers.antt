@@ -1,7 +1,5 @@
-use Rattle.tables.proofs.BesideLemmas.{carried_beside}
 use Rattle.tables.proofs.CreateLemmas.{all_carried}
 use Rattle.tables.proofs.RefusalLemmas.{in_the_way, names_free_if}
-use Rattle.tables.proofs.UntakenLemmas.{untaken}
 use Rattle.tables.proofs.creating.make_all.Goals as goal
 
 pub returns-clause-carries : goal.returns-clause-carries
@@ -14,9 +12,3 @@ returns-clause-taken g c clean = in_the_way g.S.Store _ _ _ (c.execute_batch.ens
 
 pub returns-clause-unused : goal.returns-clause-unused
 returns-clause-unused g c clean = names_free_if g.S.Store _ _ _ (c.execute_batch.ensures.ran clean)
-
-pub returns-clause-beside : goal.returns-clause-beside
-returns-clause-beside g c clean = carried_beside g.S.Store _ _ _ (c.execute_batch.ensures.ran clean)
-
-pub returns-clause-untaken : goal.returns-clause-untaken
-returns-clause-untaken g c clean = untaken g.S.Store _ _ _ (c.execute_batch.ensures.ran clean)

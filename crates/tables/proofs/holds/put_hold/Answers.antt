@@ -1,11 +1,23 @@
-use Rattle.std.proofs.Common.{w64, refl}
-use Rattle.std.proofs.Math.Facts.{to_z_pos}
+use Rattle.std.proofs.Common.{◌+◌, refl}
+use Rattle.book.specs.Values.{hold_view}
+use Rattle.tables.specs.Changes.{hold_row, greatest_by}
+use Rattle.tables.specs.Tables.{with_hold}
 use Rattle.tables.proofs.InsertLemmas.{hold_carried}
-use Rattle.tables.proofs.CellLemmas.{int_more, value_more}
+use Rattle.tables.proofs.CellLemmas.{value_more}
+use Rattle.tables.proofs.NumberLemmas.{number_is, numbered}
+use Rattle.tables.proofs.OtherLookups.{asks_greatest_hold, finds_greatest_hold}
 use Rattle.tables.proofs.holds.put_hold.Goals as goal
+
+pub number_in-requires : goal.number_in-requires
+number_in-requires g c = asks_greatest_hold.text
 
 pub returns-clause-carries : goal.returns-clause-carries
 returns-clause-carries g c =
-    hold_carried _ _ _ _ c.execute.ensures.survives _
-    (int_more (to_z_pos w64 c.requires) (value_more _ _ c.to_sql.ensures (value_more _ _ c.to_sql-2.ensures refl)))
-    c.execute.ensures.runs
+    let value = hold_view c.args.hold.now in
+    numbered (λ n. with_hold (hold_row value (n + 1))) (λ t. greatest_by (λ row. row.n) t.holds)
+    _ _ _ _ _ c.in_ok-greatest.ensures.carries
+    (λ clean t d. number_is _ _ (λ x. refl) _ _ finds_greatest_hold t _ _ d.holds
+    (c.in_ok-greatest.ensures.told clean d.schema))
+    (hold_carried (hold_row value (c.in_ok-greatest.greatest + 1)) _ _ _ c.execute.ensures.survives _
+    (value_more _ _ c.in_ok-n.ensures.value (value_more _ _ c.to_sql.ensures (value_more _ _ c.to_sql-2.ensures refl)))
+    c.execute.ensures.runs)

@@ -1,9 +1,9 @@
-use Rattle.std.proofs.Common.{w64, refl}
-use Rattle.std.proofs.Math.Facts.{to_z_pos}
+use Rattle.std.proofs.Common.{refl}
 use Rattle.tables.proofs.SealLemmas.{seal_carried}
-use Rattle.tables.proofs.CellLemmas.{int_more}
+use Rattle.tables.proofs.CellLemmas.{value_more}
 use Rattle.tables.proofs.stamps.set_token.Goals as goal
 
 pub returns-clause-carries : goal.returns-clause-carries
 returns-clause-carries g c =
-    seal_carried _ _ _ _ _ c.execute.ensures.survives _ (int_more (to_z_pos w64 c.requires) refl) c.execute.ensures.runs
+    seal_carried _ _ _ _ _ c.execute.ensures.survives _ (value_more _ _ c.in_ok-serial.ensures.value refl)
+    c.execute.ensures.runs

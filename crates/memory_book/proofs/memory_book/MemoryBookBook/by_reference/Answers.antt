@@ -9,5 +9,5 @@ pub returns-clause-value : goal.returns-clause-value
 returns-clause-value c honest b s =
     if_ok _ _ _ c.by_reference.result c.by_reference.ensures
     (λ found is. is
-    ∙ told (deposit_under c.args.owner.now c.args.reference.now) _ b
-    (ap history_of c.as_slice.ensures.value ∙ s.kept) (same_under c.args.owner.now c.args.reference.now b))
+    ∙ told (deposit_under c.args.owner.now c.args.reference.now) _ _ b
+    (ap history_of c.as_slice.ensures.value) (same_under _ b s.kept c.args.owner.now c.args.reference.now))

@@ -7,4 +7,4 @@ use Rattle.memory_book.proofs.memory_book.MemoryBookBook.calibration.Goals as go
 pub returns-clause-value : goal.returns-clause-value
 returns-clause-value c honest b s =
     c.latest_calibration.ensures
-    ∙ told latest_calibration _ b (ap history_of c.as_slice.ensures.value ∙ s.kept) (same_latest b)
+    ∙ told latest_calibration _ _ b (ap history_of c.as_slice.ensures.value) (same_latest _ b s.kept)

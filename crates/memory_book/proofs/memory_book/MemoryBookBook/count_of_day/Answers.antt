@@ -7,5 +7,5 @@ use Rattle.memory_book.proofs.memory_book.MemoryBookBook.count_of_day.Goals as g
 pub returns-clause-value : goal.returns-clause-value
 returns-clause-value c honest b s =
     c.count_of_day.ensures
-    ∙ told (count_of_day c.args.account.now c.args.day) _ b (ap history_of c.as_slice.ensures.value ∙ s.kept)
-    (same_count c.args.account.now c.args.day b)
+    ∙ told (count_of_day c.args.account.now c.args.day) _ _ b (ap history_of c.as_slice.ensures.value)
+    (same_count _ b s.kept c.args.account.now c.args.day)

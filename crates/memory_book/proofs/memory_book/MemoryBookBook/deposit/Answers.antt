@@ -14,5 +14,5 @@ pub returns-clause-value : goal.returns-clause-value
 returns-clause-value c honest b s =
     if_ok _ _ _ c.stamped_deposit.result c.stamped_deposit.ensures
     (λ found is. is
-    ∙ told (deposit_with_stamp c.args.number) _ b (ap history_of c.as_slice.ensures.value ∙ s.kept)
-    (same_with_stamp c.args.number b))
+    ∙ told (deposit_with_stamp c.args.number) _ _ b (ap history_of c.as_slice.ensures.value)
+    (same_with_stamp _ b s.kept c.args.number))

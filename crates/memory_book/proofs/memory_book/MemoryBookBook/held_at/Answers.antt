@@ -8,5 +8,5 @@ pub returns-clause-value : goal.returns-clause-value
 returns-clause-value c honest b s =
     let fits : SFits w64 c.args.now = search rules in
     let now = to_z w64 (of_z w64 c.args.now) in
-    c.is_held.ensures ∙ told (is_held now) _ b (ap history_of c.as_slice.ensures.value ∙ s.kept) (same_held now b)
+    c.is_held.ensures ∙ told (is_held now) _ _ b (ap history_of c.as_slice.ensures.value) (same_held _ b s.kept now)
     ∙ ap (λ n. is_held n b) (to_z-of_z fits)

@@ -13,6 +13,5 @@ returns-clause-value c honest b s =
     let viewer = viewer_of c.args.account.now (map (λ name. name.now) c.args.groups.now) in
     if_ok _ _ _ c.listed.result c.listed.ensures
     (λ rows is. is
-    ∙ ap (λ (d : History). listed_along viewer d (reservations d))
-    (ap history_of c.as_slice.ensures.value ∙ s.kept)
-    ∙ same_listed viewer b ∙ listed_is viewer b s.sound)
+    ∙ ap (λ (d : History). listed_along viewer d (reservations d)) (ap history_of c.as_slice.ensures.value)
+    ∙ same_listed _ b s.kept viewer ∙ listed_is viewer b s.sound)

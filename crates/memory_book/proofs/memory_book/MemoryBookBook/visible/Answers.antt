@@ -14,5 +14,5 @@ pub returns-clause-value : goal.returns-clause-value
 returns-clause-value c honest b s =
     let viewer = viewer_of c.args.account.now (map (λ name. name.now) c.args.groups.now) in
     c.is_visible.ensures
-    ∙ told (is_visible viewer c.args.number) _ b (ap history_of c.as_slice.ensures.value ∙ s.kept)
-    (same_visible viewer c.args.number b)
+    ∙ told (is_visible viewer c.args.number) _ _ b (ap history_of c.as_slice.ensures.value)
+    (same_visible _ b s.kept viewer c.args.number)

@@ -1,6 +1,7 @@
 use Rattle.std.proofs.Common.{◌∙◌}
+use Rattle.book.specs.Entries.{reader_view}
 use Rattle.store.proofs.Calls.{looks_now, kept_seen}
-use Rattle.store.proofs.Readers.{readers_are}
+use Rattle.store.proofs.Readers.{rights_are}
 use Rattle.store.proofs.store.Store.is_reader.Goals as goal
 
 pub returns-in_err-reads-clause-looks : goal.returns-in_err-reads-clause-looks
@@ -11,4 +12,4 @@ returns-clause-looks g c = looks_now g.S.Store _ _ _ c.self.view_is c.in_ok-read
 
 pub returns-clause-value : goal.returns-clause-value
 returns-clause-value g c honest b s =
-    c.in_ok-reads.ensures.value honest _ (kept_seen g.S.Store _ _ b c.self.view_is s) ∙ readers_are b _ _
+    c.in_ok-reads.ensures.value honest _ (kept_seen g.S.Store _ _ b c.self.view_is s) ∙ rights_are (reader_view c.args.reader) b _

@@ -8,24 +8,24 @@ use Rattle.store.proofs.Walk.{looks_after}
 use Rattle.store.proofs.store.Store.next_seen.Goals as goal
 
 pub returns-in_err-owned-clause-looks : goal.returns-in_err-owned-clause-looks
-returns-in_err-owned-clause-looks g c = looks_now g.S.Store _ _ _ c.self.view_is c.in_err-owned.ensures.reads
+returns-in_err-owned-clause-looks g c = looks_now g.S.Store _ _ _ c.self.view_is c.in_err-owned.ensures.looks.reads
 
 pub returns-in_err-advance-clause-looks : goal.returns-in_err-advance-clause-looks
 returns-in_err-advance-clause-looks g c =
-    looks_after g.S.Store _ _ _ (looks_now g.S.Store _ _ _ c.self.view_is c.in_ok-owned.ensures.reads)
+    looks_after g.S.Store _ _ _ (looks_now g.S.Store _ _ _ c.self.view_is c.in_ok-owned.ensures.looks.reads)
     c.in_err-advance.ensures.looks
 
 pub returns-clause-looks : goal.returns-clause-looks
 returns-clause-looks g c =
-    looks_after g.S.Store _ _ _ (looks_now g.S.Store _ _ _ c.self.view_is c.in_ok-owned.ensures.reads)
+    looks_after g.S.Store _ _ _ (looks_now g.S.Store _ _ _ c.self.view_is c.in_ok-owned.ensures.looks.reads)
     c.in_ok-advance.ensures.looks
 
 pub returns-clause-value : goal.returns-clause-value
 returns-clause-value g c honest b s known =
     let viewer = viewer_of c.args.account.now (map (λ name. name.now) c.args.groups.now) in
-    let first = looks_now g.S.Store _ _ _ c.self.view_is c.in_ok-owned.ensures.reads in
+    let first = looks_now g.S.Store _ _ _ c.self.view_is c.in_ok-owned.ensures.looks.reads in
     let ahead = c.in_ok-advance.ensures.value honest b (first.stands b s) known in
-    let owned = c.in_ok-owned.ensures.value (c.in_ok-advance.ensures.looks.honest honest) _
+    let owned = c.in_ok-owned.ensures.looks.value (c.in_ok-advance.ensures.looks.honest honest) _
     (kept_seen g.S.Store _ _ b c.self.view_is s) in
     let sized = c.in_ok-advance.ensures.sized ∙ c.requires ∙ sym (length-map c.args.groups.now (λ name. name.now)) in
     let least = c.next_of.ensures.next

@@ -1,21 +1,22 @@
-use Rattle.tables.specs.Changes.{applied}
+use Rattle.book.specs.Entries.{entries_view}
+use Rattle.tables.specs.Changes.{applied_all}
 use Rattle.tables.proofs.BaseLemmas.{keeps_on, keeps_still, crash_leaves}
 use Rattle.tables.proofs.base.Base.commit.Goals as goal
 
 pub returns-in-Ok-clause-ok : goal.returns-in-Ok-clause-ok
 returns-in-Ok-clause-ok g c t keeps =
-    keeps_on g.S.Store g.met.S.Store.settled (applied c.args.change.now) c.self.inside.conn c.commit_change.new.conn
+    keeps_on g.S.Store g.met.S.Store.settled (applied_all (entries_view c.args.entries.now)) c.self.inside.conn c.commit_entries.new.conn
     c.in-Ok.ensures.closed t (rw (← c.self.view_is) at keeps) _ c.in-Ok.ensures.commits
 
 pub returns-in-Ok-clause-crash : goal.returns-in-Ok-clause-crash
 returns-in-Ok-clause-crash g c =
-    rw (← c.self.view_is) (crash_leaves g.S.Store (applied c.args.change.now) c.self.inside.conn
-    c.commit_change.new.conn _ c.in-Ok.ensures.commits)
+    rw (← c.self.view_is) (crash_leaves g.S.Store (applied_all (entries_view c.args.entries.now)) c.self.inside.conn
+    c.commit_entries.new.conn _ c.in-Ok.ensures.commits)
 
 pub returns-in-Err-clause-crash : goal.returns-in-Err-clause-crash
 returns-in-Err-clause-crash g c =
-    rw (← c.self.view_is, c.fault.ensures.same) (crash_leaves g.S.Store (applied c.args.change.now) c.self.inside.conn
-    c.commit_change.new.conn _ c.in-Err.ensures.commits)
+    rw (← c.self.view_is, c.fault.ensures.same) (crash_leaves g.S.Store (applied_all (entries_view c.args.entries.now)) c.self.inside.conn
+    c.commit_entries.new.conn _ c.in-Err.ensures.commits)
 
 pub returns-in-Ok-clause-err : goal.returns-in-Ok-clause-err
 returns-in-Ok-clause-err g c t keeps = tt
@@ -28,5 +29,5 @@ returns-in-Err-clause-ok g c t keeps = tt
 
 pub returns-in-Err-clause-err : goal.returns-in-Err-clause-err
 returns-in-Err-clause-err g c t keeps =
-    rw c.fault.ensures.same (keeps_still g.S.Store g.met.S.Store.settled (applied c.args.change.now) c.self.inside.conn
-    c.commit_change.new.conn c.in-Err.ensures.closed t (rw (← c.self.view_is) at keeps) _ c.in-Err.ensures.commits)
+    rw c.fault.ensures.same (keeps_still g.S.Store g.met.S.Store.settled (applied_all (entries_view c.args.entries.now)) c.self.inside.conn
+    c.commit_entries.new.conn c.in-Err.ensures.closed t (rw (← c.self.view_is) at keeps) _ c.in-Err.ensures.commits)

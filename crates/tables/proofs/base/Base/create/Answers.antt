@@ -1,4 +1,3 @@
-use Rattle.std.proofs.Common.{refl}
 use Rattle.tables.proofs.BaseLemmas.{created_keeps}
 use Rattle.tables.proofs.base.Base.create.Goals as goal
 
@@ -6,7 +5,3 @@ pub returns-in-Ok-clause-keeps : goal.returns-in-Ok-clause-keeps
 returns-in-Ok-clause-keeps g c has =
     created_keeps g.S.Store g.met.S.Store.settled c.args.conn c.make_tables.new.conn c.in-Ok.ensures.closed
     c.in-Ok.ensures.commits has
-
-pub returns-in-Err-clause-untold : goal.returns-in-Err-clause-untold
-returns-in-Err-clause-untold g c told clean counted taken =
-    c.in-Err.ensures.untaken clean counted taken (c.of.ensures.named refl told) (c.of.ensures.memory told)

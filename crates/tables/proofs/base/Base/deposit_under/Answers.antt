@@ -1,17 +1,15 @@
-use Rattle.tables.proofs.BaseReads.{reads_only, database_of}
+use Rattle.std.proofs.Common.{refl}
+use Rattle.tables.proofs.CellLemmas.{text_more}
+use Rattle.tables.proofs.DepositLookups.{asks_deposit_under, finds_deposit_under}
+use Rattle.tables.proofs.FoundLemmas.{found_looks}
+use Rattle.tables.specs.Queries.{ShowsDeposit}
 use Rattle.tables.proofs.base.Base.deposit_under.Goals as goal
 
-pub returns-in-Ok-clause-reads : goal.returns-in-Ok-clause-reads
-returns-in-Ok-clause-reads g c =
-    rw (← c.self.view_is) (reads_only g.S.Store _ _ c.deposit_under.ensures.closed c.deposit_under.ensures.looks)
+pub first_as-requires : goal.first_as-requires
+first_as-requires g c = asks_deposit_under.text
 
-pub returns-in-Err-clause-reads : goal.returns-in-Err-clause-reads
-returns-in-Err-clause-reads g c =
-    rw (← c.self.view_is) (reads_only g.S.Store _ _ (rw c.fault.ensures.same c.deposit_under.ensures.closed)
-    (rw c.fault.ensures.same c.deposit_under.ensures.looks))
-
-pub returns-in-Ok-clause-value : goal.returns-in-Ok-clause-value
-returns-in-Ok-clause-value g c honest t keeps =
-    c.in-Ok.ensures.value honest t
-    (database_of g.S.Store _ _ c.self.view_is t keeps (c.deposit_under.ensures.looks.clean honest)
-    (c.in-Ok.ensures.opened honest))
+pub returns : goal.returns
+returns g c =
+    found_looks g.S.Store _ (text_more c.as_bytes.ensures.value (text_more c.as_bytes-2.ensures.value refl))
+    _ _ _ ShowsDeposit (λ x row found is read. read x is)
+    _ c.first_as.ensures (finds_deposit_under c.args.owner.now c.args.reference.now)

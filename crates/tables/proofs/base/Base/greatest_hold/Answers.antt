@@ -1,17 +1,14 @@
-use Rattle.tables.proofs.BaseReads.{reads_only, database_of}
+use Rattle.std.proofs.Common.{refl}
+use Rattle.tables.proofs.FoundLemmas.{greatest_looks}
+use Rattle.tables.proofs.OtherLookups.{asks_greatest_hold, finds_greatest_hold}
+use Rattle.tables.proofs.ReadCells.{number_of}
+use Rattle.tables.specs.Queries.{ShowsNumber}
 use Rattle.tables.proofs.base.Base.greatest_hold.Goals as goal
 
-pub returns-in-Ok-clause-reads : goal.returns-in-Ok-clause-reads
-returns-in-Ok-clause-reads g c =
-    rw (← c.self.view_is) (reads_only g.S.Store _ _ c.greatest_hold.ensures.closed c.greatest_hold.ensures.looks)
+pub first_number-requires : goal.first_number-requires
+first_number-requires g c = asks_greatest_hold.text
 
-pub returns-in-Err-clause-reads : goal.returns-in-Err-clause-reads
-returns-in-Err-clause-reads g c =
-    rw (← c.self.view_is) (reads_only g.S.Store _ _ (rw c.fault.ensures.same c.greatest_hold.ensures.closed)
-    (rw c.fault.ensures.same c.greatest_hold.ensures.looks))
-
-pub returns-in-Ok-clause-value : goal.returns-in-Ok-clause-value
-returns-in-Ok-clause-value g c honest t keeps =
-    c.in-Ok.ensures.value honest t
-    (database_of g.S.Store _ _ c.self.view_is t keeps (c.greatest_hold.ensures.looks.clean honest)
-    (c.in-Ok.ensures.opened honest))
+pub returns-clause-looks : goal.returns-clause-looks
+returns-clause-looks g c =
+    greatest_looks g.S.Store _ refl _ _ _ ShowsNumber (λ x row n is read. number_of _ _ 0 _ _ is read refl)
+    _ c.first_number.ensures.looks finds_greatest_hold

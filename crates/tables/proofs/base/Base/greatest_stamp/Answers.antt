@@ -1,17 +1,14 @@
-use Rattle.tables.proofs.BaseReads.{reads_only, database_of}
+use Rattle.std.proofs.Common.{refl}
+use Rattle.tables.proofs.FoundLemmas.{greatest_looks}
+use Rattle.tables.proofs.ReadCells.{last_read}
+use Rattle.tables.proofs.StampLookups.{asks_last_stamp, finds_last_stamp}
+use Rattle.tables.specs.Queries.{ShowsLast}
 use Rattle.tables.proofs.base.Base.greatest_stamp.Goals as goal
 
-pub returns-in-Ok-clause-reads : goal.returns-in-Ok-clause-reads
-returns-in-Ok-clause-reads g c =
-    rw (← c.self.view_is) (reads_only g.S.Store _ _ c.greatest_stamp.ensures.closed c.greatest_stamp.ensures.looks)
+pub first_as-requires : goal.first_as-requires
+first_as-requires g c = asks_last_stamp.text
 
-pub returns-in-Err-clause-reads : goal.returns-in-Err-clause-reads
-returns-in-Err-clause-reads g c =
-    rw (← c.self.view_is) (reads_only g.S.Store _ _ (rw c.fault.ensures.same c.greatest_stamp.ensures.closed)
-    (rw c.fault.ensures.same c.greatest_stamp.ensures.looks))
-
-pub returns-in-Ok-clause-value : goal.returns-in-Ok-clause-value
-returns-in-Ok-clause-value g c honest t keeps =
-    c.in-Ok.ensures.value honest t
-    (database_of g.S.Store _ _ c.self.view_is t keeps (c.greatest_stamp.ensures.looks.clean honest)
-    (c.in-Ok.ensures.opened honest))
+pub returns : goal.returns
+returns g c =
+    greatest_looks g.S.Store _ refl _ _ _ ShowsLast last_read
+    _ c.first_as.ensures finds_last_stamp

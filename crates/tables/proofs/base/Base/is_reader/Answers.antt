@@ -1,17 +1,32 @@
-use Rattle.tables.proofs.BaseReads.{reads_only, database_of}
+use Rattle.std.proofs.Common.{[], refl}
+use Rattle.book.specs.Readers.{Account, Group}
+use Rattle.tables.proofs.BaseReads.{fault_alone}
+use Rattle.tables.proofs.CellLemmas.{text_more, value_more}
+use Rattle.tables.proofs.FoundLemmas.{any_looks}
+use Rattle.tables.proofs.RightLemmas.{asks_is_reader, finds_is_reader}
 use Rattle.tables.proofs.base.Base.is_reader.Goals as goal
 
-pub returns-in-Ok-clause-reads : goal.returns-in-Ok-clause-reads
-returns-in-Ok-clause-reads g c =
-    rw (← c.self.view_is) (reads_only g.S.Store _ _ c.is_reader.ensures.closed c.is_reader.ensures.looks)
+pub any_row-requires : goal.any_row-requires
+any_row-requires g c = (asks_is_reader (Account [])).text
 
-pub returns-in-Err-clause-reads : goal.returns-in-Err-clause-reads
-returns-in-Err-clause-reads g c =
-    rw (← c.self.view_is) (reads_only g.S.Store _ _ (rw c.fault.ensures.same c.is_reader.ensures.closed)
-    (rw c.fault.ensures.same c.is_reader.ensures.looks))
+pub any_row-requires-in-Group : goal.any_row-requires-in-Group
+any_row-requires-in-Group g c = (asks_is_reader (Group [])).text
 
-pub returns-in-Ok-clause-value : goal.returns-in-Ok-clause-value
-returns-in-Ok-clause-value g c honest t keeps =
-    c.in-Ok.ensures.value honest t
-    (database_of g.S.Store _ _ c.self.view_is t keeps (c.is_reader.ensures.looks.clean honest)
-    (c.in-Ok.ensures.opened honest))
+pub returns-in-Account : goal.returns-in-Account
+returns-in-Account g c =
+    rw c.in-Account.is (any_looks g.S.Store _
+    (value_more _ _ c.in_ok-serial.ensures.value (text_more c.as_bytes.ensures.value refl)) _ _ _
+    (rw c.in_ok-serial.ensures.same at c.any_row.ensures)
+    (finds_is_reader (Account c.in-Account.name.now) c.args.serial))
+
+pub returns-in-Group : goal.returns-in-Group
+returns-in-Group g c =
+    rw c.in-Group.is (any_looks g.S.Store _
+    (value_more _ _ c.in_ok-serial.ensures.value (text_more c.as_bytes-in-Group.ensures.value refl)) _ _ _
+    (rw c.in_ok-serial.ensures.same at c.any_row-in-Group.ensures)
+    (finds_is_reader (Group c.in-Group.name.now) c.args.serial))
+
+pub returns-in_err-serial : goal.returns-in_err-serial
+returns-in_err-serial g c =
+    fault_alone g.S.Store _ _ _ _ _ c.from_residual.ensures.1
+    c.in_err-serial.ensures.unasked c.in_err-serial.ensures.counted

@@ -1,17 +1,21 @@
-use Rattle.tables.proofs.BaseReads.{reads_only, database_of}
+use Rattle.std.proofs.Common.{refl}
+use Rattle.tables.proofs.BaseReads.{fault_alone}
+use Rattle.tables.proofs.CellLemmas.{text_more, value_more}
+use Rattle.tables.proofs.DepositLookups.{asks_label, finds_label}
+use Rattle.tables.proofs.FoundLemmas.{found_looks}
+use Rattle.tables.specs.Queries.{ShowsLabel}
 use Rattle.tables.proofs.base.Base.label.Goals as goal
 
-pub returns-in-Ok-clause-reads : goal.returns-in-Ok-clause-reads
-returns-in-Ok-clause-reads g c =
-    rw (← c.self.view_is) (reads_only g.S.Store _ _ c.label.ensures.closed c.label.ensures.looks)
+pub first_as-requires : goal.first_as-requires
+first_as-requires g c = asks_label.text
 
-pub returns-in-Err-clause-reads : goal.returns-in-Err-clause-reads
-returns-in-Err-clause-reads g c =
-    rw (← c.self.view_is) (reads_only g.S.Store _ _ (rw c.fault.ensures.same c.label.ensures.closed)
-    (rw c.fault.ensures.same c.label.ensures.looks))
+pub returns : goal.returns
+returns g c =
+    found_looks g.S.Store _ (value_more _ _ c.in_ok-serial.ensures.value (text_more c.as_bytes.ensures.value refl))
+    _ _ _ ShowsLabel (λ x row found is read. read x is)
+    _ (rw c.in_ok-serial.ensures.same at c.first_as.ensures) (finds_label c.args.serial c.args.owner.now)
 
-pub returns-in-Ok-clause-value : goal.returns-in-Ok-clause-value
-returns-in-Ok-clause-value g c honest t keeps =
-    c.in-Ok.ensures.value honest t
-    (database_of g.S.Store _ _ c.self.view_is t keeps (c.label.ensures.looks.clean honest)
-    (c.in-Ok.ensures.opened honest))
+pub returns-in_err-serial : goal.returns-in_err-serial
+returns-in_err-serial g c =
+    fault_alone g.S.Store _ _ _ _ _ c.from_residual.ensures.1
+    c.in_err-serial.ensures.unasked c.in_err-serial.ensures.counted

@@ -1,17 +1,19 @@
-use Rattle.tables.proofs.BaseReads.{reads_only, database_of}
+use Rattle.std.proofs.Common.{refl}
+use Rattle.tables.proofs.FoundLemmas.{greatest_looks}
+use Rattle.tables.proofs.OtherLookups.{asks_latest_calibration, finds_latest_calibration}
+use Rattle.tables.proofs.ReadCells.{number_of, signed_of}
+use Rattle.tables.specs.Queries.{ShowsCalibration}
 use Rattle.tables.proofs.base.Base.latest_calibration.Goals as goal
 
-pub returns-in-Ok-clause-reads : goal.returns-in-Ok-clause-reads
-returns-in-Ok-clause-reads g c =
-    rw (← c.self.view_is) (reads_only g.S.Store _ _ c.latest_calibration.ensures.closed c.latest_calibration.ensures.looks)
+pub first_as-requires : goal.first_as-requires
+first_as-requires g c = asks_latest_calibration.text
 
-pub returns-in-Err-clause-reads : goal.returns-in-Err-clause-reads
-returns-in-Err-clause-reads g c =
-    rw (← c.self.view_is) (reads_only g.S.Store _ _ (rw c.fault.ensures.same c.latest_calibration.ensures.closed)
-    (rw c.fault.ensures.same c.latest_calibration.ensures.looks))
-
-pub returns-in-Ok-clause-value : goal.returns-in-Ok-clause-value
-returns-in-Ok-clause-value g c honest t keeps =
-    c.in-Ok.ensures.value honest t
-    (database_of g.S.Store _ _ c.self.view_is t keeps (c.latest_calibration.ensures.looks.clean honest)
-    (c.in-Ok.ensures.opened honest))
+pub returns : goal.returns
+returns g c =
+    greatest_looks g.S.Store _ refl _ _ _ ShowsCalibration (λ x row found is read. (
+      number_of _ _ 0 _ _ is read.0 refl,
+      signed_of _ _ 1 _ _ is read.1 refl,
+      signed_of _ _ 2 _ _ is read.2 refl,
+      number_of _ _ 3 _ _ is read.3 refl,
+    ))
+    _ c.first_as.ensures finds_latest_calibration

@@ -1,17 +1,22 @@
-use Rattle.tables.proofs.BaseReads.{reads_only, database_of}
+use Rattle.std.proofs.Common.{refl}
+use Rattle.tables.proofs.BaseReads.{fault_alone}
+use Rattle.tables.proofs.CellLemmas.{text_more, value_more}
+use Rattle.tables.proofs.DepositLookups.{asks_next_owned, finds_next_owned}
+use Rattle.tables.proofs.FoundLemmas.{least_looks}
+use Rattle.tables.proofs.ReadCells.{number_of}
+use Rattle.tables.specs.Queries.{ShowsDepositSerial}
 use Rattle.tables.proofs.base.Base.next_owned.Goals as goal
 
-pub returns-in-Ok-clause-reads : goal.returns-in-Ok-clause-reads
-returns-in-Ok-clause-reads g c =
-    rw (← c.self.view_is) (reads_only g.S.Store _ _ c.next_owned.ensures.closed c.next_owned.ensures.looks)
+pub first_number-requires : goal.first_number-requires
+first_number-requires g c = asks_next_owned.text
 
-pub returns-in-Err-clause-reads : goal.returns-in-Err-clause-reads
-returns-in-Err-clause-reads g c =
-    rw (← c.self.view_is) (reads_only g.S.Store _ _ (rw c.fault.ensures.same c.next_owned.ensures.closed)
-    (rw c.fault.ensures.same c.next_owned.ensures.looks))
+pub returns-clause-looks : goal.returns-clause-looks
+returns-clause-looks g c =
+    least_looks g.S.Store _ (text_more c.as_bytes.ensures.value (value_more _ _ c.in_ok-after.ensures.value refl))
+    _ _ _ ShowsDepositSerial (λ x row n is read. number_of _ _ 0 _ _ is read refl)
+    _ (rw c.in_ok-after.ensures.same at c.first_number.ensures.looks) (finds_next_owned c.args.account.now c.args.after)
 
-pub returns-in-Ok-clause-value : goal.returns-in-Ok-clause-value
-returns-in-Ok-clause-value g c honest t keeps =
-    c.in-Ok.ensures.value honest t
-    (database_of g.S.Store _ _ c.self.view_is t keeps (c.next_owned.ensures.looks.clean honest)
-    (c.in-Ok.ensures.opened honest))
+pub returns-in_err-after-clause-looks : goal.returns-in_err-after-clause-looks
+returns-in_err-after-clause-looks g c =
+    fault_alone g.S.Store _ _ _ _ _ c.from_residual.ensures.1
+    c.in_err-after.ensures.unasked c.in_err-after.ensures.counted

@@ -1,17 +1,15 @@
-use Rattle.tables.proofs.BaseReads.{reads_only, database_of}
+use Rattle.std.proofs.Common.{refl}
+use Rattle.tables.proofs.CellLemmas.{value_more}
+use Rattle.tables.proofs.FoundLemmas.{least_looks}
+use Rattle.tables.proofs.StampLookups.{asks_next_stamp, finds_next_stamp}
+use Rattle.tables.specs.Queries.{ShowsStamp}
 use Rattle.tables.proofs.base.Base.next_stamp.Goals as goal
 
-pub returns-in-Ok-clause-reads : goal.returns-in-Ok-clause-reads
-returns-in-Ok-clause-reads g c =
-    rw (← c.self.view_is) (reads_only g.S.Store _ _ c.next_stamp.ensures.closed c.next_stamp.ensures.looks)
+pub first_as-requires : goal.first_as-requires
+first_as-requires g c = asks_next_stamp.text
 
-pub returns-in-Err-clause-reads : goal.returns-in-Err-clause-reads
-returns-in-Err-clause-reads g c =
-    rw (← c.self.view_is) (reads_only g.S.Store _ _ (rw c.fault.ensures.same c.next_stamp.ensures.closed)
-    (rw c.fault.ensures.same c.next_stamp.ensures.looks))
-
-pub returns-in-Ok-clause-value : goal.returns-in-Ok-clause-value
-returns-in-Ok-clause-value g c honest t keeps =
-    c.in-Ok.ensures.value honest t
-    (database_of g.S.Store _ _ c.self.view_is t keeps (c.next_stamp.ensures.looks.clean honest)
-    (c.in-Ok.ensures.opened honest))
+pub returns : goal.returns
+returns g c =
+    least_looks g.S.Store _ (value_more _ _ c.cell.ensures (value_more _ _ c.cell-2.ensures refl))
+    _ _ _ ShowsStamp (λ x row found is read. read x is)
+    _ c.first_as.ensures (finds_next_stamp c.args.from.value c.args.to.value)

@@ -1,17 +1,16 @@
-use Rattle.tables.proofs.BaseReads.{reads_only, database_of}
+use Rattle.std.proofs.Common.{refl}
+use Rattle.tables.proofs.CellLemmas.{text_more, value_more}
+use Rattle.tables.proofs.FoundLemmas.{found_looks}
+use Rattle.tables.proofs.OtherLookups.{asks_tally, finds_tally}
+use Rattle.tables.proofs.ReadCells.{number_of}
+use Rattle.tables.specs.Queries.{ShowsCount}
 use Rattle.tables.proofs.base.Base.tally.Goals as goal
 
-pub returns-in-Ok-clause-reads : goal.returns-in-Ok-clause-reads
-returns-in-Ok-clause-reads g c =
-    rw (← c.self.view_is) (reads_only g.S.Store _ _ c.tally.ensures.closed c.tally.ensures.looks)
+pub first_number-requires : goal.first_number-requires
+first_number-requires g c = asks_tally.text
 
-pub returns-in-Err-clause-reads : goal.returns-in-Err-clause-reads
-returns-in-Err-clause-reads g c =
-    rw (← c.self.view_is) (reads_only g.S.Store _ _ (rw c.fault.ensures.same c.tally.ensures.closed)
-    (rw c.fault.ensures.same c.tally.ensures.looks))
-
-pub returns-in-Ok-clause-value : goal.returns-in-Ok-clause-value
-returns-in-Ok-clause-value g c honest t keeps =
-    c.in-Ok.ensures.value honest t
-    (database_of g.S.Store _ _ c.self.view_is t keeps (c.tally.ensures.looks.clean honest)
-    (c.in-Ok.ensures.opened honest))
+pub returns : goal.returns
+returns g c =
+    found_looks g.S.Store _ (text_more c.as_bytes.ensures.value (value_more _ _ c.cell.ensures refl))
+    _ _ _ ShowsCount (λ x row n is read. number_of _ _ 0 _ _ is read refl)
+    _ c.first_number.ensures.looks (finds_tally c.args.account.now c.args.day.value)

@@ -1,0 +1,15 @@
+use Rattle.std.proofs.Common.{◌∙◌}
+use Rattle.store.proofs.Calls.{looks_now, kept_seen}
+use Rattle.store.proofs.Numbered.{calibration_view_of}
+use Rattle.store.proofs.store.StoreBook.calibration_count.Goals as goal
+
+pub returns-in_err-latest-clause-looks : goal.returns-in_err-latest-clause-looks
+returns-in_err-latest-clause-looks g c = looks_now g.S.Store _ _ _ c.self.view_is c.in_err-latest.ensures.reads
+
+pub returns-clause-looks : goal.returns-clause-looks
+returns-clause-looks g c = looks_now g.S.Store _ _ _ c.self.view_is c.in_ok-latest.ensures.reads
+
+pub returns-clause-value : goal.returns-clause-value
+returns-clause-value g c honest b s =
+    c.number_of.ensures
+    ∙ (calibration_view_of b _ (c.in_ok-latest.ensures.value honest _ (kept_seen g.S.Store _ _ b c.self.view_is s))).1

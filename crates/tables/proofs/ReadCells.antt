@@ -1,0 +1,40 @@
+-- What was read of a row, from what it shows.
+use Rattle.std.proofs.Common.{◌≡◌, ◌∙◌, ℕ, ℤ, pos, List, Option, Some, None, refl, sym, ap, ap₂}
+use Rattle.sqlite_value.specs.declared.value.Value.TheVariants.{Int, Text, Blob}
+use Rattle.sqlite_value.specs.Order.{Row, column}
+use Rattle.tables.specs.Holding.{token_cell}
+use Rattle.tables.specs.Queries.{ShowsLast}
+use Rattle.tables.specs.Shown.{last_shown}
+use Rattle.tables.specs.Tables.{StampRow}
+use Rattle.tables.specs.declared.rows.LastStamp.{LastStamp}
+
+pub number_of : (row shown : Row) (at n m : ℕ) → row ≡ shown → column row at ≡ Int (pos n)
+    → column shown at ≡ Int (pos m) → n ≡ m
+number_of row shown at n m is e f = let same : Int (pos n) ≡ Int (pos m) = sym e ∙ ap (λ r. column r at) is ∙ f in cc
+
+pub signed_of : (row shown : Row) (at : ℕ) (n m : ℤ) → row ≡ shown → column row at ≡ Int n → column shown at ≡ Int m
+    → n ≡ m
+signed_of row shown at n m is e f = let same : Int n ≡ Int m = sym e ∙ ap (λ r. column r at) is ∙ f in cc
+
+pub text_of : (row shown : Row) (at : ℕ) (s t : List ℕ) → row ≡ shown → column row at ≡ Text s
+    → column shown at ≡ Text t → s ≡ t
+text_of row shown at s t is e f = let same : Text s ≡ Text t = sym e ∙ ap (λ r. column r at) is ∙ f in cc
+
+pub blob_of : (row shown : Row) (at : ℕ) (s t : List ℕ) → row ≡ shown → column row at ≡ Blob s
+    → column shown at ≡ Blob t → s ≡ t
+blob_of row shown at s t is e f = let same : Blob s ≡ Blob t = sym e ∙ ap (λ r. column r at) is ∙ f in cc
+
+pub token_of : (row shown : Row) (at : ℕ) (s t : Option (List ℕ)) → row ≡ shown → column row at ≡ token_cell s
+    → column shown at ≡ token_cell t → s ≡ t
+token_of row shown at s t is e f = same_token s t (sym e ∙ ap (λ r. column r at) is ∙ f) where
+  same_token : (s t : Option (List ℕ)) → token_cell s ≡ token_cell t → s ≡ t
+  same_token None None e = refl
+  same_token None (Some b) e = cc
+  same_token (Some a) None e = cc
+  same_token (Some a) (Some b) e = cc
+
+pub last_read : (x : StampRow) (row : Row) (last : LastStamp) → row ≡ last_shown x
+    → (column row 0 ≡ Int (pos last.serial)) × (column row 1 ≡ Int (pos last.gen_time)) → ShowsLast x last
+last_read x row last is read =
+    let of : ℕ → ℕ → LastStamp = λ serial gen_time. record { serial = serial; gen_time = gen_time } in
+    ap₂ of (number_of _ _ 0 _ _ is read.0 refl) (number_of _ _ 1 _ _ is read.1 refl)

@@ -1,0 +1,16 @@
+use Rattle.std.proofs.Common.{refl}
+use Rattle.tables.proofs.BaseReads.{read_on, fault_told, refused_too}
+use Rattle.tables.proofs.base.Base.first_number.Goals as goal
+
+pub returns-in-Ok-clause-looks : goal.returns-in-Ok-clause-looks
+returns-in-Ok-clause-looks g c =
+    read_on g.S.Store _ _ _ _ _ _ (λ t told. (_, told, rw c.in-Some.is (_, refl, c.in-Ok.ensures.read)))
+    c.in_ok-row.ensures
+
+pub returns-clause-looks : goal.returns-clause-looks
+returns-clause-looks g c =
+    fault_told g.S.Store _ _ _ _ _ c.in_ok-row.ensures.reads c.in_ok-row.ensures.uncounted c.fault.ensures.same
+    c.fault.ensures.counted
+
+pub returns-in_err-row-clause-looks : goal.returns-in_err-row-clause-looks
+returns-in_err-row-clause-looks g c = refused_too g.S.Store _ _ _ _ _ _ c.from_residual.ensures.1 c.in_err-row.ensures
