@@ -1,6 +1,7 @@
 pub mod Auditor
 pub mod Consistent
 pub mod Extract
+pub mod Failing
 pub mod Fault
 pub mod Inquiries
 pub mod Steps

@@ -1,11 +1,12 @@
 //! The stamps of a range of serial numbers, for an auditor.
-ghost use Rattle.std.specs.Prelude.{◌≡◌, ◌≢◌, ◌<◌, ◌≤◌, ◌^◌, ℕ, length, IfOk, IfErr, IfSome, MatchResult};
+ghost use Rattle.std.specs.Prelude.{◌≡◌, ◌≢◌, ◌<◌, ◌≤◌, ◌^◌, ◌-◌, ℕ, length, Err, IfOk, IfErr, IfSome, MatchResult};
 ghost use Rattle.policy.specs.View.{account_view, policy_view};
 ghost use Rattle.book.specs.History.{History, stamps_between};
 ghost use Rattle.book.specs.Stands.{Stands, OnlyLooks};
 ghost use Rattle.audit.specs.Auditor.{IsAllowed, ComesWhere, IfUnasked, IsMet};
 ghost use Rattle.audit.specs.Inquiries.{Allows, ComesFor};
 ghost use Rattle.audit.specs.Extract.{extract_text};
+ghost use Rattle.audit.specs.Failing.{StopsFor};
 ghost use Rattle.audit.specs.Fault.{count_after};
 ghost use Rattle.audit.specs.Steps.{IsLine, IsNextLine};
 ghost use Rattle.audit.specs.Writing.{Writes};
@@ -13,11 +14,11 @@ ghost use Rattle.audit.specs.Writing.{Writes};
 use crate::auditor::allow;
 use crate::fault::ExtractFault;
 use crate::line::{header, line_of};
+use crate::output::Output;
 use crate::writing::write_line;
 use book::{Book, StampsBetween};
 use policy::{Account, Policy};
 use std::alloc::Global;
-use std::io::Write;
 
 /// Of which stamps an account asks for an extract.
 #[derive(Clone, Copy)]
@@ -50,7 +51,7 @@ pub struct Extracted {
 /// unless `1 <= from <= to`; nothing is written then, and the store isn't asked. Refused with `Memory`, `Store` or
 /// `Write` where it is met, with `Write` too before a line that would make it longer than 2^64 - 1 octets; a beginning
 /// of the extract may have been written then. The store changes nowhere.
-pub fn extract<B: Book + Drop, W: Write>(
+pub fn extract<B: Book + Drop, W: Output>(
     alloc: Global,
     store: &mut B,
     policy: &Policy,
@@ -67,6 +68,13 @@ pub fn extract<B: Book + Drop, W: Write>(
     ensures unasked { IfErr result (IfUnasked ((store.new ≡ store.old) × (out.new ≡ out.old))) }
     ensures faults { MatchResult result (λ _. B.fault_count store.new ≡ B.fault_count store.old)
         (λ e. B.fault_count store.new ≡ count_after e (B.fault_count store.old)) }
+
+    // `Write` comes only where a write failed, or of an extract that is so long.
+    ensures stopped { B.honest store.new → (b : History) → Stands B.Standing b store.old
+        → result ≡ Err ExtractFault.Write
+        → StopsFor (2 ^ 64 - 1) (length (extract_text from to b)) (W.failures out.old) (W.failures out.new) }
+    ensures kept { MatchResult result (λ _. W.failures out.new ≡ W.failures out.old)
+        (λ e. e ≢ ExtractFault.Write → W.failures out.new ≡ W.failures out.old) }
 {
     let inquiry = Inquiry {
         policy,
@@ -79,7 +87,7 @@ pub fn extract<B: Book + Drop, W: Write>(
 
 /// Writes the extract as `extract` does, and tells how many octets `out` took, those of a line that failed too. A line
 /// that would take it beyond `limit` octets in all isn't begun, and is refused as `Write`.
-pub fn write_extract<B: Book + Drop, W: Write>(
+pub fn write_extract<B: Book + Drop, W: Output>(
     alloc: Global,
     store: &mut B,
     inquiry: &Inquiry<'_>,
@@ -95,6 +103,14 @@ pub fn write_extract<B: Book + Drop, W: Write>(
         (IfUnasked ((store.new ≡ store.old) × (out.new ≡ out.old) × (result.octets ≡ 0))) }
     ensures faults { MatchResult result.outcome (λ _. B.fault_count store.new ≡ B.fault_count store.old)
         (λ e. B.fault_count store.new ≡ count_after e (B.fault_count store.old)) }
+
+    // `Write` comes only where a write failed, or of an extract that is longer than the limit.
+    ensures stopped { B.honest store.new → (b : History) → Stands B.Standing b store.old
+        → result.outcome ≡ Err ExtractFault.Write
+        → StopsFor limit (length (extract_text inquiry.now.from inquiry.now.to b)) (W.failures out.old)
+        (W.failures out.new) }
+    ensures kept { MatchResult result.outcome (λ _. W.failures out.new ≡ W.failures out.old)
+        (λ e. e ≢ ExtractFault.Write → W.failures out.new ≡ W.failures out.old) }
 {
     if let Err(fault) = allow(inquiry) {
         return Extracted {
@@ -131,7 +147,7 @@ pub fn extract_length<B: Book + Drop>(
 }
 
 /// Writes the extract's lines, one after the other, and counts their octets.
-fn write_stamps<B: Book + Drop, W: Write>(
+fn write_stamps<B: Book + Drop, W: Output>(
     alloc: Global,
     store: &mut B,
     inquiry: &Inquiry<'_>,
@@ -147,6 +163,12 @@ fn write_stamps<B: Book + Drop, W: Write>(
     ensures refusals { IfErr result IsMet }
     ensures faults { MatchResult result (λ _. B.fault_count store.new ≡ B.fault_count store.old)
         (λ e. B.fault_count store.new ≡ count_after e (B.fault_count store.old)) }
+    ensures stopped { B.honest store.new → (b : History) → Stands B.Standing b store.old
+        → result ≡ Err ExtractFault.Write
+        → StopsFor limit (length (extract_text inquiry.now.from inquiry.now.to b)) (W.failures out.old)
+        (W.failures out.new) }
+    ensures kept { MatchResult result (λ _. W.failures out.new ≡ W.failures out.old)
+        (λ e. e ≢ ExtractFault.Write → W.failures out.new ≡ W.failures out.old) }
 {
     write_line(out, header(), limit, octets)?;
     let mut walk = StampsBetween::of(store, inquiry.from, inquiry.to);

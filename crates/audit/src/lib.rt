@@ -6,9 +6,11 @@ mod check;
 mod extracting;
 mod fault;
 mod line;
+mod output;
 mod writing;
 
 pub use check::check_row;
 pub use extracting::{Extracted, Inquiry, extract, extract_length, write_extract};
 pub use fault::ExtractFault;
+pub use output::Output;
 pub use writing::write_octets;

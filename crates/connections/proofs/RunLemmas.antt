@@ -1,6 +1,7 @@
 -- Connections are a run of the machine.
 use Rattle.std.proofs.Common.{◌≡◌, ◌∙◌, ℕ, ◌<◌, ℤ, List, [], ◌∷◌, ◌++◌, Option, Some, Result, Ok, Err, refl, ap, subst}
-use Rattle.std.proofs.Common.{sym, inl, inr}
+use Rattle.std.proofs.Common.{sym, inl, inr, IsErr}
+use Rattle.std.proofs.lemmas.Bool.{false≢true}
 use Rattle.book.specs.declared.standing.Standing.{Ghosts}
 use Rattle.book.specs.History.{History}
 use Rattle.book.specs.Sound.{IsSound}
@@ -23,9 +24,8 @@ use Rattle.service.specs.declared.served.Served.{Served}
 use Rattle.service.specs.declared.served.Served.TheVariants as served
 use Rattle.connections.specs.Run.{AreMetAnywhere}
 use Rattle.connections.specs.Run.{commands_of, answers_of, told, turn, told_for, told_in, told_by, told_along, IsRunOver}
-use Rattle.connections.specs.Run.{AreRun, AreLawfulRun, RunsEach, ServesEach}
+use Rattle.connections.specs.Run.{AreLawfulRun, ServesEach}
 use Rattle.connections.specs.Turns.{State, untold, Does, nothing, one, Leads, IsServedBy}
-use Rattle.connections.specs.Turns.{StopsByClock}
 use Rattle.connections.specs.declared.clock.ClockFailed.{ClockFailed}
 use Rattle.connections.proofs.TurnsLemmas.{leads_honest}
 
@@ -186,26 +186,6 @@ module _ {C B X : Type 0} (reads : C → Result ℤ ClockFailed → C → Type 0
       (told_along reads g signs count next rest new leads.1) (run_along next rest new leads.1 honest) b stood
       leads.0.does met
 
-  pub served_run : (n : ℕ) (old new : State C B X) → IsServedBy reads g signs count n old new
-      → (served : IsServedBy reads g signs count n old new) × AreRun reads g signs count served
-  served_run n old new served = (served, run_along old served.after new served.leads)
-
-  pub stopped_run : (n served : ℕ) (old last new : State C B X) → IsServedBy reads g signs count served old last
-      → served < n → (fault : ClockFailed) → reads last.clock (Err fault) new.clock → new.desk ≡ last.desk
-      → new.signer ≡ last.signer
-      → (stops : StopsByClock reads g signs count n old new) × AreRun reads g signs count stops.before
-  stopped_run n served old last new before fewer fault failed desk signer =
-      let stops : StopsByClock reads g signs count n old new = record {
-        served = served;
-        fewer = fewer;
-        last = last;
-        before = before;
-        failed = (fault, failed);
-        desk = desk;
-        signer = signer;
-      } in
-      (stops, run_along old before.after last before.leads)
-
   module _ (journeys : (s : Setting) (cs : List Command) (os : List Outcome) (b : History) (w : List Told) (b' : History)
       (x' : Option Setting) (w' : List Told) → AreMet s cs os b → Journey b (Some s) w
       → Continues s cs os b w b' x' w' → HasProperties b' w')
@@ -214,9 +194,9 @@ module _ {C B X : Type 0} (reads : C → Result ℤ ClockFailed → C → Type 0
       → Agree (viewer_in s.file account) b c → Runs signs s cs os b x answers b' x'
       → RunsAlike signs account s cs os c x answers b' x') where
     lawful : (n : ℕ) (old new : State C B X) (served : IsServedBy reads g signs count n old new)
-        → AreRun reads g signs count served → AreLawfulRun reads g signs count served
-    lawful n old new served run honest b stood met =
-        let r = run honest b stood met in
+        → AreLawfulRun reads g signs count served
+    lawful n old new served honest b stood met =
+        let r = run_along old served.after new served.leads honest b stood met in
         let asked = told_along reads g signs count old served.after new served.leads in (
           r,
           λ proper. record {
@@ -229,7 +209,24 @@ module _ {C B X : Type 0} (reads : C → Result ℤ ClockFailed → C → Type 0
           },
         )
 
-    pub lawful_each : {A : Type 0} (n : ℕ) (old new : State C B X) (result : Result A ClockFailed)
-        → RunsEach reads g signs count n old new result → ServesEach reads g signs count n old new result
-    lawful_each n old new (Ok done) h = (h.0, lawful n old new h.0 h.1)
-    lawful_each n old new (Err fault) h = (h.0, lawful h.0.served old h.0.last h.0.before h.1)
+    pub served_run : (n : ℕ) (old new : State C B X) → IsServedBy reads g signs count n old new
+        → (served : IsServedBy reads g signs count n old new) × AreLawfulRun reads g signs count served
+    served_run n old new served = (served, lawful n old new served)
+
+    pub stopped_run : {A : Type 0} (n served : ℕ) (old last new : State C B X)
+        → IsServedBy reads g signs count served old last → served < n → (fault : ClockFailed)
+        → reads last.clock (Err fault) new.clock → new.desk ≡ last.desk → new.signer ≡ last.signer
+        → (result : Result A ClockFailed) → IsErr result → ServesEach reads g signs count n old new result
+    stopped_run n served old last new before fewer fault failed desk signer (Err stopped) is = (
+      record {
+        served = served;
+        fewer = fewer;
+        last = last;
+        before = before;
+        failed = (fault, failed);
+        desk = desk;
+        signer = signer;
+      },
+      lawful served old last before,
+    )
+    stopped_run n served old last new before fewer fault failed desk signer (Ok done) is = absurd (false≢true is)

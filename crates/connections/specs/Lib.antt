@@ -1,3 +1,4 @@
 pub mod Clock
+pub mod Look
 pub mod Run
 pub mod Turns

@@ -104,15 +104,8 @@ module _ {C B X : Type 0} (reads : C → Result ℤ ClockFailed → C → Type 0
         → RunsAlike signs account s (commands_of told) run.outcomes c old.signer (answers_of told) run.history
         new.signer
 
-  -- While the store returns what was written, what the connections did is a run from each history that it stood for.
-  abbrev pub AreRun : {connections : ℕ} {old new : State C B X} → IsServedBy reads g signs count connections old new
-      → Type 0
-  AreRun {connections} {old} {new} served =
-      g.honest new.desk.store → (b : History) → Stands g b old.desk.store
-      → AreMetAnywhere (commands_of (told_along old served.after new served.leads))
-      → IsRunOver old.desk.setting (told_along old served.after new served.leads) b old new
-
-  -- It keeps its promises, as long as the policy file's accuracy and identifiers are such as files have.
+  -- While the store returns what was written, what the connections did is a run from each history that it stood for. It
+  -- keeps its promises, as long as the policy file's accuracy and identifiers are such as files have.
   abbrev pub AreLawfulRun : {connections : ℕ} {old new : State C B X}
       → IsServedBy reads g signs count connections old new → Type 0
   AreLawfulRun {connections} {old} {new} served =
@@ -123,13 +116,6 @@ module _ {C B X : Type 0} (reads : C → Result ℤ ClockFailed → C → Type 0
       → KeepsItsPromises old.desk.setting (told_along old served.after new served.leads) b old new run)
 
   -- What each result says: so many connections were served, or fewer, as the clock failed; and these are a run.
-  abbrev pub RunsEach : ℕ → State C B X → State C B X → {A : Type 0} → Result A ClockFailed → Type 0
-  RunsEach connections old new (Ok done) =
-      (served : IsServedBy reads g signs count connections old new) × AreRun served
-  RunsEach connections old new (Err fault) =
-      (stops : StopsByClock reads g signs count connections old new) × AreRun stops.before
-
-  -- The run keeps its promises, too.
   abbrev pub ServesEach : ℕ → State C B X → State C B X → {A : Type 0} → Result A ClockFailed → Type 0
   ServesEach connections old new (Ok done) =
       (served : IsServedBy reads g signs count connections old new) × AreLawfulRun served

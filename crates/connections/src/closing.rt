@@ -20,7 +20,8 @@ const MOST_READS: u32 = 64;
 /// with octets in it that weren't read would be reset, and the peer might lose what was written.
 #[derive(Drop)]
 pub(crate) struct Closing {
-    peer: Peer,
+    /// The connection.
+    pub(crate) peer: Peer,
     /// When the next octet has to have come.
     until: Instant,
     dropped: usize,
@@ -43,11 +44,6 @@ impl Closing {
             }),
             None => None,
         }
-    }
-
-    /// The system tells that something may be there of what has that token.
-    pub(crate) fn hear(&mut self, token: mio::Token) {
-        self.peer.hear(token);
     }
 
     /// The time that is left.

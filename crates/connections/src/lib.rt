@@ -1,12 +1,12 @@
-//! The counter over TCP: connections, read side by side and served one after the other.
+//! The counter over sockets: connections, read side by side and served one after the other.
 #![tactic(auto)]
 
 mod clock;
 mod closing;
 mod limited;
 mod listening;
+mod look;
 mod peer;
-mod request;
 mod serving;
 mod waiting;
 

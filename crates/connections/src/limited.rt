@@ -2,9 +2,9 @@
 ghost use Rattle.std.specs.Prelude.{◌≡◌, None};
 ghost use Rattle.std.specs.Io.{WritesAtMost};
 
+use sockets::Stream;
 use std::io;
 use std::io::{ErrorKind, Write};
-use std::net::TcpStream;
 use std::time::{Clock, Duration, Instant};
 
 /// How often a write is tried again that ended before its time, as where the process was stopped and goes on.
@@ -15,7 +15,7 @@ const MOST_INTERRUPTIONS: usize = 1_000;
 #[derive(Drop)]
 pub(crate) struct Limited<'a, R> {
     clock: &'a R,
-    stream: &'a TcpStream,
+    stream: &'a Stream,
     limit: Duration,
     /// When the time is up; none before the first write.
     pub(crate) end: Option<Instant>,
@@ -24,7 +24,7 @@ pub(crate) struct Limited<'a, R> {
 
 impl<'a, R: Clock> Limited<'a, R> {
     /// No time has passed of the limit.
-    pub(crate) fn new(clock: &'a R, stream: &'a TcpStream, limit: Duration) -> Limited<'a, R>
+    pub(crate) fn new(clock: &'a R, stream: &'a Stream, limit: Duration) -> Limited<'a, R>
         ensures limit { result.limit ≡ limit }
         ensures end { result.end ≡ None }
     {

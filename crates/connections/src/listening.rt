@@ -3,20 +3,23 @@ ghost use Rattle.std.specs.Prelude.{◌≡◌, IfOk};
 
 use crate::closing::Closing;
 use crate::peer::Peer;
-use crate::request::{Progress, Request};
-use crate::waiting::Waiting;
+use crate::waiting::{Progress, Waiting};
 use mio::unix::SourceFd;
 use mio::{Events, Interest, Poll, Registry, Token};
-use service::Routes;
+use service::{Request, Routes};
+use sockets::{Listener, Stream};
 use std::alloc::{AllocError, Global};
 use std::io;
 use std::io::ErrorKind;
-use std::net::{Net, Shutdown, TcpListener, TcpStream};
+use std::net::{Net, Shutdown};
 use std::os::fd::AsRawFd;
 use std::time::{Clock, Duration, Instant};
 
 /// The most connections that are read side by side.
-const MOST_WAITING: usize = 128;
+const MOST_WAITING: usize = 256;
+
+/// For how many seconds a connection keeps its place though others wait for one.
+const PLACE_SECONDS: u64 = 2;
 
 /// The most connections that are closed side by side.
 const MOST_CLOSING: usize = 128;
@@ -40,14 +43,15 @@ enum Taken {
     None,
 }
 
-/// A listener, and those of its connections that aren't done with. So many are read side by side, and the next one is
-/// taken once one of them is done with.
+/// A listener, and those of its connections that aren't done with. So many are read side by side. Where there are so
+/// many, the next one is taken once one of them is done with, or has waited for two seconds and no other for longer: that
+/// one is given up then.
 #[derive(Drop)]
 pub struct Listening<'l, R> {
     pub(crate) rt: &'l R,
     /// So much time a request has to come, and so much its answer to go out.
     pub limit: Duration,
-    listener: &'l TcpListener,
+    listener: &'l Listener,
     poll: Poll,
     events: Events,
     /// What requests may ask for.
@@ -69,7 +73,7 @@ fn hear(waiting: &mut [Waiting], closing: &mut [Closing], token: Token) {
         one.peer.hear(token);
     }
     for one in closing.iter_mut() {
-        one.hear(token);
+        one.peer.hear(token);
     }
 }
 
@@ -117,7 +121,7 @@ fn least_left(
 }
 
 /// What tells of connections of a listener, which doesn't wait for one from now on.
-fn poll_of<N: Net>(net: &N, listener: &TcpListener) -> io::Result<Poll> {
+fn poll_of<N: Net>(net: &N, listener: &Listener) -> io::Result<Poll> {
     listener.set_nonblocking(true)?;
     let poll = Poll::new(net)?;
     let descriptor = listener.as_raw_fd();
@@ -128,7 +132,8 @@ fn poll_of<N: Net>(net: &N, listener: &TcpListener) -> io::Result<Poll> {
 
 /// Room for the connections that are read side by side, and for those that are closed.
 fn room(alloc: Global) -> Result<(Vec<Waiting>, Vec<Closing>), AllocError> {
-    let waiting = Vec::with_capacity(alloc, MOST_WAITING)?;
+    // one more, which is taken before another is given up for it
+    let waiting = Vec::with_capacity(alloc, MOST_WAITING + 1)?;
     let closing = Vec::with_capacity(alloc, MOST_CLOSING)?;
     Ok((waiting, closing))
 }
@@ -147,7 +152,7 @@ impl<'l, R: AllocGlobal + Clock> Listening<'l, R> {
     pub fn new<N: Net>(
         net: &N,
         rt: &'l R,
-        listener: &'l TcpListener,
+        listener: &'l Listener,
         limit: Duration,
     ) -> io::Result<Listening<'l, R>>
         ensures { IfOk result (λ listening. listening.limit ≡ limit) }
@@ -182,8 +187,11 @@ impl<'l, R: AllocGlobal + Clock> Listening<'l, R> {
             if let Some(done) = self.take_done(now) {
                 return done;
             }
+            if self.is_crowded(most) && self.give_up(now) {
+                return None;
+            }
             self.close_some(now);
-            if self.wait().is_err() {
+            if self.wait(most).is_err() {
                 return None;
             }
         }
@@ -227,10 +235,34 @@ impl<'l, R: AllocGlobal + Clock> Listening<'l, R> {
         false
     }
 
+    /// Whether one may be there that has no place, or no descriptor. At most so many are waited for.
+    fn is_crowded(&self, most: usize) -> bool {
+        let count = self.waiting.len();
+        self.is_ready && (self.is_short || (MOST_WAITING <= count && count < most))
+    }
+
+    /// Gives up the connection that was taken first, if it has kept its place for long enough, for one that is there.
+    /// Whether one failed.
+    fn give_up(&mut self, now: Instant) -> bool {
+        match self.waiting.first() {
+            Some(first) if first.keeps_place_until <= now => {}
+            _ => return false,
+        }
+        // Where a descriptor is wanting, the next can't be taken before.
+        if !self.is_short {
+            match self.take_one(now) {
+                Taken::One => {}
+                Taken::Failed => return true,
+                Taken::None => return false,
+            }
+        }
+        self.removed(0).is_some()
+    }
+
     /// Takes a connection, if one is there.
     fn take_one(&mut self, now: Instant) -> Taken {
         match self.listener.accept() {
-            Ok((stream, _)) => match self.add(stream, now) {
+            Ok(stream) => match self.add(stream, now) {
                 Ok(()) => Taken::One,
                 Err(_) => Taken::Failed,
             },
@@ -249,27 +281,23 @@ impl<'l, R: AllocGlobal + Clock> Listening<'l, R> {
     }
 
     /// Waits for the request of a connection from now on.
-    fn add(&mut self, stream: TcpStream, now: Instant) -> io::Result<()> {
-        let Some(end) = now.checked_add(self.limit) else {
+    fn add(&mut self, stream: Stream, now: Instant) -> io::Result<()> {
+        let keeps_place_until = now.checked_add(Duration::from_secs(PLACE_SECONDS));
+        let (Some(end), Some(keeps_place_until)) = (now.checked_add(self.limit), keeps_place_until)
+        else {
             return Err(io::Error::from(ErrorKind::InvalidInput));
         };
         self.token = self.token.wrapping_add(1);
         self.waiting.push(Waiting {
             peer: Peer::new(stream, Token(self.token), end)?,
             request: Request::new(self.rt.alloc()),
+            keeps_place_until,
         })?;
         Ok(())
     }
 
-    /// Is done with a connection that was answered: closes it now, or once it was read until that moment.
-    pub(crate) fn release(&mut self, waiting: Waiting, end: Option<Instant>) {
-        if let Some(end) = end {
-            let _ = self.close(waiting, end);
-        }
-    }
-
     /// Ends our side of a connection that was answered, and drops what its client still sends, until that moment.
-    fn close(&mut self, waiting: Waiting, end: Instant) -> io::Result<()> {
+    pub(crate) fn close(&mut self, waiting: Waiting, end: Instant) -> io::Result<()> {
         let Waiting { peer, .. } = waiting;
         let now = Instant::now(self.rt)?;
         peer.stream.shutdown(Shutdown::Write)?;
@@ -303,20 +331,29 @@ impl<'l, R: AllocGlobal + Clock> Listening<'l, R> {
                 return;
             };
             self.close_some(now);
-            if self.closing.is_empty() || self.wait().is_err() {
+            if self.closing.is_empty() || self.wait(0).is_err() {
                 return;
             }
         }
     }
 
-    /// Waits until something may be there, or a connection has had its time.
-    fn wait(&mut self) -> io::Result<()> {
+    /// The time until one may be taken that is there and couldn't be taken yet.
+    fn pause(&self, now: Instant, most: usize) -> Option<Duration> {
+        if self.is_short {
+            return Some(Duration::from_millis(PAUSE_MILLISECONDS));
+        }
+        match self.waiting.first() {
+            Some(first) if self.is_crowded(most) => {
+                Some(first.keeps_place_until.duration_since(now))
+            }
+            _ => None,
+        }
+    }
+
+    /// Waits until something may be there, or a connection has had its time. At most so many are waited for.
+    fn wait(&mut self, most: usize) -> io::Result<()> {
         let now = Instant::now(self.rt)?;
-        let pause = if self.is_short {
-            Some(Duration::from_millis(PAUSE_MILLISECONDS))
-        } else {
-            None
-        };
+        let pause = self.pause(now, most);
         let left = least_left(&self.waiting, &self.closing, now, pause);
         match self.poll.poll(&mut self.events, left) {
             Ok(()) => {

@@ -1,8 +1,8 @@
 //! A stream that is waited for beside others.
 use mio::unix::SourceFd;
 use mio::{Interest, Registry, Token};
+use sockets::Stream;
 use std::io;
-use std::net::TcpStream;
 use std::os::fd::AsRawFd;
 use std::time::{Duration, Instant};
 
@@ -10,7 +10,7 @@ use std::time::{Duration, Instant};
 #[derive(Drop)]
 pub(crate) struct Peer {
     /// The stream.
-    pub(crate) stream: TcpStream,
+    pub(crate) stream: Stream,
     /// When it has had its time.
     pub(crate) end: Instant,
     /// Something may be there to be read.
@@ -21,7 +21,7 @@ pub(crate) struct Peer {
 
 impl Peer {
     /// A stream that was taken, under a token. What is there of it may be read.
-    pub(crate) fn new(stream: TcpStream, token: Token, end: Instant) -> io::Result<Peer> {
+    pub(crate) fn new(stream: Stream, token: Token, end: Instant) -> io::Result<Peer> {
         stream.set_nonblocking(true)?;
         Ok(Peer {
             stream,

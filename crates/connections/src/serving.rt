@@ -1,6 +1,6 @@
 //! Connections whose requests are whole, one after the other.
 ghost use Rattle.std.specs.Prelude.{◌≡◌, Err, IfErr, OnOk};
-ghost use Rattle.connections.specs.Run.{RunsEach, ServesEach};
+ghost use Rattle.connections.specs.Run.{ServesEach};
 ghost use Rattle.connections.specs.Turns.{IsTurn};
 
 use crate::clock::{Clock, ClockFailed};
@@ -10,16 +10,16 @@ use crate::waiting::Waiting;
 use book::Book;
 use cms::Signer;
 use desk::{Desk, accounts_are_isolated, journeys_keep_their_promises};
-use service::{Arrived, Environment, Exchanged, Served, serve_octets};
+use service::{Environment, Exchanged, Served};
 use std::time::Instant;
 
 /// The limit on a connection's time: so many seconds for its request, and so many for its answer.
 pub const CONNECTION_SECONDS: u64 = 20;
 
 /// Until which moment a connection has to be read further behind its answer, where its client may still send.
-fn rest_until(exchanged: Exchanged, count: usize, end: Option<Instant>) -> Option<Instant> {
+fn rest_until(exchanged: Exchanged, end: Option<Instant>) -> Option<Instant> {
     match exchanged.served {
-        Served::Answered(_) if !exchanged.is_whole || exchanged.taken < count => end,
+        Served::Answered(_) if !exchanged.is_all => end,
         _ => None,
     }
 }
@@ -39,23 +39,17 @@ fn serve_request<R: AllocGlobal + std::time::Clock, C: Clock, B: Book + Drop, G:
     ensures desk_kept { IfErr result (λ fault. desk.new ≡ desk.old) }
     ensures signer_kept { IfErr result (λ fault. signer.new ≡ signer.old) }
 {
-    let reading = match clock.reading() {
-        Ok(reading) => reading,
-        Err(failed) => return Err(failed),
-    };
+    let reading = clock.reading()?;
     let environment = Environment {
         alloc: listening.rt.alloc(),
         routes: &listening.routes,
         reading,
     };
-    let octets = waiting.request.octets();
-    let arrived = Arrived {
-        octets,
-        is_ended: waiting.request.is_ended(),
-    };
     let mut output = Limited::new(listening.rt, &waiting.peer.stream, listening.limit);
-    let exchanged = serve_octets(environment, arrived, desk, signer, &mut output);
-    Ok(rest_until(exchanged, octets.len(), output.end))
+    let exchanged = waiting
+        .request
+        .serve(environment, desk, signer, &mut output);
+    Ok(rest_until(exchanged, output.end))
 }
 
 /// Waits for the next connection whose request is whole, and serves it. At most so many are waited for.
@@ -76,44 +70,18 @@ fn serve_connection<R: AllocGlobal + std::time::Clock, C: Clock, B: Book + Drop,
     let Some(waiting) = listening.next(most) else {
         return Ok(());
     };
-    match serve_request(listening, &waiting, clock, desk, signer) {
-        Ok(end) => {
-            listening.release(waiting, end);
-            Ok(())
-        }
-        Err(failed) => Err(failed),
+    if let Some(end) = serve_request(listening, &waiting, clock, desk, signer)? {
+        // What can't be read further is closed.
+        let _ = listening.close(waiting, end);
     }
-}
-
-/// Serves so many connections.
-fn serve_each<R: AllocGlobal + std::time::Clock, C: Clock, B: Book + Drop, G: Signer>(
-    listening: &mut Listening<'_, R>,
-    count: u32,
-    clock: &mut C,
-    desk: &mut Desk<'_, B>,
-    signer: &mut G,
-) -> Result<(), ClockFailed>
-    ensures setting { desk.new.setting ≡ desk.old.setting }
-    ensures honest { B.honest desk.new.store → B.honest desk.old.store }
-    ensures served { RunsEach C.reads B.Standing G.signs G.fault_count count
-        (record { clock = clock.old; desk = desk.old; signer = signer.old })
-        (record { clock = clock.new; desk = desk.new; signer = signer.new }) result }
-{
-    for done in 0..count {
-        let most = (count - done) as usize;
-        match serve_connection(listening, most, clock, desk, signer) {
-            Ok(()) => {}
-            Err(fault) => return Err(fault),
-        }
-    }
-    listening.finish();
     Ok(())
 }
 
-/// Serves so many connections: one request of each, as `service::serve_one` serves it. They are served one after the other, and
-/// the next is one whose request is whole; until then up to 128 are read side by side, so that none holds up another.
-/// One that fails counts too, also where it was given up before it could be taken. Where the system has no descriptor
-/// for one, it is tried again after 50 milliseconds.
+/// Serves so many connections: one request of each, as `service::serve_one` serves it. They are served one after the
+/// other, and the next is one whose request is whole; until then up to 256 are read side by side, so that none holds up
+/// another. One that fails counts too, also where it was given up: by its client before it could be taken, or for
+/// another, where it has waited longest, for two seconds at least. Where the system has no descriptor for one, it is
+/// tried again after 50 milliseconds.
 ///
 /// A request has the listening's time to come, from when its connection is taken, and its answer as much to go out,
 /// from when it begins; what isn't done by then fails. The clock is asked once for each request, when it is there.
@@ -136,5 +104,10 @@ pub fn serve_connections<R: AllocGlobal + std::time::Clock, C: Clock, B: Book + 
 {
     journeys_keep_their_promises();
     accounts_are_isolated::<G>();
-    serve_each(listening, count, clock, desk, signer)
+    for done in 0..count {
+        let most = (count - done) as usize;
+        serve_connection(listening, most, clock, desk, signer)?;
+    }
+    listening.finish();
+    Ok(())
 }

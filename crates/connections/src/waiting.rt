@@ -1,12 +1,37 @@
 //! A connection whose request is still to come.
 use crate::peer::Peer;
-use crate::request::{Progress, Request};
 use mio::Registry;
-use service::Routes;
+use service::{Request, Routes};
+use std::io::ErrorKind;
 use std::time::Instant;
 
 /// How often one connection is read before it is another's turn.
 const MOST_READS: u32 = 64;
+
+/// How far a request has come.
+#[derive(Clone, Copy)]
+pub(crate) enum Progress {
+    /// Octets came, and others are wanted.
+    Came,
+    /// Others are wanted, and none are there yet.
+    Waits,
+    /// All is there that will be read of it.
+    Whole,
+    /// No octet came before the end, or a read failed.
+    Failed,
+}
+
+/// How far a request has come behind a read.
+fn progress_after(request: &Request, read: Result<(), ErrorKind>) -> Progress {
+    match read {
+        Ok(()) if request.is_open() => Progress::Came,
+        Ok(()) if request.is_closed() => Progress::Failed,
+        Ok(()) => Progress::Whole,
+        Err(ErrorKind::WouldBlock) => Progress::Waits,
+        Err(ErrorKind::Interrupted) => Progress::Came,
+        Err(_) => Progress::Failed,
+    }
+}
 
 /// A connection, and what has come of its request.
 #[derive(Drop)]
@@ -15,6 +40,8 @@ pub(crate) struct Waiting {
     pub(crate) peer: Peer,
     /// Its request.
     pub(crate) request: Request,
+    /// Until when it isn't given up for another.
+    pub(crate) keeps_place_until: Instant,
 }
 
 impl Waiting {
@@ -22,7 +49,8 @@ impl Waiting {
     fn read(&mut self, routes: &Routes, registry: &Registry) -> Progress {
         for _ in 0..MOST_READS {
             let mut stream = &self.peer.stream;
-            match self.request.read_on(routes, &mut stream) {
+            let read = self.request.read_ahead(routes, &mut stream);
+            match progress_after(&self.request, read) {
                 Progress::Came => {}
                 Progress::Waits => match self.peer.wait(registry) {
                     Ok(()) => return Progress::Waits,

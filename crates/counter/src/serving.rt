@@ -14,7 +14,7 @@ use operations::{
     DatabaseDesk, DeskOperation, Disk, FileFrom, HostSigner, OperationFault, Renewal, Start,
     perform_at_desk,
 };
-use std::net::TcpListener;
+use sockets::Listener;
 use std::time::Duration;
 
 /// Connections at an address are served.
@@ -27,7 +27,7 @@ struct Serving<'a> {
 impl DeskOperation<(), ()> for Serving<'_> {
     type Answer = Result<(), OperationFault>;
 
-    type Means = TcpListener;
+    type Means = Listener;
 
     ghost lacks = { IsUnheard };
 
@@ -38,8 +38,8 @@ impl DeskOperation<(), ()> for Serving<'_> {
         serving.connections (state_before clock visit) (state_after clock' visit) done };
 
     /// Listens on the address.
-    fn prepare(&self, rt: &HostRuntime) -> Result<TcpListener, OperationFault> {
-        match TcpListener::bind(rt, self.address) {
+    fn prepare(&self, rt: &HostRuntime) -> Result<Listener, OperationFault> {
+        match Listener::bind(rt, self.address) {
             Ok(listener) => Ok(listener),
             Err(_) => Err(OperationFault::Unheard),
         }
@@ -47,14 +47,14 @@ impl DeskOperation<(), ()> for Serving<'_> {
 
     fn perform<B: Book + Drop, G: Signer>(
         self,
-        listener: TcpListener,
+        listener: Listener,
         rt: &HostRuntime,
         desk: &mut Desk<'_, B>,
         signer: &mut G,
         _input: &mut (),
         _output: &mut (),
     ) -> Result<(), OperationFault> {
-        let mut clock = SystemClock { machine: rt };
+        let mut clock = SystemClock::new(rt);
         serve_at(rt, &listener, desk, signer, &mut clock, self.connections)
     }
 }
@@ -93,7 +93,7 @@ pub fn serve<F: Start + Drop>(
 /// Serves connections of a listener.
 fn serve_at<B: Book + Drop, G: Signer, C: Clock>(
     rt: &HostRuntime,
-    listener: &TcpListener,
+    listener: &Listener,
     desk: &mut Desk<'_, B>,
     signer: &mut G,
     clock: &mut C,

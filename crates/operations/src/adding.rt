@@ -1,9 +1,8 @@
 //! What an operator adds to the history.
-ghost use Rattle.std.specs.Prelude.{◌≡◌, ◌⊎◌, ◌∷◌, Err, IfErr, IfOk, IsErr, Ok, OnOk, OnErr};
-ghost use Rattle.book.specs.Fault.{CountsFaults};
+ghost use Rattle.std.specs.Prelude.{◌≡◌, ◌⊎◌, [], ◌∷◌, Err, IfErr, IfOk, IsErr};
+ghost use Rattle.book.specs.Entries.{Appends};
 ghost use Rattle.book.specs.History.{History};
-ghost use Rattle.book.specs.Sound.{Fits};
-ghost use Rattle.book.specs.Stands.{LeavesAsBefore, LeavesOrAdds, Stands};
+ghost use Rattle.book.specs.Stands.{LeavesAsBefore, Stands};
 ghost use Rattle.store.specs.Opening.{image_at};
 ghost use Rattle.operations.specs.Addition.{IsAdded, IsAdditionFault, IsBefore, entry_of, number_of};
 ghost use Rattle.operations.specs.OverFiles.{IsAddedOver};
@@ -28,19 +27,14 @@ impl Addition {
     /// refusals: `Memory`, `Database`, and `Backwards` for a calibration whose reading is before that of the latest.
     /// The answer is its number: calibrations count 1, 2, 3 and so on, and so do holds.
     pub fn add_to<B: Book>(&self, book: &mut B) -> Result<u64, StoreFault>
-        ensures opened { B.honest book.new → OnOk result (B.is_open book.old × B.is_open book.new) }
-        ensures ok { (b : History) → Stands B.Standing b book.old → Fits (entry_of self.now) b
-            → OnOk result (Stands B.Standing (entry_of self.now ∷ b) book.new) }
-        ensures err { (b : History) → Stands B.Standing b book.old → OnErr result (Stands B.Standing b book.new) }
+        ensures appends { Appends B.Standing (entry_of self.now ∷ []) book.old book.new result }
         ensures number { B.honest book.new → (b : History) → Stands B.Standing b book.old
             → IfOk result (λ number. number ≡ number_of self.now b) }
-        ensures crash { LeavesOrAdds B.Standing (entry_of self.now) book.old book.new }
         ensures backwards { B.honest book.new → (b : History) → Stands B.Standing b book.old
             → result ≡ Err StoreFault.Backwards → IsBefore self.now b }
         ensures refused { B.honest book.new → (b : History) → Stands B.Standing b book.old → IsBefore self.now b
             → IsErr result × LeavesAsBefore B.Standing book.old book.new }
         ensures refusals { IfErr result IsAdditionFault }
-        ensures faults { CountsFaults result (B.fault_count book.old) (B.fault_count book.new) }
     {
         match self {
             Addition::Calibration(calibration) => book.calibrate(calibration),

@@ -1,10 +1,9 @@
 pub mod ExtractLemmas
-pub mod FrontLemmas
 pub mod HandledLemmas
-pub mod HeadLemmas
 pub mod Joined
-pub mod LineLemmas
+pub mod KnownLemmas
 pub mod Operators
+pub mod RequestLemmas
 pub mod Rows
 pub mod ServingLemmas
 pub mod TargetLemmas

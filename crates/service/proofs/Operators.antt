@@ -1,5 +1,5 @@
 -- What an operator's form has, and what is answered to it.
-use Rattle.std.proofs.Common.{◌≡◌, ◌∙◌, ℕ, ℤ, List, ◌∷◌, true, false, Option, Some, Result, Ok, Err, refl, ap, inl, inr}
+use Rattle.std.proofs.Common.{◌≡◌, ◌∙◌, ℕ, ℤ, List, ◌∷◌, true, false, Option, Some, Result, Ok, Err, refl, ap, inl, inr, subst}
 use Rattle.std.specs.Prelude.{IfErr}
 use Rattle.std.specs.Str.{bytes_eq}
 use Rattle.book.specs.Fault.{IsOfStorage}
@@ -19,7 +19,7 @@ use Rattle.desk.specs.Stepped.{DeskValue}
 use Rattle.service.specs.Answers.{AnswerValue, success}
 use Rattle.service.specs.Forms.{field_of}
 use Rattle.service.specs.Served.{Tells, plainly, backwards, SendsOrWants}
-use Rattle.service.specs.Status.{status_text}
+use Rattle.service.specs.Status.{IsStatusText}
 use Rattle.service.specs.Telling.{ServesStatus}
 use Rattle.service.specs.declared.answer.Media.TheVariants as media
 use Rattle.service.specs.declared.served.Served.{Served}
@@ -37,7 +37,7 @@ found_later name field fields is = rw is
 -- the state of the clock as it was looked at, and the store's count of faults since
 pub status_told : {B W : Type 0} (g : Ghosts B) (contents : W → Option (List ℕ)) (w w' : W) (old new : B)
     (counter file_counter : CounterValue) (reading asked : ℤ) (looked : Looked) (store signer : ℕ) (body : List ℕ)
-    (outcome : Served) → body ≡ status_text counter asked looked store signer → counter ≡ file_counter → asked ≡ reading
+    (outcome : Served) → IsStatusText counter looked store signer body → counter ≡ file_counter → asked ≡ reading
     → (g.honest new → (b : History) → Stands g b old → looked ≡ looked_at asked b) → store ≡ g.fault_count new
     → SendsOrWants contents w w' (success 200 media.Text body) outcome
     → ServesStatus g contents w w' old new file_counter reading signer outcome
@@ -45,11 +45,10 @@ status_told g contents w w' old new counter file_counter reading asked looked st
     counted sent = inl (record {
       body = body;
       is = λ honest b stands.
-          text ∙ ap (λ x. status_text x asked looked store signer) of
-          ∙ ap (λ x. status_text file_counter x looked store signer) at
-          ∙ ap (λ x. status_text file_counter reading x store signer) (finds honest b stands)
-          ∙ ap (λ x. status_text file_counter reading (looked_at x b) store signer) at
-          ∙ ap (λ x. status_text file_counter reading (looked_at reading b) x signer) counted;
+          let C : CounterValue → Type 0 = λ x. IsStatusText x looked store signer body in
+          let L : Looked → Type 0 = λ x. IsStatusText file_counter x store signer body in
+          let S : ℕ → Type 0 = λ x. IsStatusText file_counter (looked_at reading b) x signer body in
+          subst S counted (subst L (finds honest b stands ∙ ap (λ x. looked_at x b) at) (subst C of text));
       sent = sent;
     })
 

@@ -1,21 +1,31 @@
 -- What is written, and why.
-use Rattle.std.proofs.Common.{◌≡◌, ℕ, ℤ, List, Option, Result, Ok, Err}
-use Rattle.std.proofs.Common.{refl, inl, inr, subst}
+use Rattle.std.proofs.Common.{◌≡◌, ◌∙◌, ℕ, ℤ, true, List, [], ◌++◌, Option, Result, Ok, Err, length, take}
+use Rattle.std.proofs.Common.{ap, append-nil, arith, refl, inl, inr, subst, sym}
+use Rattle.std.proofs.KnownBytes.{Consumes-trans}
+use Rattle.std.proofs.lemmas.List.{take_all}
+use Rattle.std.specs.Io.KnownBytes.{Consumes, IsAtEnd}
 use Rattle.book.specs.declared.standing.Standing.{Ghosts}
 use Rattle.cms.specs.declared.signer.SignerFault.{SignerFault}
 use Rattle.book.specs.Rights.{ListedValue}
 use Rattle.desk.specs.Command.{Command, Answer, Calibrate, ListAll, Listed}
 use Rattle.desk.specs.Stepped.{DeskValue}
-use Rattle.policy.specs.Record.{AccountValue}
+use Rattle.policy.specs.Record.{AccountValue, PolicyValue}
 use Rattle.service.specs.Answers.{AnswerValue, refusal_answer}
 use Rattle.service.specs.Refusals.{refusal_of_extract}
 use Rattle.service.specs.Extracting.{ServesExtract, extracted, kept_back, too_long}
-use Rattle.service.specs.Requests.{Report, Step, Look, Extract, IsEarly}
-use Rattle.service.specs.Served.{Turn, IsIdle, IsLook, Reads, Sends, SendsOctets, unavailable, Takes}
+use Rattle.service.specs.Known.{IsAnswerable, IsDue, checked, spoiled, wanting, wanting_body}
+use Rattle.service.specs.Received.{ReceivedValue, in_body, in_head}
+use Rattle.service.specs.Requests.{Report, Step, Look, Extract, IsEarly, IsRequest, asked_by, cut_body, cut_head, head}
+use Rattle.service.specs.Requests.{headless, nothing, refused_head, whole}
+use Rattle.service.specs.Served.{Turn, IsIdle, IsSilent, IsLook, Reads, Sends, SendsOctets, unavailable, Takes}
 use Rattle.service.specs.Served.{IsAnswer, refuses, replies, turns_back, looks, wants_early, wants_list, Tells, plainly}
 use Rattle.service.specs.Served.{backwards, Reports, keeps_back, overflows}
 use Rattle.service.specs.Served.{Extracts, Serves}
+use Rattle.service.specs.Views.{head_view}
+use Rattle.service.specs.declared.due.Due.TheVariants as due
+use Rattle.service.specs.declared.head.Head.{Head}
 use Rattle.service.specs.declared.refusal.Refusal.{Refusal}
+use Rattle.service.specs.declared.routes.Action.{Action}
 use Rattle.service.specs.declared.served.Served.{Served}
 use Rattle.service.specs.declared.served.Served.TheVariants as served
 
@@ -32,6 +42,23 @@ turn before after w w' d d' x x' = record {
   signer = x;
   signer_after = x';
 }
+
+-- nothing more is read
+pub and_nothing : (a b c : Option (List ℕ)) (octets : List ℕ) → Consumes a b octets → Consumes b c []
+    → Consumes a c octets
+and_nothing a b c octets first second =
+    let P : List ℕ → Type 0 = λ l. Consumes a c l in
+    subst P (append-nil octets) (Consumes-trans a b c octets [] first second)
+
+-- what was read of a request is a request that is whole
+pub answerable : (file : PolicyValue) (reading : ℤ) (before after : Option (List ℕ)) (octets : List ℕ) (action : Action)
+    (start : Head) (body : List ℕ) → IsAnswerable octets action start body → Consumes before after octets
+    → IsRequest file reading before after (asked_by file reading (head_view start) body action)
+answerable file reading before after octets action start body is read =
+    let P : List ℕ → Type 0 = λ l. Consumes before after l in
+    whole is.read is.is_head is.asked is.wanted body is.count (subst P is.split read)
+    (ap (asked_by file reading (head_view start) body) is.action_is
+    ∙ ap (λ v. asked_by file reading v body is.asked.action) is.same)
 
 module _ {W B X : Type 0} (g : Ghosts B) (signs : X → List ℕ → Result (List ℕ) SignerFault → X → Type 0) (count : X → ℕ)
     (contents : W → Option (List ℕ)) (reading : ℤ) (t : Turn W B X) where
@@ -71,6 +98,47 @@ module _ {W B X : Type 0} (g : Ghosts B) (signs : X → List ℕ → Result (Lis
   pub wanting_early : (outcome : Served) → IsEarly t.input t.input_after → IsIdle t
       → Sends contents t.writer t.writer_after unavailable outcome → Serves g signs count contents reading t outcome
   wanting_early outcome early idle sent = sends unavailable outcome (wants_early early idle refl) sent
+
+  -- why a request is refused
+  pub refusing_due : (r : ReceivedValue) (f : Refusal) (outcome : Served) → IsDue r (due.Refusal f)
+      → Consumes t.input t.input_after (take r.taken r.octets)
+      → (r.is_ended ≡ true → r.taken ≡ length r.octets → IsAtEnd t.input_after) → IsIdle t
+      → Sends contents t.writer t.writer_after (refusal_answer f) outcome
+      → Serves g signs count contents reading t outcome
+  refusing_due r f outcome (inl (spoiled is same)) read ended idle sent =
+      refusing f outcome (headless (take r.taken r.octets) is read (ap Err same)) idle sent
+  refusing_due r f outcome (inl (checked h is wanted same)) read ended idle sent =
+      let P : List ℕ → Type 0 = λ l. Consumes t.input t.input_after l in
+      refusing f outcome (refused_head h is (subst P same read) f wanted refl) idle sent
+  refusing_due r f outcome (inl (wanting none same)) read ended idle sent =
+      let P : List ℕ → Type 0 = λ l. Consumes t.input t.input_after l in
+      sends (refusal_answer f) outcome (wants_early (nothing (subst P none read)) idle (ap refusal_answer same)) sent
+  refusing_due r f outcome (inl (wanting_body h is split same)) read ended idle sent =
+      let P : List ℕ → Type 0 = λ l. Consumes t.input t.input_after l in
+      sends (refusal_answer f) outcome (wants_early (head h is (subst P split read)) idle (ap refusal_answer same)) sent
+  refusing_due r f outcome (inr (cut, same)) read ended idle sent =
+      let P : List ℕ → Type 0 = λ l. Consumes t.input t.input_after l in
+      let all : take r.taken r.octets ≡ r.octets =
+      ap (λ n. take n r.octets) cut.all ∙ take_all (length r.octets) r.octets (omega arith) in
+      let reads : Reads reading t (Err f) =
+      elim cut.partial [
+        | in_head begun ↦
+            cut_head r.octets cut.some begun (subst P all read) (ended cut.ended cut.all) (ap Err same)
+        | in_body h is w wanted part short split ↦
+            cut_body h is w wanted part short (subst P (all ∙ split) read) (ended cut.ended cut.all) (ap Err same)
+      ] in
+      refusing f outcome reads idle sent
+
+  -- nothing came before the end
+  pub closing : (r : ReceivedValue) → IsDue r due.Nothing → Consumes t.input t.input_after (take r.taken r.octets)
+      → (r.is_ended ≡ true → r.taken ≡ length r.octets → IsAtEnd t.input_after) → IsSilent t
+      → Serves g signs count contents reading t served.Closed
+  closing r is read ended silent =
+      let P : List ℕ → Type 0 = λ l. Consumes t.input t.input_after l in (
+        subst P (ap (λ n. take n r.octets) is.2) read,
+        ended is.1 (is.2 ∙ sym (ap length is.0)),
+        silent,
+      )
 
   -- a report is told
   pub reporting : (r : Report) (a : AnswerValue) (outcome : Served) → Reads reading t (Ok (Look r))

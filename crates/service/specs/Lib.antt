@@ -3,12 +3,11 @@ pub mod Checks
 pub mod Extracting
 pub mod Fields
 pub mod Forms
-pub mod Fronts
 pub mod Handling
 pub mod Heads
-pub mod Lines
+pub mod Known
 pub mod Numbers
-pub mod Reading
+pub mod Received
 pub mod Refusals
 pub mod Requests
 pub mod Routes

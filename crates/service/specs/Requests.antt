@@ -10,6 +10,7 @@ use Rattle.service.specs.Checks.{◌>>=◌, WantedValue, wanted_by, account_show
 use Rattle.service.specs.Checks.{reference_stated, range_stated, operator_shown, watcher_shown}
 use Rattle.service.specs.Forms.{calibration_stated, hold_stated}
 use Rattle.service.specs.Heads.{HeadValue, head_value, IsHead, IsBegun, IsHeadless}
+use Rattle.service.specs.Received.{IsPartial}
 use Rattle.service.specs.Routes.{parameter}
 use Rattle.service.specs.declared.refusal.Refusal.{Refusal}
 use Rattle.service.specs.declared.refusal.Refusal.TheVariants as refusal
@@ -124,10 +125,10 @@ pub data IsRequest (file : PolicyValue) (reading : ℤ) (old new : Option (List 
       → asked ≡ asked_by file reading (head_value h) body w.action → IsRequest file reading old new asked
 
 -- A part of a request was read, to which at least one octet is wanting, and no octet behind it.
-pub data IsPart (old new : Option (List ℕ)) : Type 0 where
-  of_head : (octets : List ℕ) → IsBegun octets → Consumes old new octets → IsPart old new
-  of_body : (h : RequestHead) → IsHead (print_request h) h → (w : WantedValue) → wanted_by (head_value h) ≡ Ok w
-      → (part : List ℕ) → length part < w.count → Consumes old new (print_request h ++ part) → IsPart old new
+pub record IsPart (old new : Option (List ℕ)) : Type 0 where
+  pub octets : List ℕ
+  pub is : IsPartial octets
+  pub consumed : Consumes old new octets
 
 -- Nothing was read, or a head and no octet behind it.
 pub data IsEarly (old new : Option (List ℕ)) : Type 0 where

@@ -21,9 +21,9 @@ use Rattle.audit.specs.Fault.{count_after}
 use Rattle.audit.specs.declared.fault.ExtractFault.{ExtractFault}
 use Rattle.audit.specs.declared.fault.ExtractFault.TheVariants.{Write}
 use Rattle.service.specs.Answers.{AnswerValue, answer_text, answer_to, extract_answer, refusal_answer, success}
-use Rattle.service.specs.Refusals.{refusal_of_extract}
+use Rattle.service.specs.Refusals.{refusal_of_extract, status_of}
 use Rattle.service.specs.Requests.{Asked, Report, Step, Look, Extract, Status, IsRequest, IsPart, IsEarly}
-use Rattle.service.specs.Status.{status_text}
+use Rattle.service.specs.Status.{IsStatusText}
 use Rattle.service.specs.declared.answer.Media.TheVariants as media
 use Rattle.service.specs.declared.refusal.Refusal.{Refusal}
 use Rattle.service.specs.declared.refusal.Refusal.TheVariants as refusal
@@ -89,6 +89,13 @@ SendsOctets contents old new (served.WriteFailed told sent) =
 abbrev pub turned_back : Answer
 turned_back = Refused fault.Store
 
+-- an answer that tells that the input ended in the request, or none where it ended before
+abbrev pub TellsCut : Served → Type 0
+TellsCut served.Closed = Unit {0}
+TellsCut (served.Answered status) = status ≡ status_of refusal.BadRequest
+TellsCut served.ReadFailed = ⊥
+TellsCut (served.WriteFailed status sent) = status ≡ status_of refusal.BadRequest
+
 module _ {B X : Type 0} (g : Ghosts B) (signs : X → List ℕ → Result (List ℕ) SignerFault → X → Type 0) (count : X
     → ℕ) where
   -- the desk takes the command's step and no other; the signer moves by it, and stays where the step asks none
@@ -126,8 +133,7 @@ module _ {B X : Type 0} (g : Ghosts B) (signs : X → List ℕ → Result (List 
   abbrev pub IsStatus : ℤ → DeskValue B → DeskValue B → X → List ℕ → Type 0
   IsStatus reading old new signer body =
       g.honest new.store → (b : History) → Stands g b old.store
-      → body
-      ≡ status_text old.setting.file.counter reading (looked_at reading b) (g.fault_count new.store) (count signer)
+      → IsStatusText old.setting.file.counter (looked_at reading b) (g.fault_count new.store) (count signer) body
 
   -- An extract is refused, where that refusal comes; the store's are counted. What can't be written has 2^64 octets or
   -- more.

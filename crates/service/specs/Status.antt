@@ -1,11 +1,12 @@
 -- What the counter tells of its state: lines of a name and a value, of what a look at the store finds.
-use Rattle.std.specs.Prelude.{ℕ, ◌+◌, ◌-◌, ◌*◌, ◌/◌, ◌==◌, min, nat_le, ℤ, Bool, List, ◌++◌, codes, Option, Some, None}
-use Rattle.std.specs.Prelude.{option_map, if◌then◌else◌}
-use Rattle.std.specs.Fmt.{decimal}
+use Rattle.std.specs.Prelude.{◌≡◌, ℕ, ◌+◌, ◌-◌, ◌*◌, ◌/◌, ◌==◌, min, nat_le, ℤ, pos, negsuc, ◌-ℤ◌, Bool, true, false}
+use Rattle.std.specs.Prelude.{List, ◌++◌, codes, Option, Some, None, option_map, if◌then◌else◌}
+use Rattle.std.specs.Fmt.{decimal, signed_decimal}
 use Rattle.gentime.specs.GenTime.{text_of}
 use Rattle.policy.specs.Record.{CounterValue}
-use Rattle.decide.specs.Clock.{elapsed, step}
+use Rattle.decide.specs.Clock.{IsGood, step}
 use Rattle.decide.specs.declared.facts.Calibration.{Calibration}
+use Rattle.decide.specs.declared.facts.ClockFacts.{ClockFacts}
 use Rattle.desk.specs.declared.looking.Looked.{Looked}
 use Rattle.service.specs.Answers.{line_feed}
 
@@ -24,9 +25,18 @@ unfoldable pub greatest_age : CounterValue → Calibration → ℕ
 greatest_age counter c =
     if nat_le (c.uncertainty + (step counter - 1)) counter.accuracy_us then drifting counter (room counter c) else 0
 
+-- how old it is, in microseconds: less than nothing where its reading is still to come
+abbrev pub age : ℤ → Calibration → ℤ
+age reading c = reading -ℤ c.reading
+
+-- what is left of the greatest age: nothing where the calibration's reading is still to come
+abbrev pub left_of : ℕ → ℤ → ℕ
+left_of greatest (pos since) = greatest - since
+left_of greatest (negsuc until) = 0
+
 -- how long it lasts yet
 abbrev pub age_left : CounterValue → ℤ → Calibration → ℕ
-age_left counter reading c = greatest_age counter c - elapsed reading c
+age_left counter reading c = left_of (greatest_age counter c) (age reading c)
 
 -- a value, or that there is none
 abbrev pub or_none : {A : Type 0} → (A → List ℕ) → Option A → List ℕ
@@ -41,24 +51,38 @@ abbrev pub named : List ℕ → List ℕ → List ℕ
 named name value = name ++ codes " " ++ value ++ line_feed
 
 -- how long ago the latest calibration was, and how long it lasts yet
-abbrev pub calibration_lines : Option ℕ → Option ℕ → List ℕ
+abbrev pub calibration_lines : Option ℤ → Option ℕ → List ℕ
 calibration_lines age left =
-    named (codes "calibration-age-us") (or_none decimal age)
+    named (codes "calibration-age-us") (or_none signed_decimal age)
     ++ named (codes "calibration-left-us") (or_none decimal left)
 
-abbrev pub clock_lines : Option ℕ → Option ℕ → Option ℕ → Bool → List ℕ
-clock_lines moment age left held =
-    named (codes "last-gen-time") (or_none (text_of 6) moment) ++ calibration_lines age left
-    ++ named (codes "held") (yes_or_no held)
+-- whether now is held, and whether the clock lets a token be given
+abbrev pub giving_lines : Bool → Bool → List ℕ
+giving_lines held gives = named (codes "held") (yes_or_no held) ++ named (codes "tokens") (yes_or_no gives)
+
+-- the clock at its reading
+abbrev pub clock_lines : CounterValue → ClockFacts → Bool → List ℕ
+clock_lines counter clock gives =
+    named (codes "last-gen-time") (or_none (text_of 6) clock.last_gen_time)
+    ++ calibration_lines (option_map (age clock.reading) clock.calibration)
+    (option_map (age_left counter clock.reading) clock.calibration)
+    ++ giving_lines clock.held gives
 
 -- the faults of store and signer since the start
 abbrev pub fault_lines : ℕ → ℕ → List ℕ
 fault_lines store signer = named (codes "store-faults") (decimal store) ++ named (codes "signer-faults") (decimal signer)
 
--- the state at a reading of the clock
-abbrev pub status_text : CounterValue → ℤ → Looked → ℕ → ℕ → List ℕ
-status_text counter reading looked store signer =
-    named (codes "serial") (decimal looked.serial)
-    ++ clock_lines looked.clock.last_gen_time (option_map (elapsed reading) looked.clock.calibration)
-    (option_map (age_left counter reading) looked.clock.calibration) looked.clock.held
-    ++ fault_lines store signer
+abbrev pub status_text : CounterValue → Looked → Bool → ℕ → ℕ → List ℕ
+status_text counter looked gives store signer =
+    named (codes "serial") (decimal looked.serial) ++ clock_lines counter looked.clock gives ++ fault_lines store signer
+
+-- whether the clock lets a token be given
+abbrev pub Gives : CounterValue → ClockFacts → Bool → Type 0
+Gives counter clock true = IsGood counter clock
+Gives counter clock false = IsGood counter clock → ⊥
+
+-- the text is the state that was looked at
+pub record IsStatusText (counter : CounterValue) (looked : Looked) (store signer : ℕ) (text : List ℕ) : Type 0 where
+  pub gives : Bool
+  pub given : Gives counter looked.clock gives
+  pub lines : text ≡ status_text counter looked gives store signer

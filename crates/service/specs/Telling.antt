@@ -1,5 +1,5 @@
 -- What the answers on the counter's state give: stepping stones of the proofs.
-use Rattle.std.specs.Prelude.{◌≡◌, ◌⊎◌, ℕ, ℤ, List, Option}
+use Rattle.std.specs.Prelude.{◌⊎◌, ℕ, ℤ, List, Option}
 use Rattle.book.specs.declared.standing.Standing.{Ghosts}
 use Rattle.book.specs.History.{History}
 use Rattle.book.specs.Stands.{Stands}
@@ -7,7 +7,7 @@ use Rattle.policy.specs.Record.{CounterValue}
 use Rattle.desk.specs.Calls.{looked_at}
 use Rattle.service.specs.Answers.{success}
 use Rattle.service.specs.Served.{Sends, SendsOrWants, unavailable}
-use Rattle.service.specs.Status.{status_text}
+use Rattle.service.specs.Status.{IsStatusText}
 use Rattle.service.specs.declared.answer.Media.TheVariants as media
 use Rattle.service.specs.declared.served.Served.{Served}
 
@@ -16,7 +16,7 @@ module _ {B W : Type 0} (g : Ghosts B) (contents : W → Option (List ℕ)) (w w
   pub record TellsStatus (counter : CounterValue) (reading : ℤ) (signer_faults : ℕ) (outcome : Served) : Type 0 where
     pub body : List ℕ
     pub is : g.honest new → (b : History) → Stands g b old
-        → body ≡ status_text counter reading (looked_at reading b) (g.fault_count new) signer_faults
+        → IsStatusText counter (looked_at reading b) (g.fault_count new) signer_faults body
     pub sent : SendsOrWants contents w w' (success 200 media.Text body) outcome
 
   -- or that the counter can't answer now

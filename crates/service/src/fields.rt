@@ -3,7 +3,7 @@ ghost use Rattle.std.specs.Prelude.{◌≡◌, [], ◌∷◌, map, reverse, ◌=
 ghost use Rattle.std.specs.List.{before_first};
 ghost use Rattle.httparse.specs.Grammar.{trim_ows, is_ows, skip_ows};
 ghost use Rattle.httparse.specs.Spans.{IsHeaderWithin, header_bytes};
-ghost use Rattle.service.specs.Checks.{type_in};
+ghost use Rattle.service.specs.Checks.{is_never, type_in};
 ghost use Rattle.service.specs.Fields.{same_letters, values, stated};
 ghost use Rattle.service.specs.Views.{found_view};
 
@@ -18,6 +18,15 @@ pub(crate) enum Found<'b> {
     Once(&'b [u8]),
     /// It stands twice or more.
     Twice,
+}
+
+impl Found<'_> {
+    /// Whether it doesn't stand.
+    pub(crate) fn is_never(self) -> bool
+        ensures { result ≡ is_never (found_view self.entry) }
+    {
+        matches!(self, Found::Never)
+    }
 }
 
 /// Whether two names have the same letters, of any case.

@@ -1,9 +1,8 @@
 //! A head in the octets that were read.
-ghost use Rattle.std.specs.Prelude.{◌≡◌, ◌≤◌, length, take, IsUtf8};
+ghost use Rattle.std.specs.Prelude.{◌≡◌, IsUtf8};
 ghost use Rattle.httparse.specs.Grammar.{RequestHead};
 ghost use Rattle.httparse.specs.Spans.{IsRequestAt, IsRequestWithin};
 ghost use Rattle.service.specs.Heads.{head_value};
-ghost use Rattle.service.specs.Reading.{LiesAt};
 ghost use Rattle.service.specs.Views.{head_view, IsInPlace};
 
 use httparse::spans::{HeaderSpan, RequestSpans};
@@ -44,18 +43,4 @@ pub(crate) fn head_in<'b>(
         octets,
         headers: headers.split_at(spans.headers).0,
     }
-}
-
-/// The head that lies at the front of the room.
-pub(crate) fn head_at<'b>(
-    room: &'b [u8],
-    headers: &'b [HeaderSpan],
-    spans: RequestSpans,
-) -> Head<'b>
-    requires octets { spans.len ≤ length room.now }
-    requires parts { IsRequestWithin (take spans.len room.now) headers.now spans }
-    ensures head { (h : RequestHead) → LiesAt room.now headers.now spans h → head_view result ≡ head_value h }
-    ensures within { IsInPlace result }
-{
-    head_in(room.split_at(spans.len).0, headers, spans)
 }

@@ -1,86 +1,49 @@
-//! One request and its answer.
-ghost use Rattle.std.specs.Prelude.{◌≡◌, ℕ, ℤ, length, List, Option};
-ghost use Rattle.std.specs.Io.KnownBytes.{Consumes};
-ghost use Rattle.httparse.specs.Grammar.{RequestHead, print_request};
-ghost use Rattle.policy.specs.Record.{PolicyValue};
-ghost use Rattle.service.specs.Heads.{IsHead, head_value, most_octets};
-ghost use Rattle.service.specs.Reading.{ReadsRequest};
-ghost use Rattle.service.specs.Served.{Serves};
-ghost use Rattle.service.specs.Views.{head_view, IsInPlace};
+//! A request and its answer.
+ghost use Rattle.std.specs.Prelude.{◌≡◌, length, take, List, Option, ℕ, true};
+ghost use Rattle.std.specs.Io.KnownBytes.{Consumes, IsAtEnd};
+ghost use Rattle.service.specs.Known.{IsDue, IsDueAtEnd, IsDueInPlace};
+ghost use Rattle.service.specs.Received.{ReceivedValue, IsAll};
+ghost use Rattle.service.specs.Served.{Serves, TellsCut};
 
 use crate::context::{Context, Environment};
+use crate::due::Due;
 use crate::handlers::handle;
-use crate::head::{Head, head_at};
-use crate::reading::{BodyRead, HeadRead, MOST_FIELDS, MOST_OCTETS, read_body, read_head};
-use crate::refusal::Refusal;
+use crate::request::Request;
 use crate::responding::{refuse, wanting};
-use crate::routes::{Action, Routes};
+use crate::routes::Routes;
 use crate::served::Served;
-use crate::wanted::wanted_by;
 use book::Book;
 use cms::Signer;
 use desk::Desk;
-use httparse::spans::EMPTY_HEADER_SPAN;
 use std::alloc::Global;
 use std::io::{Read, Write};
 
-/// What was read of a request whose head was.
-#[derive(Drop)]
-pub(crate) enum RequestRead {
-    /// A check of its head fails, or the input ended inside its body.
-    Refused(Refusal),
-    /// Memory is wanting for its body, of which nothing was read.
-    Wanting,
-    /// A read failed.
-    Failed,
-    /// All of it: what it asks for, and its body.
-    Whole(Action, Vec<u8>),
+/// What became of a request, by the octets that came of it.
+#[derive(Clone, Copy)]
+pub struct Exchanged {
+    /// What became of it.
+    pub served: Served,
+    /// It was whole, and nothing that came or may come follows it.
+    pub is_all: bool,
 }
 
-/// Reads the body of a request whose head was read.
-fn read_request<R: Read>(
-    alloc: Global,
-    routes: &Routes,
-    reader: &mut R,
-    head: Head<'_>,
-) -> RequestRead
-    requires { IsInPlace head }
-    ensures { (before : Option (List ℕ)) (h : RequestHead) → IsHead (print_request h) h
-        → head_view head.entry ≡ head_value h → Consumes before (R.remaining reader.old) (print_request h)
-        → (file : PolicyValue) (reading : ℤ)
-        → ReadsRequest file reading before (R.remaining reader.new) (head_view head.entry) result }
-{
-    let wanted = match wanted_by(routes, head) {
-        Ok(wanted) => wanted,
-        Err(refusal) => return RequestRead::Refused(refusal),
-    };
-    let Ok(mut body) = vec![in alloc; 0u8; wanted.count as usize] else {
-        return RequestRead::Wanting;
-    };
-    match read_body(reader, body.as_mut_slice()) {
-        BodyRead::Whole => RequestRead::Whole(wanted.action, body),
-        BodyRead::Cut => RequestRead::Refused(Refusal::BadRequest),
-        BodyRead::Failed => RequestRead::Failed,
-    }
-}
-
-/// Reads the body of a request whose head was read, and answers the request.
-fn serve_head<R: Read, W: Write, B: Book + Drop, G: Signer>(
+/// Gives a request what is due to it.
+fn give<W: Write, B: Book + Drop, G: Signer>(
     environment: Environment<'_>,
-    head: Head<'_>,
-    reader: &mut R,
+    due: Due<'_>,
     desk: &mut Desk<'_, B>,
     signer: &mut G,
     writer: &mut W,
 ) -> Served
-    requires { IsInPlace head }
+    requires { IsDueInPlace due }
     ensures setting { desk.new.setting ≡ desk.old.setting }
     ensures honest { B.honest desk.new.store → B.honest desk.old.store }
-    ensures served { (before : Option (List ℕ)) (h : RequestHead) → IsHead (print_request h) h
-        → head_view head.entry ≡ head_value h → Consumes before (R.remaining reader.old) (print_request h)
+    ensures served { (r : ReceivedValue) → IsDue r due.entry → (before after : Option (List ℕ))
+        → Consumes before after (take r.taken r.octets)
+        → (r.is_ended ≡ true → r.taken ≡ length r.octets → IsAtEnd after)
         → Serves B.Standing G.signs G.fault_count W.contents environment.entry.reading (record {
           input = before;
-          input_after = R.remaining reader.new;
+          input_after = after;
           writer = writer.old;
           writer_after = writer.new;
           desk = desk.old;
@@ -88,54 +51,52 @@ fn serve_head<R: Read, W: Write, B: Book + Drop, G: Signer>(
           signer = signer.old;
           signer_after = signer.new;
         }) result }
+    ensures cut { IsDueAtEnd due.entry → TellsCut result }
 {
-    match read_request(environment.alloc, environment.routes, reader, head) {
-        RequestRead::Refused(refusal) => refuse(writer, refusal),
-        RequestRead::Wanting => wanting(writer),
-        RequestRead::Failed => Served::ReadFailed,
-        RequestRead::Whole(action, body) => {
+    match due {
+        Due::Nothing => Served::Closed,
+        Due::Refusal(refusal) => refuse(writer, refusal),
+        Due::Answer(action, head, body) => {
             let context = Context {
                 environment,
                 head,
-                body: &body,
+                body,
             };
             handle(action, &context, desk, signer, writer)
         }
     }
 }
 
-/// Reads one request, whose head takes that room, and answers it.
-fn serve_within<R: Read, W: Write, B: Book + Drop, G: Signer>(
-    environment: Environment<'_>,
-    room: &mut [u8],
-    reader: &mut R,
-    desk: &mut Desk<'_, B>,
-    signer: &mut G,
-    writer: &mut W,
-) -> Served
-    requires { length room.old ≡ most_octets }
-    ensures setting { desk.new.setting ≡ desk.old.setting }
-    ensures honest { B.honest desk.new.store → B.honest desk.old.store }
-    ensures served { Serves B.Standing G.signs G.fault_count W.contents environment.entry.reading (record {
-      input = R.remaining reader.old;
-      input_after = R.remaining reader.new;
-      writer = writer.old;
-      writer_after = writer.new;
-      desk = desk.old;
-      desk_after = desk.new;
-      signer = signer.old;
-      signer_after = signer.new;
-    }) result }
-{
-    let mut headers = [EMPTY_HEADER_SPAN; MOST_FIELDS];
-    match read_head(reader, room, &mut headers) {
-        HeadRead::Closed => Served::Closed,
-        HeadRead::Failed => Served::ReadFailed,
-        HeadRead::Cut => refuse(writer, Refusal::BadRequest),
-        HeadRead::Refused => refuse(writer, Refusal::BadRequest),
-        HeadRead::Whole(spans) => {
-            let head = head_at(room, &headers, spans);
-            serve_head(environment, head, reader, desk, signer, writer)
+impl Request {
+    /// Answers it by the octets that came, of which those behind it aren't looked at. One to which octets are wanting is
+    /// refused: by status 400 where the input ended, and else, as there is no memory for them, by 503.
+    pub fn serve<W: Write, B: Book + Drop, G: Signer>(
+        &self,
+        environment: Environment<'_>,
+        desk: &mut Desk<'_, B>,
+        signer: &mut G,
+        writer: &mut W,
+    ) -> Exchanged
+        ensures setting { desk.new.setting ≡ desk.old.setting }
+        ensures honest { B.honest desk.new.store → B.honest desk.old.store }
+        ensures served { (before after : Option (List ℕ)) → Consumes before after (take self.now.taken self.now.octets)
+            → (self.now.is_ended ≡ true → self.now.taken ≡ length self.now.octets → IsAtEnd after)
+            → Serves B.Standing G.signs G.fault_count W.contents environment.entry.reading (record {
+              input = before;
+              input_after = after;
+              writer = writer.old;
+              writer_after = writer.new;
+              desk = desk.old;
+              desk_after = desk.new;
+              signer = signer.old;
+              signer_after = signer.new;
+            }) result.served }
+        ensures all { result.is_all ≡ true → IsAll self.now.octets }
+        ensures cut { self.now.is_wanting ≡ true → self.now.is_ended ≡ true → TellsCut result.served }
+    {
+        Exchanged {
+            served: give(environment, self.due(), desk, signer, writer),
+            is_all: self.is_all(),
         }
     }
 }
@@ -173,20 +134,17 @@ pub fn serve_one<R: Read, W: Write, B: Book + Drop, G: Signer>(
     let Ok(routes) = Routes::new(alloc) else {
         return wanting(writer);
     };
-    let Ok(mut room) = vec![in alloc; 0u8; MOST_OCTETS] else {
-        return wanting(writer);
-    };
+    let mut request = Request::new(alloc);
+    'reading: while request.is_open() {
+        match request.read(&routes, reader) {
+            Ok(()) => {}
+            Err(_) => return Served::ReadFailed,
+        }
+    }
     let environment = Environment {
         alloc,
         routes: &routes,
         reading,
     };
-    serve_within(
-        environment,
-        room.as_mut_slice(),
-        reader,
-        desk,
-        signer,
-        writer,
-    )
+    request.serve(environment, desk, signer, writer).served
 }

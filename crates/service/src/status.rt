@@ -1,33 +1,29 @@
 //! The counter's state, for an operator or an auditor.
-ghost use Rattle.std.specs.Prelude.{◌≡◌, ◌++◌, ◌≤◌, codes, IfOk, IfSome, OnSome, option_map, string_bytes};
-ghost use Rattle.std.specs.Fmt.{decimal};
+ghost use Rattle.std.specs.Prelude.{◌≡◌, ◌++◌, ◌≤◌, ℕ, pos, codes, IfOk, IfSome, MatchOption, OnSome, option_map, string_bytes};
+ghost use Rattle.std.specs.Fmt.{decimal, signed_decimal};
 ghost use Rattle.gentime.specs.GenTime.{text_of};
 ghost use Rattle.policy.specs.View.{counter_view};
-ghost use Rattle.decide.specs.Clock.{elapsed};
 ghost use Rattle.book.specs.Stands.{OnlyLooks};
-ghost use Rattle.service.specs.Status.{drifting, greatest_age, age_left, or_none, yes_or_no, named};
-ghost use Rattle.service.specs.Status.{calibration_lines, clock_lines, fault_lines, status_text};
+ghost use Rattle.service.specs.Status.{drifting, greatest_age, age, age_left, or_none, yes_or_no, named};
+ghost use Rattle.service.specs.Status.{calibration_lines, giving_lines, clock_lines, fault_lines, Gives, IsStatusText};
 ghost use Rattle.service.specs.Telling.{ServesStatus};
 
 use crate::answer::Media;
 use crate::responding::{succeed, wanting};
 use crate::served::Served;
 use book::Book;
-use decide::Calibration;
+use decide::{Calibration, ClockFacts, ClockState, clock_state};
 use desk::{Desk, Looked};
 use gentime::GenTime;
 use policy::Counter;
 use std::alloc::{AllocError, Global};
 use std::io::Write;
 
-/// How long ago the calibration was, in microseconds.
-fn age(reading: i64, calibration: &Calibration) -> u64
-    ensures { result ≡ elapsed reading calibration.now }
+/// How long ago the calibration was, in microseconds; negative where its reading is still to come.
+fn age(reading: i64, calibration: &Calibration) -> i128
+    ensures { result ≡ age reading calibration.now }
 {
-    match u64::try_from(i128::from(reading) - i128::from(calibration.reading)) {
-        Ok(age) => age,
-        Err(_) => 0,
-    }
+    i128::from(reading) - i128::from(calibration.reading)
 }
 
 /// How old a calibration may become until the drift has used up what is left of the accuracy.
@@ -55,30 +51,51 @@ fn greatest_age(counter: &Counter, calibration: &Calibration) -> u64
     }
 }
 
-/// How long it lasts yet.
+/// How many microseconds ago the calibration was; none where its reading is still to come.
+fn since(reading: i64, calibration: &Calibration) -> Option<u64>
+    ensures { MatchOption result ((n : ℕ) → age reading calibration.now ≡ pos n → ⊥)
+        (λ since. age reading calibration.now ≡ pos since) }
+{
+    u64::try_from(i128::from(reading) - i128::from(calibration.reading)).ok()
+}
+
+/// How long it lasts yet: no longer where its reading is still to come.
 fn age_left(counter: &Counter, reading: i64, calibration: &Calibration) -> u64
     ensures { result ≡ age_left (counter_view counter.now) reading calibration.now }
 {
-    greatest_age(counter, calibration).saturating_sub(age(reading, calibration))
+    match since(reading, calibration) {
+        Some(since) => greatest_age(counter, calibration).saturating_sub(since),
+        None => 0,
+    }
 }
 
 /// How long ago the latest calibration was, if there is one.
-fn latest_age(reading: i64, calibration: Option<Calibration>) -> Option<u64>
-    ensures { result ≡ option_map (elapsed reading) calibration }
+fn latest_age(clock: &ClockFacts) -> Option<i128>
+    ensures { result ≡ option_map (age clock.now.reading) clock.now.calibration }
 {
-    match calibration {
-        Some(calibration) => Some(age(reading, &calibration)),
+    match clock.calibration {
+        Some(calibration) => Some(age(clock.reading, &calibration)),
         None => None,
     }
 }
 
 /// How long it lasts yet.
-fn latest_left(counter: &Counter, reading: i64, calibration: Option<Calibration>) -> Option<u64>
-    ensures { result ≡ option_map (age_left (counter_view counter.now) reading) calibration }
+fn latest_left(counter: &Counter, clock: &ClockFacts) -> Option<u64>
+    ensures { result ≡ option_map (age_left (counter_view counter.now) clock.now.reading) clock.now.calibration }
 {
-    match calibration {
-        Some(calibration) => Some(age_left(counter, reading, &calibration)),
+    match clock.calibration {
+        Some(calibration) => Some(age_left(counter, clock.reading, &calibration)),
         None => None,
+    }
+}
+
+/// Whether the clock lets a token be given.
+fn gives(counter: &Counter, clock: &ClockFacts) -> bool
+    ensures { Gives (counter_view counter.now) clock.now result }
+{
+    match clock_state(counter, clock) {
+        ClockState::Good(_) => true,
+        ClockState::Bad => false,
     }
 }
 
@@ -88,6 +105,16 @@ fn number_text(alloc: Global, number: Option<u64>) -> Result<String, AllocError>
 {
     match number {
         Some(number) => format!(in alloc; "{number}"),
+        None => String::from_str(alloc, "none"),
+    }
+}
+
+/// How long ago something was, or that it never was.
+fn age_text(alloc: Global, age: Option<i128>) -> Result<String, AllocError>
+    ensures { IfOk result (λ text. string_bytes text ≡ or_none signed_decimal age) }
+{
+    match age {
+        Some(age) => format!(in alloc; "{age}"),
         None => String::from_str(alloc, "none"),
     }
 }
@@ -140,29 +167,40 @@ fn append_moment(alloc: Global, lines: &mut Vec<u8>, moment: Option<GenTime>) ->
 fn append_calibration(
     alloc: Global,
     lines: &mut Vec<u8>,
-    age: Option<u64>,
+    age: Option<i128>,
     left: Option<u64>,
 ) -> Option<()>
     ensures { OnSome result (lines.new.items ≡ lines.old.items ++ calibration_lines age left) }
 {
-    append_number(alloc, lines, "calibration-age-us", age)?;
+    let text = age_text(alloc, age).ok()?;
+    append_named(lines, "calibration-age-us", text.as_bytes())?;
     append_number(alloc, lines, "calibration-left-us", left)
+}
+
+/// Appends the lines on whether now is held, and on whether the clock lets a token be given.
+fn append_giving(lines: &mut Vec<u8>, held: bool, gives: bool) -> Option<()>
+    ensures { OnSome result (lines.new.items ≡ lines.old.items ++ giving_lines held gives) }
+{
+    append_named(lines, "held", yes_or_no(held).as_bytes())?;
+    append_named(lines, "tokens", yes_or_no(gives).as_bytes())
 }
 
 /// Appends the lines on the clock.
 fn append_clock(
     alloc: Global,
     lines: &mut Vec<u8>,
-    moment: Option<GenTime>,
-    age: Option<u64>,
-    left: Option<u64>,
-    held: bool,
+    counter: &Counter,
+    clock: &ClockFacts,
+    gives: bool,
 ) -> Option<()>
-    ensures { OnSome result (lines.new.items ≡ lines.old.items ++ clock_lines moment age left held) }
+    ensures { OnSome result (lines.new.items
+        ≡ lines.old.items ++ clock_lines (counter_view counter.now) clock.now gives) }
 {
-    append_moment(alloc, lines, moment)?;
+    let age = latest_age(clock);
+    let left = latest_left(counter, clock);
+    append_moment(alloc, lines, clock.last_gen_time)?;
     append_calibration(alloc, lines, age, left)?;
-    append_named(lines, "held", yes_or_no(held).as_bytes())
+    append_giving(lines, clock.held, gives)
 }
 
 /// Appends the lines on faults of store and signer.
@@ -173,32 +211,20 @@ fn append_faults(alloc: Global, lines: &mut Vec<u8>, store: u64, signer: u64) ->
     append_number(alloc, lines, "signer-faults", Some(signer))
 }
 
-/// The state at a reading of the clock; the last two numbers are the faults of store and signer. None where memory runs
-/// out.
+/// The state that was looked at; the last two numbers are the faults of store and signer. None where memory runs out.
 fn status_text(
     alloc: Global,
     counter: &Counter,
-    reading: i64,
     looked: Looked,
     store: u64,
     signer: u64,
 ) -> Option<Vec<u8>>
-    ensures { IfSome result (λ text. text.items
-        ≡ status_text (counter_view counter.now) reading looked store signer) }
+    ensures { IfSome result (λ text. IsStatusText (counter_view counter.now) looked store signer text.items) }
 {
-    let clock = looked.clock;
-    let age = latest_age(reading, clock.calibration);
-    let left = latest_left(counter, reading, clock.calibration);
+    let gives = gives(counter, &looked.clock);
     let mut lines = Vec::new(alloc);
     append_number(alloc, &mut lines, "serial", Some(looked.serial))?;
-    append_clock(
-        alloc,
-        &mut lines,
-        clock.last_gen_time,
-        age,
-        left,
-        clock.held,
-    )?;
+    append_clock(alloc, &mut lines, counter, &looked.clock, gives)?;
     append_faults(alloc, &mut lines, store, signer)?;
     Some(lines)
 }
@@ -229,15 +255,7 @@ pub(crate) fn serve_status<W: Write, B: Book + Drop>(
     };
     let store = store_faults(desk);
     let policy = desk.policy();
-    let told = status_text(
-        alloc,
-        &policy.counter,
-        reading,
-        looked,
-        store,
-        signer_faults,
-    );
-    match told {
+    match status_text(alloc, &policy.counter, looked, store, signer_faults) {
         Some(text) => succeed(writer, Media::Text, &text),
         None => wanting(writer),
     }

@@ -41,10 +41,10 @@ fn check_coding(head: Head<'_>) -> Result<(), Refusal>
     requires { IsInPlace head }
     ensures { result ≡ without_coding (head_view head.entry) }
 {
-    match stated(head.octets, head.headers, b"transfer-encoding") {
-        Found::Never => Ok(()),
-        Found::Once(_) => Err(Refusal::TransferEncoding),
-        Found::Twice => Err(Refusal::TransferEncoding),
+    if stated(head.octets, head.headers, b"transfer-encoding").is_never() {
+        Ok(())
+    } else {
+        Err(Refusal::TransferEncoding)
     }
 }
 

@@ -15,6 +15,9 @@ pub trait Sessions<S> {
     fn open(&mut self, algorithm: &Algorithm) -> Option<S>
         ensures { IfSome result fresh };
 
+    /// A session gave a signature.
+    fn signed(&mut self);
+
     /// A session was lost.
     fn lost(&mut self);
 }
@@ -98,9 +101,13 @@ impl<S: Signer + Drop, O: Sessions<S>> Signer for RenewedSigner<S, O> {
         };
         let (answer, left) = ask(session, text);
         self.session = left;
-        if let Err(SignerFault::Failed) = answer {
-            self.faults = self.faults.wrapping_add(1);
-            self.sessions.lost();
+        match &answer {
+            Ok(_) => self.sessions.signed(),
+            Err(SignerFault::Memory) => {}
+            Err(SignerFault::Failed) => {
+                self.faults = self.faults.wrapping_add(1);
+                self.sessions.lost();
+            }
         }
         answer
     }

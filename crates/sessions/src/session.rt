@@ -1,8 +1,8 @@
 //! The two ways of a session with a key holder.
+use sockets::Stream;
 use std::cell::Cell;
 use std::io;
 use std::io::{ErrorKind, Read, Write};
-use std::net::TcpStream;
 use std::rc::Rc;
 use std::time::{Clock, Duration, Instant};
 
@@ -23,7 +23,7 @@ pub(crate) struct Exchange {
 #[derive(Drop)]
 pub struct SessionStream<'a, R> {
     pub(crate) clock: &'a R,
-    pub(crate) stream: TcpStream,
+    pub(crate) stream: Stream,
     pub(crate) limit: Duration,
     pub(crate) exchange: Rc<Cell<Exchange>>,
 }
@@ -57,7 +57,8 @@ impl<R: Clock> Read for SessionStream<'_, R> {
         for _ in 0..MOST_INTERRUPTIONS {
             let left = self.left(true)?;
             self.stream.set_read_timeout(Some(left))?;
-            match self.stream.read(buf) {
+            let mut stream = &self.stream;
+            match stream.read(buf) {
                 Err(error) if error.kind() == ErrorKind::Interrupted => {}
                 taken => return taken,
             }
@@ -71,7 +72,8 @@ impl<R: Clock> Write for SessionStream<'_, R> {
         for _ in 0..MOST_INTERRUPTIONS {
             let left = self.left(false)?;
             self.stream.set_write_timeout(Some(left))?;
-            match self.stream.write(buf) {
+            let mut stream = &self.stream;
+            match stream.write(buf) {
                 Err(error) if error.kind() == ErrorKind::Interrupted => {}
                 taken => return taken,
             }

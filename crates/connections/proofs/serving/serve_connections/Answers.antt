@@ -1,7 +1,44 @@
-use Rattle.connections.proofs.RunLemmas.{lawful_each}
+use Rattle.std.proofs.Common.{◌∙◌, ap, subst, rules}
+use Rattle.connections.proofs.RunLemmas.{served_run, stopped_run}
+use Rattle.connections.proofs.TurnsLemmas.{served_more, served_setting, served_honest}
 use Rattle.connections.proofs.serving.serve_connections.Goals as goal
+
+pub returns-in_err-serve_connection-clause-setting : goal.returns-in_err-serve_connection-clause-setting
+returns-in_err-serve_connection-clause-setting g c =
+    ap (λ d. d.setting) c.in_err-serve_connection.ensures.desk_kept
+    ∙ served_setting g.C.Clock.reads g.B.Standing g.G.Signer.signs g.G.Signer.fault_count _ _ _
+    c.loop-done.invariant
+
+pub returns-in_err-serve_connection-clause-honest : goal.returns-in_err-serve_connection-clause-honest
+returns-in_err-serve_connection-clause-honest g c = λ honest.
+    served_honest g.C.Clock.reads g.B.Standing g.G.Signer.signs g.G.Signer.fault_count _ _ _
+    c.loop-done.invariant
+    (subst (λ d. g.B.Standing.honest d.store) c.in_err-serve_connection.ensures.desk_kept honest)
+
+pub loop-done-preserved : goal.loop-done-preserved
+loop-done-preserved g c =
+    served_more g.C.Clock.reads g.B.Standing g.G.Signer.signs g.G.Signer.fault_count _ _ _ _
+    c.loop-done.invariant c.in_ok-serve_connection.ensures.turn
+
+pub returns-clause-setting : goal.returns-clause-setting
+returns-clause-setting g c =
+    served_setting g.C.Clock.reads g.B.Standing g.G.Signer.signs g.G.Signer.fault_count _ _ _
+    c.loop-done.invariant
+
+pub returns-clause-honest : goal.returns-clause-honest
+returns-clause-honest g c =
+    served_honest g.C.Clock.reads g.B.Standing g.G.Signer.signs g.G.Signer.fault_count _ _ _
+    c.loop-done.invariant
+
+pub returns-in_err-serve_connection-clause-served : goal.returns-in_err-serve_connection-clause-served
+returns-in_err-serve_connection-clause-served g c =
+    stopped_run g.C.Clock.reads g.B.Standing g.G.Signer.signs g.G.Signer.fault_count
+    c.journeys_keep_their_promises.ensures.continued c.accounts_are_isolated.ensures _ _ _ _ _
+    c.loop-done.invariant (search rules) _ c.in_err-serve_connection.ensures.failed
+    c.in_err-serve_connection.ensures.desk_kept c.in_err-serve_connection.ensures.signer_kept
+    c.from_residual.result c.from_residual.ensures.0
 
 pub returns-clause-served : goal.returns-clause-served
 returns-clause-served g c =
-    lawful_each g.C.Clock.reads g.B.Standing g.G.Signer.signs g.G.Signer.fault_count
-    c.journeys_keep_their_promises.ensures.continued c.accounts_are_isolated.ensures _ _ _ _ c.serve_each.ensures.served
+    served_run g.C.Clock.reads g.B.Standing g.G.Signer.signs g.G.Signer.fault_count
+    c.journeys_keep_their_promises.ensures.continued c.accounts_are_isolated.ensures _ _ _ (search rules)

@@ -1,0 +1,57 @@
+use Rattle.std.proofs.Common.{◌≡◌, ◌∙◌, arith, inr, subst, sym}
+use Rattle.service.specs.Known.{BeginsAt, IsBehind, IsKnown, IsShort, headless}
+use Rattle.service.specs.declared.known.Known.{Known}
+use Rattle.service.proofs.KnownLemmas.{begins_at, ends_behind, long_at, spoiled_at}
+use Rattle.service.proofs.known.known_of.Goals as goal
+
+pub known_by_head-requires : goal.known_by_head-requires
+known_by_head-requires c =
+    begins_at _ _ _ c.requires.few (c.parse_request.auto.headers ∙ c.requires.fields)
+    (rw c.in-Ok-Complete.field-0-is at c.in-Ok-Complete.ensures.within)
+    (rw c.in-Ok-Complete.field-0-is at c.in-Ok-Complete.ensures.complete)
+
+pub returns-in-Ok-Complete-clause-behind : goal.returns-in-Ok-Complete-clause-behind
+returns-in-Ok-Complete-clause-behind c =
+    let is : BeginsAt c.args.octets.now c.parse_request.new.headers c.in-Ok-Complete.spans =
+    begins_at _ _ _ c.requires.few (c.parse_request.auto.headers ∙ c.requires.fields)
+    (rw c.in-Ok-Complete.field-0-is at c.in-Ok-Complete.ensures.within)
+    (rw c.in-Ok-Complete.field-0-is at c.in-Ok-Complete.ensures.complete) in
+    c.known_by_head.ensures.behind c.args.before
+    (ends_behind c.args.octets.now c.args.before c.parse_request.new.headers c.in-Ok-Complete.spans c.requires.before
+    c.requires.begun is)
+
+pub returns-in-Ok-Partial-2-clause-known : goal.returns-in-Ok-Partial-2-clause-known
+returns-in-Ok-Partial-2-clause-known c =
+    let P : Known → Type 0 = λ k. IsKnown c.args.octets.now c.parse_request.new.headers k in
+    subst P (sym c.headless.ensures)
+    (long_at c.args.octets.now c.parse_request.new.headers
+    (omega (arith, c.requires.few, c.if-octets-lt-MOST_OCTETS.false))
+    (rw c.in-Ok-Partial.field-0-is at c.in-Ok-Partial.ensures.partial)
+    (inr (rw c.in-Ok-Partial.field-0-is at c.in-Ok-Partial.ensures.unfinished)))
+
+pub returns-in-Ok-Partial-2-clause-behind : goal.returns-in-Ok-Partial-2-clause-behind
+returns-in-Ok-Partial-2-clause-behind c =
+    let P : Known → Type 0 = λ k. IsBehind c.args.before k in
+    subst P (sym c.headless.ensures) c.requires.before
+
+pub returns-in-Ok-Partial-2-clause-short : goal.returns-in-Ok-Partial-2-clause-short
+returns-in-Ok-Partial-2-clause-short c =
+    let P : Known → Type 0 = λ k. IsShort k in
+    subst P (sym c.headless.ensures) tt
+
+pub returns-in-Err-clause-known : goal.returns-in-Err-clause-known
+returns-in-Err-clause-known c =
+    let P : Known → Type 0 = λ k. IsKnown c.args.octets.now c.spoiled_after.new.headers k in
+    subst P (sym c.headless-in-Err.ensures)
+    (spoiled_at c.args.octets.now c.spoiled_after.new.headers c.spoiled_after.result c.spoiled_after.ensures.within
+    c.spoiled_after.ensures.headless)
+
+pub returns-in-Err-clause-behind : goal.returns-in-Err-clause-behind
+returns-in-Err-clause-behind c =
+    let P : Known → Type 0 = λ k. IsBehind c.args.before k in
+    subst P (sym c.headless-in-Err.ensures) c.spoiled_after.ensures.behind
+
+pub returns-in-Err-clause-short : goal.returns-in-Err-clause-short
+returns-in-Err-clause-short c =
+    let P : Known → Type 0 = λ k. IsShort k in
+    subst P (sym c.headless-in-Err.ensures) tt
