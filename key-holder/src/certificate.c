@@ -1,7 +1,6 @@
 #include "certificate.h"
 
 #include "key.h"
-#include "report.h"
 
 #include <openssl/evp.h>
 #include <openssl/x509v3.h>
@@ -11,16 +10,22 @@ enum { MOST_OCTETS = 16384 };
 
 static bool parse(const char *path, const uint8_t *octets, size_t length, struct certificate *certificate)
 {
-    const uint8_t *end = octets;
-    certificate->x509 = d2i_X509(NULL, &end, (long)length);
+    const uint8_t *rest = octets;
+    certificate->x509 = d2i_X509(NULL, &rest, (long)length);
     if (!certificate->x509) {
         report_with_cause("%s: it is no certificate in DER", path);
         return false;
     }
-    if (end != octets + length) {
+    if (rest != octets + length) {
         report("%s: there are octets behind the certificate", path);
         return false;
     }
+    struct tm end;
+    if (ASN1_TIME_to_tm(X509_get0_notAfter(certificate->x509), &end) != 1) {
+        report_with_cause("%s: its end is no moment", path);
+        return false;
+    }
+    certificate->end = timegm(&end);
     return EVP_Digest(octets, length, certificate->digest, NULL, EVP_sha256(), NULL) == 1;
 }
 
@@ -64,17 +69,28 @@ static const char *fault_of(X509 *x509)
         return fault;
     if (X509_check_purpose(x509, X509_PURPOSE_TIMESTAMP_SIGN, 0) != 1)
         return "its key usage isn't for signatures alone";
-    if (X509_cmp_current_time(X509_get0_notBefore(x509)) >= 0)
-        return "it isn't valid yet";
-    return X509_cmp_current_time(X509_get0_notAfter(x509)) <= 0 ? "it isn't valid any more" : NULL;
+    return X509_cmp_current_time(X509_get0_notBefore(x509)) >= 0 ? "it isn't valid yet" : NULL;
 }
 
-bool is_for_time_stamps(const struct certificate *certificate)
+enum status look_at_certificate(const struct certificate *certificate)
 {
     const char *fault = fault_of(certificate->x509);
-    if (fault)
-        report("the certificate isn't for time-stamps: %s", fault);
-    return !fault;
+    bool has_ended = !fault && is_over(certificate);
+    if (fault || has_ended)
+        report("the certificate isn't for time-stamps: %s", has_ended ? "it isn't valid any more" : fault);
+    return fault ? FAULT : has_ended ? CERTIFICATE_ENDED : WELL;
+}
+
+time_t seconds_now(void)
+{
+    struct timespec now;
+    clock_gettime(CLOCK_REALTIME, &now);
+    return now.tv_sec;
+}
+
+bool is_over(const struct certificate *certificate)
+{
+    return seconds_now() >= certificate->end;
 }
 
 bool print_algorithm(const struct certificate *certificate)

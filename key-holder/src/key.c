@@ -1,11 +1,14 @@
 #include "key.h"
 
 #include "device.h"
-#include "report.h"
+#include "process.h"
 
 #include <openssl/pem.h>
 #include <stdio.h>
 #include <string.h>
+
+/* so long may a device be opened: one in a network is looked for there */
+enum { SECONDS_TO_OPEN = 60 };
 
 enum key_kind kind_of_key(const EVP_PKEY *key)
 {
@@ -44,30 +47,42 @@ static EVP_PKEY *read_pem(const char *path)
     return key;
 }
 
-EVP_PKEY *open_key(const char *text, const char *module)
+enum status open_key(const char *text, const char *module, struct key *key)
 {
-    return strncmp(text, "pkcs11:", strlen("pkcs11:")) == 0 ? open_device_key(text, module) : read_pem(text);
+    *key = (struct key){.is_in_device = strncmp(text, "pkcs11:", strlen("pkcs11:")) == 0};
+    if (!key->is_in_device) {
+        key->own = read_pem(text);
+        return key->own ? WELL : FAULT;
+    }
+    expect_device(SECONDS_TO_OPEN);
+    enum status status = open_device_key(text, module, &key->own);
+    expect_nothing();
+    return status;
 }
 
-bool is_key_of(EVP_PKEY *key, X509 *certificate)
+bool is_key_of(struct key *key, X509 *certificate, int least_rsa_bits)
 {
     const char *fault = NULL;
-    if (kind_of_key(key) == OTHER_KEY)
+    enum key_kind kind = kind_of_key(key->own);
+    if (kind == OTHER_KEY)
         fault = "the key is neither RSA nor ECDSA on P-256";
-    else if (EVP_PKEY_get_size(key) > MOST_SIGNATURE_OCTETS)
+    else if (kind == RSA_KEY && EVP_PKEY_get_bits(key->own) < least_rsa_bits)
+        fault = "the key is RSA of too few bits: 3,072 are the least, or 2,048 with --allow-rsa-2048";
+    else if (EVP_PKEY_get_size(key->own) > MOST_SIGNATURE_OCTETS)
         fault = "the key's signatures have more than 4,096 octets";
-    else if (X509_check_private_key(certificate, key) != 1)
+    else if (X509_check_private_key(certificate, key->own) != 1)
         fault = "the certificate is another key's";
     if (fault)
         report_with_cause("%s", fault);
+    key->public = X509_get0_pubkey(certificate);
     return !fault;
 }
 
-size_t sign(EVP_PKEY *key, const uint8_t *text, size_t length, uint8_t signature[MOST_SIGNATURE_OCTETS])
+static size_t sign_alone(EVP_PKEY *key, const uint8_t *text, size_t length, uint8_t signature[MOST_SIGNATURE_OCTETS])
 {
     size_t written = MOST_SIGNATURE_OCTETS;
     EVP_MD_CTX *context = EVP_MD_CTX_new();
-    bool is_signed = context && EVP_DigestSignInit(context, NULL, EVP_sha256(), NULL, key) == 1
+    bool is_signed = context && EVP_DigestSignInit_ex(context, NULL, "SHA256", device_context(), NULL, key, NULL) == 1
         && EVP_DigestSign(context, signature, &written, text, length) == 1;
     EVP_MD_CTX_free(context);
     if (!is_signed)
@@ -75,8 +90,25 @@ size_t sign(EVP_PKEY *key, const uint8_t *text, size_t length, uint8_t signature
     return is_signed ? written : 0;
 }
 
-void close_key(EVP_PKEY *key)
+static bool is_verified(EVP_PKEY *key, const uint8_t *text, size_t length, const uint8_t *signature, size_t written)
 {
-    EVP_PKEY_free(key);
+    EVP_MD_CTX *context = EVP_MD_CTX_new();
+    bool is_good = context && EVP_DigestVerifyInit(context, NULL, EVP_sha256(), NULL, key) == 1
+        && EVP_DigestVerify(context, signature, written, text, length) == 1;
+    EVP_MD_CTX_free(context);
+    if (!is_good)
+        report_with_cause("the certificate's key doesn't verify a signature, which nobody gets");
+    return is_good;
+}
+
+size_t sign(const struct key *key, const uint8_t *text, size_t length, uint8_t signature[MOST_SIGNATURE_OCTETS])
+{
+    size_t written = sign_alone(key->own, text, length, signature);
+    return written && is_verified(key->public, text, length, signature, written) ? written : 0;
+}
+
+void close_key(struct key *key)
+{
+    EVP_PKEY_free(key->own);
     close_device();
 }

@@ -2,65 +2,64 @@
 #include "certificate.h"
 #include "key.h"
 #include "listener.h"
-#include "notification.h"
 #include "options.h"
+#include "peer.h"
+#include "process.h"
 #include "report.h"
 #include "server.h"
 
-#include <signal.h>
-#include <stdlib.h>
-#include <sys/resource.h>
-#include <unistd.h>
+#include <openssl/evp.h>
 
-enum { MILLISECONDS = 1000 };
+enum { MILLISECONDS = 1000, LEAST_RSA_BITS = 3072, LEAST_ALLOWED_RSA_BITS = 2048 };
 
-/* Signals are read where sessions are waited for; and no core file is to hold the key. */
-static void prepare_process(void)
+static enum status listen_and_serve(const struct options *options, struct service *service)
 {
-    const struct rlimit none = {0, 0};
-    sigset_t signals;
-    sigemptyset(&signals);
-    sigaddset(&signals, SIGTERM);
-    sigaddset(&signals, SIGINT);
-    sigprocmask(SIG_BLOCK, &signals, NULL);
-    setrlimit(RLIMIT_CORE, &none);
+    struct listener listener;
+    if (!open_listener(options->listen, service->has_peer, &listener))
+        return FAULT;
+    enum status status = FAULT;
+    if (!service->has_peer || !is_tcp(&listener) || tells_of_tcp(listener.socket)) {
+        const EVP_PKEY *key = service->key->own;
+        report("signs with a key of %s, %d bits", name_of_kind(kind_of_key(key)), EVP_PKEY_get_bits(key));
+        status = serve(&listener, service);
+    }
+    close_listener(&listener);
+    return status;
 }
 
-static bool hold(const struct options *options, const struct certificate *certificate, EVP_PKEY *key)
+static enum status hold(const struct options *options, const struct certificate *certificate)
 {
-    if (!is_key_of(key, certificate->x509) || !is_for_time_stamps(certificate))
-        return false;
-    int listener = open_listener(options->listen);
-    if (listener < 0)
-        return false;
-    int64_t limit_ms = (int64_t)options->seconds * MILLISECONDS;
-    struct signer signer = {.key = key, .certificate = certificate, .limit_ms = limit_ms};
-    report("signs with a key of %s, %d bits", name_of_kind(kind_of_key(key)), EVP_PKEY_get_bits(key));
-    print_address(listener);
-    notify_ready();
-    bool is_well = serve(listener, &signer);
-    close(listener);
-    return is_well;
-}
-
-static bool run(const struct options *options, const struct certificate *certificate)
-{
-    if (options->prints_algorithm)
-        return print_algorithm(certificate);
-    EVP_PKEY *key = open_key(options->key, options->module);
-    if (!key)
-        return false;
-    bool is_well = hold(options, certificate, key);
-    close_key(key);
-    return is_well;
+    struct service service = {
+        .certificate = certificate,
+        .limit_ms = (int64_t)options->seconds * MILLISECONDS,
+        .has_peer = options->peer != NULL,
+    };
+    if (service.has_peer && !find_account(options->peer, &service.peer))
+        return FAULT;
+    struct key key;
+    /* first the certificate, since a device may count how often it is opened */
+    enum status status = look_at_certificate(certificate);
+    if (status == WELL)
+        status = open_key(options->key, options->module, &key);
+    if (status != WELL)
+        return status;
+    service.key = &key;
+    int least_rsa_bits = options->allows_rsa_2048 ? LEAST_ALLOWED_RSA_BITS : LEAST_RSA_BITS;
+    status = is_key_of(&key, certificate->x509, least_rsa_bits) ? listen_and_serve(options, &service) : FAULT;
+    close_key(&key);
+    return status;
 }
 
 int main(int count, char **words)
 {
     const struct options options = read_options(count, words);
-    prepare_process();
     struct certificate certificate = {.x509 = NULL};
-    bool is_well = read_certificate(options.certificate, &certificate) && run(&options, &certificate);
+    enum status status = FAULT;
+    if (!options.prints_algorithm)
+        prepare_process();
+    if (read_certificate(options.certificate, &certificate))
+        status = !options.prints_algorithm ? hold(&options, &certificate)
+            : print_algorithm(&certificate) ? WELL : FAULT;
     free_certificate(&certificate);
-    return is_well ? EXIT_SUCCESS : EXIT_FAILURE;
+    return (int)status;
 }

@@ -9,28 +9,34 @@
 enum { MOST_SECONDS = 3600 };
 
 static const char HELP[] =
-    "key-holder --key KEY --certificate FILE [--listen ADDRESS] [--module FILE] [--seconds N]\n"
+    "key-holder --key KEY --certificate FILE [--listen ADDRESS] [--peer ACCOUNT] [--module FILE] [--seconds N]\n"
+    "           [--allow-rsa-2048]\n"
     "key-holder --certificate FILE --print-algorithm\n"
     "\n"
     "Signs the time-stamp tokens of one certificate for the counter, over a connection.\n"
     "\n"
     "  --key KEY           a PEM file, or a pkcs11: URI (RFC 7512)\n"
     "  --certificate FILE  the signer's certificate, the DER file that the counter has\n"
-    "  --listen ADDRESS    a loopback address and a port [127.0.0.1:0, a port that the system picks]\n"
+    "  --listen ADDRESS    unix: and a socket's path, or a loopback address and a port\n"
+    "                      [the service manager's socket, or 127.0.0.1:0, a port that the system picks]\n"
+    "  --peer ACCOUNT      the account, by name or number, that may connect, and no other [any]\n"
     "  --module FILE       the PKCS #11 module [p11-kit's, which knows the configured ones]\n"
     "  --seconds N         how long a session may take for one frame, 1 to 3600 [10]\n"
+    "  --allow-rsa-2048    take a key of RSA with fewer than 3,072 bits, and 2,048 at least\n"
     "  --print-algorithm   write the signatures' AlgorithmIdentifier as DER, and end\n"
     "  --help              write this, and end\n"
     "  --version           write the version, and end\n";
 
-enum { KEY, CERTIFICATE, LISTEN, MODULE, SECONDS, PRINT_ALGORITHM, PRINT_HELP, PRINT_VERSION };
+enum { KEY, CERTIFICATE, LISTEN, PEER, MODULE, SECONDS, ALLOW_RSA_2048, PRINT_ALGORITHM, PRINT_HELP, PRINT_VERSION };
 
 static const struct option NAMES[] = {
     {"key", required_argument, NULL, KEY},
     {"certificate", required_argument, NULL, CERTIFICATE},
     {"listen", required_argument, NULL, LISTEN},
+    {"peer", required_argument, NULL, PEER},
     {"module", required_argument, NULL, MODULE},
     {"seconds", required_argument, NULL, SECONDS},
+    {"allow-rsa-2048", no_argument, NULL, ALLOW_RSA_2048},
     {"print-algorithm", no_argument, NULL, PRINT_ALGORITHM},
     {"help", no_argument, NULL, PRINT_HELP},
     {"version", no_argument, NULL, PRINT_VERSION},
@@ -40,7 +46,7 @@ static const struct option NAMES[] = {
 _Noreturn static void refuse(const char *what)
 {
     report("%s; key-holder --help tells the words", what);
-    exit(2);
+    exit(BAD_WORDS);
 }
 
 _Noreturn static void print_and_end(const char *text)
@@ -69,11 +75,17 @@ static void take(struct options *options, int name)
     case LISTEN:
         options->listen = optarg;
         break;
+    case PEER:
+        options->peer = optarg;
+        break;
     case MODULE:
         options->module = optarg;
         break;
     case SECONDS:
         options->seconds = seconds_of(optarg);
+        break;
+    case ALLOW_RSA_2048:
+        options->allows_rsa_2048 = true;
         break;
     case PRINT_ALGORITHM:
         options->prints_algorithm = true;
@@ -89,7 +101,7 @@ static void take(struct options *options, int name)
 
 struct options read_options(int count, char **words)
 {
-    struct options options = {.listen = "127.0.0.1:0", .seconds = 10};
+    struct options options = {.seconds = 10};
     for (int name; (name = getopt_long(count, words, "", NAMES, NULL)) != -1;)
         take(&options, name);
     if (optind < count)

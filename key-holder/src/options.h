@@ -9,12 +9,16 @@ struct options {
     const char *key;
     /* a DER file's path */
     const char *certificate;
-    /* an address of the loopback interface, `:` and a port */
+    /* `unix:` and a path, or an address of the loopback interface, `:` and a port; NULL for what is handed over */
     const char *listen;
+    /* the account whose sessions alone are taken; NULL for any */
+    const char *peer;
     /* the path of the PKCS #11 module; without one p11-kit's */
     const char *module;
     /* how long a session may take for one frame, or for taking its answer */
     int seconds;
+    /* keys of RSA with fewer than 3,072 bits are taken */
+    bool allows_rsa_2048;
     bool prints_algorithm;
 };
 

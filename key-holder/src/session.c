@@ -28,13 +28,27 @@ static void write_length(uint8_t octets[LENGTH_OCTETS], size_t length)
 
 void begin_session(struct session *session, int connection, unsigned long number)
 {
-    *session = (struct session){.connection = connection, .number = number, .deadline = NO_DEADLINE};
+    memset(session, 0, sizeof *session);
+    session->connection = connection;
+    session->number = number;
+    session->since = milliseconds();
+    session->deadline = NO_DEADLINE;
     report("session %lu begins", number);
 }
 
 bool is_answering(const struct session *session)
 {
     return session->length > 0;
+}
+
+bool has_frames(const struct session *session)
+{
+    return session->whole > 0 && !is_answering(session);
+}
+
+bool is_done(const struct session *session)
+{
+    return session->is_over && session->whole == 0 && !is_answering(session);
 }
 
 static bool fault(const struct session *session, const char *what)
@@ -48,60 +62,103 @@ static bool would_block(void)
     return errno == EAGAIN || errno == EWOULDBLOCK || errno == EINTR;
 }
 
-/* Signs the frame, once all of it is there. */
-static bool answer(struct session *session, struct signer *signer)
+/* How many octets came of a frame that isn't whole. */
+static size_t begun(const struct session *session)
 {
-    const uint8_t *text = session->frame + LENGTH_OCTETS;
-    if (!is_attribute_text(text, signer->certificate->digest))
-        return fault(session, "the text isn't the signed attributes of a token under this certificate");
-    size_t length = sign(signer->key, text, ATTRIBUTE_TEXT_OCTETS, session->answer + LENGTH_OCTETS);
-    if (!length) {
-        signer->has_failed = true;
-        return fault(session, "no signature");
+    return session->received - session->whole * FRAME_OCTETS;
+}
+
+/* What came may be signed as far as it is whole, and the beginning of a frame may be one's. */
+static bool look_at_frames(struct session *session, const struct certificate *certificate)
+{
+    for (; begun(session) >= LENGTH_OCTETS; session->whole++) {
+        const uint8_t *frame = session->frames + session->whole * FRAME_OCTETS;
+        if (read_length(frame) != ATTRIBUTE_TEXT_OCTETS)
+            return fault(session, "a frame that hasn't 137 octets");
+        if (begun(session) < FRAME_OCTETS)
+            return true;
+        if (!is_attribute_text(frame + LENGTH_OCTETS, certificate->digest))
+            return fault(session, "the text isn't the signed attributes of a token under this certificate");
     }
-    write_length(session->answer, length);
-    session->length = LENGTH_OCTETS + length;
-    session->sent = session->received = 0;
-    session->deadline = milliseconds() + signer->limit_ms;
     return true;
 }
 
-static bool receive(struct session *session, struct signer *signer)
+static bool read_on(struct session *session, const struct certificate *certificate)
 {
-    size_t room = sizeof session->frame - session->received;
-    ssize_t count = recv(session->connection, session->frame + session->received, room, 0);
+    size_t room = sizeof session->frames - session->received;
+    ssize_t count = recv(session->connection, session->frames + session->received, room, 0);
     if (count < 0)
         return would_block() || fault(session, strerror(errno));
     if (count == 0)
-        return session->received ? fault(session, "it ends within a frame") : false;
-    if (!session->received)
-        session->deadline = milliseconds() + signer->limit_ms;
+        return begun(session) ? fault(session, "it ends within a frame") : false;
     session->received += (size_t)count;
-    if (session->received >= LENGTH_OCTETS && read_length(session->frame) != ATTRIBUTE_TEXT_OCTETS)
-        return fault(session, "a frame that hasn't 137 octets");
-    return session->received < sizeof session->frame || answer(session, signer);
+    return look_at_frames(session, certificate);
 }
 
-static bool send_on(struct session *session)
+/* Once the answers before it are sent, a frame may take its time from when it began. */
+static void limit_frame(struct session *session, int64_t limit_ms)
+{
+    if (session->whole > 0 || begun(session) == 0)
+        session->deadline = NO_DEADLINE;
+    else if (session->deadline == NO_DEADLINE)
+        session->deadline = milliseconds() + limit_ms;
+}
+
+void receive(struct session *session, const struct certificate *certificate, int64_t limit_ms)
+{
+    if (session->is_over || is_answering(session) || session->received == sizeof session->frames)
+        return;
+    session->is_over = !read_on(session, certificate);
+    if (session->is_over)
+        session->received = session->whole * FRAME_OCTETS;
+    limit_frame(session, limit_ms);
+}
+
+size_t ask_signatures(struct session *session, struct task *tasks, size_t most)
+{
+    size_t count = 0;
+    for (; has_frames(session) && count < session->whole && count < most; count++)
+        tasks[count] = (struct task){
+            .text = session->frames + count * FRAME_OCTETS + LENGTH_OCTETS,
+            .text_length = ATTRIBUTE_TEXT_OCTETS,
+            .signature = session->answers + count * MOST_ANSWER_OCTETS + LENGTH_OCTETS,
+        };
+    return count;
+}
+
+bool take_signatures(struct session *session, const struct task *tasks, size_t count, int64_t limit_ms)
+{
+    size_t signatures = 0;
+    for (; signatures < count && tasks[signatures].length > 0; signatures++) {
+        const struct task *task = &tasks[signatures];
+        uint8_t *answer = session->answers + session->length;
+        /* it moves towards the beginning, where there is room of those before it */
+        memmove(answer + LENGTH_OCTETS, task->signature, task->length);
+        write_length(answer, task->length);
+        session->length += LENGTH_OCTETS + task->length;
+    }
+    session->signatures += signatures;
+    session->received -= count * FRAME_OCTETS;
+    session->whole -= count;
+    memmove(session->frames, session->frames + count * FRAME_OCTETS, session->received);
+    session->deadline = milliseconds() + limit_ms;
+    return signatures == count || fault(session, "no signature");
+}
+
+bool send_on(struct session *session, int64_t limit_ms)
 {
     size_t left = session->length - session->sent;
-    ssize_t count = send(session->connection, session->answer + session->sent, left, MSG_NOSIGNAL);
+    ssize_t count = send(session->connection, session->answers + session->sent, left, MSG_NOSIGNAL);
     if (count < 0)
         return would_block() || fault(session, strerror(errno));
     session->sent += (size_t)count;
     if (session->sent == session->length) {
-        session->signatures++;
-        session->length = 0;
+        session->length = session->sent = 0;
+        session->since = milliseconds();
         session->deadline = NO_DEADLINE;
+        limit_frame(session, limit_ms);
     }
     return true;
-}
-
-bool continue_session(struct session *session, struct signer *signer)
-{
-    if (!is_answering(session) && !receive(session, signer))
-        return false;
-    return !is_answering(session) || send_on(session);
 }
 
 bool is_late(const struct session *session)

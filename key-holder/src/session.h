@@ -1,36 +1,39 @@
-/* One session: frames of attribute texts in, frames of signatures out, over a connection that never blocks. */
+/* One session: frames of attribute texts in, frames of signatures out in their order, over a connection that never
+ * blocks. */
 #ifndef SESSION_H
 #define SESSION_H
 
 #include "attribute_text.h"
-#include "key.h"
+#include "signing.h"
 
 #include <stdbool.h>
 #include <stddef.h>
 #include <stdint.h>
 
 /* a frame is its number of octets, most significant first, and these octets */
-enum { LENGTH_OCTETS = 4 };
-
-/* by whom and for which certificate is signed, and how long a frame or its answer may take */
-struct signer {
-    EVP_PKEY *key;
-    const struct certificate *certificate;
-    int64_t limit_ms;
-    /* the key didn't sign */
-    bool has_failed;
+enum {
+    LENGTH_OCTETS = 4,
+    FRAME_OCTETS = LENGTH_OCTETS + ATTRIBUTE_TEXT_OCTETS,
+    MOST_ANSWER_OCTETS = LENGTH_OCTETS + MOST_SIGNATURE_OCTETS,
+    /* of one session at a time; others wait in the connection */
+    MOST_FRAMES = 16,
 };
 
 struct session {
     int connection;
     unsigned long number, signatures;
-    uint8_t frame[LENGTH_OCTETS + ATTRIBUTE_TEXT_OCTETS];
+    /* what came and isn't answered, the last frame perhaps not whole */
+    uint8_t frames[MOST_FRAMES * FRAME_OCTETS];
     size_t received;
-    uint8_t answer[LENGTH_OCTETS + MOST_SIGNATURE_OCTETS];
-    /* the answer's octets; none while a frame is read */
+    /* how many of these frames are whole, and may be signed */
+    size_t whole;
+    /* nothing more is read: its peer ended it, or a fault was told */
+    bool is_over;
+    /* answers under way, if there are any */
+    uint8_t answers[MOST_FRAMES * MOST_ANSWER_OCTETS];
     size_t length, sent;
-    /* when the frame or the answer under way is late, by the clock below; NO_DEADLINE between frames */
-    int64_t deadline;
+    /* since when it is silent, and when the frame or the answers under way are late, by the clock below */
+    int64_t since, deadline;
 };
 
 enum { NO_DEADLINE = -1 };
@@ -43,9 +46,24 @@ void begin_session(struct session *session, int connection, unsigned long number
 
 bool is_answering(const struct session *session);
 
-/* Goes on as far as the connection lets it; false where the session is over, since its peer ended it or after a fault,
- * which is told. */
-bool continue_session(struct session *session, struct signer *signer);
+/* Whether frames are there to be signed, and the answers to those before them are sent. */
+bool has_frames(const struct session *session);
+
+/* Whether nothing is left to be done for it. */
+bool is_done(const struct session *session);
+
+/* Reads as far as there is something, and room. Frames that may not be signed under the certificate end it, once those
+ * before them are answered. */
+void receive(struct session *session, const struct certificate *certificate, int64_t limit_ms);
+
+/* Has the first of its frames signed, so many at most, into its answers; answers how many these are. */
+size_t ask_signatures(struct session *session, struct task *tasks, size_t most);
+
+/* Puts the signatures in order once they are made, up to the first that wasn't. False if one wasn't. */
+bool take_signatures(struct session *session, const struct task *tasks, size_t count, int64_t limit_ms);
+
+/* Sends as far as the connection takes it; false after a fault, which is told. */
+bool send_on(struct session *session, int64_t limit_ms);
 
 /* Whether it ran out of its time, which is told. */
 bool is_late(const struct session *session);

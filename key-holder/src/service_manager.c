@@ -1,13 +1,32 @@
-#include "notification.h"
+#include "service_manager.h"
 
 #include "report.h"
 
+#include <limits.h>
 #include <stddef.h>
 #include <stdlib.h>
 #include <string.h>
 #include <sys/socket.h>
 #include <sys/un.h>
 #include <unistd.h>
+
+/* The number in a variable; 0 where there is none. */
+static long number_of(const char *name)
+{
+    const char *text = getenv(name);
+    char *end = NULL;
+    long number = text ? strtol(text, &end, 10) : 0;
+    return text && *text && !*end ? number : 0;
+}
+
+int count_handed(void)
+{
+    /* else they are for another process, of which this one has the variables */
+    if (number_of("LISTEN_PID") != getpid())
+        return 0;
+    long count = number_of("LISTEN_FDS");
+    return count > 0 && count < INT_MAX ? (int)count : 0;
+}
 
 void notify_ready(void)
 {
