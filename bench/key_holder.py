@@ -1,17 +1,18 @@
-"""A signature by the key holder, over one session, beside one by EVP_DigestSign in one process, with the same key: the
-medians of nine runs, in each of which both take turns."""
+"""A signature by the key holder, over one session by TCP, beside one by EVP_DigestSign in one process, with the same
+key; one over a Unix socket beside TCP; and one of 64 that are asked for at once: the medians of nine runs, in each of
+which all take turns."""
 
 import hashlib
 import statistics
 import subprocess
 
-from authority import KeyHolder
+from authority import KeyHolder, Running
 from certificates import KINDS, CertificationAuthority
 from programs import built_key_holder
 from timing import compiled_peer
 
 RUNS = 9
-SIGNATURES = 2_000
+SIGNATURES = 1_000
 # the signed attributes of a token, but for the digests of TSTInfo and certificate (RFC 5652 5.4)
 ATTRIBUTES = (
     bytes.fromhex("318186 301a06092a864886f70d010903310d060b2a864886f70d0109100104 302f06092a864886f70d01090431220420"),
@@ -33,10 +34,23 @@ def ratios(folder):
         path = f"{folder}/text"
         with open(path, "wb") as file:
             file.write(text)
-        with KeyHolder(certified, program=program) as holder:
-            words = [peer, certified.key, str(holder.port), path, str(SIGNATURES)]
+        socket = f"unix:{folder}/socket"
+        with KeyHolder(certified, program=program) as holder, at_file(program, certified, socket):
+            words = [peer, certified.key, str(holder.port), f"{folder}/socket", path, str(SIGNATURES)]
             runs = [subprocess.run(words, stdout=subprocess.PIPE, check=True).stdout.split() for _ in range(RUNS)]
-        own, other = (statistics.median(int(run[at]) for run in runs) / 1000 for at in (1, 0))
-        # of rates: how many signatures the key holder gives while EVP_DigestSign gives one
-        ratio = statistics.median(int(run[0]) / int(run[1]) for run in runs)
-        yield f"a signature, {kind}", f"{own:.0f} us", f"EVP_DigestSign {other:.0f} us", ratio
+        medians = (statistics.median(int(run[way]) for run in runs) / 1000 for way in range(4))
+        other, by_tcp, by_file, at_once = medians
+        # of rates: how many signatures are given while the other way gives one
+        ways = (1, 0), (2, 1), (3, 2)
+        ratio = [statistics.median(int(run[at]) / int(run[way]) for run in runs) for way, at in ways]
+        yield f"a signature, {kind}", f"{by_tcp:.0f} us", f"EVP_DigestSign {other:.0f} us", ratio[0]
+        yield f"over a Unix socket, {kind}", f"{by_file:.0f} us", f"over TCP {by_tcp:.0f} us", ratio[1]
+        yield f"64 at once, {kind}", f"{at_once:.0f} us", f"one by one {by_file:.0f} us", ratio[2]
+
+
+def at_file(program, certified, address):
+    """A key holder at a Unix socket, which listens."""
+    words = [program, "--key", certified.key, "--certificate", certified.der, "--listen", address]
+    holder = Running(words)
+    holder.process.stdout.readline()
+    return holder

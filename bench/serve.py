@@ -26,10 +26,10 @@ MOST_SECONDS = 60
 TYPE = "application/timestamp-query"
 
 
-def sent(port, query, count):
-    """How many requests a second ab finds answered."""
+def sent(port, query, count, *options):
+    """How many requests a second ab finds answered, by further options of its own."""
     limits = ["-t", str(MOST_SECONDS), "-n", str(count), "-c", str(AT_ONCE), "-s", str(MOST_SECONDS)]
-    words = ["ab", "-q", "-l", *limits, "-p", query, "-T", TYPE, f"http://127.0.0.1:{port}/tsp"]
+    words = ["ab", "-q", "-l", *limits, *options, "-p", query, "-T", TYPE, f"http://127.0.0.1:{port}/tsp"]
     said = subprocess.run(words, capture_output=True, text=True, check=True).stdout
     found = {
         name: re.search(rf"^{name}: +([0-9.]+)", said, re.M)

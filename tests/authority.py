@@ -34,11 +34,11 @@ def listening_port(running):
 class Running:
     """A process of the test's own; it is killed at the end, if not before."""
 
-    def __init__(self, words, environment=None):
+    def __init__(self, words, environment=None, handed=None):
         # a file, since nobody reads it before the end
         self.errors = tempfile.TemporaryFile()
         how = {"stdin": subprocess.DEVNULL, "stdout": subprocess.PIPE, "stderr": self.errors, "env": environment}
-        self.process = subprocess.Popen(words, **how)
+        self.process = subprocess.Popen(words, pass_fds=[handed.fileno()] if handed else [], **how)
 
     def __enter__(self):
         return self

@@ -2,9 +2,10 @@
 
 import os
 import subprocess
+import time
 
 # what `openssl req -newkey` is told of each kind of key
-KINDS = {"RSA": ["rsa:2048"], "ECDSA": ["ec", "-pkeyopt", "ec_paramgen_curve:P-256"]}
+KINDS = {"RSA": ["rsa:3072"], "ECDSA": ["ec", "-pkeyopt", "ec_paramgen_curve:P-256"]}
 # the AlgorithmIdentifier of signatures with SHA-256: PKCS #1 v1.5 (RFC 4055 5), and ECDSA (RFC 5758 3.2)
 ALGORITHMS = {
     "RSA": bytes.fromhex("300d06092a864886f70d01010b0500"),
@@ -14,6 +15,21 @@ ALGORITHMS = {
 USAGE = "keyUsage=critical,digitalSignature", "extendedKeyUsage=critical,timeStamping"
 # and those of an authority that certifies no further one (RFC 5280 4.2.1.3, 4.2.1.9)
 CERTIFYING = "basicConstraints=critical,CA:TRUE,pathlen:0", "keyUsage=critical,keyCertSign"
+# what `openssl ca` is told, which alone takes a moment at which a certificate ends
+CONFIGURATION = """\
+[ca]
+default_ca = own
+[own]
+database = {0}.index
+new_certs_dir = {1}
+rand_serial = yes
+default_md = sha256
+copy_extensions = copy
+policy = any
+[any]
+organizationName = optional
+commonName = supplied
+"""
 
 
 def made(*words):
@@ -47,13 +63,24 @@ class CertificationAuthority:
         """Another authority, which it certifies."""
         return CertificationAuthority(self.folder, self.kind, self.certified(name, extensions=CERTIFYING))
 
-    def certified(self, name, *options, newkey=None, extensions=USAGE):
-        """A new key that it certifies for that name, with these extensions and options of `openssl x509`."""
+    def certified(self, name, *options, newkey=None, extensions=USAGE, ends=None):
+        """A new key that it certifies for that name, with these extensions and options of `openssl x509`, or until a
+        moment."""
         new = Certified(self.folder, name)
         asked = [word for extension in extensions for word in ("-addext", extension)]
         words = ["-nodes", "-subj", f"/O=Example/CN={name}", *asked, "-keyout", new.key, "-out", new.request]
         made("req", "-newkey", *(newkey or KINDS[self.kind]), *words)
-        signer = ["-CA", self.pem, "-CAkey", self.key, "-CAcreateserial"]
-        made("x509", "-req", "-in", new.request, "-copy_extensions", "copy", *signer, *options, "-out", new.pem)
+        if ends:
+            self.certify_until(new, ends)
+        else:
+            signer = ["-CA", self.pem, "-CAkey", self.key, "-CAcreateserial"]
+            made("x509", "-req", "-in", new.request, "-copy_extensions", "copy", *signer, *options, "-out", new.pem)
         made("x509", "-in", new.pem, "-outform", "DER", "-out", new.der)
         return new
+
+    def certify_until(self, new, ends):
+        with open(new.pem + ".index", "w", encoding="ascii"), open(new.pem + ".conf", "w", encoding="ascii") as file:
+            file.write(CONFIGURATION.format(new.pem, self.folder))
+        words = ["-config", new.pem + ".conf", "-cert", self.pem, "-keyfile", self.key, "-batch", "-notext"]
+        end = time.strftime("%Y%m%d%H%M%SZ", time.gmtime(ends))
+        made("ca", *words, "-enddate", end, "-in", new.request, "-out", new.pem)
