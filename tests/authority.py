@@ -75,7 +75,26 @@ class Server(Running):
         self.port = listening_port(self.process)
         if self.port is None:
             raise RuntimeError(f"it doesn't listen: {words}: {self.kill()}")
-        self.url = f"http://127.0.0.1:{self.port}"
+        self.address = f"127.0.0.1:{self.port}"
+        self.url = f"http://{self.address}"
+
+
+def listens(path, flags="00010000"):
+    """Whether somebody listens at the path of a Unix socket."""
+    with open("/proc/net/unix", encoding="utf-8") as file:
+        return any(parts[3] == flags and parts[7:] == [path] for parts in map(str.split, file))
+
+
+class UnixServer(Running):
+    """`counter serve`, at work at the path of a Unix socket."""
+
+    def __init__(self, path, words, environment=None):
+        super().__init__(words, environment)
+        self.path, self.address, end = path, f"unix:{path}", time.monotonic() + SECONDS_TO_START
+        while not listens(path):
+            if self.process.poll() is not None or time.monotonic() > end:
+                raise RuntimeError(f"it doesn't listen: {words}: {self.kill()}")
+            time.sleep(0.005)
 
 
 class Authority:
@@ -126,12 +145,16 @@ class Authority:
         chain = ["--chain", self.chain] if self.chain else []
         return ["--db", self.db, "--rules", self.rules, "--certificate", self.certificate, *chain, *signer]
 
-    def serve_words(self, *signer):
+    def serve_words(self, *signer, listen="127.0.0.1:0"):
         words = [PROGRAM, "serve", *self.desk_words(*signer)]
-        return [*words, "--listen", "127.0.0.1:0", "--connections", str(MOST_CONNECTIONS)]
+        return [*words, "--listen", listen, "--connections", str(MOST_CONNECTIONS)]
 
     def serving(self, *signer):
         return Server(self.serve_words(*signer))
+
+    def serving_at(self, path, *signer):
+        """The same at the path of a Unix socket."""
+        return UnixServer(path, self.serve_words(*signer, listen=f"unix:{path}"))
 
     def query(self, *options, data=b"abc"):
         """A request that OpenSSL makes."""
