@@ -6,6 +6,7 @@ import { announce, byId, droppable, make, told } from "./elements.js";
 import { ALGORITHMS } from "./hash.js";
 import { hashOf } from "./hashing.js";
 import { judged } from "./signatures.js";
+import { text } from "./texts.js";
 import { isToken, readFile } from "./tokens.js";
 
 // no token of a time-stamping authority is longer
@@ -54,7 +55,9 @@ async function check(place, isCurrent) {
   }
   const response = read(octets);
   if (!response) return fail("check.malformed", { name: tokenFile.name });
-  if (!response.isGranted) return fail("check.rejection", { text: response.text });
+  // in the same words as where it is asked for
+  const refusal = response.rule ? () => text(`rule.${response.rule}`) : response.text;
+  if (!response.isGranted) return fail("check.rejection", { text: refusal });
   const { token } = response;
   const { algorithm } = token.info.imprint;
   if (!ALGORITHMS[algorithm]) return fail("check.algorithm", { algorithm: algorithmName(algorithm) });

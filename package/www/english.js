@@ -14,7 +14,7 @@ export const english = {
   "check.fits": "The token is for exactly this file.",
   "check.good": "File and token belong together.",
   "check.malformed": "{name} is no time-stamp token, or one that this page can't read.",
-  "check.rejection": "This reply has no token: it refuses the request ({text}).",
+  "check.rejection": "This reply has no token. The request was refused: {text}",
   "check.unfit": "The file's hash by {algorithm} isn't the token's: it is another file, or it was changed.",
   "copied": "Copied",
   "copy": "Copy",

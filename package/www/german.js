@@ -28,7 +28,7 @@ export const german = {
   "check.good": "Datei und Token gehören zusammen.",
   "check.intro": "Beide bleiben in diesem Browser.",
   "check.malformed": "{name} ist kein Zeitstempel-Token, oder eines, das diese Seite nicht lesen kann.",
-  "check.rejection": "Diese Antwort enthält kein Token: Sie lehnt die Anfrage ab ({text}).",
+  "check.rejection": "Diese Antwort enthält kein Token. Die Anfrage wurde abgelehnt: {text}",
   "check.title": "Datei und Token prüfen",
   "check.token": "Ihr Token: eine Antwort (.tsr) oder ein Token allein",
   "check.unfit":
