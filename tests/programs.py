@@ -1,6 +1,7 @@
 """The programs that the tests run, and what is found wrong of them: the counter, the player of rows and trials, OpenSSL
 and sqlite3."""
 
+import contextlib
 import functools
 import json
 import os
@@ -60,6 +61,18 @@ class Wrong:
         """Tells at the end of a test what it did, and how much was wrong; its status."""
         print(f"{what}; {self.count} wrong")
         return self.count > 0
+
+
+@contextlib.contextmanager
+def environment_of(variables):
+    """Has programs that begin meanwhile find these variables."""
+    before = dict(os.environ)
+    os.environ.update(variables)
+    try:
+        yield
+    finally:
+        os.environ.clear()
+        os.environ.update(before)
 
 
 def built(crate, *options):

@@ -78,9 +78,14 @@ bool is_key_of(struct key *key, X509 *certificate, int least_rsa_bits)
     return !fault;
 }
 
-static size_t sign_alone(EVP_PKEY *key, const uint8_t *text, size_t length, uint8_t signature[MOST_SIGNATURE_OCTETS])
+size_t signature_octets(const struct key *key)
 {
-    size_t written = MOST_SIGNATURE_OCTETS;
+    return (size_t)EVP_PKEY_get_size(key->own);
+}
+
+static size_t sign_alone(EVP_PKEY *key, const uint8_t *text, size_t length, uint8_t *signature, size_t room)
+{
+    size_t written = room;
     EVP_MD_CTX *context = EVP_MD_CTX_new();
     bool is_signed = context && EVP_DigestSignInit_ex(context, NULL, "SHA256", device_context(), NULL, key, NULL) == 1
         && EVP_DigestSign(context, signature, &written, text, length) == 1;
@@ -101,9 +106,9 @@ static bool is_verified(EVP_PKEY *key, const uint8_t *text, size_t length, const
     return is_good;
 }
 
-size_t sign(const struct key *key, const uint8_t *text, size_t length, uint8_t signature[MOST_SIGNATURE_OCTETS])
+size_t sign(const struct key *key, const uint8_t *text, size_t length, uint8_t *signature, size_t room)
 {
-    size_t written = sign_alone(key->own, text, length, signature);
+    size_t written = sign_alone(key->own, text, length, signature, room);
     return written && is_verified(key->public, text, length, signature, written) ? written : 0;
 }
 

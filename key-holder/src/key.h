@@ -36,9 +36,12 @@ enum status open_key(const char *text, const char *module, struct key *key);
  * keys have at least so many bits. What is wrong is told. */
 bool is_key_of(struct key *key, X509 *certificate, int least_rsa_bits);
 
+/* How many octets a signature has at most. */
+size_t signature_octets(const struct key *key);
+
 /* Signs the text with SHA-256, by PKCS #1 v1.5 or ECDSA, and verifies the signature; answers how many octets that has,
- * 0 after a fault, which is told. */
-size_t sign(const struct key *key, const uint8_t *text, size_t length, uint8_t signature[MOST_SIGNATURE_OCTETS]);
+ * 0 after a fault, which is told. There has to be room for as many as a signature has. */
+size_t sign(const struct key *key, const uint8_t *text, size_t length, uint8_t *signature, size_t room);
 
 /* Frees it, and ends what its device was opened with. */
 void close_key(struct key *key);

@@ -11,12 +11,19 @@
 #include <netinet/tcp.h>
 #include <poll.h>
 #include <signal.h>
+#include <stdlib.h>
 #include <sys/signalfd.h>
 #include <sys/socket.h>
 #include <time.h>
 #include <unistd.h>
 
-enum { MOST_SESSIONS = 64, MOST_WAITING_OCTETS = 16384, PAUSE_MS = 1000 };
+enum {
+    MOST_SESSIONS = 64,
+    /* signed side by side before any of them is answered, so that none waits long for others */
+    MOST_TASKS = 1024,
+    MOST_WAITING_OCTETS = 16384,
+    PAUSE_MS = 1000,
+};
 
 /* places of what is polled */
 enum { SIGNALS, EXPIRY, LISTENER, FIRST_SESSION };
@@ -26,8 +33,8 @@ struct server {
     /* those at work come first */
     struct session *sessions[MOST_SESSIONS];
     size_t count;
-    /* how many frames of one session are signed side by side */
-    size_t at_once;
+    /* how many frames of one session may be signed side by side */
+    size_t of_session;
     unsigned long next_number;
     /* signals, the certificate's end, the listener, and the sessions in their order */
     struct pollfd polled[FIRST_SESSION + MOST_SESSIONS];
@@ -148,12 +155,22 @@ static void read_sessions(struct server *server)
     }
 }
 
+/* How many frames of a session are signed, so that each that has some has a share. */
+static size_t share(const struct server *server)
+{
+    size_t asking = 0;
+    for (size_t at = 0; at < server->count; at++)
+        asking += has_frames(server->sessions[at]);
+    size_t each = asking > 0 ? MOST_TASKS / asking : 0;
+    return each < server->of_session ? each : server->of_session;
+}
+
 static void sign_frames(struct server *server)
 {
-    static struct task tasks[MOST_SESSIONS * MOST_FRAMES];
-    size_t counts[MOST_SESSIONS], count = 0;
+    static struct task tasks[MOST_TASKS];
+    size_t counts[MOST_SESSIONS], count = 0, most = share(server);
     for (size_t at = 0; at < server->count; at++) {
-        counts[at] = ask_signatures(server->sessions[at], tasks + count, server->at_once);
+        counts[at] = ask_signatures(server->sessions[at], tasks + count, most);
         count += counts[at];
     }
     if (count > 0)
@@ -222,16 +239,21 @@ static void go_on(struct server *server)
 static bool prepare(struct server *server, const struct listener *listener, const struct service *service)
 {
     static struct session sessions[MOST_SESSIONS];
-    for (size_t at = 0; at < MOST_SESSIONS; at++)
+    bool has_room = true;
+    for (size_t at = 0; at < MOST_SESSIONS; at++) {
         server->sessions[at] = &sessions[at];
+        has_room = has_room && take_room(&sessions[at], signature_octets(service->key));
+    }
+    if (!has_room)
+        report("there is no memory for sessions");
     server->service = service;
     server->next_number = 1;
     server->resume = NO_DEADLINE;
-    server->at_once = begin_threads(service->key) > 1 ? MOST_FRAMES : 1;
+    server->of_session = begin_threads(service->key) > 1 ? MOST_FRAMES : 1;
     server->polled[SIGNALS] = (struct pollfd){.fd = open_signals(), .events = POLLIN};
     server->polled[EXPIRY] = (struct pollfd){.fd = open_expiry(service->certificate), .events = POLLIN};
     server->polled[LISTENER] = (struct pollfd){.fd = listener->socket, .events = POLLIN};
-    return server->polled[SIGNALS].fd >= 0 && server->polled[EXPIRY].fd >= 0;
+    return has_room && server->polled[SIGNALS].fd >= 0 && server->polled[EXPIRY].fd >= 0;
 }
 
 enum status serve(const struct listener *listener, const struct service *service)
@@ -249,6 +271,8 @@ enum status serve(const struct listener *listener, const struct service *service
     while (server.count > 0)
         drop_session(&server, server.count - 1);
     end_threads();
+    for (size_t at = 0; at < MOST_SESSIONS; at++)
+        free(server.sessions[at]->answers);
     close(signals);
     close(expiry);
     return server.status;

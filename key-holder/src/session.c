@@ -3,6 +3,7 @@
 #include "report.h"
 
 #include <errno.h>
+#include <stdlib.h>
 #include <string.h>
 #include <sys/socket.h>
 #include <time.h>
@@ -26,13 +27,23 @@ static void write_length(uint8_t octets[LENGTH_OCTETS], size_t length)
         octets[at] = (uint8_t)(length >> (8 * (LENGTH_OCTETS - 1 - at)));
 }
 
+bool take_room(struct session *session, size_t signature_octets)
+{
+    session->most_answer_octets = LENGTH_OCTETS + signature_octets;
+    session->answers = calloc(MOST_FRAMES, session->most_answer_octets);
+    return session->answers;
+}
+
 void begin_session(struct session *session, int connection, unsigned long number)
 {
-    memset(session, 0, sizeof *session);
-    session->connection = connection;
-    session->number = number;
-    session->since = milliseconds();
-    session->deadline = NO_DEADLINE;
+    *session = (struct session){
+        .connection = connection,
+        .number = number,
+        .answers = session->answers,
+        .most_answer_octets = session->most_answer_octets,
+        .since = milliseconds(),
+        .deadline = NO_DEADLINE,
+    };
     report("session %lu begins", number);
 }
 
@@ -121,7 +132,8 @@ size_t ask_signatures(struct session *session, struct task *tasks, size_t most)
         tasks[count] = (struct task){
             .text = session->frames + count * FRAME_OCTETS + LENGTH_OCTETS,
             .text_length = ATTRIBUTE_TEXT_OCTETS,
-            .signature = session->answers + count * MOST_ANSWER_OCTETS + LENGTH_OCTETS,
+            .signature = session->answers + count * session->most_answer_octets + LENGTH_OCTETS,
+            .room = session->most_answer_octets - LENGTH_OCTETS,
         };
     return count;
 }

@@ -14,9 +14,8 @@
 enum {
     LENGTH_OCTETS = 4,
     FRAME_OCTETS = LENGTH_OCTETS + ATTRIBUTE_TEXT_OCTETS,
-    MOST_ANSWER_OCTETS = LENGTH_OCTETS + MOST_SIGNATURE_OCTETS,
     /* of one session at a time; others wait in the connection */
-    MOST_FRAMES = 16,
+    MOST_FRAMES = 64,
 };
 
 struct session {
@@ -29,8 +28,9 @@ struct session {
     size_t whole;
     /* nothing more is read: its peer ended it, or a fault was told */
     bool is_over;
-    /* answers under way, if there are any */
-    uint8_t answers[MOST_FRAMES * MOST_ANSWER_OCTETS];
+    /* answers under way, if there are any, in room for MOST_FRAMES of them, each of so many octets at most */
+    uint8_t *answers;
+    size_t most_answer_octets;
     size_t length, sent;
     /* since when it is silent, and when the frame or the answers under way are late, by the clock below */
     int64_t since, deadline;
@@ -41,7 +41,10 @@ enum { NO_DEADLINE = -1 };
 /* Milliseconds of a clock that only rises. */
 int64_t milliseconds(void);
 
-/* Begins the session, and tells so. */
+/* Takes the room for its answers, whose signatures have so many octets at most; false where memory runs out. */
+bool take_room(struct session *session, size_t signature_octets);
+
+/* Begins the session in its room, and tells so. */
 void begin_session(struct session *session, int connection, unsigned long number);
 
 bool is_answering(const struct session *session);
@@ -68,7 +71,7 @@ bool send_on(struct session *session, int64_t limit_ms);
 /* Whether it ran out of its time, which is told. */
 bool is_late(const struct session *session);
 
-/* Closes the connection, and tells how many signatures were given. */
+/* Closes the connection, and tells how many signatures were given; the room stays. */
 void end_session(struct session *session);
 
 #endif

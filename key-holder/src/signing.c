@@ -29,7 +29,7 @@ static void take_tasks(void)
         pthread_mutex_unlock(&work.lock);
         if (work.key->is_in_device)
             expect_device(SECONDS_FOR_SIGNATURE);
-        task->length = sign(work.key, task->text, task->text_length, task->signature);
+        task->length = sign(work.key, task->text, task->text_length, task->signature, task->room);
         pthread_mutex_lock(&work.lock);
         if (++work.done == work.count)
             pthread_cond_signal(&work.is_done);

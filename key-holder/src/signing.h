@@ -7,12 +7,12 @@
 #include <stddef.h>
 #include <stdint.h>
 
-/* a text, and the place for its signature, whose length is 0 after a fault */
+/* a text, and the place for its signature, with room for so many octets; its length is 0 after a fault */
 struct task {
     const uint8_t *text;
     size_t text_length;
     uint8_t *signature;
-    size_t length;
+    size_t room, length;
 };
 
 /* Begins a thread for each processor but the one that asks, if the key may be used by several at a time. Answers by how
