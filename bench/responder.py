@@ -42,7 +42,7 @@ def ratios(folder):
     authority.write("serial", b"01\n")
     query = authority.write("query", authority.query("-sha256", "-cert", "-no_nonce"))
     peer = compiled_peer("responder", folder, "-D_GNU_SOURCE", "-lcrypto", "-lsqlite3")
-    words = [peer, authority.certified.key, authority.pem, authority.path("peer.db"), str(os.path.getsize(query))]
+    words = [peer, authority.certified.key, authority.pem, authority.path("peer.db"), str(os.path.getsize(query)), "1"]
     runs = []
     with authority.key_holder() as holder, authority.serving(holder.address) as server, Running(words) as other:
         port = int(other.process.stdout.readline())

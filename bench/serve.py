@@ -26,9 +26,9 @@ MOST_SECONDS = 60
 TYPE = "application/timestamp-query"
 
 
-def sent(port, query, count, *options):
-    """How many requests a second ab finds answered, by further options of its own."""
-    limits = ["-t", str(MOST_SECONDS), "-n", str(count), "-c", str(AT_ONCE), "-s", str(MOST_SECONDS)]
+def sent(port, query, count, *options, at_once=AT_ONCE):
+    """How many requests a second ab finds answered, so many at a time, by further options of its own."""
+    limits = ["-t", str(MOST_SECONDS), "-n", str(count), "-c", str(at_once), "-s", str(MOST_SECONDS)]
     words = ["ab", "-q", "-l", *limits, *options, "-p", query, "-T", TYPE, f"http://127.0.0.1:{port}/tsp"]
     said = subprocess.run(words, capture_output=True, text=True, check=True).stdout
     found = {
