@@ -17,8 +17,8 @@ import time
 from toolchain import is_left_by_gate, is_usable, rt
 
 FOLDERS = ("must-fail", "edits")
-FUNCTION = re.compile(r"^([ \t]*)(?:pub(?:\([a-z ]+\))?\s+)?(?:const\s+)?fn\s+(\w+)")
-IMPLEMENTATION = re.compile(r"^impl\b")
+FUNCTION = re.compile(r"^([ \t]*)(?:pub(?:\([a-z ]+\))?\s+)?(?:const\s+|final\s+)?fn\s+(\w+)")
+BLOCK = re.compile(r"^(?:impl|(?:pub(?:\([a-z ]+\))?\s+)?trait)\b")
 VERDICT = re.compile(r"^(?:fn|impl|struct|enum|trait) (\S+): ")
 # what the prover says against a place in a file, and no advice
 PLACE = re.compile(r"(?:note: )?(?:\./)?([\w+/]+\.(?:rt|antt)):\d+:\d+: (?!note)")
@@ -92,22 +92,24 @@ def module_of(path):
 
 
 def block_at(lines, head):
-    """The impl block that begins with this line, without parameters: its type, or `TRAIT for TYPE`."""
+    """The impl block that begins with this line, without parameters: its type, or `TRAIT for TYPE`; or the trait."""
     whole = " ".join(line.strip() for line in lines[head:])
-    text = whole.partition("{")[0].partition(" where ")[0].removeprefix("impl")
+    text = BLOCK.sub("", whole.partition("{")[0].partition(" where ")[0])
+    if "trait" in BLOCK.match(whole)[0]:
+        text = text.partition(":")[0]
     while (shorter := re.sub(r"<[^<>]*>", "", text)) != text:
         text = shorter
     return text.strip()
 
 
 def place_of(lines, at):
-    """The function that the line is in, and the impl block around it; both are empty outside of one."""
+    """The function that the line is in, and the impl block or the trait around it; both are empty outside of one."""
     for number in range(at, -1, -1):
         found = FUNCTION.match(lines[number])
         if found:
             if found[1] + "}" in lines[number:at]:
                 return "", ""
-            heads = [head for head in range(number) if IMPLEMENTATION.match(lines[head])] if found[1] else []
+            heads = [head for head in range(number) if BLOCK.match(lines[head])] if found[1] else []
             return found[2], block_at(lines, heads[-1]) if heads else ""
     return "", ""
 
