@@ -170,14 +170,24 @@ class Browser:
         root = self.call("DOM.getDocument")["root"]["nodeId"]
         return self.call("DOM.querySelector", nodeId=root, selector=selector)["nodeId"]
 
-    def click(self, selector):
-        """Clicks on the middle of what is seen of an element."""
+    def middle(self, selector):
+        """Where the middle is of what is seen of an element, once that is in view."""
         node = self.node(selector)
         self.call("DOM.scrollIntoViewIfNeeded", nodeId=node)
         quad = self.call("DOM.getContentQuads", nodeId=node)["quads"][0]
-        x, y = sum(quad[0::2]) / 4, sum(quad[1::2]) / 4
+        return {"x": sum(quad[0::2]) / 4, "y": sum(quad[1::2]) / 4}
+
+    def click(self, selector):
+        """Clicks on the middle of what is seen of an element."""
+        where = self.middle(selector)
         for kind in ("mousePressed", "mouseReleased"):
-            self.call("Input.dispatchMouseEvent", type=kind, x=x, y=y, button="left", clickCount=1)
+            self.call("Input.dispatchMouseEvent", type=kind, **where, button="left", clickCount=1)
+
+    def drop(self, selector, *paths):
+        """Drops files on the middle of what is seen of an element."""
+        where, data = self.middle(selector), {"items": [], "files": list(paths), "dragOperationsMask": 1}
+        for kind in ("dragEnter", "dragOver", "drop"):
+            self.call("Input.dispatchDragEvent", type=kind, **where, data=data)
 
     def key(self, name, modifiers=0):
         code, text = KEYS[name]
