@@ -12,7 +12,7 @@ from programs import openssl
 
 PROGRAM = "/usr/bin/chromium"
 # what a slow machine takes to start it, and to do one thing
-SECONDS_TO_START, SECONDS = 240, 120
+SECONDS_TO_START, SECONDS = 240, 300
 WORDS = (
     "--headless",
     "--remote-debugging-pipe",
