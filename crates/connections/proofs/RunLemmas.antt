@@ -152,7 +152,7 @@ module _ {C B X : Type 0} (reads : C → Result ℤ ClockFailed → C → Type 0
     answers reading a (turns_back c reads takes behind is) met = steps (Calibrate c) turned_back takes met
     answers reading a (looks r reads l reports) met = stays (l.store.stands b stood) l.signer met
     answers reading a (wants_early early i is) met = idles i.desk i.signer met
-    answers reading a (wants_list account reads rows takes is) met = steps (ListAll account) (Listed rows) takes met
+    answers reading a (wants_list account reads rows some takes is) met = steps (ListAll account) (Listed rows) takes met
 
     serves : (reading : ℤ) (outcome : Served) (s : Serves g signs count untold reading (turn reads g signs count old next) outcome)
         → AreMetAnywhere (commands_of (told_in reads g signs count reading (turn reads g signs count old next) outcome s ++ later))

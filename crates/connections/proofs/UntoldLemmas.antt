@@ -52,17 +52,17 @@ module _ {W B X : Type 0} (g : Ghosts B) (signs : X → List ℕ → Result (Lis
   answer a (turns_back x reads takes behind is) = turns_back x reads takes behind is
   answer a (looks r reads l reports) = looks r reads (look l) reports
   answer a (wants_early early i is) = wants_early early (idle i) is
-  answer a (wants_list account reads rows takes is) = wants_list account reads rows takes is
+  answer a (wants_list account reads rows some takes is) = wants_list account reads rows some takes is
 
-  sent : (a : AnswerValue) (outcome : Served) → Sends nothing_told t.writer t.writer_after a outcome
-      → Sends untold tt tt a outcome
+  sent : (a : AnswerValue) (outcome : Served) → Sends nothing_told reading t.writer t.writer_after a outcome
+      → Sends untold reading tt tt a outcome
   sent a served.Closed s = s
   sent a (served.Answered status) s = s
   sent a served.ReadFailed s = s
   sent a (served.WriteFailed status taken) s = s
 
-  octets : (outcome : Served) → SendsOctets nothing_told t.writer t.writer_after outcome
-      → SendsOctets untold tt tt outcome
+  octets : (outcome : Served) → SendsOctets nothing_told reading t.writer t.writer_after outcome
+      → SendsOctets untold reading tt tt outcome
   octets served.Closed s = s
   octets (served.Answered status) s = s
   octets served.ReadFailed s = s

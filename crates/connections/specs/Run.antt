@@ -47,7 +47,7 @@ module _ {C B X : Type 0} (reads : C → Result ℤ ClockFailed → C → Type 0
   told_for (turns_back c reads takes behind is) = told (Calibrate c) turned_back
   told_for (looks r reads l reports) = []
   told_for (wants_early early i is) = []
-  told_for (wants_list account reads rows takes is) = told (ListAll account) (Listed rows)
+  told_for (wants_list account reads rows some takes is) = told (ListAll account) (Listed rows)
 
   -- what is served between two states, over a stream that tells no octets
   abbrev pub turn : State C B X → State C B X → Turn (Unit {0}) B X

@@ -30,9 +30,9 @@ module _ (policy : PolicyValue) (reading : ℤ) (old new before : Option (List �
       → known.IsExchanged policy reading old new before mid (Answered status) → Keeps mid after
       → WritesAnswer policy reading old new (Appends before after)
   writes_all mid after status (inl e) kept =
-      inr (inl (e.answer, e.is, keeps_beginning before mid after (answer_text e.answer) e.written kept))
+      inr (inl (e.answer, e.is, keeps_beginning before mid after (answer_text reading e.answer) e.written kept))
   writes_all mid after status (inr e) kept =
-      let text = answer_text (success 200 Csv e.1.0) in
+      let text = answer_text reading (success 200 Csv e.1.0) in
       inr (inr (e.0, (text, keeps_beginning before mid after text e.1.1.1 kept)))
 
   begun : (mid after : Option (List ℕ)) (text : List ℕ) → Appends before mid text → Keeps mid after
@@ -45,9 +45,9 @@ module _ (policy : PolicyValue) (reading : ℤ) (old new before : Option (List �
       → known.IsExchanged policy reading old new before mid (Answered status) → Keeps mid after
       → WritesAnswer policy reading old new (Begins before after)
   writes_unflushed mid after status (inl e) kept =
-      inr (inl (e.answer, e.is, begun mid after (answer_text e.answer) e.written kept))
+      inr (inl (e.answer, e.is, begun mid after (answer_text reading e.answer) e.written kept))
   writes_unflushed mid after status (inr e) kept =
-      let text = answer_text (success 200 Csv e.1.0) in
+      let text = answer_text reading (success 200 Csv e.1.0) in
       inr (inr (e.0, (text, begun mid after text e.1.1.1 kept)))
 
   -- a beginning of the answer is written

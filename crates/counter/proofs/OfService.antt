@@ -30,7 +30,7 @@ module _ {W B X : Type 0} (g : Ghosts B) (signs : X → List ℕ → Result (Lis
   explained a (looks (Extract account from to) reads look (overflows long is)) =
       known.overflows account from to reads is
   explained a (wants_early early idle is) = known.wants_early early is
-  explained a (wants_list account reads rows takes is) = known.wants_list account reads is
+  explained a (wants_list account reads rows some takes is) = known.wants_list account reads is
 
   asked : (outcome : Served) → Extracts g signs count contents reading t outcome
       → AsksExtract t.desk.setting.file reading t.input t.input_after

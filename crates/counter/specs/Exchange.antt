@@ -21,7 +21,7 @@ use Rattle.operations.specs.Machine.{Machine}
 abbrev pub WritesAnswer : PolicyValue → ℤ → Option (List ℕ) → Option (List ℕ) → (List ℕ → Type 0) → Type 0
 WritesAnswer policy reading old new IsWritten =
     (Consumes old new [] × IsAtEnd new × IsWritten [])
-    ⊎ (((answer : AnswerValue) × IsAnswerFor policy reading old new answer × IsWritten (answer_text answer))
+    ⊎ (((answer : AnswerValue) × IsAnswerFor policy reading old new answer × IsWritten (answer_text reading answer))
     ⊎ (AsksExtract policy reading old new × ((octets : List ℕ) × IsWritten octets)))
 
 -- The desk is set as the words tell, and by its policy the input, which is left as `old` and then as `new`, is answered

@@ -67,7 +67,7 @@ pub record Writes (file : PolicyValue) (reading : ℤ) (old new before after : O
   pub answer : AnswerValue
   pub is : IsAnswerFor file reading old new answer
   pub status_told : answer.status ≡ status
-  pub written : Appends before after (part (answer_text answer))
+  pub written : Appends before after (part (answer_text reading answer))
 
 -- an extract is asked for, and may be given
 pub record AsksExtract (file : PolicyValue) (reading : ℤ) (old new : Option (List ℕ)) : Type 0 where
@@ -84,7 +84,7 @@ IsExchanged file reading old new before after served.Closed =
 IsExchanged file reading old new before after (served.Answered status) =
     Writes file reading old new before after status (λ text. text)
     ⊎ (AsksExtract file reading old new
-    × ((body : List ℕ) × ((200 ≡ status) × Appends before after (answer_text (success 200 Csv body)))))
+    × ((body : List ℕ) × ((200 ≡ status) × Appends before after (answer_text reading (success 200 Csv body)))))
 IsExchanged file reading old new before after served.ReadFailed = IsPart old new × (after ≡ before)
 IsExchanged file reading old new before after (served.WriteFailed status sent) =
     Writes file reading old new before after status (take sent)

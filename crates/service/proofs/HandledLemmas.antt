@@ -1,5 +1,5 @@
 -- What handlers do, out of what their checks, the desk's calls and the answers that are written say.
-use Rattle.std.proofs.Common.{◌≡◌, ℕ, ℤ, Bool, true, false, List, ◌++◌, Option, Result, Ok, Err, inl, inr, refl, subst}
+use Rattle.std.proofs.Common.{◌≡◌, ℕ, ℤ, Bool, true, false, List, [], ◌++◌, Option, Result, Ok, Err, inl, inr, refl, subst}
 use Rattle.std.specs.Fmt.{decimal}
 use Rattle.book.specs.declared.standing.Standing.{Ghosts}
 use Rattle.book.specs.Rights.{ListedValue}
@@ -18,14 +18,15 @@ use Rattle.service.specs.Checks.{◌>>=◌}
 use Rattle.service.specs.Extracting.{ServesExtract}
 use Rattle.service.specs.Handling.{Handles, RequestValue}
 use Rattle.service.specs.Requests.{Asked, Report, Step, Look, Extract, Status, IsRequest, asked_by}
-use Rattle.service.specs.Served.{Reports, Sends, Steps, Tells, plainly, tells_status, unavailable, wants_status}
+use Rattle.service.specs.Served.{Reports, Sends, Steps, Tells, plainly, tells_status, unavailable, wants_list}
+use Rattle.service.specs.Served.{wants_status}
 use Rattle.service.specs.Telling.{ServesStatus}
 use Rattle.service.specs.Views.{done_answer, stamp_answer, status_kept}
 use Rattle.service.specs.declared.answer.Media.TheVariants as media
 use Rattle.service.specs.declared.refusal.Refusal.{Refusal}
 use Rattle.service.specs.declared.routes.Action.{Action}
 use Rattle.service.specs.declared.served.Served.{Served}
-use Rattle.service.proofs.ServingLemmas.{turn, sends, refusing, why_told, wanting_list, answering_auditor, reporting}
+use Rattle.service.proofs.ServingLemmas.{turn, sends, refusing, why_told, answering_auditor, reporting}
 
 module _ {W B X : Type 0} (g : Ghosts B) (signs : X → List ℕ → Result (List ℕ) SignerFault → X → Type 0) (count : X → ℕ)
     (contents : W → Option (List ℕ)) (r : RequestValue) (action : Action) (w w' : W) (d d' : DeskValue B) (x x' : X)
@@ -37,7 +38,7 @@ module _ {W B X : Type 0} (g : Ghosts B) (signs : X → List ℕ → Result (Lis
   abbrev Handled : Type 0
   Handled = Handles g signs count contents r action w w' d d' x x' outcome
 
-  pub refused : (f : Refusal) → Asks (Err f) → d' ≡ d → x' ≡ x → Sends contents w w' (refusal_answer f) outcome
+  pub refused : (f : Refusal) → Asks (Err f) → d' ≡ d → x' ≡ x → Sends contents r.reading w w' (refusal_answer f) outcome
       → Handled
   refused f asks desk signer sent = λ before after request.
       let P : Result Asked Refusal → Type 0 = λ asked. IsRequest d.setting.file r.reading before after asked in
@@ -45,7 +46,7 @@ module _ {W B X : Type 0} (g : Ghosts B) (signs : X → List ℕ → Result (Lis
       (record { desk = desk; signer = signer }) sent
 
   pub told : (c : Command) (reply : Answer) (a : AnswerValue) → Asks (Ok (Step c))
-      → Steps g signs count d d' x x' c reply → Tells g signs count d d' c reply a → Sends contents w w' a outcome
+      → Steps g signs count d d' x x' c reply → Tells g signs count d d' c reply a → Sends contents r.reading w w' a outcome
       → Handled
   told c reply a asks steps tells sent = λ before after request.
       let P : Result Asked Refusal → Type 0 = λ asked. IsRequest d.setting.file r.reading before after asked in
@@ -53,19 +54,18 @@ module _ {W B X : Type 0} (g : Ghosts B) (signs : X → List ℕ → Result (Lis
       sends g signs count contents r.reading t a outcome
       (why_told g signs count contents r.reading t c (subst P asks request) reply steps a tells) sent
 
-  pub list_wanted : (account : AccountValue) (rows : List ListedValue) → Asks (Ok (Step (ListAll account)))
-      → Steps g signs count d d' x x' (ListAll account) (Listed rows) → Sends contents w w' unavailable outcome → Handled
-  list_wanted account rows asks steps sent = λ before after request.
+  pub list_wanted : (account : AccountValue) (rows : List ListedValue) → (rows ≡ [] → ⊥)
+      → Asks (Ok (Step (ListAll account))) → Steps g signs count d d' x x' (ListAll account) (Listed rows)
+      → Sends contents r.reading w w' unavailable outcome → Handled
+  list_wanted account rows some asks steps sent = λ before after request.
       let P : Result Asked Refusal → Type 0 = λ asked. IsRequest d.setting.file r.reading before after asked in
       let t = turn before after w w' d d' x x' in
       sends g signs count contents r.reading t unavailable outcome
-      (wanting_list g signs count contents r.reading t rows (ListAll account) (Listed rows) (subst P asks request) steps
-      account refl refl)
-      sent
+      (wants_list account (subst P asks request) rows some steps refl) sent
 
   pub extracted : (account : AccountValue) (from to : ℕ) → Asks (Ok (Look (Extract account from to)))
       → OnlyLooks g d.store d'.store → x' ≡ x
-      → ServesExtract g contents w w' d.store d'.store d.setting.file account from to outcome → Handled
+      → ServesExtract g contents r.reading w w' d.store d'.store d.setting.file account from to outcome → Handled
   extracted account from to asks looks signer served = λ before after request.
       let P : Result Asked Refusal → Type 0 = λ asked. IsRequest d.setting.file r.reading before after asked in
       answering_auditor g signs count contents r.reading (turn before after w w' d d' x x') account from to outcome
@@ -73,14 +73,14 @@ module _ {W B X : Type 0} (g : Ghosts B) (signs : X → List ℕ → Result (Lis
 
   -- a report that a look gives
   pub reported : (report : Report) (a : AnswerValue) → Asks (Ok (Look report)) → OnlyLooks g d.store d'.store → x' ≡ x
-      → Reports g signs count r.reading d d' x' report a → Sends contents w w' a outcome → Handled
+      → Reports g signs count r.reading d d' x' report a → Sends contents r.reading w w' a outcome → Handled
   reported report a asks looks signer is sent = λ before after request.
       let P : Result Asked Refusal → Type 0 = λ asked. IsRequest d.setting.file r.reading before after asked in
       reporting g signs count contents r.reading (turn before after w w' d d' x x') report a outcome
       (subst P asks request) (record { store = looks; signer = signer }) is sent
 
   pub status_told : Asks (Ok (Look Status)) → OnlyLooks g d.store d'.store → x' ≡ x
-      → ServesStatus g contents w w' d.store d'.store d.setting.file.counter r.reading (count x') outcome → Handled
+      → ServesStatus g contents r.reading w w' d.store d'.store d.setting.file.counter (count x') outcome → Handled
   status_told asks looks signer (inl tells) =
       elim tells.sent [
         | inl sent ↦

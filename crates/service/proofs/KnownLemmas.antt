@@ -193,17 +193,25 @@ refused_now octets headers spans is f is_all refused ends =
       all = λ all. without_body is.read is.head (ends all) front;
     }
 
+-- the octets of a head are all there
+pub has_head : (octets : List ℕ) (headers : List HeaderSpan) (parsed : Parsed) → IsParsed octets headers parsed
+    → parsed.spans.len ≤ length octets
+has_head octets headers parsed is =
+    omega (
+      arith,
+      is.seen,
+      is.begins.within.section.len_fits,
+      length-take-le parsed.seen octets is.seen,
+    )
+
 -- where there is no room for the body, nothing is read behind the head
-pub wanting_room : (octets : List ℕ) (headers : List HeaderSpan) (parsed : Parsed) → IsParsed octets headers parsed
+pub wanting_room : (octets : List ℕ) (headers : List HeaderSpan) (parsed : Parsed)
+    (is : IsParsed octets headers parsed) → length octets < parsed.size
     → IsRefusedAt octets (record { refusal = refusal.Unavailable; taken = parsed.spans.len; is_all = false })
-wanting_room octets headers parsed is = record {
-  within = omega (
-    arith,
-    is.seen,
-    is.begins.within.section.len_fits,
-    length-take-le parsed.seen octets is.seen,
-  );
-  is = wanting_body is.begins.read is.begins.head
+wanting_room octets headers parsed is less = record {
+  within = has_head octets headers parsed is;
+  is = wanting_body is.begins.read is.begins.head is.asked is.wanted
+      (omega (arith, less, is.size, has_head octets headers parsed is))
       (head_octets octets parsed.seen is.seen headers parsed.spans is.begins) refl;
   all = λ all. cc;
 }

@@ -35,13 +35,13 @@ pub found_later : (name : List ℕ) (field : List ℕ × List ℕ) (fields : Lis
 found_later name field fields is = rw is
 
 -- the state of the clock as it was looked at, and the store's count of faults since
-pub status_told : {B W : Type 0} (g : Ghosts B) (contents : W → Option (List ℕ)) (w w' : W) (old new : B)
-    (counter file_counter : CounterValue) (reading asked : ℤ) (looked : Looked) (store signer : ℕ) (body : List ℕ)
+pub status_told : {B W : Type 0} (g : Ghosts B) (contents : W → Option (List ℕ)) (reading : ℤ) (w w' : W) (old new : B)
+    (counter file_counter : CounterValue) (asked : ℤ) (looked : Looked) (store signer : ℕ) (body : List ℕ)
     (outcome : Served) → IsStatusText counter looked store signer body → counter ≡ file_counter → asked ≡ reading
     → (g.honest new → (b : History) → Stands g b old → looked ≡ looked_at asked b) → store ≡ g.fault_count new
-    → SendsOrWants contents w w' (success 200 media.Text body) outcome
-    → ServesStatus g contents w w' old new file_counter reading signer outcome
-status_told g contents w w' old new counter file_counter reading asked looked store signer body outcome text of at finds
+    → SendsOrWants contents reading w w' (success 200 media.Text body) outcome
+    → ServesStatus g contents reading w w' old new file_counter signer outcome
+status_told g contents reading w w' old new counter file_counter asked looked store signer body outcome text of at finds
     counted sent = inl (record {
       body = body;
       is = λ honest b stands.

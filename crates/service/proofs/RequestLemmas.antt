@@ -18,7 +18,8 @@ use Rattle.service.specs.declared.known.Parsed.{Parsed}
 use Rattle.service.specs.declared.known.Refused.{Refused}
 use Rattle.service.specs.declared.refusal.Refusal.{Refusal}
 use Rattle.service.specs.declared.refusal.Refusal.TheVariants as refusal
-use Rattle.service.proofs.KnownLemmas.{behind_head, head_octets, no_octets, parsed_more, partial_body, take_less}
+use Rattle.service.proofs.KnownLemmas.{behind_head, has_head, head_octets, no_octets, parsed_more, partial_body}
+use Rattle.service.proofs.KnownLemmas.{take_less}
 
 and_true : (a : Bool) → a ≡ (a && true)
 and_true true = refl
@@ -118,7 +119,8 @@ due_in_body room headers filled parsed false f kept less ended wanting =
     let P : ℕ → Type 0 = λ n. IsRefused (take n octets) f in
     let taken : taken_of (known.Parsed parsed) filled false ≡ parsed.spans.len = rw test in
     inl (subst P (sym taken)
-    (wanting_body is.begins.read is.begins.head
+    (wanting_body is.begins.read is.begins.head is.asked is.wanted
+    (omega (arith, less, is.size, has_head octets headers parsed is, length-take-le filled room kept.within))
     (head_octets octets parsed.seen is.seen headers parsed.spans is.begins) (wanting refl)))
 
 -- a whole request

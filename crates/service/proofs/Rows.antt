@@ -1,5 +1,5 @@
 -- The definitions, computed on rows.
-use Rattle.std.proofs.Common.{◌≡◌, ℕ, List, [], ◌∷◌, ◌++◌, Some, None, Ok, Err, refl}
+use Rattle.std.proofs.Common.{◌≡◌, ℕ, pos, List, [], ◌∷◌, ◌++◌, Some, None, Ok, Err, refl}
 use Rattle.std.specs.Fmt.{digits}
 use Rattle.std.specs.Prelude.{codes}
 use Rattle.httparse.specs.Grammar.{trim_ows}
@@ -13,19 +13,23 @@ use Rattle.service.specs.Routes.{methods_at, names_of, nothing, parameter, route
 use Rattle.service.specs.declared.refusal.Refusal.TheVariants as refusal
 use Rattle.service.specs.declared.routes.Action.TheVariants as action
 
--- the answer to a deposit that isn't there
-not_here : answer_text (refusal_answer refusal.NotHere)
-    ≡ codes "HTTP/1.1 404 Not Found" ++ crlf ++ codes "Content-Type: text/plain" ++ crlf ++ codes "Content-Length: 12"
+-- an answer in text: its status, the length of its body, the line that tells methods, and the body
+abbrev told_in_text : List ℕ → List ℕ → List ℕ → List ℕ → List ℕ
+told_in_text status count methods body =
+    codes "HTTP/1.1 " ++ status ++ crlf ++ codes "Content-Type: text/plain" ++ crlf ++ codes "Content-Length: " ++ count
     ++ crlf
-    ++ codes "Connection: close" ++ crlf ++ crlf ++ codes "404 NotHere" ++ line_feed
+    ++ methods ++ codes "Connection: close" ++ crlf ++ crlf ++ body
+
+-- the answer to a deposit that isn't there
+not_here : answer_text (pos 0) (refusal_answer refusal.NotHere)
+    ≡ told_in_text (codes "404 Not Found") (codes "12") [] (codes "404 NotHere" ++ line_feed)
 unfolding head_text digits
 not_here = refl
 
 -- the answer to a method that does nothing at `/tsp`
-no_method : answer_text (refusal_answer (refusal.Method (record nothing { post = Some action.Stamp })))
-    ≡ codes "HTTP/1.1 405 Method Not Allowed" ++ crlf ++ codes "Content-Type: text/plain" ++ crlf
-    ++ codes "Content-Length: 11" ++ crlf
-    ++ codes "Allow: POST" ++ crlf ++ codes "Connection: close" ++ crlf ++ crlf ++ codes "405 Method" ++ line_feed
+no_method : answer_text (pos 0) (refusal_answer (refusal.Method (record nothing { post = Some action.Stamp })))
+    ≡ told_in_text (codes "405 Method Not Allowed") (codes "11") (codes "Allow: POST" ++ crlf)
+    (codes "405 Method" ++ line_feed)
 unfolding head_text digits
 no_method = refl
 
@@ -37,10 +41,8 @@ other_methods : names_of (record nothing { put = Some action.Grant; delete = Som
 other_methods = refl
 
 -- a deposit that the clock's state refuses
-no_clock : answer_text (refusal_answer (refusal.Rule rule.Clock))
-    ≡ codes "HTTP/1.1 503 Service Unavailable" ++ crlf ++ codes "Content-Type: text/plain" ++ crlf
-    ++ codes "Content-Length: 12" ++ crlf
-    ++ codes "Connection: close" ++ crlf ++ crlf ++ codes "503 rule 10" ++ line_feed
+no_clock : answer_text (pos 0) (refusal_answer (refusal.Rule rule.Clock))
+    ≡ told_in_text (codes "503 Service Unavailable") (codes "12") [] (codes "503 rule 10" ++ line_feed)
 unfolding head_text digits
 no_clock = refl
 

@@ -6,8 +6,7 @@ use Rattle.std.proofs.lemmas.List.{take_all}
 use Rattle.std.specs.Io.KnownBytes.{Consumes, IsAtEnd}
 use Rattle.book.specs.declared.standing.Standing.{Ghosts}
 use Rattle.cms.specs.declared.signer.SignerFault.{SignerFault}
-use Rattle.book.specs.Rights.{ListedValue}
-use Rattle.desk.specs.Command.{Command, Answer, Calibrate, ListAll, Listed}
+use Rattle.desk.specs.Command.{Command, Answer, Calibrate}
 use Rattle.desk.specs.Stepped.{DeskValue}
 use Rattle.policy.specs.Record.{AccountValue, PolicyValue}
 use Rattle.service.specs.Answers.{AnswerValue, refusal_answer}
@@ -18,7 +17,7 @@ use Rattle.service.specs.Received.{ReceivedValue, in_body, in_head}
 use Rattle.service.specs.Requests.{Report, Step, Look, Extract, IsEarly, IsRequest, asked_by, cut_body, cut_head, head}
 use Rattle.service.specs.Requests.{headless, nothing, refused_head, whole}
 use Rattle.service.specs.Served.{Turn, IsIdle, IsSilent, IsLook, Reads, Sends, SendsOctets, unavailable, Takes}
-use Rattle.service.specs.Served.{IsAnswer, refuses, replies, turns_back, looks, wants_early, wants_list, Tells, plainly}
+use Rattle.service.specs.Served.{IsAnswer, refuses, replies, turns_back, looks, wants_early, Tells, plainly}
 use Rattle.service.specs.Served.{backwards, Reports, keeps_back, overflows}
 use Rattle.service.specs.Served.{Extracts, Serves}
 use Rattle.service.specs.Views.{head_view}
@@ -64,14 +63,14 @@ module _ {W B X : Type 0} (g : Ghosts B) (signs : X → List ℕ → Result (Lis
     (contents : W → Option (List ℕ)) (reading : ℤ) (t : Turn W B X) where
   -- what is sent of an answer that there is a reason for
   pub sends : (a : AnswerValue) (outcome : Served) → IsAnswer g signs count reading t a
-      → Sends contents t.writer t.writer_after a outcome → Serves g signs count contents reading t outcome
+      → Sends contents reading t.writer t.writer_after a outcome → Serves g signs count contents reading t outcome
   sends a served.Closed why sent = absurd sent
   sends a (served.Answered status) why sent = inl (record { answer = a; is = why; sent = sent })
   sends a served.ReadFailed why sent = absurd sent
   sends a (served.WriteFailed status taken) why sent = inl (record { answer = a; is = why; sent = sent })
 
   pub refusing : (r : Refusal) (outcome : Served) → Reads reading t (Err r) → IsIdle t
-      → Sends contents t.writer t.writer_after (refusal_answer r) outcome
+      → Sends contents reading t.writer t.writer_after (refusal_answer r) outcome
       → Serves g signs count contents reading t outcome
   refusing r outcome reads idle sent = sends (refusal_answer r) outcome (refuses r reads idle refl) sent
 
@@ -85,25 +84,15 @@ module _ {W B X : Type 0} (g : Ghosts B) (signs : X → List ℕ → Result (Lis
       let Q : Answer → Type 0 = λ r. Takes g signs count t (Calibrate x) r in
       turns_back x reads (subst Q turns taken) behind is
 
-  -- memory is wanting for a list
-  pub wanting_list : (rows : List ListedValue) (c : Command) (reply : Answer) → Reads reading t (Ok (Step c))
-      → Takes g signs count t c reply → (account : AccountValue) → c ≡ ListAll account → reply ≡ Listed rows
-      → IsAnswer g signs count reading t unavailable
-  wanting_list rows c reply reads takes account lists told =
-      let P : Command → Type 0 = λ c. Reads reading t (Ok (Step c)) × Takes g signs count t c reply in
-      let (reads, taken) = subst P lists (reads, takes) in
-      let Q : Answer → Type 0 = λ r. Takes g signs count t (ListAll account) r in
-      wants_list account reads rows (subst Q told taken) refl
-
   pub wanting_early : (outcome : Served) → IsEarly t.input t.input_after → IsIdle t
-      → Sends contents t.writer t.writer_after unavailable outcome → Serves g signs count contents reading t outcome
+      → Sends contents reading t.writer t.writer_after unavailable outcome → Serves g signs count contents reading t outcome
   wanting_early outcome early idle sent = sends unavailable outcome (wants_early early idle refl) sent
 
   -- why a request is refused
   pub refusing_due : (r : ReceivedValue) (f : Refusal) (outcome : Served) → IsDue r (due.Refusal f)
       → Consumes t.input t.input_after (take r.taken r.octets)
       → (r.is_ended ≡ true → r.taken ≡ length r.octets → IsAtEnd t.input_after) → IsIdle t
-      → Sends contents t.writer t.writer_after (refusal_answer f) outcome
+      → Sends contents reading t.writer t.writer_after (refusal_answer f) outcome
       → Serves g signs count contents reading t outcome
   refusing_due r f outcome (inl (spoiled is same)) read ended idle sent =
       refusing f outcome (headless (take r.taken r.octets) is read (ap Err same)) idle sent
@@ -113,9 +102,10 @@ module _ {W B X : Type 0} (g : Ghosts B) (signs : X → List ℕ → Result (Lis
   refusing_due r f outcome (inl (wanting none same)) read ended idle sent =
       let P : List ℕ → Type 0 = λ l. Consumes t.input t.input_after l in
       sends (refusal_answer f) outcome (wants_early (nothing (subst P none read)) idle (ap refusal_answer same)) sent
-  refusing_due r f outcome (inl (wanting_body h is split same)) read ended idle sent =
+  refusing_due r f outcome (inl (wanting_body h is w wanted some split same)) read ended idle sent =
       let P : List ℕ → Type 0 = λ l. Consumes t.input t.input_after l in
-      sends (refusal_answer f) outcome (wants_early (head h is (subst P split read)) idle (ap refusal_answer same)) sent
+      sends (refusal_answer f) outcome (wants_early (head h is w wanted some (subst P split read)) idle (ap refusal_answer same))
+      sent
   refusing_due r f outcome (inr (cut, same)) read ended idle sent =
       let P : List ℕ → Type 0 = λ l. Consumes t.input t.input_after l in
       let all : take r.taken r.octets ≡ r.octets =
@@ -143,11 +133,11 @@ module _ {W B X : Type 0} (g : Ghosts B) (signs : X → List ℕ → Result (Lis
   -- a report is told
   pub reporting : (r : Report) (a : AnswerValue) (outcome : Served) → Reads reading t (Ok (Look r))
       → IsLook g signs count t → Reports g signs count reading t.desk t.desk_after t.signer_after r a
-      → Sends contents t.writer t.writer_after a outcome → Serves g signs count contents reading t outcome
+      → Sends contents reading t.writer t.writer_after a outcome → Serves g signs count contents reading t outcome
   reporting r a outcome reads look is sent = sends a outcome (looks r reads look is) sent
 
   -- an extract of which some octets are sent
-  extracting : (outcome : Served) → SendsOctets contents t.writer t.writer_after outcome
+  extracting : (outcome : Served) → SendsOctets contents reading t.writer t.writer_after outcome
       → Extracts g signs count contents reading t outcome → Serves g signs count contents reading t outcome
   extracting served.Closed octets is = absurd octets
   extracting (served.Answered status) octets is = inr is
@@ -156,7 +146,7 @@ module _ {W B X : Type 0} (g : Ghosts B) (signs : X → List ℕ → Result (Lis
 
   pub answering_auditor : (account : AccountValue) (from to : ℕ) (outcome : Served)
       → Reads reading t (Ok (Look (Extract account from to))) → IsLook g signs count t
-      → ServesExtract g contents t.writer t.writer_after t.desk.store t.desk_after.store t.desk.setting.file account
+      → ServesExtract g contents reading t.writer t.writer_after t.desk.store t.desk_after.store t.desk.setting.file account
       from to outcome
       → Serves g signs count contents reading t outcome
   answering_auditor account from to outcome reads look (extracted allowed sent told) =

@@ -1,5 +1,5 @@
 -- Answers, and their texts (RFC 9112 4 and 6).
-use Rattle.std.specs.Prelude.{ℕ, true, false, List, [], ◌∷◌, ◌++◌, length, codes, Option, Some, None}
+use Rattle.std.specs.Prelude.{ℕ, ℤ, true, false, List, [], ◌∷◌, ◌++◌, length, codes, Option, Some, None}
 use Rattle.std.specs.Fmt.{decimal}
 use Rattle.std.specs.List.{flat_map}
 use Rattle.http.specs.StatusCode.{reason_phrase}
@@ -51,13 +51,14 @@ abbrev pub allow_line : Option (List ℕ) → List ℕ
 allow_line None = []
 allow_line (Some methods) = codes "Allow: " ++ methods ++ crlf
 
--- all that stands before the body: the connection ends with the answer
-unfoldable pub head_text : ℕ → Media → Option (List ℕ) → ℕ → List ℕ
-head_text status m allow count =
+-- All that stands before the body of an answer that is given at a reading of the clock, in microseconds: the connection
+-- ends with it. No line tells the reading.
+unfoldable pub head_text : ℤ → ℕ → Media → Option (List ℕ) → ℕ → List ℕ
+head_text reading status m allow count =
     status_line status ++ content_lines m count ++ allow_line allow ++ codes "Connection: close" ++ crlf ++ crlf
 
-abbrev pub answer_text : AnswerValue → List ℕ
-answer_text a = head_text a.status a.media a.allow (length a.body) ++ a.body
+abbrev pub answer_text : ℤ → AnswerValue → List ℕ
+answer_text reading a = head_text reading a.status a.media a.allow (length a.body) ++ a.body
 
 abbrev pub line_feed : List ℕ
 line_feed = 0x0A ∷ []

@@ -34,8 +34,8 @@ pub data IsRefused (octets : List ℕ) (f : Refusal) : Type 0 where
   checked : (h : RequestHead) → IsHead (print_request h) h → wanted_by (head_value h) ≡ Err f
       → octets ≡ print_request h → IsRefused octets f
   wanting : octets ≡ [] → f ≡ refusal.Unavailable → IsRefused octets f
-  wanting_body : (h : RequestHead) → IsHead (print_request h) h → octets ≡ print_request h
-      → f ≡ refusal.Unavailable → IsRefused octets f
+  wanting_body : (h : RequestHead) → IsHead (print_request h) h → (w : WantedValue) → wanted_by (head_value h) ≡ Ok w
+      → 0 < w.count → octets ≡ print_request h → f ≡ refusal.Unavailable → IsRefused octets f
 
 -- a head begins the octets, and asks for this
 pub record IsParsed (octets : List ℕ) (headers : List HeaderSpan) (parsed : Parsed) : Type 0 where

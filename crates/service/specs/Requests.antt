@@ -130,7 +130,8 @@ pub record IsPart (old new : Option (List ℕ)) : Type 0 where
   pub is : IsPartial octets
   pub consumed : Consumes old new octets
 
--- Nothing was read, or a head and no octet behind it.
+-- Nothing was read, or a head with which a body comes, and no octet behind it.
 pub data IsEarly (old new : Option (List ℕ)) : Type 0 where
   nothing : Consumes old new [] → IsEarly old new
-  head : (h : RequestHead) → IsHead (print_request h) h → Consumes old new (print_request h) → IsEarly old new
+  head : (h : RequestHead) → IsHead (print_request h) h → (w : WantedValue) → wanted_by (head_value h) ≡ Ok w
+      → 0 < w.count → Consumes old new (print_request h) → IsEarly old new

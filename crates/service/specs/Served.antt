@@ -64,25 +64,26 @@ SendsText contents old new status text served.ReadFailed = ⊥
 SendsText contents old new status text (served.WriteFailed told sent) =
     (status ≡ told) × (sent < length text) × Appends (contents old) (contents new) (take sent text)
 
-abbrev pub Sends : {W : Type 0} → (W → Option (List ℕ)) → W → W → AnswerValue → Served → Type 0
-Sends contents old new a outcome = SendsText contents old new a.status (answer_text a) outcome
+-- of an answer that is given at a reading
+abbrev pub Sends : {W : Type 0} → (W → Option (List ℕ)) → ℤ → W → W → AnswerValue → Served → Type 0
+Sends contents reading old new a outcome = SendsText contents old new a.status (answer_text reading a) outcome
 
 abbrev pub unavailable : AnswerValue
 unavailable = refusal_answer refusal.Unavailable
 
 -- that answer is written, or, as memory is wanting for its body, that the counter can't answer now
-abbrev pub SendsOrWants : {W : Type 0} → (W → Option (List ℕ)) → W → W → AnswerValue → Served → Type 0
-SendsOrWants contents old new a outcome =
-    Sends contents old new a outcome ⊎ Sends contents old new unavailable outcome
+abbrev pub SendsOrWants : {W : Type 0} → (W → Option (List ℕ)) → ℤ → W → W → AnswerValue → Served → Type 0
+SendsOrWants contents reading old new a outcome =
+    Sends contents reading old new a outcome ⊎ Sends contents reading old new unavailable outcome
 
 -- Of the octets of an extract's answer, whatever the store returns: a whole one has the length that it states; and of
 -- another, as many were written as is told.
-abbrev pub SendsOctets : {W : Type 0} → (W → Option (List ℕ)) → W → W → Served → Type 0
-SendsOctets contents old new served.Closed = ⊥
-SendsOctets contents old new (served.Answered told) =
-    (body : List ℕ) × Sends contents old new (success 200 media.Csv body) (served.Answered told)
-SendsOctets contents old new served.ReadFailed = ⊥
-SendsOctets contents old new (served.WriteFailed told sent) =
+abbrev pub SendsOctets : {W : Type 0} → (W → Option (List ℕ)) → ℤ → W → W → Served → Type 0
+SendsOctets contents reading old new served.Closed = ⊥
+SendsOctets contents reading old new (served.Answered told) =
+    (body : List ℕ) × Sends contents reading old new (success 200 media.Csv body) (served.Answered told)
+SendsOctets contents reading old new served.ReadFailed = ⊥
+SendsOctets contents reading old new (served.WriteFailed told sent) =
     (told ≡ 200) × (octets : List ℕ) × (length octets ≡ sent) × Appends (contents old) (contents new) octets
 
 -- the desk's reply to a calibration that is before the latest
@@ -145,15 +146,15 @@ module _ {B X : Type 0} (g : Ghosts B) (signs : X → List ℕ → Result (List 
         → 2 ^ 64 ≤ length (extract_text from to b)
 
   -- why no row of an extract is written
-  pub data ReportsNoExtract (old new : DeskValue B) (account : AccountValue) (from to : ℕ) (a : AnswerValue)
-      : Type 0 where
+  pub data ReportsNoExtract (reading : ℤ) (old new : DeskValue B) (account : AccountValue) (from to : ℕ)
+      (a : AnswerValue) : Type 0 where
     -- it is refused
     keeps_back : (f : ExtractFault) → IsKeptBack old new account from to f → a ≡ refusal_answer (refusal_of_extract f)
-        → ReportsNoExtract old new account from to a
+        → ReportsNoExtract reading old new account from to a
     -- the answer with it has 2^64 octets or more
     overflows : (g.honest new.store → (b : History) → Stands g b old.store
-        → 2 ^ 64 ≤ length (answer_text (extract_answer from to b)))
-        → a ≡ unavailable → ReportsNoExtract old new account from to a
+        → 2 ^ 64 ≤ length (answer_text reading (extract_answer from to b)))
+        → a ≡ unavailable → ReportsNoExtract reading old new account from to a
 
   -- the answer on the counter's state
   pub data ReportsStatus (reading : ℤ) (old new : DeskValue B) (signer : X) (a : AnswerValue) : Type 0 where
@@ -166,7 +167,7 @@ module _ {B X : Type 0} (g : Ghosts B) (signs : X → List ℕ → Result (List 
   -- The answer with a report, at the reading: the desk was `old` before the look and is `new` after it. An extract that
   -- is written row by row stands below (`Extracts`).
   abbrev pub Reports : ℤ → DeskValue B → DeskValue B → X → Report → AnswerValue → Type 0
-  Reports reading old new signer (Extract account from to) a = ReportsNoExtract old new account from to a
+  Reports reading old new signer (Extract account from to) a = ReportsNoExtract reading old new account from to a
   Reports reading old new signer Status a = ReportsStatus reading old new signer a
 
   -- why an answer is written
@@ -184,16 +185,16 @@ module _ {B X : Type 0} (g : Ghosts B) (signs : X → List ℕ → Result (List 
         → Reports reading t.desk t.desk_after t.signer_after r a → IsAnswer reading t a
     -- memory is wanting before the body is read
     wants_early : IsEarly t.input t.input_after → IsIdle t → a ≡ unavailable → IsAnswer reading t a
-    -- memory is wanting for the lines of a list, once that step is taken
+    -- memory is wanting for the lines of a list that isn't empty, once that step is taken
     wants_list : (account : AccountValue) → Reads reading t (Ok (Step (ListAll account))) → (rows : List ListedValue)
-        → Takes t (ListAll account) (Listed rows) → a ≡ unavailable → IsAnswer reading t a
+        → (rows ≡ [] → ⊥) → Takes t (ListAll account) (Listed rows) → a ≡ unavailable → IsAnswer reading t a
 
   -- an answer is written, for a reason
   pub record Writes {W : Type 0} (contents : W → Option (List ℕ)) (reading : ℤ) (t : Turn W B X) (outcome : Served)
       : Type 0 where
     pub answer : AnswerValue
     pub is : IsAnswer reading t answer
-    pub sent : Sends contents t.writer t.writer_after answer outcome
+    pub sent : Sends contents reading t.writer t.writer_after answer outcome
 
   -- The extract that the request asks for is written, row by row: it is that of each history that the store stands for.
   -- A store that fails between two rows leaves a beginning of the answer.
@@ -206,8 +207,8 @@ module _ {B X : Type 0} (g : Ghosts B) (signs : X → List ℕ → Result (List 
     pub allowed : IsAllowed t.desk.setting.file account from to
     pub look : IsLook t
     pub sent : g.honest t.desk_after.store → (b : History) → Stands g b t.desk.store
-        → Sends contents t.writer t.writer_after (extract_answer from to b) outcome
-    pub told : SendsOctets contents t.writer t.writer_after outcome
+        → Sends contents reading t.writer t.writer_after (extract_answer from to b) outcome
+    pub told : SendsOctets contents reading t.writer t.writer_after outcome
 
   -- what each outcome says
   abbrev pub Serves : {W : Type 0} → (W → Option (List ℕ)) → ℤ → Turn W B X → Served → Type 0

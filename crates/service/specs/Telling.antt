@@ -11,15 +11,15 @@ use Rattle.service.specs.Status.{IsStatusText}
 use Rattle.service.specs.declared.answer.Media.TheVariants as media
 use Rattle.service.specs.declared.served.Served.{Served}
 
-module _ {B W : Type 0} (g : Ghosts B) (contents : W → Option (List ℕ)) (w w' : W) (old new : B) where
+module _ {B W : Type 0} (g : Ghosts B) (contents : W → Option (List ℕ)) (reading : ℤ) (w w' : W) (old new : B) where
   -- the state is told
-  pub record TellsStatus (counter : CounterValue) (reading : ℤ) (signer_faults : ℕ) (outcome : Served) : Type 0 where
+  pub record TellsStatus (counter : CounterValue) (signer_faults : ℕ) (outcome : Served) : Type 0 where
     pub body : List ℕ
     pub is : g.honest new → (b : History) → Stands g b old
         → IsStatusText counter (looked_at reading b) (g.fault_count new) signer_faults body
-    pub sent : SendsOrWants contents w w' (success 200 media.Text body) outcome
+    pub sent : SendsOrWants contents reading w w' (success 200 media.Text body) outcome
 
   -- or that the counter can't answer now
-  abbrev pub ServesStatus : CounterValue → ℤ → ℕ → Served → Type 0
-  ServesStatus counter reading signer_faults outcome =
-      TellsStatus counter reading signer_faults outcome ⊎ Sends contents w w' unavailable outcome
+  abbrev pub ServesStatus : CounterValue → ℕ → Served → Type 0
+  ServesStatus counter signer_faults outcome =
+      TellsStatus counter signer_faults outcome ⊎ Sends contents reading w w' unavailable outcome

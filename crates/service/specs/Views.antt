@@ -91,4 +91,4 @@ added_answer (Err store.Full) = refusal_answer refusal.Unavailable
 added_answer (Err store.Backwards) = refusal_answer refusal.Backwards
 
 abbrev pub request_view : Context → RequestValue
-request_view c = record { reading = c.environment.reading; head = head_view c.head; body = c.body.now }
+request_view c = record { reading = c.at.reading; head = head_view c.head; body = c.body.now }

@@ -42,6 +42,23 @@ impl Media {
     }
 }
 
+/// When an answer is given. It is at hand for the lines of its head; none tells it.
+#[derive(Clone, Copy)]
+pub(crate) struct Occasion {
+    /// The clock's reading, in microseconds.
+    pub(crate) reading: i64,
+}
+
+/// What the head of an answer tells, beside the length of its body.
+#[derive(Clone, Copy)]
+pub(crate) struct Heading {
+    pub(crate) at: Occasion,
+    pub(crate) status: StatusCode,
+    pub(crate) media: Media,
+    /// What methods do at the target, where it tells that.
+    pub(crate) allow: Option<Methods>,
+}
+
 /// The phrase of a status.
 fn phrase(status: StatusCode) -> &'static str
     ensures { result.now ≡ phrase_of (reason_phrase status) }
@@ -132,22 +149,18 @@ fn push_allow(text: &mut ShortText, allow: Option<Methods>)
     }
 }
 
-/// All that stands before the body.
+/// All that stands before a body of so many octets.
 #[tactic(auto, unfolding(crate::specs::Answers::head_text))]
-pub(crate) fn head_text(
-    status: StatusCode,
-    media: Media,
-    allow: Option<Methods>,
-    count: usize,
-) -> ShortText
-    requires { length (phrase_of (reason_phrase status)) ≤ 40 }
-    ensures value { result.bytes ≡ head_text status media (option_map names_of allow) count }
+pub(crate) fn head_text(heading: Heading, count: usize) -> ShortText
+    requires { length (phrase_of (reason_phrase heading.status)) ≤ 40 }
+    ensures value { result.bytes
+        ≡ head_text heading.at.reading heading.status heading.media (option_map names_of heading.allow) count }
     ensures short { array_string_len result ≤ 512 }
 {
     let mut text = ArrayString::new();
-    push_status(&mut text, status);
-    push_content(&mut text, media, count);
-    push_allow(&mut text, allow);
+    push_status(&mut text, heading.status);
+    push_content(&mut text, heading.media, count);
+    push_allow(&mut text, heading.allow);
     text.push_str("Connection: close\r\n\r\n");
     text
 }

@@ -75,10 +75,7 @@ pub(crate) fn active_account<'a>(policy: &'a Policy, head: Head<'_>) -> Result<&
     requires { IsInPlace head }
     ensures { account_given result ≡ active_account (policy_view policy.now) (head_view head.entry) }
 {
-    match account_shown(policy, head) {
-        Ok(account) => active(account),
-        Err(refusal) => Err(refusal),
-    }
+    active(account_shown(policy, head)?)
 }
 
 /// The active account whose key is shown, or the anonymous one, where it is an operator's.
@@ -86,10 +83,11 @@ fn operator_shown<'a>(policy: &'a Policy, head: Head<'_>) -> Result<&'a Account,
     requires { IsInPlace head }
     ensures { account_given result ≡ operator_shown (policy_view policy.now) (head_view head.entry) }
 {
-    match active_account(policy, head) {
-        Ok(account) if account.operator => Ok(account),
-        Ok(_) => Err(Refusal::NotOperator),
-        Err(refusal) => Err(refusal),
+    let account = active_account(policy, head)?;
+    if account.operator {
+        Ok(account)
+    } else {
+        Err(Refusal::NotOperator)
     }
 }
 
@@ -98,10 +96,11 @@ pub(crate) fn watcher_shown<'a>(policy: &'a Policy, head: Head<'_>) -> Result<&'
     requires { IsInPlace head }
     ensures { account_given result ≡ watcher_shown (policy_view policy.now) (head_view head.entry) }
 {
-    match active_account(policy, head) {
-        Ok(account) if account.operator || account.auditor => Ok(account),
-        Ok(_) => Err(Refusal::NotOperator),
-        Err(refusal) => Err(refusal),
+    let account = active_account(policy, head)?;
+    if account.operator || account.auditor {
+        Ok(account)
+    } else {
+        Err(Refusal::NotOperator)
     }
 }
 
@@ -111,10 +110,7 @@ fn reference_stated<'b>(head: Head<'b>) -> Result<&'b str, Refusal>
     ensures { octets_given result ≡ reference_stated (head_view head.entry) }
 {
     let found = stated(head.octets, head.headers, b"deposit-reference");
-    let reference = match once(Refusal::BadReference, Refusal::BadReference, found) {
-        Ok(reference) => reference,
-        Err(refusal) => return Err(refusal),
-    };
+    let reference = once(Refusal::BadReference, Refusal::BadReference, found)?;
     if !is_reference(reference) {
         return Err(Refusal::BadReference);
     }
@@ -133,14 +129,9 @@ pub(crate) fn account_and_reference<'a>(
     ensures { result_by (λ p. (account_view p.0.now, p.1.now)) result
         ≡ account_and_reference (policy_view policy.now) (head_view head.entry) }
 {
-    let account = match active_account(policy, head) {
-        Ok(account) => account,
-        Err(refusal) => return Err(refusal),
-    };
-    match reference_stated(head) {
-        Ok(reference) => Ok((account, reference)),
-        Err(refusal) => Err(refusal),
-    }
+    let account = active_account(policy, head)?;
+    let reference = reference_stated(head)?;
+    Ok((account, reference))
 }
 
 /// An active account, and the target's number.
@@ -152,14 +143,9 @@ pub(crate) fn account_and_number<'a>(
     ensures { result_by (λ p. (account_view p.0.now, p.1)) result
         ≡ account_and_number (policy_view policy.now) (head_view context.now.head) }
 {
-    let account = match active_account(policy, context.head) {
-        Ok(account) => account,
-        Err(refusal) => return Err(refusal),
-    };
-    match number_stated(context.environment.routes, context.head) {
-        Ok(number) => Ok((account, number)),
-        Err(refusal) => Err(refusal),
-    }
+    let account = active_account(policy, context.head)?;
+    let number = number_stated(context.routes, context.head)?;
+    Ok((account, number))
 }
 
 /// An active account's inquiry into the stamps between the target's two serial numbers.
@@ -172,19 +158,14 @@ pub(crate) fn account_and_range<'a>(
         ≡ account_and_range (policy_view policy.now) (head_view context.now.head) }
     ensures policy { IfOk result (λ i. i.policy.now ≡ policy.now) }
 {
-    let account = match active_account(policy, context.head) {
-        Ok(account) => account,
-        Err(refusal) => return Err(refusal),
-    };
-    match range_stated(context.environment.routes, context.head) {
-        Ok((from, to)) => Ok(Inquiry {
-            policy,
-            account,
-            from,
-            to,
-        }),
-        Err(refusal) => Err(refusal),
-    }
+    let account = active_account(policy, context.head)?;
+    let (from, to) = range_stated(context.routes, context.head)?;
+    Ok(Inquiry {
+        policy,
+        account,
+        from,
+        to,
+    })
 }
 
 /// The calibration that an operator's form states.
@@ -197,10 +178,8 @@ pub(crate) fn calibration_asked(
     ensures { result_by calibration_view result
         ≡ calibration_asked (policy_view policy.now) (head_view head.entry) form.now }
 {
-    match operator_shown(policy, head) {
-        Ok(_) => calibration_stated(form),
-        Err(refusal) => Err(refusal),
-    }
+    operator_shown(policy, head)?;
+    calibration_stated(form)
 }
 
 /// The hold that an operator's form states.
@@ -208,8 +187,6 @@ pub(crate) fn hold_asked(policy: &Policy, head: Head<'_>, form: &[u8]) -> Result
     requires { IsInPlace head }
     ensures { result_by hold_view result ≡ hold_asked (policy_view policy.now) (head_view head.entry) form.now }
 {
-    match operator_shown(policy, head) {
-        Ok(_) => hold_stated(form),
-        Err(refusal) => Err(refusal),
-    }
+    operator_shown(policy, head)?;
+    hold_stated(form)
 }

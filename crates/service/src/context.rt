@@ -1,4 +1,5 @@
 //! What a handler answers a request by.
+use crate::answer::Occasion;
 use crate::head::Head;
 use crate::routes::Routes;
 use std::alloc::Global;
@@ -17,7 +18,9 @@ pub struct Environment<'r> {
 /// A whole request, and what it is answered by.
 #[derive(Clone, Copy)]
 pub(crate) struct Context<'r> {
-    pub(crate) environment: Environment<'r>,
+    pub(crate) alloc: Global,
+    pub(crate) routes: &'r Routes,
+    pub(crate) at: Occasion,
     pub(crate) head: Head<'r>,
     pub(crate) body: &'r [u8],
 }

@@ -4,7 +4,8 @@ ghost use Rattle.policy.specs.View.{account_view, policy_view};
 ghost use Rattle.book.specs.Stands.{OnlyLooks};
 ghost use Rattle.service.specs.Extracting.{SendsExtractOrOverflows, ServesExtract};
 
-use crate::answer::{Media, head_text};
+use crate::answer::{Heading, Media, head_text};
+use crate::context::Context;
 use crate::refusal::Refusal;
 use crate::responding::{refuse, wanting};
 use crate::served::Served;
@@ -12,27 +13,32 @@ use audit::{Inquiry, extract_length, write_extract, write_octets};
 use book::Book;
 use desk::Desk;
 use http::StatusCode;
-use std::alloc::Global;
 use std::io::Write;
 
 /// Writes the answer with an extract that is found to have so many octets. It can't be where they and the head's are
 /// 2^64 or more.
 fn send_extract<W: Write, B: Book + Drop>(
-    alloc: Global,
+    context: &Context<'_>,
     writer: &mut W,
     store: &mut B,
     inquiry: &Inquiry<'_>,
     length: u64,
 ) -> Served
     ensures looks { OnlyLooks B.Standing store.old store.new }
-    ensures sent { SendsExtractOrOverflows B.Standing W.contents writer.old writer.new store.old store.new
+    ensures sent { SendsExtractOrOverflows B.Standing W.contents context.now.at.reading writer.old writer.new store.old store.new
         inquiry.now.from inquiry.now.to length result }
 {
     let count = length as usize;
-    let head = head_text(StatusCode::OK, Media::Csv, None, count);
+    let heading = Heading {
+        at: context.at,
+        status: StatusCode::OK,
+        media: Media::Csv,
+        allow: None,
+    };
+    let head = head_text(heading, count);
     let most = usize::MAX - head.len();
     if most < count {
-        return wanting(writer);
+        return wanting(writer, context.at);
     }
     let status = StatusCode::OK.as_u16();
     let of_head = write_octets(writer, head.as_str().as_bytes());
@@ -42,7 +48,7 @@ fn send_extract<W: Write, B: Book + Drop>(
             sent: of_head,
         };
     }
-    let written = write_extract(alloc, store, inquiry, length, writer);
+    let written = write_extract(context.alloc, store, inquiry, length, writer);
     if written.octets < length {
         return Served::WriteFailed {
             status,
@@ -54,19 +60,19 @@ fn send_extract<W: Write, B: Book + Drop>(
 
 /// Answers an auditor who asks for the stamps with serial numbers from one on and up to another.
 pub(crate) fn serve_extract<W: Write, B: Book + Drop>(
-    alloc: Global,
+    context: &Context<'_>,
     writer: &mut W,
     desk: &mut Desk<'_, B>,
     inquiry: &Inquiry<'_>,
 ) -> Served
     ensures setting { desk.new.setting ≡ desk.old.setting }
     ensures looks { OnlyLooks B.Standing desk.old.store desk.new.store }
-    ensures served { ServesExtract B.Standing W.contents writer.old writer.new desk.old.store desk.new.store
+    ensures served { ServesExtract B.Standing W.contents context.now.at.reading writer.old writer.new desk.old.store desk.new.store
         (policy_view inquiry.now.policy.now) (account_view inquiry.now.account.now) inquiry.now.from inquiry.now.to
         result }
 {
-    match extract_length(alloc, desk.store(), inquiry) {
-        Ok(length) => send_extract(alloc, writer, desk.store(), inquiry, length),
-        Err(fault) => refuse(writer, Refusal::from(fault)),
+    match extract_length(context.alloc, desk.store(), inquiry) {
+        Ok(length) => send_extract(context, writer, desk.store(), inquiry, length),
+        Err(fault) => refuse(writer, context.at, Refusal::from(fault)),
     }
 }

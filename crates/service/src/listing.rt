@@ -1,5 +1,5 @@
 //! Deposits as text.
-ghost use Rattle.std.specs.Prelude.{◌≡◌, ◌++◌, map, IfSome, OnSome, IfOk, string_bytes, codes};
+ghost use Rattle.std.specs.Prelude.{◌≡◌, [], ◌++◌, map, MatchOption, OnSome, IfOk, string_bytes, codes};
 ghost use Rattle.std.specs.Fmt.{decimal};
 ghost use Rattle.std.specs.List.{flat_map};
 ghost use Rattle.book.specs.Values.{listed_view};
@@ -52,9 +52,11 @@ fn append_line(alloc: Global, lines: &mut Vec<u8>, row: &Listed) -> Option<()>
     lines.push(b'\n').ok()
 }
 
-/// A line for each deposit, in their order. None where memory runs out, or where a genTime is no moment.
+/// A line for each deposit, in their order. None where memory runs out, or where a genTime is no moment; where there is
+/// no deposit it takes no memory.
 pub(crate) fn listed_lines(alloc: Global, rows: &[Listed]) -> Option<Vec<u8>>
-    ensures { IfSome result (λ lines. lines.items ≡ flat_map listed_line (map listed_view rows.now)) }
+    ensures { MatchOption result (map listed_view rows.now ≡ [] → ⊥)
+        (λ lines. lines.items ≡ flat_map listed_line (map listed_view rows.now)) }
 {
     let mut lines = Vec::new(alloc);
     for row in rows {

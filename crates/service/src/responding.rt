@@ -6,10 +6,9 @@ ghost use Rattle.service.specs.Routes.{names_of};
 ghost use Rattle.service.specs.Served.{SendsText, Sends, unavailable};
 ghost use Rattle.service.specs.Views.{stamp_answer, status_kept, kept_answer, done_answer, added_answer};
 
-use crate::answer::{Media, head_text};
+use crate::answer::{Heading, Media, Occasion, head_text};
 use crate::listing::number_line;
 use crate::refusal::Refusal;
-use crate::routes::Methods;
 use crate::served::Served;
 use crate::writing::write_both;
 use book::StoreFault;
@@ -31,60 +30,75 @@ fn write_answer<W: Write>(writer: &mut W, status: StatusCode, head: &[u8], body:
 }
 
 /// Writes an answer. It takes no memory.
-fn send<W: Write>(
-    writer: &mut W,
-    status: StatusCode,
-    media: Media,
-    allow: Option<Methods>,
-    body: &[u8],
-) -> Served
-    requires { length (phrase_of (reason_phrase status)) ≤ 40 }
-    ensures { Sends W.contents writer.old writer.new (record {
-      status = status;
-      media = media;
-      allow = option_map names_of allow;
+fn send<W: Write>(writer: &mut W, heading: Heading, body: &[u8]) -> Served
+    requires { length (phrase_of (reason_phrase heading.status)) ≤ 40 }
+    ensures { Sends W.contents heading.at.reading writer.old writer.new (record {
+      status = heading.status;
+      media = heading.media;
+      allow = option_map names_of heading.allow;
       body = body.now;
     }) result }
 {
-    let head = head_text(status, media, allow, body.len());
+    let status = heading.status;
+    let head = head_text(heading, body.len());
     write_answer(writer, status, head.as_str().as_bytes(), body)
 }
 
-/// Writes the answer that tells a refusal.
-pub(crate) fn refuse<W: Write>(writer: &mut W, refusal: Refusal) -> Served
-    ensures { Sends W.contents writer.old writer.new (refusal_answer refusal) result }
+/// Writes an answer of a status that tells success.
+fn tell<W: Write>(
+    writer: &mut W,
+    at: Occasion,
+    status: StatusCode,
+    media: Media,
+    body: &[u8],
+) -> Served
+    requires { length (phrase_of (reason_phrase status)) ≤ 40 }
+    ensures { Sends W.contents at.reading writer.old writer.new (success status media body.now) result }
 {
+    let heading = Heading {
+        at,
+        status,
+        media,
+        allow: None,
+    };
+    send(writer, heading, body)
+}
+
+/// Writes the answer that tells a refusal.
+pub(crate) fn refuse<W: Write>(writer: &mut W, at: Occasion, refusal: Refusal) -> Served
+    ensures { Sends W.contents at.reading writer.old writer.new (refusal_answer refusal) result }
+{
+    let heading = Heading {
+        at,
+        status: refusal.status(),
+        media: Media::Text,
+        allow: refusal.allowed(),
+    };
     let body = refusal.body();
-    send(
-        writer,
-        refusal.status(),
-        Media::Text,
-        refusal.allowed(),
-        body.as_str().as_bytes(),
-    )
+    send(writer, heading, body.as_str().as_bytes())
 }
 
 /// Writes the answer that the counter can't answer now.
-pub(crate) fn wanting<W: Write>(writer: &mut W) -> Served
-    ensures { Sends W.contents writer.old writer.new unavailable result }
+pub(crate) fn wanting<W: Write>(writer: &mut W, at: Occasion) -> Served
+    ensures { Sends W.contents at.reading writer.old writer.new unavailable result }
 {
-    refuse(writer, Refusal::Unavailable)
+    refuse(writer, at, Refusal::Unavailable)
 }
 
 /// Writes an answer of status 200.
-pub(crate) fn succeed<W: Write>(writer: &mut W, media: Media, body: &[u8]) -> Served
-    ensures { Sends W.contents writer.old writer.new (success 200 media body.now) result }
+pub(crate) fn succeed<W: Write>(writer: &mut W, at: Occasion, media: Media, body: &[u8]) -> Served
+    ensures { Sends W.contents at.reading writer.old writer.new (success 200 media body.now) result }
 {
-    send(writer, StatusCode::OK, media, None, body)
+    tell(writer, at, StatusCode::OK, media, body)
 }
 
 /// Writes the reply to a time-stamp request.
-pub(crate) fn write_reply<W: Write>(writer: &mut W, reply: &Reply) -> Served
-    ensures { Sends W.contents writer.old writer.new (stamp_answer reply.now) result }
+pub(crate) fn write_reply<W: Write>(writer: &mut W, at: Occasion, reply: &Reply) -> Served
+    ensures { Sends W.contents at.reading writer.old writer.new (stamp_answer reply.now) result }
 {
     match reply {
-        Reply::Granted { serial: _, bytes } => succeed(writer, Media::Reply, bytes),
-        Reply::Rejected(rejection) => succeed(writer, Media::Reply, rejection.as_slice()),
+        Reply::Granted { serial: _, bytes } => succeed(writer, at, Media::Reply, bytes),
+        Reply::Rejected(rejection) => succeed(writer, at, Media::Reply, rejection.as_slice()),
     }
 }
 
@@ -101,50 +115,52 @@ fn status_kept(is_new: bool) -> StatusCode
 }
 
 /// Writes the answer to a deposit: its number.
-pub(crate) fn write_deposited<W: Write>(writer: &mut W, deposited: Deposited) -> Served
-    ensures { Sends W.contents writer.old writer.new (kept_answer deposited) result }
+pub(crate) fn write_deposited<W: Write>(
+    writer: &mut W,
+    at: Occasion,
+    deposited: Deposited,
+) -> Served
+    ensures { Sends W.contents at.reading writer.old writer.new (kept_answer deposited) result }
 {
     let line = number_line(deposited.number);
-    send(
-        writer,
-        status_kept(deposited.is_new),
-        Media::Text,
-        None,
-        line.as_str().as_bytes(),
-    )
+    let status = status_kept(deposited.is_new);
+    tell(writer, at, status, Media::Text, line.as_str().as_bytes())
 }
 
 /// Writes the answer where a right is given or taken, or why it isn't.
-pub(crate) fn write_done<W: Write>(writer: &mut W, outcome: Result<(), Fault>) -> Served
-    ensures { Sends W.contents writer.old writer.new (done_answer outcome) result }
+pub(crate) fn write_done<W: Write>(
+    writer: &mut W,
+    at: Occasion,
+    outcome: Result<(), Fault>,
+) -> Served
+    ensures { Sends W.contents at.reading writer.old writer.new (done_answer outcome) result }
 {
     match outcome {
-        Ok(()) => succeed(writer, Media::Text, b""),
-        Err(fault) => refuse(writer, Refusal::from(fault)),
+        Ok(()) => succeed(writer, at, Media::Text, b""),
+        Err(fault) => refuse(writer, at, Refusal::from(fault)),
     }
 }
 
 /// Writes the answer that something is created under a number.
-fn create<W: Write>(writer: &mut W, number: u64) -> Served
-    ensures { Sends W.contents writer.old writer.new (created number) result }
+fn create<W: Write>(writer: &mut W, at: Occasion, number: u64) -> Served
+    ensures { Sends W.contents at.reading writer.old writer.new (created number) result }
 {
     let line = number_line(number);
-    send(
-        writer,
-        StatusCode::CREATED,
-        Media::Text,
-        None,
-        line.as_str().as_bytes(),
-    )
+    let octets = line.as_str().as_bytes();
+    tell(writer, at, StatusCode::CREATED, Media::Text, octets)
 }
 
 /// Writes the answer where a calibration or a hold is added: its number, or why it isn't.
-pub(crate) fn write_added<W: Write>(writer: &mut W, outcome: Result<u64, StoreFault>) -> Served
-    ensures { Sends W.contents writer.old writer.new (added_answer outcome) result }
+pub(crate) fn write_added<W: Write>(
+    writer: &mut W,
+    at: Occasion,
+    outcome: Result<u64, StoreFault>,
+) -> Served
+    ensures { Sends W.contents at.reading writer.old writer.new (added_answer outcome) result }
 {
     match outcome {
-        Ok(number) => create(writer, number),
-        Err(StoreFault::Backwards) => refuse(writer, Refusal::Backwards),
-        Err(_) => wanting(writer),
+        Ok(number) => create(writer, at, number),
+        Err(StoreFault::Backwards) => refuse(writer, at, Refusal::Backwards),
+        Err(_) => wanting(writer, at),
     }
 }

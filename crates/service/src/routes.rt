@@ -118,10 +118,7 @@ impl Methods {
 fn add(router: &mut Router<Methods>, text: &str, methods: Methods) -> Result<(), InsertError>
     ensures { OnOk result (router.new ≡ with_route router.old (text.now, methods)) }
 {
-    match router.insert(text, methods) {
-        Ok(()) => Ok(()),
-        Err(error) => Err(error),
-    }
+    router.insert(text, methods)
 }
 
 /// All routes.

@@ -5,6 +5,7 @@ ghost use Rattle.service.specs.Known.{IsDue, IsDueAtEnd, IsDueInPlace};
 ghost use Rattle.service.specs.Received.{ReceivedValue, IsAll};
 ghost use Rattle.service.specs.Served.{Serves, TellsCut};
 
+use crate::answer::Occasion;
 use crate::context::{Context, Environment};
 use crate::due::Due;
 use crate::handlers::handle;
@@ -53,12 +54,17 @@ fn give<W: Write, B: Book + Drop, G: Signer>(
         }) result }
     ensures cut { IsDueAtEnd due.entry → TellsCut result }
 {
+    let at = Occasion {
+        reading: environment.reading,
+    };
     match due {
         Due::Nothing => Served::Closed,
-        Due::Refusal(refusal) => refuse(writer, refusal),
+        Due::Refusal(refusal) => refuse(writer, at, refusal),
         Due::Answer(action, head, body) => {
             let context = Context {
-                environment,
+                alloc: environment.alloc,
+                routes: environment.routes,
+                at,
                 head,
                 body,
             };
@@ -132,7 +138,7 @@ pub fn serve_one<R: Read, W: Write, B: Book + Drop, G: Signer>(
     }) result }
 {
     let Ok(routes) = Routes::new(alloc) else {
-        return wanting(writer);
+        return wanting(writer, Occasion { reading });
     };
     let mut request = Request::new(alloc);
     'reading: while request.is_open() {

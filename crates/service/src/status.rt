@@ -9,6 +9,7 @@ ghost use Rattle.service.specs.Status.{calibration_lines, giving_lines, clock_li
 ghost use Rattle.service.specs.Telling.{ServesStatus};
 
 use crate::answer::Media;
+use crate::context::Context;
 use crate::responding::{succeed, wanting};
 use crate::served::Served;
 use book::Book;
@@ -237,26 +238,25 @@ fn store_faults<B: Book + Drop>(desk: &mut Desk<'_, B>) -> u64
     desk.store().faults()
 }
 
-/// Tells an operator or an auditor of the counter's state at a reading of the clock, where the signer has so many faults.
+/// Tells an operator or an auditor of the counter's state, where the signer has so many faults.
 pub(crate) fn serve_status<W: Write, B: Book + Drop>(
-    alloc: Global,
+    context: &Context<'_>,
     writer: &mut W,
     desk: &mut Desk<'_, B>,
-    reading: i64,
     signer_faults: u64,
 ) -> Served
     ensures setting { desk.new.setting ≡ desk.old.setting }
     ensures looks { OnlyLooks B.Standing desk.old.store desk.new.store }
-    ensures served { ServesStatus B.Standing W.contents writer.old writer.new desk.old.store desk.new.store
-        desk.old.setting.file.counter reading signer_faults result }
+    ensures served { ServesStatus B.Standing W.contents context.now.at.reading writer.old writer.new desk.old.store
+        desk.new.store desk.old.setting.file.counter signer_faults result }
 {
-    let Ok(looked) = desk.look(reading) else {
-        return wanting(writer);
+    let Ok(looked) = desk.look(context.at.reading) else {
+        return wanting(writer, context.at);
     };
     let store = store_faults(desk);
     let policy = desk.policy();
-    match status_text(alloc, &policy.counter, looked, store, signer_faults) {
-        Some(text) => succeed(writer, Media::Text, &text),
-        None => wanting(writer),
+    match status_text(context.alloc, &policy.counter, looked, store, signer_faults) {
+        Some(text) => succeed(writer, context.at, Media::Text, &text),
+        None => wanting(writer, context.at),
     }
 }

@@ -55,10 +55,7 @@ fn stated_length(head: Head<'_>) -> Result<u64, Refusal>
     ensures few { IfOk result (λ count. count ≤ most_body) }
 {
     let found = stated(head.octets, head.headers, b"content-length");
-    let digits = match once(Refusal::Length, Refusal::BadLength, found) {
-        Ok(digits) => digits,
-        Err(refusal) => return Err(refusal),
-    };
+    let digits = once(Refusal::Length, Refusal::BadLength, found)?;
     match length_in(digits) {
         None => Err(Refusal::BadLength),
         Some(count) if count <= MOST_BODY => Ok(count),
@@ -101,10 +98,7 @@ fn stated_query(head: Head<'_>) -> Result<(), Refusal>
     ensures { result ≡ stated_query (head_view head.entry) }
 {
     let found = stated(head.octets, head.headers, b"content-type");
-    let value = match once(Refusal::Type, Refusal::Type, found) {
-        Ok(value) => value,
-        Err(refusal) => return Err(refusal),
-    };
+    let value = once(Refusal::Type, Refusal::Type, found)?;
     if same_letters(type_in(value), b"application/timestamp-query") {
         Ok(())
     } else {
@@ -131,24 +125,16 @@ fn check_head(head: Head<'_>, methods: Option<Methods>) -> Result<Wanted, Refusa
     ensures value { result_by wanted_view result ≡ wanted_at (head_view head.entry) methods }
     ensures few { IfOk result (λ wanted. wanted.count ≤ most_body) }
 {
-    match check_coding(head) {
-        Ok(()) => {}
-        Err(refusal) => return Err(refusal),
-    }
+    check_coding(head)?;
     let Some(methods) = methods else {
         return Err(Refusal::NoRoute);
     };
     let Some(action) = methods.action(head.method) else {
         return Err(Refusal::Method(methods));
     };
-    let count = match body_length(head) {
-        Ok(count) => count,
-        Err(refusal) => return Err(refusal),
-    };
-    match check_type(head, action) {
-        Ok(()) => Ok(Wanted { action, count }),
-        Err(refusal) => Err(refusal),
-    }
+    let count = body_length(head)?;
+    check_type(head, action)?;
+    Ok(Wanted { action, count })
 }
 
 /// What a head asks for, or the first check of it that fails.

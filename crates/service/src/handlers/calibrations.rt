@@ -28,8 +28,8 @@ pub(crate) fn calibrate<W: Write, B: Book + Drop, G: Signer>(
 {
     let calibration = match calibration_asked(desk.policy(), context.head, context.body) {
         Ok(asked) => asked,
-        Err(refusal) => return refuse(writer, refusal),
+        Err(refusal) => return refuse(writer, context.at, refusal),
     };
     let outcome = desk.calibrate(&calibration);
-    write_added(writer, outcome)
+    write_added(writer, context.at, outcome)
 }

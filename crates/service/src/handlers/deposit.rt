@@ -30,10 +30,10 @@ pub(crate) fn show<W: Write, B: Book + Drop, G: Signer>(
 {
     let (account, number) = match account_and_number(desk.policy(), context) {
         Ok(asked) => asked,
-        Err(refusal) => return refuse(writer, refusal),
+        Err(refusal) => return refuse(writer, context.at, refusal),
     };
     match desk.show(account, number) {
-        Ok(bytes) => succeed(writer, Media::Octets, &bytes),
-        Err(fault) => refuse(writer, Refusal::from(fault)),
+        Ok(bytes) => succeed(writer, context.at, Media::Octets, &bytes),
+        Err(fault) => refuse(writer, context.at, Refusal::from(fault)),
     }
 }

@@ -31,17 +31,11 @@ pub(crate) fn keep<W: Write, B: Book + Drop, G: Signer>(
 {
     let (account, reference) = match account_and_reference(desk.policy(), context.head) {
         Ok(asked) => asked,
-        Err(refusal) => return refuse(writer, refusal),
+        Err(refusal) => return refuse(writer, context.at, refusal),
     };
-    match desk.deposit(
-        account,
-        context.environment.reading,
-        reference,
-        context.body,
-        signer,
-    ) {
-        Ok(deposited) => write_deposited(writer, deposited),
-        Err(fault) => refuse(writer, Refusal::from(fault)),
+    match desk.deposit(account, context.at.reading, reference, context.body, signer) {
+        Ok(deposited) => write_deposited(writer, context.at, deposited),
+        Err(fault) => refuse(writer, context.at, Refusal::from(fault)),
     }
 }
 
@@ -60,14 +54,14 @@ pub(crate) fn list<W: Write, B: Book + Drop, G: Signer>(
 {
     let account = match active_account(desk.policy(), context.head) {
         Ok(asked) => asked,
-        Err(refusal) => return refuse(writer, refusal),
+        Err(refusal) => return refuse(writer, context.at, refusal),
     };
     let rows = match desk.list(account) {
         Ok(rows) => rows,
-        Err(fault) => return refuse(writer, Refusal::from(fault)),
+        Err(fault) => return refuse(writer, context.at, Refusal::from(fault)),
     };
-    match listed_lines(context.environment.alloc, &rows) {
-        Some(lines) => succeed(writer, Media::Text, &lines),
-        None => wanting(writer),
+    match listed_lines(context.alloc, &rows) {
+        Some(lines) => succeed(writer, context.at, Media::Text, &lines),
+        None => wanting(writer, context.at),
     }
 }

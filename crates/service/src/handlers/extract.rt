@@ -29,7 +29,7 @@ pub(crate) fn extract_stamps<W: Write, B: Book + Drop, G: Signer>(
 {
     let inquiry = match account_and_range(desk.policy(), context) {
         Ok(asked) => asked,
-        Err(refusal) => return refuse(writer, refusal),
+        Err(refusal) => return refuse(writer, context.at, refusal),
     };
-    serve_extract(context.environment.alloc, writer, desk, &inquiry)
+    serve_extract(context, writer, desk, &inquiry)
 }

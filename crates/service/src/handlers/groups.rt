@@ -28,14 +28,11 @@ pub(crate) fn grant_group<W: Write, B: Book + Drop, G: Signer>(
 {
     let (account, number) = match account_and_number(desk.policy(), context) {
         Ok(asked) => asked,
-        Err(refusal) => return refuse(writer, refusal),
+        Err(refusal) => return refuse(writer, context.at, refusal),
     };
-    let name = context
-        .environment
-        .routes
-        .parameter(context.head.target, "name");
+    let name = context.routes.parameter(context.head.target, "name");
     let outcome = desk.grant_group(account, number, name);
-    write_done(writer, outcome)
+    write_done(writer, context.at, outcome)
 }
 
 /// Takes that right away.
@@ -53,12 +50,9 @@ pub(crate) fn revoke_group<W: Write, B: Book + Drop, G: Signer>(
 {
     let (account, number) = match account_and_number(desk.policy(), context) {
         Ok(asked) => asked,
-        Err(refusal) => return refuse(writer, refusal),
+        Err(refusal) => return refuse(writer, context.at, refusal),
     };
-    let name = context
-        .environment
-        .routes
-        .parameter(context.head.target, "name");
+    let name = context.routes.parameter(context.head.target, "name");
     let outcome = desk.revoke_group(account, number, name);
-    write_done(writer, outcome)
+    write_done(writer, context.at, outcome)
 }

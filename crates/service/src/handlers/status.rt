@@ -29,14 +29,8 @@ pub(crate) fn tell_status<W: Write, B: Book + Drop, G: Signer>(
 {
     match watcher_shown(desk.policy(), context.head) {
         Ok(_) => {}
-        Err(refusal) => return refuse(writer, refusal),
+        Err(refusal) => return refuse(writer, context.at, refusal),
     }
     let faults = signer.faults();
-    serve_status(
-        context.environment.alloc,
-        writer,
-        desk,
-        context.environment.reading,
-        faults,
-    )
+    serve_status(context, writer, desk, faults)
 }

@@ -28,8 +28,8 @@ pub(crate) fn stamp<W: Write, B: Book + Drop, G: Signer>(
 {
     let account = match account_shown(desk.policy(), context.head) {
         Ok(asked) => asked,
-        Err(refusal) => return refuse(writer, refusal),
+        Err(refusal) => return refuse(writer, context.at, refusal),
     };
-    let reply = desk.answer(account, context.environment.reading, context.body, signer);
-    write_reply(writer, &reply)
+    let reply = desk.answer(account, context.at.reading, context.body, signer);
+    write_reply(writer, context.at, &reply)
 }

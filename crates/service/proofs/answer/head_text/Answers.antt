@@ -16,7 +16,7 @@ in_turn t u v w x a b d k l m none first second third fourth =
 pub returns-clause-value : goal.returns-clause-value
 unfolding head_text
 returns-clause-value c =
-    in_turn _ _ _ _ _ (status_line c.args.status) (content_lines c.args.media c.args.count)
-    (allow_line (option_map names_of c.args.allow)) (codes "Connection: close") crlf crlf
+    in_turn _ _ _ _ _ (status_line c.args.heading.status) (content_lines c.args.heading.media c.args.count)
+    (allow_line (option_map names_of c.args.heading.allow)) (codes "Connection: close") crlf crlf
     c.new-text.ensures c.push_status.ensures.bytes c.push_content.ensures.bytes c.push_allow.ensures.bytes
     c.push_str.ensures.bytes

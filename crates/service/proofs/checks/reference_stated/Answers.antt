@@ -24,7 +24,7 @@ reference_is_text : (octets : List ℕ) → is_reference octets ≡ true → IsU
 unfolding is_reference
 reference_is_text octets is = IsUtf8-from_ascii octets (each_below octets (and_parts _ _ is).1)
 
-pub returns-in-Err-from_utf8 : goal.returns-in-Err-from_utf8
-returns-in-Err-from_utf8 c =
-    absurd (c.in-Err-from_utf8.ensures.cases.0
-    (reference_is_text c.in-Ok.reference.now (sym c.is_reference.ensures ∙ c.if-not-is_reference.false)))
+pub returns-in-Err : goal.returns-in-Err
+returns-in-Err c =
+    absurd (c.in-Err.ensures.cases.0
+    (reference_is_text c.in_ok-reference.reference.now (sym c.is_reference.ensures ∙ c.if-not-is_reference.false)))

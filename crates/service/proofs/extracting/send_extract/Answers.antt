@@ -7,23 +7,23 @@ use Rattle.service.proofs.extracting.send_extract.Goals as goal
 pub returns-then-of_head-len-clause-sent : goal.returns-then-of_head-len-clause-sent
 returns-then-of_head-len-clause-sent g c =
     let head = c.as_bytes.result.now in
-    let states : head ≡ extract_head c.args.length = c.as_bytes.ensures.value ∙ c.as_str.ensures.value ∙ c.head_text-head.ensures.value in
+    let states : head ≡ extract_head c.args.context.now.at.reading c.args.length = c.as_bytes.ensures.value ∙ c.as_str.ensures.value ∙ c.head_text-head.ensures.value in
     let n = c.write_octets-of_head.result in
     let short : n < length head =
     omega (arith, c.if-of_head-len.true, c.len.ensures.value, ap length c.as_bytes.ensures.value, ap length c.as_str.ensures.value) in
-    let P : ℕ → Type 0 = λ status. SendsExtract g.B.Standing g.W.Write.contents c.args.writer.now
+    let P : ℕ → Type 0 = λ status. SendsExtract g.B.Standing g.W.Write.contents c.args.context.now.at.reading c.args.writer.now
     c.write_octets-of_head.new.out c.args.store.now c.args.store.now
     c.args.inquiry.now.from c.args.inquiry.now.to c.args.length
     (served.WriteFailed status n) in
     inl (subst P (sym c.as_u16-status.ensures.value)
-    (head_cut g.B.Standing g.W.Write.contents c.args.writer.now c.args.writer.now c.write_octets-of_head.new.out
+    (head_cut g.B.Standing g.W.Write.contents c.args.context.now.at.reading c.args.writer.now c.args.writer.now c.write_octets-of_head.new.out
     c.args.store.now c.args.store.now c.args.inquiry.now.from c.args.inquiry.now.to c.args.length head states n short
     c.write_octets-of_head.ensures.written))
 
 pub returns-then-written-length-clause-sent : goal.returns-then-written-length-clause-sent
 returns-then-written-length-clause-sent g c =
     let head = c.as_bytes.result.now in
-    let states : head ≡ extract_head c.args.length = c.as_bytes.ensures.value ∙ c.as_str.ensures.value ∙ c.head_text-head.ensures.value in
+    let states : head ≡ extract_head c.args.context.now.at.reading c.args.length = c.as_bytes.ensures.value ∙ c.as_str.ensures.value ∙ c.head_text-head.ensures.value in
     let n = c.write_octets-of_head.result in
     let octets = c.write_extract-written.result.octets in
     let whole : length head ≤ n =
@@ -41,13 +41,13 @@ returns-then-written-length-clause-sent g c =
       ap length c.as_bytes.ensures.value,
       ap length c.as_str.ensures.value,
     ) in
-    let P : ℕ → ℕ → Type 0 = λ status sent. SendsExtract g.B.Standing g.W.Write.contents c.args.writer.now
+    let P : ℕ → ℕ → Type 0 = λ status sent. SendsExtract g.B.Standing g.W.Write.contents c.args.context.now.at.reading c.args.writer.now
     c.write_extract-written.new.out c.args.store.now c.write_extract-written.new.store
     c.args.inquiry.now.from c.args.inquiry.now.to
     c.args.length (served.WriteFailed status sent) in
     inl (subst (P c.as_u16-status.result) sent (subst (λ s. P s (length head + octets))
     (sym c.as_u16-status.ensures.value)
-    (rows_cut g.B.Standing g.W.Write.contents c.args.writer.now c.write_octets-of_head.new.out
+    (rows_cut g.B.Standing g.W.Write.contents c.args.context.now.at.reading c.args.writer.now c.write_octets-of_head.new.out
     c.write_extract-written.new.out c.args.store.now c.write_extract-written.new.store
     c.args.inquiry.now.from c.args.inquiry.now.to
     c.args.length head states n octets c.write_extract-written.result.outcome whole
@@ -56,7 +56,7 @@ returns-then-written-length-clause-sent g c =
 pub returns-clause-sent : goal.returns-clause-sent
 returns-clause-sent g c =
     let head = c.as_bytes.result.now in
-    let states : head ≡ extract_head c.args.length = c.as_bytes.ensures.value ∙ c.as_str.ensures.value ∙ c.head_text-head.ensures.value in
+    let states : head ≡ extract_head c.args.context.now.at.reading c.args.length = c.as_bytes.ensures.value ∙ c.as_str.ensures.value ∙ c.head_text-head.ensures.value in
     let n = c.write_octets-of_head.result in
     let octets = c.write_extract-written.result.octets in
     let whole : length head ≤ n =
@@ -68,12 +68,12 @@ returns-clause-sent g c =
       ap length c.as_str.ensures.value,
     ) in
     let least : c.args.length ≤ octets = omega (arith, c.if-written-length.false) in
-    let P : ℕ → Type 0 = λ status. SendsExtract g.B.Standing g.W.Write.contents c.args.writer.now
+    let P : ℕ → Type 0 = λ status. SendsExtract g.B.Standing g.W.Write.contents c.args.context.now.at.reading c.args.writer.now
     c.write_extract-written.new.out c.args.store.now c.write_extract-written.new.store
     c.args.inquiry.now.from c.args.inquiry.now.to
     c.args.length (served.Answered status) in
     inl (subst P (sym c.as_u16-status.ensures.value)
-    (all_written g.B.Standing g.W.Write.contents c.args.writer.now c.write_octets-of_head.new.out
+    (all_written g.B.Standing g.W.Write.contents c.args.context.now.at.reading c.args.writer.now c.write_octets-of_head.new.out
     c.write_extract-written.new.out c.args.store.now c.write_extract-written.new.store
     c.args.inquiry.now.from c.args.inquiry.now.to
     c.args.length head states n octets c.write_extract-written.result.outcome whole
@@ -83,11 +83,11 @@ returns-clause-sent g c =
 pub returns-then-most-count-clause-sent : goal.returns-then-most-count-clause-sent
 returns-then-most-count-clause-sent g c =
     let head = c.head_text-head.result.bytes in
-    let states : head ≡ extract_head c.args.length = c.head_text-head.ensures.value in
+    let states : head ≡ extract_head c.args.context.now.at.reading c.args.length = c.head_text-head.ensures.value in
     let many : 2 ^ 64 ≤ length head + c.args.length =
     omega (arith, c.if-most-count.true, c.len-most.ensures.value, c.len-most.ensures.fits) in
     inr (
-      λ b is. too_many g.B.Standing g.W.Write.contents c.args.writer.now c.args.writer.now c.wanting.new.writer
+      λ b is. too_many g.B.Standing g.W.Write.contents c.args.context.now.at.reading c.args.writer.now c.args.writer.now c.wanting.new.writer
           c.args.store.now c.args.store.now
           c.args.inquiry.now.from c.args.inquiry.now.to c.args.length head states many b is,
       c.wanting.ensures,

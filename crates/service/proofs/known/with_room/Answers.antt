@@ -1,4 +1,4 @@
-use Rattle.std.proofs.Common.{List, ℕ, subst, take}
+use Rattle.std.proofs.Common.{List, ℕ, arith, length-take-le, subst, take}
 use Rattle.service.specs.Known.{IsKnown}
 use Rattle.service.specs.declared.known.Known.{Known}
 use Rattle.service.proofs.KnownLemmas.{wanting_room}
@@ -9,3 +9,4 @@ returns-in-Err-clause-known c = λ headers is.
     let octets = take c.args.filled c.args.room.now.items in
     let P : Known → Type 0 = λ k. IsKnown octets headers k in
     wanting_room octets headers c.in-Parsed.parsed (subst P c.in-Parsed.is is)
+    (omega (arith, c.if-filled-parsed.true, length-take-le c.args.filled c.args.room.now.items c.requires.within))

@@ -5,18 +5,22 @@ use Rattle.std.proofs.lemmas.List.{take_all}
 use Rattle.std.specs.Io.KnownBytes.{Consumes}
 use Rattle.service.specs.Received.{is_open}
 use Rattle.service.specs.Requests.{nothing}
-use Rattle.service.specs.Served.{Serves}
+use Rattle.service.specs.Served.{Sends, Serves, unavailable}
 use Rattle.service.proofs.RequestLemmas.{open_parts}
 use Rattle.service.proofs.ServingLemmas.{turn, wanting_early}
 use Rattle.service.proofs.serving.serve_one.Goals as goal
 
 pub returns-in_default-clause-served : goal.returns-in_default-clause-served
 returns-in_default-clause-served g c =
+    let fits : SFits w64 c.args.reading = search rules in
+    let P : ℤ → Type 0 = λ at. Sends g.W.Write.contents at c.args.writer.now c.wanting.new.writer unavailable
+    c.wanting.result in
     wanting_early g.B.Standing g.G.Signer.signs g.G.Signer.fault_count g.W.Write.contents c.args.reading
     (turn (g.R.Read.remaining c.args.reader.now) (g.R.Read.remaining c.args.reader.now) c.args.writer.now
     c.wanting.new.writer
     c.args.desk.now c.args.desk.now c.args.signer.now c.args.signer.now)
-    c.wanting.result (nothing (Consumes-nil _)) (record { desk = refl; signer = refl }) c.wanting.ensures
+    c.wanting.result (nothing (Consumes-nil _)) (record { desk = refl; signer = refl })
+    (subst P (to_z-of_z fits) c.wanting.ensures)
 
 pub reading-preserved : goal.reading-preserved
 reading-preserved g c =

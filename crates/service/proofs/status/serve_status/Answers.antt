@@ -6,13 +6,13 @@ use Rattle.service.proofs.status.serve_status.Goals as goal
 
 pub returns-in-Some-clause-served : goal.returns-in-Some-clause-served
 returns-in-Some-clause-served g c =
-    let fits : SFits w64 c.args.reading = search rules in
+    let fits : SFits w64 c.args.context.now.at.reading = search rules in
     let same = c.store_faults-store.ensures.same in
     let counter = counter_view c.policy-policy.result.now.counter in
     let T : List ℕ → Type 0 = λ l. IsStatusText counter c.in-Ok.looked c.store_faults-store.result c.args.signer_faults l in
-    status_told g.B.Standing g.W.Write.contents c.args.writer.now c.succeed.new.writer c.args.desk.now.store
+    status_told g.B.Standing g.W.Write.contents c.args.context.now.at.reading c.args.writer.now c.succeed.new.writer c.args.desk.now.store
     c.store_faults-store.new.desk.store counter
-    c.args.desk.now.setting.file.counter c.args.reading (to_z w64 (of_z w64 c.args.reading)) c.in-Ok.looked
+    c.args.desk.now.setting.file.counter (to_z w64 (of_z w64 c.args.context.now.at.reading)) c.in-Ok.looked
     c.store_faults-store.result c.args.signer_faults c.deref.result.now c.succeed.result
     (subst T (sym c.deref.ensures.value) c.in-Some.ensures)
     (ap (λ p. p.counter) c.policy-policy.ensures ∙ ap (λ d. d.setting.file.counter) same

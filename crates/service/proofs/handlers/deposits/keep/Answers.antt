@@ -18,7 +18,7 @@ returns-in-Err-clause-served g c =
 
 pub returns-in-Ok-deposit-clause-served : goal.returns-in-Ok-deposit-clause-served
 returns-in-Ok-deposit-clause-served g c =
-    let reading = c.args.context.now.environment.reading in
+    let reading = c.args.context.now.at.reading in
     let fits : SFits w64 reading = search rules in
     let account = account_view c.in-Ok.asked.0.now in
     let command = λ (r : ℤ). Deposit account r c.in-Ok.asked.1.now c.args.context.now.body.now in
@@ -34,7 +34,7 @@ returns-in-Ok-deposit-clause-served g c =
 
 pub returns-in-Err-deposit-clause-served : goal.returns-in-Err-deposit-clause-served
 returns-in-Err-deposit-clause-served g c =
-    let reading = c.args.context.now.environment.reading in
+    let reading = c.args.context.now.at.reading in
     let fits : SFits w64 reading = search rules in
     let account = account_view c.in-Ok.asked.0.now in
     let command = λ (r : ℤ). Deposit account r c.in-Ok.asked.1.now c.args.context.now.body.now in

@@ -21,7 +21,7 @@ returns-clause-served g c =
     let file : policy_view asked.policy.now ≡ c.args.desk.now.setting.file =
     ap policy_view c.in-Ok.ensures.policy ∙ c.policy.ensures in
     let P : PolicyValue → Type 0 =
-    λ f. ServesExtract g.B.Standing g.W.Write.contents c.args.writer.now c.serve_extract.new.writer
+    λ f. ServesExtract g.B.Standing g.W.Write.contents c.args.context.now.at.reading c.args.writer.now c.serve_extract.new.writer
     c.args.desk.now.store c.serve_extract.new.desk.store f account asked.from asked.to c.serve_extract.result in
     extracted g.B.Standing g.G.Signer.signs g.G.Signer.fault_count g.W.Write.contents (request_view c.args.context.now) action.Extract
     c.args.writer.now c.serve_extract.new.writer c.args.desk.now c.serve_extract.new.desk c.args._signer.now

@@ -1,4 +1,4 @@
-use Rattle.std.proofs.Common.{ℕ, ℤ, Ok, Err, refl, subst, rules, SFits, w64, to_z-of_z}
+use Rattle.std.proofs.Common.{ℕ, Ok, Err, refl, subst}
 use Rattle.policy.specs.View.{account_view}
 use Rattle.service.specs.Telling.{ServesStatus}
 use Rattle.service.specs.Views.{request_view}
@@ -15,14 +15,11 @@ returns-in-Err-clause-served g c =
 
 pub returns-clause-served : goal.returns-clause-served
 returns-clause-served g c =
-    let reading = c.args.context.now.environment.reading in
-    let fits : SFits w64 reading = search rules in
-    let Q : ℤ → ℕ → Type 0 = λ r n. ServesStatus g.B.Standing g.W.Write.contents c.args.writer.now
+    let Q : ℕ → Type 0 = λ n. ServesStatus g.B.Standing g.W.Write.contents c.args.context.now.at.reading c.args.writer.now
     c.serve_status.new.writer c.args.desk.now.store c.serve_status.new.desk.store
-    c.args.desk.now.setting.file.counter r n c.serve_status.result in
-    let at : Q reading c.faults-faults.result = subst (λ r. Q r c.faults-faults.result) (to_z-of_z fits) c.serve_status.ensures.served in
+    c.args.desk.now.setting.file.counter n c.serve_status.result in
     status_told g.B.Standing g.G.Signer.signs g.G.Signer.fault_count g.W.Write.contents (request_view c.args.context.now) action.Status
     c.args.writer.now c.serve_status.new.writer c.args.desk.now c.serve_status.new.desk c.args.signer.now
     c.args.signer.now c.serve_status.result
     (checks _ _ (Ok (account_view c.in-Ok.field-0.now)) (rw c.policy.ensures at c.in-Ok.ensures))
-    c.serve_status.ensures.looks refl (subst (λ n. Q reading n) c.faults-faults.ensures at)
+    c.serve_status.ensures.looks refl (subst Q c.faults-faults.ensures c.serve_status.ensures.served)

@@ -17,7 +17,7 @@ returns-in-Err-clause-served g c =
 
 pub returns-clause-served : goal.returns-clause-served
 returns-clause-served g c =
-    let reading = c.args.context.now.environment.reading in
+    let reading = c.args.context.now.at.reading in
     let fits : SFits w64 reading = search rules in
     let account = account_asked c.in-Ok.asked in
     let body = c.args.context.now.body.now in
