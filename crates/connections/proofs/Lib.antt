@@ -1,3 +1,5 @@
+pub mod MetLemmas
+pub mod ProperLemmas
 pub mod RunLemmas
 pub mod TurnsLemmas
 pub mod UntoldLemmas

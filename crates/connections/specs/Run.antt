@@ -1,19 +1,16 @@
 -- Connections are a run of the machine: those that asked for a command, over these commands in their order, with the
 -- desk's replies. The others leave the history.
-use Rattle.std.specs.Prelude.{ℕ, ℤ, List, [], ◌∷◌, ◌++◌, map, Option, None, Some, Result, Ok, Err}
+use Rattle.std.specs.Prelude.{ℕ, ℤ, List, [], ◌∷◌, ◌++◌, map, None, Result, Ok, Err}
 use Rattle.std.proofs.Common.{inl, inr}
 use Rattle.book.specs.declared.standing.Standing.{Ghosts}
 use Rattle.book.specs.History.{History}
-use Rattle.book.specs.Sound.{IsSound}
 use Rattle.book.specs.Stands.{Stands}
 use Rattle.cms.specs.declared.signer.SignerFault.{SignerFault}
-use Rattle.desk.specs.Command.{Setting, Command, Calibrate, ListAll, Answer, Listed}
-use Rattle.desk.specs.Agreement.{Agree}
-use Rattle.desk.specs.Laws.{AreCommandsOf, Continues, RunsAlike}
+use Rattle.desk.specs.Command.{Command, Calibrate, ListAll, Answer, Listed}
+use Rattle.desk.specs.Laws.{AreMet}
 use Rattle.desk.specs.Outcome.{Outcome}
-use Rattle.desk.specs.Runs.{Told, Runs, Journey, HasProperties, IsProper}
-use Rattle.desk.specs.Steps.{IsMet}
-use Rattle.desk.specs.Viewers.{viewer_in}
+use Rattle.desk.specs.Ran.{HasRun}
+use Rattle.desk.specs.Runs.{Told}
 use Rattle.service.specs.Answers.{AnswerValue}
 use Rattle.service.specs.Served.{Turn, IsAnswer, refuses, replies, turned_back, turns_back, looks, wants_early}
 use Rattle.service.specs.Served.{wants_list, Serves}
@@ -31,11 +28,6 @@ answers_of told = map (λ t. t.answer) told
 
 abbrev pub told : Command → Answer → List Told
 told c reply = record { command = c; answer = reply } ∷ []
-
--- what the caller of each command sees to, whatever the history at its moment
-abbrev pub AreMetAnywhere : List Command → Type 0
-AreMetAnywhere [] = Unit {0}
-AreMetAnywhere (c ∷ cs) = ((b : History) → IsMet c b) × AreMetAnywhere cs
 
 module _ {C B X : Type 0} (reads : C → Result ℤ ClockFailed → C → Type 0) (g : Ghosts B)
     (signs : X → List ℕ → Result (List ℕ) SignerFault → X → Type 0) (count : X → ℕ) where
@@ -83,41 +75,27 @@ module _ {C B X : Type 0} (reads : C → Result ℤ ClockFailed → C → Type 0
   told_along old [] new same = []
   told_along old (next ∷ rest) new leads = told_by leads.0.does ++ told_along next rest new leads.1
 
-  -- These commands with these answers are a run of the machine from that history, and the store stands for the history
-  -- to which it leads.
-  pub record IsRunOver (s : Setting) (told : List Told) (b : History) (old new : State C B X) : Type 0 where
+  -- What the connections told is a run of the machine from that history, under some outcomes: what holds after it, as
+  -- after a desk's own run (`HasRun`). The store stands for the history to which it leads; each journey that ends in
+  -- that history goes on by these commands, to their end or to a stop in one of them; the end of this run, with its
+  -- answers, is one of those; one account's commands are isolated, and others' disturb little. The caller of each
+  -- command has seen to what it has to, whatever the outcomes, so journeys go on with no condition.
+  pub record IsRunFrom (told : List Told) (b : History) (old new : State C B X) : Type 0 where
     pub outcomes : List Outcome
-    pub history : History
-    pub runs : Runs signs s (commands_of told) outcomes b old.signer (answers_of told) history new.signer
-    pub stands : Stands g history new.desk.store
+    pub run : HasRun g signs old.desk.setting (commands_of told) outcomes (answers_of told) b old.desk.store old.signer
+        new.desk.setting new.desk.store new.signer
+    pub met : (outcomes : List Outcome) → AreMet old.desk.setting (commands_of told) outcomes b
 
-  -- Each journey that ends in that history, with a desk of that setting open, goes on by these commands, to their end or
-  -- to a stop in one of them, and keeps its promises there. Where they are one account's, they would be answered so from each history that agrees with
-  -- that one for it, and the histories that follow agree again.
-  pub record KeepsItsPromises (s : Setting) (told : List Told) (b : History) (old new : State C B X)
-      (run : IsRunOver s told b old new) : Type 0 where
-    pub journeys : (w : List Told) → Journey b (Some s) w → (outcomes : List Outcome) (b' : History)
-        (x' : Option Setting) (w' : List Told) → Continues s (commands_of told) outcomes b w b' x' w'
-        → HasProperties b' w'
-    pub isolated : (account : List ℕ) → AreCommandsOf account (commands_of told) → (c : History) → IsSound c
-        → Agree (viewer_in s.file account) b c
-        → RunsAlike signs account s (commands_of told) run.outcomes c old.signer (answers_of told) run.history
-        new.signer
-
-  -- While the store returns what was written, what the connections did is a run from each history that it stood for. It
-  -- keeps its promises, as long as the policy file's accuracy and identifiers are such as files have.
-  abbrev pub AreLawfulRun : {connections : ℕ} {old new : State C B X}
+  -- While the store returns what was written, what the connections did is a run from each history that it stood for.
+  abbrev pub IsRunAlong : {connections : ℕ} {old new : State C B X}
       → IsServedBy reads g signs count connections old new → Type 0
-  AreLawfulRun {connections} {old} {new} served =
+  IsRunAlong {connections} {old} {new} served =
       g.honest new.desk.store → (b : History) → Stands g b old.desk.store
-      → AreMetAnywhere (commands_of (told_along old served.after new served.leads))
-      → (run : IsRunOver old.desk.setting (told_along old served.after new served.leads) b old new)
-      × (IsProper old.desk.setting
-      → KeepsItsPromises old.desk.setting (told_along old served.after new served.leads) b old new run)
+      → IsRunFrom (told_along old served.after new served.leads) b old new
 
   -- What each result says: so many connections were served, or fewer, as the clock failed; and these are a run.
   abbrev pub ServesEach : ℕ → State C B X → State C B X → {A : Type 0} → Result A ClockFailed → Type 0
   ServesEach connections old new (Ok done) =
-      (served : IsServedBy reads g signs count connections old new) × AreLawfulRun served
+      (served : IsServedBy reads g signs count connections old new) × IsRunAlong served
   ServesEach connections old new (Err fault) =
-      (stops : StopsByClock reads g signs count connections old new) × AreLawfulRun stops.before
+      (stops : StopsByClock reads g signs count connections old new) × IsRunAlong stops.before

@@ -3,6 +3,7 @@
 
 mod clock;
 mod closing;
+mod laws;
 mod limited;
 mod listening;
 mod look;
@@ -11,5 +12,6 @@ mod serving;
 mod waiting;
 
 pub use clock::{Clock, ClockFailed, SystemClock};
+pub use laws::requests_ask_for_what_is_met;
 pub use listening::Listening;
 pub use serving::{CONNECTION_SECONDS, serve_connections};

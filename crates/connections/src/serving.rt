@@ -4,12 +4,13 @@ ghost use Rattle.connections.specs.Run.{ServesEach};
 ghost use Rattle.connections.specs.Turns.{IsTurn};
 
 use crate::clock::{Clock, ClockFailed};
+use crate::laws::{desks_are_proper, requests_ask_for_what_is_met};
 use crate::limited::Limited;
 use crate::listening::Listening;
 use crate::waiting::Waiting;
 use book::Book;
 use cms::Signer;
-use desk::{Desk, accounts_are_isolated, journeys_keep_their_promises};
+use desk::{Desk, accounts_are_isolated, accounts_disturb_little, journeys_keep_their_promises};
 use service::{Environment, Exchanged, Served};
 use std::time::Instant;
 
@@ -102,8 +103,11 @@ pub fn serve_connections<R: AllocGlobal + std::time::Clock, C: Clock, B: Book + 
         (record { clock = clock.old; desk = desk.old; signer = signer.old })
         (record { clock = clock.new; desk = desk.new; signer = signer.new }) result }
 {
+    requests_ask_for_what_is_met();
     journeys_keep_their_promises();
     accounts_are_isolated::<G>();
+    accounts_disturb_little();
+    desks_are_proper(desk, signer);
     for done in 0..count {
         let most = (count - done) as usize;
         serve_connection(listening, most, clock, desk, signer)?;
