@@ -1,6 +1,8 @@
 pub mod Acknowledged
 pub mod Added
 pub mod Agreeing
+pub mod BatchRows
+pub mod Batches
 pub mod Begins
 pub mod Branches
 pub mod Clocks

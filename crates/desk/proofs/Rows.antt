@@ -121,7 +121,7 @@ held_at_end : (facts_of file None (pos 1000000) (Held (record { from = pos 0; to
     ∷ history)).clock.held ≡ false
 held_at_end = refl
 
-abbrev plan : StampPlan
+abbrev pub plan : StampPlan
 plan = record { request = sha256_request [] false; policy = []; gen_time = 86400000000 }
 
 -- the number after those of void stamps

@@ -73,7 +73,7 @@ count_same viewer day b c agree =
     ∙ (ap (fold (tally day) 0) agree.own_stamps ∙ sym (count_from_own viewer.name day c))
 
 -- the clock and the day
-held_same : (now : Option ℤ) (b c : History) → holds b ≡ holds c → is_held_at now b ≡ is_held_at now c
+pub held_same : (now : Option ℤ) (b c : History) → holds b ≡ holds c → is_held_at now b ≡ is_held_at now c
 held_same None b c e = refl
 held_same (Some (pos now)) b c e =
     ap (λ hs. nat_le now last_moment && list_any (λ h. int_le h.from (pos now) && int_lt (pos now) h.to) hs) e
@@ -116,7 +116,7 @@ unjudged_same file account reading o b c cause e (inl h) = inl h
 unjudged_same file account reading o b c cause e (inr h) = inr
     (h.0, subst (λ facts. IsGood file.counter facts.clock) e h.1, h.2)
 
-finds_same : (file : PolicyValue) (account : Option AccountValue) (reading : ℤ) (octets : List ℕ) (o : Outcome)
+pub finds_same : (file : PolicyValue) (account : Option AccountValue) (reading : ℤ) (octets : List ℕ) (o : Outcome)
     (b c : History) (f : Finding)
     → facts_of file account reading b ≡ facts_of file account reading c → Finds file account reading octets o b f
     → Finds file account reading octets o c f
@@ -153,7 +153,7 @@ stamping_same s account plan octets o b c e =
     ∙ (ap (λ n. stamping_with s account plan octets o n (no_number o c)) e
     ∙ sym (stamping_as s account plan octets o c (no_number o c))))
 
-stamp_found_same : (s : Setting) (account octets : List ℕ) (o : Outcome) (b c : History) (f : Finding)
+pub stamp_found_same : (s : Setting) (account octets : List ℕ) (o : Outcome) (b c : History) (f : Finding)
     → greatest_serial b ≡ greatest_serial c
     → stamp_found s account octets o b f ≡ stamp_found s account octets o c f
 stamp_found_same s account octets o b c (Fails rule) e = refl

@@ -111,7 +111,7 @@ names_latest s proper b nameable true e =
     (installed_by s.in_force.identity, nameable e, proper.identity.subject)
 names_latest s proper b nameable false e = tt
 
-gen_time_bound : (s : Setting) (account : Option AccountValue) (reading : ℤ) (octets : List ℕ) (b : History)
+pub gen_time_bound : (s : Setting) (account : Option AccountValue) (reading : ℤ) (octets : List ℕ) (b : History)
     (plan : StampPlan)
     → IsAllowed s.file account reading octets b plan → plan.gen_time ≤ last_moment
 gen_time_bound s account reading octets b plan allowed =

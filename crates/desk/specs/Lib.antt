@@ -1,6 +1,7 @@
 pub mod Agreement
 pub mod Answers
 pub mod Asked
+pub mod Batches
 pub mod Calls
 pub mod Codes
 pub mod Command

@@ -1,7 +1,8 @@
 //! What holds of the machine, whatever it is asked and whatever store, signer and memory answer.
-ghost use Rattle.std.specs.Prelude.{◌≡◌, ℕ, ◌+◌, ◌<◌, ◌≤◌, ℤ, List, [], Option, Some};
+ghost use Rattle.std.specs.Prelude.{◌≡◌, ℕ, ◌+◌, ◌<◌, ◌≤◌, ℤ, List, [], map, Option, Some};
 ghost use Rattle.der.specs.Node.{encoding};
 ghost use Rattle.policy.specs.Record.{AccountValue};
+ghost use Rattle.cms.specs.SignedData.{attribute_text};
 ghost use Rattle.tsp.specs.Rejection.{rejection};
 ghost use Rattle.tsp.specs.Rules.{IsFirstFailing};
 ghost use Rattle.tsp.specs.declared.rule.Rule.{Rule};
@@ -10,6 +11,8 @@ ghost use Rattle.book.specs.Readers.{Reader};
 ghost use Rattle.book.specs.Rights.{is_reader};
 ghost use Rattle.book.specs.Sound.{IsSound, greatest_number};
 ghost use Rattle.desk.specs.Agreement.{Agree};
+ghost use Rattle.desk.specs.Batches.{StampAsked, HaveEffects, all_reserved, batch_of, once_reserved, after_batch};
+ghost use Rattle.desk.specs.Batches.{MoveInTurn, IsRunTogether, IsLeftInBatch, IsCutTogether};
 ghost use Rattle.desk.specs.Command.{InForce, Setting, PendingValue, Command, Stamp, Succeed, Answer, Stamped};
 ghost use Rattle.desk.specs.Command.{Rejected, Begun, Done};
 ghost use Rattle.desk.specs.Content.{IsSoundInFull};
@@ -28,6 +31,7 @@ ghost use Rattle.desk.specs.Naming.{IsNameableFor};
 ghost use Rattle.desk.specs.Succession.{IsInForce, IsNameable};
 ghost use Rattle.desk.specs.Viewers.{viewer_in};
 
+use book::histories_show_the_same;
 use cms::Signer;
 use tsp::requests_have_one_reading;
 
@@ -161,3 +165,31 @@ pub fn accounts_disturb_little()
         → IsCommandOfOther account c → HasEffect s c o b e
         → StaysFor (viewer_in s.file account) (λ number. Concerns number c) b (after e b) }
 {}
+
+/// Stamps that are answered together are a run over these stamps, one after the other, up to histories that show the
+/// same (`run`): each is judged by the history with the reservations of those before it, and no fact depends on a token.
+/// After its first commit, and after both, the history is sound (`sound`); what it has signed are the texts of what it
+/// reserves, in their order (`texts`), and so under rising serial numbers.
+pub fn batches_are_runs<S: Signer>()
+    ensures run { (s : Setting) (asked : List StampAsked) (os : List Outcome) (es : List Effect) (b : History) (x y : S)
+        → IsSound b → HaveEffects s asked os b es → MoveInTurn S.signs es os x y
+        → IsRunTogether S.signs s asked os b x (batch_of es).says (after_batch (batch_of es) b) y }
+    ensures sound { (s : Setting) (asked : List StampAsked) (os : List Outcome) (es : List Effect) (b : History)
+        → IsSound b → HaveEffects s asked os b es
+        → IsSound (once_reserved (batch_of es) b) × IsSound (after_batch (batch_of es) b) }
+    ensures texts { (s : Setting) (asked : List StampAsked) (os : List Outcome) (es : List Effect) (b : History)
+        → HaveEffects s asked os b es
+        → (batch_of es).asks ≡ map (λ r. attribute_text s.in_force.identity r.tst) (all_reserved es) }
+{
+    histories_show_the_same();
+}
+
+/// A stop while stamps are answered together leaves what a stop in a run over these stamps leaves, up to histories that
+/// show the same: a stamp that was reserved and not sealed is one whose signature never came.
+pub fn batches_stop_as_runs()
+    ensures { (s : Setting) (asked : List StampAsked) (os : List Outcome) (es : List Effect) (b left : History)
+        (w : List Told) → IsSound b → (asked ≡ [] → ⊥) → HaveEffects s asked os b es
+        → IsLeftInBatch (batch_of es) b left → IsCutTogether s asked b w left }
+{
+    histories_show_the_same();
+}
