@@ -25,7 +25,7 @@ use Rattle.desk.specs.Steps.{HasEffect, Moves}
 use Rattle.desk.specs.Runs.{Runs, Told, after, cut}
 use Rattle.desk.specs.Laws.{Continues}
 use Rattle.desk.specs.Wholes.{joined}
-use Rattle.desk.specs.Batches.{StampAsked, stamp_for, stamps_for, SealValue, seals, seal_entry, with_reserved}
+use Rattle.desk.specs.Batches.{Question, stamp_for, stamps_for, SealValue, seals, seal_entry, with_reserved}
 use Rattle.desk.specs.Batches.{with_sealed, HaveEffects, all_reserved, all_sealed, batch_of, MoveInTurn}
 use Rattle.desk.specs.Batches.{after_batch, once_reserved, IsRunTogether, IsLeftInBatch, IsCutTogether}
 use Rattle.desk.proofs.SameEffect.{finds_same, stamp_found_same, held_same}
@@ -170,7 +170,7 @@ facts_alike file account reading b d same =
     counted_alike file account reading b d calibration same.reserved in
     cc
 
-stamp_alike : (s : Setting) (a : StampAsked) (o : Outcome) (b d : History) (e : Effect) → JudgesSame b d
+stamp_alike : (s : Setting) (a : Question) (o : Outcome) (b d : History) (e : Effect) → JudgesSame b d
     → HasEffect s (stamp_for a) o b e → HasEffect s (stamp_for a) o d e
 stamp_alike s a o b d e same h =
     let greatest : greatest_serial b ≡ greatest_serial d = rw same.reserved refl in (
@@ -229,7 +229,7 @@ found_shape s account reading octets name o b (Unanswered cause) h = adds_nothin
 found_shape s account reading octets name o b (Allowed plan) h =
     planned_shape s account reading octets name o b plan (no_number o b) refl h.0
 
-pub stamp_shape : (s : Setting) (a : StampAsked) (o : Outcome) (b : History) (e : Effect)
+pub stamp_shape : (s : Setting) (a : Question) (o : Outcome) (b : History) (e : Effect)
     → HasEffect s (stamp_for a) o b e → StampShape s b e
 stamp_shape s a o b e h = subst (StampShape s b) (sym h.2)
     (found_shape s a.account a.reading a.octets (name_of a.account) o b h.0 h.1)
@@ -258,7 +258,7 @@ batch_sound laws r n t rs vs b sound =
 
 -- where the stamps' effects have come
 record Reaches {S : Type 0} (signs : S → List ℕ → Result (List ℕ) SignerFault → S → Type 0) (s : Setting)
-    (asked : List StampAsked) (os : List Outcome) (es : List Effect) (d : History) (x y : S) : Type 0 where
+    (asked : List Question) (os : List Outcome) (es : List Effect) (d : History) (x y : S) : Type 0 where
   history : History
   runs : Runs signs s (stamps_for asked) os d x (map (λ e. e.says) es) history y
   sound : IsSound history
@@ -332,7 +332,7 @@ judges_adds s b d e same (is_sealed r token fits two asked) =
     (judges_sealed r token b d same)
 
 reaches : {S : Type 0} (signs : S → List ℕ → Result (List ℕ) SignerFault → S → Type 0) → ShowLaws → (s : Setting)
-    (asked : List StampAsked) (os : List Outcome) (es : List Effect) (b d : History) (x y : S) → JudgesSame b d
+    (asked : List Question) (os : List Outcome) (es : List Effect) (b d : History) (x y : S) → JudgesSame b d
     → IsSound d → HaveEffects s asked os b es → MoveInTurn signs es os x y → Reaches signs s asked os es d x y
 reaches signs laws s [] [] [] b d x y same sound have moves = record {
   history = d;
@@ -363,7 +363,7 @@ judges_itself b = record { reserved = refl; calibrated = refl; held = refl }
 
 -- a batch is a run
 pub batch_runs : {S : Type 0} (signs : S → List ℕ → Result (List ℕ) SignerFault → S → Type 0) → ShowLaws
-    → (s : Setting) (asked : List StampAsked) (os : List Outcome) (es : List Effect) (b : History) (x y : S)
+    → (s : Setting) (asked : List Question) (os : List Outcome) (es : List Effect) (b : History) (x y : S)
     → IsSound b → HaveEffects s asked os b es → MoveInTurn signs es os x y
     → IsRunTogether signs s asked os b x (batch_of es).says (after_batch (batch_of es) b) y
 batch_runs signs laws s asked os es b x y sound have moves =
@@ -378,7 +378,7 @@ moves_freely : (asked : Option (List ℕ)) (answer : Result (List ℕ) SignerFau
 moves_freely None answer = refl
 moves_freely (Some text) answer = tt
 
-free_in_turn : (s : Setting) (asked : List StampAsked) (os : List Outcome) (b : History) (es : List Effect)
+free_in_turn : (s : Setting) (asked : List Question) (os : List Outcome) (b : History) (es : List Effect)
     → HaveEffects s asked os b es → MoveInTurn free es os tt tt
 free_in_turn s [] [] b [] have = refl
 free_in_turn s (a ∷ asked) (o ∷ os) b (e ∷ es) have = (
@@ -394,7 +394,7 @@ free_in_turn s (a ∷ asked) [] b es have = absurd have
 free_in_turn s (a ∷ asked) (o ∷ os) b [] have = absurd have
 
 -- what a batch leaves is sound, after its first commit and after both
-pub batch_stays_sound : ShowLaws → (s : Setting) (asked : List StampAsked) (os : List Outcome) (es : List Effect)
+pub batch_stays_sound : ShowLaws → (s : Setting) (asked : List Question) (os : List Outcome) (es : List Effect)
     (b : History) → IsSound b → HaveEffects s asked os b es
     → IsSound (once_reserved (batch_of es) b) × IsSound (after_batch (batch_of es) b)
 batch_stays_sound laws s asked os es b sound have =
@@ -420,7 +420,7 @@ asks_reserved s b e (is_sealed r token fits two asked) texts =
     ap (λ asks. cons_option asks texts) asked
     ∙ ap (λ adds. map (text_of s) (reservations adds) ++ texts) (sym two)
 
-pub batch_texts : (s : Setting) (asked : List StampAsked) (os : List Outcome) (es : List Effect) (b : History)
+pub batch_texts : (s : Setting) (asked : List Question) (os : List Outcome) (es : List Effect) (b : History)
     → HaveEffects s asked os b es → (batch_of es).asks ≡ map (text_of s) (all_reserved es)
 batch_texts s [] [] [] b have = refl
 batch_texts s (a ∷ asked) (o ∷ os) (e ∷ es) b have =
@@ -434,13 +434,13 @@ batch_texts s (a ∷ asked) [] es b have = absurd have
 batch_texts s (a ∷ asked) (o ∷ os) [] b have = absurd have
 
 -- a run's end is where a stop in its last command leaves it, once all is committed
-record IsCutAt (s : Setting) (asked : List StampAsked) (os : List Outcome) (b : History) (w : List Told)
+record IsCutAt (s : Setting) (asked : List Question) (os : List Outcome) (b : History) (w : List Told)
     (left : History) : Type 0 where
   told : List Told
   cut : Continues s (stamps_for asked) os b w left None told
 
 cut_at_end : {S : Type 0} (signs : S → List ℕ → Result (List ℕ) SignerFault → S → Type 0) (s : Setting)
-    (a : StampAsked) (asked : List StampAsked) (os : List Outcome) (b : History) (x : S) (answers : List Answer)
+    (a : Question) (asked : List Question) (os : List Outcome) (b : History) (x : S) (answers : List Answer)
     (left : History) (y : S) (w : List Told) → Runs signs s (stamps_for (a ∷ asked)) os b x answers left y
     → IsCutAt s (a ∷ asked) os b w left
 cut_at_end signs s a [] (o ∷ []) b x (answer ∷ []) left y w h = record {
@@ -504,12 +504,12 @@ reserved_twice : (one other : List ReservationValue) (b : History)
 reserved_twice [] other b = refl
 reserved_twice (r ∷ one) other b = reserved_twice one other (Reserved r ∷ b)
 
-record IsUnsigned (s : Setting) (a : StampAsked) (o : Outcome) (b : History) (e : Effect) : Type 0 where
+record IsUnsigned (s : Setting) (a : Question) (o : Outcome) (b : History) (e : Effect) : Type 0 where
   effect : Effect
   has : HasEffect s (stamp_for a) (unsigned o) b effect
   leaves : after effect b ≡ with_reserved (reservations e.adds) b
 
-is_unsigned : (s : Setting) (a : StampAsked) (o : Outcome) (b : History) (e : Effect)
+is_unsigned : (s : Setting) (a : Question) (o : Outcome) (b : History) (e : Effect)
     → HasEffect s (stamp_for a) o b e → IsUnsigned s a o b e
 is_unsigned s a o b e h = record {
   effect = stamp_found s (name_of a.account) a.octets (unsigned o) b h.0;
@@ -519,7 +519,7 @@ is_unsigned s a o b e h = record {
       ∙ one_reserved s b e (stamp_shape s a o b e h);
 }
 
-cut_reserved : (s : Setting) (a : StampAsked) (asked : List StampAsked) (os : List Outcome) (es : List Effect)
+cut_reserved : (s : Setting) (a : Question) (asked : List Question) (os : List Outcome) (es : List Effect)
     (b : History) (w : List Told) → HaveEffects s (a ∷ asked) os b es
     → IsCutAt s (a ∷ asked) (map unsigned os) b w (with_reserved (all_reserved es) b)
 cut_reserved s a [] (o ∷ []) (e ∷ []) b w have =
@@ -564,7 +564,7 @@ drop_all [] = refl
 drop_all (entry ∷ entries) = drop_all entries
 
 -- nothing at all
-cut_before : (s : Setting) (a : StampAsked) (asked : List StampAsked) (os : List Outcome) (es : List Effect)
+cut_before : (s : Setting) (a : Question) (asked : List Question) (os : List Outcome) (es : List Effect)
     (b : History) (w : List Told) → HaveEffects s (a ∷ asked) os b es → IsCutAt s (a ∷ asked) os b w b
 cut_before s a asked (o ∷ os) (e ∷ es) b w have = record {
   told = w;
@@ -574,7 +574,7 @@ cut_before s a asked [] es b w have = absurd have
 cut_before s a asked (o ∷ os) [] b w have = absurd have
 
 -- a stop in a batch leaves what a stop in a run leaves
-pub batch_stops : ShowLaws → (s : Setting) (asked : List StampAsked) (os : List Outcome) (es : List Effect)
+pub batch_stops : ShowLaws → (s : Setting) (asked : List Question) (os : List Outcome) (es : List Effect)
     (b left : History) (w : List Told) → IsSound b → (asked ≡ [] → ⊥) → HaveEffects s asked os b es
     → IsLeftInBatch (batch_of es) b left → IsCutTogether s asked b w left
 batch_stops laws s [] os es b left w sound some have stop = absurd (some refl)

@@ -15,15 +15,15 @@ use Rattle.desk.specs.Runs.{Runs, Told}
 use Rattle.desk.specs.Laws.{Continues}
 
 -- who asks for a stamp, at which reading of the clock, by which octets
-pub record StampAsked : Type 0 where
+pub record Question : Type 0 where
   pub account : Option AccountValue
   pub reading : ℤ
   pub octets : List ℕ
 
-abbrev pub stamp_for : StampAsked → Command
+abbrev pub stamp_for : Question → Command
 stamp_for a = Stamp a.account a.reading a.octets
 
-abbrev pub stamps_for : List StampAsked → List Command
+abbrev pub stamps_for : List Question → List Command
 stamps_for asked = map stamp_for asked
 
 -- a token under its serial number
@@ -50,7 +50,7 @@ with_sealed vs b = with_all (map seal_entry vs) b
 
 -- Each stamp of a batch has the effect that it has on the history with the reservations of those before it. Nothing
 -- that is found of a request depends on a seal.
-abbrev pub HaveEffects : Setting → List StampAsked → List Outcome → History → List Effect → Type 0
+abbrev pub HaveEffects : Setting → List Question → List Outcome → History → List Effect → Type 0
 HaveEffects s [] [] b [] = Unit {0}
 HaveEffects s (a ∷ asked) (o ∷ os) b (e ∷ es) =
     HasEffect s (stamp_for a) o b e × HaveEffects s asked os (with_reserved (reservations e.adds) b) es
@@ -105,7 +105,7 @@ MoveInTurn signs (e ∷ es) [] x y = ⊥
 
 -- A run of the machine over the stamps, one after the other, with these answers, up to histories that show the same.
 pub record IsRunTogether {S : Type 0} (signs : S → List ℕ → Result (List ℕ) SignerFault → S → Type 0) (s : Setting)
-    (asked : List StampAsked) (os : List Outcome) (b : History) (x : S) (answers : List Answer) (left : History) (y : S)
+    (asked : List Question) (os : List Outcome) (b : History) (x : S) (answers : List Answer) (left : History) (y : S)
     : Type 0 where
   pub history : History
   pub runs : Runs signs s (stamps_for asked) os b x answers history y
@@ -118,7 +118,7 @@ abbrev pub IsLeftInBatch : BatchEffect → History → History → Type 0
 IsLeftInBatch g b left = (left ≡ b) ⊎ ((left ≡ once_reserved g b) ⊎ (left ≡ after_batch g b))
 
 -- What a stop in a run over the stamps leaves, up to histories that show the same.
-pub record IsCutTogether (s : Setting) (asked : List StampAsked) (b : History) (w : List Told) (left : History)
+pub record IsCutTogether (s : Setting) (asked : List Question) (b : History) (w : List Told) (left : History)
     : Type 0 where
   pub outcomes : List Outcome
   pub history : History

@@ -11,7 +11,7 @@ ghost use Rattle.book.specs.Readers.{Reader};
 ghost use Rattle.book.specs.Rights.{is_reader};
 ghost use Rattle.book.specs.Sound.{IsSound, greatest_number};
 ghost use Rattle.desk.specs.Agreement.{Agree};
-ghost use Rattle.desk.specs.Batches.{StampAsked, HaveEffects, all_reserved, batch_of, once_reserved, after_batch};
+ghost use Rattle.desk.specs.Batches.{Question, HaveEffects, all_reserved, batch_of, once_reserved, after_batch};
 ghost use Rattle.desk.specs.Batches.{MoveInTurn, IsRunTogether, IsLeftInBatch, IsCutTogether};
 ghost use Rattle.desk.specs.Command.{InForce, Setting, PendingValue, Command, Stamp, Succeed, Answer, Stamped};
 ghost use Rattle.desk.specs.Command.{Rejected, Begun, Done};
@@ -171,13 +171,13 @@ pub fn accounts_disturb_little()
 /// After its first commit, and after both, the history is sound (`sound`); what it has signed are the texts of what it
 /// reserves, in their order (`texts`), and so under rising serial numbers.
 pub fn batches_are_runs<S: Signer>()
-    ensures run { (s : Setting) (asked : List StampAsked) (os : List Outcome) (es : List Effect) (b : History) (x y : S)
+    ensures run { (s : Setting) (asked : List Question) (os : List Outcome) (es : List Effect) (b : History) (x y : S)
         → IsSound b → HaveEffects s asked os b es → MoveInTurn S.signs es os x y
         → IsRunTogether S.signs s asked os b x (batch_of es).says (after_batch (batch_of es) b) y }
-    ensures sound { (s : Setting) (asked : List StampAsked) (os : List Outcome) (es : List Effect) (b : History)
+    ensures sound { (s : Setting) (asked : List Question) (os : List Outcome) (es : List Effect) (b : History)
         → IsSound b → HaveEffects s asked os b es
         → IsSound (once_reserved (batch_of es) b) × IsSound (after_batch (batch_of es) b) }
-    ensures texts { (s : Setting) (asked : List StampAsked) (os : List Outcome) (es : List Effect) (b : History)
+    ensures texts { (s : Setting) (asked : List Question) (os : List Outcome) (es : List Effect) (b : History)
         → HaveEffects s asked os b es
         → (batch_of es).asks ≡ map (λ r. attribute_text s.in_force.identity r.tst) (all_reserved es) }
 {
@@ -187,7 +187,7 @@ pub fn batches_are_runs<S: Signer>()
 /// A stop while stamps are answered together leaves what a stop in a run over these stamps leaves, up to histories that
 /// show the same: a stamp that was reserved and not sealed is one whose signature never came.
 pub fn batches_stop_as_runs()
-    ensures { (s : Setting) (asked : List StampAsked) (os : List Outcome) (es : List Effect) (b left : History)
+    ensures { (s : Setting) (asked : List Question) (os : List Outcome) (es : List Effect) (b left : History)
         (w : List Told) → IsSound b → (asked ≡ [] → ⊥) → HaveEffects s asked os b es
         → IsLeftInBatch (batch_of es) b left → IsCutTogether s asked b w left }
 {
