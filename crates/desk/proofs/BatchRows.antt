@@ -1,5 +1,5 @@
--- Stamps that are answered together, computed on rows: a quota that ends inside, equal readings, and a signer that fails
--- at the first of two.
+-- Stamps that are answered together, computed on rows: a quota that ends inside, equal readings, and a signer that
+-- fails at the first of two.
 use Rattle.std.proofs.Common.{◌≡◌, ℕ, pos, List, [], ◌∷◌, map, Some, None, Ok, Err, refl}
 use Rattle.std.specs.Prelude.{codes, Result}
 use Rattle.tsp.specs.declared.rule.Rule.TheVariants.{System}

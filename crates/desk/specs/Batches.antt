@@ -1,5 +1,5 @@
--- Stamps that are answered together: all that pass are reserved in one commit, their texts are signed, and all that were
--- signed are sealed in a second one.
+-- Stamps that are answered together: all that pass are reserved in one commit, their texts are signed, and all that
+-- were signed are sealed in a second one.
 use Rattle.std.specs.Prelude.{◌≡◌, ℕ, ◌⊎◌, ℤ, List, [], ◌∷◌, ◌++◌, map, filter_map, Option, Some, None, Result}
 use Rattle.policy.specs.Record.{AccountValue}
 use Rattle.cms.specs.declared.signer.SignerFault.{SignerFault}

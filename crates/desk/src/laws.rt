@@ -167,9 +167,9 @@ pub fn accounts_disturb_little()
 {}
 
 /// Stamps that are answered together are a run over these stamps, one after the other, up to histories that show the
-/// same (`run`): each is judged by the history with the reservations of those before it, and no fact depends on a token.
-/// After its first commit, and after both, the history is sound (`sound`); what it has signed are the texts of what it
-/// reserves, in their order (`texts`), and so under rising serial numbers.
+/// same (`run`): each is judged by the history with the reservations of those before it, and no fact depends on a
+/// token. After the first commit, and after both, the history is sound (`sound`); what is signed are the texts of what
+/// is reserved, in their order (`texts`), and so under rising serial numbers.
 pub fn batches_are_runs<S: Signer>()
     ensures run { (s : Setting) (asked : List Question) (os : List Outcome) (es : List Effect) (b : History) (x y : S)
         → IsSound b → HaveEffects s asked os b es → MoveInTurn S.signs es os x y
@@ -184,8 +184,8 @@ pub fn batches_are_runs<S: Signer>()
     histories_show_the_same();
 }
 
-/// A stop while stamps are answered together leaves what a stop in a run over these stamps leaves, up to histories that
-/// show the same: a stamp that was reserved and not sealed is one whose signature never came.
+/// A stop while stamps are answered together leaves what a stop in a run over these stamps leaves, up to histories
+/// that show the same: a stamp that was reserved and not sealed is one whose signature never came.
 pub fn batches_stop_as_runs()
     ensures { (s : Setting) (asked : List Question) (os : List Outcome) (es : List Effect) (b left : History)
         (w : List Told) → IsSound b → (asked ≡ [] → ⊥) → HaveEffects s asked os b es
