@@ -1,3 +1,4 @@
+pub mod Continuing
 pub mod Entries
 pub mod Fault
 pub mod History

@@ -2,6 +2,7 @@
 #![tactic(auto)]
 
 mod book;
+mod continuing;
 mod entries;
 mod fault;
 mod laws;
@@ -12,6 +13,7 @@ mod standing;
 mod values;
 
 pub use book::Book;
+pub use continuing::{closed_books_hold_all_moments, continuations_go_on};
 pub use entries::{Entry, Reader};
 pub use fault::StoreFault;
 pub use laws::{histories_show_the_same, identities_tell_who_signed};
