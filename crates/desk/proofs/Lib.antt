@@ -6,6 +6,7 @@ pub mod Batches
 pub mod Begins
 pub mod Branches
 pub mod Clocks
+pub mod Closing
 pub mod Denied
 pub mod Entered
 pub mod Falling
@@ -40,3 +41,4 @@ pub mod Stepping
 pub mod Successions
 pub mod Views
 pub mod Whole
+pub mod WholeOn

@@ -3,9 +3,11 @@ pub mod Answers
 pub mod Asked
 pub mod Batches
 pub mod Calls
+pub mod Closed
 pub mod Codes
 pub mod Command
 pub mod Content
+pub mod Continuing
 pub mod Depositing
 pub mod Effects
 pub mod Facts

@@ -4,6 +4,7 @@
 
 mod answering;
 mod beginning;
+mod closed;
 mod commands;
 mod depositing;
 mod deposits;
@@ -25,6 +26,7 @@ mod running;
 mod showing;
 mod succeeding;
 
+pub use closed::{closed_books_give_nothing_out, continuations_are_sound_in_full};
 pub use commands::{Answer, Command};
 pub use desk::Desk;
 pub use fault::Fault;

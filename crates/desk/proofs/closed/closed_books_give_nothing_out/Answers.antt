@@ -1,0 +1,8 @@
+use Rattle.desk.proofs.Closing.{never_good, nothing_given}
+use Rattle.desk.proofs.closed.closed_books_give_nothing_out.Goals as goal
+
+pub returns-clause-clock : goal.returns-clause-clock
+returns-clause-clock c = never_good
+
+pub returns-clause-nothing : goal.returns-clause-nothing
+returns-clause-nothing c = nothing_given
