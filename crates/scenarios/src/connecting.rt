@@ -1,11 +1,14 @@
 //! Connections, and the stores that are made and taken over them.
 use crate::bench::Bench;
+use crate::entries::entries_of;
 use crate::kept::{Connected, Opened, Place};
 use crate::setting::Setting;
+use book::Entry;
 use desk::{Desk, Fault};
 use sqlite::{Alter, Connection, Error};
 use std::alloc::Global;
 use store::Book;
+use transcript::Words;
 
 fn desk_over<B: Book + Drop>(
     alloc: Global,
@@ -52,10 +55,19 @@ fn keep<B: Book + Drop + Connected>(bench: &mut Bench<'_, B>, opened: Opened<B>)
 }
 
 /// Makes a store over the connection.
-pub fn make<B: Book + Drop + Connected>(bench: &mut Bench<'_, B>) {
+fn make_with<B: Book + Drop + Connected>(bench: &mut Bench<'_, B>, entries: &[Entry<'_>]) {
     if let Some(conn) = bench.conn.take() {
-        let opened = B::make(bench.alloc, conn);
+        let opened = B::make(bench.alloc, conn, entries);
         keep(bench, opened);
+    }
+}
+
+/// Makes a store over the connection, with the entries that the words name, if any.
+pub fn make<B: Book + Drop + Connected>(bench: &mut Bench<'_, B>, words: &mut Words<'_>) {
+    let mut rest = *words;
+    match entries_of(bench.alloc, bench.printer.names, &mut rest) {
+        Ok(entries) => make_with(bench, &entries),
+        Err(fault) => bench.printer.tell(&fault),
     }
 }
 

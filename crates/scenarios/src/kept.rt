@@ -1,4 +1,5 @@
 //! The store of a scenario, and what it offers besides a book's calls.
+use book::Entry;
 use sqlite::{Alter, Connection, MemStore};
 use std::alloc::Global;
 use store::{Book, StampsBetween, Store, StoreFault};
@@ -18,8 +19,8 @@ pub trait Kept: Book + Drop {
 
 /// What lies over a connection.
 pub trait Connected {
-    /// Makes it.
-    fn make(alloc: Global, conn: Connection<Place>) -> Opened<Self>;
+    /// Makes it, with these entries.
+    fn make(alloc: Global, conn: Connection<Place>, entries: &[Entry<'_>]) -> Opened<Self>;
 
     /// Takes the one that the connection has.
     fn take(alloc: Global, conn: Connection<Place>) -> Opened<Self>;
@@ -31,11 +32,15 @@ pub trait Connected {
 fn create<S: Alter + Drop>(
     alloc: Global,
     conn: Connection<S>,
+    entries: &[Entry<'_>],
 ) -> Result<Store<S>, (StoreFault, Connection<S>)> {
     if !conn.is_autocommit() {
         return Err((StoreFault::Full, conn));
     }
-    Store::create(alloc, conn)
+    if entries.is_empty() {
+        return Store::create(alloc, conn);
+    }
+    Store::create_with(alloc, conn, entries)
 }
 
 fn adopt<S: Alter + Drop>(
@@ -55,8 +60,8 @@ impl<S: Alter + Drop> Kept for Store<S> {
 }
 
 impl Connected for Store<Place> {
-    fn make(alloc: Global, conn: Connection<Place>) -> Opened<Store<Place>> {
-        create(alloc, conn)
+    fn make(alloc: Global, conn: Connection<Place>, entries: &[Entry<'_>]) -> Opened<Store<Place>> {
+        create(alloc, conn, entries)
     }
 
     fn take(alloc: Global, conn: Connection<Place>) -> Opened<Store<Place>> {

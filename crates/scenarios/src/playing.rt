@@ -178,7 +178,7 @@ fn call_below<'p, B: Kept + Connected>(
 ) {
     match word {
         "connect" => connect(bench),
-        "create" => make(bench),
+        "create" => make(bench, words),
         "adopt" => take(bench),
         "part" => part(bench),
         "ask" => ask(bench, words.rest),

@@ -14,7 +14,7 @@ fn create<S: Alter + Drop>(conn: Connection<S>) -> Opened<S> {
     if !conn.is_autocommit() {
         return Err((OpenFault::Database, conn));
     }
-    Base::create(conn)
+    Base::create(conn, &[])
 }
 
 fn adopt<S: Alter + Drop>(conn: Connection<S>) -> Opened<S> {

@@ -73,7 +73,7 @@ applied_replayed : (entries : List Entry) (b : History)
 applied_replayed [] b = refl
 applied_replayed (entry ∷ entries) b = applied_replayed entries (entry ∷ b)
 
-tables_step : (entries : List Entry) (b : History) → IsSound b → FitInTurn entries b
+pub tables_step : (entries : List Entry) (b : History) → IsSound b → FitInTurn entries b
     → applied_all entries (tables_of b) ≡ tables_of (with_all entries b)
 tables_step entries b sound fit =
     ap (applied_all entries) (sym (replayed_is b sound)) ∙ applied_replayed entries b

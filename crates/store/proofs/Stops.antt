@@ -12,11 +12,13 @@ use Rattle.sqlite.specs.Files.{file_state, over_files}
 use Rattle.tables.specs.Base.{BaseValue, IsStored}
 use Rattle.tables.specs.Holding.{IsDatabaseOf}
 use Rattle.tables.specs.Tables.{Tables}
+use Rattle.book.specs.Entries.{with_all}
 use Rattle.book.specs.History.{History}
 use Rattle.book.specs.Sound.{IsSound}
+use Rattle.book.proofs.Showing.{sound_all}
 use Rattle.store.specs.Opening.{OpensFound, KeepsAlone}
 use Rattle.store.specs.Stands.{Stands}
-use Rattle.store.specs.Stops.{FindsTheSame, FindsBeforeOrAfter, FindsNothingOrEmpty, FindsOldOrMigrated, FindsTheClosed}
+use Rattle.store.specs.Stops.{FindsTheSame, FindsBeforeOrAfter, FindsNothingOrMade, FindsOldOrMigrated, FindsTheClosed}
 use Rattle.store.specs.TablesOf.{tables_of}
 
 module _ (found : (t : Tables) (d : Database) → IsDatabase d → IsStored t d.trees → IsDatabaseOf t d) where
@@ -46,11 +48,12 @@ module _ (found : (t : Tables) (d : Database) → IsDatabase d → IsStored t d.
             (opens.found.holds left holds))
       ]
 
-  pub nothing_or_empty : {S D : Type 0} (g : store.Ghosts S) (files : Ghosts D) → FindsNothingOrEmpty g files
-  nothing_or_empty g files old stopped empty leaves clean left may held holds opened opens =
+  pub nothing_or_made : {S D : Type 0} (g : store.Ghosts S) (files : Ghosts D) → FindsNothingOrMade g files
+  nothing_or_made g files entries fit old stopped empty leaves clean left may held holds opened opens =
       elim (leaves clean left may) [
         | inl before ↦ inl before
-        | inr made ↦ inr (opened_over [] held left opened opens tt (made empty) (opens.found.holds left holds))
+        | inr made ↦ inr (opened_over (with_all entries []) held left opened opens (sound_all entries [] tt fit)
+            (made empty fit) (opens.found.holds left holds))
       ]
 
   pub old_or_migrated : {S D : Type 0} (g : store.Ghosts S) (files : Ghosts D) → FindsOldOrMigrated g files

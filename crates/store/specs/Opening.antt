@@ -31,7 +31,8 @@ use Rattle.tables.specs.Opening.{IsFound, IsFoundIn, LooksOurs, LooksForeign, nu
 use Rattle.tables.specs.declared.fault.Task.TheVariants.{Open}
 use Rattle.tables.specs.declared.opening.Version.{Version}
 use Rattle.tables.specs.Schema.{no_schema}
-use Rattle.book.specs.History.{History}
+use Rattle.book.specs.Entries.{with_all, FitInTurn}
+use Rattle.book.specs.History.{Entry, History}
 use Rattle.book.specs.Sound.{IsSound}
 use Rattle.store.specs.Stands.{Stands}
 use Rattle.store.specs.TablesOf.{tables_of}
@@ -46,11 +47,12 @@ pub record LeavesAsItWas (old new : State) : Type 0 where
   pub usable : StaysUsable old new
 
 -- what a crash in it, or at its end, may leave: what it could leave before, or of an empty database the tables of the
--- empty history
-abbrev pub LeavesOrMakes : State → State → Type 0
-LeavesOrMakes old new =
+-- history with these entries, where they fit in turn
+abbrev pub LeavesOrMakes : List Entry → State → State → Type 0
+LeavesOrMakes entries old new =
     HasCleanDisk new → (db : Trees) → new.may_leave db
-    → old.may_leave db ⊎ (old.now.schema ≡ no_schema → IsStored (tables_of []) db)
+    → old.may_leave db
+    ⊎ (old.now.schema ≡ no_schema → FitInTurn entries [] → IsStored (tables_of (with_all entries [])) db)
 
 -- what a crash in a migration, or at its end, may leave: what it could leave before or, of a history's tables in any
 -- version, its tables of now

@@ -1,5 +1,5 @@
 -- From one opening to the next: after a stop at any moment, and after a closing.
-use Rattle.std.specs.Prelude.{◌≡◌, ◌⊎◌, [], ◌∷◌}
+use Rattle.std.specs.Prelude.{◌≡◌, ◌⊎◌, List, [], ◌∷◌}
 use Rattle.sqlite_disk.specs.declared.Disk.{Ghosts}
 use Rattle.sqlite_disk.specs.declared.Files.{Files}
 use Rattle.sqlite_trees.specs.Tree.{Trees}
@@ -14,6 +14,7 @@ use Rattle.tables.specs.Base.{BaseValue, IsHonest, IsOpen, Recovers}
 use Rattle.tables.specs.Opening.{IsFoundIn, number_of}
 use Rattle.tables.specs.declared.opening.Version.{Version}
 use Rattle.tables.specs.Schema.{no_schema}
+use Rattle.book.specs.Entries.{with_all, FitInTurn}
 use Rattle.book.specs.History.{Entry, History}
 use Rattle.book.specs.Sound.{Fits, IsSound}
 use Rattle.store.specs.Opening.{OpensFound, LeavesFiles, LeavesOrMakes, LeavesOrMigrates}
@@ -39,15 +40,15 @@ FindsBeforeOrAfter {S} {D} g files =
     → (held : Image) → HoldsDatabase held left → (opened : BaseValue (FileStore D files)) → OpensFound held opened
     → Stands over_files b opened ⊎ Stands over_files (entry ∷ b) opened
 
--- A stop while the tables are made in an empty database, then such an opening: what could be left before was left, or
--- the store that is opened stands for the empty history.
-abbrev pub FindsNothingOrEmpty : {S D : Type 0} → store.Ghosts S → Ghosts D → Type 0
-FindsNothingOrEmpty {S} {D} g files =
-    (old stopped : Held S) → (state g old).now.schema ≡ no_schema
-    → LeavesOrMakes (state g old) (state g stopped) → HasCleanDisk (state g stopped)
+-- A stop while the tables are made in an empty database, with entries that fit in turn or with none, then such an
+-- opening: what could be left before was left, or the store that is opened stands for the history of these entries.
+abbrev pub FindsNothingOrMade : {S D : Type 0} → store.Ghosts S → Ghosts D → Type 0
+FindsNothingOrMade {S} {D} g files =
+    (entries : List Entry) → FitInTurn entries [] → (old stopped : Held S) → (state g old).now.schema ≡ no_schema
+    → LeavesOrMakes entries (state g old) (state g stopped) → HasCleanDisk (state g stopped)
     → (left : Trees) → (state g stopped).may_leave left
     → (held : Image) → HoldsDatabase held left → (opened : BaseValue (FileStore D files)) → OpensFound held opened
-    → (state g old).may_leave left ⊎ Stands over_files [] opened
+    → (state g old).may_leave left ⊎ Stands over_files (with_all entries []) opened
 
 -- A stop in a migration of a history's tables, then such an opening: what could be left before was left, or the store
 -- that is opened stands for the history.

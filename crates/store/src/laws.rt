@@ -10,7 +10,7 @@ ghost use Rattle.book.specs.Rights.{is_reader};
 ghost use Rattle.book.specs.Sound.{Fits, IsSound};
 ghost use Rattle.store.specs.Alike.{HaveSameRows, AreAlike};
 ghost use Rattle.store.specs.Stands.{Stands, OnlyLooks, LeavesOrAdds};
-ghost use Rattle.store.specs.Stops.{FindsTheSame, FindsBeforeOrAfter, FindsNothingOrEmpty, FindsOldOrMigrated};
+ghost use Rattle.store.specs.Stops.{FindsTheSame, FindsBeforeOrAfter, FindsNothingOrMade, FindsOldOrMigrated};
 ghost use Rattle.store.specs.Stops.{FindsTheClosed};
 ghost use Rattle.store.specs.TablesOf.{tables_of};
 
@@ -59,13 +59,13 @@ pub fn book_stands_in_tables<S: Alter + Drop>()
 
 /// What a store leaves, an opening finds. After a stop at a moment when nothing is changed, the store that is opened
 /// stands for the same history; after a stop in a change, for the history before it or for that with the entry; after
-/// one while the tables are made, for the empty history, if not what was there before is left; after one in a migration,
-/// for the history whose tables are migrated, if not they are left as they were; and after a closing, for the history
-/// that was closed, also if a stop came after it.
+/// one while the tables are made, for the history of the entries that are added in the same commit, if not what was there
+/// before is left; after one in a migration, for the history whose tables are migrated, if not they are left as they
+/// were; and after a closing, for the history that was closed, also if a stop came after it.
 pub fn openings_find_what_was_left<S: Alter + Drop, C: Disk + Drop, D: Disk + Drop>()
     ensures still { FindsTheSame S.Store D.Disk }
     ensures changing { FindsBeforeOrAfter S.Store D.Disk }
-    ensures making { FindsNothingOrEmpty S.Store D.Disk }
+    ensures making { FindsNothingOrMade S.Store D.Disk }
     ensures migrating { FindsOldOrMigrated S.Store D.Disk }
     ensures closed { FindsTheClosed C.Disk D.Disk }
 {

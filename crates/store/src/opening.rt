@@ -10,6 +10,7 @@ ghost use Rattle.tables.specs.Opening.{IsFound, IsFoundIn, LooksOurs, LooksAs, L
 ghost use Rattle.tables.specs.Opening.{IsUntold, number_of, takes_name};
 ghost use Rattle.tables.specs.declared.opening.Version.{Version};
 ghost use Rattle.tables.specs.Schema.{no_schema};
+ghost use Rattle.book.specs.Entries.{entries_view, with_all, FitInTurn};
 ghost use Rattle.book.specs.Fault.{IsOfStorage, IsOfStorageOr};
 ghost use Rattle.book.specs.History.{History};
 ghost use Rattle.store.specs.Opening.{LeavesFiles, LeavesAsItWas, LeavesOrMakes, LeavesOrMigrates, told_closing};
@@ -18,15 +19,16 @@ ghost use Rattle.store.specs.Stands.{Stands};
 ghost use Rattle.store.specs.TablesOf.{tables_of};
 
 use crate::store::Store;
-use book::StoreFault;
+use book::{Entry, StoreFault};
 use sqlite::{Alter, Connection, Error, FileStore};
 use sqlite_disk::{Disk, Files};
 use std::alloc::Global;
 use tables::{Base, TableFault, migrate};
 
 impl<S: Alter + Drop> Store<S> {
-    /// Makes all tables in an empty database, in one commit. The caller's condition is a connection outside any
-    /// transaction, which comes back with a refusal: `Memory`, `Database`, or `NotOurs` where a table's name is taken.
+    /// Makes all tables in an empty database, in one commit: the store stands for the empty history. The caller's
+    /// condition is a connection outside any transaction, which comes back with a refusal: `Memory`, `Database`, or
+    /// `NotOurs` where a table's name is taken.
     pub fn create(
         alloc: Global,
         conn: Connection<S>,
@@ -38,15 +40,48 @@ impl<S: Alter + Drop> Store<S> {
         ensures opened { IfOk result (λ store. HasCleanDisk (state S.Store store.conn)
             → IsTrue (state S.Store conn).is_open × IsTrue (state S.Store store.conn).is_open) }
         ensures kept { IfErr result (λ e. LeavesAsItWas (state S.Store conn) (state S.Store e.1)) }
-        ensures crash { MatchResult result (λ store. LeavesOrMakes (state S.Store conn) (state S.Store store.conn))
-            (λ e. LeavesOrMakes (state S.Store conn) (state S.Store e.1)) }
+        ensures crash { MatchResult result (λ store. LeavesOrMakes [] (state S.Store conn) (state S.Store store.conn))
+            (λ e. LeavesOrMakes [] (state S.Store conn) (state S.Store e.1)) }
         ensures taken { IfErr result (λ e. e.0 ≡ StoreFault.NotOurs → HasCleanDisk (state S.Store e.1)
             → IsInTheWay (state S.Store conn).now.schema) }
         ensures closed { IfErr result (λ e. e.1.in_transaction ≡ false) }
         ensures uncounted { IfOk result (λ store. store.faults ≡ 0) }
         ensures refusals { IfErr result (λ e. IsOfStorageOr StoreFault.NotOurs e.0) }
     {
-        match Base::create(conn) {
+        match Store::create_with(alloc, conn, &[]) {
+            Ok(store) => Ok(store),
+            Err(refused) => Err(refused),
+        }
+    }
+
+    /// Makes all tables in an empty database, and adds entries, the first of them first, all in one commit: the store
+    /// stands for the history of these entries. The caller's conditions are a connection outside any transaction, and
+    /// that each entry fits the history of those before it. Refused as `create` is: a refusal, and a stop at any
+    /// moment, leaves no tables or all with these entries.
+    pub fn create_with(
+        alloc: Global,
+        conn: Connection<S>,
+        entries: &[Entry<'_>],
+    ) -> Result<Store<S>, (StoreFault, Connection<S>)>
+        requires { conn.in_transaction ≡ false }
+        ensures stands { IfOk result (λ store. (state S.Store conn).now.schema ≡ no_schema
+            → FitInTurn (entries_view entries.now) []
+            → Stands S.Store (with_all (entries_view entries.now) []) store) }
+        ensures unused { IfOk result (λ store. HasCleanDisk (state S.Store store.conn)
+            → takes_name (state S.Store conn).now.schema ≡ false) }
+        ensures opened { IfOk result (λ store. HasCleanDisk (state S.Store store.conn)
+            → IsTrue (state S.Store conn).is_open × IsTrue (state S.Store store.conn).is_open) }
+        ensures kept { IfErr result (λ e. LeavesAsItWas (state S.Store conn) (state S.Store e.1)) }
+        ensures crash { MatchResult result
+            (λ store. LeavesOrMakes (entries_view entries.now) (state S.Store conn) (state S.Store store.conn))
+            (λ e. LeavesOrMakes (entries_view entries.now) (state S.Store conn) (state S.Store e.1)) }
+        ensures taken { IfErr result (λ e. e.0 ≡ StoreFault.NotOurs → HasCleanDisk (state S.Store e.1)
+            → IsInTheWay (state S.Store conn).now.schema) }
+        ensures closed { IfErr result (λ e. e.1.in_transaction ≡ false) }
+        ensures uncounted { IfOk result (λ store. store.faults ≡ 0) }
+        ensures refusals { IfErr result (λ e. IsOfStorageOr StoreFault.NotOurs e.0) }
+    {
+        match Base::create(conn, entries) {
             Ok(base) => Ok(Store { base, alloc }),
             Err((fault, conn)) => Err((StoreFault::from(fault), conn)),
         }

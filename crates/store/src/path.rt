@@ -9,6 +9,7 @@ ghost use Rattle.sqlite_store.specs.FileStore.{view};
 ghost use Rattle.tables.specs.Asking.{Looks};
 ghost use Rattle.tables.specs.Opening.{IsFound, LooksOurs};
 ghost use Rattle.tables.specs.Schema.{no_schema};
+ghost use Rattle.book.specs.Entries.{entries_view, with_all, FitInTurn};
 ghost use Rattle.book.specs.History.{History};
 ghost use Rattle.book.specs.Sound.{IsSound};
 ghost use Rattle.store.specs.TablesOf.{tables_of};
@@ -21,7 +22,7 @@ ghost use Rattle.book.specs.Fault.{IsOfStorageOr};
 
 use crate::finding::{Found, Place, find};
 use crate::store::Store;
-use book::StoreFault;
+use book::{Entry, StoreFault};
 use sqlite::{Alter, Connection, Error, ErrorCode, FileFrom, FileStore, Start};
 use sqlite_disk::Disk;
 use std::alloc::Global;
@@ -49,7 +50,7 @@ impl<T: Start + Drop> Store<FileStore<FileFrom<T>>> {
         ensures refusals { IfErr result (IsOfStorageOr StoreFault.NotOurs) }
     {
         let place = find_database(rt, path)?;
-        Store::open_files(rt, place, start, Course::Adopt)
+        Store::open_files(rt, place, start, Course::Adopt, &[])
     }
 
     /// Makes the tables in a new database at a path, where no file stands, one of no octets, or a database without
@@ -67,9 +68,28 @@ impl<T: Start + Drop> Store<FileStore<FileFrom<T>>> {
         ensures uncounted { IfOk result (λ store. store.faults ≡ 0) }
         ensures refusals { IfErr result (IsOfStorageOr StoreFault.NotOurs) }
     {
+        Store::make_with(rt, path, start, &[])
+    }
+
+    /// Makes the tables in a new database at a path, and adds entries, the first of them first, all in one commit: the
+    /// store stands for the history of these entries. The caller's condition is that each fits the history of those
+    /// before it. Refused as `make` is: a refusal, and a stop at any moment, leaves no tables or all with these entries.
+    pub fn make_with(
+        rt: &HostRuntime,
+        path: &str,
+        start: T,
+        entries: &[Entry<'_>],
+    ) -> Result<Store<FileStore<FileFrom<T>>>, StoreFault>
+        ensures made { IfOk result (λ store. FitInTurn (entries_view entries.now) []
+            → Stands over_files (with_all (entries_view entries.now) []) store) }
+        ensures opened { IfOk result (λ store. HasCleanDisk (file_state store.conn)
+            → IsTrue (file_state store.conn).is_open) }
+        ensures uncounted { IfOk result (λ store. store.faults ≡ 0) }
+        ensures refusals { IfErr result (IsOfStorageOr StoreFault.NotOurs) }
+    {
         let place = find(rt, path)?;
         may_make(place.found)?;
-        Store::open_files(rt, place, start, Course::Create)
+        Store::open_files(rt, place, start, Course::Create, entries)
     }
 
     /// Takes the counter's database at a path to the schema of now, in one commit, and keeps each row; one of that
@@ -83,27 +103,29 @@ impl<T: Start + Drop> Store<FileStore<FileFrom<T>>> {
         Store::migrate_at_place(rt, place, start)
     }
 
-    /// Opens the files at a place, and adopts the tables there or creates them. The caller's condition is that what was
-    /// found there allows that.
+    /// Opens the files at a place, and adopts the tables there or creates them, with these entries. The caller's
+    /// condition is that what was found there allows that.
     fn open_files(
         rt: &HostRuntime,
         place: Place<'_>,
         start: T,
         course: Course,
+        entries: &[Entry<'_>],
     ) -> Result<Store<FileStore<FileFrom<T>>>, StoreFault>
         requires { fault_at course place.found ≡ Ok tt }
         ensures found { course ≡ Course.Adopt → IfOk result (λ store. HasCleanDisk (file_state store.conn)
             → OpensFound (image_at T.Start) store) }
         ensures foreign { course ≡ Course.Adopt → IfErr result (λ e. e ≡ StoreFault.NotOurs
             → IsForeign ⟦<FileFrom<T> as Disk>⟧ (image_at T.Start)) }
-        ensures made { course ≡ Course.Create → IfOk result (λ store. Stands over_files [] store) }
+        ensures made { course ≡ Course.Create → IfOk result (λ store. FitInTurn (entries_view entries.now) []
+            → Stands over_files (with_all (entries_view entries.now) []) store) }
         ensures opened { course ≡ Course.Create → IfOk result (λ store. HasCleanDisk (file_state store.conn)
             → IsTrue (file_state store.conn).is_open) }
         ensures uncounted { IfOk result (λ store. store.faults ≡ 0) }
         ensures refusals { IfErr result (IsOfStorageOr StoreFault.NotOurs) }
     {
         let conn = connect(rt, place.path, start)?;
-        match store_or_drop(rt.alloc(), conn, course) {
+        match store_or_drop(rt.alloc(), conn, course, entries) {
             Ok(store) => Ok(store),
             Err(fault) => Err(fault),
         }
@@ -217,6 +239,7 @@ fn store_or_drop<S: Alter + Drop>(
     alloc: Global,
     conn: Connection<S>,
     course: Course,
+    entries: &[Entry<'_>],
 ) -> Result<Store<S>, StoreFault>
     requires { conn.in_transaction ≡ false }
     ensures stands { course ≡ Course.Adopt → IfOk result (λ store. (b : History) → IsSound b
@@ -225,7 +248,8 @@ fn store_or_drop<S: Alter + Drop>(
         → LooksOurs (state S.Store conn)) }
     ensures looks { course ≡ Course.Adopt → IfOk result (λ store. Looks (state S.Store conn) (state S.Store store.conn)) }
     ensures foreign { course ≡ Course.Adopt → IfErr result (λ e. e ≡ StoreFault.NotOurs → SeemsForeign S.Store conn) }
-    ensures made { course ≡ Course.Create → IfOk result (λ store. Stands S.Store [] store) }
+    ensures made { course ≡ Course.Create → IfOk result (λ store. FitInTurn (entries_view entries.now) []
+        → Stands S.Store (with_all (entries_view entries.now) []) store) }
     ensures opened { course ≡ Course.Create → IfOk result (λ store. HasCleanDisk (state S.Store store.conn)
         → IsTrue (state S.Store store.conn).is_open) }
     ensures uncounted { IfOk result (λ store. store.faults ≡ 0) }
@@ -233,7 +257,7 @@ fn store_or_drop<S: Alter + Drop>(
 {
     match course {
         Course::Adopt => adopt_or_drop(alloc, conn),
-        Course::Create => create_or_drop(alloc, conn),
+        Course::Create => create_or_drop(alloc, conn, entries),
     }
 }
 
@@ -257,13 +281,15 @@ fn adopt_or_drop<S: Alter + Drop>(
     }
 }
 
-/// Makes the tables in a database that has none yet.
+/// Makes the tables in a database that has none yet, with these entries.
 fn create_or_drop<S: Alter + Drop>(
     alloc: Global,
     conn: Connection<S>,
+    entries: &[Entry<'_>],
 ) -> Result<Store<S>, StoreFault>
     requires { conn.in_transaction ≡ false }
-    ensures made { IfOk result (λ store. Stands S.Store [] store) }
+    ensures made { IfOk result (λ store. FitInTurn (entries_view entries.now) []
+        → Stands S.Store (with_all (entries_view entries.now) []) store) }
     ensures opened { IfOk result (λ store. HasCleanDisk (state S.Store store.conn)
         → IsTrue (state S.Store store.conn).is_open) }
     ensures uncounted { IfOk result (λ store. store.faults ≡ 0) }
@@ -272,7 +298,7 @@ fn create_or_drop<S: Alter + Drop>(
     if !has_no_table(&conn) {
         return Err(StoreFault::NotOurs);
     }
-    match Store::create(alloc, conn) {
+    match Store::create_with(alloc, conn, entries) {
         Ok(store) => Ok(store),
         Err((fault, _conn)) => Err(fault),
     }

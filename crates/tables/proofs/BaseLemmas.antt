@@ -1,5 +1,5 @@
 -- What a commit makes of a connection that keeps tables.
-use Rattle.std.proofs.Common.{◌≡◌, ◌⊎◌, false, Result, Ok, Err, OnOk, OnErr, IsTrue, sym, ap, ◌∙◌, subst}
+use Rattle.std.proofs.Common.{◌≡◌, ◌⊎◌, false, Result, Ok, Err, OnOk, OnErr, IsTrue, sym, ap, ◌∙◌, subst, List}
 use Rattle.std.proofs.Common.{inl, inr}
 use Rattle.sqlite_trees.specs.Tree.{Trees}
 use Rattle.sqlite_trees.specs.declared.store.Store.{Ghosts}
@@ -7,7 +7,9 @@ use Rattle.sqlite.specs.declared.error.Error.{Error}
 use Rattle.sqlite.specs.Effect.{Database, IsDatabase}
 use Rattle.sqlite.specs.State.{HasCleanDisk}
 use Rattle.sqlite.specs.Held.{Held, state}
+use Rattle.book.specs.History.{Entry}
 use Rattle.tables.specs.Asking.{Looks}
+use Rattle.tables.specs.Changes.{applied_all}
 use Rattle.tables.specs.Opening.{IsFound, Creates}
 use Rattle.tables.specs.Schema.{no_schema}
 use Rattle.tables.specs.Tables.{Tables, no_rows}
@@ -64,11 +66,13 @@ crash_leaves g step old new r c clean db may = elim (c.crash clean db may) [
       now.1 t (record { database = s.database; sound = s.sound }))
 ]
 
-pub created_keeps : {S : Type 0} (g : Ghosts S) → IsSettled g → (old new : Held S) → new.in_transaction ≡ false
-    → Creates (state g old) (state g new) (Ok tt) → (state g old).now.schema ≡ no_schema
-    → HasCleanDisk (state g new) → IsTrue (state g new).is_open → StandsFor no_rows (state g new)
-created_keeps g settled old new closed c has clean is_open = let now = c.ok clean no_rows has in
-    stands g settled new no_rows closed is_open now.1 now.0 now.2
+pub created_keeps : {S : Type 0} (g : Ghosts S) → IsSettled g → (entries : List Entry) (old new : Held S)
+    → new.in_transaction ≡ false
+    → Creates entries (state g old) (state g new) (Ok tt) → (state g old).now.schema ≡ no_schema
+    → HasCleanDisk (state g new) → IsTrue (state g new).is_open
+    → StandsFor (applied_all entries no_rows) (state g new)
+created_keeps g settled entries old new closed c has clean is_open = let now = c.ok clean no_rows has in
+    stands g settled new (applied_all entries no_rows) closed is_open now.1 now.0 now.2
 
 pub adopted_keeps : {S : Type 0} (g : Ghosts S) → IsSettled g → (old new : Held S) → new.in_transaction ≡ false
     → Looks (state g old) (state g new) → (t : Tables) → IsFound t (state g old)

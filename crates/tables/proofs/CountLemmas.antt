@@ -3,6 +3,7 @@ use Rattle.std.proofs.Common.{◌≡◌, ◌≢◌, ◌+◌, ◌||◌, ℕ, Bool
 use Rattle.std.proofs.Common.{Result, Ok, Err, OnOk, IsTrue, refl, sym, ap, ◌∙◌, subst, arith}
 use Rattle.std.specs.List.{list_any}
 use Rattle.sqlite.specs.declared.error.Error.{Error}
+use Rattle.sqlite.specs.Effect.{Database}
 use Rattle.sqlite.specs.State.{State, HasCleanDisk, KeepsCommit}
 use Rattle.sqlite.proofs.StateLemmas.{survives_then}
 use Rattle.tables.specs.Tables.{Tables, TallyRow, is_tally_of, raised_row}
@@ -41,6 +42,31 @@ chained {X} {Y} {K} f h a b c x result p q = record {
       inside = two.inside;
       goes = λ t d. two.goes (f t) (after one t d);
       sound = λ t d. two.sound (f t) (after one t d);
+    }
+
+-- a step from what is known of a database, and then another of the tables that it made
+pub built_on : {X Y : Type 0} (Before : Tables → Database → Type 0) (K : Type 0) (f h : Tables → Tables)
+    (a b c : State) (x : X) (result : Result Y Error)
+    → CarriesFrom Before K f a b (Ok x) → Carries h b c result → CarriesFrom Before K (λ t. h (f t)) a c result
+built_on {X} {Y} Before K f h a b c x result p q = record {
+  survives = survives_then a b c (λ _. ⊥) (λ _. ⊥) (λ _. ⊥) (λ _ db none. none) (λ _ db none. none) p.survives
+      q.survives;
+  kept = λ clean inside. let early = clean_before clean in let one = p.ok early inside in
+      keeps_then a b c (p.kept early inside) (q.kept clean one.inside);
+  ok = λ clean inside. let one = p.ok (clean_before clean) inside in both one result (q.ok clean one.inside);
+}
+  where
+    clean_before : HasCleanDisk c → HasCleanDisk b
+    clean_before clean = omega (arith, q.survives.clean)
+
+    both : GoesFrom Before K f a b → (r : Result Y Error) → OnOk r (Goes h b c)
+        → OnOk r (GoesFrom Before K (λ t. h (f t)) a c)
+    both one (Err e) two = tt
+    both one (Ok y) two = record {
+      was_open = one.was_open;
+      inside = two.inside;
+      goes = λ t d. two.goes (f t) (record { database = one.goes t d; sound = one.sound t d });
+      sound = λ t d. two.sound (f t) (record { database = one.goes t d; sound = one.sound t d });
     }
 
 -- the same step in other words, of what is known by it or less

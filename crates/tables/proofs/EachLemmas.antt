@@ -1,17 +1,21 @@
 -- Entries in turn, inside one transaction.
-use Rattle.std.proofs.Common.{◌≡◌, ◌<◌, ◌≤◌, ◌+◌, ℕ, List, [], ◌∷◌, ◌++◌, length, take, get_or, Result, Ok, Err}
-use Rattle.std.proofs.Common.{refl, sym, ap, ◌∙◌, arith}
+use Rattle.std.proofs.Common.{◌≡◌, ◌<◌, ◌≤◌, ◌+◌, ◌==◌, ℕ, true, IsTrue, List, [], ◌∷◌, ◌++◌, length, take, get_or}
+use Rattle.std.proofs.Common.{Result, Ok, Err, refl, sym, ap, ◌∙◌, arith}
+use Rattle.std.proofs.lemmas.Bool.{eqb-true}
 use Rattle.std.proofs.lemmas.List.{take_more, take_all, map-append}
 use Rattle.sqlite.specs.declared.error.Error.{Error}
+use Rattle.sqlite.specs.Effect.{Database}
 use Rattle.sqlite.specs.State.{State}
 use Rattle.book.specs.declared.entries.Entry.{Entry}
 use Rattle.book.specs.Entries.{entry_view, entries_view}
 use Rattle.book.specs.History as history
-use Rattle.tables.specs.Tables.{Tables}
+use Rattle.tables.specs.Opening.{Fills}
+use Rattle.tables.specs.Schema.{no_schema}
+use Rattle.tables.specs.Tables.{Tables, no_rows}
 use Rattle.tables.specs.Carrying.{CarriesFrom, IsSoundOf, Carries}
 use Rattle.tables.specs.Changes.{applied, applied_all}
 use Rattle.tables.proofs.AnswerLemmas.{survives_same, keeps_same}
-use Rattle.tables.proofs.CountLemmas.{chained, restated}
+use Rattle.tables.proofs.CountLemmas.{built_on, chained, restated}
 
 applied_more : (entries : List history.Entry) (entry : history.Entry) (t : Tables)
     → applied_all (entries ++ entry ∷ []) t ≡ applied entry (applied_all entries t)
@@ -65,3 +69,22 @@ refused_next {X} {Y} entries i entry old mid new e told before p =
     let q = chained (applied_all (entries_view (take i entries))) (applied (entry_view entry)) old mid new tt failed
     before p in
     record { survives = q.survives; kept = q.kept; ok = λ clean inside. tt }
+
+-- ---- entries behind the making of the tables
+
+abbrev Makes : State → State → Type 0
+Makes old new =
+    CarriesFrom (λ _ (d : Database). d.schema ≡ no_schema) (IsTrue old.is_open) {X = Unit {0}} (λ _. no_rows) old new
+    (Ok tt)
+
+pub filled_none : (entries : List Entry) (old new : State) → (length entries == 0) ≡ true → Makes old new
+    → Fills (entries_view entries) old new (Ok tt)
+filled_none [] old new none makes = makes
+filled_none (x ∷ xs) old new none makes = absurd (let some = eqb-true (length (x ∷ xs)) 0 none in cc)
+
+pub filled_each : (entries : List Entry) (old mid new : State) → Makes old mid
+    → Carries {X = Unit {0}} (applied_all (entries_view entries)) mid new (Ok tt)
+    → Fills (entries_view entries) old new (Ok tt)
+filled_each entries old mid new makes carries =
+    built_on (λ _ (d : Database). d.schema ≡ no_schema) (IsTrue old.is_open) (λ _. no_rows)
+    (applied_all (entries_view entries)) old mid new tt (Ok tt) makes carries

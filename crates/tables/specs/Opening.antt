@@ -16,8 +16,10 @@ use Rattle.sqlite.specs.State.{State}
 use Rattle.sqlite.specs.declared.error.Error.{Error}
 use Rattle.sqlite.specs.declared.error.Error.TheVariants.{SqliteFailure, SqlInputError}
 use Rattle.sqlite.specs.declared.error.ErrorCode.TheVariants.{NameTaken}
+use Rattle.book.specs.History.{Entry}
 use Rattle.tables.specs.Asking.{Answers}
-use Rattle.tables.specs.Carrying.{CommitsFrom}
+use Rattle.tables.specs.Carrying.{CarriesFrom, CommitsFrom}
+use Rattle.tables.specs.Changes.{applied_all}
 use Rattle.tables.specs.Schema.{no_schema, the_schema, the_version}
 use Rattle.tables.specs.Tables.{Tables, no_rows}
 use Rattle.tables.specs.Holding.{IsDatabaseOf, IsDatabaseIn}
@@ -155,9 +157,15 @@ takes_index s = list_any (λ index. is_used s index.name) the_schema.indexes
 abbrev pub IsInTheWay : Schema → Type 0
 IsInTheWay s = IsTrue (takes_name s) ⊎ (IsTrue (takes_index s) ⊎ IsTrue (lacks_sequence s))
 
--- all tables are made, with no row but that of `meta`, or nothing is
-abbrev pub Creates : State → State → Result (Unit {0}) Error → Type 0
-Creates old new = CommitsFrom (λ _ d. d.schema ≡ no_schema) (IsTrue old.is_open) (λ _. no_rows) old new
+-- all tables are made, with the row of `meta` and what the entries make, or nothing is
+abbrev pub Creates : List Entry → State → State → Result (Unit {0}) Error → Type 0
+Creates entries old new =
+    CommitsFrom (λ _ d. d.schema ≡ no_schema) (IsTrue old.is_open) (λ _. applied_all entries no_rows) old new
+
+-- the same inside a transaction, before its commit
+abbrev pub Fills : List Entry → State → State → Result (Unit {0}) Error → Type 0
+Fills entries old new =
+    CarriesFrom (λ _ d. d.schema ≡ no_schema) (IsTrue old.is_open) (λ _. applied_all entries no_rows) old new
 
 -- the error of a statement that makes what is there, or that isn't understood
 abbrev pub tells_taken : Error → Bool

@@ -45,23 +45,29 @@ impl<S: Alter + Drop> Model for Base<S> {
 }
 
 impl<S: Alter + Drop> Base<S> {
-    /// Makes the tables in an empty database, all in one commit, and gives the connection back with a refusal.
-    pub fn create(mut conn: Connection<S>) -> Result<Base<S>, (OpenFault, Connection<S>)>
+    /// Makes the tables in an empty database, and what the entries change of them, the first of them first, all in one
+    /// commit. Gives the connection back with a refusal.
+    pub fn create(
+        mut conn: Connection<S>,
+        entries: &[Entry<'_>],
+    ) -> Result<Base<S>, (OpenFault, Connection<S>)>
         requires { conn.in_transaction ≡ false }
-        ensures made { IfOk result (λ base. Creates (state S.Store conn) (state S.Store base.conn) (Ok tt)) }
+        ensures made { IfOk result (λ base. Creates (entries_view entries.now) (state S.Store conn)
+            (state S.Store base.conn) (Ok tt)) }
         ensures unused { IfOk result (λ base. HasCleanDisk (state S.Store base.conn)
             → takes_name (state S.Store conn).now.schema ≡ false) }
-        ensures keeps { IfOk result (λ base. (state S.Store conn).now.schema ≡ no_schema → Keeps S.Store no_rows base) }
+        ensures keeps { IfOk result (λ base. (state S.Store conn).now.schema ≡ no_schema
+            → Keeps S.Store (applied_all (entries_view entries.now) no_rows) base) }
         ensures uncounted { IfOk result (λ base. base.faults ≡ 0) }
         ensures undone { IfErr result (λ e. (error : _)
-            × Creates (state S.Store conn) (state S.Store e.1) (Err error)) }
+            × Creates (entries_view entries.now) (state S.Store conn) (state S.Store e.1) (Err error)) }
         ensures taken { IfErr result (λ e. e.0 ≡ OpenFault.NotOurs → HasCleanDisk (state S.Store e.1)
             → IsInTheWay (state S.Store conn).now.schema) }
         ensures closed { IfErr result (λ e. e.1.in_transaction ≡ false) }
     {
-        match make_tables(&mut conn) {
+        match make_tables(&mut conn, entries) {
             Ok(()) => Ok(Base { conn, faults: 0 }),
-            Err(error) => Err((OpenFault::of(error, Task::Make), conn)),
+            Err(fault) => Err((fault, conn)),
         }
     }
 

@@ -1,13 +1,17 @@
-//! Making the tables.
+//! Making the tables, and the rows with which they begin.
 
-ghost use Rattle.std.specs.Prelude.{◌≡◌, true, false, IsTrue, IfOk, IfErr};
+ghost use Rattle.std.specs.Prelude.{◌≡◌, true, false, IsTrue, Ok, Err, IfOk, IfErr};
 ghost use Rattle.sqlite.specs.Held.{state};
 ghost use Rattle.sqlite.specs.State.{HasCleanDisk};
-ghost use Rattle.tables.specs.Carrying.{CarriesFrom, CommitsFrom};
-ghost use Rattle.tables.specs.Opening.{IsInTheWay, takes_name, tells_taken};
+ghost use Rattle.book.specs.Entries.{entries_view};
+ghost use Rattle.tables.specs.Carrying.{CarriesFrom};
+ghost use Rattle.tables.specs.Opening.{Creates, Fills, IsInTheWay, takes_name, tells_taken};
 ghost use Rattle.tables.specs.Schema.{no_schema};
 ghost use Rattle.tables.specs.Tables.{no_rows};
 
+use crate::fault::{OpenFault, Task};
+use crate::writing::make_each;
+use book::Entry;
 use sqlite::{Alter, Connection, Error, Transaction};
 
 const MAKE_ALL: &str = "CREATE TABLE meta (version INTEGER NOT NULL) STRICT;\
@@ -41,18 +45,57 @@ fn make_all<S: Alter>(tx: &mut Transaction<'_, S>) -> Result<(), Error>
     tx.execute_batch(MAKE_ALL)
 }
 
-/// Makes all tables in one commit.
-pub fn make_tables<S: Alter>(conn: &mut Connection<S>) -> Result<(), Error>
+/// Makes all tables, and what the entries change of them, the first of them first.
+fn make_filled<S: Alter>(
+    tx: &mut Transaction<'_, S>,
+    entries: &[Entry<'_>],
+) -> Result<(), OpenFault>
+    ensures same_reference { tx.new.conn.ghost_name ≡ tx.old.conn.ghost_name }
+    ensures filled { IfOk result (λ _. Fills (entries_view entries.now) (state S.Store tx.old.conn.now)
+        (state S.Store tx.new.conn.now) (Ok tt)) }
+    ensures refused { IfErr result (λ _. (error : _) × Fills (entries_view entries.now)
+        (state S.Store tx.old.conn.now) (state S.Store tx.new.conn.now) (Err error)) }
+    ensures taken { HasCleanDisk (state S.Store tx.new.conn.now)
+        → IfErr result (λ e. e ≡ OpenFault.NotOurs → IsInTheWay (state S.Store tx.old.conn.now).now.schema) }
+    ensures unused { HasCleanDisk (state S.Store tx.new.conn.now)
+        → IfOk result (λ _. takes_name (state S.Store tx.old.conn.now).now.schema ≡ false) }
+{
+    match make_all(tx) {
+        Ok(()) => {}
+        Err(error) => return Err(OpenFault::of(error, Task::Make)),
+    }
+    if entries.is_empty() {
+        return Ok(());
+    }
+    match make_each(tx, entries) {
+        Ok(()) => Ok(()),
+        Err(error) => Err(OpenFault::of(error, Task::Use)),
+    }
+}
+
+/// Makes all tables, and what the entries change of them, in one commit.
+pub fn make_tables<S: Alter>(
+    conn: &mut Connection<S>,
+    entries: &[Entry<'_>],
+) -> Result<(), OpenFault>
     requires { conn.old.in_transaction ≡ false }
     ensures closed { conn.new.in_transaction ≡ false }
-    ensures commits { CommitsFrom (λ _ d. d.schema ≡ no_schema) (IsTrue (state S.Store conn.old).is_open) (λ _. no_rows)
-        (state S.Store conn.old) (state S.Store conn.new) result }
+    ensures made { IfOk result (λ _. Creates (entries_view entries.now) (state S.Store conn.old)
+        (state S.Store conn.new) (Ok tt)) }
+    ensures undone { IfErr result (λ _. (error : _) × Creates (entries_view entries.now) (state S.Store conn.old)
+        (state S.Store conn.new) (Err error)) }
     ensures taken { HasCleanDisk (state S.Store conn.new)
-        → IfErr result (λ e. tells_taken e ≡ true → IsInTheWay (state S.Store conn.old).now.schema) }
+        → IfErr result (λ e. e ≡ OpenFault.NotOurs → IsInTheWay (state S.Store conn.old).now.schema) }
     ensures unused { HasCleanDisk (state S.Store conn.new)
         → IfOk result (λ _. takes_name (state S.Store conn.old).now.schema ≡ false) }
 {
     let mut tx = conn.transaction();
-    make_all(&mut tx)?;
-    tx.commit()
+    match make_filled(&mut tx, entries) {
+        Ok(()) => {}
+        Err(fault) => return Err(fault),
+    }
+    match tx.commit() {
+        Ok(()) => Ok(()),
+        Err(error) => Err(OpenFault::of(error, Task::Use)),
+    }
 }

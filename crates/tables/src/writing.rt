@@ -50,7 +50,7 @@ fn make<S: Alter>(tx: &mut Transaction<'_, S>, entry: &Entry<'_>) -> Result<usiz
 }
 
 /// Makes what each entry changes, in turn.
-fn make_each<S: Alter>(tx: &mut Transaction<'_, S>, entries: &[Entry<'_>]) -> Result<(), Error>
+pub fn make_each<S: Alter>(tx: &mut Transaction<'_, S>, entries: &[Entry<'_>]) -> Result<(), Error>
     requires { 0 < length entries.now }
     ensures same_reference { tx.new.conn.ghost_name ≡ tx.old.conn.ghost_name }
     ensures carries { Carries (applied_all (entries_view entries.now)) (state S.Store tx.old.conn.now)

@@ -1,0 +1,6 @@
+use Rattle.sqlite.specs.Files.{over_files}
+use Rattle.store.proofs.Making.{made_of_none}
+use Rattle.store.proofs.path.Store+FileStore+FileFrom+T.make.Goals as goal
+
+pub returns-clause-made : goal.returns-clause-made
+returns-clause-made g c = made_of_none over_files c.make_with.result c.make_with.ensures.made
