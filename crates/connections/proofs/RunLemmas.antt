@@ -196,7 +196,7 @@ module _ {C B X : Type 0} (reads : C → Result ℤ ClockFailed → C → Type 0
     met_for old new reading a (turns_back c read takes behind is) = (law _ _ _ _ (Calibrate c) read, rest)
     met_for old new reading a (looks r read l reports) = rest
     met_for old new reading a (wants_early early i is) = rest
-    met_for old new reading a (wants_list account read rows takes is) = (λ b. tt, rest)
+    met_for old new reading a (wants_list account read rows some takes is) = (λ b. tt, rest)
 
     met_in : (old new : State C B X) (reading : ℤ) (outcome : Served)
         (s : Serves g signs count untold reading (turn reads g signs count old new) outcome)
