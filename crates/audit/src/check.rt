@@ -36,7 +36,7 @@ pub fn check_row(stamp: &Stamp, identities: &[IdentityRow]) -> Result<bool, Extr
 }
 
 /// The identity that was in force when a serial number was reserved; none before the first.
-fn identity_at(identities: &[IdentityRow], serial: u64) -> Option<&IdentityRow>
+pub fn identity_at(identities: &[IdentityRow], serial: u64) -> Option<&IdentityRow>
     ensures { option_map (λ i. identity_view i.now) result
         ≡ identity_before serial (map identity_view identities.now) }
 {

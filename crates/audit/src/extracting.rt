@@ -1,4 +1,5 @@
 //! The stamps of a range of serial numbers, for an auditor.
+ghost use Rattle.std.specs.Io.KnownBytes.{Keeps};
 ghost use Rattle.std.specs.Prelude.{◌≡◌, ◌≢◌, ◌<◌, ◌≤◌, ◌^◌, ◌-◌, ℕ, length, Err, IfOk, IfErr, IfSome, MatchResult};
 ghost use Rattle.policy.specs.View.{account_view, policy_view};
 ghost use Rattle.book.specs.History.{History, stamps_between};
@@ -124,26 +125,31 @@ pub fn write_extract<B: Book + Drop, W: Output>(
 }
 
 /// How many octets the extract has: what `write_extract` writes of the same range as long as nobody adds to the store.
-/// It goes through the stamps, and keeps none. Refused as `extract`, but with `Write` only where there are 2^64 octets
-/// or more.
-pub fn extract_length<B: Book + Drop>(
+/// It goes through the stamps, and keeps none. Behind each it has `out` send what was written, so that an output whose
+/// time is up ends it; nothing is written. Refused as `extract`, but with `Write` only where that fails, or where there
+/// are 2^64 octets or more.
+pub fn extract_length<B: Book + Drop, W: Output>(
     alloc: Global,
     store: &mut B,
     inquiry: &Inquiry<'_>,
+    out: &mut W,
 ) -> Result<u64, ExtractFault>
     ensures looks { OnlyLooks B.Standing store.old store.new }
     ensures value { B.honest store.new → (b : History) → Stands B.Standing b store.old
         → IfOk result (λ octets. octets ≡ length (extract_text inquiry.now.from inquiry.now.to b)) }
-    ensures long { B.honest store.new → (b : History) → Stands B.Standing b store.old
-        → IfErr result (λ e. e ≡ ExtractFault.Write
-        → 2 ^ 64 ≤ length (extract_text inquiry.now.from inquiry.now.to b)) }
+    ensures unwritten { Keeps (W.contents out.old) (W.contents out.new) }
     ensures refusals { MatchResult result (λ _. Allows inquiry.now) (ComesFor inquiry.now) }
     ensures unasked { IfErr result (IfUnasked (store.new ≡ store.old)) }
     ensures faults { MatchResult result (λ _. B.fault_count store.new ≡ B.fault_count store.old)
         (λ e. B.fault_count store.new ≡ count_after e (B.fault_count store.old)) }
+    ensures stopped { B.honest store.new → (b : History) → Stands B.Standing b store.old
+        → IfErr result (λ e. e ≡ ExtractFault.Write → StopsFor (2 ^ 64 - 1)
+        (length (extract_text inquiry.now.from inquiry.now.to b)) (W.failures out.old) (W.failures out.new)) }
+    ensures kept { MatchResult result (λ _. W.failures out.new ≡ W.failures out.old)
+        (λ e. e ≢ ExtractFault.Write → W.failures out.new ≡ W.failures out.old) }
 {
     allow(inquiry)?;
-    count_octets(alloc, store, inquiry.from, inquiry.to)
+    count_octets(alloc, store, inquiry.from, inquiry.to, out)
 }
 
 /// Writes the extract's lines, one after the other, and counts their octets.
@@ -179,20 +185,25 @@ fn write_stamps<B: Book + Drop, W: Output>(
 }
 
 /// How many octets the extract's lines have.
-fn count_octets<B: Book + Drop>(
+fn count_octets<B: Book + Drop, W: Output>(
     alloc: Global,
     store: &mut B,
     from: u64,
     to: u64,
+    out: &mut W,
 ) -> Result<u64, ExtractFault>
     ensures looks { OnlyLooks B.Standing store.old store.new }
     ensures value { B.honest store.new → (b : History) → Stands B.Standing b store.old
         → IfOk result (λ octets. octets ≡ length (extract_text from to b)) }
-    ensures long { B.honest store.new → (b : History) → Stands B.Standing b store.old
-        → IfErr result (λ e. e ≡ ExtractFault.Write → 2 ^ 64 ≤ length (extract_text from to b)) }
+    ensures unwritten { Keeps (W.contents out.old) (W.contents out.new) }
     ensures refusals { IfErr result IsMet }
     ensures faults { MatchResult result (λ _. B.fault_count store.new ≡ B.fault_count store.old)
         (λ e. B.fault_count store.new ≡ count_after e (B.fault_count store.old)) }
+    ensures stopped { B.honest store.new → (b : History) → Stands B.Standing b store.old
+        → IfErr result (λ e. e ≡ ExtractFault.Write → StopsFor (2 ^ 64 - 1) (length (extract_text from to b))
+        (W.failures out.old) (W.failures out.new)) }
+    ensures kept { MatchResult result (λ _. W.failures out.new ≡ W.failures out.old)
+        (λ e. e ≢ ExtractFault.Write → W.failures out.new ≡ W.failures out.old) }
 {
     let mut octets = header().len() as u64;
     let mut walk = StampsBetween::of(store, from, to);
@@ -200,6 +211,9 @@ fn count_octets<B: Book + Drop>(
         let Some(more) = octets.checked_add(line.len() as u64) else {
             return Err(ExtractFault::Write);
         };
+        if !out.send() {
+            return Err(ExtractFault::Write);
+        }
         octets = more;
     }
     Ok(octets)

@@ -9,7 +9,7 @@ mod line;
 mod output;
 mod writing;
 
-pub use check::check_row;
+pub use check::{check_row, identity_at};
 pub use extracting::{Extracted, Inquiry, extract, extract_length, write_extract};
 pub use fault::ExtractFault;
 pub use output::Output;

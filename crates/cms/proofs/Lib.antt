@@ -1,3 +1,4 @@
+pub mod Ahead
 pub mod Ascending
 pub mod Chains
 pub mod Digits
@@ -7,4 +8,5 @@ pub mod Members
 pub mod Names
 pub mod Outlines
 pub mod Places
+pub mod SignedEach
 pub mod Texts

@@ -1,3 +1,4 @@
+pub mod Ahead
 pub mod Certificate
 pub mod Chain
 pub mod ChainView

@@ -1,5 +1,5 @@
 -- What a signer answers.
-use Rattle.std.specs.Prelude.{ℕ, List, Result, Ok, Err, Vec}
+use Rattle.std.specs.Prelude.{◌≡◌, ℕ, ◌≤◌, List, [], ◌∷◌, Result, Ok, Err, IfOk, Vec, vec_len}
 use Rattle.std.specs.Hash.DefaultHasher.{wrapping_add}
 use Rattle.cms.specs.declared.signer.SignerFault.{SignerFault}
 use Rattle.cms.specs.declared.signer.SignerFault.TheVariants.{Failed, Memory}
@@ -19,3 +19,22 @@ abbrev pub count_after : {A : Type 0} → Result A SignerFault → ℕ → ℕ
 count_after (Ok signature) count = count
 count_after (Err Failed) count = wrapping_add count 1
 count_after (Err Memory) count = count
+
+-- the same after several calls
+abbrev pub count_after_each : {A : Type 0} → List (Result A SignerFault) → ℕ → ℕ
+count_after_each [] count = count
+count_after_each (answer ∷ answers) count = count_after_each answers (count_after answer count)
+
+-- a signature has 1 to 4,096 octets
+abbrev pub IsSized : {A : Type 0} → Result (Vec ℕ A) SignerFault → Type 0
+IsSized answer = IfOk answer (λ signature. (1 ≤ vec_len signature) × (vec_len signature ≤ 4096))
+
+-- Texts are signed one after the other, an answer for each: the signer before, the texts, the answers in the texts'
+-- order, and the signer after.
+abbrev pub SignsEach : {S : Type 0} → (S → List ℕ → Result (List ℕ) SignerFault → S → Type 0) → S → List (List ℕ)
+    → List (Result (List ℕ) SignerFault) → S → Type 0
+SignsEach signs x [] [] y = y ≡ x
+SignsEach {S} signs x (text ∷ texts) (answer ∷ answers) y =
+    (z : S) × (signs x text answer z × SignsEach signs z texts answers y)
+SignsEach signs x [] (answer ∷ answers) y = ⊥
+SignsEach signs x (text ∷ texts) [] y = ⊥

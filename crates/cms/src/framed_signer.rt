@@ -1,10 +1,12 @@
 //! A signer at the other end of a connection.
-ghost use Rattle.std.specs.Prelude.{◌≡◌, ◌≤◌, false, IfOk, vec_len};
+ghost use Rattle.std.specs.Prelude.{◌≡◌, ◌≤◌, ◌+◌, false, map, length, IfOk, vec_len, vec_capacity};
+ghost use Rattle.cms.specs.Ahead.{AsksEach};
 ghost use Rattle.cms.specs.Framed.{Asks};
 ghost use Rattle.cms.specs.Signer.{signed_by};
 
 use crate::algorithm::Algorithm;
-use crate::frames::{MAX_ANSWER, Stopped, receive, send};
+use crate::frames::{MAX_ANSWER, Stopped, receive, receive_each, rooms_of, send, send_each};
+use crate::pipeline::Pipeline;
 use crate::signer::{Signer, SignerFault};
 use std::alloc::Global;
 use std::io::{Read, Write};
@@ -65,7 +67,38 @@ fn ask<R: Read, W: Write>(
     }
 }
 
+/// Asks for the signatures of texts over an open session: all are sent before the first answer is read. Each answer is
+/// put behind those that are there.
+fn ask_each<R: Read, W: Write>(
+    alloc: Global,
+    reader: &mut R,
+    writer: &mut W,
+    texts: &[&[u8]],
+    answers: &mut Vec<Result<Vec<u8>, SignerFault>>,
+) -> Result<(), SignerFault>
+    requires room { vec_len answers.old + length texts.now ≤ vec_capacity answers.old }
+    ensures asks { AsksEach R.remaining W.contents reader.old reader.new writer.old writer.new
+        (map (λ text. text.now) texts.now) answers.old.items answers.new.items result }
+    ensures same_room { vec_capacity answers.old ≤ vec_capacity answers.new }
+{
+    let mut rooms = rooms_of(alloc, texts.len())?;
+    let sent = send_each(writer, texts);
+    rooms.truncate(sent);
+    match receive_each(reader, rooms, answers) {
+        Ok(()) => {}
+        Err(Stopped) => return Err(SignerFault::Failed),
+    }
+    if sent < texts.len() {
+        return Err(SignerFault::Failed);
+    }
+    Ok(())
+}
+
 impl<R, W> FramedSigner<R, W> {
+    ghost use Rattle.std.specs.Prelude.{◌<◌, ◌++◌, ◌∷◌, [], true, Err};
+    ghost use Rattle.std.specs.Hash.DefaultHasher.{wrapping_add};
+    ghost use Rattle.cms.specs.declared.signer.SignerFault.TheVariants.{Failed};
+
     /// A signer over an open session, of signatures of that algorithm. It keeps the allocator for its answers. Takes no
     /// memory.
     ///
@@ -87,6 +120,18 @@ impl<R, W> FramedSigner<R, W> {
             faults: 0,
             is_closed: false,
         }
+    }
+
+    /// Counts a failure, which closes the session, and puts it behind the answers.
+    fn fail(&mut self, answers: &mut Vec<Result<Vec<u8>, SignerFault>>)
+        requires room { vec_len answers.old < vec_capacity answers.old }
+        ensures closed { self.new ≡ record self.old { faults = wrapping_add self.old.faults 1; is_closed = true } }
+        ensures items { answers.new.items ≡ answers.old.items ++ (Err Failed ∷ []) }
+        ensures same_room { vec_capacity answers.old ≤ vec_capacity answers.new }
+    {
+        answers.push_reserved(Err(SignerFault::Failed));
+        self.faults = self.faults.wrapping_add(1);
+        self.is_closed = true;
     }
 }
 
@@ -121,5 +166,35 @@ impl<R: Read, W: Write> Signer for FramedSigner<R, W> {
 
     fn faults(&self) -> u64 {
         self.faults
+    }
+}
+
+impl<R: Read, W: Write> Pipeline for FramedSigner<R, W> {
+    fn sign_ahead(
+        &mut self,
+        texts: &[&[u8]],
+        answers: &mut Vec<Result<Vec<u8>, SignerFault>>,
+    ) -> bool {
+        if texts.is_empty() {
+            return true;
+        }
+        let is_closed = self.is_closed;
+        if is_closed {
+            self.fail(answers);
+            return false;
+        }
+        match ask_each(
+            self.alloc,
+            &mut self.reader,
+            &mut self.writer,
+            texts,
+            answers,
+        ) {
+            Ok(()) | Err(SignerFault::Memory) => true,
+            Err(SignerFault::Failed) => {
+                self.fail(answers);
+                false
+            }
+        }
     }
 }

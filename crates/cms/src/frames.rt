@@ -1,9 +1,14 @@
 //! Frames: octets with their number in front, over any reader and writer.
-ghost use Rattle.std.specs.Prelude.{◌≡◌, ◌^◌, ◌<◌, ℕ, List, length, slice_index, IfOk, OnOk, OnErr, vec_len};
+ghost use Rattle.std.specs.Prelude.{◌≡◌, ◌^◌, ◌<◌, ◌≤◌, ◌+◌, ℕ, List, map, length, slice_index, IfOk, OnOk, OnErr};
+ghost use Rattle.std.specs.Prelude.{vec_len, vec_capacity};
+ghost use Rattle.std.specs.List.{AllByRecursion};
 ghost use Rattle.std.specs.Int.{to_be_bytes, w32};
 ghost use Rattle.std.specs.Io.KnownBytes.{Appends, Consumes};
+ghost use Rattle.cms.specs.Ahead.{SendsEach, IsRoom, Received, ReceivedSome};
 ghost use Rattle.cms.specs.Framed.{frame, IsAnswer, SendsBeginning, ReceivesNoAnswer};
 
+use crate::signer::SignerFault;
+use std::alloc::{AllocError, Global};
 use std::io::{Read, Write};
 
 /// The most octets that an answer has.
@@ -108,4 +113,61 @@ pub(crate) fn receive<R: Read>(reader: &mut R, room: &mut Vec<u8>) -> Result<(),
         Ok(()) => Ok(()),
         Err(Stopped) => Err(Stopped),
     }
+}
+
+/// Writes frames of texts, one after the other, up to the first that isn't written whole or is too long for a frame:
+/// how many were written.
+pub(crate) fn send_each<W: Write>(writer: &mut W, texts: &[&[u8]]) -> usize
+    ensures few { result ≤ length texts.now }
+    ensures sends { SendsEach W.contents writer.old (map (λ text. text.now) texts.now) result writer.new }
+{
+    let mut sent = 0;
+    for text in texts {
+        if text.len() >= 1 << 32 {
+            return sent;
+        }
+        match send(writer, text) {
+            Ok(()) => sent += 1,
+            Err(Stopped) => return sent,
+        }
+    }
+    sent
+}
+
+/// Room for so many answers.
+pub(crate) fn rooms_of(alloc: Global, count: usize) -> Result<Vec<Vec<u8>>, AllocError>
+    ensures count { IfOk result (λ rooms. vec_len rooms ≡ count) }
+    ensures size { IfOk result (λ rooms. AllByRecursion IsRoom rooms.items) }
+{
+    let mut rooms = Vec::with_capacity(alloc, count)?;
+    while rooms.len() < count {
+        rooms.push(vec![in alloc; 0u8; MAX_ANSWER]?)?;
+    }
+    Ok(rooms)
+}
+
+/// Reads an answer into each room, one after the other, and puts them behind those that are there, up to the first
+/// that doesn't come.
+pub(crate) fn receive_each<R: Read>(
+    reader: &mut R,
+    rooms: Vec<Vec<u8>>,
+    answers: &mut Vec<Result<Vec<u8>, SignerFault>>,
+) -> Result<(), Stopped>
+    requires size { AllByRecursion IsRoom rooms.items }
+    requires room { vec_len answers.old + vec_len rooms ≤ vec_capacity answers.old }
+    ensures ok { OnOk result (Received R.remaining reader.old answers.old.items answers.new.items (vec_len rooms)
+        reader.new) }
+    ensures err { OnErr result (ReceivedSome R.remaining reader.old answers.old.items answers.new.items
+        (vec_len rooms) reader.new) }
+    ensures same_room { vec_capacity answers.old ≤ vec_capacity answers.new }
+{
+    let mut rooms = rooms;
+    while let Some(room) = rooms.pop() {
+        let mut room = room;
+        match receive(reader, &mut room) {
+            Ok(()) => answers.push_reserved(Ok(room)),
+            Err(Stopped) => return Err(Stopped),
+        }
+    }
+    Ok(())
 }

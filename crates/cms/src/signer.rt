@@ -1,8 +1,9 @@
 //! Who signs.
-ghost use Rattle.std.specs.Prelude.{◌≡◌, ℕ, ◌≤◌, List, Result, IfOk, vec_len};
+ghost use Rattle.std.specs.Prelude.{◌≡◌, ℕ, ◌≤◌, List, [], map, length, Result, IfOk, vec_len, vec_capacity};
+ghost use Rattle.std.specs.List.{AllByRecursion};
 ghost use Rattle.cms.specs.declared.signer.SignerFault.{SignerFault as SpecFault};
 ghost use Rattle.cms.specs.declared.signer.SignerFault.TheVariants.{Memory};
-ghost use Rattle.cms.specs.Signer.{signed_by, count_after};
+ghost use Rattle.cms.specs.Signer.{signed_by, count_after, count_after_each, SignsEach, IsSized};
 
 use crate::algorithm::Algorithm;
 use std::alloc::{AllocError, AllocFailed};
@@ -64,6 +65,26 @@ pub trait Signer {
         ensures few { IfOk result (λ signature. vec_len signature ≤ 4096) }
         ensures counted { fault_count self.new ≡ count_after result (fault_count self.old) }
         ensures same_algorithm { algorithm_octets self.new ≡ algorithm_octets self.old };
+
+    /// Signs each text, one after the other, as `sign` does, whatever became of those before it: an answer for each, in
+    /// their order. The caller has taken the room for the answers, so none is asked for here.
+    fn sign_each(&mut self, texts: &[&[u8]], answers: &mut Vec<Result<Vec<u8>, SignerFault>>)
+        requires empty { answers.old.items ≡ [] }
+        requires room { length texts.now ≤ vec_capacity answers.old }
+        ensures signs { SignsEach signs self.old (map (λ text. text.now) texts.now) (map signed_by answers.new.items)
+            self.new }
+        ensures as_many { vec_len answers.new ≡ length texts.now }
+        ensures sized { AllByRecursion IsSized answers.new.items }
+        ensures counted { fault_count self.new ≡ count_after_each answers.new.items (fault_count self.old) }
+        ensures same_algorithm { algorithm_octets self.new ≡ algorithm_octets self.old }
+    {
+        for text in texts {
+            match answers.push(self.sign(text)) {
+                Ok(()) => {}
+                Err(_) => unreachable!(),
+            }
+        }
+    }
 
     /// The algorithm of its signatures. Takes no memory.
     fn algorithm(&self) -> &Algorithm

@@ -4,12 +4,13 @@ use Rattle.std.specs.Prelude.{IfSome, IsNone}
 use Rattle.std.specs.Str.{bytes_eq}
 use Rattle.clap.specs.Words.{Row, Text}
 use Rattle.command_line.specs.Words.{IsAsked, IsUnasked, StatesAnswer, StatesAudit, StatesCalibrate, StatesCheck}
-use Rattle.command_line.specs.Words.{needs_signer}
+use Rattle.command_line.specs.Words.{StatesContinue, needs_signer}
 use Rattle.command_line.specs.Words.{StatesExchange, StatesHold, StatesInit, StatesMigrate, StatesServe, StatesTst}
 use Rattle.command_line.specs.declared.words.AnswerWords.{AnswerWords}
 use Rattle.command_line.specs.declared.words.AuditWords.{AuditWords}
 use Rattle.command_line.specs.declared.words.CalibrateWords.{CalibrateWords}
 use Rattle.command_line.specs.declared.words.CheckWords.{CheckWords}
+use Rattle.command_line.specs.declared.words.ContinueWords.{ContinueWords}
 use Rattle.command_line.specs.declared.words.ExchangeWords.{ExchangeWords}
 use Rattle.command_line.specs.declared.words.HoldWords.{HoldWords}
 use Rattle.command_line.specs.declared.words.InitWords.{InitWords}
@@ -17,8 +18,8 @@ use Rattle.command_line.specs.declared.words.MigrateWords.{MigrateWords}
 use Rattle.command_line.specs.declared.words.ServeWords.{ServeWords}
 use Rattle.command_line.specs.declared.words.TstWords.{TstWords}
 use Rattle.command_line.specs.declared.words.Word.{Word}
-use Rattle.command_line.specs.declared.words.Word.TheVariants.{Tst, Check, Init, Migrate, Calibrate, Hold, Answer}
-use Rattle.command_line.specs.declared.words.Word.TheVariants.{Exchange, Serve, Audit}
+use Rattle.command_line.specs.declared.words.Word.TheVariants.{Tst, Check, Init, Migrate, Continue, Calibrate, Hold}
+use Rattle.command_line.specs.declared.words.Word.TheVariants.{Answer, Exchange, Serve, Audit}
 
 -- what is asked by one name is asked by an equal one
 pub named_found : {name other : Text} (rows : List Row) (result : Option Word) → name ≡ other
@@ -40,6 +41,7 @@ name_of (Tst words) = codes "tst"
 name_of (Check words) = codes "check"
 name_of (Init words) = codes "init"
 name_of (Migrate words) = codes "migrate"
+name_of (Continue words) = codes "continue"
 name_of (Calibrate words) = codes "calibrate"
 name_of (Hold words) = codes "hold"
 name_of (Answer words) = codes "answer"
@@ -52,6 +54,7 @@ asked_by_name name rows (Tst words) asked = asked.0
 asked_by_name name rows (Check words) asked = asked.0
 asked_by_name name rows (Init words) asked = asked.0
 asked_by_name name rows (Migrate words) asked = asked.0
+asked_by_name name rows (Continue words) asked = asked.0
 asked_by_name name rows (Calibrate words) asked = asked.0
 asked_by_name name rows (Hold words) asked = asked.0
 asked_by_name name rows (Answer words) asked = asked.0
@@ -82,6 +85,12 @@ pub no_migrate : (rows : List Row) → ((words : MigrateWords) → StatesMigrate
 no_migrate rows none (Migrate words) asked = none words asked.1
 no_migrate rows none word asked =
     differ (codes "migrate") (name_of word) refl refl (asked_by_name (codes "migrate") rows word asked)
+
+pub no_continue : (rows : List Row) → ((words : ContinueWords) → StatesContinue rows words → ⊥) → (word : Word)
+    → IsAsked (codes "continue") rows word → ⊥
+no_continue rows none (Continue words) asked = none words asked.1
+no_continue rows none word asked =
+    differ (codes "continue") (name_of word) refl refl (asked_by_name (codes "continue") rows word asked)
 
 pub no_calibrate : (rows : List Row) → ((words : CalibrateWords) → StatesCalibrate rows words → ⊥) → (word : Word)
     → IsAsked (codes "calibrate") rows word → ⊥
@@ -135,15 +144,16 @@ none_signed name rows answer exchange serve needs word asked =
 
 -- and these are the others
 pub none_other : (name : Text) (rows : List Row) → (name ≡ codes "tst" → ⊥) → (name ≡ codes "check" → ⊥)
-    → (name ≡ codes "init" → ⊥) → (name ≡ codes "migrate" → ⊥) → (name ≡ codes "calibrate" → ⊥)
-    → (name ≡ codes "hold" → ⊥) → (name ≡ codes "audit" → ⊥) → (needs_signer name ≡ true → IsUnasked name rows)
+    → (name ≡ codes "init" → ⊥) → (name ≡ codes "migrate" → ⊥) → (name ≡ codes "continue" → ⊥)
+    → (name ≡ codes "calibrate" → ⊥) → (name ≡ codes "hold" → ⊥) → (name ≡ codes "audit" → ⊥) → (needs_signer name ≡ true → IsUnasked name rows)
     → (word : Word) → IsAsked name rows word → ⊥
-none_other name rows tst check init migrate calibrate hold audit signed (Tst words) asked = tst asked.0
-none_other name rows tst check init migrate calibrate hold audit signed (Check words) asked = check asked.0
-none_other name rows tst check init migrate calibrate hold audit signed (Init words) asked = init asked.0
-none_other name rows tst check init migrate calibrate hold audit signed (Migrate words) asked = migrate asked.0
-none_other name rows tst check init migrate calibrate hold audit signed (Calibrate words) asked = calibrate asked.0
-none_other name rows tst check init migrate calibrate hold audit signed (Hold words) asked = hold asked.0
-none_other name rows tst check init migrate calibrate hold audit signed (Audit words) asked = audit asked.0
-none_other name rows tst check init migrate calibrate hold audit signed word asked =
+none_other name rows tst check init migrate carry calibrate hold audit signed (Tst words) asked = tst asked.0
+none_other name rows tst check init migrate carry calibrate hold audit signed (Check words) asked = check asked.0
+none_other name rows tst check init migrate carry calibrate hold audit signed (Init words) asked = init asked.0
+none_other name rows tst check init migrate carry calibrate hold audit signed (Migrate words) asked = migrate asked.0
+none_other name rows tst check init migrate carry calibrate hold audit signed (Continue words) asked = carry asked.0
+none_other name rows tst check init migrate carry calibrate hold audit signed (Calibrate words) asked = calibrate asked.0
+none_other name rows tst check init migrate carry calibrate hold audit signed (Hold words) asked = hold asked.0
+none_other name rows tst check init migrate carry calibrate hold audit signed (Audit words) asked = audit asked.0
+none_other name rows tst check init migrate carry calibrate hold audit signed word asked =
     signed (ap needs_signer (asked_by_name name rows word asked)) word asked

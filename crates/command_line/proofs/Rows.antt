@@ -118,6 +118,10 @@ pub migrate_is_taken : AreTaken (codes "counter" ∷ codes "migrate" ∷ codes "
 unfolding clap_on_literals
 migrate_is_taken = (refl, refl)
 
+pub continue_is_taken : AreTaken (codes "counter" ∷ codes "continue" ∷ codes "--from=a.db" ∷ codes "--db=b.db" ∷ [])
+unfolding clap_on_literals
+continue_is_taken = (refl, refl)
+
 -- the words of `exchange` with these options for the signer
 abbrev exchange_words : List Text → List Text
 exchange_words signer =

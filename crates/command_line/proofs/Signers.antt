@@ -15,8 +15,8 @@ use Rattle.command_line.specs.declared.words.DeskWords.{DeskWords}
 use Rattle.command_line.specs.declared.words.SignerWords.{SignerWords}
 use Rattle.command_line.specs.declared.words.SignerWords.TheVariants.{Key, Session}
 use Rattle.command_line.specs.declared.words.Word.{Word}
-use Rattle.command_line.specs.declared.words.Word.TheVariants.{Tst, Check, Init, Migrate, Calibrate, Hold, Answer}
-use Rattle.command_line.specs.declared.words.Word.TheVariants.{Exchange, Serve, Audit}
+use Rattle.command_line.specs.declared.words.Word.TheVariants.{Tst, Check, Init, Migrate, Continue, Calibrate, Hold}
+use Rattle.command_line.specs.declared.words.Word.TheVariants.{Answer, Exchange, Serve, Audit}
 
 pub tells_signer : (rows : List Row) (signer : SignerWords) → StatesSigner rows signer → has_one_signer rows ≡ true
 tells_signer rows (Key path) states = rw (states.0, states.1, states.2) refl
@@ -68,6 +68,7 @@ asked_is_unmixed name rows (Tst words) asked = unasked name (codes "tst") rows a
 asked_is_unmixed name rows (Check words) asked = unasked name (codes "check") rows asked.0 refl
 asked_is_unmixed name rows (Init words) asked = unasked name (codes "init") rows asked.0 refl
 asked_is_unmixed name rows (Migrate words) asked = unasked name (codes "migrate") rows asked.0 refl
+asked_is_unmixed name rows (Continue words) asked = unasked name (codes "continue") rows asked.0 refl
 asked_is_unmixed name rows (Calibrate words) asked = unasked name (codes "calibrate") rows asked.0 refl
 asked_is_unmixed name rows (Hold words) asked = unasked name (codes "hold") rows asked.0 refl
 asked_is_unmixed name rows (Answer words) asked =

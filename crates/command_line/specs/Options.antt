@@ -77,6 +77,13 @@ init_options = database_option ∷ []
 abbrev pub migrate_options : List Rule
 migrate_options = database_option ∷ []
 
+-- the database that is carried on
+abbrev pub old_database_option : Rule
+old_database_option = text_option (codes "from")
+
+abbrev pub continue_options : List Rule
+continue_options = old_database_option ∷ database_option ∷ []
+
 -- numbers of 63 bits: readings, offsets and moments in microseconds, and serial numbers
 abbrev pub whole_number : ValueParser
 whole_number = number_between 0 9223372036854775807
@@ -180,6 +187,9 @@ init_command = with_rules init_options (new_app (codes "init"))
 abbrev pub migrate_command : App
 migrate_command = with_rules migrate_options (new_app (codes "migrate"))
 
+abbrev pub continue_command : App
+continue_command = with_rules continue_options (new_app (codes "continue"))
+
 abbrev pub calibrate_command : App
 calibrate_command = with_rules calibrate_options (new_app (codes "calibrate"))
 
@@ -208,6 +218,7 @@ subcommands =
     ∷ check_command
     ∷ init_command
     ∷ migrate_command
+    ∷ continue_command
     ∷ calibrate_command
     ∷ hold_command
     ∷ answer_command

@@ -18,6 +18,7 @@ use Rattle.command_line.specs.declared.words.AnswerWords.{AnswerWords}
 use Rattle.command_line.specs.declared.words.AuditWords.{AuditWords}
 use Rattle.command_line.specs.declared.words.CalibrateWords.{CalibrateWords}
 use Rattle.command_line.specs.declared.words.CheckWords.{CheckWords}
+use Rattle.command_line.specs.declared.words.ContinueWords.{ContinueWords}
 use Rattle.command_line.specs.declared.words.DeskWords.{DeskWords}
 use Rattle.command_line.specs.declared.words.ExchangeWords.{ExchangeWords}
 use Rattle.command_line.specs.declared.words.HoldWords.{HoldWords}
@@ -28,8 +29,8 @@ use Rattle.command_line.specs.declared.words.SignerWords.{SignerWords}
 use Rattle.command_line.specs.declared.words.SignerWords.TheVariants.{Key, Session}
 use Rattle.command_line.specs.declared.words.TstWords.{TstWords}
 use Rattle.command_line.specs.declared.words.Word.{Word}
-use Rattle.command_line.specs.declared.words.Word.TheVariants.{Tst, Check, Init, Migrate, Calibrate, Hold, Answer}
-use Rattle.command_line.specs.declared.words.Word.TheVariants.{Exchange, Serve, Audit}
+use Rattle.command_line.specs.declared.words.Word.TheVariants.{Tst, Check, Init, Migrate, Continue, Calibrate, Hold}
+use Rattle.command_line.specs.declared.words.Word.TheVariants.{Answer, Exchange, Serve, Audit}
 
 -- the octets of each word
 abbrev pub texts_of : List (String Global) → List Text
@@ -64,6 +65,10 @@ pub record StatesInit (rows : List Row) (words : InitWords) : Type 0 where
   pub db : first_of (codes "db") rows ≡ Some words.db.now
 
 pub record StatesMigrate (rows : List Row) (words : MigrateWords) : Type 0 where
+  pub db : first_of (codes "db") rows ≡ Some words.db.now
+
+pub record StatesContinue (rows : List Row) (words : ContinueWords) : Type 0 where
+  pub from : first_of (codes "from") rows ≡ Some words.from.now
   pub db : first_of (codes "db") rows ≡ Some words.db.now
 
 pub record StatesCalibrate (rows : List Row) (words : CalibrateWords) : Type 0 where
@@ -132,6 +137,7 @@ IsAsked name rows (Tst words) = (name ≡ codes "tst") × StatesTst rows words
 IsAsked name rows (Check words) = (name ≡ codes "check") × StatesCheck rows words
 IsAsked name rows (Init words) = (name ≡ codes "init") × StatesInit rows words
 IsAsked name rows (Migrate words) = (name ≡ codes "migrate") × StatesMigrate rows words
+IsAsked name rows (Continue words) = (name ≡ codes "continue") × StatesContinue rows words
 IsAsked name rows (Calibrate words) = (name ≡ codes "calibrate") × StatesCalibrate rows words
 IsAsked name rows (Hold words) = (name ≡ codes "hold") × StatesHold rows words
 IsAsked name rows (Answer words) = (name ≡ codes "answer") × StatesAnswer rows words

@@ -12,6 +12,6 @@ mod words;
 
 pub use refusal::Refusal;
 pub use words::{
-    AnswerWords, AuditWords, CalibrateWords, CheckWords, DeskWords, ExchangeWords, HoldWords,
-    InitWords, MigrateWords, ServeWords, SignerWords, TstWords, Word,
+    AnswerWords, AuditWords, CalibrateWords, CheckWords, ContinueWords, DeskWords, ExchangeWords,
+    HoldWords, InitWords, MigrateWords, ServeWords, SignerWords, TstWords, Word,
 };

@@ -15,8 +15,8 @@ use crate::table::{
     ACCURACIES, CONNECTIONS, DIGITS, MOMENTS, SERIALS, UNCERTAINTIES, WHOLE_NUMBERS,
 };
 use crate::words::{
-    AnswerWords, AuditWords, CalibrateWords, CheckWords, DeskWords, ExchangeWords, HoldWords,
-    InitWords, MigrateWords, ServeWords, TstWords, Word,
+    AnswerWords, AuditWords, CalibrateWords, CheckWords, ContinueWords, DeskWords, ExchangeWords,
+    HoldWords, InitWords, MigrateWords, ServeWords, TstWords, Word,
 };
 use clap::error::ErrorKind;
 use clap::{ArgMatches, Error};
@@ -114,6 +114,7 @@ fn word_named<'a>(name: &str, words: &ArgMatches<'a>) -> Option<Word<'a>>
         "check" => check_word(words),
         "init" => init_word(words),
         "migrate" => migrate_word(words),
+        "continue" => continue_word(words),
         "calibrate" => calibrate_word(words),
         "hold" => hold_word(words),
         "audit" => audit_word(words),
@@ -162,6 +163,19 @@ fn migrate_word<'a>(matches: &ArgMatches<'a>) -> Option<Word<'a>>
         return None;
     };
     Some(Word::Migrate(MigrateWords { db }))
+}
+
+fn continue_word<'a>(matches: &ArgMatches<'a>) -> Option<Word<'a>>
+    ensures found { IfSome result (IsAsked (codes "continue") (rows_of (found_of matches.now))) }
+    ensures none { IsNone result → IsUnasked (codes "continue") (rows_of (found_of matches.now)) }
+{
+    let Some(from) = matches.get_str("from") else {
+        return None;
+    };
+    let Some(db) = matches.get_str("db") else {
+        return None;
+    };
+    Some(Word::Continue(ContinueWords { from, db }))
 }
 
 fn calibrate_word<'a>(matches: &ArgMatches<'a>) -> Option<Word<'a>>

@@ -179,6 +179,26 @@ const MIGRATE: SubcommandRow = SubcommandRow {
     options: &[DATABASE],
 };
 
+const CONTINUE: SubcommandRow = SubcommandRow {
+    name: "continue",
+    full_name: "counter continue",
+    about: "Closes a database for tokens, and makes a new one that goes on from it",
+    options: &[
+        OptionRow {
+            name: "from",
+            value: Value::Text,
+            required: true,
+            help: "The database that is carried on",
+        },
+        OptionRow {
+            name: "db",
+            value: Value::Text,
+            required: true,
+            help: "The new database",
+        },
+    ],
+};
+
 const CALIBRATE: SubcommandRow = SubcommandRow {
     name: "calibrate",
     full_name: "counter calibrate",
@@ -329,9 +349,9 @@ const AUDIT: SubcommandRow = SubcommandRow {
 
 // The subcommands stand in two tables, since the proof of a table grows by the square of its length.
 
-static FIRST_ROWS: [SubcommandRow; 6] = [TST, CHECK, INIT, MIGRATE, CALIBRATE, HOLD];
+static FIRST_ROWS: [SubcommandRow; 6] = [TST, CHECK, INIT, MIGRATE, CONTINUE, CALIBRATE];
 
-static LAST_ROWS: [SubcommandRow; 4] = [ANSWER, EXCHANGE, SERVE, AUDIT];
+static LAST_ROWS: [SubcommandRow; 5] = [HOLD, ANSWER, EXCHANGE, SERVE, AUDIT];
 
 /// The first six subcommands, in the order of the text of help.
 pub fn first_rows() -> &'static [SubcommandRow]

@@ -11,6 +11,8 @@ pub enum Word<'a> {
     Init(InitWords<'a>),
     /// Takes a database of an older schema over.
     Migrate(MigrateWords<'a>),
+    /// Carries the history on in a new database.
+    Continue(ContinueWords<'a>),
     /// Adds a calibration to the database.
     Calibrate(CalibrateWords<'a>),
     /// Adds a hold to the database.
@@ -118,6 +120,15 @@ pub struct InitWords<'a> {
 #[derive(Clone, Copy)]
 pub struct MigrateWords<'a> {
     /// The database's path.
+    pub db: &'a str,
+}
+
+/// The words of `continue`.
+#[derive(Clone, Copy)]
+pub struct ContinueWords<'a> {
+    /// The path of the database that is carried on.
+    pub from: &'a str,
+    /// The new database's path.
     pub db: &'a str,
 }
 

@@ -1,3 +1,4 @@
+pub mod HeardLemmas
 pub mod MetLemmas
 pub mod ProperLemmas
 pub mod RunLemmas

@@ -1,4 +1,4 @@
--- What is served over a stream that tells no octets, without a name for the stream.
+-- What is served over a stream, where nothing of that is told.
 use Rattle.std.proofs.Common.{ℕ, ℤ, List, Option, None, Result, refl, inl, inr}
 use Rattle.book.specs.declared.standing.Standing.{Ghosts}
 use Rattle.cms.specs.declared.signer.SignerFault.{SignerFault}
@@ -9,22 +9,6 @@ use Rattle.service.specs.Served.{wants_early, wants_list, Sends, SendsOctets, Wr
 use Rattle.service.specs.declared.served.Served.{Served}
 use Rattle.service.specs.declared.served.Served.TheVariants as served
 use Rattle.connections.specs.Turns.{untold}
-
-abbrev pub nothing_told : {W : Type 0} → W → Option (List ℕ)
-nothing_told stream = None
-
--- a turn over such a stream
-abbrev pub turn : {W B X : Type 0} → W → W → DeskValue B → DeskValue B → X → X → Turn W B X
-turn w w' d d' x x' = record {
-  input = None;
-  input_after = None;
-  writer = w;
-  writer_after = w';
-  desk = d;
-  desk_after = d';
-  signer = x;
-  signer_after = x';
-}
 
 abbrev pub without : {W B X : Type 0} → Turn W B X → Turn (Unit {0}) B X
 without t = record {
@@ -39,7 +23,7 @@ without t = record {
 }
 
 module _ {W B X : Type 0} (g : Ghosts B) (signs : X → List ℕ → Result (List ℕ) SignerFault → X → Type 0)
-    (count : X → ℕ) (reading : ℤ) (t : Turn W B X) where
+    (count : X → ℕ) (contents : W → Option (List ℕ)) (reading : ℤ) (t : Turn W B X) where
   idle : IsIdle t → IsIdle (without t)
   idle i = record { desk = i.desk; signer = i.signer }
 
@@ -54,25 +38,25 @@ module _ {W B X : Type 0} (g : Ghosts B) (signs : X → List ℕ → Result (Lis
   answer a (wants_early early i is) = wants_early early (idle i) is
   answer a (wants_list account reads rows some takes is) = wants_list account reads rows some takes is
 
-  sent : (a : AnswerValue) (outcome : Served) → Sends nothing_told reading t.writer t.writer_after a outcome
+  sent : (a : AnswerValue) (outcome : Served) → Sends contents reading t.writer t.writer_after a outcome
       → Sends untold reading tt tt a outcome
   sent a served.Closed s = s
-  sent a (served.Answered status) s = s
+  sent a (served.Answered status) s = (s.0, tt)
   sent a served.ReadFailed s = s
-  sent a (served.WriteFailed status taken) s = s
+  sent a (served.WriteFailed status taken) s = (s.0, s.1, tt)
 
-  octets : (outcome : Served) → SendsOctets nothing_told reading t.writer t.writer_after outcome
+  octets : (outcome : Served) → SendsOctets contents reading t.writer t.writer_after outcome
       → SendsOctets untold reading tt tt outcome
   octets served.Closed s = s
-  octets (served.Answered status) s = s
+  octets (served.Answered status) s = (s.0, (s.1.0, tt))
   octets served.ReadFailed s = s
-  octets (served.WriteFailed status taken) s = s
+  octets (served.WriteFailed status taken) s = (s.0, s.1, s.2, tt)
 
-  writes : (outcome : Served) → Writes g signs count nothing_told reading t outcome
+  writes : (outcome : Served) → Writes g signs count contents reading t outcome
       → Writes g signs count untold reading (without t) outcome
   writes outcome w = record { answer = w.answer; is = answer w.answer w.is; sent = sent w.answer outcome w.sent }
 
-  extracts : (outcome : Served) → Extracts g signs count nothing_told reading t outcome
+  extracts : (outcome : Served) → Extracts g signs count contents reading t outcome
       → Extracts g signs count untold reading (without t) outcome
   extracts outcome e = record {
     account = e.account;
@@ -88,7 +72,7 @@ module _ {W B X : Type 0} (g : Ghosts B) (signs : X → List ℕ → Result (Lis
   silent : IsSilent t → IsSilent (without t)
   silent s = record { writer = refl; idle = idle s.idle }
 
-  pub serves : (outcome : Served) → Serves g signs count nothing_told reading t outcome
+  pub serves : (outcome : Served) → Serves g signs count contents reading t outcome
       → Serves g signs count untold reading (without t) outcome
   serves served.Closed s = (s.0, s.1, silent s.2)
   serves served.ReadFailed s = (s.0, silent s.1)

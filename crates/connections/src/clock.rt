@@ -58,10 +58,7 @@ fn whole_micros(duration: Duration) -> Result<i64, ClockFailed>
     ensures within { IsOk result ↔ (as_nanos duration / 1000 < 2 ^ 63) }
     ensures value { IfOk result (λ micros. micros ≡ pos (as_nanos duration / 1000)) }
 {
-    match i64::try_from(duration.as_micros()) {
-        Ok(micros) => Ok(micros),
-        Err(_) => Err(ClockFailed),
-    }
+    i64::try_from(duration.as_micros()).or(Err(ClockFailed))
 }
 
 /// Fails where the machine's clocks can't be read; where its wall clock stands before 1970 or beyond 2^63 - 1

@@ -36,14 +36,11 @@ fn until(now: Instant) -> Option<Instant> {
 impl Closing {
     /// Nothing is dropped yet. None where there is no such moment.
     pub(crate) fn new(peer: Peer, now: Instant) -> Option<Closing> {
-        match until(now) {
-            Some(until) => Some(Closing {
-                peer,
-                until,
-                dropped: 0,
-            }),
-            None => None,
-        }
+        Some(Closing {
+            peer,
+            until: until(now)?,
+            dropped: 0,
+        })
     }
 
     /// The time that is left.

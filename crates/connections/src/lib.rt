@@ -3,6 +3,7 @@
 
 mod clock;
 mod closing;
+mod hearing;
 mod laws;
 mod limited;
 mod listening;
@@ -12,6 +13,7 @@ mod serving;
 mod waiting;
 
 pub use clock::{Clock, ClockFailed, SystemClock};
+pub use hearing::Hearing;
 pub use laws::requests_ask_for_what_is_met;
 pub use listening::Listening;
-pub use serving::{CONNECTION_SECONDS, serve_connections};
+pub use serving::{CONNECTION_SECONDS, serve_connections, serve_each};

@@ -2,7 +2,7 @@
 ghost use Rattle.std.specs.Prelude.{◌≡◌, None};
 ghost use Rattle.std.specs.Io.{WritesAtMost};
 
-use sockets::Stream;
+use crate::peer::Peer;
 use std::io;
 use std::io::{ErrorKind, Write};
 use std::time::{Clock, Duration, Instant};
@@ -10,27 +10,28 @@ use std::time::{Clock, Duration, Instant};
 /// How often a write is tried again that ended before its time, as where the process was stopped and goes on.
 const MOST_INTERRUPTIONS: usize = 1_000;
 
-/// What is written to a stream that doesn't wait. From the first write on it has so much time: what isn't done by then
-/// fails. What the system has no room for yet is waited for.
+/// What is written to a stream that doesn't wait. From the first write or flush on it has so much time: what isn't done
+/// by then fails, a flush too, which does nothing else. What the system has no room for yet is waited for.
 #[derive(Drop)]
-pub(crate) struct Limited<'a, R> {
+pub struct Limited<'a, R> {
     clock: &'a R,
-    stream: &'a Stream,
+    /// The connection.
+    pub(crate) peer: Peer,
     limit: Duration,
-    /// When the time is up; none before the first write.
+    /// When the time is up; none before the first write or flush.
     pub(crate) end: Option<Instant>,
     is_waiting: bool,
 }
 
 impl<'a, R: Clock> Limited<'a, R> {
     /// No time has passed of the limit.
-    pub(crate) fn new(clock: &'a R, stream: &'a Stream, limit: Duration) -> Limited<'a, R>
+    pub(crate) fn new(clock: &'a R, peer: Peer, limit: Duration) -> Limited<'a, R>
         ensures limit { result.limit ≡ limit }
         ensures end { result.end ≡ None }
     {
         Limited {
             clock,
-            stream,
+            peer,
             limit,
             end: None,
             is_waiting: false,
@@ -64,17 +65,17 @@ impl<R: Clock> Limited<'_, R> {
         ensures { WritesAtMost result buf.now }
     {
         let left = self.left()?;
-        let mut stream = self.stream;
+        let mut stream = &self.peer.stream;
         if !self.is_waiting {
             match stream.write(buf) {
                 Err(error) if error.kind() == ErrorKind::WouldBlock => {
-                    self.stream.set_nonblocking(false)?;
+                    stream.set_nonblocking(false)?;
                     self.is_waiting = true;
                 }
                 written => return written,
             }
         }
-        self.stream.set_write_timeout(Some(left))?;
+        stream.set_write_timeout(Some(left))?;
         stream.write(buf)
     }
 }
@@ -91,6 +92,7 @@ impl<R: Clock> Write for Limited<'_, R> {
     }
 
     fn flush(&mut self) -> io::Result<()> {
+        let _ = self.left()?;
         Ok(())
     }
 }

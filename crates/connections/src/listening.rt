@@ -2,11 +2,13 @@
 ghost use Rattle.std.specs.Prelude.{◌≡◌, IfOk};
 
 use crate::closing::Closing;
+use crate::hearing::Hearing;
+use crate::limited::Limited;
 use crate::peer::Peer;
 use crate::waiting::{Progress, Waiting};
 use mio::unix::SourceFd;
 use mio::{Events, Interest, Poll, Registry, Token};
-use service::{Request, Routes};
+use service::{Exchanged, Request, Routes, Served};
 use sockets::{Listener, Stream};
 use std::alloc::{AllocError, Global};
 use std::io;
@@ -48,14 +50,14 @@ enum Taken {
 /// one is given up then.
 #[derive(Drop)]
 pub struct Listening<'l, R> {
-    pub(crate) rt: &'l R,
+    rt: &'l R,
     /// So much time a request has to come, and so much its answer to go out.
     pub limit: Duration,
     listener: &'l Listener,
     poll: Poll,
     events: Events,
     /// What requests may ask for.
-    pub(crate) routes: Routes,
+    routes: Routes,
     /// In the order in which they were taken.
     waiting: Vec<Waiting>,
     closing: Vec<Closing>,
@@ -138,6 +140,14 @@ fn room(alloc: Global) -> Result<(Vec<Waiting>, Vec<Closing>), AllocError> {
     Ok((waiting, closing))
 }
 
+/// Until which moment a connection has to be read further behind its answer, where its client may still send.
+fn rest_until(exchanged: Exchanged, end: Option<Instant>) -> Option<Instant> {
+    match exchanged.served {
+        Served::Answered(_) if !exchanged.is_all => end,
+        _ => None,
+    }
+}
+
 fn lesser(least: Option<Duration>, left: Duration) -> Option<Duration> {
     match least {
         Some(least) => Some(least.min(left)),
@@ -176,7 +186,7 @@ impl<'l, R: AllocGlobal + Clock> Listening<'l, R> {
     }
 
     /// Waits for the next connection whose request is whole; none for one that failed. At most so many are waited for.
-    pub(crate) fn next(&mut self, most: usize) -> Option<Waiting> {
+    fn next_whole(&mut self, most: usize) -> Option<Waiting> {
         for _ in 0..u64::MAX {
             let Ok(now) = Instant::now(self.rt) else {
                 return None;
@@ -297,8 +307,7 @@ impl<'l, R: AllocGlobal + Clock> Listening<'l, R> {
     }
 
     /// Ends our side of a connection that was answered, and drops what its client still sends, until that moment.
-    pub(crate) fn close(&mut self, waiting: Waiting, end: Instant) -> io::Result<()> {
-        let Waiting { peer, .. } = waiting;
+    fn close(&mut self, peer: Peer, end: Instant) -> io::Result<()> {
         let now = Instant::now(self.rt)?;
         peer.stream.shutdown(Shutdown::Write)?;
         peer.stream.set_nonblocking(true)?;
@@ -373,6 +382,31 @@ impl<'l, R: AllocGlobal + Clock> Listening<'l, R> {
                 self.is_ready = true;
             }
             hear(&mut self.waiting, &mut self.closing, event.token());
+        }
+    }
+}
+
+/// It tells nothing: no contract of the machine's streams says which octets come and go.
+impl<'l, R: AllocGlobal + Clock> Hearing for Listening<'l, R> {
+    type Stream = Limited<'l, R>;
+
+    fn alloc(&self) -> Global {
+        self.rt.alloc()
+    }
+
+    fn routes(&self) -> &Routes {
+        &self.routes
+    }
+
+    fn next(&mut self, most: usize) -> Option<(Request, Limited<'l, R>)> {
+        let Waiting { peer, request, .. } = self.next_whole(most)?;
+        Some((request, Limited::new(self.rt, peer, self.limit)))
+    }
+
+    fn take_back(&mut self, stream: Limited<'l, R>, exchanged: Exchanged) {
+        if let Some(end) = rest_until(exchanged, stream.end) {
+            // What can't be read further is closed.
+            let _ = self.close(stream.peer, end);
         }
     }
 }

@@ -30,19 +30,10 @@ pub(crate) struct Looks {
 impl Look {
     /// Looks at a machine's clocks. It fails where one of them can't be read.
     pub(crate) fn new<M: Clock>(machine: &M) -> Result<Look, ClockFailed> {
-        let Ok(before) = Instant::now(machine) else {
-            return Err(ClockFailed);
-        };
-        let Ok(wall) = SystemTime::now(machine) else {
-            return Err(ClockFailed);
-        };
-        let Ok(after) = Instant::now(machine) else {
-            return Err(ClockFailed);
-        };
         Ok(Look {
-            before,
-            wall,
-            after,
+            before: Instant::now(machine).or(Err(ClockFailed))?,
+            wall: SystemTime::now(machine).or(Err(ClockFailed))?,
+            after: Instant::now(machine).or(Err(ClockFailed))?,
         })
     }
 
@@ -50,10 +41,9 @@ impl Look {
     pub(crate) fn since_1970(&self) -> Result<Duration, ClockFailed>
         ensures { IfOk result (λ since. as_nanos since ≡ (look_of self.now).wall) }
     {
-        match self.wall.duration_since(SystemTime::UNIX_EPOCH) {
-            Ok(since) => Ok(since),
-            Err(_) => Err(ClockFailed),
-        }
+        self.wall
+            .duration_since(SystemTime::UNIX_EPOCH)
+            .or(Err(ClockFailed))
     }
 
     /// Whether the clocks went on alike until another look.

@@ -7,8 +7,8 @@ use Rattle.audit.specs.Auditor.{IsAllowed}
 use Rattle.command_line.specs.Words.{Asks}
 use Rattle.command_line.specs.declared.words.AuditWords.{AuditWords}
 use Rattle.command_line.specs.declared.words.Word.{Word}
-use Rattle.command_line.specs.declared.words.Word.TheVariants.{Tst, Check, Init, Migrate, Calibrate, Hold, Answer}
-use Rattle.command_line.specs.declared.words.Word.TheVariants.{Exchange, Serve, Audit}
+use Rattle.command_line.specs.declared.words.Word.TheVariants.{Tst, Check, Init, Migrate, Continue, Calibrate, Hold}
+use Rattle.command_line.specs.declared.words.Word.TheVariants.{Answer, Exchange, Serve, Audit}
 use Rattle.operations.specs.Auditing as operation
 use Rattle.operations.specs.Auditing.{TellsSome, extract_of, failing_lines}
 use Rattle.operations.specs.declared.auditing.AuditFault.{AuditFault}
@@ -113,6 +113,7 @@ audit_or_not (Tst words) = inr (λ other e. cc e)
 audit_or_not (Check words) = inr (λ other e. cc e)
 audit_or_not (Init words) = inr (λ other e. cc e)
 audit_or_not (Migrate words) = inr (λ other e. cc e)
+audit_or_not (Continue words) = inr (λ other e. cc e)
 audit_or_not (Calibrate words) = inr (λ other e. cc e)
 audit_or_not (Hold words) = inr (λ other e. cc e)
 audit_or_not (Answer words) = inr (λ other e. cc e)

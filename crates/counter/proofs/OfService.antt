@@ -6,7 +6,7 @@ use Rattle.desk.specs.Command.{Command, Stamp, Answer}
 use Rattle.service.specs.Answers.{AnswerValue}
 use Rattle.service.specs.Requests.{Extract, Status}
 use Rattle.service.specs.Served.{Turn, Takes, IsAnswer, refuses, replies, turns_back, looks, wants_early, wants_list}
-use Rattle.service.specs.Served.{keeps_back, overflows, tells_status, wants_status, Extracts, Serves}
+use Rattle.service.specs.Served.{tells_status, wants_status, Extracts, Serves}
 use Rattle.service.specs.declared.served.Served.{Served}
 use Rattle.service.specs.declared.served.Served.TheVariants as served
 use Rattle.counter.specs.Exchanging as known
@@ -25,10 +25,8 @@ module _ {W B X : Type 0} (g : Ghosts B) (signs : X → List ℕ → Result (Lis
   explained a (turns_back x reads takes behind is) = known.turns_back x reads is
   explained a (looks Status reads look (tells_status body told is)) = known.tells_status body reads is
   explained a (looks Status reads look (wants_status is)) = known.wants_status reads is
-  explained a (looks (Extract account from to) reads look (keeps_back f kept is)) =
-      known.keeps_back account from to reads f kept.comes is
-  explained a (looks (Extract account from to) reads look (overflows long is)) =
-      known.overflows account from to reads is
+  explained a (looks (Extract account from to) reads look kept) =
+      known.keeps_back account from to reads kept.fault kept.comes kept.tells
   explained a (wants_early early idle is) = known.wants_early early is
   explained a (wants_list account reads rows some takes is) = known.wants_list account reads is
 

@@ -16,8 +16,8 @@ use Rattle.operations.specs.OverFiles.{IsAnsweredOver, IsMigratedOver}
 use Rattle.operations.specs.Signing.{algorithm_of}
 use Rattle.command_line.specs.declared.words.AnswerWords.{AnswerWords}
 use Rattle.command_line.specs.declared.words.Word.{Word}
-use Rattle.command_line.specs.declared.words.Word.TheVariants.{Tst, Check, Init, Migrate, Calibrate, Hold, Answer}
-use Rattle.command_line.specs.declared.words.Word.TheVariants.{Exchange, Serve, Audit}
+use Rattle.command_line.specs.declared.words.Word.TheVariants.{Tst, Check, Init, Migrate, Continue, Calibrate, Hold}
+use Rattle.command_line.specs.declared.words.Word.TheVariants.{Answer, Exchange, Serve, Audit}
 
 -- The text spells a request's octets, the desk is set as the words tell, and where a key is shown an account of its
 -- policy has that key. The reply is what the machine's step answers, over the store of the words' database: by the first
@@ -56,6 +56,7 @@ Does m contents out (Tst words) old new IsWritten =
 Does m contents out (Check words) old new IsWritten = (new ≡ old) × ((written : List ℕ) × Counts written × IsWritten written)
 Does m contents out (Init words) old new IsWritten = (new ≡ old) × IsWritten []
 Does m contents out (Migrate words) old new IsWritten = (new ≡ old) × IsMigratedOver m.disk m.held × IsWritten []
+Does m contents out (Continue words) old new IsWritten = (new ≡ old) × IsWritten []
 Does m contents out (Calibrate words) old new IsWritten = (new ≡ old) × AddsCalibration m words × IsWritten []
 Does m contents out (Hold words) old new IsWritten = (new ≡ old) × (words.from < words.to) × AddsHold m words × IsWritten []
 Does m contents out (Answer words) old new IsWritten =
@@ -64,3 +65,8 @@ Does m contents out (Exchange words) old new IsWritten = Exchanges m contents ou
 Does m contents out (Serve words) old new IsWritten = (new ≡ old) × ServesConnections m words (Ok tt) × IsWritten []
 Does m contents out (Audit words) old new IsWritten =
     (new ≡ old) × ((text : List ℕ) × Audits words text × IsWritten text)
+
+-- what is said of both databases, where the words carry a history on
+abbrev pub GoesOn : Word → Type 0 → Type 0
+GoesOn (Continue words) IsContinued = IsContinued
+GoesOn _ IsContinued = Unit {0}

@@ -56,10 +56,6 @@ pub data IsAnswerFor (file : PolicyValue) (reading : ℤ) (old new : Option (Lis
   -- the store can't be looked into, or memory is wanting for the state
   wants_status : IsRequest file reading old new (Ok (Look Status)) → a ≡ unavailable
       → IsAnswerFor file reading old new a
-  -- the answer with the extract has 2^64 octets or more
-  overflows : (account : AccountValue) (from to : ℕ)
-      → IsRequest file reading old new (Ok (Look (Extract account from to))) → a ≡ unavailable
-      → IsAnswerFor file reading old new a
 
 -- an answer of that status is there, and this much of its text is written
 pub record Writes (file : PolicyValue) (reading : ℤ) (old new before after : Option (List ℕ)) (status : ℕ)

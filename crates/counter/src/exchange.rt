@@ -97,8 +97,8 @@ fn flush<O: Write>(output: &mut O) -> Result<(), InputFault>
 }
 
 /// Serves HTTP connections at an address. The files are read first, then the database is opened, the key holder
-/// reached, and the address listened on. It reads and writes no stream of the process. Refused as `read_files` and
-/// `serving::serve`.
+/// reached, and the address listened on. Of the process's streams it writes standard error alone, where it tells of its
+/// start and of lost sessions with the key holder. Refused as `read_files` and `serving::serve`.
 pub fn serve<F: Start + Drop>(
     rt: &HostRuntime,
     words: &ServeWords<'_>,

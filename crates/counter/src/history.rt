@@ -1,18 +1,18 @@
 //! What the words of an operator do to the database.
-ghost use Rattle.std.specs.Prelude.{◌≡◌, ◌<◌, ◌≤◌, Err, IfOk, IfErr};
+ghost use Rattle.std.specs.Prelude.{◌≡◌, ◌<◌, ◌≤◌, Err, IfOk, IfErr, OnOk};
 ghost use Rattle.book.specs.Values.{calibration_view, hold_view};
 ghost use Rattle.operations.specs.Machine.{image_at};
-ghost use Rattle.operations.specs.OverFiles.{IsMigratedOver};
+ghost use Rattle.operations.specs.OverFiles.{IsContinuedOver, IsMigratedOver};
 ghost use Rattle.counter.specs.Additions.{AddsCalibration, AddsHold, calibration_of, hold_of};
 ghost use Rattle.console.specs.Fault.{IsStoreFault};
 ghost use Rattle.operations.specs.Machine.{machine_of};
 
 use book::{Calibration, Hold};
 use cms::Signer;
-use command_line::{CalibrateWords, HoldWords, InitWords, MigrateWords};
+use command_line::{CalibrateWords, ContinueWords, HoldWords, InitWords, MigrateWords};
 use connections::{Clock, SystemClock};
 use console::{Fault, InputFault};
-use operations::{Addition, Disk, FileFrom, HostSigner, Start};
+use operations::{Addition, Disk, FileFrom, HostSigner, Start, Unknown};
 use std::rt::HostRuntime;
 
 /// Makes the tables of a new database.
@@ -32,6 +32,19 @@ pub fn migrate<F: Start + Drop>(
     ensures faults { IfErr result IsStoreFault }
 {
     Ok(operations::migrate(rt, words.db, start)?)
+}
+
+/// Closes a database for tokens, and has its history go on in a new one.
+pub fn continue_in<F: Start + Drop>(
+    rt: &HostRuntime,
+    words: &ContinueWords<'_>,
+    start: F,
+) -> Result<(), Fault>
+    ensures continued { OnOk result (IsContinuedOver ⟦<FileFrom<F> as Disk>⟧ (image_at F.Start)
+        ⟦<FileFrom<Unknown> as Disk>⟧) }
+    ensures faults { IfErr result IsStoreFault }
+{
+    Ok(operations::continue_in(rt, words.from, start, words.db, Unknown)?)
 }
 
 /// Adds the calibration that the words state.

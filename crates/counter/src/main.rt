@@ -2,6 +2,7 @@
 #![tactic(auto)]
 
 mod answer;
+mod events;
 mod exchange;
 mod exchanging;
 mod extracting;

@@ -1,17 +1,18 @@
 ghost use Rattle.std.specs.Prelude.{◌≡◌, ◌≢◌, ◌≤◌, ◌⊎◌, List, ℕ, OnOk, IfSome, IfErr, IfOk};
 ghost use Rattle.std.specs.Io.KnownBytes.{Appends};
 ghost use Rattle.command_line.specs.Words.{AreRefused, AreTaken, Asks, AsksHelp, texts_of};
-ghost use Rattle.counter.specs.Answers.{Does, RepliesTo};
+ghost use Rattle.counter.specs.Answers.{Does, GoesOn, RepliesTo};
 ghost use Rattle.counter.specs.Audits.{FailsStamps, IsNoAudit, LeavesCut, LeavesExtract, Tells};
 ghost use Rattle.console.specs.Fault.{fault_line};
 ghost use Rattle.console.specs.Hexadecimal.{line};
-ghost use Rattle.operations.specs.Machine.{machine_of};
+ghost use Rattle.operations.specs.Machine.{image_at, machine_of};
+ghost use Rattle.operations.specs.OverFiles.{IsContinuedOver};
 ghost use Rattle.console.specs.Writing.{Begins};
 
 use crate::answer::{answer, octets_of};
 use crate::exchange::{exchange, serve};
 use crate::extracting::audit;
-use crate::history::{calibrate, hold, init, migrate};
+use crate::history::{calibrate, continue_in, hold, init, migrate};
 use cms::Signer;
 use command_line::{AnswerWords, AuditWords, Word};
 use connections::{Clock, SystemClock};
@@ -31,7 +32,7 @@ pub enum Outcome {
     Replied,
     /// The entries of a policy file were counted.
     Counted,
-    /// The tables of a database were made, or a calibration or a hold was added.
+    /// The tables of a database were made, a calibration or a hold was added, or a history was carried on.
     Changed,
     /// An HTTP request was answered, or there was none.
     Exchanged,
@@ -116,7 +117,8 @@ pub fn run_words<F: Start + Drop, I: Read, O: Write, E: Write>(
     ensures done { result ≡ 0 → ((word : Word) × Asks (texts_of words.now) word
         × Does (machine_of ⟦<FileFrom<F> as Disk>⟧ F.Start ⟦<HostSigner<'static> as Signer>⟧
         ⟦<SystemClock<'static, HostRuntime> as Clock>⟧.reads) O.contents output.old word (I.remaining input.old) (I.remaining input.new)
-        (Appends (O.contents output.old) (O.contents output.new)))
+        (Appends (O.contents output.old) (O.contents output.new))
+        × GoesOn word (IsContinuedOver ⟦<FileFrom<F> as Disk>⟧ (image_at F.Start) ⟦<FileFrom<Unknown> as Disk>⟧))
         ⊎ AsksHelp (texts_of words.now) }
 
     // Where all is done, no fault is written.
@@ -172,6 +174,10 @@ fn run_word<F: Start + Drop, I: Read, O: Write, E: Write>(
     ensures silent { IfOk result (λ outcome. outcome ≢ Outcome.Failing
         → E.contents errors.new ≡ E.contents errors.old) }
 
+    // Where a history is carried on, the old database is closed and the new one made.
+    ensures continued { OnOk result (GoesOn word.now (IsContinuedOver ⟦<FileFrom<F> as Disk>⟧ (image_at F.Start)
+        ⟦<FileFrom<Unknown> as Disk>⟧)) }
+
     // Only where stamps are checked some may fail.
     ensures failing { IfOk result (λ outcome. outcome ≡ Outcome.Failing
         → FailsStamps word.now (O.contents output.old) (O.contents output.new) (E.contents errors.old)
@@ -204,6 +210,10 @@ fn run_word<F: Start + Drop, I: Read, O: Write, E: Write>(
         }
         Word::Migrate(words) => {
             migrate(rt, words, start)?;
+            Ok(Outcome::Changed)
+        }
+        Word::Continue(words) => {
+            continue_in(rt, words, start)?;
             Ok(Outcome::Changed)
         }
         Word::Calibrate(words) => {

@@ -6,6 +6,7 @@ ghost use Rattle.operations.specs.Machine.{machine_of};
 ghost use Rattle.operations.specs.Signing.{algorithm_of};
 ghost use Rattle.operations.specs.Visits.{setting_of};
 
+use crate::events::{tell_listening, tell_opening};
 use book::Book;
 use cms::Signer;
 use connections::{CONNECTION_SECONDS, Clock, Listening, SystemClock, serve_connections};
@@ -15,13 +16,15 @@ use operations::{
     perform_at_desk,
 };
 use sockets::Listener;
-use std::time::Duration;
+use std::time::{Duration, Instant};
 
 /// Connections at an address are served.
 #[derive(Drop)]
 struct Serving<'a> {
     address: &'a str,
     connections: u32,
+    /// When that began, if the clock tells.
+    begun: Option<Instant>,
 }
 
 impl DeskOperation<(), ()> for Serving<'_> {
@@ -54,8 +57,15 @@ impl DeskOperation<(), ()> for Serving<'_> {
         _input: &mut (),
         _output: &mut (),
     ) -> Result<(), OperationFault> {
+        let limit = Duration::from_secs(CONNECTION_SECONDS);
         let mut clock = SystemClock::new(rt);
-        serve_at(rt, &listener, desk, signer, &mut clock, self.connections)
+        match Listening::new(rt, rt, &listener, limit) {
+            Ok(listening) => {
+                tell_listening(rt, &listener, self.address, self.begun);
+                serve_heard(listening, desk, signer, &mut clock, self.connections)
+            }
+            Err(_) => Err(OperationFault::Unheard),
+        }
     }
 }
 
@@ -83,38 +93,17 @@ pub fn serve<F: Start + Drop>(
     let serving = Serving {
         address,
         connections,
+        begun: Instant::now(rt).ok(),
     };
+    tell_opening(rt, desk.path);
     match perform_at_desk(rt, desk, Renewal::AfterLoss, serving, &mut (), &mut ()) {
         Ok(done) => done,
         Err(fault) => Err(fault),
     }
 }
 
-/// Serves connections of a listener.
-fn serve_at<B: Book + Drop, G: Signer, C: Clock>(
-    rt: &HostRuntime,
-    listener: &Listener,
-    desk: &mut Desk<'_, B>,
-    signer: &mut G,
-    clock: &mut C,
-    connections: u32,
-) -> Result<(), OperationFault>
-    // The connections that were served are a run of the machine, which goes on from journeys and is isolated.
-    ensures served { ServesAt C.reads B.Standing G.signs G.fault_count connections
-        (record { clock = clock.old; desk = desk.old; signer = signer.old })
-        (record { clock = clock.new; desk = desk.new; signer = signer.new }) result }
-    ensures setting { desk.new.setting ≡ desk.old.setting }
-    ensures honest { B.honest desk.new.store → B.honest desk.old.store }
-    ensures refusals { IfErr result IsServingFault }
-{
-    let limit = Duration::from_secs(CONNECTION_SECONDS);
-    match Listening::new(rt, rt, listener, limit) {
-        Ok(listening) => serve_heard(listening, desk, signer, clock, connections),
-        Err(_) => Err(OperationFault::Unheard),
-    }
-}
-
-/// Serves connections that are heard.
+/// Serves connections that are heard. Those that were served are a run of the machine, which goes on from journeys and
+/// is isolated.
 fn serve_heard<B: Book + Drop, G: Signer, C: Clock>(
     listening: Listening<'_, HostRuntime>,
     desk: &mut Desk<'_, B>,

@@ -5,7 +5,7 @@ ghost use Rattle.tsp.specs.Request.{RequestValue, Spells};
 ghost use Rattle.tsp.specs.Rules.{IsSpelled, HoldsOfOctets, IsFirstFailing};
 ghost use Rattle.tsp.specs.declared.rule.Rule.{Rule};
 ghost use Rattle.tsp.specs.declared.rule.Rule.TheVariants.{Spelling, Clock, Quota};
-ghost use Rattle.decide.specs.Clock.{IsGood, IsGoodAt};
+ghost use Rattle.decide.specs.Clock.{IsGood, IsGoodAt, KeepsAccuracy};
 ghost use Rattle.decide.specs.Rules.{HoldsOf, Holds, IsWithinQuota};
 ghost use Rattle.decide.specs.Verdict.{IsJudged, IsVerdict, IsPlan, PlanValue, VerdictValue, Allowed, Denied};
 ghost use Rattle.decide.specs.declared.facts.ClockFacts.{ClockFacts};
@@ -76,4 +76,11 @@ pub fn verdicts_are_of_octets()
 pub fn gen_times_are_one()
     ensures { (counter : CounterValue) (facts : ClockFacts) (first second : ℕ) → IsGoodAt counter facts first
         → IsGoodAt counter facts second → first ≡ second }
+{}
+
+/// Wherever a token may be given, its genTime keeps the accuracy: each moment that is at most the clock's deviation away
+/// from now is at most the accuracy away from the genTime.
+pub fn good_clocks_keep_the_accuracy()
+    ensures { (counter : CounterValue) (facts : ClockFacts) (moment : ℕ) → IsGoodAt counter facts moment
+        → KeepsAccuracy counter facts moment }
 {}

@@ -13,5 +13,7 @@ mod verdict;
 pub use clock::{ClockState, clock_state, now_of};
 pub use facts::{Calibration, ClockFacts, Facts, Hold};
 pub use judge::{decide, judge_request};
-pub use laws::{gen_times_are_one, verdicts_are_of_octets, verdicts_are_one};
+pub use laws::{
+    gen_times_are_one, good_clocks_keep_the_accuracy, verdicts_are_of_octets, verdicts_are_one,
+};
 pub use verdict::{Plan, Verdict};

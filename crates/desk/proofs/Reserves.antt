@@ -7,13 +7,13 @@ use Rattle.der.specs.ObjectIdentifier.{oid_content}
 use Rattle.book.specs.declared.standing.Standing.{Ghosts}
 use Rattle.cms.specs.Identity.{IdentityValue}
 use Rattle.book.specs.History.{History, Reserved, ReservationValue, greatest_serial}
-use Rattle.book.specs.Sound.{Fits, IsSpent, greatest_number}
+use Rattle.book.specs.Sound.{Fits, greatest_number}
 use Rattle.book.specs.Entries.{Appends}
 use Rattle.book.specs.Stands.{Stands}
-use Rattle.book.specs.Fault.{count_after}
+use Rattle.book.specs.Fault.{count_after, IsOfStorage}
 use Rattle.book.specs.declared.fault.StoreFault.{StoreFault}
 use Rattle.book.specs.declared.fault.StoreFault.TheVariants as store
-use Rattle.desk.specs.Calls.{cause_with, refused, adding_refusal, IsOfReserving, reserving, Reserves}
+use Rattle.desk.specs.Calls.{cause_with, refused, reserving, Reserves}
 use Rattle.desk.specs.Command.{Setting, PendingValue, Begun}
 use Rattle.desk.specs.Effects.{no_number, next_reservation, begin_effect}
 use Rattle.desk.specs.Findings.{StampPlan}
@@ -136,76 +136,63 @@ pub fits_next : (r : ReservationValue) (b : History) (last : ℕ) → greatest_s
     → last < greatest_number → r.gen_time ≤ last_moment → Fits (Reserved r) b
 fits_next r b last e f h m = record { rises = omega arith; within = omega arith; moment = m }
 
--- how the store refuses a reservation
-abbrev pub RefusesReserving : StoreFault → Type 0
-RefusesReserving f = (f ≡ store.Memory) ⊎ ((f ≡ store.Database) ⊎ (f ≡ store.Full))
-
-pub adding_counted : (f : StoreFault) (n : ℕ) → count_after f n ≡ faults_after (refused (adding_refusal f)) n
+pub adding_counted : (f : StoreFault) (n : ℕ) → count_after f n ≡ faults_after (refused (refusal.Adding f)) n
 adding_counted store.Memory n = refl
 adding_counted store.Database n = refl
 adding_counted store.NotOurs n = refl
 adding_counted store.Full n = refl
 adding_counted store.Backwards n = refl
 
-not_ours : RefusesReserving store.NotOurs → ⊥
+not_ours : IsOfStorage store.NotOurs → ⊥
 not_ours (inl e) = cc
-not_ours (inr (inl e)) = cc
-not_ours (inr (inr e)) = cc
+not_ours (inr e) = cc
 
-not_backwards : RefusesReserving store.Backwards → ⊥
+not_full : IsOfStorage store.Full → ⊥
+not_full (inl e) = cc
+not_full (inr e) = cc
+
+not_backwards : IsOfStorage store.Backwards → ⊥
 not_backwards (inl e) = cc
-not_backwards (inr (inl e)) = cc
-not_backwards (inr (inr e)) = cc
-
-pub adding_is : (f : StoreFault) → RefusesReserving f → IsOfReserving (adding_refusal f)
-adding_is store.Memory h = inl refl
-adding_is store.Database h = inr refl
-adding_is store.NotOurs h = absurd (not_ours h)
-adding_is store.Full h = tt
-adding_is store.Backwards h = absurd (not_backwards h)
-
-spent_not_left : (b : History) → greatest_serial b < greatest_number → IsSpent b → ⊥
-spent_not_left b unspent spent = omega arith
+not_backwards (inr e) = cc
 
 -- where the commit is there after all, the number is reserved
 doubted_none : (f : StoreFault) (b : History) → greatest_serial b < greatest_number
-    → no_number (committed (refused (adding_refusal f))) b ≡ None
-doubted_none store.Memory b unspent = left_number (committed (refused (adding_refusal store.Memory))) b unspent
-doubted_none store.Database b unspent = left_number (committed (refused (adding_refusal store.Database))) b unspent
-doubted_none store.NotOurs b unspent = left_number (committed (refused (adding_refusal store.NotOurs))) b unspent
-doubted_none store.Full b unspent = left_number (committed (refused (adding_refusal store.Full))) b unspent
-doubted_none store.Backwards b unspent = left_number (committed (refused (adding_refusal store.Backwards))) b unspent
+    → no_number (committed (refused (refusal.Adding f))) b ≡ None
+doubted_none store.Memory b unspent = left_number (committed (refused (refusal.Adding store.Memory))) b unspent
+doubted_none store.Database b unspent = left_number (committed (refused (refusal.Adding store.Database))) b unspent
+doubted_none store.NotOurs b unspent = left_number (committed (refused (refusal.Adding store.NotOurs))) b unspent
+doubted_none store.Full b unspent = left_number (committed (refused (refusal.Adding store.Full))) b unspent
+doubted_none store.Backwards b unspent = left_number (committed (refused (refusal.Adding store.Backwards))) b unspent
 
-adding_cause : (f : StoreFault) (b : History) → RefusesReserving f → greatest_serial b < greatest_number
-    → (f ≡ store.Full → IsSpent b) → no_number (refused (adding_refusal f)) b ≡ Some (cause_with (adding_refusal f))
-adding_cause store.Memory b h unspent full = left_number (refused (adding_refusal store.Memory)) b unspent
-adding_cause store.Database b h unspent full = left_number (refused (adding_refusal store.Database)) b unspent
-adding_cause store.NotOurs b h unspent full = absurd (not_ours h)
-adding_cause store.Full b h unspent full = absurd (spent_not_left b unspent (full refl))
-adding_cause store.Backwards b h unspent full = absurd (not_backwards h)
+adding_cause : (f : StoreFault) (b : History) → IsOfStorage f → greatest_serial b < greatest_number
+    → no_number (refused (refusal.Adding f)) b ≡ Some (cause_with (refusal.Adding f))
+adding_cause store.Memory b h unspent = left_number (refused (refusal.Adding store.Memory)) b unspent
+adding_cause store.Database b h unspent = left_number (refused (refusal.Adding store.Database)) b unspent
+adding_cause store.NotOurs b h unspent = absurd (not_ours h)
+adding_cause store.Full b h unspent = absurd (not_full h)
+adding_cause store.Backwards b h unspent = absurd (not_backwards h)
 
 -- the commit was made, and refused
-adding_met : (f : StoreFault) (b : History) → RefusesReserving f → greatest_serial b < greatest_number
-    → (f ≡ store.Full → IsSpent b) → (refused (adding_refusal f)).adding ≡ Fine → ⊥
-adding_met store.Memory b h unspent full e = cc
-adding_met store.Database b h unspent full e = cc
-adding_met store.NotOurs b h unspent full e = not_ours h
-adding_met store.Full b h unspent full e = spent_not_left b unspent (full refl)
-adding_met store.Backwards b h unspent full e = not_backwards h
+adding_met : (f : StoreFault) → IsOfStorage f → (refused (refusal.Adding f)).adding ≡ Fine → ⊥
+adding_met store.Memory h e = cc
+adding_met store.Database h e = cc
+adding_met store.NotOurs h e = not_ours h
+adding_met store.Full h e = not_full h
+adding_met store.Backwards h e = not_backwards h
 
 -- the commit is refused
 pub adding_refused : {B : Type 0} (g : Ghosts B) (s : Setting) (account : List ℕ) (plan : StampPlan) (octets : List ℕ)
     (b : History) (old new : B) (f : StoreFault) (r : ReservationValue)
-    → RefusesReserving f → greatest_serial b < greatest_number → (f ≡ store.Full → IsSpent b)
+    → IsOfStorage f → greatest_serial b < greatest_number
     → r ≡ next_reservation s account plan octets b → Fits (Reserved r) b → g.honest new → Stands g b old
     → Appends {A = Unit {0}} g (Reserved r ∷ []) old new (Err f)
-    → Reserves g s account plan octets b old new (Err (adding_refusal f))
-adding_refused g s account plan octets b old new f r h unspent full same fits honest stood a =
-    reserves_refused g s account plan octets b old new (adding_refusal f) (adding_cause f b h unspent full)
+    → Reserves g s account plan octets b old new (Err (refusal.Adding f))
+adding_refused g s account plan octets b old new f r h unspent same fits honest stood a =
+    reserves_refused g s account plan octets b old new (refusal.Adding f) (adding_cause f b h unspent)
     (a.err b stood) (λ left recovers. elim (a.crash honest left recovers) [
       | inl before ↦ inl before
       | inr adds ↦ inr (
-        adding_met f b h unspent full,
+        adding_met f h,
         subst (λ x. g.holds left (after (begin_effect s account plan octets b x) b))
             (sym (doubted_none f b unspent))
             (subst (λ x. g.holds left (Reserved x ∷ b)) same (adds b stood (fits, tt))),

@@ -71,11 +71,6 @@ refused (refusal.Signing f) = all_fine (Err f)
 refused refusal.Wrapping = record (all_fine (Ok [])) { wrapping = Wanting }
 refused (refusal.Sealing f) = record (all_fine (Ok [])) { sealing = call_of f }
 
--- why the store reserved nothing
-abbrev pub adding_refusal : StoreFault → Refusal
-adding_refusal store.Full = refusal.Spent
-adding_refusal f = refusal.Adding f
-
 -- a look-up was refused
 abbrev pub IsOfLooks : Refusal → Type 0
 IsOfLooks (refusal.Looking f) = IsOfStorage f

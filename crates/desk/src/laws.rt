@@ -1,11 +1,12 @@
 //! What holds of the machine, whatever it is asked and whatever store, signer and memory answer.
 ghost use Rattle.std.specs.Prelude.{◌≡◌, ℕ, ◌+◌, ◌<◌, ◌≤◌, ℤ, List, [], map, Option, Some};
 ghost use Rattle.der.specs.Node.{encoding};
-ghost use Rattle.policy.specs.Record.{AccountValue};
+ghost use Rattle.policy.specs.Record.{AccountValue, PolicyValue};
 ghost use Rattle.cms.specs.SignedData.{attribute_text};
 ghost use Rattle.tsp.specs.Rejection.{rejection};
 ghost use Rattle.tsp.specs.Rules.{IsFirstFailing};
 ghost use Rattle.tsp.specs.declared.rule.Rule.{Rule};
+ghost use Rattle.decide.specs.Clock.{KeepsAccuracy};
 ghost use Rattle.book.specs.History.{History, ReservationValue, greatest_serial, reservation_at};
 ghost use Rattle.book.specs.Readers.{Reader};
 ghost use Rattle.book.specs.Rights.{is_reader};
@@ -17,6 +18,7 @@ ghost use Rattle.desk.specs.Command.{InForce, Setting, PendingValue, Command, St
 ghost use Rattle.desk.specs.Command.{Rejected, Begun, Done};
 ghost use Rattle.desk.specs.Content.{IsSoundInFull};
 ghost use Rattle.desk.specs.Effects.{Effect};
+ghost use Rattle.desk.specs.Facts.{clock_of};
 ghost use Rattle.desk.specs.Laws.{IsCommandOfOther, Concerns, StaysFor, IsGrant, IsRejection, IsReservedText};
 ghost use Rattle.desk.specs.Laws.{IsPendingOf, IsOfPlan, IsUnanswered, Continues, AreMet, AreCommandsOf, RunsAlike};
 ghost use Rattle.desk.specs.Findings.{StampPlan, IsAllowed, HoldsAt};
@@ -33,6 +35,7 @@ ghost use Rattle.desk.specs.Viewers.{viewer_in};
 
 use book::histories_show_the_same;
 use cms::Signer;
+use decide::good_clocks_keep_the_accuracy;
 use tsp::requests_have_one_reading;
 
 /// A command leaves a history that is sound in full so, and so does a stop in the midst of it.
@@ -76,6 +79,17 @@ pub fn grants_are_of_their_plan()
         → n ≤ greatest_serial b }
 {
     requests_have_one_reading();
+}
+
+/// What is given out by a plan, of a stamp, a beginning or a new deposit (`IsGrant`, `IsBegunOf`, `IsDeposited`), keeps
+/// the promise of the moment: each moment that is at most the clock's deviation away from now, as the history has the
+/// calibration, is at most the policy file's accuracy away from the genTime that its TSTInfo states.
+pub fn plans_keep_their_moment()
+    ensures { (file : PolicyValue) (account : Option AccountValue) (reading : ℤ) (octets : List ℕ) (b : History)
+        (plan : StampPlan) → IsAllowed file account reading octets b plan
+        → KeepsAccuracy file.counter (clock_of reading b) plan.gen_time }
+{
+    good_clocks_keep_the_accuracy();
 }
 
 /// After a succession that is done, and so after an opening, the identity that was installed last is the one that was

@@ -33,8 +33,9 @@ pub use fault::Fault;
 pub use laws::{
     accounts_are_isolated, accounts_disturb_little, batches_are_runs, batches_stop_as_runs,
     commands_have_one_effect, deposits_are_shown_exactly, grants_are_of_their_plan,
-    journeys_keep_their_promises, rejections_tell_their_rule, steps_keep_their_promises,
-    steps_leave_sound_histories, successions_bring_their_identity, texts_are_reserved,
+    journeys_keep_their_promises, plans_keep_their_moment, rejections_tell_their_rule,
+    steps_keep_their_promises, steps_leave_sound_histories, successions_bring_their_identity,
+    texts_are_reserved,
 };
 pub use looking::Looked;
 pub use opening::has_subject;

@@ -1,15 +1,18 @@
 //! How a stamp is reserved.
-ghost use Rattle.std.specs.Prelude.{◌≡◌, ◌≤◌, ◌+◌, length, option_map, Ok, IfOk, IfErr, IfSome, OnOk};
+ghost use Rattle.std.specs.Prelude.{◌≡◌, ◌≤◌, ◌+◌, [], ◌∷◌, length, option_map, Ok, IfOk, IfErr, IfSome, OnOk};
 ghost use Rattle.gentime.specs.GenTime.{last_moment};
 ghost use Rattle.der.specs.DataValueView.{value_view};
 ghost use Rattle.tsp.specs.Request.{Spells};
 ghost use Rattle.tsp.specs.Tst.{IsTsaName};
 ghost use Rattle.tsp.specs.View.{request_view};
-ghost use Rattle.book.specs.History.{History, greatest_serial};
+ghost use Rattle.book.specs.Entries.{Appends};
+ghost use Rattle.book.specs.Fault.{IsOfStorage};
+ghost use Rattle.book.specs.History.{History, Reserved, greatest_serial};
 ghost use Rattle.book.specs.Sound.{greatest_number};
 ghost use Rattle.book.specs.Stands.{Stands};
+ghost use Rattle.book.specs.Values.{reservation_view};
 ghost use Rattle.desk.specs.Outcome.{faults_after};
-ghost use Rattle.desk.specs.Calls.{adding_refusal, outcome_of, plan_of, opening_view, IsPrepared, IsOfReserving};
+ghost use Rattle.desk.specs.Calls.{outcome_of, plan_of, opening_view, IsPrepared, IsOfReserving};
 ghost use Rattle.desk.specs.Calls.{Reserves};
 ghost use Rattle.desk.specs.Succession.{tsa_of};
 
@@ -17,7 +20,7 @@ use crate::finding::Planned;
 use crate::opening::Opening;
 use crate::pending::Pending;
 use crate::refusal::Refusal;
-use book::{Book, GREATEST_NUMBER, Reservation, StoreFault};
+use book::{Book, Entry, GREATEST_NUMBER, Reservation, StoreFault};
 use cms::attribute_text;
 use der::{DataValue, Oid};
 use gentime::GenTime;
@@ -115,14 +118,12 @@ fn prepare<'p, 'a>(
     })
 }
 
-/// Why the store reserved nothing.
-fn adding_refusal(fault: StoreFault) -> Refusal
-    ensures { result ≡ adding_refusal fault }
+/// Adds the reservation of a serial number above the greatest, which is known to be left.
+fn add<B: Book + Drop>(store: &mut B, reservation: &Reservation<'_>) -> Result<(), StoreFault>
+    ensures appends { Appends B.Standing (Reserved (reservation_view reservation.now) ∷ []) store.old store.new result }
+    ensures refusals { IfErr result IsOfStorage }
 {
-    match fault {
-        StoreFault::Full => Refusal::Spent,
-        fault => Refusal::Adding(fault),
-    }
+    store.append(&[Entry::Reserved(*reservation)])
 }
 
 /// Reserves the next serial number for a stamp that no rule refuses. Once the reservation is committed it succeeds.
@@ -159,9 +160,9 @@ pub(crate) fn reserve_next<'p, 'a, B: Book + Drop>(
         request: query,
         tst: &prepared.tst,
     };
-    match store.reserve(&reservation) {
+    match add(store, &reservation) {
         Ok(()) => {}
-        Err(fault) => return Err(adding_refusal(fault)),
+        Err(fault) => return Err(Refusal::Adding(fault)),
     }
     Ok(Pending {
         serial: prepared.serial,

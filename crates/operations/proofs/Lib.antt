@@ -1,2 +1,3 @@
 pub mod Checking
+pub mod GoingOn
 pub mod OverFiles

@@ -1,5 +1,6 @@
 pub mod Addition
 pub mod Auditing
+pub mod Continuing
 pub mod Opening
 pub mod Judged
 pub mod Machine

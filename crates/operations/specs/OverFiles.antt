@@ -1,5 +1,5 @@
 -- What is done over the files at a path, whatever they held: a store is opened over them, and moves.
-use Rattle.std.specs.Prelude.{ℕ, ℤ, Bool, List, Option, Result}
+use Rattle.std.specs.Prelude.{ℕ, ℤ, Bool, List, [], Option, Result, Ok}
 use Rattle.sqlite_disk.specs.declared.Disk.{Ghosts}
 use Rattle.sqlite_store.specs.declared.store.FileStore.{FileStore}
 use Rattle.sqlite_wal.specs.Recovery.{Image}
@@ -11,20 +11,32 @@ use Rattle.book.specs.declared.standing.Standing.{Ghosts as Book}
 use Rattle.tables.specs.Base.{BaseValue}
 use Rattle.store.specs.Opening.{MigratesFound, OpensThen}
 use Rattle.store.specs.Stands.{over_tables}
+use Rattle.book.specs.Entries.{FitInTurn, with_all}
+use Rattle.book.specs.History.{Entry}
+use Rattle.book.specs.Stands.{Stands}
 use Rattle.desk.specs.Command.{Answer, Setting, Stamp}
 use Rattle.desk.specs.Stepped.{DeskValue, IsStep, with_signer}
 use Rattle.operations.specs.Addition.{IsAdded}
 use Rattle.operations.specs.Auditing.{IsAuditOf}
+use Rattle.operations.specs.Continuing.{Closes, Continues}
 use Rattle.operations.specs.Visits.{IsUnopened, IsVisited}
 use Rattle.operations.specs.declared.adding.Addition.{Addition}
 use Rattle.operations.specs.declared.auditing.AuditFault.{AuditFault}
 use Rattle.operations.specs.declared.auditing.Inquiry.{Inquiry}
+use Rattle.operations.specs.declared.carrying.Carried.{Carried}
 use Rattle.operations.specs.declared.fault.OperationFault.{OperationFault}
 
 module _ {D : Type 0} (disk : Ghosts D) where
   -- a store over files was left so
   abbrev pub IsLeft : (BaseValue (FileStore D disk) → Type 0) → Type 0
   IsLeft Is = (left : BaseValue (FileStore D disk)) × Is left
+
+module _ {D : Type 0} (disk : Ghosts D) where
+  -- a store was made over files, for the history of these entries where they fit in turn
+  abbrev pub IsMadeOver : List Entry → Type 0
+  IsMadeOver entries =
+      (made : BaseValue (FileStore D disk))
+      × (FitInTurn entries [] → Stands (over_tables over_files) (with_all entries []) made)
 
 module _ {D : Type 0} (disk : Ghosts D) (held : Image) where
   -- a store was opened over what the files held, and this was done to it
@@ -38,6 +50,16 @@ module _ {D : Type 0} (disk : Ghosts D) (held : Image) where
   -- this was added to its history
   abbrev pub IsAddedOver : Addition → Result ℕ StoreFault → Type 0
   IsAddedOver addition done = IsDoneOver (λ opened left. IsAdded (over_tables over_files) addition opened left done)
+
+  -- it was closed for tokens, and this is carried on from it
+  abbrev pub IsClosedOver : Carried → Type 0
+  IsClosedOver carried = IsDoneOver (λ opened left. Closes (over_tables over_files) opened left (Ok carried))
+
+  -- its history goes on in one that was made over other files
+  abbrev pub IsContinuedOver : {E : Type 0} → Ghosts E → Type 0
+  IsContinuedOver {E} other =
+      IsDoneOver (λ opened left. (made : BaseValue (FileStore E other))
+      × Continues (over_tables over_files) (over_tables over_files) opened left made)
 
   -- its stamps were extracted and checked
   abbrev pub IsAuditedOver : Inquiry → (out out' told told' : Option (List ℕ)) → Result Bool AuditFault → Type 0

@@ -4,6 +4,8 @@
 mod adding;
 mod answering;
 mod auditing;
+mod carrying;
+mod continuing;
 mod database_desk;
 mod desk_operation;
 mod fault;
@@ -16,6 +18,7 @@ mod terms;
 pub use adding::{Addition, add};
 pub use answering::{Question, answer};
 pub use auditing::{AuditFault, Inquiry, audit, check_stamps};
+pub use continuing::continue_in;
 pub use database_desk::DatabaseDesk;
 pub use desk_operation::{DeskOperation, perform_at_desk};
 pub use fault::OperationFault;

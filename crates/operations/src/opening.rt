@@ -41,8 +41,8 @@ pub fn migrate<F: Start + Drop>(rt: &HostRuntime, path: &str, start: F) -> Resul
 /// stands there or it can't be read or written, and with `NotOurs` where it isn't a database of the counter's: that is
 /// left as it is. Nothing is done then.
 ///
-/// This function, `init` and `migrate` alone open one, and each hands it on by one call: what names a store over the
-/// machine's files is dear to prove.
+/// This function, `init`, `migrate` and what continues one alone open one, and each hands it on by one call: what
+/// names a store over the machine's files is dear to prove.
 pub(crate) fn perform_at<F: Start + Drop, I, O, T: Operation<I, O>>(
     rt: &HostRuntime,
     path: &str,
@@ -84,7 +84,7 @@ fn perform_and_close<D: Disk + Drop, I, O, T: Operation<I, O>>(
 }
 
 /// Closes a store over files.
-fn close<D: Disk + Drop>(store: Store<FileStore<D>>) {
+pub(crate) fn close<D: Disk + Drop>(store: Store<FileStore<D>>) {
     // What was committed stays in the log where it can't be copied into the file.
     let _ = store.close();
 }

@@ -2,7 +2,7 @@
 use audit::{ExtractFault, Extracted, Inquiry, extract, extract_length, write_extract};
 use counter_fakes::FailingWriter;
 use std::alloc::Global;
-use std::io::Write;
+use std::io::{self, Write};
 use std::mem;
 use store::Book;
 use transcript::{Gathered, Printer, Words};
@@ -42,7 +42,7 @@ fn length<B: Book + Drop>(
     store: &mut B,
     asked: Inquiry<'_>,
 ) -> Result<u64, ExtractFault> {
-    extract_length(alloc, store, &asked)
+    extract_length(alloc, store, &asked, &mut io::sink())
 }
 
 /// A taker of so many octets.

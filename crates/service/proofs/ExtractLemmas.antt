@@ -1,10 +1,10 @@
 -- The answer with an extract: its head, and then its octets as they come.
-use Rattle.std.proofs.Common.{◌≡◌, ◌∙◌, ℕ, ℤ, ◌+◌, ◌^◌, ◌<◌, ◌≤◌, List, ◌++◌, Option, None, length, take, refl, sym, ap}
-use Rattle.std.proofs.Common.{subst, inl, inr, length-append, length-take-le, arith}
-use Rattle.std.proofs.KnownBytes.{Appends-trans}
+use Rattle.std.proofs.Common.{◌≡◌, ◌∙◌, ℕ, ℤ, ◌+◌, ◌<◌, ◌≤◌, List, [], ◌++◌, Option, None, Some, length, take, refl, sym}
+use Rattle.std.proofs.Common.{ap, subst, length-append, length-take-le, arith}
+use Rattle.std.proofs.KnownBytes.{Appends-nil, Appends-trans}
 use Rattle.std.proofs.lemmas.List.{take-append-le, take_all}
-use Rattle.std.specs.Io.KnownBytes.{Appends}
-use Rattle.std.specs.Prelude.{Result}
+use Rattle.std.specs.Io.KnownBytes.{Appends, Keeps}
+use Rattle.std.specs.Prelude.{◌≢◌, Result, codes}
 use Rattle.book.specs.declared.standing.Standing.{Ghosts}
 use Rattle.book.specs.History.{History}
 use Rattle.book.specs.Stands.{OnlyLooks, Stands}
@@ -15,11 +15,11 @@ use Rattle.audit.specs.Writing.{Writes}
 use Rattle.audit.specs.declared.fault.ExtractFault.{ExtractFault}
 use Rattle.audit.specs.declared.fault.ExtractFault.TheVariants.{Write}
 use Rattle.policy.specs.Record.{AccountValue, PolicyValue}
-use Rattle.service.specs.Answers.{answer_text, extract_answer, head_text, refusal_answer, success}
-use Rattle.service.specs.Extracting.{SendsExtract, SendsExtractOrOverflows, ServesExtract, extracted, kept_back}
-use Rattle.service.specs.Extracting.{too_long}
+use Rattle.service.specs.Answers.{AnswerValue, allow_line, answer_text, content_lines, crlf, extract_answer, head_text}
+use Rattle.service.specs.Answers.{refusal_answer, status_line, success}
+use Rattle.service.specs.Extracting.{SendsExtract, ServesExtract, extracted, kept_back}
 use Rattle.service.specs.Refusals.{refusal_of_extract}
-use Rattle.service.specs.Served.{Sends}
+use Rattle.service.specs.Served.{Sends, SendsOctets}
 use Rattle.service.specs.declared.answer.Media.TheVariants as media
 use Rattle.service.specs.declared.refusal.Refusal.{Refusal}
 use Rattle.service.specs.declared.served.Served.{Served}
@@ -38,13 +38,6 @@ text_of reading head body count states is =
 
 module _ {B W : Type 0} (g : Ghosts B) (contents : W → Option (List ℕ)) (reading : ℤ) (w mid w' : W) (old new : B)
     (from to count : ℕ) (head : List ℕ) (states : head ≡ extract_head reading count) where
-  -- the head and the octets behind it are too many
-  pub too_many : 2 ^ 64 ≤ length head + count → (b : History) → count ≡ length (extract_text from to b)
-      → 2 ^ 64 ≤ length (answer_text reading (extract_answer from to b))
-  too_many many b is =
-      let body = extract_text from to b in
-      omega (arith, many, is, ap length (text_of reading head body count states is), length-append head body)
-
   -- a part of the head is written
   pub head_cut : (n : ℕ) → n < length head → Appends (contents w) (contents w') (take n head)
       → SendsExtract g contents reading w w' old new from to count (served.WriteFailed 200 n)
@@ -107,27 +100,71 @@ module _ {B W : Type 0} (g : Ghosts B) (contents : W → Option (List ℕ)) (rea
           (rows.written, (refl, subst P (sym (text_of reading head rows.written count states is)) joined));
     }
 
--- a refusal of an extract is told
-pub keeping_back : {B W : Type 0} (g : Ghosts B) (contents : W → Option (List ℕ)) (reading : ℤ) (w w' : W) (old new : B)
-    (file : PolicyValue) (account : AccountValue) (from to : ℕ) (outcome : Served) (f : ExtractFault) (r : Refusal)
-    → ComesWhere file account from to f → IfUnasked (new ≡ old) f
-    → g.fault_count new ≡ count_after f (g.fault_count old)
-    → (g.honest new → (b : History) → Stands g b old → f ≡ Write → 2 ^ 64 ≤ length (extract_text from to b))
-    → r ≡ refusal_of_extract f → Sends contents reading w w' (refusal_answer r) outcome
-    → ServesExtract g contents reading w w' old new file account from to outcome
-keeping_back g contents reading w w' old new file account from to outcome f r comes unasked counted long same sent =
-    let P : Refusal → Type 0 = λ r. Sends contents reading w w' (refusal_answer r) outcome in
-    kept_back f comes unasked counted long (subst P same sent)
+-- what stands behind octets that stayed stands behind those before
+kept_appends : (a b c : Option (List ℕ)) (bs : List ℕ) → Keeps a b → Appends b c bs → Appends a c bs
+kept_appends None b c bs keeps more = tt
+kept_appends (Some x) None c bs keeps more = absurd keeps
+kept_appends (Some x) (Some y) None bs keeps more = absurd more
+kept_appends (Some x) (Some y) (Some z) bs keeps more = more ∙ ap (λ l. l ++ bs) keeps
 
--- an extract whose length was found is answered
-pub answering : {B W : Type 0} (g : Ghosts B) (contents : W → Option (List ℕ)) (reading : ℤ) (w w' : W) (old mid new : B)
-    (file : PolicyValue) (account : AccountValue) (from to count : ℕ) (outcome : Served)
-    → IsAllowed file account from to → OnlyLooks g old mid → OnlyLooks g mid new
-    → (g.honest mid → (b : History) → Stands g b old → count ≡ length (extract_text from to b))
-    → SendsExtractOrOverflows g contents reading w w' mid new from to count outcome
-    → ServesExtract g contents reading w w' old new file account from to outcome
-answering g contents reading w w' old mid new file account from to count outcome allowed first second found (inl s) =
-    extracted allowed
-    (λ honest b stands. s.sent honest b (first.stands b stands) (found (second.honest honest) b stands)) s.told
-answering g contents reading w w' old mid new file account from to count outcome allowed first second found (inr (long, sent)) =
-    too_long (λ honest b stands. long b (found (second.honest honest) b stands)) sent
+module _ {W : Type 0} (contents : W → Option (List ℕ)) (reading : ℤ) (w mid w' : W)
+    (keeps : Keeps (contents w) (contents mid)) where
+  pub sent_behind : (a : AnswerValue) (outcome : Served) → Sends contents reading mid w' a outcome
+      → Sends contents reading w w' a outcome
+  sent_behind a served.Closed s = s
+  sent_behind a (served.Answered status) s = (s.0, kept_appends _ _ _ _ keeps s.1)
+  sent_behind a served.ReadFailed s = s
+  sent_behind a (served.WriteFailed status sent) s = (s.0, s.1, kept_appends _ _ _ _ keeps s.2)
+
+  octets_behind : (outcome : Served) → SendsOctets contents reading mid w' outcome
+      → SendsOctets contents reading w w' outcome
+  octets_behind served.Closed s = s
+  octets_behind (served.Answered status) s = (s.0, sent_behind (success 200 media.Csv s.0) (served.Answered status) s.1)
+  octets_behind served.ReadFailed s = s
+  octets_behind (served.WriteFailed status sent) s = (s.0, s.1, s.2, kept_appends _ _ _ _ keeps s.3)
+
+-- a head has octets
+some_head : (reading : ℤ) (count : ℕ) → 0 < length (extract_head reading count)
+unfolding head_text
+some_head reading count =
+    let behind = content_lines media.Csv count ++ allow_line None ++ codes "Connection: close" ++ crlf ++ crlf in
+    omega (arith, length-append (status_line 200) behind)
+
+module _ {B W : Type 0} (g : Ghosts B) (contents : W → Option (List ℕ)) (reading : ℤ) (w mid w' : W)
+    (file : PolicyValue) (account : AccountValue) (from to : ℕ) (keeps : Keeps (contents w) (contents mid)) where
+  -- a refusal of an extract is told
+  pub keeping_back : (old new : B) (outcome : Served) (f : ExtractFault) (r : Refusal)
+      → ComesWhere file account from to f → IfUnasked (new ≡ old) f
+      → g.fault_count new ≡ count_after f (g.fault_count old) → f ≢ Write
+      → r ≡ refusal_of_extract f → Sends contents reading mid w' (refusal_answer r) outcome
+      → ServesExtract g contents reading w w' old new file account from to outcome
+  keeping_back old new outcome f r comes unasked counted written same sent =
+      let P : Refusal → Type 0 = λ r. Sends contents reading w w' (refusal_answer r) outcome in
+      kept_back f comes unasked counted written
+      (subst P same (sent_behind contents reading w mid w' keeps (refusal_answer r) outcome sent))
+
+  -- of one nothing is written
+  pub unwritten : (old new : B) (status : ℕ) → IsAllowed file account from to → status ≡ 200
+      → ServesExtract g contents reading w mid old new file account from to (served.WriteFailed status 0)
+  unwritten old new status allowed same =
+      let P : ℕ → Type 0 = λ status.
+      ServesExtract g contents reading w mid old new file account from to (served.WriteFailed status 0) in
+      let none : Appends (contents w) (contents mid) [] =
+      kept_appends _ _ _ [] keeps (Appends-nil (contents mid)) in
+      subst P (sym same) (extracted allowed
+      (λ honest b stands.
+      let body = extract_text from to b in
+      (refl, omega (arith, some_head reading (length body), length-append (extract_head reading (length body)) body), none))
+      (refl, [], refl, none))
+
+  -- an extract whose length was found is answered
+  pub answering : (old found new : B) (count : ℕ) (outcome : Served)
+      → IsAllowed file account from to → OnlyLooks g old found → OnlyLooks g found new
+      → (g.honest found → (b : History) → Stands g b old → count ≡ length (extract_text from to b))
+      → SendsExtract g contents reading mid w' found new from to count outcome
+      → ServesExtract g contents reading w w' old new file account from to outcome
+  answering old found new count outcome allowed first second length_is s =
+      extracted allowed
+      (λ honest b stands. sent_behind contents reading w mid w' keeps (extract_answer from to b) outcome
+      (s.sent honest b (first.stands b stands) (length_is (second.honest honest) b stands)))
+      (octets_behind contents reading w mid w' keeps outcome s.told)

@@ -11,14 +11,14 @@ use Rattle.desk.specs.Stepped.{DeskValue}
 use Rattle.policy.specs.Record.{AccountValue, PolicyValue}
 use Rattle.service.specs.Answers.{AnswerValue, refusal_answer}
 use Rattle.service.specs.Refusals.{refusal_of_extract}
-use Rattle.service.specs.Extracting.{ServesExtract, extracted, kept_back, too_long}
+use Rattle.service.specs.Extracting.{ServesExtract, extracted, kept_back}
 use Rattle.service.specs.Known.{IsAnswerable, IsDue, checked, spoiled, wanting, wanting_body}
 use Rattle.service.specs.Received.{ReceivedValue, in_body, in_head}
 use Rattle.service.specs.Requests.{Report, Step, Look, Extract, IsEarly, IsRequest, asked_by, cut_body, cut_head, head}
 use Rattle.service.specs.Requests.{headless, nothing, refused_head, whole}
 use Rattle.service.specs.Served.{Turn, IsIdle, IsSilent, IsLook, Reads, Sends, SendsOctets, unavailable, Takes}
 use Rattle.service.specs.Served.{IsAnswer, refuses, replies, turns_back, looks, wants_early, Tells, plainly}
-use Rattle.service.specs.Served.{backwards, Reports, keeps_back, overflows}
+use Rattle.service.specs.Served.{backwards, Reports}
 use Rattle.service.specs.Served.{Extracts, Serves}
 use Rattle.service.specs.Views.{head_view}
 use Rattle.service.specs.declared.due.Due.TheVariants as due
@@ -160,8 +160,12 @@ module _ {W B X : Type 0} (g : Ghosts B) (signs : X → List ℕ → Result (Lis
         sent = sent;
         told = told;
       })
-  answering_auditor account from to outcome reads look (kept_back f comes unasked counted long sent) =
-      reporting (Extract account from to) (refusal_answer (refusal_of_extract f)) outcome reads look
-      (keeps_back f (record { comes = comes; unasked = unasked; counted = counted; long = long }) refl) sent
-  answering_auditor account from to outcome reads look (too_long long sent) =
-      reporting (Extract account from to) unavailable outcome reads look (overflows long refl) sent
+  answering_auditor account from to outcome reads look (kept_back f comes unasked counted written sent) =
+      reporting (Extract account from to) (refusal_answer (refusal_of_extract f)) outcome reads look (record {
+        fault = f;
+        comes = comes;
+        unasked = unasked;
+        counted = counted;
+        written = written;
+        tells = refl;
+      }) sent

@@ -1,5 +1,5 @@
 -- What the answers to auditors give: stepping stones of the proofs.
-use Rattle.std.specs.Prelude.{◌≡◌, ◌⊎◌, ◌≤◌, ◌^◌, ℕ, ℤ, List, length, Option}
+use Rattle.std.specs.Prelude.{◌≡◌, ◌≢◌, ℕ, ℤ, List, length, Option}
 use Rattle.book.specs.declared.standing.Standing.{Ghosts}
 use Rattle.policy.specs.Record.{AccountValue, PolicyValue}
 use Rattle.book.specs.History.{History}
@@ -9,9 +9,9 @@ use Rattle.audit.specs.Extract.{extract_text}
 use Rattle.audit.specs.Fault.{count_after}
 use Rattle.audit.specs.declared.fault.ExtractFault.{ExtractFault}
 use Rattle.audit.specs.declared.fault.ExtractFault.TheVariants.{Write}
-use Rattle.service.specs.Answers.{answer_text, extract_answer, refusal_answer}
+use Rattle.service.specs.Answers.{extract_answer, refusal_answer}
 use Rattle.service.specs.Refusals.{refusal_of_extract}
-use Rattle.service.specs.Served.{Sends, SendsOctets, unavailable}
+use Rattle.service.specs.Served.{Sends, SendsOctets}
 use Rattle.service.specs.declared.served.Served.{Served}
 
 module _ {B W : Type 0} (g : Ghosts B) (contents : W → Option (List ℕ)) (reading : ℤ) (w w' : W) (old new : B) where
@@ -21,24 +21,12 @@ module _ {B W : Type 0} (g : Ghosts B) (contents : W → Option (List ℕ)) (rea
         → Sends contents reading w w' (extract_answer from to b) outcome
     pub told : SendsOctets contents reading w w' outcome
 
-  -- or, as it would have 2^64 octets or more, that the counter can't answer now
-  abbrev pub SendsExtractOrOverflows : ℕ → ℕ → ℕ → Served → Type 0
-  SendsExtractOrOverflows from to count outcome =
-      SendsExtract from to count outcome
-      ⊎ (((b : History) → count ≡ length (extract_text from to b)
-      → 2 ^ 64 ≤ length (answer_text reading (extract_answer from to b)))
-      × Sends contents reading w w' unavailable outcome)
-
   -- an extract is answered
   pub data ServesExtract (file : PolicyValue) (account : AccountValue) (from to : ℕ) (outcome : Served) : Type 0 where
     extracted : IsAllowed file account from to
         → (g.honest new → (b : History) → Stands g b old → Sends contents reading w w' (extract_answer from to b) outcome)
         → SendsOctets contents reading w w' outcome → ServesExtract file account from to outcome
     kept_back : (f : ExtractFault) → ComesWhere file account from to f → IfUnasked (new ≡ old) f
-        → g.fault_count new ≡ count_after f (g.fault_count old)
-        → (g.honest new → (b : History) → Stands g b old → f ≡ Write → 2 ^ 64 ≤ length (extract_text from to b))
+        → g.fault_count new ≡ count_after f (g.fault_count old) → f ≢ Write
         → Sends contents reading w w' (refusal_answer (refusal_of_extract f)) outcome
         → ServesExtract file account from to outcome
-    too_long : (g.honest new → (b : History) → Stands g b old
-        → 2 ^ 64 ≤ length (answer_text reading (extract_answer from to b)))
-        → Sends contents reading w w' unavailable outcome → ServesExtract file account from to outcome

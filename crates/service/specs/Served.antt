@@ -1,5 +1,5 @@
 -- What `serve_one` does: it reads one request, has the desk take the one step that it asks for, and writes one answer.
-use Rattle.std.specs.Prelude.{◌≡◌, ◌⊎◌, ℕ, ◌<◌, ◌≤◌, ◌^◌, ℤ, List, [], length, take, Option, Result, Ok, Err}
+use Rattle.std.specs.Prelude.{◌≡◌, ◌≢◌, ◌⊎◌, ℕ, ◌<◌, ℤ, List, [], length, take, Option, Result, Ok, Err}
 use Rattle.std.specs.Io.KnownBytes.{Appends, Consumes, IsAtEnd}
 use Rattle.book.specs.declared.standing.Standing.{Ghosts}
 use Rattle.cms.specs.declared.signer.SignerFault.{SignerFault}
@@ -16,7 +16,6 @@ use Rattle.desk.specs.Calls.{looked_at}
 use Rattle.desk.specs.Findings.{HoldsUnasked}
 use Rattle.desk.specs.Stepped.{DeskValue, IsStep, no_signer, with_signer}
 use Rattle.audit.specs.Auditor.{IsAllowed, ComesWhere, IfUnasked}
-use Rattle.audit.specs.Extract.{extract_text}
 use Rattle.audit.specs.Fault.{count_after}
 use Rattle.audit.specs.declared.fault.ExtractFault.{ExtractFault}
 use Rattle.audit.specs.declared.fault.ExtractFault.TheVariants.{Write}
@@ -136,25 +135,15 @@ module _ {B X : Type 0} (g : Ghosts B) (signs : X → List ℕ → Result (List 
       g.honest new.store → (b : History) → Stands g b old.store
       → IsStatusText old.setting.file.counter (looked_at reading b) (g.fault_count new.store) (count signer) body
 
-  -- An extract is refused, where that refusal comes; the store's are counted. What can't be written has 2^64 octets or
-  -- more.
-  pub record IsKeptBack (old new : DeskValue B) (account : AccountValue) (from to : ℕ) (f : ExtractFault) : Type 0 where
-    pub comes : ComesWhere old.setting.file account from to f
-    pub unasked : IfUnasked (new.store ≡ old.store) f
-    pub counted : g.fault_count new.store ≡ count_after f (g.fault_count old.store)
-    pub long : g.honest new.store → (b : History) → Stands g b old.store → f ≡ Write
-        → 2 ^ 64 ≤ length (extract_text from to b)
-
-  -- why no row of an extract is written
-  pub data ReportsNoExtract (reading : ℤ) (old new : DeskValue B) (account : AccountValue) (from to : ℕ)
-      (a : AnswerValue) : Type 0 where
-    -- it is refused
-    keeps_back : (f : ExtractFault) → IsKeptBack old new account from to f → a ≡ refusal_answer (refusal_of_extract f)
-        → ReportsNoExtract reading old new account from to a
-    -- the answer with it has 2^64 octets or more
-    overflows : (g.honest new.store → (b : History) → Stands g b old.store
-        → 2 ^ 64 ≤ length (answer_text reading (extract_answer from to b)))
-        → a ≡ unavailable → ReportsNoExtract reading old new account from to a
+  -- An extract is refused, where that refusal comes; the store's are counted. One that can't be written isn't.
+  pub record ReportsNoExtract (old new : DeskValue B) (account : AccountValue) (from to : ℕ) (a : AnswerValue)
+      : Type 0 where
+    pub fault : ExtractFault
+    pub comes : ComesWhere old.setting.file account from to fault
+    pub unasked : IfUnasked (new.store ≡ old.store) fault
+    pub counted : g.fault_count new.store ≡ count_after fault (g.fault_count old.store)
+    pub written : fault ≢ Write
+    pub tells : a ≡ refusal_answer (refusal_of_extract fault)
 
   -- the answer on the counter's state
   pub data ReportsStatus (reading : ℤ) (old new : DeskValue B) (signer : X) (a : AnswerValue) : Type 0 where
@@ -167,7 +156,7 @@ module _ {B X : Type 0} (g : Ghosts B) (signs : X → List ℕ → Result (List 
   -- The answer with a report, at the reading: the desk was `old` before the look and is `new` after it. An extract that
   -- is written row by row stands below (`Extracts`).
   abbrev pub Reports : ℤ → DeskValue B → DeskValue B → X → Report → AnswerValue → Type 0
-  Reports reading old new signer (Extract account from to) a = ReportsNoExtract reading old new account from to a
+  Reports reading old new signer (Extract account from to) a = ReportsNoExtract old new account from to a
   Reports reading old new signer Status a = ReportsStatus reading old new signer a
 
   -- why an answer is written
@@ -197,7 +186,7 @@ module _ {B X : Type 0} (g : Ghosts B) (signs : X → List ℕ → Result (List 
     pub sent : Sends contents reading t.writer t.writer_after answer outcome
 
   -- The extract that the request asks for is written, row by row: it is that of each history that the store stands for.
-  -- A store that fails between two rows leaves a beginning of the answer.
+  -- A store that fails between two rows leaves a beginning of the answer, and a writer whose time is up before them none.
   pub record Extracts {W : Type 0} (contents : W → Option (List ℕ)) (reading : ℤ) (t : Turn W B X) (outcome : Served)
       : Type 0 where
     pub account : AccountValue

@@ -2,21 +2,21 @@
 ghost use Rattle.std.specs.Prelude.{◌≡◌};
 ghost use Rattle.policy.specs.View.{account_view, policy_view};
 ghost use Rattle.book.specs.Stands.{OnlyLooks};
-ghost use Rattle.service.specs.Extracting.{SendsExtractOrOverflows, ServesExtract};
+ghost use Rattle.service.specs.Extracting.{SendsExtract, ServesExtract};
 
 use crate::answer::{Heading, Media, head_text};
 use crate::context::Context;
 use crate::refusal::Refusal;
-use crate::responding::{refuse, wanting};
+use crate::responding::refuse;
 use crate::served::Served;
-use audit::{Inquiry, extract_length, write_extract, write_octets};
+use audit::{ExtractFault, Inquiry, extract_length, write_extract, write_octets};
 use book::Book;
 use desk::Desk;
 use http::StatusCode;
 use std::io::Write;
 
-/// Writes the answer with an extract that is found to have so many octets. It can't be where they and the head's are
-/// 2^64 or more.
+/// Writes the answer with an extract that is found to have so many octets; none of it where they and the head's are 2^64
+/// or more.
 fn send_extract<W: Write, B: Book + Drop>(
     context: &Context<'_>,
     writer: &mut W,
@@ -25,7 +25,7 @@ fn send_extract<W: Write, B: Book + Drop>(
     length: u64,
 ) -> Served
     ensures looks { OnlyLooks B.Standing store.old store.new }
-    ensures sent { SendsExtractOrOverflows B.Standing W.contents context.now.at.reading writer.old writer.new store.old store.new
+    ensures sent { SendsExtract B.Standing W.contents context.now.at.reading writer.old writer.new store.old store.new
         inquiry.now.from inquiry.now.to length result }
 {
     let count = length as usize;
@@ -36,11 +36,11 @@ fn send_extract<W: Write, B: Book + Drop>(
         allow: None,
     };
     let head = head_text(heading, count);
+    let status = StatusCode::OK.as_u16();
     let most = usize::MAX - head.len();
     if most < count {
-        return wanting(writer, context.at);
+        return Served::WriteFailed { status, sent: 0 };
     }
-    let status = StatusCode::OK.as_u16();
     let of_head = write_octets(writer, head.as_str().as_bytes());
     if of_head < head.len() {
         return Served::WriteFailed {
@@ -58,7 +58,8 @@ fn send_extract<W: Write, B: Book + Drop>(
     Served::Answered(status)
 }
 
-/// Answers an auditor who asks for the stamps with serial numbers from one on and up to another.
+/// Answers an auditor who asks for the stamps with serial numbers from one on and up to another. Where the writer's time
+/// is up before their length is found, nothing is written.
 pub(crate) fn serve_extract<W: Write, B: Book + Drop>(
     context: &Context<'_>,
     writer: &mut W,
@@ -71,8 +72,12 @@ pub(crate) fn serve_extract<W: Write, B: Book + Drop>(
         (policy_view inquiry.now.policy.now) (account_view inquiry.now.account.now) inquiry.now.from inquiry.now.to
         result }
 {
-    match extract_length(context.alloc, desk.store(), inquiry) {
+    match extract_length(context.alloc, desk.store(), inquiry, writer) {
         Ok(length) => send_extract(context, writer, desk.store(), inquiry, length),
+        Err(ExtractFault::Write) => Served::WriteFailed {
+            status: StatusCode::OK.as_u16(),
+            sent: 0,
+        },
         Err(fault) => refuse(writer, context.at, Refusal::from(fault)),
     }
 }

@@ -1,6 +1,9 @@
 -- A signer whose session is opened anew where it was lost.
-use Rattle.std.specs.Prelude.{◌≡◌, ◌⊎◌, ℕ, List, Option, Some, None, Result, Ok, Err, false}
+use Rattle.std.specs.Prelude.{◌≡◌, ◌⊎◌, ℕ, ◌≤◌, List, ◌++◌, map, length, take, Option, Some, None, Result, Ok, Err}
+use Rattle.std.specs.Prelude.{Vec, false}
+use Rattle.std.specs.List.{AllByRecursion}
 use Rattle.cms.specs.Framed.{FramedState}
+use Rattle.cms.specs.Signer.{signed_by, count_after_each, SignsEach, IsSized}
 use Rattle.cms.specs.declared.signer.SignerFault.{SignerFault}
 use Rattle.cms.specs.declared.signer.SignerFault.TheVariants.{Failed, Memory}
 
@@ -36,6 +39,19 @@ pub data SignsRenewed {S : Type 0} (signs : S → List ℕ → Result (List ℕ)
       → SignsRenewed signs fresh before text answer after
   refused : before.session ≡ None → after.session ≡ None → answer ≡ Err Failed
       → SignsRenewed signs fresh before text answer after
+
+-- The first texts of a list are signed one after the other, one at least, and the list of answers goes on by theirs.
+pub record SignedSome {S A : Type 0}
+    (signs : RenewedState S → List ℕ → Result (List ℕ) SignerFault → RenewedState S → Type 0)
+    (before : RenewedState S) (texts : List (List ℕ)) (old new : List (Result (Vec ℕ A) SignerFault))
+    (after : RenewedState S) : Type 0 where
+  pub more : List (Result (Vec ℕ A) SignerFault)
+  pub all : new ≡ old ++ more
+  pub some : 1 ≤ length more
+  pub few : length more ≤ length texts
+  pub signed : SignsEach signs before (take (length more) texts) (map signed_by more) after
+  pub sized : AllByRecursion IsSized more
+  pub counted : after.faults ≡ count_after_each more before.faults
 
 -- a session with a key holder that was just opened
 abbrev pub IsOpened : {R W : Type 0} → FramedState R W → Type 0

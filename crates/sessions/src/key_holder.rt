@@ -75,7 +75,7 @@ impl<'a, R: Net<Stream = TcpStream> + Clock + AllocGlobal, W: Write> Sessions<Se
         }
         let session = self.connect(algorithm);
         if session.is_some() {
-            let _ = self.notices.write_all(b"counter: signer found\n");
+            let _ = self.notices.write_all(b"event=signer-found\n");
         } else {
             self.pause();
         }
@@ -88,7 +88,7 @@ impl<'a, R: Net<Stream = TcpStream> + Clock + AllocGlobal, W: Write> Sessions<Se
 
     fn lost(&mut self) {
         self.pause();
-        let _ = self.notices.write_all(b"counter: signer lost\n");
+        let _ = self.notices.write_all(b"event=signer-lost\n");
     }
 }
 

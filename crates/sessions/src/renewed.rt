@@ -1,9 +1,9 @@
 //! A signer whose session is opened anew where it was lost.
-ghost use Rattle.std.specs.Prelude.{◌≡◌, ◌≤◌, IfSome, IfOk, vec_len};
+ghost use Rattle.std.specs.Prelude.{◌≡◌, ◌≤◌, IfSome, IfOk, map, length, vec_len, vec_capacity};
 ghost use Rattle.cms.specs.Signer.{signed_by};
 ghost use Rattle.sessions.specs.Renewed.{AsksSession};
 
-use cms::{Algorithm, Signer, SignerFault};
+use cms::{Algorithm, Pipeline, Signer, SignerFault};
 use std::marker::Model;
 
 /// Opens sessions of signers.
@@ -40,9 +40,9 @@ impl<S, O> Model for RenewedSigner<S, O> {
     ghost view = { λ s. record { session = s.session; algorithm = s.algorithm; faults = s.faults } };
 }
 
-impl<S: Signer + Drop, O: Sessions<S>> RenewedSigner<S, O> {
-    ghost use Rattle.std.specs.Prelude.{Some, None, IfNone};
-    ghost use Rattle.sessions.specs.Renewed.{IsTaken};
+impl<S: Pipeline + Drop, O: Sessions<S>> RenewedSigner<S, O> {
+    ghost use Rattle.std.specs.Prelude.{◌+◌, ◌<◌, Some, None, IfNone};
+    ghost use Rattle.sessions.specs.Renewed.{IsTaken, SignedSome, SignsRenewed};
 
     /// A signer of that algorithm with an open session, and what opens others. Takes no memory.
     pub fn new(sessions: O, session: S, algorithm: Algorithm) -> RenewedSigner<S, O>
@@ -69,6 +69,36 @@ impl<S: Signer + Drop, O: Sessions<S>> RenewedSigner<S, O> {
             None => self.sessions.open(&self.algorithm),
         }
     }
+
+    /// Has the first of the texts signed, and those behind it as far as one session goes. The answers are put behind
+    /// those that are there.
+    fn sign_some(&mut self, texts: &[&[u8]], answers: &mut Vec<Result<Vec<u8>, SignerFault>>)
+        requires some { 0 < length texts.now }
+        requires room { vec_len answers.old + length texts.now ≤ vec_capacity answers.old }
+        ensures signed { SignedSome (SignsRenewed S.signs O.fresh) self.old (map (λ text. text.now) texts.now)
+            answers.old.items answers.new.items self.new }
+        ensures same_algorithm { self.new.algorithm ≡ self.old.algorithm }
+        ensures same_room { vec_capacity answers.old ≤ vec_capacity answers.new }
+    {
+        let Some(session) = self.taken() else {
+            self.faults = self.faults.wrapping_add(1);
+            answers.push_reserved(Err(SignerFault::Failed));
+            return;
+        };
+        let mut session = session;
+        let before = answers.len();
+        if !session.sign_ahead(texts, answers) {
+            self.faults = self.faults.wrapping_add(1);
+            self.sessions.lost();
+            return;
+        }
+        self.session = Some(session);
+        if answers.len() > before {
+            self.sessions.signed();
+            return;
+        }
+        answers.push_reserved(self.sign(texts[0]));
+    }
 }
 
 /// Asks a session: its answer, and what is left of it.
@@ -85,7 +115,7 @@ fn ask<S: Signer + Drop>(session: S, text: &[u8]) -> (Result<Vec<u8>, SignerFaul
     }
 }
 
-impl<S: Signer + Drop, O: Sessions<S>> Signer for RenewedSigner<S, O> {
+impl<S: Pipeline + Drop, O: Sessions<S>> Signer for RenewedSigner<S, O> {
     ghost use Rattle.sessions.specs.Renewed.{SignsRenewed};
 
     ghost signs = { SignsRenewed S.signs O.fresh };
@@ -110,6 +140,12 @@ impl<S: Signer + Drop, O: Sessions<S>> Signer for RenewedSigner<S, O> {
             }
         }
         answer
+    }
+
+    fn sign_each(&mut self, texts: &[&[u8]], answers: &mut Vec<Result<Vec<u8>, SignerFault>>) {
+        while answers.len() < texts.len() {
+            self.sign_some(texts.split_at(answers.len()).1, answers);
+        }
     }
 
     fn algorithm(&self) -> &Algorithm {

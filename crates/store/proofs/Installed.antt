@@ -82,16 +82,16 @@ pub get_none : {X : Type 0} (n : ℕ) → ◌≡◌ {A = Option X} (slice_get []
 get_none zero = refl
 get_none (suc n) = refl
 
-get_left : {X : Type 0} (xs ys : List X) (n : ℕ) (x : X) → slice_get xs n ≡ Some x → slice_get (xs ++ ys) n ≡ Some x
+pub get_left : {X : Type 0} (xs ys : List X) (n : ℕ) (x : X) → slice_get xs n ≡ Some x → slice_get (xs ++ ys) n ≡ Some x
 get_left [] ys n x got = absurd (let apart = sym (get_none n) ∙ got in cc)
 get_left (y ∷ xs) ys zero x got = got
 get_left (y ∷ xs) ys (suc n) x got = get_left xs ys n x got
 
-get_last : {X : Type 0} (xs : List X) (y : X) → slice_get (xs ++ y ∷ []) (length xs) ≡ Some y
+pub get_last : {X : Type 0} (xs : List X) (y : X) → slice_get (xs ++ y ∷ []) (length xs) ≡ Some y
 get_last [] y = refl
 get_last (x ∷ xs) y = get_last xs y
 
-get_past : {X : Type 0} (xs : List X) (y : X) (n : ℕ) → slice_get xs n ≡ None → n ≢ length xs
+pub get_past : {X : Type 0} (xs : List X) (y : X) (n : ℕ) → slice_get xs n ≡ None → n ≢ length xs
     → slice_get (xs ++ y ∷ []) n ≡ None
 get_past [] y zero none apart = absurd (apart refl)
 get_past [] y (suc n) none apart = get_none n

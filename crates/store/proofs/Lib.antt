@@ -9,6 +9,7 @@ pub mod DepositRows
 pub mod Exactly
 pub mod Falling
 pub mod Gathering
+pub mod HeldBy
 pub mod Installed
 pub mod Listing
 pub mod Making

@@ -4,6 +4,7 @@
 mod cursors;
 mod deposits;
 mod finding;
+mod holds;
 mod identities;
 mod laws;
 mod opening;

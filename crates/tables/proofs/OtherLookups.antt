@@ -10,8 +10,9 @@ use Rattle.sqlite_tied.specs.Compute.{everything}
 use Rattle.sqlite.specs.Listing.{understood}
 use Rattle.tables.specs.Names as name
 use Rattle.tables.specs.Queries.{holds_at}
-use Rattle.tables.specs.Shown.{count_shown, calibration_shown, hold_number_shown, identity_shown, identity_number_shown}
-use Rattle.tables.specs.Tables.{is_tally_of, is_identity}
+use Rattle.tables.specs.Shown.{count_shown, calibration_shown, hold_shown, hold_number_shown, identity_shown}
+use Rattle.tables.specs.Shown.{identity_number_shown}
+use Rattle.tables.specs.Tables.{is_tally_of, is_hold, is_identity}
 use Rattle.tables.proofs.LookupLemmas.{Asks, Finds, FindsGreatest, finds, greatest, and_true, one, falling}
 use Rattle.tables.proofs.ReadLemmas.{program_of, no_limit}
 use Rattle.tables.proofs.SealLemmas.{equals}
@@ -51,7 +52,7 @@ finds_latest_calibration =
     greatest name.Calibration [] [] _ (λ x. true) calibration_shown (λ y. refl) (λ y. refl) (col 1 0) (λ x. x.n)
     (λ y. refl) latest_calibration_sql _ (λ x. refl) asks_latest_calibration
 
--- ---- the greatest hold, and one of a moment
+-- ---- the greatest hold, one by its number, and one of a moment
 
 abbrev greatest_hold_sql : List ℕ
 greatest_hold_sql = codes "SELECT n FROM hold ORDER BY n DESC LIMIT 1"
@@ -65,6 +66,19 @@ pub finds_greatest_hold : FindsGreatest greatest_hold_sql [] (λ t. t.holds) hol
 finds_greatest_hold =
     greatest name.Hold [] [] _ (λ x. true) hold_number_shown (λ y. refl) (λ y. refl) (col 1 0) (λ x. x.n) (λ y. refl)
     greatest_hold_sql _ (λ x. refl) asks_greatest_hold
+
+abbrev hold_sql : List ℕ
+hold_sql = codes "SELECT from_us, to_us FROM hold WHERE n = ?1"
+
+pub asks_hold : Asks hold_sql
+    (Select (program_of 3 (equals 0 0 ∷ []) (col 1 2 ∷ col 1 3 ∷ []) [] no_limit) (codes "from_us" ∷ codes "to_us" ∷ []))
+unfolding understood everything
+asks_hold = record { is = refl; text = record { plain = (refl, refl); unlisted = refl } }
+
+pub finds_hold : (number : ℕ) → Finds hold_sql (Int (pos number) ∷ []) (λ t. t.holds) hold_shown (is_hold number)
+finds_hold number =
+    finds name.Hold (Int (pos number) ∷ []) (equals 0 0 ∷ []) _ (is_hold number) hold_shown
+    (λ y. and_true _ ∙ test_number y.1.n number) (λ y. refl) hold_sql _ asks_hold
 
 abbrev hold_at_sql : List ℕ
 hold_at_sql = codes "SELECT n FROM hold WHERE from_us <= ?1 AND to_us > ?1"

@@ -17,6 +17,7 @@ use Rattle.tables.specs.declared.rows.LatestCalibration.{LatestCalibration}
 use Rattle.book.specs.declared.rows.Stamp.{Stamp}
 use Rattle.book.specs.declared.rows.Deposit.{Deposit}
 use Rattle.book.specs.declared.rows.IdentityRow.{IdentityRow}
+use Rattle.book.specs.declared.values.Hold.{Hold}
 pub use Rattle.book.specs.Values.{stamp_view, deposit_view, identity_view}
 use Rattle.tables.specs.declared.rows.Label.{Label}
 use Rattle.tables.specs.declared.rows.Origin.{Origin}
@@ -53,6 +54,9 @@ ShowsCalibration row c = (c.n ≡ row.n) × (c.reading ≡ row.reading) × (c.of
 
 abbrev pub ShowsNumber : HoldRow → ℕ → Type 0
 ShowsNumber row n = n ≡ row.n
+
+abbrev pub ShowsHold : HoldRow → Hold → Type 0
+ShowsHold row h = (h.from ≡ row.from) × (h.to ≡ row.to)
 
 abbrev pub ShowsCount : TallyRow → ℕ → Type 0
 ShowsCount row count = count ≡ row.count

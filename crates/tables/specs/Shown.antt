@@ -26,6 +26,9 @@ calibration_shown c = Int (pos c.n) ∷ Int c.reading ∷ Int c.offset ∷ Int (
 abbrev pub hold_number_shown : HoldRow → Row
 hold_number_shown h = Int (pos h.n) ∷ []
 
+abbrev pub hold_shown : HoldRow → Row
+hold_shown h = Int h.from ∷ Int h.to ∷ []
+
 abbrev pub deposit_shown : DepositRow → Row
 deposit_shown d = Int (pos d.serial) ∷ Text d.owner ∷ Text d.reference ∷ Blob d.bytes ∷ []
 

@@ -7,20 +7,23 @@ ghost use Rattle.book.specs.History.{Held};
 ghost use Rattle.book.specs.Values.{hold_view};
 ghost use Rattle.tables.specs.Carrying.{Carries};
 ghost use Rattle.tables.specs.Changes.{applied};
-ghost use Rattle.tables.specs.Found.{IsGreatestAs};
-ghost use Rattle.tables.specs.Queries.{LooksUp, ShowsNumber, holds_at};
+ghost use Rattle.tables.specs.Found.{IsFoundAs, IsGreatestAs};
+ghost use Rattle.tables.specs.Queries.{LooksUp, ShowsHold, ShowsNumber, holds_at};
+ghost use Rattle.tables.specs.Tables.{is_hold};
 
-use crate::asking::number_in;
+use crate::asking::{FromRow, number_in, signed};
 use crate::base::Base;
 use crate::fault::TableFault;
 use crate::rows::column;
 use book::Hold;
 use sqlite::types::{ToSql, ValueRef};
-use sqlite::{Alter, Error, Transaction};
+use sqlite::{Alter, Error, Row, Transaction};
 
 const INSERT_HOLD: &str = "INSERT INTO hold (n, from_us, to_us) VALUES (?1, ?2, ?3)";
 
 const GREATEST_HOLD: &str = "SELECT n FROM hold ORDER BY n DESC LIMIT 1";
+
+const HOLD: &str = "SELECT from_us, to_us FROM hold WHERE n = ?1";
 
 const HOLD_AT: &str = "SELECT n FROM hold WHERE from_us <= ?1 AND to_us > ?1";
 
@@ -36,7 +39,30 @@ pub(crate) fn put_hold<S: Alter>(tx: &mut Transaction<'_, S>, hold: &Hold) -> Re
     tx.execute(INSERT_HOLD, &[n, from.to_sql(), to.to_sql()])
 }
 
+impl FromRow for Hold {
+    ghost use Rattle.std.specs.Prelude.{◌≡◌};
+    ghost use Rattle.sqlite_value.specs.Order.{column};
+    ghost use Rattle.sqlite_value.specs.declared.value.Value.TheVariants.{Int};
+
+    ghost shows = { λ row h. (column row 0 ≡ Int h.from) × (column row 1 ≡ Int h.to) };
+
+    fn from_row(row: &Row) -> Result<Hold, Error> {
+        let from = signed(row, 0)?;
+        let to = signed(row, 1)?;
+        Ok(Hold { from, to })
+    }
+}
+
 impl<S: Alter + Drop> Base<S> {
+    /// The hold with the number.
+    pub fn hold(&mut self, number: u64) -> Result<Option<Hold>, TableFault>
+        ensures { LooksUp S.Store (λ t found. IsFoundAs ShowsHold (is_hold number) t.holds found)
+            self.old self.new result }
+    {
+        let number = self.column(number)?;
+        self.first_as(HOLD, &[number])
+    }
+
     /// The greatest number of a hold.
     pub fn greatest_hold(&mut self) -> Result<Option<u64>, TableFault>
         ensures looks { LooksUp S.Store (λ t n. IsGreatestAs ShowsNumber (λ row. row.n) t.holds n)

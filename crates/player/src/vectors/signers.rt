@@ -13,6 +13,13 @@ fn signature_of<S: Signer>(signer: &mut S, text: &[u8]) -> Result<Vec<u8>, Signe
     signer.sign(text)
 }
 
+fn tell_answer(printer: Printer<'_>, answer: &Result<Vec<u8>, SignerFault>) {
+    match answer {
+        Ok(signature) => printer.digits("signature", signature),
+        Err(fault) => printer.tell(fault),
+    }
+}
+
 /// Has each of the names' octets signed, and tells of each how many faults there were then.
 fn sign_all<S: Signer>(printer: Printer<'_>, signer: &mut S, words: Words<'_>) {
     let mut words = words;
@@ -21,10 +28,7 @@ fn sign_all<S: Signer>(printer: Printer<'_>, signer: &mut S, words: Words<'_>) {
         if name.is_empty() {
             break;
         }
-        match signature_of(signer, printer.names.octets(name)) {
-            Ok(signature) => printer.digits("signature", &signature),
-            Err(fault) => printer.tell(&fault),
-        }
+        tell_answer(printer, &signature_of(signer, printer.names.octets(name)));
         printer.number("faults", signer.faults());
     }
     printer.digits("algorithm", signer.algorithm().as_slice());
@@ -62,6 +66,35 @@ fn sign_failing(alloc: Global, printer: Printer<'_>, words: Words<'_>) -> Result
         Ok(behind) => {
             let mut signer = FailingSigner::new(behind, chosen);
             sign_all(printer, &mut signer, words);
+            printer.number("calls", signer.calls);
+        }
+        Err(fault) => printer.tell(&fault),
+    }
+    Ok(())
+}
+
+/// The same signer signs the others together, and tells at the end how many faults there were.
+fn sign_together(alloc: Global, printer: Printer<'_>, words: Words<'_>) -> Result<(), AllocError> {
+    let mut words = words;
+    let chosen = chosen_of(alloc, words.next())?;
+    let key = printer.names.octets(words.next());
+    let mut texts = Vec::new(alloc);
+    for _ in 0..words.rest.len() {
+        let name = words.next();
+        if name.is_empty() {
+            break;
+        }
+        texts.push(printer.names.octets(name))?;
+    }
+    let mut answers = Vec::with_capacity(alloc, texts.len())?;
+    match stand_in(alloc, key) {
+        Ok(behind) => {
+            let mut signer = FailingSigner::new(behind, chosen);
+            signer.sign_each(&texts, &mut answers);
+            for answer in &answers {
+                tell_answer(printer, answer);
+            }
+            printer.number("faults", signer.faults());
             printer.number("calls", signer.calls);
         }
         Err(fault) => printer.tell(&fault),
@@ -114,6 +147,7 @@ pub fn call(alloc: Global, printer: Printer<'_>, words: Words<'_>) -> Result<(),
             Ok(())
         }
         "failing" => sign_failing(alloc, printer, words),
+        "together" => sign_together(alloc, printer, words),
         "pieces" => {
             let size = words.number() as usize;
             sign_framed(alloc, printer, size, words)

@@ -34,6 +34,14 @@ pub returns-in-migrate-clause-none : goal.returns-in-migrate-clause-none
 returns-in-migrate-clause-none c =
     named_none (rows_of (found_of c.args.words.now)) c.migrate_word.result c.in-migrate.is c.migrate_word.ensures.none
 
+pub returns-in-continue-clause-found : goal.returns-in-continue-clause-found
+returns-in-continue-clause-found c =
+    named_found (rows_of (found_of c.args.words.now)) c.continue_word.result c.in-continue.is c.continue_word.ensures.found
+
+pub returns-in-continue-clause-none : goal.returns-in-continue-clause-none
+returns-in-continue-clause-none c =
+    named_none (rows_of (found_of c.args.words.now)) c.continue_word.result c.in-continue.is c.continue_word.ensures.none
+
 pub returns-in-calibrate-clause-found : goal.returns-in-calibrate-clause-found
 returns-in-calibrate-clause-found c =
     named_found (rows_of (found_of c.args.words.now)) c.calibrate_word.result c.in-calibrate.is c.calibrate_word.ensures.found
@@ -61,5 +69,5 @@ returns-in-audit-clause-none c =
 pub returns-in_default-clause-none : goal.returns-in_default-clause-none
 returns-in_default-clause-none c = λ none.
     none_other c.args.name.now (rows_of (found_of c.args.words.now)) c.in_default.not-tst c.in_default.not-check
-    c.in_default.not-init c.in_default.not-migrate c.in_default.not-calibrate c.in_default.not-hold
-    c.in_default.not-audit (c.signed_word_named.ensures.none none)
+    c.in_default.not-init c.in_default.not-migrate c.in_default.not-continue c.in_default.not-calibrate
+    c.in_default.not-hold c.in_default.not-audit (c.signed_word_named.ensures.none none)

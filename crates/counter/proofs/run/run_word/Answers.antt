@@ -10,6 +10,10 @@ returns-in_ok-migrate-in-Migrate-clause-done g c = λ _.
       appends_nothing (g.O.Write.contents c.args.output.now),
     )
 
+pub returns-in_ok-continue_in-in-Continue-clause-done : goal.returns-in_ok-continue_in-in-Continue-clause-done
+returns-in_ok-continue_in-in-Continue-clause-done g c = λ _.
+    rw c.in-Continue.is (refl, appends_nothing (g.O.Write.contents c.args.output.now))
+
 pub returns-in_ok-calibrate-in-Calibrate-clause-done : goal.returns-in_ok-calibrate-in-Calibrate-clause-done
 returns-in_ok-calibrate-in-Calibrate-clause-done g c = λ _.
     rw c.in-Calibrate.is (

@@ -1,22 +1,16 @@
-use Rattle.std.proofs.Common.{◌<◌, ◌∙◌, [], Ok, Err, refl, sym, ap, subst, inl, arith}
+use Rattle.std.proofs.Common.{◌<◌, ◌∙◌, [], Ok, refl, sym, ap, inl, arith}
 use Rattle.der.specs.ObjectIdentifier.{oid_content}
 use Rattle.book.specs.History.{greatest_serial}
 use Rattle.book.specs.Sound.{greatest_number}
-use Rattle.desk.specs.Calls.{refused, plan_of, opening_view, IsOfReserving, Reserves}
-use Rattle.desk.specs.Outcome.{faults_after, all_fine}
-use Rattle.desk.specs.declared.refusal.Refusal.{Refusal}
-use Rattle.desk.proofs.Reserves.{next_is, fits_next, adding_counted, adding_is, adding_refused, reserves_next}
+use Rattle.desk.specs.Calls.{plan_of, opening_view}
+use Rattle.desk.specs.Outcome.{all_fine}
+use Rattle.desk.proofs.Reserves.{next_is, fits_next, adding_counted, adding_refused, reserves_next}
 use Rattle.desk.proofs.Reserves.{left_number, made, unwritten, waiting, waits_for}
 use Rattle.desk.proofs.reserving.reserve_next.Goals as goal
 
 pub returns-in-Err-clause-counted : goal.returns-in-Err-clause-counted
 returns-in-Err-clause-counted g c =
-    c.in-Err.ensures.appends.faults ∙ (adding_counted c.in-Err.fault (g.B.Standing.fault_count c.args.store.now)
-    ∙ ap (λ r. faults_after (refused r) (g.B.Standing.fault_count c.args.store.now)) (sym c.adding_refusal.ensures))
-
-pub returns-in-Err-clause-refusals : goal.returns-in-Err-clause-refusals
-returns-in-Err-clause-refusals g c =
-    subst IsOfReserving (sym c.adding_refusal.ensures) (adding_is c.in-Err.fault c.in-Err.ensures.refusals)
+    c.in-Err.ensures.appends.faults ∙ adding_counted c.in-Err.fault (g.B.Standing.fault_count c.args.store.now)
 
 pub returns-in-Err-clause-reserves : goal.returns-in-Err-clause-reserves
 returns-in-Err-clause-reserves g c honest b st e =
@@ -26,14 +20,12 @@ returns-in-Err-clause-reserves g c honest b st e =
     let s = opening_view c.args.opening in
     let plan = plan_of c.args.planned in
     let octets = c.args.query.now in
-    subst (λ (r : Refusal). Reserves g.B.Standing s c.args.account.now plan octets b c.args.store.now c.reserve.new.self
-    (Err r)) (sym c.adding_refusal.ensures)
-    (adding_refused g.B.Standing s c.args.account.now plan octets b c.args.store.now c.reserve.new.self c.in-Err.fault _
-    c.in-Err.ensures.refusals below (λ f. c.in-Err.ensures.full honest b st (ap Err f))
+    adding_refused g.B.Standing s c.args.account.now plan octets b c.args.store.now c.add.new.store c.in-Err.fault _
+    c.in-Err.ensures.refusals below
     (next_is s c.args.account.now plan octets b c.args.planned.last _ _ _ _ _ _ e p.number p.moment
     (c.content.ensures.encoded ∙ ap oid_content p.policy_is) p.algorithm_is p.digest_is
     (c.deref.ensures.value ∙ p.tst_is))
-    (fits_next _ b c.args.planned.last e p.number left p.moment_within) honest st c.in-Err.ensures.appends)
+    (fits_next _ b c.args.planned.last e p.number left p.moment_within) honest st c.in-Err.ensures.appends
 
 pub returns-clause-reserves : goal.returns-clause-reserves
 returns-clause-reserves g c honest b st e =
@@ -46,7 +38,7 @@ returns-clause-reserves g c honest b st e =
     let prepared = c.in_ok-prepared.prepared in
     let r = made prepared.serial c.args.account.now prepared.gen_time c.content.result.now prepared.algorithm.now
     prepared.digest.now octets c.deref.result.now in
-    reserves_next g.B.Standing s c.args.account.now plan octets b c.args.store.now c.reserve.new.self _ r
+    reserves_next g.B.Standing s c.args.account.now plan octets b c.args.store.now c.add.new.store _ r
     (left_number (all_fine (Ok [])) b below)
     (next_is s c.args.account.now plan octets b c.args.planned.last _ _ _ _ _ _ e p.number p.moment
     (c.content.ensures.encoded ∙ ap oid_content p.policy_is) p.algorithm_is p.digest_is

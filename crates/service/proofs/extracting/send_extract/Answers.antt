@@ -1,7 +1,8 @@
-use Rattle.std.proofs.Common.{◌≡◌, ◌∙◌, ℕ, ◌+◌, ◌^◌, ◌<◌, ◌≤◌, length, ap, arith, inl, inr, subst, sym}
+use Rattle.std.proofs.Common.{◌≡◌, ◌∙◌, ℕ, ◌+◌, ◌<◌, ◌≤◌, length, ap, arith, subst, sym}
+use Rattle.std.proofs.KnownBytes.{Appends-nil}
 use Rattle.service.specs.Extracting.{SendsExtract}
 use Rattle.service.specs.declared.served.Served.TheVariants as served
-use Rattle.service.proofs.ExtractLemmas.{extract_head, head_cut, rows_cut, all_written, too_many}
+use Rattle.service.proofs.ExtractLemmas.{extract_head, head_cut, rows_cut, all_written}
 use Rattle.service.proofs.extracting.send_extract.Goals as goal
 
 pub returns-then-of_head-len-clause-sent : goal.returns-then-of_head-len-clause-sent
@@ -15,10 +16,10 @@ returns-then-of_head-len-clause-sent g c =
     c.write_octets-of_head.new.out c.args.store.now c.args.store.now
     c.args.inquiry.now.from c.args.inquiry.now.to c.args.length
     (served.WriteFailed status n) in
-    inl (subst P (sym c.as_u16-status.ensures.value)
+    subst P (sym c.as_u16-status.ensures.value)
     (head_cut g.B.Standing g.W.Write.contents c.args.context.now.at.reading c.args.writer.now c.args.writer.now c.write_octets-of_head.new.out
     c.args.store.now c.args.store.now c.args.inquiry.now.from c.args.inquiry.now.to c.args.length head states n short
-    c.write_octets-of_head.ensures.written))
+    c.write_octets-of_head.ensures.written)
 
 pub returns-then-written-length-clause-sent : goal.returns-then-written-length-clause-sent
 returns-then-written-length-clause-sent g c =
@@ -45,13 +46,13 @@ returns-then-written-length-clause-sent g c =
     c.write_extract-written.new.out c.args.store.now c.write_extract-written.new.store
     c.args.inquiry.now.from c.args.inquiry.now.to
     c.args.length (served.WriteFailed status sent) in
-    inl (subst (P c.as_u16-status.result) sent (subst (λ s. P s (length head + octets))
+    subst (P c.as_u16-status.result) sent (subst (λ s. P s (length head + octets))
     (sym c.as_u16-status.ensures.value)
     (rows_cut g.B.Standing g.W.Write.contents c.args.context.now.at.reading c.args.writer.now c.write_octets-of_head.new.out
     c.write_extract-written.new.out c.args.store.now c.write_extract-written.new.store
     c.args.inquiry.now.from c.args.inquiry.now.to
     c.args.length head states n octets c.write_extract-written.result.outcome whole
-    c.write_octets-of_head.ensures.written c.write_extract-written.ensures.written c.if-written-length.true)))
+    c.write_octets-of_head.ensures.written c.write_extract-written.ensures.written c.if-written-length.true))
 
 pub returns-clause-sent : goal.returns-clause-sent
 returns-clause-sent g c =
@@ -72,23 +73,24 @@ returns-clause-sent g c =
     c.write_extract-written.new.out c.args.store.now c.write_extract-written.new.store
     c.args.inquiry.now.from c.args.inquiry.now.to
     c.args.length (served.Answered status) in
-    inl (subst P (sym c.as_u16-status.ensures.value)
+    subst P (sym c.as_u16-status.ensures.value)
     (all_written g.B.Standing g.W.Write.contents c.args.context.now.at.reading c.args.writer.now c.write_octets-of_head.new.out
     c.write_extract-written.new.out c.args.store.now c.write_extract-written.new.store
     c.args.inquiry.now.from c.args.inquiry.now.to
     c.args.length head states n octets c.write_extract-written.result.outcome whole
     c.write_octets-of_head.ensures.written c.write_extract-written.ensures.written least
-    c.write_extract-written.ensures.within))
+    c.write_extract-written.ensures.within)
 
 pub returns-then-most-count-clause-sent : goal.returns-then-most-count-clause-sent
 returns-then-most-count-clause-sent g c =
     let head = c.head_text-head.result.bytes in
     let states : head ≡ extract_head c.args.context.now.at.reading c.args.length = c.head_text-head.ensures.value in
-    let many : 2 ^ 64 ≤ length head + c.args.length =
-    omega (arith, c.if-most-count.true, c.len-most.ensures.value, c.len-most.ensures.fits) in
-    inr (
-      λ b is. too_many g.B.Standing g.W.Write.contents c.args.context.now.at.reading c.args.writer.now c.args.writer.now c.wanting.new.writer
-          c.args.store.now c.args.store.now
-          c.args.inquiry.now.from c.args.inquiry.now.to c.args.length head states many b is,
-      c.wanting.ensures,
-    )
+    let some : 0 < length head = omega (arith, c.if-most-count.true, c.len-most.ensures.value, c.len-most.ensures.fits) in
+    let P : ℕ → Type 0 = λ status. SendsExtract g.B.Standing g.W.Write.contents c.args.context.now.at.reading c.args.writer.now
+    c.args.writer.now c.args.store.now c.args.store.now
+    c.args.inquiry.now.from c.args.inquiry.now.to c.args.length
+    (served.WriteFailed status 0) in
+    subst P (sym c.as_u16-status.ensures.value)
+    (head_cut g.B.Standing g.W.Write.contents c.args.context.now.at.reading c.args.writer.now c.args.writer.now c.args.writer.now
+    c.args.store.now c.args.store.now c.args.inquiry.now.from c.args.inquiry.now.to c.args.length head states 0 some
+    (Appends-nil (g.W.Write.contents c.args.writer.now)))

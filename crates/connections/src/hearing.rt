@@ -1,0 +1,38 @@
+//! What connections are heard on.
+ghost use Rattle.std.specs.Prelude.{MatchOption};
+ghost use Rattle.service.specs.Received.{ReceivedValue};
+
+use service::{Exchanged, Request, Routes};
+use std::alloc::Global;
+use std::io::Write;
+
+/// What hands out connections, each once its request is whole, and takes them back behind their answers. It may tell
+/// what it does; what is proved over all is proved of those that tell, and no code can know one from another.
+pub trait Hearing {
+    /// What an answer is written to.
+    type Stream: Write + Drop;
+
+    // a connection is handed out: what came of its request, and what its answer goes to
+    ghost hands: { Self → ReceivedValue → Self.Stream → Self → Type 0 } = { λ _ _ _ _. Unit {0} };
+
+    // one failed, or was given up for another
+    ghost fails: { Self → Self → Type 0 } = { λ _ _. Unit {0} };
+
+    // one is taken back
+    ghost takes_back: { Self → Self.Stream → Self → Type 0 } = { λ _ _ _. Unit {0} };
+
+    /// What gives memory for an answer.
+    fn alloc(&self) -> Global;
+
+    /// What requests may ask for.
+    fn routes(&self) -> &Routes;
+
+    /// Waits for the next connection whose request is whole; none for one that failed. At most so many are waited for.
+    fn next(&mut self, most: usize) -> Option<(Request, Self::Stream)>
+        ensures { MatchOption result (fails self.old self.new)
+            (λ whole. hands self.old whole.0 whole.1 self.new) };
+
+    /// Takes back a connection whose answer was written.
+    fn take_back(&mut self, stream: Self::Stream, exchanged: Exchanged)
+        ensures { takes_back self.old stream self.new };
+}

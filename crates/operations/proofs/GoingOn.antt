@@ -1,0 +1,370 @@
+-- How a history goes on in a new book.
+use Rattle.std.proofs.Common.{◌≡◌, ◌⊎◌, ℕ, ◌<◌, ◌≤◌, ◌==◌, ◌&&◌, ◌||◌, max, Bool, true, false, not, nat_le, nat_lt, List, []}
+use Rattle.std.proofs.Common.{◌∷◌, ◌++◌, map, reverse, Option, None, Some, option_map, option_to_list, refl, sym, ap, ap₂}
+use Rattle.std.proofs.Common.{◌∙◌, subst, inl, inr, arith, Result, Ok, Err, IfOk, append_assoc, if◌then◌else◌, find, length, take, get_or, ◌+◌}
+use Rattle.std.specs.Prelude.{OnOk, OnErr}
+use Rattle.std.specs.List.{filter, list_any}
+use Rattle.std.proofs.Math.Nat.{le-max_left, le-max_right, max-eq_left}
+use Rattle.std.proofs.lemmas.Bool.{le-leb, le-ltb, lt-leb, lt-ltb, eq-eqb}
+use Rattle.std.proofs.lemmas.List.{map-append, reverse-append, reverse-reverse, take_more}
+use Rattle.std.proofs.lemmas.List.Elements.{filter-append}
+use Rattle.std.proofs.lemmas.List.Sorted.{IsPermutation-reverse, list_any-IsPermutation}
+use Rattle.sqlite_disk.specs.declared.Disk.{Ghosts as Disk}
+use Rattle.sqlite_store.specs.declared.store.FileStore.{FileStore}
+use Rattle.sqlite_wal.specs.Recovery.{Image}
+use Rattle.sqlite.specs.Files.{over_files}
+use Rattle.tables.specs.Base.{BaseValue}
+use Rattle.store.specs.Stands.{over_tables, Stands as StoreStands}
+use Rattle.book.specs.Continuing.{Floor, all_moments, closed, continued, entry_if, first_entries, holds_all, identity_since}
+use Rattle.book.specs.Continuing.{IsAboveIfAny, is_closed, last_reservation, last_stamp, other_holds, stamp_with_identity}
+use Rattle.book.specs.Entries.{Appends, FitInTurn, with_all}
+use Rattle.book.specs.History.{Entry, Reserved, Installed, Calibrated, Held, History, HoldValue, InstalledValue}
+use Rattle.book.specs.History.{CalibrationValue}
+use Rattle.book.specs.History.{ReservationValue, first_of, greatest_of, greatest_serial, holds, latest_calibration}
+use Rattle.book.specs.History.{reservation_at, reservations, stamp_of, stamps_between, token_of}
+use Rattle.book.specs.Identities.{identities, identity_at_reservation, identity_before, installed_as, installed_row}
+use Rattle.book.specs.Identities.{installed_rows}
+use Rattle.book.specs.Ranges.{IsNextStamp}
+use Rattle.book.specs.Rows.{InstalledRow, StampRow}
+use Rattle.book.specs.Sound.{IsSound}
+use Rattle.book.specs.Stands.{OnlyLooks, Stands}
+use Rattle.book.specs.Values.{calibration_option, hold_view, identity_view, stamp_view}
+use Rattle.book.specs.declared.fault.StoreFault.{StoreFault}
+use Rattle.book.specs.declared.rows.Stamp.{Stamp}
+use Rattle.book.specs.declared.standing.Standing.{Ghosts}
+use Rattle.book.specs.declared.values.Hold.{Hold}
+use Rattle.operations.specs.Continuing.{Closes, ClosesKnown, Continues, IsCarried, entries_of, entries_of_hold}
+use Rattle.operations.specs.Continuing.{entries_of_holds, entries_of_identity, entries_of_last, identity_since_among}
+use Rattle.operations.specs.Continuing.{last_stamp_of, latest_of}
+use Rattle.operations.specs.OverFiles.{IsClosedOver, IsContinuedOver, IsDoneOver, IsLeft, IsMadeOver}
+use Rattle.operations.specs.declared.carrying.Carried.{Carried}
+
+-- ---- lists
+
+filter_turned : {X : Type 0} (p : X → Bool) (xs : List X) → filter p (reverse xs) ≡ reverse (filter p xs)
+filter_turned p [] = refl
+filter_turned {X} p (x ∷ xs) =
+    ap (filter p) (reverse-append (x ∷ []) xs) ∙ filter-append p (reverse xs) (x ∷ [])
+    ∙ ap (λ ys. ys ++ filter p (x ∷ [])) (filter_turned p xs)
+    ∙ ap (λ ys. reverse (filter p xs) ++ ys) (sym (alone (p x)))
+    ∙ sym (reverse-append (filter p (x ∷ [])) (filter p xs)) ∙ ap reverse (sym (filter-append p (x ∷ []) xs))
+  where
+    alone : (b : Bool) → reverse (if b then x ∷ [] else []) ≡ (if b then x ∷ [] else [])
+    alone true = refl
+    alone false = refl
+
+any_turned : {X : Type 0} (p : X → Bool) (xs : List X) → list_any p (reverse xs) ≡ list_any p xs
+any_turned p xs = sym (list_any-IsPermutation p xs (reverse xs) (IsPermutation-reverse xs))
+
+-- holds that are known in their order tell whether the book is closed
+pub known_closed : (b : History) (hs : List HoldValue) → hs ≡ reverse (holds b) → list_any holds_all hs ≡ is_closed b
+known_closed b hs is = ap (list_any holds_all) is ∙ any_turned holds_all (holds b)
+
+-- ---- the last stamp
+
+abbrev Falls : List ReservationValue → Type 0
+Falls [] = Unit {0}
+Falls (r ∷ rs) = (greatest_of rs < r.serial) × Falls rs
+
+falls : (b : History) → IsSound b → Falls (reservations b)
+falls [] sound = tt
+falls (Reserved r ∷ b) sound = (sound.0.rises, falls b sound.1)
+falls (_ ∷ b) sound = falls b sound.1
+
+abbrev is_at : ℕ → StampRow → Bool
+is_at n s = nat_le n s.serial && nat_le s.serial n
+
+none_at : (token : ReservationValue → Option (List ℕ)) (rs : List ReservationValue) (n : ℕ) → greatest_of rs < n
+    → filter (is_at n) (map (λ r. stamp_of (token r) r) rs) ≡ []
+none_at token [] n above = refl
+none_at token (r ∷ rs) n above =
+    let left : r.serial ≤ max r.serial (greatest_of rs) = le-max_left _ _ in
+    let right : greatest_of rs ≤ max r.serial (greatest_of rs) = le-max_right _ _ in
+    let here : r.serial < n = omega (arith, left, above) in
+    let there : greatest_of rs < n = omega (arith, right, above) in
+    rw (lt-leb n r.serial here) (none_at token rs n there)
+
+first_at : (token : ReservationValue → Option (List ℕ)) (rs : List ReservationValue) → Falls rs
+    → filter (is_at (greatest_of rs)) (map (λ r. stamp_of (token r) r) rs)
+    ≡ option_to_list (option_map (λ r. stamp_of (token r) r) (first_of rs))
+first_at token [] fall = refl
+first_at token (r ∷ rs) fall =
+    let rises : greatest_of rs < r.serial = fall.0 in
+    let same : r.serial ≤ r.serial = omega arith in
+    let greatest : max r.serial (greatest_of rs) ≡ r.serial = max-eq_left (omega (arith, rises)) in
+    let P : ℕ → Type 0 =
+    λ n. filter (is_at n) (map (λ x. stamp_of (token x) x) (r ∷ rs)) ≡ stamp_of (token r) r ∷ [] in
+    let here : P r.serial = rw (le-leb r.serial r.serial same, none_at token rs r.serial rises) refl in
+    subst P (sym greatest) here
+
+turned_option : {X : Type 0} (o : Option X) → reverse (option_to_list o) ≡ option_to_list o
+turned_option None = refl
+turned_option (Some x) = refl
+
+last_among : (b : History) → IsSound b
+    → stamps_between (greatest_serial b) (greatest_serial b) b ≡ option_to_list (last_stamp_of b)
+last_among b sound =
+    ap reverse (first_at (λ r. token_of r.serial b) (reservations b) (falls b sound)) ∙ turned_option (last_stamp_of b)
+
+pub last_found : (b : History) (serial : ℕ) (found : Option Stamp) → IsSound b → serial ≡ greatest_serial b
+    → IsNextStamp serial serial b found → option_map stamp_view found ≡ last_stamp_of b
+last_found b serial found sound is next =
+    go found (last_stamp_of b) (last_among b sound) (subst (λ n. IsNextStamp n n b found) is next)
+  where
+    go : (found : Option Stamp) (o : Option StampRow)
+        → stamps_between (greatest_serial b) (greatest_serial b) b ≡ option_to_list o
+        → IsNextStamp (greatest_serial b) (greatest_serial b) b found → option_map stamp_view found ≡ o
+    go None None are next = refl
+    go None (Some s) are next = let apart = sym next ∙ are in cc
+    go (Some stamp) None are next = let apart = sym next ∙ are in cc
+    go (Some stamp) (Some s) are next = let same = sym next ∙ are in cc
+
+-- ---- its identity, and a later one
+
+first_found : (rs : List ReservationValue) (r : ReservationValue) → first_of rs ≡ Some r
+    → find (λ x. x.serial == r.serial) rs ≡ Some r
+first_found [] r is = let apart = is in cc
+first_found (x ∷ rs) r is =
+    let same : x ≡ r = cc in
+    rw (eq-eqb x.serial r.serial (ap (λ (v : ReservationValue). v.serial) same)) (ap Some same)
+
+-- what tells who signed
+abbrev pub TellsSigner : Type 0
+TellsSigner =
+    (b : History) (serial : ℕ) (r : ReservationValue) → IsSound b → reservation_at serial b ≡ Some r
+    → option_map installed_as (identity_before serial (identities b)) ≡ identity_at_reservation serial b
+
+last_is : (b : History) → IsSound b → TellsSigner
+    → entries_of_last (last_stamp_of b) (identities b) ≡ stamp_with_identity None (last_reservation b) b
+last_is b sound tells = go (last_reservation b) refl
+  where
+    go : (o : Option ReservationValue) → last_reservation b ≡ o
+        → entries_of_last (option_map (λ r. stamp_of (token_of r.serial b) r) o) (identities b) ≡ stamp_with_identity None o b
+    go None e = refl
+    go (Some r) e =
+        ap (λ i. entry_if Installed i ++ last_stamp None r b) (tells b r.serial r sound (first_found (reservations b) r e))
+
+after_below : (b : History) (row : InstalledRow) → first_of (installed_rows b) ≡ Some row
+    → row.after_serial ≤ greatest_serial b
+after_below [] row is = let apart = is in cc
+after_below (Installed i ∷ b) row is =
+    let same : installed_row i b ≡ row = cc in
+    let after : greatest_serial b ≡ row.after_serial = ap (λ (r : InstalledRow). r.after_serial) same in
+    omega (arith, after)
+after_below (Reserved r ∷ b) row is =
+    let right : greatest_serial b ≤ max r.serial (greatest_serial b) = le-max_right _ _ in
+    let rest = after_below b row is in
+    omega (arith, right, rest)
+after_below (_ ∷ b) row is = after_below b row is
+
+not_above : (rs : List ReservationValue) (r : ReservationValue) → first_of rs ≡ Some r → r.serial ≤ greatest_of rs
+not_above [] r is = let apart = is in cc
+not_above (x ∷ rs) r is =
+    let same : x ≡ r = cc in
+    let left : x.serial ≤ max x.serial (greatest_of rs) = le-max_left _ _ in
+    let serial : x.serial ≡ r.serial = ap (λ (v : ReservationValue). v.serial) same in
+    omega (arith, left, serial)
+
+abbrev serial_in : Option StampRow → Option ℕ
+serial_in o = option_map (λ s. s.serial) o
+
+abbrev reserved_in : Option ReservationValue → Option ℕ
+reserved_in o = option_map (λ r. r.serial) o
+
+since_is : (b : History) (o : Option StampRow) → IsSound b → serial_in o ≡ reserved_in (last_reservation b)
+    → option_map installed_as (identity_since_among o (first_of (installed_rows b))) ≡ identity_since b
+since_is [] o sound same = refl
+since_is (Reserved r ∷ b) None sound same = let apart = same in cc
+since_is (Reserved r ∷ b) (Some s) sound same = go (first_of (installed_rows b)) refl
+  where
+    go : (row : Option InstalledRow) → first_of (installed_rows b) ≡ row
+        → option_map installed_as (identity_since_among (Some s) row) ≡ None
+    go None e = refl
+    go (Some row) e =
+        let below = after_below b row e in
+        let rises : greatest_serial b < r.serial = sound.0.rises in
+        let serial : s.serial ≡ r.serial = cc in
+        rw (lt-ltb row.after_serial s.serial (omega (arith, below, rises, serial))) refl
+since_is (Installed i ∷ b) None sound same = refl
+since_is (Installed i ∷ b) (Some s) sound same = go (last_reservation b) refl same
+  where
+    go : (o : Option ReservationValue) → last_reservation b ≡ o → serial_in (Some s) ≡ reserved_in o
+        → option_map installed_as (identity_since_among (Some s) (Some (installed_row i b))) ≡ Some i
+    go None e none = let apart = none in cc
+    go (Some r) e is =
+        let serial : s.serial ≡ r.serial = cc in
+        let above = not_above (reservations b) r e in
+        rw (le-ltb (greatest_serial b) s.serial (omega (arith, serial, above))) refl
+since_is (_ ∷ b) o sound same = since_is b o sound.1 same
+
+serial_of_last : (b : History) → serial_in (last_stamp_of b) ≡ reserved_in (last_reservation b)
+serial_of_last b = go (last_reservation b)
+  where
+    go : (o : Option ReservationValue)
+        → serial_in (option_map (λ r. stamp_of (token_of r.serial b) r) o) ≡ reserved_in o
+    go None = refl
+    go (Some r) = refl
+
+later_is : (b : History) → IsSound b
+    → entries_of_identity (identity_since_among (last_stamp_of b) (latest_of (identities b)))
+    ≡ entry_if Installed (identity_since b)
+later_is b sound =
+    ap (λ rows. entries_of_identity (identity_since_among (last_stamp_of b) (first_of rows)))
+    (reverse-reverse (installed_rows b))
+    ∙ ap (entry_if Installed) (since_is b (last_stamp_of b) sound (serial_of_last b))
+
+-- ---- the first entries
+
+abbrev entries_from : Option CalibrationValue → List HoldValue → Option StampRow → List InstalledRow → List Entry
+entries_from calibration hs stamp rows =
+    entry_if Calibrated calibration ++ (entries_of_holds hs
+    ++ (entries_of_last stamp rows ++ entries_of_identity (identity_since_among stamp (latest_of rows))))
+
+pub entries_are : (c : Carried) (b : History) → IsSound b → TellsSigner → IsCarried c b
+    → entries_of c ≡ first_entries None b
+entries_are c b sound tells carried =
+    ap (λ x. entries_from x (map hold_view c.holds.items) (option_map stamp_view c.stamp)
+    (map identity_view c.identities.items)) carried.calibration
+    ∙ ap (λ x. entries_from (latest_calibration b) x (option_map stamp_view c.stamp)
+    (map identity_view c.identities.items)) carried.holds
+    ∙ ap (λ x. entries_from (latest_calibration b) (reverse (holds b)) x (map identity_view c.identities.items)) carried.stamp
+    ∙ ap (λ x. entries_from (latest_calibration b) (reverse (holds b)) (last_stamp_of b) x) carried.identities
+    ∙ ap₂ (λ hs rest. entry_if Calibrated (latest_calibration b) ++ (map Held hs ++ rest))
+    (filter_turned (λ h. not (holds_all h)) (holds b))
+    (ap₂ (λ xs ys. xs ++ ys) (last_is b sound tells) (later_is b sound))
+
+-- one hold more
+one_alone : (h : HoldValue) → entries_of_hold h ≡ entries_of_holds (h ∷ [])
+one_alone h = go (holds_all h)
+  where
+    go : (b : Bool) → (if b then [] else Held h ∷ []) ≡ map Held (if not b then h ∷ [] else [])
+    go true = refl
+    go false = refl
+
+one_hold : (old now new : List Entry) (hs : List HoldValue) (h : HoldValue) → now ≡ old ++ entries_of_holds hs
+    → new ≡ now ++ entries_of_hold h → new ≡ old ++ entries_of_holds (hs ++ h ∷ [])
+one_hold old now new hs h before more =
+    more ∙ ap (λ es. es ++ entries_of_hold h) before ∙ append_assoc old (entries_of_holds hs) (entries_of_hold h)
+    ∙ ap (λ es. old ++ (entries_of_holds hs ++ es)) (one_alone h)
+    ∙ ap (λ es. old ++ es) (sym (ap (map Held) (filter-append (λ h. not (holds_all h)) hs (h ∷ []))
+    ∙ map-append Held (filter (λ h. not (holds_all h)) hs) (filter (λ h. not (holds_all h)) (h ∷ []))))
+
+map_more : (hs : List Hold) (i : ℕ) (d : Hold) → i < length hs
+    → map hold_view (take i hs) ++ hold_view (get_or hs i d) ∷ [] ≡ map hold_view (take (i + 1) hs)
+map_more hs i d inside =
+    sym (map-append hold_view (take i hs) (get_or hs i d ∷ [])) ∙ ap (map hold_view) (sym (take_more hs i d inside))
+
+pub next_hold : (old now new : List Entry) (hs : List Hold) (i : ℕ) (d : Hold) → i < length hs
+    → now ≡ old ++ entries_of_holds (map hold_view (take i hs))
+    → new ≡ now ++ entries_of_hold (hold_view (get_or hs i d))
+    → new ≡ old ++ entries_of_holds (map hold_view (take (i + 1) hs))
+next_hold old now new hs i d inside before more =
+    one_hold old now new (map hold_view (take i hs)) (hold_view (get_or hs i d)) before more
+    ∙ ap (λ hs. old ++ entries_of_holds hs) (map_more hs i d inside)
+
+-- ---- the old book
+
+-- nothing is done to it, since it is closed
+pub closed_already : {X : Type 0} (g : Ghosts X) (Knows : History → Type 0) (book : X)
+    → ((b : History) → Knows b → is_closed b ≡ true) → ClosesKnown {A = Unit {0}} g Knows book book (Ok tt)
+closed_already g Knows book tells = record {
+  honest = λ h. h;
+  closes = λ h b s k. rw (tells b k) s;
+  kept = λ b s. tt;
+  crash = λ h l leaves. inl leaves;
+}
+
+-- a hold of all moments is added
+pub closed_now : {X : Type 0} (g : Ghosts X) (Knows : History → Type 0) (old new : X) (done : Result (Unit {0}) StoreFault)
+    → ((b : History) → Knows b → is_closed b ≡ false) → FitInTurn (Held all_moments ∷ []) []
+    → Appends g (Held all_moments ∷ []) old new done → ClosesKnown g Knows old new done
+closed_now g Knows old new done tells fit appends = record {
+  honest = appends.honest;
+  closes = λ h b s k. rw (tells b k) (appends.ok b s (fit.0, tt));
+  kept = appends.err;
+  crash = λ h l leaves. elim (appends.crash h l leaves) [
+    | inl before ↦ inl before
+    | inr adds ↦ inr (λ b s k. rw (tells b k) (adds b s (fit.0, tt)))
+  ];
+}
+
+-- it was only looked at
+pub unclosed : {X A : Type 0} (g : Ghosts X) (Knows : History → Type 0) (old new : X) (fault : StoreFault)
+    → OnlyLooks g old new → ClosesKnown {A = A} g Knows old new (Err fault)
+unclosed g Knows old new fault looks = record {
+  honest = looks.honest;
+  closes = λ h b s k. tt;
+  kept = λ b s. looks.stands b s;
+  crash = λ h l leaves. inl (looks.leaves h l leaves);
+}
+
+-- it was looked at before
+pub closed_after : {X A B : Type 0} (g : Ghosts X) (Knows Knew : History → Type 0) (old mid new : X)
+    (done : Result A StoreFault) (answer : Result B StoreFault) → OnlyLooks g old mid
+    → ((P : Type 0) → OnOk done P → OnOk answer P) → ((P : Type 0) → OnErr done P → OnErr answer P)
+    → (g.honest mid → (b : History) → Stands g b old → Knew b → Knows b)
+    → ClosesKnown g Knows mid new done → ClosesKnown g Knew old new answer
+closed_after g Knows Knew old mid new done answer looks ok err tells closes = record {
+  honest = λ h. looks.honest (closes.honest h);
+  closes = λ h b s k. ok _ (closes.closes h b (looks.stands b s) (tells (closes.honest h) b s k));
+  kept = λ b s. err _ (closes.kept b (looks.stands b s));
+  crash = λ h l leaves. elim (closes.crash h l leaves) [
+    | inl before ↦ inl (looks.leaves (closes.honest h) l before)
+    | inr adds ↦ inr (λ b s k. adds b (looks.stands b s) (tells (closes.honest h) b s k))
+  ];
+}
+
+-- ---- both books
+
+-- a store that stands for a history is a book that does
+pub stands_as_book : {D : Type 0} (disk : Disk D) (b : History) (store : BaseValue (FileStore D disk))
+    → StoreStands over_files b store → Stands (over_tables over_files) b store
+stands_as_book disk b store s = record {
+  sound = s.sound;
+  kept = s.kept;
+  settled = λ honest is_open left leaves. (s.kept honest is_open).leaves left leaves;
+}
+
+pub closed_over : {D : Type 0} (disk : Disk D) (held : Image) (done : Result Carried StoreFault)
+    → IsDoneOver disk held (λ opened left. Closes (over_tables over_files) opened left done)
+    → IfOk done (λ carried. IsClosedOver disk held carried)
+closed_over disk held (Ok carried) closes = closes
+closed_over disk held (Err fault) closes = tt
+
+pub continued_over : {D E : Type 0} (disk : Disk D) (held : Image) (other : Disk E) (c : Carried) → TellsSigner
+    → ((floor : Option Floor) (b : History) → IsSound b → IsAboveIfAny floor b → FitInTurn (first_entries floor b) [])
+    → IsClosedOver disk held c → IsMadeOver other (entries_of c) → IsContinuedOver disk held other
+continued_over disk held other c tells fit (opened, found, (left, closes)) (made, stands) = (
+  opened,
+  found,
+  (
+    left,
+    (
+      made,
+      record {
+        honest = closes.known.honest;
+        closes = λ h b s. closes.known.closes h b s tt;
+        crash = λ h l leaves. elim (closes.known.crash h l leaves) [
+          | inl before ↦ inl before
+          | inr adds ↦ inr (λ b s. adds b s tt)
+        ];
+        goes_on = λ h b s.
+            let same = entries_are c b s.sound tells (closes.carried h b s) in
+            subst (λ entries. Stands (over_tables over_files) (with_all entries []) made) same
+            (stands (rw same (fit None b s.sound tt)));
+      },
+    ),
+  ),
+)
+
+pub continued_if : {D E : Type 0} (disk : Disk D) (held : Image) (other : Disk E) (c : Carried)
+    (done : Result (Unit {0}) StoreFault) → TellsSigner
+    → ((floor : Option Floor) (b : History) → IsSound b → IsAboveIfAny floor b → FitInTurn (first_entries floor b) [])
+    → IsClosedOver disk held c → OnOk done (IsMadeOver other (entries_of c)) → OnOk done (IsContinuedOver disk held other)
+continued_if disk held other c (Ok u) tells fit closes made = continued_over disk held other c tells fit closes made
+continued_if disk held other c (Err fault) tells fit closes made = tt
+
+-- a store was made with the same entries
+pub made_same : {D : Type 0} (disk : Disk D) (entries same : List Entry) (done : Result (Unit {0}) StoreFault)
+    → entries ≡ same → OnOk done (IsMadeOver disk entries) → OnOk done (IsMadeOver disk same)
+made_same disk entries same done is made = subst (λ es. OnOk done (IsMadeOver disk es)) is made

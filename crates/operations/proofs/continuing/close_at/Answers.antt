@@ -1,0 +1,6 @@
+use Rattle.operations.proofs.GoingOn.{closed_over}
+use Rattle.operations.proofs.continuing.close_at.Goals as goal
+
+pub returns-in-Ok-clause-closed : goal.returns-in-Ok-clause-closed
+returns-in-Ok-clause-closed g c =
+    closed_over _ _ c.close_and_leave.result (c.in-Ok.store, c.in-Ok.ensures.found, c.close_and_leave.ensures.closed)
