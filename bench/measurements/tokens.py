@@ -5,8 +5,8 @@ are answered beside that of half of them; the medians of runs."""
 import os
 import statistics
 
-from authority import Authority
-from serve import sent
+from measurements.serve import sent
+from modules.authority import Authority
 
 RUNS = 7
 REQUESTS = 500

@@ -3,7 +3,7 @@
 import os
 import re
 
-from programs import ROOT
+from modules.programs import ROOT
 
 BLOCK = re.compile(r"^```(sh|text)\n(.*?)^```$", re.M | re.S)
 MARK = "--- block {} ---"

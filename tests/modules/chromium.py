@@ -8,7 +8,7 @@ import select
 import subprocess
 import time
 
-from programs import openssl
+from modules.programs import openssl
 
 PROGRAM = "/usr/bin/chromium"
 # what a slow machine takes to start it, and to do one thing

@@ -7,9 +7,9 @@ import statistics
 import subprocess
 import time
 
-from authority import Authority, Running
-from serve import sent
-from timing import compiled_peer
+from measurements.serve import sent
+from measurements.timing import compiled_peer
+from modules.authority import Authority, Running
 
 RUNS = 7
 REQUESTS, BY_PROGRAM = 500, 30

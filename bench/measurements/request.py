@@ -1,8 +1,8 @@
 """The reading of a time-stamp request of 59 octets by `read_request`, beside OpenSSL's d2i_TS_REQ and TS_REQ_free: the
 processor time of one reading, the least of five runs in turns."""
 
-from programs import built
-from timing import compiled_peer, processor_time
+from measurements.timing import compiled_peer, processor_time
+from modules.programs import built
 
 RUNS = 5
 OURS, OPENSSL = 5_000_000, 500_000

@@ -1,34 +1,29 @@
 """A time-stamping authority in a folder, for the tests beside this file: a key, certificates and a database, a key
 holder and `counter serve`."""
 
-import contextlib
 import os
+import re
 import subprocess
 import tempfile
 import time
 
-from certificates import ALGORITHMS, CertificationAuthority
-from programs import EXAMPLE, KEY_HOLDER, PROGRAM, now, openssl, sqlite
+from modules.certificates import ALGORITHMS, CertificationAuthority
+from modules.programs import EXAMPLE, KEY_HOLDER, PROGRAM, now, openssl, sqlite
 
 # how long a program has to listen on its port, on a slow machine
 SECONDS_TO_START = 120
+# the lines of a start of `serve`
+LISTENING = re.compile(rb"^event=listening address=(\S+) seconds=\d+\n", re.M)
+START = re.compile(rb"event=opening octets=[1-9]\d*\n(" + LISTENING.pattern + rb")?", re.M)
+MOST_OCTETS = 4096
 MOST_CONNECTIONS = 2**32 - 1
 
 
-def listening_port(running):
-    """The port on which the process listens, once it does; none if it ends first."""
-    end = time.monotonic() + SECONDS_TO_START
-    while time.monotonic() < end and running.poll() is None:
-        with contextlib.suppress(OSError):
-            folder = f"/proc/{running.pid}/fd"
-            inodes = {os.readlink(os.path.join(folder, name)) for name in os.listdir(folder)}
-            with open("/proc/net/tcp", encoding="ascii") as file:
-                for line in file.readlines()[1:]:
-                    parts = line.split()
-                    if parts[3] == "0A" and f"socket:[{parts[9]}]" in inodes:
-                        return int(parts[1].split(":")[1], 16)
-        time.sleep(0.005)
-    return None
+def behind_start(told):
+    """What `serve` told behind the lines of its start, which have to be there: that it opens its database, and where it
+    listens, if it gets there."""
+    start = START.match(told)
+    return told[start.end() :] if start else b"no start: " + told
 
 
 class Running:
@@ -67,15 +62,29 @@ class KeyHolder(Running):
         self.port = int(self.address.rpartition(":")[2])
 
 
-class Server(Running):
-    """`counter serve`, at work on a port that the system picked."""
+class Serving(Running):
+    """`counter serve`, which tells where it is at work."""
 
     def __init__(self, words, environment=None):
         super().__init__(words, environment)
-        self.port = listening_port(self.process)
-        if self.port is None:
-            raise RuntimeError(f"it doesn't listen: {words}: {self.kill()}")
-        self.address = f"127.0.0.1:{self.port}"
+        end = time.monotonic() + SECONDS_TO_START
+        while not (listening := LISTENING.search(os.pread(self.errors.fileno(), MOST_OCTETS, 0))):
+            if self.process.poll() is not None or time.monotonic() > end:
+                raise RuntimeError(f"it doesn't listen: {words}: {self.kill()}")
+            time.sleep(0.005)
+        self.address = listening[1].decode()
+
+    def kill(self):
+        """The same, and what it wrote behind the lines of its start."""
+        return behind_start(super().kill()) if not self.errors.closed else b""
+
+
+class Server(Serving):
+    """The same on a port that the system picked."""
+
+    def __init__(self, words, environment=None):
+        super().__init__(words, environment)
+        self.port = int(self.address.rpartition(":")[2])
         self.url = f"http://{self.address}"
 
 
@@ -85,16 +94,12 @@ def listens(path, flags="00010000"):
         return any(parts[3] == flags and parts[7:] == [path] for parts in map(str.split, file))
 
 
-class UnixServer(Running):
-    """`counter serve`, at work at the path of a Unix socket."""
+class UnixServer(Serving):
+    """The same at the path of a Unix socket."""
 
     def __init__(self, path, words, environment=None):
         super().__init__(words, environment)
-        self.path, self.address, end = path, f"unix:{path}", time.monotonic() + SECONDS_TO_START
-        while not listens(path):
-            if self.process.poll() is not None or time.monotonic() > end:
-                raise RuntimeError(f"it doesn't listen: {words}: {self.kill()}")
-            time.sleep(0.005)
+        self.path = path
 
 
 class Authority:

@@ -6,8 +6,8 @@ import subprocess
 import sys
 import tempfile
 
-from programs import EXAMPLE, PROGRAM
-from timing import filled
+from measurements.timing import filled
+from modules.programs import EXAMPLE, PROGRAM
 
 STAMPS = (10, 100_000)
 

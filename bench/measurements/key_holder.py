@@ -6,10 +6,10 @@ import hashlib
 import statistics
 import subprocess
 
-from authority import KeyHolder, Running
-from certificates import KINDS, CertificationAuthority
-from programs import built_key_holder
-from timing import compiled_peer
+from measurements.timing import compiled_peer
+from modules.authority import KeyHolder, Running
+from modules.certificates import KINDS, CertificationAuthority
+from modules.programs import built_key_holder
 
 RUNS = 9
 SIGNATURES = 1_000

@@ -12,9 +12,9 @@ import statistics
 import subprocess
 import sys
 
-from authority import Authority, Running
-from programs import built
-from timing import compiled_peer, two_syncs
+from measurements.timing import compiled_peer, two_syncs
+from modules.authority import Authority, Running
+from modules.programs import built
 
 RUNS = 9
 EXCHANGES = 5_000

@@ -14,7 +14,7 @@ import sys
 import tempfile
 import time
 
-from toolchain import is_left_by_gate, is_usable, rt
+from modules.toolchain import is_left_by_gate, is_usable, rt
 
 FOLDERS = ("must-fail", "edits")
 FUNCTION = re.compile(r"^([ \t]*)(?:pub(?:\([a-z ]+\))?\s+)?(?:const\s+|final\s+)?fn\s+(\w+)")

@@ -2,7 +2,7 @@
 
 import os
 
-from programs import CRATES, played, played_refused
+from modules.programs import CRATES, played, played_refused
 
 DATA = os.path.join(CRATES, "player", "data", "scenarios")
 DIGEST = "ba7816bf8f01cfea414140de5dae2223b00361a396177a9cb410ff61f20015ad"

@@ -2,8 +2,8 @@
 time of one by `serve_one`, with the reader and the writer in memory, beside that of a head of 200 octets in as many
 fields. Each is the least of five runs in turns."""
 
-from programs import built
-from timing import processor_time
+from measurements.timing import processor_time
+from modules.programs import built
 
 RUNS = 5
 COUNT = 10_000

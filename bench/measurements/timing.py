@@ -6,9 +6,9 @@ import subprocess
 import sys
 import time
 
-from programs import PROGRAM, ROOT, compiled
+from modules.programs import PROGRAM, ROOT, compiled
 
-BENCH = os.path.join(ROOT, "bench")
+SOURCES = os.path.join(ROOT, "bench", "c")
 PAGE = bytes(4096)
 # the stamps of one account on one day, sealed, with octets of the sizes that those of a token have
 FILL = """\
@@ -28,9 +28,9 @@ def filled(folder, stamps):
 
 
 def compiled_peer(name, folder, *options):
-    """Compiles the C file of that name of this folder."""
+    """Compiles the file of that name of bench/c."""
     program = os.path.join(folder, name)
-    return compiled(os.path.join(BENCH, f"{name}.c"), program, "-O2", *options)
+    return compiled(os.path.join(SOURCES, f"{name}.c"), program, "-O2", *options)
 
 
 def counted(count, *words):

@@ -8,8 +8,8 @@ import subprocess
 import sys
 import time
 
-from programs import EXAMPLE, PROGRAM
-from timing import filled
+from measurements.timing import filled
+from modules.programs import EXAMPLE, PROGRAM
 
 RUNS = 5
 STAMPS, DEPOSITS, OCTETS = 100_000, 100, 1_048_576

@@ -11,12 +11,14 @@ import subprocess
 import tempfile
 import time
 
-ROOT = os.path.dirname(os.path.dirname(os.path.abspath(__file__)))
+TESTS = os.path.dirname(os.path.dirname(os.path.abspath(__file__)))
+ROOT = os.path.dirname(TESTS)
 SCRIPTS = os.path.join(ROOT, "scripts")
 CRATES = os.path.join(ROOT, "crates")
 PROGRAM = os.path.join(CRATES, "counter", "out", "counter")
 KEY_HOLDER = os.path.join(ROOT, "key-holder", "out", "key-holder")
 EXAMPLE = os.path.join(ROOT, "docs", "example-policy.toml")
+DATA = os.path.join(TESTS, "data")
 # Debian's Python, for which Debian's packages are installed
 PYTHON = "/usr/bin/python3"
 # a line of `openssl asn1parse`: depth, kind and text
@@ -94,14 +96,14 @@ def build(*options):
 
 
 def compiled(source, program, *options):
-    """Compiles a C file that lies beside the test."""
+    """Compiles a C file."""
     subprocess.run(["cc", "-o", program, source, *options], check=True)
     return program
 
 
 def compiled_library(name, folder):
-    """Compiles a C file of this folder as a library that a program loads before the others."""
-    source = os.path.join(ROOT, "tests", f"{name}.c")
+    """Compiles a file of tests/c as a library that a program loads before the others."""
+    source = os.path.join(TESTS, "c", f"{name}.c")
     return compiled(source, os.path.join(folder, f"{name}.so"), "-shared", "-fPIC", "-O1")
 
 

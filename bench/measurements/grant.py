@@ -12,8 +12,8 @@ import subprocess
 import tempfile
 import time
 
-from programs import PROGRAM, built
-from timing import compiled_peer, counted, filled, processor_time, two_syncs
+from measurements.timing import compiled_peer, counted, filled, processor_time, two_syncs
+from modules.programs import PROGRAM, built
 
 RUNS = 9
 GRANTS = 100

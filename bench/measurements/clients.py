@@ -9,10 +9,10 @@ import os
 import statistics
 import tempfile
 
-from authority import Authority, KeyHolder, Running
-from programs import compiled, environment_of
-from serve import sent
-from timing import BENCH, compiled_peer
+from measurements.serve import sent
+from measurements.timing import SOURCES, compiled_peer
+from modules.authority import Authority, KeyHolder, Running
+from modules.programs import compiled, environment_of
 
 RUNS = 5
 CLIENTS = 1, 4, 16, 64
@@ -66,7 +66,7 @@ def by_clients(folder, key, environment):
 
 
 def ratios(folder):
-    source, library = os.path.join(BENCH, "slow_sync.c"), os.path.join(folder, "slow_sync.so")
+    source, library = os.path.join(SOURCES, "slow_sync.c"), os.path.join(folder, "slow_sync.so")
     compiled(source, library, "-shared", "-fPIC", "-O2")
     slower = {"LD_PRELOAD": library, "SYNC_MICROSECONDS": SLOWER}
     for disk, parent, environment in (

@@ -8,7 +8,7 @@ import random
 import threading
 import time
 
-from programs import sqlite
+from modules.programs import sqlite
 
 GRANTED = bytes.fromhex("3003020100")
 # a request for a token, but for its hash (RFC 3161 2.4.1)

@@ -1,0 +1,1 @@
+"""What bench/run measures, a module each, and what these share."""
