@@ -2,6 +2,7 @@
 use Rattle.std.proofs.Common.{zero, suc, ◌≡◌, ℕ, ◌+◌, ◌==◌, ◌&&◌, nat_le, cond, ℤ, Bool, true, false, List, [], ◌∷◌, ◌++◌, drop, length}
 use Rattle.std.proofs.Common.{Option, Some, None, refl, sym, ◌∙◌, ap, subst}
 use Rattle.policy.specs.Record.{AccountValue}
+use Rattle.book.specs.Continuing.{Floor, continued}
 use Rattle.book.specs.History.{Entry, Reserved, Sealed, Deposited, Calibrated, Held, Granted, Revoked, History}
 use Rattle.book.specs.History.{Installed, InstalledValue, calibrations, holds, latest_calibration, token_of}
 use Rattle.book.specs.History.{deposit_under}
@@ -9,7 +10,7 @@ use Rattle.book.specs.Identities.{latest_identity}
 use Rattle.book.specs.Readers.{Reader, is_same}
 use Rattle.book.specs.Rights.{is_reader, seen_by}
 use Rattle.book.specs.Rows.{DepositRow}
-use Rattle.book.specs.Sound.{is_backwards}
+use Rattle.book.specs.Sound.{Along, is_backwards}
 use Rattle.book.proofs.Rights.{reader_after_grant, reader_after_revocation}
 use Rattle.desk.specs.Outcome.{Outcome, Cause, cause_of}
 use Rattle.desk.specs.Findings.{StampPlan, Finding, Fails, Unanswered, Allowed}
@@ -25,10 +26,12 @@ use Rattle.desk.specs.declared.fault.Fault.{Fault}
 use Rattle.desk.specs.declared.fault.Fault.TheVariants as fault
 use Rattle.desk.specs.Steps.{KeepsByReference, KeepsOnceSearched, KeepsWithinSize, HasEffect}
 use Rattle.desk.specs.Runs.{Told, Journey, begins, opens, opens_older, shuts, rests, enters, breaks, goes, stops}
+use Rattle.desk.specs.Runs.{continues}
 use Rattle.desk.specs.Readers.{where_done, rights_by, rights_along}
 use Rattle.desk.specs.Viewers.{viewer_in}
 use Rattle.desk.proofs.Branches.{if_has, unless_has, right_has}
 use Rattle.desk.proofs.Stepping.{shows_none, tokens_none, answers_none}
+use Rattle.desk.proofs.WholeOn.{goes_along}
 
 -- entries that are the same to each reader of each deposit
 abbrev SameRights : List Entry → List Entry → Type 0
@@ -209,6 +212,26 @@ opening_cut s next o b e h =
     (unless_has IsSilentCut (λ f. nothing_cut (Refused f)) (cause_of o.looking) (succeed_effect o i (is_latest i (latest_identity b)))
     (succeeded_cut o i (is_latest i (latest_identity b))))
 
+-- a new book begins without rights
+abbrev IsRightless : Entry → History → Type 0
+IsRightless (Granted n reader) b = ⊥
+IsRightless (Revoked n reader) b = ⊥
+IsRightless _ b = Unit {0}
+
+rightless : (floor : Option Floor) (b : History) → Along IsRightless (continued floor b)
+rightless floor b = goes_along IsRightless (record {
+  calibrated = λ c b. tt;
+  held = λ h b. tt;
+  installed = λ i b. tt;
+  sealed = λ n token b. tt;
+}) floor b (λ r last. tt)
+
+unread : (b : History) → Along IsRightless b → (n : ℕ) (reader : Reader) → is_reader n reader b ≡ is_reader n reader []
+unread [] none n reader = refl
+unread (Granted m x ∷ b) none n reader = absurd none.0
+unread (Revoked m x ∷ b) none n reader = absurd none.0
+unread (_ ∷ b) none n reader = unread b none.1 n reader
+
 pub readers_along : (b : History) (x : Option Setting) (w : List Told) (j : Journey b x w) (n : ℕ) (reader : Reader)
     → is_reader n reader b ≡ is_reader n reader (rights_along j)
 readers_along b x w begins n reader = refl
@@ -227,3 +250,5 @@ readers_along b x w (goes {b = b0} {w = w0} s c o e met h j) n reader =
     step_rights s c o b0 e h b0 (rights_along j) n reader (readers_along b0 (Some s) w0 j n reader)
 readers_along b x w (stops {b = b0} {w = w0} s c o e k met h j) n reader =
     same_rights (drop k e.adds) b0 (rights_along j) n reader (readers_along b0 (Some s) w0 j n reader)
+readers_along b x w (continues {b = b0} floor above stated j) n reader =
+    unread (continued floor b0) (rightless floor b0) n reader

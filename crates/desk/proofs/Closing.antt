@@ -1,30 +1,33 @@
 -- Of a book that is closed for tokens nothing is given out.
-use Rattle.std.proofs.Common.{◌≡◌, ℕ, ℤ, pos, ◌≤◌, nat_le, cond, Bool, true, false, List, [], length, Option}
-use Rattle.std.proofs.Common.{Some, None}
+use Rattle.std.proofs.Common.{◌≡◌, ℕ, zero, suc, ℤ, pos, ◌≤◌, ◌||◌, nat_le, cond, Bool, true, false, List, [], ◌∷◌}
+use Rattle.std.proofs.Common.{◌++◌, drop, length, map, Option, Some, None}
 use Rattle.std.proofs.Common.{option_map, refl, sym, ap, ◌∙◌, subst, arith}
 use Rattle.std.proofs.lemmas.Bool.Decides.{nat_tests}
 use Rattle.std.specs.Str.{bytes_eq}
 use Rattle.gentime.specs.GenTime.{last_moment}
 use Rattle.policy.specs.Record.{AccountValue, CounterValue}
 use Rattle.decide.specs.Clock.{IsGood, now_at}
-use Rattle.book.specs.Continuing.{is_closed}
-use Rattle.book.specs.History.{Entry, Granted, Revoked, Installed, History, CalibrationValue, InstalledValue}
-use Rattle.book.specs.History.{latest_calibration, reservations, token_of}
+use Rattle.book.specs.Continuing.{holds_all, is_closed}
+use Rattle.book.specs.History.{Entry, Reserved, Held, Granted, Revoked, Installed, History, CalibrationValue}
+use Rattle.book.specs.History.{InstalledValue, ReservationValue, first_of, greatest_of, latest_calibration}
+use Rattle.book.specs.History.{reservations, token_of}
 use Rattle.book.specs.Identities.{latest_identity}
 use Rattle.book.specs.Readers.{Reader}
 use Rattle.book.specs.Rights.{seen_by}
 use Rattle.book.specs.Rows.{DepositRow}
 use Rattle.book.specs.Sound.{is_backwards}
 use Rattle.book.proofs.GoingOn.{all_held}
-use Rattle.desk.specs.Closed.{IsUngranted, IsUngrantedBy, GivesNothingOut}
+use Rattle.desk.specs.Closed.{IsUngranted, IsUngrantedBy, GivesNothingOut, StaysClosed}
 use Rattle.desk.specs.Command.{Setting, Command, Stamp, Begin, Finish, Abandon, Deposit, Show, Token, ListAll, Grant}
-use Rattle.desk.specs.Command.{Revoke, Calibrate, Hold, Succeed, PendingValue, Kept, Refused}
+use Rattle.desk.specs.Command.{Revoke, Calibrate, Hold, Succeed, PendingValue, Answer, Stamped, Rejected, Begun, Kept}
+use Rattle.desk.specs.Command.{Shown, Listed, Done, Numbered, Refused}
 use Rattle.desk.specs.Effects.{Effect, only, unless, fault_of, right_effect, accepted, show_effect, token_effect}
 use Rattle.desk.specs.Effects.{no_sight, no_seal, known_effect, succeed_effect, calibrate_effect, stamp_found}
 use Rattle.desk.specs.Effects.{begin_found, deposit_found, name_of, finish_effect}
 use Rattle.desk.specs.Facts.{clock_of, is_held_at, now_in}
 use Rattle.desk.specs.Findings.{Finding, Fails, Unanswered, Allowed, Finds}
 use Rattle.desk.specs.Outcome.{Outcome, Cause, cause_of}
+use Rattle.desk.specs.Serials.{given_by}
 use Rattle.desk.specs.Steps.{HasEffect, KeepsByReference, KeepsOnceSearched, KeepsWithinSize}
 use Rattle.desk.specs.Succession.{installed_by, is_latest}
 use Rattle.desk.specs.Texts.{octets_for}
@@ -190,3 +193,53 @@ nothing_given s (Succeed next) o b e closed is =
     (succeed_effect o (installed_by next.identity) (is_latest (installed_by next.identity) (latest_identity b)))
     (succeeded_quiet o (installed_by next.identity) (is_latest (installed_by next.identity) (latest_identity b)))))
     (λ quiet. quiet)
+
+-- ---- what it leaves
+
+unreserved_cut : (k : ℕ) (es : List Entry) (b : History) → reservations es ≡ []
+    → reservations (drop k es ++ b) ≡ reservations b
+unreserved_cut zero [] b none = refl
+unreserved_cut zero (Reserved r ∷ es) b none = absurd cc
+unreserved_cut zero (_ ∷ es) b none = unreserved_cut zero es b none
+unreserved_cut (suc k) [] b none = refl
+unreserved_cut (suc k) (Reserved r ∷ es) b none = absurd cc
+unreserved_cut (suc k) (_ ∷ es) b none = unreserved_cut k es b none
+
+unreserved_rest : (k : ℕ) (es : List Entry) → reservations es ≡ [] → reservations (drop k es) ≡ []
+unreserved_rest zero es none = none
+unreserved_rest (suc k) [] none = refl
+unreserved_rest (suc k) (Reserved r ∷ es) none = absurd cc
+unreserved_rest (suc k) (_ ∷ es) none = unreserved_rest k es none
+
+or_true : (one other : Bool) → other ≡ true → (one || other) ≡ true
+or_true true other is = refl
+or_true false other is = is
+
+still_closed : (es : List Entry) (b : History) → is_closed b ≡ true → is_closed (es ++ b) ≡ true
+still_closed [] b closed = closed
+still_closed (Held h ∷ es) b closed = or_true (holds_all h) (is_closed (es ++ b)) (still_closed es b closed)
+still_closed (_ ∷ es) b closed = still_closed es b closed
+
+none_given : (says : Answer) (committed : List Entry) → reservations committed ≡ [] → given_by None says committed ≡ []
+none_given (Begun p) committed none = ap (map (λ (r : ReservationValue). r.serial)) none
+none_given (Stamped serial reply) committed none = refl
+none_given (Rejected rule) committed none = refl
+none_given (Kept number is_new) committed none = refl
+none_given (Shown octets) committed none = refl
+none_given (Listed rows) committed none = refl
+none_given Done committed none = refl
+none_given (Numbered number) committed none = refl
+none_given (Refused f) committed none = refl
+
+pub stays_closed : (s : Setting) (c : Command) (o : Outcome) (b : History) (e : Effect) (k : ℕ) → is_closed b ≡ true
+    → HasEffect s c o b e → StaysClosed k e b
+stays_closed s c o b e k closed has =
+    let nothing = nothing_given s c o b e closed has in
+    let same : reservations (drop k e.adds ++ b) ≡ reservations b = unreserved_cut k e.adds b nothing.unreserved in
+    record {
+      closed = still_closed (drop k e.adds) b closed;
+      serial = ap greatest_of same;
+      moment = ap (λ (rs : List ReservationValue). option_map (λ (r : ReservationValue). r.gen_time) (first_of rs)) same;
+      given = ap (λ asks. given_by asks e.says (drop k e.adds)) nothing.unsigned
+          ∙ none_given e.says (drop k e.adds) (unreserved_rest k e.adds nothing.unreserved);
+    }

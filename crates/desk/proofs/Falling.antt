@@ -3,10 +3,13 @@ use Rattle.std.proofs.Common.{ℕ, ◌<◌, ◌≤◌, List, [], ◌∷◌, ◌+
 use Rattle.std.specs.List.{AllByRecursion}
 use Rattle.book.specs.History.{Entry, Reserved, Sealed, Deposited, Calibrated, Held, Granted, Revoked, History}
 use Rattle.book.specs.History.{Installed, greatest_serial}
-use Rattle.book.specs.Sound.{Along, Fits}
+use Rattle.book.specs.Continuing.{Floor, IsAboveIfAny, continued}
+use Rattle.book.specs.Sound.{Along, Fits, IsSound}
+use Rattle.book.proofs.GoingOn.{floor_goes_on, greatest_goes_on}
 use Rattle.desk.specs.Command.{Setting, Answer, Stamped, Rejected, Begun, Kept, Shown, Listed, Done, Numbered, Refused}
 use Rattle.desk.specs.Command.{setting_after}
 use Rattle.desk.specs.Runs.{Told, Journey, begins, opens, opens_older, shuts, rests, enters, breaks, goes, stops, after, cut}
+use Rattle.desk.specs.Runs.{continues}
 use Rattle.desk.specs.Serials.{serials_of, given_by, given_along, AreInOrder}
 use Rattle.desk.proofs.Sound.{TextLaws}
 use Rattle.desk.proofs.Keeping.{sound_along}
@@ -50,7 +53,7 @@ reserved_in_order (Installed i ∷ es) b fits ns h =
     let more = reserved_in_order es b fits.1 ns h in record { falling = more.falling; within = more.within }
 
 -- entries that were added leave what was given out below the greatest serial number
-greatest_grows : (es : List Entry) (b : History) → greatest_serial b ≤ greatest_serial (es ++ b)
+pub greatest_grows : (es : List Entry) (b : History) → greatest_serial b ≤ greatest_serial (es ++ b)
 greatest_grows [] b = omega arith
 greatest_grows (Reserved r ∷ es) b = let more = greatest_grows es b in omega arith
 greatest_grows (Sealed serial token ∷ es) b = greatest_grows es b
@@ -81,6 +84,14 @@ step_in_order None Done es b fits ns h = still_in_order es b ns h
 step_in_order None (Numbered number) es b fits ns h = still_in_order es b ns h
 step_in_order None (Refused fault) es b fits ns h = still_in_order es b ns h
 
+-- nor does what goes on in a new book
+pub greatest_goes_up : (floor : Option Floor) (b : History) → IsSound b → IsAboveIfAny floor b
+    → greatest_serial b ≤ greatest_serial (continued floor b)
+greatest_goes_up None b sound above = rw (greatest_goes_on b sound) (omega arith)
+greatest_goes_up (Some floor) b sound above =
+    let rises : greatest_serial b < floor.serial = above.rises in
+    rw ((floor_goes_on floor b above).0) (omega (arith, rises))
+
 pub given_in_order : TextLaws → (b : History) (x : Option Setting) (w : List Told) (j : Journey b x w)
     → AreInOrder (given_along j) b
 given_in_order laws b x w begins = record { falling = tt; within = tt }
@@ -102,3 +113,9 @@ given_in_order laws b x w (stops {b = b0} {w = w0} s c o e k met h j) =
     step_in_order e.asks e.says (drop k e.adds) b0
     (sound_along laws (cut k e b0) None w0 (stops s c o e k met h j)) (given_along j)
     (given_in_order laws b0 (Some s) w0 j)
+given_in_order laws b x w (continues {b = b0} {w = w0} floor above stated j) =
+    let before = given_in_order laws b0 None w0 j in record {
+      falling = before.falling;
+      within = within_more (greatest_serial b0) (greatest_serial (continued floor b0))
+          (greatest_goes_up floor b0 (sound_along laws b0 None w0 j) above) (given_along j) before.within;
+    }

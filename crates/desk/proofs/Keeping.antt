@@ -8,6 +8,7 @@ use Rattle.policy.specs.Record.{AccountValue}
 use Rattle.cms.specs.Identity.{IdentityValue}
 use Rattle.cms.specs.SignedData.{token}
 use Rattle.tsp.specs.Granted.{granted_octets}
+use Rattle.book.specs.Continuing.{Floor, IsAboveIfAny, continued}
 use Rattle.book.specs.History.{Entry, Reserved, Sealed, Deposited, Calibrated, Held, Granted, Revoked, Installed}
 use Rattle.book.specs.History.{CalibrationValue, HoldValue, InstalledValue, History, calibrations, holds, token_of}
 use Rattle.book.specs.History.{deposit_at}
@@ -32,9 +33,12 @@ use Rattle.desk.specs.Effects.{succeed_effect, name_of}
 use Rattle.desk.specs.declared.fault.Fault.TheVariants as fault
 use Rattle.desk.specs.Steps.{KeepsByReference, KeepsOnceSearched, KeepsWithinSize, HasEffect, IsMet}
 use Rattle.desk.specs.Runs.{IsProper, Told, Journey, begins, opens, opens_older, shuts, rests, enters, breaks, goes, stops, after, cut}
+use Rattle.desk.specs.Runs.{continues}
 use Rattle.desk.specs.Runs.{IsEntering, IsNumbered, IsSignedUnder, IsTokenFor, IsReservedFor, IsFinishedFor, IsStampKept}
 use Rattle.desk.specs.Runs.{IsTokenKept, IsDepositKept, IsShownKept, WasBegun, WasFinished}
 use Rattle.desk.specs.Runs.{IsDoneKept, IsNumberKept, IsKept, HasProperties}
+use Rattle.desk.specs.Content.{IsSoundInFull}
+use Rattle.desk.specs.Continuing.{IsStatedIfAny}
 use Rattle.desk.specs.Naming.{IsNameableFor}
 use Rattle.desk.specs.Succession.{installed_by, is_latest, HasSubject, IsNameable}
 use Rattle.desk.specs.Viewers.{viewer_in}
@@ -46,7 +50,9 @@ use Rattle.desk.proofs.Sighted.{may_see}
 use Rattle.desk.proofs.Views.{reservation_stays, identity_stays, token_stays, deposit_stays, deposit_sealed}
 use Rattle.desk.proofs.Views.{found_under, same_octets}
 use Rattle.desk.proofs.Sound.{TextLaws, AreGood, fits_along, true_along, rising_along, naming_along, good_cut}
+use Rattle.desk.proofs.Sound.{all_good}
 use Rattle.desk.proofs.Stepping.{step_adds, adds_good}
+use Rattle.desk.proofs.WholeOn.{whole_on, rising_on}
 
 first_in : (e : Entry) (b : History) → Contains (e ∷ b) e
 first_in e b = (0, omega arith, refl)
@@ -649,6 +655,18 @@ shuts_at laws b x w s o e k proper h before =
     let g = good_cut k e.adds b (opening_good s b o e h before.good) in
     record { good = g; kept = all_kept (drop k e.adds) b g w before.kept; open_by = tt; latest_by = tt }
 
+-- what goes on in a new book is good
+goes_on_good : (floor : Option Floor) (b : History) → IsAboveIfAny floor b → IsStatedIfAny floor b → AreGood b
+    → AreGood (continued floor b)
+goes_on_good floor b above stated good =
+    let before : IsSoundInFull b = record {
+      sound = fits_along b good;
+      content = true_along b good;
+      naming = naming_along b good;
+    } in
+    let whole = whole_on floor b before above stated in
+    all_good (continued floor b) whole.sound whole.content (rising_on floor b before stated) whole.naming
+
 holds_along : TextLaws → (b : History) (x : Option Setting) (w : List Told) → Journey b x w → Holds b x w
 holds_along laws b x w begins = record { good = tt; kept = tt; open_by = tt; latest_by = tt }
 holds_along laws b x w (opens {b = b0} {x = x0} {w = w0} s o e proper h done j) =
@@ -682,6 +700,9 @@ holds_along laws b x w (goes {b = b0} {w = w0} s c o e met h j) =
     goes_on laws b0 w0 s c o e met h (holds_along laws b0 (Some s) w0 j)
 holds_along laws b x w (stops {b = b0} {w = w0} s c o e k met h j) =
     stops_at laws b0 w0 s c o e k met h (holds_along laws b0 (Some s) w0 j)
+holds_along laws b x w (continues {b = b0} {w = w0} floor above stated j) =
+    let good = (holds_along laws b0 None w0 j).good in
+    record { good = goes_on_good floor b0 above stated good; kept = tt; open_by = tt; latest_by = tt }
 
 -- a member of a list
 member_cases : {X : Type 0} (x y : X) (xs : List X) → Contains (x ∷ xs) y → (x ≡ y) ⊎ Contains xs y

@@ -30,6 +30,7 @@ pub mod Reading
 pub mod Replying
 pub mod Reserves
 pub mod Rows
+pub mod RisingOn
 pub mod RunsOn
 pub mod SameEffect
 pub mod Sealing

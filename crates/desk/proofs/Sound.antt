@@ -56,6 +56,13 @@ pub naming_along : (b : History) → AreGood b → Along IsNaming b
 naming_along [] g = tt
 naming_along (e ∷ b) g = (g.0.naming tt, naming_along b g.1)
 
+pub all_good : (b : History) → Along Fits b → Along IsTrueOf b → Along IsRising b → Along IsNaming b → AreGood b
+all_good [] fits true_of rising naming = tt
+all_good (e ∷ b) fits true_of rising naming = (
+  record { fits = fits.0; true_of = true_of.0; rising = rising.0; naming = λ named. naming.0 },
+  all_good b fits.1 true_of.1 rising.1 naming.1,
+)
+
 -- what a stop leaves of good entries is good
 pub good_cut : (k : ℕ) (es : List Entry) (b : History) → AreGood (es ++ b) → AreGood (drop k es ++ b)
 good_cut zero es b g = g

@@ -1,8 +1,11 @@
 -- A history that is sound in full goes on so in a new book.
-use Rattle.std.proofs.Common.{◌≡◌, List, [], ◌∷◌, map, reverse, Option, Some, None, refl, sym, ◌∙◌}
+use Rattle.std.proofs.Common.{◌≡◌, ℕ, List, [], ◌∷◌, map, reverse, Option, Some, None, refl, sym, ap, ◌∙◌}
 use Rattle.std.proofs.Common.{subst}
 use Rattle.std.proofs.lemmas.Bool.{eq-eqb}
 use Rattle.der.specs.Node.{Node}
+use Rattle.der.specs.ObjectIdentifier.{oid_content}
+use Rattle.tsp.specs.Request.{RequestValue, Spells}
+use Rattle.tsp.specs.Tst.{SpellsTst, TstValue, answer}
 use Rattle.decide.specs.Clock.{Follows}
 use Rattle.book.specs.Continuing.{Floor, entry_if, reserved_as, token_as, continued, last_reservation, identity_since}
 use Rattle.book.specs.Continuing.{other_holds, IsAboveIfAny}
@@ -14,7 +17,7 @@ use Rattle.book.specs.Sound.{Along}
 use Rattle.book.proofs.GoingOn.{clocked_as, goes_on, goes_on_unstamped, by_last, signer_before, none_before}
 use Rattle.book.proofs.GoingOn.{continued_sound}
 use Rattle.desk.specs.Content.{IsForRequest, IsNamedBy, IsTrueOf, IsNaming, IsSoundInFull}
-use Rattle.desk.specs.Continuing.{Names, IsStatedIfAny}
+use Rattle.desk.specs.Continuing.{Names, IsRestated, IsStated, IsStatedIfAny}
 use Rattle.desk.specs.Runs.{IsRising}
 use Rattle.desk.specs.Succession.{NamesLatest}
 
@@ -32,11 +35,11 @@ module _ (P : Entry → History → Type 0) where
   along_held none (h ∷ hs) b along = along_held none hs (Held h ∷ b) (none h b, along)
 
 -- a fact that only reservations have
-record IsOfStamps (P : Entry → History → Type 0) : Type 0 where
-  calibrated : (c : CalibrationValue) (b : History) → P (Calibrated c) b
-  held : (h : HoldValue) (b : History) → P (Held h) b
-  installed : (i : InstalledValue) (b : History) → P (Installed i) b
-  sealed : (n : _) (token : _) (b : History) → P (Sealed n token) b
+pub record IsOfStamps (P : Entry → History → Type 0) : Type 0 where
+  pub calibrated : (c : CalibrationValue) (b : History) → P (Calibrated c) b
+  pub held : (h : HoldValue) (b : History) → P (Held h) b
+  pub installed : (i : InstalledValue) (b : History) → P (Installed i) b
+  pub sealed : (n : _) (token : _) (b : History) → P (Sealed n token) b
 
 module _ (P : Entry → History → Type 0) (none : IsOfStamps P) where
   along_clocked : (b : History) → Along P (clocked_as b)
@@ -44,7 +47,7 @@ module _ (P : Entry → History → Type 0) (none : IsOfStamps P) where
       along_held P none.held (reverse (other_holds b)) (with_all (entry_if Calibrated (latest_calibration b)) [])
       (along_if P Calibrated none.calibrated (latest_calibration b) [] tt)
 
-  goes_along : (floor : Option Floor) (b : History)
+  pub goes_along : (floor : Option Floor) (b : History)
       → ((r : ReservationValue) → last_reservation b ≡ Some r
       → P (Reserved (reserved_as floor r))
       (with_all (entry_if Installed (identity_at_reservation r.serial b)) (clocked_as b)))
@@ -65,6 +68,11 @@ module _ (P : Entry → History → Type 0) (none : IsOfStamps P) where
 record IsKnownStamp (r : ReservationValue) (identity : Option InstalledValue) : Type 0 where
   stamped : IsForRequest r
   named : Names stamped.tsa identity
+
+-- a stamp whose TSTInfo names nobody
+record IsStampOfNobody (r : ReservationValue) : Type 0 where
+  stamped : IsForRequest r
+  nobody : stamped.tsa ≡ None
 
 names_latest : (tsa : Option Node) (b : History) (identity : Option InstalledValue) → latest_identity b ≡ identity
     → Names tsa identity → NamesLatest tsa b
@@ -99,6 +107,47 @@ stamp_known (Some floor) b r naming stated last =
     subst (λ (y : ReservationValue). IsKnownStamp (reserved_as (Some floor) y) (identity_at_reservation y.serial b))
     same
     (record { stamped = stated.stamped; named = stated.named })
+
+-- a void stamp for the last one's request
+restated_for : ((octets : List ℕ) (r s : RequestValue) → Spells octets r → Spells octets s → r ≡ s)
+    → ((octets : List ℕ) (s t : TstValue) → SpellsTst octets s → SpellsTst octets t → s ≡ t)
+    → (floor : Floor) (last : ReservationValue) → IsForRequest last → IsRestated floor last
+    → IsStampOfNobody (reserved_as (Some floor) last)
+restated_for one_request one_tst floor last own is =
+    let request : is.request ≡ own.request = one_request last.request is.request own.request is.spelled own.spelled in
+    let before : is.before
+    ≡ answer own.request own.policy last.serial last.gen_time own.accuracy own.ordering own.tsa =
+    one_tst last.tst is.before _ is.read own.tst in
+    let policy : is.before.policy ≡ own.policy = ap (λ (t : TstValue). t.policy) before in
+    record {
+      stamped = record {
+        request = is.request;
+        spelled = is.spelled;
+        algorithm = own.algorithm ∙ ap (λ (r : RequestValue). oid_content r.imprint.algorithm) (sym request);
+        digest = own.digest ∙ ap (λ (r : RequestValue). r.imprint.hash) (sym request);
+        policy = is.before.policy;
+        accuracy = is.before.accuracy;
+        ordering = is.before.ordering;
+        tsa = None;
+        content = own.content ∙ ap oid_content (sym policy);
+        tst = is.restated;
+      };
+      nobody = refl;
+    }
+
+pub restated_is_stated : ((octets : List ℕ) (r s : RequestValue) → Spells octets r → Spells octets s → r ≡ s)
+    → ((octets : List ℕ) (s t : TstValue) → SpellsTst octets s → SpellsTst octets t → s ≡ t)
+    → (floor : Floor) (b : History) (last : ReservationValue) → IsSoundInFull b → last_reservation b ≡ Some last
+    → IsRestated floor last → IsStated floor b
+restated_is_stated one_request one_tst floor b last whole found is =
+    let own = (last_known b last whole.naming found).stamped in
+    let void = restated_for one_request one_tst floor last own is in
+    record {
+      last = last;
+      reserved = found;
+      stamped = void.stamped;
+      named = subst (λ tsa. Names tsa (identity_at_reservation last.serial b)) (sym void.nobody) tt;
+    }
 
 -- ---- the laws
 

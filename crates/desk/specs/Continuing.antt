@@ -2,6 +2,8 @@
 use Rattle.std.specs.Prelude.{◌≡◌, Option, Some, None}
 use Rattle.der.specs.Node.{Node}
 use Rattle.cms.specs.Certificate.{IsSubject}
+use Rattle.tsp.specs.Request.{RequestValue, Spells}
+use Rattle.tsp.specs.Tst.{SpellsTst, TstValue, answer}
 use Rattle.book.specs.Continuing.{Floor, last_reservation, reserved_as}
 use Rattle.book.specs.History.{History, InstalledValue, ReservationValue}
 use Rattle.book.specs.Identities.{identity_at_reservation}
@@ -19,6 +21,16 @@ pub record IsStated (floor : Floor) (b : History) : Type 0 where
   pub reserved : last_reservation b ≡ Some last
   pub stamped : IsForRequest (reserved_as (Some floor) last)
   pub named : Names stamped.tsa (identity_at_reservation last.serial b)
+
+-- It answers the request of this stamp as the stamp's own TSTInfo does, by the same policy, accuracy and ordering, but
+-- under the floor's serial number and at its genTime; and it names nobody.
+pub record IsRestated (floor : Floor) (last : ReservationValue) : Type 0 where
+  pub request : RequestValue
+  pub spelled : Spells last.request request
+  pub before : TstValue
+  pub read : SpellsTst last.tst before
+  pub restated : SpellsTst floor.tst
+      (answer request before.policy floor.serial floor.gen_time before.accuracy before.ordering None)
 
 abbrev pub IsStatedIfAny : Option Floor → History → Type 0
 IsStatedIfAny None b = Unit {0}

@@ -7,6 +7,7 @@ use Rattle.cms.specs.Identity.{IdentityValue}
 use Rattle.cms.specs.SignedData.{token}
 use Rattle.cms.specs.declared.signer.SignerFault.{SignerFault}
 use Rattle.decide.specs.Clock.{Follows}
+use Rattle.book.specs.Continuing.{Floor, IsAboveIfAny, continued}
 use Rattle.book.specs.History.{Entry, Reserved, Sealed, Deposited, Calibrated, Held, Granted, Revoked, Installed}
 use Rattle.book.specs.History.{History, InstalledValue, ReservationValue, calibrations, holds}
 use Rattle.book.specs.History.{last_gen_time, token_of}
@@ -16,6 +17,7 @@ use Rattle.book.specs.Rows.{DepositRow}
 use Rattle.book.specs.Identities.{latest_identity, identity_at_reservation}
 use Rattle.book.specs.Values.{deposit_of}
 use Rattle.desk.specs.Content.{IsForRequest, IsSoundInFull}
+use Rattle.desk.specs.Continuing.{IsStatedIfAny}
 use Rattle.desk.specs.Outcome.{Outcome}
 use Rattle.desk.specs.Command.{Setting, PendingValue, Command, Stamp, Finish, Abandon, Deposit, Show, Token, Grant}
 use Rattle.desk.specs.Command.{Revoke, Calibrate, Hold, Succeed, Answer, Stamped, Rejected, Begun, Kept, Shown, Listed}
@@ -66,8 +68,8 @@ IsEntering (Calibrate c) = Unit {0}
 IsEntering (Hold h) = Unit {0}
 IsEntering _ = ⊥
 
--- A journey: openings, whole commands, and both cut by a stop, each from the history that was left. It tells by what
--- setting a desk is open, if one is, and what was answered, the newest first.
+-- A journey: openings, whole commands, and both cut by a stop, each from the history that was left, also in a new book
+-- in which that goes on. It tells by what setting a desk is open, if one is, and what was answered, the newest first.
 pub data Journey : History → Option Setting → List Told → Type 0 where
   begins : Journey [] None []
   -- a desk is opened, by a policy file, an identity and an algorithm of its own: what is in force is brought so, as a
@@ -99,6 +101,10 @@ pub data Journey : History → Option Setting → List Told → Type 0 where
   stops : {b : History} {w : List Told} (s : Setting) (c : Command) (o : Outcome) (e : Effect) (k : ℕ)
       → IsMet c b → HasEffect s c o b e → Journey b (Some s) w
       → Journey (cut k e b) None w
+  -- The history goes on in a new book, where no desk is open, with a void stamp in place of the last one or without.
+  -- What is told from then on is the new book's: the old one, with what it acknowledged, goes on by itself.
+  continues : {b : History} {w : List Told} (floor : Option Floor) → IsAboveIfAny floor b → IsStatedIfAny floor b
+      → Journey b None w → Journey (continued floor b) None []
 
 -- A reservation comes after those before it: its genTime never before the last one, and after it where its TSTInfo
 -- states ordering.

@@ -5,6 +5,7 @@ use Rattle.std.specs.List.{AllByRecursion}
 use Rattle.book.specs.History.{Entry, History, reservations, greatest_serial}
 use Rattle.desk.specs.Command.{Setting, Answer, Stamped, Rejected, Begun, Kept, Shown, Listed, Done, Numbered, Refused}
 use Rattle.desk.specs.Runs.{Told, Journey, begins, opens, opens_older, shuts, rests, enters, breaks, goes, stops}
+use Rattle.desk.specs.Runs.{continues}
 
 -- the serial numbers that entries reserve, the newest first
 abbrev pub serials_of : List Entry → List ℕ
@@ -37,6 +38,7 @@ given_along (enters s c o e entering met h j) = given_along j
 given_along (breaks s c o e k entering met h j) = given_along j
 given_along (goes s c o e met h j) = given_by e.asks e.says e.adds ++ given_along j
 given_along (stops s c o e k met h j) = given_by e.asks e.says (drop k e.adds) ++ given_along j
+given_along (continues floor above stated j) = given_along j
 
 -- each number is above all that come after it
 abbrev pub Falls : List ℕ → Type 0

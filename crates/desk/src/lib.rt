@@ -26,7 +26,10 @@ mod running;
 mod showing;
 mod succeeding;
 
-pub use closed::{closed_books_give_nothing_out, continuations_are_sound_in_full};
+pub use closed::{
+    closed_books_give_nothing_out, closed_books_stay_closed, continuations_are_sound_in_full,
+    continuations_rise, void_stamps_are_stated,
+};
 pub use commands::{Answer, Command};
 pub use desk::Desk;
 pub use fault::Fault;

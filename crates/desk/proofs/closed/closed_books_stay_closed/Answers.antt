@@ -1,0 +1,5 @@
+use Rattle.desk.proofs.Closing.{stays_closed}
+use Rattle.desk.proofs.closed.closed_books_stay_closed.Goals as goal
+
+pub returns : goal.returns
+returns c = stays_closed

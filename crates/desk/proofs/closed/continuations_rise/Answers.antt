@@ -1,0 +1,5 @@
+use Rattle.desk.proofs.RisingOn.{rises_on}
+use Rattle.desk.proofs.closed.continuations_rise.Goals as goal
+
+pub returns : goal.returns
+returns c = rises_on
