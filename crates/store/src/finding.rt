@@ -44,6 +44,26 @@ pub(crate) fn find<'path>(rt: &HostRuntime, path: &'path str) -> Result<Place<'p
     }
 }
 
+/// Whether a file can be made at a path where none stands: one is made, and taken away again. Refused as `find` is.
+pub(crate) fn try_making(rt: &HostRuntime, path: &str) -> Result<(), StoreFault>
+    ensures { IfErr result IsOfStorage }
+{
+    match make_and_remove(rt, path) {
+        Ok(()) => Ok(()),
+        Err(error) if error.kind() == ErrorKind::OutOfMemory => Err(StoreFault::Memory),
+        Err(_) => Err(StoreFault::Database),
+    }
+}
+
+/// A file that stands there by now is left.
+fn make_and_remove(rt: &HostRuntime, path: &str) -> io::Result<()> {
+    match File::create_new(rt, path) {
+        Ok(_file) => fs::remove_file(rt, path),
+        Err(error) if error.kind() == ErrorKind::AlreadyExists => Ok(()),
+        Err(error) => Err(error),
+    }
+}
+
 fn look(rt: &HostRuntime, path: &str) -> io::Result<Found> {
     if !fs::exists(rt, path)? {
         return Ok(Found::Nothing);

@@ -20,4 +20,5 @@ pub use laws::{
     book_stands_in_tables, equal_tables_tell_the_same, openings_find_what_was_left,
     rows_stand_exactly, serials_rise,
 };
+pub use path::may_make_at;
 pub use store::Store;

@@ -1,5 +1,5 @@
 //! The database at a path: how its store is opened, and how it is made.
-ghost use Rattle.std.specs.Prelude.{◌≡◌, ◌↔◌, [], false, Ok, IfOk, IfErr, IsTrue};
+ghost use Rattle.std.specs.Prelude.{◌≡◌, ◌↔◌, [], false, Ok, IfOk, IfErr, OnOk, IsTrue};
 ghost use Rattle.sqlite_wal.specs.Files.{image_at};
 ghost use Rattle.sqlite.specs.Files.{file_state, over_files, IsOpened, IsBlankAs};
 ghost use Rattle.sqlite.specs.Held.{state};
@@ -20,10 +20,10 @@ ghost use Rattle.store.specs.Opening.{told_opening};
 ghost use Rattle.store.specs.Opening.{fault_where, fault_where_made, fault_at};
 ghost use Rattle.book.specs.Fault.{IsOfStorageOr};
 
-use crate::finding::{Found, Place, find};
+use crate::finding::{Found, Place, find, try_making};
 use crate::store::Store;
 use book::{Entry, StoreFault};
-use sqlite::{Alter, Connection, Error, ErrorCode, FileFrom, FileStore, Start};
+use sqlite::{Alter, Connection, Error, ErrorCode, FileFrom, FileStore, Start, Unknown};
 use sqlite_disk::Disk;
 use std::alloc::Global;
 use tables::{OpenFault, Task};
@@ -186,6 +186,42 @@ fn may_make(found: Found) -> Result<(), StoreFault>
     match found {
         Found::Nothing | Found::Empty | Found::Database => Ok(()),
         Found::Other => Err(StoreFault::NotOurs),
+    }
+}
+
+/// Whether tables can be made in a new database at a path, as far as can be seen before: refused as `make` is, but for
+/// what fails once they are written. What stands there is left as it is, and no file is left where none stood.
+pub fn may_make_at(rt: &HostRuntime, path: &str) -> Result<(), StoreFault>
+    ensures { IfErr result (IsOfStorageOr StoreFault.NotOurs) }
+{
+    let place = find(rt, path)?;
+    may_make(place.found)?;
+    match place.found {
+        Found::Nothing => try_making(rt, path)?,
+        Found::Database => look_for_tables(rt, path)?,
+        Found::Empty | Found::Other => {}
+    }
+    Ok(())
+}
+
+/// Looks whether the database at a path has no table: else it is `NotOurs`. Nothing is supposed of its files, since no
+/// clause names what they hold.
+fn look_for_tables(rt: &HostRuntime, path: &str) -> Result<(), StoreFault>
+    ensures { IfErr result (IsOfStorageOr StoreFault.NotOurs) }
+{
+    let conn = connect(rt, path, Unknown)?;
+    drop_if_bare(conn)
+}
+
+/// Drops a connection whose database has no table, index or view; else it is `NotOurs`.
+fn drop_if_bare<S: Alter + Drop>(conn: Connection<S>) -> Result<(), StoreFault>
+    ensures bare { OnOk result ((state S.Store conn).now.schema ≡ no_schema) }
+    ensures refusals { IfErr result (λ fault. fault ≡ StoreFault.NotOurs) }
+{
+    if has_no_table(&conn) {
+        Ok(())
+    } else {
+        Err(StoreFault::NotOurs)
     }
 }
 
