@@ -2,11 +2,12 @@
 and tokens of the stand-in's."""
 
 import hashlib
+import itertools
 import os
 import shutil
 import subprocess
 
-from modules.load import GRANTED, REQUEST, serial_of
+from modules.load import GRANTED, REQUEST, members, moment_of, serial_of
 from modules.programs import CERTIFICATE, EXAMPLE, PROGRAM, sqlite
 
 GREATEST = 2**63 - 1
@@ -21,6 +22,11 @@ IDENTITY = "SELECT hex(certificate) AS c, hex(chain) AS i FROM identity"
 LATEST = f"{IDENTITY} ORDER BY n DESC LIMIT 1"
 # the one that was in force when the last serial number was reserved
 SIGNED = f"{IDENTITY} WHERE after_serial < (SELECT max(serial) FROM stamp) ORDER BY n DESC LIMIT 1"
+# of a void one in the last one's place: what it has of that one, and what of its own
+SAME = "SELECT account, hex(policy) AS p, hex(algorithm) AS a, hex(digest) AS d, hex(request) AS r FROM stamp"
+OWN = "SELECT serial, gen, day, hex(token) AS token FROM stamp"
+TST_INFO = "SELECT hex(tst) AS t FROM stamp ORDER BY serial DESC LIMIT 1"
+DAY = 86_400_000_000
 CLOSING = f"SELECT from_us, to_us FROM hold WHERE from_us <= 0 AND to_us = {GREATEST}"
 ALL_MOMENTS = [{"from_us": 0, "to_us": GREATEST}]
 
@@ -35,8 +41,10 @@ def run(*words, **how):
     return (done.returncode, done.stderr.decode()) if not done.stdout else ("wrote", done.stdout)
 
 
-def carried_on(old, new, *more, **how):
-    return run("continue", "--from", old, "--db", new, *more, **how)
+def carried_on(old, new, above=None, **how):
+    """Above a serial number and from a moment on, if they are named."""
+    more = zip(("--above", "--moment"), map(str, above)) if above else ()
+    return run("continue", "--from", old, "--db", new, *itertools.chain(*more), **how)
 
 
 def count(path, table):
@@ -48,15 +56,34 @@ def is_sound(path, wrong, when):
     wrong.unless(f"foreign keys {when}", sqlite(path, "PRAGMA foreign_key_check"), [])
 
 
-def is_carried_on(old, new, wrong, when):
-    """The new database begins with what the old one shows, and with nothing else; the old one has a hold more."""
+def is_void_above(old, new, above, wrong, when):
+    """The new one's stamp is void, under another serial number and at another moment than the last one of the old one,
+    and for the same request; so is its TSTInfo, which names no tsa (RFC 3161 2.4.2)."""
+    serial, moment = above
+    wrong.unless(f"the last request {when}", sqlite(new, SAME), sqlite(old, f"{SAME} ORDER BY serial DESC LIMIT 1"))
+    row = {"serial": serial, "gen": moment, "day": moment // DAY, "token": ""}
+    wrong.unless(f"the void one {when}", sqlite(new, OWN), [row])
+    (of_old,), (of_new,) = (members(bytes.fromhex(sqlite(path, TST_INFO)[0]["t"])) for path in (old, new))
+    of_old, of_new = members(of_old), members(of_new)
+    wrong.unless(f"version, policy and imprint {when}", of_new[:3], of_old[:3])
+    wrong.unless(f"number and moment {when}", (int.from_bytes(of_new[3], "big"), moment_of(of_new[4])), above)
+    # a name is a GeneralName of the kind directoryName
+    without_tsa = [member for member in of_old[5:] if member[:1] != b"\xa4"]
+    wrong.unless(f"accuracy, and what is behind {when}", of_new[5:], without_tsa)
+
+
+def is_carried_on(old, new, wrong, when, above=None):
+    """The new database begins with what the old one shows, and with nothing else; the old one has a hold more. Above a
+    serial number and a moment it begins with a void stamp in place of the last one."""
     for path, which in ((old, "the old one"), (new, "the new one")):
         is_sound(path, wrong, f"of {which} {when}")
     found = [row["name"] for row in sqlite(new, "SELECT name FROM sqlite_schema WHERE type = 'table' ORDER BY name")]
     wrong.unless(f"tables {when}", found, list(TABLES))
+    if above:
+        is_void_above(old, new, above, wrong, when)
     for what, query in (
-        ("the last stamp", LAST), ("the calibration", CALIBRATION), ("the holds", HOLDS), ("who signed", SIGNED),
-        ("the latest identity", LATEST),
+        *[("the last stamp", LAST)] * (not above), ("the calibration", CALIBRATION), ("the holds", HOLDS),
+        ("who signed", SIGNED), ("the latest identity", LATEST),
     ):
         wrong.unless(f"{what} {when}", sqlite(new, query), sqlite(old, query))
     stamps = min(1, count(old, "stamp"))

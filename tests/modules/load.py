@@ -105,10 +105,14 @@ def serial_of(token):
     return int.from_bytes(tst_info_of(token)[3], "big")
 
 
-def gen_time_of(token):
-    """In microseconds since 1970-01-01T00:00:00Z."""
-    whole, _, fraction = tst_info_of(token)[4].decode().removesuffix("Z").partition(".")
+def moment_of(text):
+    """Of a GeneralizedTime, in microseconds since 1970-01-01T00:00:00Z."""
+    whole, _, fraction = text.decode().removesuffix("Z").partition(".")
     return calendar.timegm(time.strptime(whole, "%Y%m%d%H%M%S")) * 1_000_000 + int(fraction.ljust(6, "0"))
+
+
+def gen_time_of(token):
+    return moment_of(tst_info_of(token)[4])
 
 
 def is_kept(db, wrong, tokens, deposits):
