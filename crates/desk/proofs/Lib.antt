@@ -7,6 +7,7 @@ pub mod Begins
 pub mod Branches
 pub mod Clocks
 pub mod Closing
+pub mod Completing
 pub mod Denied
 pub mod Entered
 pub mod Falling

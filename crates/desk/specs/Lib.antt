@@ -6,6 +6,7 @@ pub mod Calls
 pub mod Closed
 pub mod Codes
 pub mod Command
+pub mod Completions
 pub mod Content
 pub mod Continuing
 pub mod Depositing
@@ -31,4 +32,6 @@ pub mod Steps
 pub mod Succession
 pub mod Texts
 pub mod Viewers
+pub mod Waiting
 pub mod Wholes
+pub mod Written

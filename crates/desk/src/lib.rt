@@ -6,6 +6,7 @@ mod answering;
 mod beginning;
 mod closed;
 mod commands;
+mod completion;
 mod depositing;
 mod deposits;
 mod desk;
@@ -25,6 +26,7 @@ mod rights;
 mod running;
 mod showing;
 mod succeeding;
+mod waiting;
 
 pub use closed::{
     closed_books_give_nothing_out, closed_books_stay_closed, continuations_are_sound_in_full,

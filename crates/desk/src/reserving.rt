@@ -29,15 +29,15 @@ use tsp::{ObjectIdentifier, requests_have_one_reading, write_tst};
 
 /// A stamp whose texts are written.
 #[derive(Drop)]
-struct Prepared<'p, 'a> {
-    serial: u64,
-    gen_time: u64,
-    policy: &'p Oid,
-    algorithm: &'a [u8],
-    digest: &'a [u8],
-    certificate: bool,
-    tst: Vec<u8>,
-    text: Vec<u8>,
+pub(crate) struct Prepared<'p, 'a> {
+    pub(crate) serial: u64,
+    pub(crate) gen_time: u64,
+    pub(crate) policy: &'p Oid,
+    pub(crate) algorithm: &'a [u8],
+    pub(crate) digest: &'a [u8],
+    pub(crate) certificate: bool,
+    pub(crate) tst: Vec<u8>,
+    pub(crate) text: Vec<u8>,
 }
 
 /// The microseconds of a genTime since 1970-01-01T00:00:00Z.
@@ -63,7 +63,7 @@ fn name_in_force<'p>(opening: Opening<'p>) -> Option<DataValue<'p>>
 }
 
 /// Writes the TSTInfo and what is to be signed under the next serial number: all the memory that a reservation takes.
-fn prepare<'p, 'a>(
+pub(crate) fn prepare<'p, 'a>(
     alloc: Global,
     opening: Opening<'p>,
     planned: Planned<'p, 'a>,

@@ -1,0 +1,20 @@
+use Rattle.std.proofs.Common.{◌≡◌, ◌≤◌, List, length, map, take, vec_len}
+use Rattle.std.specs.Prelude.{vec_capacity}
+use Rattle.cms.specs.Signer.{signed_by}
+use Rattle.desk.specs.Answers.{reply_as}
+use Rattle.desk.specs.Calls.{opening_view}
+use Rattle.desk.specs.Written.{seal_view, AreWritten}
+use Rattle.desk.specs.Outcome.{Outcome}
+use Rattle.desk.specs.Waiting.{pendings_in}
+use Rattle.desk.proofs.completion.write_each.Given as goal
+
+abbrev pub invariant-loop-index : goal.invariant-loop-index
+invariant-loop-index l = record {
+  few_seals : vec_len l.batch.seals ≤ l.index;
+  many_replies : vec_len l.batch.replies ≡ l.index;
+  room_for_seals : length l.waits ≤ vec_capacity l.batch.seals;
+  room_for_replies : length l.waits ≤ vec_capacity l.batch.replies;
+  written : (os : List Outcome) × AreWritten (pendings_in (opening_view l.opening) (take l.index l.waits))
+      (map signed_by (take l.index l.answers)) os (map seal_view l.batch.seals.items)
+      (map reply_as l.batch.replies.items);
+}
