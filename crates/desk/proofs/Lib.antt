@@ -1,6 +1,8 @@
 pub mod Acknowledged
 pub mod Added
 pub mod Agreeing
+pub mod Among
+pub mod Assembling
 pub mod BatchRows
 pub mod Batches
 pub mod Begins
@@ -18,6 +20,7 @@ pub mod Granting
 pub mod Headline
 pub mod Installing
 pub mod Judgement
+pub mod Judging
 pub mod Keeping
 pub mod KnownDeposits
 pub mod Late
@@ -41,6 +44,7 @@ pub mod Sound
 pub mod Stamping
 pub mod Stepping
 pub mod Successions
+pub mod Turning
 pub mod Views
 pub mod Whole
 pub mod WholeOn

@@ -130,7 +130,7 @@ sealed_or : (s : Setting) (plan : StampPlan) (r : ReservationValue) (signature :
 sealed_or s plan r signature None = refl
 sealed_or s plan r signature (Some cause) = refl
 
-stamped_by : (s : Setting) (plan : StampPlan) (r : ReservationValue) (o finished : Outcome)
+pub stamped_by : (s : Setting) (plan : StampPlan) (r : ReservationValue) (o finished : Outcome)
     (signing : Result (List ℕ) SignerFault)
     → stamped (pending_of s plan r) signing (Reserved r ∷ []) finished
     ≡ stamp_effect s (signed_or_void (pending_of s plan r) r signing (joined o signing finished))

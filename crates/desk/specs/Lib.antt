@@ -31,6 +31,7 @@ pub mod Stepped
 pub mod Steps
 pub mod Succession
 pub mod Texts
+pub mod Together
 pub mod Viewers
 pub mod Waiting
 pub mod Wholes

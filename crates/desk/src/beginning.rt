@@ -22,7 +22,7 @@ use std::alloc::Global;
 use tsp::Rejection;
 
 /// The account's name, for which a stamp is reserved.
-fn name_of<'a>(account: Option<&'a Account>) -> &'a str
+pub(crate) fn name_of<'a>(account: Option<&'a Account>) -> &'a str
     ensures { result.now ≡ name_of (account_asked account.entry) }
 {
     match account {

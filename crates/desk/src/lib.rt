@@ -3,6 +3,8 @@
 #![tactic(auto)]
 
 mod answering;
+mod batch;
+mod batch_start;
 mod beginning;
 mod closed;
 mod commands;
@@ -28,6 +30,7 @@ mod showing;
 mod succeeding;
 mod waiting;
 
+pub use batch::Asked;
 pub use closed::{
     closed_books_give_nothing_out, closed_books_stay_closed, continuations_are_sound_in_full,
     continuations_rise, void_stamps_are_stated,

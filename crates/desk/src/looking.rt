@@ -3,13 +3,16 @@ ghost use Rattle.std.specs.Prelude.{◌≡◌, ℕ, ◌≤◌, pos, Option, Some
 ghost use Rattle.std.specs.Prelude.{MatchOption};
 ghost use Rattle.gentime.specs.GenTime.{last_moment};
 ghost use Rattle.book.specs.History.{History};
+ghost use Rattle.book.specs.Sound.{IsSound};
 ghost use Rattle.book.specs.Stands.{Stands, OnlyLooks};
 ghost use Rattle.book.specs.Fault.{CountsFaults, IsOfStorage};
 ghost use Rattle.book.specs.Values.{calibration_option};
 ghost use Rattle.desk.specs.Facts.{now_with, is_held_at};
 ghost use Rattle.desk.specs.Calls.{looked_at, calibrations_as, moment_or_last};
+ghost use Rattle.desk.specs.Waiting.{with_waiting};
 
 use crate::desk::Desk;
+use crate::waiting::Waiting;
 use book::{Book, StoreFault};
 use decide::{Calibration, ClockFacts, now_of};
 use gentime::{GenTime, LAST_MOMENT};
@@ -114,6 +117,34 @@ pub(crate) fn look<B: Book + Drop>(store: &mut B, reading: i64) -> Result<Looked
         },
         serial: last.serial,
     })
+}
+
+/// What a look finds once all that waits is reserved: the last of it is the last one then.
+pub(crate) fn look_among<B: Book + Drop>(
+    store: &mut B,
+    waits: &[Waiting<'_, '_>],
+    reading: i64,
+) -> Result<Looked, StoreFault>
+    ensures looks { OnlyLooks B.Standing store.old store.new }
+    ensures value { B.honest store.new → (b : History) → Stands B.Standing b store.old
+        → IsSound (with_waiting waits.now b)
+        → IfOk result (λ looked. looked ≡ looked_at reading (with_waiting waits.now b)) }
+    ensures refusals { IfErr result IsOfStorage }
+    ensures faults { CountsFaults result (B.fault_count store.old) (B.fault_count store.new) }
+{
+    let looked = look(store, reading)?;
+    match waits.last() {
+        None => Ok(looked),
+        Some(last) => Ok(Looked {
+            clock: ClockFacts {
+                reading,
+                calibration: looked.clock.calibration,
+                held: looked.clock.held,
+                last_gen_time: Some(moment_of(last.prepared.gen_time)),
+            },
+            serial: last.prepared.serial,
+        }),
+    }
 }
 
 impl<'p, B: Book + Drop> Desk<'p, B> {

@@ -4,11 +4,13 @@ use Rattle.tsp.specs.declared.rule.Rule.TheVariants.{Spelling}
 use Rattle.decide.specs.Rules.{Holds, HoldsOf}
 use Rattle.decide.specs.View.{account_asked}
 use Rattle.desk.specs.Facts.{facts_of}
+use Rattle.desk.specs.Waiting.{with_waiting}
 use Rattle.desk.proofs.Judgement.{unread, unspelled, one_unasked}
-use Rattle.desk.proofs.finding.find.Goals as goal
+use Rattle.desk.proofs.finding.find_among.Goals as goal
 
 pub returns-in-Err-clause-finds : goal.returns-in-Err-clause-finds
-returns-in-Err-clause-finds g c honest b st =
+returns-in-Err-clause-finds g c honest d st sound =
+    let b = with_waiting c.args.waits.now d in
     let file = policy_view c.args.policy.now in
     let account = account_asked c.args.account in
     let fails = unread c.args.query.now c.in-Err.field-0 c.in-Err.ensures.refusals

@@ -1,0 +1,67 @@
+use Rattle.std.proofs.Common.{◌+◌, [], ◌∷◌, ◌++◌, ◌∙◌, refl, sym, ap, subst, arith, SFits, w64, to_z-of_z, rules}
+use Rattle.std.proofs.Common.{map}
+use Rattle.std.proofs.lemmas.List.{take_all}
+use Rattle.decide.specs.View.{account_asked}
+use Rattle.desk.specs.Answers.{reply_as}
+use Rattle.desk.specs.Batches.{stamp_for}
+use Rattle.desk.specs.Calls.{opening_view}
+use Rattle.desk.specs.Command.{Stamp}
+use Rattle.desk.specs.Ran.{AreSteps}
+use Rattle.desk.specs.Stepped.{IsBareStep, with_signer}
+use Rattle.desk.specs.Together.{question_view}
+use Rattle.desk.proofs.RunsOn.{steps_more}
+use Rattle.desk.proofs.Turning.{stamps_are}
+use Rattle.desk.proofs.batch.answer_in_turn.Goals as goal
+
+pub loop-question-init : goal.loop-question-init
+loop-question-init g c = record {
+  counted = search rules;
+  room = c.requires.room;
+  steps = (
+    [],
+    subst (λ told. AreSteps g.B.Standing g.G.Signer.signs g.G.Signer.fault_count (opening_view c.args.opening) [] []
+        (map reply_as told) c.args.store.now c.args.signer.now (opening_view c.args.opening) c.args.store.now
+        c.args.signer.now) (sym c.requires.empty) (refl, refl, refl),
+  );
+}
+
+pub loop-question-preserved : goal.loop-question-preserved
+loop-question-preserved g c =
+    let before = c.loop-question.invariant.steps in
+    let q = c.question-item.result in
+    let reading : SFits w64 q.reading = search rules in
+    let s = opening_view c.args.opening in
+    let step = subst (λ x. IsBareStep g.B.Standing (with_signer g.G.Signer.signs g.G.Signer.fault_count
+    c.loop-question.signer c.answer_with.new.signer) s (Stamp (account_asked q.account) x q.query.now)
+    c.loop-question.store c.answer_with.new.store (reply_as c.answer_with.result)) (to_z-of_z reading)
+    c.answer_with.ensures.step in
+    record {
+      counted = c.push_reserved.ensures.len ∙ ap (λ n. n + 1) c.loop-question.invariant.counted;
+      room = omega (arith, c.loop-question.invariant.room, c.push_reserved.ensures.capacity);
+      steps = (
+        before.0 ++ (step.0 ∷ []),
+        steps_more g.B.Standing g.G.Signer.signs g.G.Signer.fault_count s (λ a. stamp_for (question_view a))
+            reply_as c.args.asked.now c.loop-question.question-index q before.0 c.loop-question.replies.items
+            c.answer_with.result c.push_reserved.new.self.items step.0 c.args.store.now c.args.signer.now s
+            c.loop-question.store c.loop-question.signer s c.answer_with.new.store c.answer_with.new.signer
+            c.loop-question-test.true c.question-item.is c.push_reserved.ensures.items before.1
+            c.answer_with.ensures.honest step.1 refl (λ honest. tt),
+      );
+    }
+
+pub returns : goal.returns
+returns g c =
+    let steps = c.loop-question.invariant.steps in
+    let s = opening_view c.args.opening in
+    record {
+      steps = (
+        steps.0,
+        subst (λ cs. AreSteps g.B.Standing g.G.Signer.signs g.G.Signer.fault_count s cs steps.0
+            (map reply_as c.loop-question.replies.items) c.args.store.now c.args.signer.now s c.loop-question.store
+            c.loop-question.signer) (stamps_are c.args.asked.now)
+            (subst (λ qs. AreSteps g.B.Standing g.G.Signer.signs g.G.Signer.fault_count s
+            (map (λ a. stamp_for (question_view a)) qs) steps.0 (map reply_as c.loop-question.replies.items)
+            c.args.store.now c.args.signer.now s c.loop-question.store c.loop-question.signer)
+            (take_all c.loop-question.question-index c.args.asked.now c.loop-question-test.false) steps.1),
+      );
+    }

@@ -1,0 +1,171 @@
+//! Stamps that are answered together, up to the one commit of their reservations.
+ghost use Rattle.std.specs.Prelude.{◌≡◌, ◌≤◌, ◌<◌, [], map, length, IfOk, IfErr, OnErr, vec_capacity};
+ghost use Rattle.std.specs.List.{AllByRecursion};
+ghost use Rattle.book.specs.Entries.{entries_view, Appends};
+ghost use Rattle.book.specs.History.{History, Reserved};
+ghost use Rattle.book.specs.Sound.{IsSound};
+ghost use Rattle.book.specs.Stands.{Stands, OnlyLooks};
+ghost use Rattle.desk.specs.Calls.{outcome_of, opening_view};
+ghost use Rattle.desk.specs.Outcome.{faults_after};
+ghost use Rattle.desk.specs.Together.{question_view, questions_view, IsJudgedAs, HasItsText, AreJudged};
+ghost use Rattle.desk.specs.Together.{AreSplit};
+ghost use Rattle.desk.specs.Waiting.{waiting_view, with_waiting, HasText};
+
+use crate::batch::Asked;
+use crate::beginning::name_of;
+use crate::finding::{Found, find_among};
+use crate::opening::Opening;
+use crate::refusal::Refusal;
+use crate::reserving::prepare;
+use crate::waiting::{Waiting, reservation_of};
+use book::{Book, Entry, GREATEST_NUMBER, StoreFault};
+use std::alloc::Global;
+use tsp::Rule;
+
+/// How a stamp of a batch is judged.
+#[derive(Drop)]
+pub(crate) enum Judged<'p, 'a> {
+    /// The first rule of 1 to 11 that fails.
+    Fails(Rule),
+    /// None fails, and its texts are written.
+    Waits(Waiting<'p, 'a>),
+}
+
+/// Judges one stamp by the history with the reservations of those that wait, and writes its texts where it waits too.
+fn judge_one<'p, 'a, B: Book + Drop>(
+    store: &mut B,
+    alloc: Global,
+    opening: Opening<'p>,
+    waits: &[Waiting<'p, 'a>],
+    asked: Asked<'a>,
+) -> Result<Judged<'p, 'a>, Refusal>
+    ensures looks { OnlyLooks B.Standing store.old store.new }
+    ensures counted { B.fault_count store.new ≡ faults_after (outcome_of result) (B.fault_count store.old) }
+    ensures judges { B.honest store.new → (b : History) → Stands B.Standing b store.old
+        → IsSound (with_waiting waits.now b)
+        → IfOk result (IsJudgedAs (opening_view opening.entry) (question_view asked.entry) (with_waiting waits.now b)) }
+    ensures texts { IfOk result (HasItsText (opening_view opening.entry)) }
+{
+    match find_among(
+        store,
+        waits,
+        opening.policy,
+        asked.account,
+        asked.reading,
+        asked.query,
+    ) {
+        Err(refusal) => Err(refusal),
+        Ok(Found::Fails(rule)) => Ok(Judged::Fails(rule)),
+        Ok(Found::Allows(planned)) => {
+            if planned.last >= GREATEST_NUMBER {
+                return Err(Refusal::Spent);
+            }
+            match prepare(alloc, opening, planned, asked.query) {
+                Ok(prepared) => Ok(Judged::Waits(Waiting {
+                    account: name_of(asked.account),
+                    query: asked.query,
+                    prepared,
+                })),
+                Err(refusal) => Err(refusal),
+            }
+        }
+    }
+}
+
+/// Judges each stamp in turn: a rule that it fails, or none, where it waits. The caller has taken the room for both
+/// lists.
+fn judge_each<'p, 'a, B: Book + Drop>(
+    store: &mut B,
+    alloc: Global,
+    opening: Opening<'p>,
+    asked: &[Asked<'a>],
+    verdicts: &mut Vec<Option<Rule>>,
+    waits: &mut Vec<Waiting<'p, 'a>>,
+) -> Result<(), Refusal>
+    requires none_judged { verdicts.old.items ≡ [] }
+    requires none_waits { waits.old.items ≡ [] }
+    requires verdicts_room { length asked.now ≤ vec_capacity verdicts.old }
+    requires waits_room { length asked.now ≤ vec_capacity waits.old }
+    ensures looks { OnlyLooks B.Standing store.old store.new }
+    ensures counted { B.fault_count store.new ≡ faults_after (outcome_of result) (B.fault_count store.old) }
+    ensures judges { IfOk result (λ _. B.honest store.new → (b : History) → Stands B.Standing b store.old
+        → AreJudged (opening_view opening.entry) (questions_view asked.now) verdicts.new.items waits.new.items b) }
+    ensures split { IfOk result (λ _. AreSplit (questions_view asked.now) verdicts.new.items waits.new.items) }
+    ensures texts { IfOk result (λ _. AllByRecursion (HasText (opening_view opening.entry)) waits.new.items) }
+{
+    for question in asked {
+        match judge_one(store, alloc, opening, waits, *question)? {
+            Judged::Fails(rule) => verdicts.push_reserved(Some(rule)),
+            Judged::Waits(waiting) => {
+                verdicts.push_reserved(None);
+                waits.push_reserved(waiting);
+            }
+        }
+    }
+    Ok(())
+}
+
+/// The reservations of what waits, as entries. Refused where memory wants.
+fn entries_of<'w>(alloc: Global, waits: &'w [Waiting<'_, '_>]) -> Result<Vec<Entry<'w>>, StoreFault>
+    ensures entries { IfOk result (λ entries. entries_view entries.items ≡ map Reserved (map waiting_view waits.now)) }
+    ensures refused { IfErr result (λ fault. fault ≡ StoreFault.Memory) }
+{
+    let mut entries = match Vec::with_capacity(alloc, waits.len()) {
+        Ok(entries) => entries,
+        Err(_) => return Err(StoreFault::Memory),
+    };
+    for waiting in waits {
+        entries.push_reserved(Entry::Reserved(reservation_of(waiting)));
+    }
+    Ok(entries)
+}
+
+/// Reserves all that waits in one commit.
+fn reserve_each<B: Book + Drop>(
+    store: &mut B,
+    alloc: Global,
+    waits: &[Waiting<'_, '_>],
+) -> Result<(), StoreFault>
+    requires some { 0 < length waits.now }
+    ensures appends { Appends B.Standing (map Reserved (map waiting_view waits.now)) store.old store.new result }
+{
+    let entries = entries_of(alloc, waits)?;
+    store.append(&entries)
+}
+
+/// Judges each stamp and reserves all that waits in one commit. Where a call is refused nothing is reserved. The caller
+/// has taken the room for both lists.
+pub(crate) fn begin_each<'p, 'a, B: Book + Drop>(
+    store: &mut B,
+    alloc: Global,
+    opening: Opening<'p>,
+    asked: &[Asked<'a>],
+    verdicts: &mut Vec<Option<Rule>>,
+    waits: &mut Vec<Waiting<'p, 'a>>,
+) -> Result<(), Refusal>
+    requires none_judged { verdicts.old.items ≡ [] }
+    requires none_waits { waits.old.items ≡ [] }
+    requires verdicts_room { length asked.now ≤ vec_capacity verdicts.old }
+    requires waits_room { length asked.now ≤ vec_capacity waits.old }
+    ensures honest { B.honest store.new → B.honest store.old }
+    ensures counted { B.fault_count store.new ≡ faults_after (outcome_of result) (B.fault_count store.old) }
+    ensures split { IfOk result (λ _. AreSplit (questions_view asked.now) verdicts.new.items waits.new.items) }
+    ensures texts { IfOk result (λ _. AllByRecursion (HasText (opening_view opening.entry)) waits.new.items) }
+    ensures judged { IfOk result (λ _. B.honest store.new → (b : History) → Stands B.Standing b store.old
+        → AreJudged (opening_view opening.entry) (questions_view asked.now) verdicts.new.items waits.new.items b) }
+    ensures reserved { IfOk result (λ _. B.honest store.new → (b : History) → Stands B.Standing b store.old
+        → Stands B.Standing (with_waiting waits.new.items b) store.new) }
+    ensures refused { OnErr result ((b : History) → Stands B.Standing b store.old → Stands B.Standing b store.new) }
+{
+    match judge_each(store, alloc, opening, asked, verdicts, waits) {
+        Ok(()) => {}
+        Err(refusal) => return Err(refusal),
+    }
+    if waits.is_empty() {
+        return Ok(());
+    }
+    match reserve_each(store, alloc, waits) {
+        Ok(()) => Ok(()),
+        Err(fault) => Err(Refusal::Adding(fault)),
+    }
+}
