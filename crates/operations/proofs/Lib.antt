@@ -1,3 +1,4 @@
 pub mod Checking
 pub mod GoingOn
 pub mod OverFiles
+pub mod Reaching

@@ -37,6 +37,14 @@ impl<S: Signer, K: Signer> Signer for ReachedSigner<S, K> {
         }
     }
 
+    fn sign_each(&mut self, texts: &[&[u8]], answers: &mut Vec<Result<Vec<u8>, SignerFault>>) {
+        match self {
+            ReachedSigner::Keyed(signer) => signer.sign_each(texts, answers),
+            ReachedSigner::Session(signer) => signer.sign_each(texts, answers),
+            ReachedSigner::Renewed(signer) => signer.sign_each(texts, answers),
+        }
+    }
+
     fn algorithm(&self) -> &Algorithm {
         match self {
             ReachedSigner::Keyed(signer) => signer.algorithm(),
