@@ -1,6 +1,6 @@
 -- Writing in steps.
 use Rattle.std.proofs.Common.{◌≡◌, ◌∙◌, Result, Ok, Err, ◌+◌, ◌<◌, ◌≤◌, ℕ, List, [], ◌∷◌, ◌++◌, Option, Some, None}
-use Rattle.std.proofs.Common.{length, min, take, sym, refl, arith}
+use Rattle.std.proofs.Common.{length, min, take, sym, subst, refl, arith, inl, inr}
 use Rattle.std.proofs.KnownBytes.{Appends-trans}
 use Rattle.std.proofs.Math.Seq.{take-append-add, take-length}
 use Rattle.std.proofs.lemmas.List.{append-nil, take-append-le, take_min}
@@ -8,7 +8,8 @@ use Rattle.std.specs.Io.KnownBytes.{Appends, Keeps}
 use Rattle.std.proofs.lemmas.Fmt.{decimal_digit}
 use Rattle.std.specs.Fmt.{decimal, digits}
 use Rattle.std.specs.Prelude.{OnErr, OnOk}
-use Rattle.console.specs.Writing.{Begins}
+use Rattle.audit.specs.Failing.{HasFailed}
+use Rattle.console.specs.Writing.{Begins, IsWhole}
 
 pub appends_nothing : (old : Option (List ℕ)) → Appends old old []
 appends_nothing None = tt
@@ -47,6 +48,22 @@ pub begins_whatever : {T E : Type 0} (old new : Option (List ℕ)) (text : List 
     → OnErr written (Begins old new text) → Begins old new text
 begins_whatever {T} {E} old new text (Ok done) whole begun = (length text, rw (take-length text) whole)
 begins_whatever {T} {E} old new text (Err e) whole begun = begun
+
+-- what is written in two steps is whole, unless one of them fails
+pub whole_after : {T E : Type 0} (old mid new : Option (List ℕ)) (a b c : Option ℕ) (first second : List ℕ)
+    (written : Result T E) → Appends old mid first → b ≡ a → OnOk written (Appends mid new second)
+    → OnErr written (HasFailed b c) → IsWhole old new a c (first ++ second)
+whole_after {T} {E} old mid new a b c first second (Ok done) one kept two failed =
+    inl (Appends-trans old mid new first second one two)
+whole_after {T} {E} old mid new a b c first second (Err e) one kept two failed =
+    inr (subst (λ failures. HasFailed failures c) kept failed)
+
+-- whatever a write answers, the text is whole, or it failed
+pub whole_whatever : {T E : Type 0} (old new : Option (List ℕ)) (before after : Option ℕ) (text : List ℕ)
+    (written : Result T E) → OnOk written (Appends old new text) → OnErr written (HasFailed before after)
+    → IsWhole old new before after text
+whole_whatever {T} {E} old new before after text (Ok done) whole failed = inl whole
+whole_whatever {T} {E} old new before after text (Err e) whole failed = inr failed
 
 -- the end of a fault's line
 pub digit_line : (number digit : ℕ) → number ≡ digit → digit < 10 → (48 + digit) ∷ 10 ∷ [] ≡ decimal number ++ 10 ∷ []

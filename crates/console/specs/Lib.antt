@@ -1,6 +1,7 @@
 pub mod Accounts
 pub mod Counts
 pub mod Fault
+pub mod Files
 pub mod Hexadecimal
 pub mod Identity
 pub mod Known

@@ -3,16 +3,17 @@ ghost use Rattle.std.specs.Fmt.{decimal};
 ghost use Rattle.console.specs.declared.fault.Fault.TheVariants.{Der, Tsp, Cms, Policy, Store, Audit, Input};
 ghost use Rattle.console.specs.declared.fault.InputFault.TheVariants.{Memory};
 ghost use Rattle.console.specs.Fault.{fault_of};
+ghost use Rattle.console.specs.Files.{IsFaultOf};
 
 use crate::output::write_text;
-use audit::ExtractFault;
+use audit::{ExtractFault, Output};
 use book::StoreFault;
 use cms::CmsFault;
 use der::DerFault;
 use hex::FromHexError;
 use policy::PolicyFault;
 use std::alloc::{AllocError, AllocFailed};
-use std::io::Write;
+use std::io::ErrorKind;
 use tsp::TspFault;
 
 /// Why the program did not do what its words ask for: the part that refused, and its refusal.
@@ -38,11 +39,13 @@ pub enum Fault {
 
 impl Fault {
     ghost use Rattle.console.specs.Fault.{fault_line, line_beginning, number_of_fault};
-    ghost use Rattle.console.specs.Writing.{Begins};
+    ghost use Rattle.console.specs.Writing.{Begins, IsWhole};
 
     /// Writes the fault's line, or a beginning of it where standard error fails. It takes no memory.
-    pub fn write_line<W: Write>(self, errors: &mut W)
-        ensures { Begins (W.contents errors.old) (W.contents errors.new) (fault_line self) }
+    pub fn write_line<W: Output>(self, errors: &mut W)
+        ensures begun { Begins (W.contents errors.old) (W.contents errors.new) (fault_line self) }
+        ensures whole { IsWhole (W.contents errors.old) (W.contents errors.new) (W.failures errors.old)
+            (W.failures errors.new) (fault_line self) }
     {
         // Where standard error fails, the status alone tells.
         match write_text(self.line_beginning(), errors) {
@@ -191,6 +194,19 @@ impl<T: Drop> From<AllocFailed<T>> for InputFault {
 
     fn from(_e: AllocFailed<T>) -> InputFault {
         InputFault::Memory
+    }
+}
+
+/// Memory, and else the file.
+impl From<ErrorKind> for InputFault {
+    ghost from_gives = { IsFaultOf };
+
+    fn from(kind: ErrorKind) -> InputFault {
+        if kind == ErrorKind::OutOfMemory {
+            InputFault::Memory
+        } else {
+            InputFault::File
+        }
     }
 }
 

@@ -1,14 +1,15 @@
 //! The files that say whose certificate tokens name, and who signs.
-ghost use Rattle.std.specs.Prelude.{◌≡◌, ◌⊎◌, ◌≤◌, [], length, None, IfOk, IfErr};
+ghost use Rattle.std.specs.Prelude.{◌≡◌, ◌⊎◌, ◌≤◌, [], length, None, IfOk, IfErr, option_map};
 ghost use Rattle.cms.specs.Certificate.{IsAlgorithm};
 ghost use Rattle.console.specs.Fault.{IsFileFault};
+ghost use Rattle.console.specs.Files.{IsAlgorithmOf, Reads, ReadsAs, ReadsChain, ReadsIdentity};
+ghost use Rattle.console.specs.Files.{most_of_algorithm, octets_of};
 ghost use Rattle.console.specs.Identity.{IsIdentity};
 
 use crate::fault::{Fault, InputFault};
+use crate::source::FileSource;
 use cms::{Algorithm, Identity, KeyedHash};
-use std::fs::File;
-use std::io::{self, Read};
-use std::rt::HostRuntime;
+use std::io::Read;
 
 /// One octet more than a certificate may have.
 const BEYOND_A_CERTIFICATE: u64 = 16_385;
@@ -27,8 +28,15 @@ const MOST_OF_A_KEY: usize = 256;
 /// that is no certificate or no chain of some, or that has a certificate of more than 16,384 octets, more than three in
 /// the chain, or one twice, is `cms` with the number of its refusal. Where memory runs out it is `input` 7 over a file,
 /// and `cms` 3 over what it has.
-pub fn read_identity(rt: &HostRuntime, path: &str, chain: Option<&str>) -> Result<Identity, Fault>
-    // No contract says what a file holds. So the identity is that of some certificate and some chain.
+pub fn read_identity<F: FileSource + AllocGlobal>(
+    rt: &F,
+    path: &str,
+    chain: Option<&str>,
+) -> Result<Identity, Fault>
+    ensures reads { ReadsIdentity F.opens F.refuses F.File.remaining rt.now path.now
+        (option_map (λ path. path.now) chain.entry) result }
+
+    // No contract says what a file of the machine holds. So the identity is that of some certificate and some chain.
     ensures found { IfOk result IsIdentity }
     ensures alone { chain.entry ≡ None → IfOk result (λ identity. identity.chain ≡ []) }
     ensures faults { IfErr result IsFileFault }
@@ -40,7 +48,13 @@ pub fn read_identity(rt: &HostRuntime, path: &str, chain: Option<&str>) -> Resul
 
 /// Reads the chain of a certificate, none where no file is named. What is wrong with the certificate is told before the
 /// file is looked for.
-fn read_chain(rt: &HostRuntime, certificate: &[u8], path: Option<&str>) -> Result<Vec<u8>, Fault>
+fn read_chain<F: FileSource + AllocGlobal>(
+    rt: &F,
+    certificate: &[u8],
+    path: Option<&str>,
+) -> Result<Vec<u8>, Fault>
+    ensures reads { ReadsChain F.opens F.refuses F.File.remaining rt.now certificate.now
+        (option_map (λ path. path.now) path.entry) (octets_of result) }
     ensures none { path.entry ≡ None → IfOk result (λ octets. octets.items ≡ []) }
     ensures faults { IfErr result IsFileFault }
 {
@@ -53,7 +67,7 @@ fn read_chain(rt: &HostRuntime, certificate: &[u8], path: Option<&str>) -> Resul
 
 /// Reads the key of the stand-in signer. A file that can't be read, or hasn't 1 to 256 octets, is `input` 2. Where
 /// memory runs out it is `input` 7 over the file, and `cms` 3 over the signer.
-pub fn read_signer(rt: &HostRuntime, path: &str) -> Result<KeyedHash, Fault>
+pub fn read_signer<F: FileSource + AllocGlobal>(rt: &F, path: &str) -> Result<KeyedHash, Fault>
     ensures some { IfOk result (λ signer. 1 ≤ length signer) }
     ensures few { IfOk result (λ signer. length signer ≤ 256) }
     ensures faults { IfErr result IsFileFault }
@@ -68,8 +82,10 @@ pub fn read_signer(rt: &HostRuntime, path: &str) -> Result<KeyedHash, Fault>
 /// Reads an algorithm. A file that can't be read is `input` 2, and one that is no AlgorithmIdentifier, or one of more
 /// than 256 octets, `cms` with the number of its refusal. Where memory runs out it is `input` 7 over the file, and
 /// `cms` 3 over the algorithm.
-pub fn read_algorithm(rt: &HostRuntime, path: &str) -> Result<Algorithm, Fault>
-    // No contract says what a file holds. So it is some algorithm.
+pub fn read_algorithm<F: FileSource + AllocGlobal>(rt: &F, path: &str) -> Result<Algorithm, Fault>
+    ensures reads { ReadsAs F.opens F.refuses F.File.remaining rt.now path.now most_of_algorithm IsAlgorithmOf result }
+
+    // No contract says what a file of the machine holds. So it is some algorithm.
     ensures found { IfOk result (λ algorithm. (length algorithm ≤ 256) × IsAlgorithm algorithm) }
     ensures faults { IfErr result IsFileFault }
 {
@@ -77,19 +93,19 @@ pub fn read_algorithm(rt: &HostRuntime, path: &str) -> Result<Algorithm, Fault>
     Ok(Algorithm::from_bytes(rt.alloc(), octets.as_slice())?)
 }
 
-/// The beginning of a file, so many octets where it has them.
-fn read_beginning(rt: &HostRuntime, path: &str, most: u64) -> Result<Vec<u8>, InputFault>
-    ensures { IfErr result (λ fault. (fault ≡ InputFault.File) ⊎ (fault ≡ InputFault.Memory)) }
+/// The beginning of a file, so many octets where it has them. It is `Memory` where memory runs out, and else `File`.
+fn read_beginning<F: FileSource + AllocGlobal>(
+    rt: &F,
+    path: &str,
+    most: u64,
+) -> Result<Vec<u8>, InputFault>
+    ensures reads { Reads F.opens F.refuses F.File.remaining rt.now path.now most (octets_of result) }
+    ensures faults { IfErr result (λ fault. (fault ≡ InputFault.File) ⊎ (fault ≡ InputFault.Memory)) }
 {
-    match read_first(rt, path, most) {
-        Ok(octets) => Ok(octets),
-        Err(error) if error.kind() == io::ErrorKind::OutOfMemory => Err(InputFault::Memory),
-        Err(_) => Err(InputFault::File),
-    }
-}
-
-fn read_first(rt: &HostRuntime, path: &str, most: u64) -> io::Result<Vec<u8>> {
+    let file = rt.open(path)?;
     let mut octets = Vec::new(rt.alloc());
-    File::open(rt, path)?.take(most).read_to_end(&mut octets)?;
-    Ok(octets)
+    match file.take(most).read_to_end(&mut octets) {
+        Ok(_) => Ok(octets),
+        Err(error) => Err(InputFault::from(error.kind())),
+    }
 }

@@ -10,6 +10,7 @@ mod known;
 mod output;
 mod rules;
 mod settings;
+mod source;
 mod status;
 mod tst;
 
@@ -18,5 +19,6 @@ pub use check::{check_policy, read_policy};
 pub use fault::{Fault, InputFault};
 pub use files::{read_algorithm, read_identity, read_signer};
 pub use hexadecimal::{read_octets, write_octets};
+pub use source::FileSource;
 pub use status::{DONE, FAULT, WORDS_REFUSED, explain, report};
 pub use tst::answer_tst;

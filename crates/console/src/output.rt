@@ -1,24 +1,27 @@
 //! Texts on an output.
 ghost use Rattle.std.specs.Prelude.{◌≡◌, OnOk, OnErr, IfErr};
 ghost use Rattle.std.specs.Io.KnownBytes.{Appends};
+ghost use Rattle.audit.specs.Failing.{HasFailed};
 ghost use Rattle.console.specs.Writing.{Begins};
 
 use crate::fault::InputFault;
-use audit::write_octets;
-use std::io::Write;
+use audit::{Output, write_octets};
 
 /// Writes a text and flushes it. Where either fails it is `Failed`: a beginning of the text was written then.
-pub fn write_text<W: Write>(text: &str, output: &mut W) -> Result<(), InputFault>
+pub fn write_text<W: Output>(text: &str, output: &mut W) -> Result<(), InputFault>
     ensures written { OnOk result (Appends (W.contents output.old) (W.contents output.new) text.now) }
     ensures begun { OnErr result (Begins (W.contents output.old) (W.contents output.new) text.now) }
+    ensures sent { OnOk result (W.failures output.new ≡ W.failures output.old) }
+    ensures failed { OnErr result (HasFailed (W.failures output.old) (W.failures output.new)) }
     ensures faults { IfErr result (λ fault. fault ≡ InputFault.Failed) }
 {
     let octets = text.as_bytes();
     if write_octets(output, octets) < octets.len() {
         return Err(InputFault::Failed);
     }
-    match output.flush() {
-        Ok(()) => Ok(()),
-        Err(_) => Err(InputFault::Failed),
+    if output.send() {
+        Ok(())
+    } else {
+        Err(InputFault::Failed)
     }
 }

@@ -3,13 +3,14 @@ ghost use Rattle.std.specs.Prelude.{◌≡◌, ◌≤◌, ◌⊎◌, String, str
 ghost use Rattle.std.specs.Io.KnownBytes.{Appends};
 ghost use Rattle.std.specs.declared.alloc.Global.{Global};
 ghost use Rattle.command_line.specs.declared.refusal.Refusal.TheVariants.{Help, Mistake};
-ghost use Rattle.console.specs.Fault.{fault_line};
-ghost use Rattle.console.specs.Writing.{Begins};
+ghost use Rattle.audit.specs.Failing.{HasFailed};
+ghost use Rattle.console.specs.Fault.{IsExplained, fault_line};
+ghost use Rattle.console.specs.Writing.{Begins, IsWhole};
 
 use crate::fault::{Fault, InputFault};
 use crate::output::write_text;
+use audit::Output;
 use command_line::Refusal;
-use std::io::Write;
 
 /// What the words ask for is done; a rejection and help are done too.
 pub const DONE: u8 = 0;
@@ -21,9 +22,11 @@ pub const FAULT: u8 = 1;
 pub const WORDS_REFUSED: u8 = 2;
 
 /// Writes the fault's line, or a beginning of it where `errors` fails, and answers the status 1.
-pub fn report<E: Write>(fault: Fault, errors: &mut E) -> u8
+pub fn report<E: Output>(fault: Fault, errors: &mut E) -> u8
     ensures status { result ≡ 1 }
     ensures told { Begins (E.contents errors.old) (E.contents errors.new) (fault_line fault) }
+    ensures whole { IsWhole (E.contents errors.old) (E.contents errors.new) (E.failures errors.old)
+        (E.failures errors.new) (fault_line fault) }
 {
     fault.write_line(errors);
     FAULT
@@ -31,7 +34,7 @@ pub fn report<E: Write>(fault: Fault, errors: &mut E) -> u8
 
 /// Writes why there are no words to do: help to `output`, with status 0, a mistake to `errors`, with status 2, and else
 /// the line of `input` 5 where help can't be written, and of 7 where memory ran out, with status 1.
-pub fn explain<O: Write, E: Write>(refusal: &Refusal, output: &mut O, errors: &mut E) -> u8
+pub fn explain<O: Output, E: Output>(refusal: &Refusal, output: &mut O, errors: &mut E) -> u8
     ensures status { result ≤ 2 }
     ensures silent { result ≡ 0 → E.contents errors.new ≡ E.contents errors.old }
 
@@ -47,8 +50,16 @@ pub fn explain<O: Write, E: Write>(refusal: &Refusal, output: &mut O, errors: &m
     // A mistake is written as far as `errors` takes it.
     ensures refused { result ≡ 2 → (text : String Global) × (refusal.now ≡ Mistake text)
         × Begins (E.contents errors.old) (E.contents errors.new) (string_bytes text) }
+    ensures whole_reason { result ≡ 2 → (text : String Global) × (refusal.now ≡ Mistake text)
+        × IsWhole (E.contents errors.old) (E.contents errors.new) (E.failures errors.old) (E.failures errors.new)
+        (string_bytes text) }
     ensures told { result ≡ 1 → (fault : Fault)
         × Begins (E.contents errors.old) (E.contents errors.new) (fault_line fault) }
+    ensures whole_line { result ≡ 1 → (fault : InputFault) × IsExplained refusal.now fault
+        × IsWhole (E.contents errors.old) (E.contents errors.new) (E.failures errors.old) (E.failures errors.new)
+        (fault_line (Fault.Input fault)) }
+    ensures failed { (text : String Global) → result ≡ 1 → refusal.now ≡ Help text
+        → HasFailed (O.failures output.old) (O.failures output.new) }
 {
     match refusal {
         Refusal::Help(text) => match write_text(text.as_str(), output) {

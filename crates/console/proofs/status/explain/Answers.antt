@@ -1,5 +1,6 @@
-use Rattle.std.proofs.Common.{inr}
-use Rattle.console.proofs.Writing.{begins_whatever}
+use Rattle.std.proofs.Common.{inr, refl}
+use Rattle.console.proofs.Writing.{begins_whatever, whole_whatever}
+use Rattle.console.specs.declared.fault.InputFault.TheVariants.{Memory}
 use Rattle.console.proofs.status.explain.Goals as goal
 
 pub returns-in-Ok-clause-unwritten : goal.returns-in-Ok-clause-unwritten
@@ -27,3 +28,20 @@ returns-in-Mistake-clause-refused g c =
           c.write_text-in-Mistake.result c.write_text-in-Mistake.ensures.written
           c.write_text-in-Mistake.ensures.begun),
     )
+
+pub returns-in-Mistake-clause-whole_reason : goal.returns-in-Mistake-clause-whole_reason
+returns-in-Mistake-clause-whole_reason g c =
+    λ _. (
+      c.in-Mistake.text,
+      c.in-Mistake.is,
+      rw c.as_str-in-Mistake.ensures.value at
+          (whole_whatever (g.E.Write.contents c.args.errors.now)
+          (g.E.Write.contents c.write_text-in-Mistake.new.output) (g.E.Output.failures c.args.errors.now)
+          (g.E.Output.failures c.write_text-in-Mistake.new.output) c.as_str-in-Mistake.result.now
+          c.write_text-in-Mistake.result c.write_text-in-Mistake.ensures.written
+          c.write_text-in-Mistake.ensures.failed),
+    )
+
+pub returns-in-Memory-clause-whole_line : goal.returns-in-Memory-clause-whole_line
+returns-in-Memory-clause-whole_line g c =
+    λ _. (Memory, rw c.in-Memory.is refl, c.report-in-Memory.ensures.whole)

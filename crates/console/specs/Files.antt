@@ -1,0 +1,89 @@
+-- Files that are read, as what opens them tells: which octets, in which order, and which fault.
+use Rattle.std.specs.Prelude.{◌≡◌, ◌≢◌, ◌⊎◌, ℕ, ◌+◌, ◌*◌, ◌≤◌, List, [], length, take, Option, Some, None, IfSome}
+use Rattle.std.specs.Prelude.{Result, Ok, Err, Vec}
+use Rattle.std.specs.declared.io.ErrorKind.{ErrorKind}
+use Rattle.std.specs.declared.io.ErrorKind.TheVariants.{OutOfMemory}
+use Rattle.cms.specs.Certificate.{CertificateParts, IsAlgorithm, IsCertificate, identity_with}
+use Rattle.cms.specs.Chain.{AreFurtherCertificates, IsFirstFault}
+use Rattle.cms.specs.Grammar.{joined}
+use Rattle.cms.specs.Identity.{IdentityValue}
+use Rattle.cms.specs.declared.fault.CmsFault.{CmsFault}
+use Rattle.cms.specs.declared.fault.CmsFault.TheVariants as cms
+use Rattle.console.specs.declared.fault.Fault.{Fault}
+use Rattle.console.specs.declared.fault.Fault.TheVariants.{Cms, Input}
+use Rattle.console.specs.declared.fault.InputFault.{InputFault}
+use Rattle.console.specs.declared.fault.InputFault.TheVariants.{File, Memory}
+
+-- So many octets of each file decide how it is read: one more than a certificate or an algorithm may have; and of a
+-- chain two certificates, one value more of the most contents that a value has, and an octet behind that.
+abbrev pub most_of_certificate : ℕ
+most_of_certificate = 16_384 + 1
+
+abbrev pub most_of_chain : ℕ
+most_of_chain = 2 * 16_384 + 5 + 16_777_215 + 1
+
+abbrev pub most_of_algorithm : ℕ
+most_of_algorithm = 256 + 1
+
+-- the octets that were read, or the fault
+abbrev pub octets_of : {A E : Type 0} → Result (Vec ℕ A) E → Result (List ℕ) E
+octets_of (Ok octets) = Ok octets.items
+octets_of (Err fault) = Err fault
+
+-- what an error of that kind is to the program
+pub record IsFaultOf (kind : ErrorKind) (fault : InputFault) : Type 0 where
+  pub memory : kind ≡ OutOfMemory → fault ≡ Memory
+  pub other : kind ≢ OutOfMemory → fault ≡ File
+
+-- Whose certificate tokens name, by the octets of a certificate and of a chain; or their first fault.
+abbrev pub IsIdentityOf : List ℕ → List ℕ → Result IdentityValue Fault → Type 0
+IsIdentityOf certificate chain (Ok identity) = (parts : CertificateParts) × (further : List (List ℕ))
+    × IsCertificate certificate parts × (length certificate ≤ 16384) × AreFurtherCertificates certificate further
+    × (chain ≡ joined further) × (identity ≡ identity_with certificate further parts)
+IsIdentityOf certificate chain (Err fault) = (refusal : CmsFault) × ((fault ≡ Cms refusal)
+    × IsFirstFault certificate chain refusal)
+
+-- an algorithm of these octets, or why they are none
+abbrev pub IsAlgorithmOf : List ℕ → Result (List ℕ) Fault → Type 0
+IsAlgorithmOf octets (Ok algorithm) = (algorithm ≡ octets) × (length algorithm ≤ 256) × IsAlgorithm algorithm
+IsAlgorithmOf octets (Err fault) = (refusal : CmsFault) × ((fault ≡ Cms refusal)
+    × (IsAlgorithm octets → length octets ≤ 256 → refusal ≡ cms.Memory))
+
+module _ {S F : Type 0} (opens : S → List ℕ → F → Type 0) (refuses : S → List ℕ → ErrorKind → Type 0)
+    (remaining : F → Option (List ℕ)) (source : S) where
+  -- What reading at most so many octets of the file at a path gives: all that it has where these are fewer. It fails
+  -- where the file can't be opened, or not read to there.
+  abbrev pub Reads : List ℕ → ℕ → Result (List ℕ) InputFault → Type 0
+  Reads path most (Ok octets) =
+      (file : F) × (opens source path file × IfSome (remaining file) (λ all. octets ≡ take most all))
+  Reads path most (Err fault) = ((kind : ErrorKind) × (refuses source path kind × IsFaultOf kind fault))
+      ⊎ ((file : F) × (opens source path file × ((fault ≡ File) ⊎ (fault ≡ Memory))))
+
+  -- A file is read, and what it is follows from its octets.
+  pub data ReadsAs {A : Type 0} (path : List ℕ) (most : ℕ) (is : List ℕ → Result A Fault → Type 0)
+      (result : Result A Fault) : Type 0 where
+    not_read : (fault : InputFault) → Reads path most (Err fault) → result ≡ Err (Input fault)
+        → ReadsAs path most is result
+    read_as : (octets : List ℕ) → Reads path most (Ok octets) → is octets result → ReadsAs path most is result
+
+  -- The chain of a certificate is read, where a file is named for it. What is wrong with the certificate comes first.
+  pub data ReadsChain (certificate : List ℕ) (chain : Option (List ℕ)) (result : Result (List ℕ) Fault) : Type 0 where
+    no_chain : chain ≡ None → result ≡ Ok [] → ReadsChain certificate chain result
+    of_no_certificate : (path : List ℕ) → chain ≡ Some path → (fault : Fault) → IsIdentityOf certificate [] (Err fault)
+        → result ≡ Err fault → ReadsChain certificate chain result
+    chain_not_read : (path : List ℕ) → chain ≡ Some path → (parts : CertificateParts) → IsCertificate certificate parts
+        → (fault : InputFault) → Reads path most_of_chain (Err fault) → result ≡ Err (Input fault)
+        → ReadsChain certificate chain result
+    chain_read : (path : List ℕ) → chain ≡ Some path → (parts : CertificateParts) → IsCertificate certificate parts
+        → (octets : List ℕ) → Reads path most_of_chain (Ok octets) → result ≡ Ok octets
+        → ReadsChain certificate chain result
+
+  -- The certificate is read first, then the chain, and then what both are.
+  pub data ReadsIdentity (path : List ℕ) (chain : Option (List ℕ)) (result : Result IdentityValue Fault) : Type 0 where
+    certificate_not_read : (fault : InputFault) → Reads path most_of_certificate (Err fault)
+        → result ≡ Err (Input fault) → ReadsIdentity path chain result
+    chain_refused : (certificate : List ℕ) → Reads path most_of_certificate (Ok certificate) → (fault : Fault)
+        → ReadsChain certificate chain (Err fault) → result ≡ Err fault → ReadsIdentity path chain result
+    identity_read : (certificate : List ℕ) → Reads path most_of_certificate (Ok certificate) → (octets : List ℕ)
+        → ReadsChain certificate chain (Ok octets) → IsIdentityOf certificate octets result
+        → ReadsIdentity path chain result
