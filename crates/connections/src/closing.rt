@@ -3,6 +3,7 @@ ghost use Rattle.std.specs.Prelude.{◌<◌};
 
 use crate::peer::Peer;
 use mio::Registry;
+use sockets::Stream;
 use std::io::{ErrorKind, Read};
 use std::time::{Duration, Instant};
 
@@ -21,7 +22,7 @@ const MOST_READS: u32 = 64;
 #[derive(Drop)]
 pub(crate) struct Closing {
     /// The connection.
-    pub(crate) peer: Peer,
+    pub(crate) peer: Peer<Stream>,
     /// When the next octet has to have come.
     until: Instant,
     dropped: usize,
@@ -35,7 +36,7 @@ fn until(now: Instant) -> Option<Instant> {
 
 impl Closing {
     /// Nothing is dropped yet. None where there is no such moment.
-    pub(crate) fn new(peer: Peer, now: Instant) -> Option<Closing> {
+    pub(crate) fn new(peer: Peer<Stream>, now: Instant) -> Option<Closing> {
         Some(Closing {
             peer,
             until: until(now)?,
@@ -63,8 +64,7 @@ impl Closing {
                 return true;
             }
             let mut room = [0u8; 4096];
-            let mut stream = &self.peer.stream;
-            match stream.read(&mut room) {
+            match self.peer.stream.read(&mut room) {
                 Ok(0) => return true,
                 Ok(taken) => self.dropped += taken,
                 Err(error) if error.kind() == ErrorKind::WouldBlock => {

@@ -9,7 +9,7 @@ use crate::waiting::{Progress, Waiting};
 use mio::unix::SourceFd;
 use mio::{Events, Interest, Poll, Registry, Token};
 use service::{Exchanged, Request, Routes, Served};
-use sockets::{Listener, Stream};
+use sockets::{Duplex, Listener, Stream};
 use std::alloc::{AllocError, Global};
 use std::io;
 use std::io::ErrorKind;
@@ -307,7 +307,7 @@ impl<'l, R: AllocGlobal + Clock> Listening<'l, R> {
     }
 
     /// Ends our side of a connection that was answered, and drops what its client still sends, until that moment.
-    fn close(&mut self, peer: Peer, end: Instant) -> io::Result<()> {
+    fn close(&mut self, peer: Peer<Stream>, end: Instant) -> io::Result<()> {
         let now = Instant::now(self.rt)?;
         peer.stream.shutdown(Shutdown::Write)?;
         peer.stream.set_nonblocking(true)?;
@@ -388,7 +388,7 @@ impl<'l, R: AllocGlobal + Clock> Listening<'l, R> {
 
 /// It tells nothing: no contract of the machine's streams says which octets come and go.
 impl<'l, R: AllocGlobal + Clock> Hearing for Listening<'l, R> {
-    type Stream = Limited<'l, R>;
+    type Stream = Limited<'l, R, Stream>;
 
     fn alloc(&self) -> Global {
         self.rt.alloc()
@@ -398,12 +398,12 @@ impl<'l, R: AllocGlobal + Clock> Hearing for Listening<'l, R> {
         &self.routes
     }
 
-    fn next(&mut self, most: usize) -> Option<(Request, Limited<'l, R>)> {
+    fn next(&mut self, most: usize) -> Option<(Request, Limited<'l, R, Stream>)> {
         let Waiting { peer, request, .. } = self.next_whole(most)?;
         Some((request, Limited::new(self.rt, peer, self.limit)))
     }
 
-    fn take_back(&mut self, stream: Limited<'l, R>, exchanged: Exchanged) {
+    fn take_back(&mut self, stream: Limited<'l, R, Stream>, exchanged: Exchanged) {
         if let Some(end) = rest_until(exchanged, stream.end) {
             // What can't be read further is closed.
             let _ = self.close(stream.peer, end);

@@ -2,6 +2,7 @@
 use crate::peer::Peer;
 use mio::Registry;
 use service::{Request, Routes};
+use sockets::Stream;
 use std::io::ErrorKind;
 use std::time::Instant;
 
@@ -37,7 +38,7 @@ fn progress_after(request: &Request, read: Result<(), ErrorKind>) -> Progress {
 #[derive(Drop)]
 pub(crate) struct Waiting {
     /// The connection.
-    pub(crate) peer: Peer,
+    pub(crate) peer: Peer<Stream>,
     /// Its request.
     pub(crate) request: Request,
     /// Until when it isn't given up for another.
@@ -48,8 +49,7 @@ impl Waiting {
     /// Reads what is there.
     fn read(&mut self, routes: &Routes, registry: &Registry) -> Progress {
         for _ in 0..MOST_READS {
-            let mut stream = &self.peer.stream;
-            let read = self.request.read_ahead(routes, &mut stream);
+            let read = self.request.read_ahead(routes, &mut self.peer.stream);
             match progress_after(&self.request, read) {
                 Progress::Came => {}
                 Progress::Waits => match self.peer.wait(registry) {

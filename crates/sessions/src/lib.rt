@@ -9,4 +9,6 @@ mod signer;
 pub use key_holder::{KeyHolder, KeyHolderSigner, connect_renewed};
 pub use renewed::{RenewedSigner, Sessions};
 pub use session::SessionStream;
-pub use signer::{SIGNER_SECONDS, Session, SignerUnreached, connect_signer};
+pub use signer::{
+    SIGNER_SECONDS, Session, SignerUnreached, StreamSigner, connect_signer, signer_over,
+};

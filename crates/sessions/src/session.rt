@@ -1,8 +1,9 @@
 //! The two ways of a session with a key holder.
-use sockets::Stream;
+use sockets::Duplex;
 use std::cell::Cell;
 use std::io;
 use std::io::{ErrorKind, Read, Write};
+use std::marker::Model;
 use std::rc::Rc;
 use std::time::{Clock, Duration, Instant};
 
@@ -19,16 +20,24 @@ pub(crate) struct Exchange {
 }
 
 /// One way of a stream to a key holder. An exchange begins with the first octet that is written, and goes on until
-/// octets are written after some were read. It has so much time in all: what isn't done by then fails.
+/// octets are written after some were read. It has so much time in all: what isn't done by then fails. What goes over
+/// it is what goes over the stream.
 #[derive(Drop)]
-pub struct SessionStream<'a, R> {
+pub struct SessionStream<'a, R, S> {
     pub(crate) clock: &'a R,
-    pub(crate) stream: Stream,
+    pub(crate) stream: S,
     pub(crate) limit: Duration,
     pub(crate) exchange: Rc<Cell<Exchange>>,
 }
 
-impl<R: Clock> SessionStream<'_, R> {
+/// Contracts see the stream.
+impl<'a, R, S> Model for SessionStream<'a, R, S> {
+    ghost Value = { S };
+
+    ghost view = { λ session. session.stream };
+}
+
+impl<R: Clock, S> SessionStream<'_, R, S> {
     /// The time that is left of an exchange, which is some.
     fn left(&self, is_read: bool) -> io::Result<Duration> {
         let now = Instant::now(self.clock)?;
@@ -52,13 +61,15 @@ impl<R: Clock> SessionStream<'_, R> {
     }
 }
 
-impl<R: Clock> Read for SessionStream<'_, R> {
+impl<R: Clock, S: Duplex> Read for SessionStream<'_, R, S> {
+    // the octets that the stream still gives
+    ghost remaining = { S.remaining };
+
     fn read(&mut self, buf: &mut [u8]) -> io::Result<usize> {
         for _ in 0..MOST_INTERRUPTIONS {
             let left = self.left(true)?;
             self.stream.set_read_timeout(Some(left))?;
-            let mut stream = &self.stream;
-            match stream.read(buf) {
+            match self.stream.read(buf) {
                 Err(error) if error.kind() == ErrorKind::Interrupted => {}
                 taken => return taken,
             }
@@ -67,13 +78,15 @@ impl<R: Clock> Read for SessionStream<'_, R> {
     }
 }
 
-impl<R: Clock> Write for SessionStream<'_, R> {
+impl<R: Clock, S: Duplex> Write for SessionStream<'_, R, S> {
+    // the octets that the stream took
+    ghost contents = { S.contents };
+
     fn write(&mut self, buf: &[u8]) -> io::Result<usize> {
         for _ in 0..MOST_INTERRUPTIONS {
             let left = self.left(false)?;
             self.stream.set_write_timeout(Some(left))?;
-            let mut stream = &self.stream;
-            match stream.write(buf) {
+            match self.stream.write(buf) {
                 Err(error) if error.kind() == ErrorKind::Interrupted => {}
                 taken => return taken,
             }

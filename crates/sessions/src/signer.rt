@@ -3,7 +3,8 @@ ghost use Rattle.std.specs.Prelude.{◌≡◌, false, IfOk};
 
 use crate::session::{Exchange, SessionStream};
 use cms::{Algorithm, FramedSigner};
-use sockets::Stream;
+use sockets::{Duplex, Stream};
+use std::alloc::AllocError;
 use std::cell::Cell;
 use std::io;
 use std::net::{Net, TcpStream};
@@ -19,17 +20,32 @@ pub const SIGNER_SECONDS: u64 = 10;
 #[error("the signer can't be reached")]
 pub struct SignerUnreached;
 
-/// A signer over one session with a key holder.
-pub type Session<'a, R> = FramedSigner<SessionStream<'a, R>, SessionStream<'a, R>>;
+/// A signer over the two ways of a stream.
+pub type StreamSigner<'a, R, S> = FramedSigner<SessionStream<'a, R, S>, SessionStream<'a, R, S>>;
 
-/// Both ways of one connection, with a limit for each exchange.
-fn ends<'a, R: Net<Stream = TcpStream> + Clock + AllocGlobal>(
+/// A signer over one session with a key holder.
+pub type Session<'a, R> = StreamSigner<'a, R, Stream>;
+
+/// A signer of that algorithm over the two ways of a stream. Each exchange has so much time, from the first octet that
+/// is written to the last that is read. What it writes and reads are frames, as over these two alone
+/// (`cms::FramedSigner`), whatever is interrupted.
+///
+/// An error where memory runs out.
+pub fn signer_over<'a, R: Clock + AllocGlobal, S: Duplex + Drop>(
     rt: &'a R,
-    address: &str,
+    reader: S,
+    writer: S,
     limit: Duration,
-) -> io::Result<(SessionStream<'a, R>, SessionStream<'a, R>)> {
-    let writer = Stream::connect(rt, address, limit)?;
-    let reader = writer.try_clone()?;
+    algorithm: Algorithm,
+) -> Result<StreamSigner<'a, R, S>, AllocError>
+    ensures { IfOk result (λ signer. signer ≡ record {
+      reader = reader;
+      writer = writer;
+      algorithm = algorithm;
+      faults = 0;
+      is_closed = false;
+    }) }
+{
     let none = Exchange {
         end: None,
         is_asked: false,
@@ -47,6 +63,17 @@ fn ends<'a, R: Net<Stream = TcpStream> + Clock + AllocGlobal>(
         limit,
         exchange,
     };
+    Ok(FramedSigner::new(rt.alloc(), reader, writer, algorithm))
+}
+
+/// Both ways of one connection to an address.
+fn ends<R: Net<Stream = TcpStream> + Clock>(
+    rt: &R,
+    address: &str,
+    limit: Duration,
+) -> io::Result<(Stream, Stream)> {
+    let writer = Stream::connect(rt, address, limit)?;
+    let reader = writer.try_clone()?;
     Ok((reader, writer))
 }
 
@@ -69,8 +96,6 @@ pub fn connect_signer<'a, R: Net<Stream = TcpStream> + Clock + AllocGlobal>(
     ensures unused { IfOk result (λ signer. signer.faults ≡ 0) }
     ensures open { IfOk result (λ signer. signer.is_closed ≡ false) }
 {
-    match ends(rt, address, limit) {
-        Ok((reader, writer)) => Ok(FramedSigner::new(rt.alloc(), reader, writer, algorithm)),
-        Err(_) => Err(SignerUnreached),
-    }
+    let (reader, writer) = ends(rt, address, limit).or(Err(SignerUnreached))?;
+    signer_over(rt, reader, writer, limit, algorithm).or(Err(SignerUnreached))
 }

@@ -1,9 +1,11 @@
 //! Sockets at an address: of TCP at a host's name and a port, or of Unix at the path of a file.
 #![tactic(auto)]
 
+mod duplex;
 mod listener;
 mod stream;
 
+pub use duplex::Duplex;
 pub use listener::Listener;
 pub use stream::Stream;
 
