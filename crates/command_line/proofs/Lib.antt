@@ -1,4 +1,5 @@
 pub mod Commands
+pub mod Floors
 pub mod Names
 pub mod Refusals
 pub mod Rows

@@ -122,6 +122,29 @@ pub continue_is_taken : AreTaken (codes "counter" ∷ codes "continue" ∷ codes
 unfolding clap_on_literals
 continue_is_taken = (refl, refl)
 
+abbrev continue_words : List Text → List Text
+continue_words floor = codes "counter" ∷ codes "continue" ∷ codes "--from=a.db" ∷ codes "--db=b.db" ∷ floor
+
+pub continue_above_is_taken : AreTaken (continue_words (codes "--above" ∷ codes "2000" ∷ codes "--moment=5" ∷ []))
+unfolding clap_on_literals
+continue_above_is_taken = (refl, refl)
+
+pub above_of_continue : option_map (λ p. one_of (codes "above") p.1)
+    (subcommand_of counter_command (continue_words (codes "--above" ∷ codes "2000" ∷ codes "--moment=5" ∷ [])))
+    ≡ Some (Some (codes "2000"))
+unfolding clap_on_literals
+above_of_continue = refl
+
+pub above_is_bounded : fault_of counter_command (continue_words (codes "--above=0" ∷ codes "--moment=5" ∷ []))
+    ≡ ValueValidation ∷ []
+unfolding clap_on_literals
+above_is_bounded = refl
+
+pub moment_of_continue_is_bounded : fault_of counter_command
+    (continue_words (codes "--above=1" ∷ codes "--moment=253402300800000000" ∷ [])) ≡ ValueValidation ∷ []
+unfolding clap_on_literals
+moment_of_continue_is_bounded = refl
+
 -- the words of `exchange` with these options for the signer
 abbrev exchange_words : List Text → List Text
 exchange_words signer =

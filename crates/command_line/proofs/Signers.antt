@@ -38,7 +38,7 @@ states_signer rows key address algorithm (Session at by) is_key is_address is_al
   is_algorithm ∙ ap (option_map (λ (s : Bor Text). s.now)) told.2,
 )
 
-some_text : (o : Option (Bor Text)) → is_some (option_map (λ s. s.now) o) ≡ is_some o
+pub some_text : (o : Option (Bor Text)) → is_some (option_map (λ s. s.now) o) ≡ is_some o
 some_text None = refl
 some_text (Some s) = refl
 

@@ -81,8 +81,15 @@ migrate_options = database_option ∷ []
 abbrev pub old_database_option : Rule
 old_database_option = text_option (codes "from")
 
+-- a serial number above which later ones are, and a moment before which no later genTime is
+abbrev pub above_option : Rule
+above_option = optional_option (codes "above") (number_between 1 9223372036854775807)
+
+abbrev pub least_moment_option : Rule
+least_moment_option = optional_option (codes "moment") (number_between 0 253402300799999999)
+
 abbrev pub continue_options : List Rule
-continue_options = old_database_option ∷ database_option ∷ []
+continue_options = old_database_option ∷ database_option ∷ above_option ∷ least_moment_option ∷ []
 
 -- numbers of 63 bits: readings, offsets and moments in microseconds, and serial numbers
 abbrev pub whole_number : ValueParser

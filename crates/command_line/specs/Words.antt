@@ -21,6 +21,7 @@ use Rattle.command_line.specs.declared.words.CheckWords.{CheckWords}
 use Rattle.command_line.specs.declared.words.ContinueWords.{ContinueWords}
 use Rattle.command_line.specs.declared.words.DeskWords.{DeskWords}
 use Rattle.command_line.specs.declared.words.ExchangeWords.{ExchangeWords}
+use Rattle.command_line.specs.declared.words.FloorWords.{FloorWords}
 use Rattle.command_line.specs.declared.words.HoldWords.{HoldWords}
 use Rattle.command_line.specs.declared.words.InitWords.{InitWords}
 use Rattle.command_line.specs.declared.words.MigrateWords.{MigrateWords}
@@ -67,9 +68,16 @@ pub record StatesInit (rows : List Row) (words : InitWords) : Type 0 where
 pub record StatesMigrate (rows : List Row) (words : MigrateWords) : Type 0 where
   pub db : first_of (codes "db") rows ≡ Some words.db.now
 
+-- what later stamps come after: both options are there, or none of them
+abbrev pub StatesFloor : List Row → Option FloorWords → Type 0
+StatesFloor rows None = (first_of (codes "above") rows ≡ None) × (first_of (codes "moment") rows ≡ None)
+StatesFloor rows (Some words) =
+    StatesNumber rows (codes "above") words.above × StatesNumber rows (codes "moment") words.moment
+
 pub record StatesContinue (rows : List Row) (words : ContinueWords) : Type 0 where
   pub from : first_of (codes "from") rows ≡ Some words.from.now
   pub db : first_of (codes "db") rows ≡ Some words.db.now
+  pub floor : StatesFloor rows words.floor
 
 pub record StatesCalibrate (rows : List Row) (words : CalibrateWords) : Type 0 where
   pub db : first_of (codes "db") rows ≡ Some words.db.now

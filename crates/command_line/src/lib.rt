@@ -13,5 +13,5 @@ mod words;
 pub use refusal::Refusal;
 pub use words::{
     AnswerWords, AuditWords, CalibrateWords, CheckWords, ContinueWords, DeskWords, ExchangeWords,
-    HoldWords, InitWords, MigrateWords, ServeWords, SignerWords, TstWords, Word,
+    FloorWords, HoldWords, InitWords, MigrateWords, ServeWords, SignerWords, TstWords, Word,
 };

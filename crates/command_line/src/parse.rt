@@ -1,11 +1,12 @@
 //! What the words ask for, by what `clap` finds in them.
-ghost use Rattle.std.specs.Prelude.{◌≡◌, ◌≤◌, ◌⊎◌, ℕ, List, Some, IfOk, IfErr, IfSome, IsNone, codes, true};
-ghost use Rattle.clap.specs.Words.{Row, Text, FailsBy, HasKind, fault_of, found_of, kind_of, rows_of, subcommand_of};
+ghost use Rattle.std.specs.Prelude.{◌≡◌, ◌≤◌, ◌⊎◌, ℕ, List, None, Some, IfOk, IfErr, IfSome, IsNone, codes, false};
+ghost use Rattle.std.specs.Prelude.{is_some, true};
+ghost use Rattle.clap.specs.Words.{Row, Text, FailsBy, HasKind, fault_of, first_of, found_of, kind_of, rows_of, subcommand_of};
 ghost use Rattle.clap.specs.Words.{subcommand_rows_of};
 ghost use Rattle.clap.specs.declared.error.kind.ErrorKind.TheVariants.{OutOfMemory};
 ghost use Rattle.command_line.specs.Options.{counter_command};
 ghost use Rattle.command_line.specs.Words.{AskNothing, Asks, IsAsked, IsOwnKind, IsRefusal, IsShown, IsUnasked};
-ghost use Rattle.command_line.specs.Words.{MixSigners, StatesDesk, StatesNumber, needs_signer, texts_of};
+ghost use Rattle.command_line.specs.Words.{MixSigners, StatesDesk, StatesFloor, StatesNumber, needs_signer, texts_of};
 
 use crate::command::command;
 use crate::options::Numbers;
@@ -16,7 +17,7 @@ use crate::table::{
 };
 use crate::words::{
     AnswerWords, AuditWords, CalibrateWords, CheckWords, ContinueWords, DeskWords, ExchangeWords,
-    HoldWords, InitWords, MigrateWords, ServeWords, TstWords, Word,
+    FloorWords, HoldWords, InitWords, MigrateWords, ServeWords, TstWords, Word,
 };
 use clap::error::ErrorKind;
 use clap::{ArgMatches, Error};
@@ -175,7 +176,39 @@ fn continue_word<'a>(matches: &ArgMatches<'a>) -> Option<Word<'a>>
     let Some(db) = matches.get_str("db") else {
         return None;
     };
-    Some(Word::Continue(ContinueWords { from, db }))
+    if states_no_floor(matches) {
+        return Some(Word::Continue(ContinueWords {
+            from,
+            db,
+            floor: None,
+        }));
+    }
+    let Some(above) = number(matches, "above", SERIALS) else {
+        return None;
+    };
+    let Some(moment) = number(matches, "moment", MOMENTS) else {
+        return None;
+    };
+    Some(Word::Continue(ContinueWords {
+        from,
+        db,
+        floor: Some(FloorWords { above, moment }),
+    }))
+}
+
+/// Whether neither of the options stands there that state what later stamps come after.
+fn states_no_floor(matches: &ArgMatches<'_>) -> bool
+    ensures stated { result ≡ true → StatesFloor (rows_of (found_of matches.now)) None }
+    ensures other { result ≡ false → StatesFloor (rows_of (found_of matches.now)) None → ⊥ }
+{
+    !has_option(matches, "above") && !has_option(matches, "moment")
+}
+
+/// Whether the option of this name stands there.
+fn has_option(matches: &ArgMatches<'_>, name: &str) -> bool
+    ensures { result ≡ is_some (first_of name.now (rows_of (found_of matches.now))) }
+{
+    matches.get_str(name).is_some()
 }
 
 fn calibrate_word<'a>(matches: &ArgMatches<'a>) -> Option<Word<'a>>

@@ -87,6 +87,7 @@ fn mistake(matches: &ArgMatches<'_>) -> (ErrorKind, &'static str)
 {
     match matches.subcommand() {
         Some(("answer" | "exchange" | "serve", words)) => signer_mistake(words),
+        Some(("continue", words)) => floor_mistake(words),
         _ => (ErrorKind::MissingRequiredArgument, NO_VALUE),
     }
 }
@@ -109,6 +110,19 @@ fn signer_mistake(matches: &ArgMatches<'_>) -> (ErrorKind, &'static str)
     }
 }
 
+/// Which of the options is missing that state together what later stamps come after.
+fn floor_mistake(matches: &ArgMatches<'_>) -> (ErrorKind, &'static str)
+    ensures { IsOwnKind result.0 }
+{
+    let above = matches.get_str("above").is_some();
+    let moment = matches.get_str("moment").is_some();
+    match (above, moment) {
+        (true, false) => (ErrorKind::MissingRequiredArgument, NO_MOMENT),
+        (false, true) => (ErrorKind::MissingRequiredArgument, NO_SERIAL),
+        _ => (ErrorKind::MissingRequiredArgument, NO_VALUE),
+    }
+}
+
 const KEY_AND_SESSION: &str = "the argument '--signing-key <signing-key>' cannot be used with:\n  \
     --signer <signer>\n  --signer-algorithm <signer-algorithm>";
 
@@ -125,5 +139,9 @@ const NO_ADDRESS: &str = "the following required arguments were not provided:\n 
 
 const NO_SIGNER: &str = "the following required arguments were not provided:\n  \
     <--signing-key <signing-key>|--signer <signer> --signer-algorithm <signer-algorithm>>";
+
+const NO_MOMENT: &str = "the following required arguments were not provided:\n  --moment <moment>";
+
+const NO_SERIAL: &str = "the following required arguments were not provided:\n  --above <above>";
 
 const NO_VALUE: &str = "a value is missing";

@@ -196,6 +196,18 @@ const CONTINUE: SubcommandRow = SubcommandRow {
             required: true,
             help: "The new database",
         },
+        OptionRow {
+            name: "above",
+            value: Value::Number(SERIALS),
+            required: false,
+            help: "A serial number above which later ones are, in place of the last one; with --moment",
+        },
+        OptionRow {
+            name: "moment",
+            value: Value::Number(MOMENTS),
+            required: false,
+            help: "Microseconds since 1970 before which no later genTime is; with --above",
+        },
     ],
 };
 

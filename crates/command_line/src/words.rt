@@ -130,6 +130,20 @@ pub struct ContinueWords<'a> {
     pub from: &'a str,
     /// The new database's path.
     pub db: &'a str,
+    /// What later stamps come after, where that is stated; else the last one.
+    pub floor: Option<FloorWords>,
+}
+
+/// What comes in place of the last stamp, where later ones may have been given than the database has.
+#[derive(Clone, Copy)]
+pub struct FloorWords {
+    /// The serial number above which later ones are.
+    pub above: u64,
+    /// The moment before which no later genTime is, in microseconds since 1970-01-01T00:00:00Z.
+    pub moment: u64,
+    ghost first_serial: { 1 ≤ above },
+    ghost last_serial: { above < 2 ^ 63 },
+    ghost moments: { moment ≤ 253402300799999999 },
 }
 
 /// The words of `calibrate`.
