@@ -1,8 +1,8 @@
 -- How a history goes on in a new book.
 use Rattle.std.proofs.Common.{◌≡◌, ◌⊎◌, ℕ, ◌<◌, ◌≤◌, ◌==◌, ◌&&◌, ◌||◌, max, Bool, true, false, not, nat_le, nat_lt, List, []}
 use Rattle.std.proofs.Common.{◌∷◌, ◌++◌, map, reverse, Option, None, Some, option_map, option_to_list, refl, sym, ap, ap₂}
-use Rattle.std.proofs.Common.{◌∙◌, subst, inl, inr, arith, Result, Ok, Err, IfOk, append_assoc, if◌then◌else◌, find, length, take, get_or, ◌+◌}
-use Rattle.std.specs.Prelude.{OnOk, OnErr}
+use Rattle.std.proofs.Common.{◌∙◌, subst, inl, inr, arith, Result, Ok, Err, IfOk, IfErr, append_assoc, if◌then◌else◌, find, length, take, get_or, ◌+◌}
+use Rattle.std.specs.Prelude.{OnOk}
 use Rattle.std.specs.List.{filter, list_any}
 use Rattle.std.proofs.Math.Nat.{le-max_left, le-max_right, max-eq_left}
 use Rattle.std.proofs.lemmas.Bool.{le-leb, le-ltb, lt-leb, lt-ltb, eq-eqb}
@@ -15,29 +15,43 @@ use Rattle.sqlite_wal.specs.Recovery.{Image}
 use Rattle.sqlite.specs.Files.{over_files}
 use Rattle.tables.specs.Base.{BaseValue}
 use Rattle.store.specs.Stands.{over_tables, Stands as StoreStands}
-use Rattle.book.specs.Continuing.{Floor, all_moments, closed, continued, entry_if, first_entries, holds_all, identity_since}
-use Rattle.book.specs.Continuing.{IsAboveIfAny, is_closed, last_reservation, last_stamp, other_holds, stamp_with_identity}
+use Rattle.gentime.specs.GenTime.{last_moment}
+use Rattle.book.specs.Continuing.{Floor as Void, all_moments, closed, continued, entry_if, first_entries, holds_all}
+use Rattle.book.specs.Continuing.{IsAbove, IsAboveIfAny, identity_since, is_closed, last_reservation, last_stamp}
+use Rattle.book.specs.Continuing.{other_holds, stamp_with_identity}
 use Rattle.book.specs.Entries.{Appends, FitInTurn, with_all}
+use Rattle.book.specs.Fault.{IsOfStorage}
 use Rattle.book.specs.History.{Entry, Reserved, Installed, Calibrated, Held, History, HoldValue, InstalledValue}
 use Rattle.book.specs.History.{CalibrationValue}
-use Rattle.book.specs.History.{ReservationValue, first_of, greatest_of, greatest_serial, holds, latest_calibration}
+use Rattle.book.specs.History.{ReservationValue, first_of, greatest_of, greatest_serial, holds, last_gen_time}
+use Rattle.book.specs.History.{latest_calibration}
 use Rattle.book.specs.History.{reservation_at, reservations, stamp_of, stamps_between, token_of}
 use Rattle.book.specs.Identities.{identities, identity_at_reservation, identity_before, installed_as, installed_row}
 use Rattle.book.specs.Identities.{installed_rows}
 use Rattle.book.specs.Ranges.{IsNextStamp}
 use Rattle.book.specs.Rows.{InstalledRow, StampRow}
-use Rattle.book.specs.Sound.{IsSound}
+use Rattle.book.specs.Sound.{Along, IsSound, greatest_number}
 use Rattle.book.specs.Stands.{OnlyLooks, Stands}
 use Rattle.book.specs.Values.{calibration_option, hold_view, identity_view, stamp_view}
 use Rattle.book.specs.declared.fault.StoreFault.{StoreFault}
 use Rattle.book.specs.declared.rows.Stamp.{Stamp}
 use Rattle.book.specs.declared.standing.Standing.{Ghosts}
 use Rattle.book.specs.declared.values.Hold.{Hold}
-use Rattle.operations.specs.Continuing.{Closes, ClosesKnown, Continues, IsCarried, entries_of, entries_of_hold}
-use Rattle.operations.specs.Continuing.{entries_of_holds, entries_of_identity, entries_of_last, identity_since_among}
-use Rattle.operations.specs.Continuing.{last_stamp_of, latest_of}
-use Rattle.operations.specs.OverFiles.{IsClosedOver, IsContinuedOver, IsDoneOver, IsLeft, IsMadeOver}
+use Rattle.desk.specs.Content.{IsSoundInFull}
+use Rattle.desk.specs.Continuing.{IsRestated, IsStated, IsStatedIfAny}
+use Rattle.desk.specs.Runs.{IsRising}
+use Rattle.operations.specs.Continuing.{Carries, ClosesKnown, Continues, IsBelow, IsCarried, IsClosedKnown, IsLookFault}
+use Rattle.operations.specs.Continuing.{IsRefused, MayBeClosed, Reaches, entries_of, entries_of_hold}
+use Rattle.operations.specs.Continuing.{entries_of_holds, entries_of_identity, entries_of_last, entries_of_stamp}
+use Rattle.operations.specs.Continuing.{identity_since_among, last_stamp_of, latest_of, void_in}
+use Rattle.operations.specs.Opening.{IsOpeningFault}
+use Rattle.operations.specs.OverFiles.{IsClosedOver, IsContinuedOver, IsDoneOver, IsLeft, IsMadeOver, IsRefusedOver}
+use Rattle.operations.specs.VoidStamp.{IsNoneAfterIfAny, IsVoidFault, IsVoidIfAny, reserved_as}
 use Rattle.operations.specs.declared.carrying.Carried.{Carried}
+use Rattle.operations.specs.declared.fault.ContinuationFault.{ContinuationFault}
+use Rattle.operations.specs.declared.fault.ContinuationFault.TheVariants.{Unopened, Unclosed, NotAfter, Unfinished}
+use Rattle.operations.specs.declared.void_stamp.Floor.{Floor}
+use Rattle.operations.proofs.Checking.{looks_after}
 
 -- ---- lists
 
@@ -134,15 +148,22 @@ TellsSigner =
     (b : History) (serial : ℕ) (r : ReservationValue) → IsSound b → reservation_at serial b ≡ Some r
     → option_map installed_as (identity_before serial (identities b)) ≡ identity_at_reservation serial b
 
-last_is : (b : History) → IsSound b → TellsSigner
-    → entries_of_last (last_stamp_of b) (identities b) ≡ stamp_with_identity None (last_reservation b) b
-last_is b sound tells = go (last_reservation b) refl
+stamp_is : (void : Option Void) (b : History) (r : ReservationValue)
+    → entries_of_stamp void (stamp_of (token_of r.serial b) r) ≡ last_stamp void r b
+stamp_is None b r = refl
+stamp_is (Some void) b r = refl
+
+last_is : (void : Option Void) (b : History) → IsSound b → TellsSigner
+    → entries_of_last void (last_stamp_of b) (identities b) ≡ stamp_with_identity void (last_reservation b) b
+last_is void b sound tells = go (last_reservation b) refl
   where
     go : (o : Option ReservationValue) → last_reservation b ≡ o
-        → entries_of_last (option_map (λ r. stamp_of (token_of r.serial b) r) o) (identities b) ≡ stamp_with_identity None o b
+        → entries_of_last void (option_map (λ r. stamp_of (token_of r.serial b) r) o) (identities b)
+        ≡ stamp_with_identity void o b
     go None e = refl
     go (Some r) e =
-        ap (λ i. entry_if Installed i ++ last_stamp None r b) (tells b r.serial r sound (first_found (reservations b) r e))
+        ap₂ (λ i stamp. entry_if Installed i ++ stamp)
+        (tells b r.serial r sound (first_found (reservations b) r e)) (stamp_is void b r)
 
 after_below : (b : History) (row : InstalledRow) → first_of (installed_rows b) ≡ Some row
     → row.after_serial ≤ greatest_serial b
@@ -215,23 +236,24 @@ later_is b sound =
 
 -- ---- the first entries
 
-abbrev entries_from : Option CalibrationValue → List HoldValue → Option StampRow → List InstalledRow → List Entry
-entries_from calibration hs stamp rows =
+abbrev entries_from : Option Void → Option CalibrationValue → List HoldValue → Option StampRow → List InstalledRow
+    → List Entry
+entries_from void calibration hs stamp rows =
     entry_if Calibrated calibration ++ (entries_of_holds hs
-    ++ (entries_of_last stamp rows ++ entries_of_identity (identity_since_among stamp (latest_of rows))))
+    ++ (entries_of_last void stamp rows ++ entries_of_identity (identity_since_among stamp (latest_of rows))))
 
 pub entries_are : (c : Carried) (b : History) → IsSound b → TellsSigner → IsCarried c b
-    → entries_of c ≡ first_entries None b
+    → entries_of c ≡ first_entries (void_in c) b
 entries_are c b sound tells carried =
-    ap (λ x. entries_from x (map hold_view c.holds.items) (option_map stamp_view c.stamp)
+    ap (λ x. entries_from (void_in c) x (map hold_view c.holds.items) (option_map stamp_view c.stamp)
     (map identity_view c.identities.items)) carried.calibration
-    ∙ ap (λ x. entries_from (latest_calibration b) x (option_map stamp_view c.stamp)
+    ∙ ap (λ x. entries_from (void_in c) (latest_calibration b) x (option_map stamp_view c.stamp)
     (map identity_view c.identities.items)) carried.holds
-    ∙ ap (λ x. entries_from (latest_calibration b) (reverse (holds b)) x (map identity_view c.identities.items)) carried.stamp
-    ∙ ap (λ x. entries_from (latest_calibration b) (reverse (holds b)) (last_stamp_of b) x) carried.identities
+    ∙ ap (λ x. entries_from (void_in c) (latest_calibration b) (reverse (holds b)) x (map identity_view c.identities.items)) carried.stamp
+    ∙ ap (λ x. entries_from (void_in c) (latest_calibration b) (reverse (holds b)) (last_stamp_of b) x) carried.identities
     ∙ ap₂ (λ hs rest. entry_if Calibrated (latest_calibration b) ++ (map Held hs ++ rest))
     (filter_turned (λ h. not (holds_all h)) (holds b))
-    (ap₂ (λ xs ys. xs ++ ys) (last_is b sound tells) (later_is b sound))
+    (ap₂ (λ xs ys. xs ++ ys) (last_is (void_in c) b sound tells) (later_is b sound))
 
 -- one hold more
 one_alone : (h : HoldValue) → entries_of_hold h ≡ entries_of_holds (h ∷ [])
@@ -288,31 +310,167 @@ closed_now g Knows old new done tells fit appends = record {
   ];
 }
 
--- it was only looked at
-pub unclosed : {X A : Type 0} (g : Ghosts X) (Knows : History → Type 0) (old new : X) (fault : StoreFault)
-    → OnlyLooks g old new → ClosesKnown {A = A} g Knows old new (Err fault)
-unclosed g Knows old new fault looks = record {
-  honest = looks.honest;
-  closes = λ h b s k. tt;
-  kept = λ b s. looks.stands b s;
-  crash = λ h l leaves. inl (looks.leaves h l leaves);
-}
+pub is_closed_known : {X A : Type 0} (g : Ghosts X) (Knows : History → Type 0) (old new : X) (a : A)
+    → ClosesKnown g Knows old new (Ok a) → IsClosedKnown g Knows old new
+is_closed_known g Knows old new a closes =
+    record { honest = closes.honest; closes = closes.closes; crash = closes.crash }
 
--- it was looked at before
-pub closed_after : {X A B : Type 0} (g : Ghosts X) (Knows Knew : History → Type 0) (old mid new : X)
-    (done : Result A StoreFault) (answer : Result B StoreFault) → OnlyLooks g old mid
-    → ((P : Type 0) → OnOk done P → OnOk answer P) → ((P : Type 0) → OnErr done P → OnErr answer P)
-    → (g.honest mid → (b : History) → Stands g b old → Knew b → Knows b)
-    → ClosesKnown g Knows mid new done → ClosesKnown g Knew old new answer
-closed_after g Knows Knew old mid new done answer looks ok err tells closes = record {
+pub may_be_closed : {X A : Type 0} (g : Ghosts X) (Knows : History → Type 0) (old new : X) (fault : StoreFault)
+    → ClosesKnown {A = A} g Knows old new (Err fault) → MayBeClosed g Knows old new
+may_be_closed g Knows old new fault closes =
+    record { honest = closes.honest; stands = λ h b s k. inl (closes.kept b s); crash = closes.crash }
+
+-- what is said of histories that are known is said of others, where they are known
+pub known_from : {X : Type 0} (g : Ghosts X) (Knows Knew : History → Type 0) (old mid new : X) → OnlyLooks g old mid
+    → (g.honest mid → (b : History) → Stands g b old → Knew b → Knows b) → IsClosedKnown g Knows mid new
+    → IsClosedKnown g Knew old new
+known_from g Knows Knew old mid new looks tells closes = record {
   honest = λ h. looks.honest (closes.honest h);
-  closes = λ h b s k. ok _ (closes.closes h b (looks.stands b s) (tells (closes.honest h) b s k));
-  kept = λ b s. err _ (closes.kept b (looks.stands b s));
+  closes = λ h b s k. closes.closes h b (looks.stands b s) (tells (closes.honest h) b s k);
   crash = λ h l leaves. elim (closes.crash h l leaves) [
     | inl before ↦ inl (looks.leaves (closes.honest h) l before)
     | inr adds ↦ inr (λ b s k. adds b (looks.stands b s) (tells (closes.honest h) b s k))
   ];
 }
+
+pub may_from : {X : Type 0} (g : Ghosts X) (Knows Knew : History → Type 0) (old mid new : X) → OnlyLooks g old mid
+    → (g.honest mid → (b : History) → Stands g b old → Knew b → Knows b) → MayBeClosed g Knows mid new
+    → MayBeClosed g Knew old new
+may_from g Knows Knew old mid new looks tells may = record {
+  honest = λ h. looks.honest (may.honest h);
+  stands = λ h b s k. may.stands h b (looks.stands b s) (tells (may.honest h) b s k);
+  crash = λ h l leaves. elim (may.crash h l leaves) [
+    | inl before ↦ inl (looks.leaves (may.honest h) l before)
+    | inr adds ↦ inr (λ b s k. adds b (looks.stands b s) (tells (may.honest h) b s k))
+  ];
+}
+
+pub carries_after : {X : Type 0} (g : Ghosts X) (Knows Knew : History → Type 0) (floor : Option Floor)
+    (old mid new : X) (done : Result Carried ContinuationFault) → OnlyLooks g old mid
+    → (g.honest mid → (b : History) → Stands g b old → Knew b → Knows b) → Carries g Knows floor mid new done
+    → Carries g Knew floor old new done
+carries_after g Knows Knew floor old mid new (Ok c) looks tells carries = (
+  known_from g Knows Knew old mid new looks tells carries.0,
+  carries.1,
+  λ h b s k. carries.2 h b (looks.stands b s) (tells (carries.0.honest h) b s k),
+)
+carries_after g Knows Knew floor old mid new (Err (Unopened fault)) looks tells refused = absurd refused
+carries_after g Knows Knew floor old mid new (Err (Unclosed fault)) looks tells refused =
+    (refused.0, looks_after g old mid new looks refused.1)
+carries_after g Knows Knew floor old mid new (Err NotAfter) looks tells refused = (
+  looks_after g old mid new looks refused.0,
+  λ h b s k. refused.1 h b (looks.stands b s) (tells (refused.0.honest h) b s k),
+)
+carries_after g Knows Knew floor old mid new (Err (Unfinished fault)) looks tells refused =
+    (refused.0, may_from g Knows Knew old mid new looks tells refused.1)
+
+pub void_fault : (fault : ContinuationFault) → IsVoidFault fault → IsLookFault fault
+void_fault fault (inl is) = subst IsLookFault (sym is) tt
+void_fault fault (inr (inl is)) = subst IsLookFault (sym is) (inl refl)
+void_fault fault (inr (inr is)) = subst IsLookFault (sym is) (inr (inr refl))
+
+pub storage_fault : (fault : StoreFault) → IsOfStorage fault → IsOpeningFault fault
+storage_fault fault (inl is) = inl is
+storage_fault fault (inr is) = inr (inl is)
+
+-- what is carried on couldn't be looked up
+pub refused_looking : {X : Type 0} (g : Ghosts X) (Knows : History → Type 0) (floor : Option Floor) (old new : X)
+    (fault : ContinuationFault) → OnlyLooks g old new → IsLookFault fault
+    → (fault ≡ NotAfter → g.honest new → (b : History) → Stands g b old → IsBelow floor b)
+    → IsRefused g Knows floor old new fault
+refused_looking g Knows floor old new (Unopened fault) looks is none = absurd is
+refused_looking g Knows floor old new (Unclosed fault) looks is none = (is, looks)
+refused_looking g Knows floor old new NotAfter looks is none = (looks, λ h b s k. none refl h b s)
+refused_looking g Knows floor old new (Unfinished fault) looks is none = absurd is
+
+-- ---- a void stamp in place of the last one
+
+last_of_stamp : (b : History) (s : StampRow) → last_stamp_of b ≡ Some s
+    → (r : ReservationValue) × (last_reservation b ≡ Some r) × (reserved_as s ≡ r)
+last_of_stamp b s is = go (last_reservation b) refl is
+  where
+    go : (o : Option ReservationValue) → last_reservation b ≡ o
+        → option_map (λ r. stamp_of (token_of r.serial b) r) o ≡ Some s
+        → (r : ReservationValue) × (last_reservation b ≡ Some r) × (reserved_as s ≡ r)
+    go None e is = let apart = is in cc
+    go (Some r) e is =
+        let same : stamp_of (token_of r.serial b) r ≡ s = cc in
+        (r, e, subst (λ (x : StampRow). reserved_as x ≡ r) same refl)
+
+greatest_first : (rs : List ReservationValue) (r : ReservationValue) → Falls rs → first_of rs ≡ Some r
+    → greatest_of rs ≡ r.serial
+greatest_first [] r fall is = let apart = is in cc
+greatest_first (x ∷ rs) r fall is =
+    let same : x ≡ r = cc in
+    let rises : greatest_of rs < x.serial = fall.0 in
+    max-eq_left (omega (arith, rises)) ∙ ap (λ (v : ReservationValue). v.serial) same
+
+-- it comes after the history
+above_from : (floor : Option Floor) (last : Option StampRow) (void : Option Void) (b : History) → IsSound b
+    → last ≡ last_stamp_of b → IsVoidIfAny floor last void → IsAboveIfAny void b
+above_from None last None b sound is asked = tt
+above_from None last (Some void) b sound is asked = absurd asked
+above_from (Some floor) last None b sound is asked = absurd asked
+above_from (Some floor) None (Some void) b sound is asked = absurd asked
+above_from (Some floor) (Some s) (Some void) b sound is asked =
+    let found = last_of_stamp b s (sym is) in
+    let r = found.0 in
+    let serial : s.serial ≡ r.serial = ap (λ (v : ReservationValue). v.serial) found.2 in
+    let gen_time : s.gen_time ≡ r.gen_time = ap (λ (v : ReservationValue). v.gen_time) found.2 in
+    let greatest : greatest_serial b ≡ r.serial = greatest_first (reservations b) r (falls b sound) found.1 in
+    let number : void.serial ≡ floor.serial = asked.serial in
+    let moment : void.gen_time ≡ floor.gen_time = asked.gen_time in
+    let rises : s.serial < floor.serial = asked.after.rises in
+    let within : floor.serial ≤ greatest_number = asked.after.within in
+    let follows : s.gen_time ≤ floor.gen_time = asked.after.follows in
+    let statable : floor.gen_time ≤ last_moment = asked.after.moment in
+    record {
+      last = r;
+      reserved = found.1;
+      rises = rw (greatest, sym serial, number) rises;
+      within = rw number within;
+      follows = rw (sym gen_time, moment) follows;
+      moment = rw moment statable;
+    }
+
+-- no other does, where this one doesn't
+pub below_from : (floor : Option Floor) (last : Option StampRow) (b : History) → IsSound b → last ≡ last_stamp_of b
+    → IsNoneAfterIfAny floor last → IsBelow floor b
+below_from None last b sound is none = absurd none
+below_from (Some floor) None b sound is none = λ void number moment above.
+    let missing : last_stamp_of b ≡ None = sym is in
+    let there : last_stamp_of b ≡ Some (stamp_of (token_of above.last.serial b) above.last) =
+    ap (option_map (λ (r : ReservationValue). stamp_of (token_of r.serial b) r)) above.reserved in
+    cc
+below_from (Some floor) (Some s) b sound is none = λ void number moment above.
+    let found = last_of_stamp b s (sym is) in
+    let same : above.last ≡ found.0 = let both = sym above.reserved ∙ found.1 in cc in
+    let serial : s.serial ≡ found.0.serial = ap (λ (v : ReservationValue). v.serial) found.2 in
+    let gen_time : s.gen_time ≡ above.last.gen_time = ap (λ (v : ReservationValue). v.gen_time) (found.2 ∙ sym same) in
+    let greatest : greatest_serial b ≡ found.0.serial =
+    greatest_first (reservations b) found.0 (falls b sound) found.1 in
+    none (record {
+      rises = rw (serial, sym greatest, sym number) above.rises;
+      within = rw (sym number) above.within;
+      follows = rw (gen_time, sym moment) above.follows;
+      moment = rw (sym moment) above.moment;
+    })
+
+-- what tells that a void stamp states what it has to
+abbrev pub StatesVoid : Type 0
+StatesVoid =
+    (void : Void) (b : History) (last : ReservationValue) → IsSoundInFull b → last_reservation b ≡ Some last
+    → IsRestated void last → IsStated void b
+
+stated_from : (floor : Option Floor) (last : Option StampRow) (void : Option Void) (b : History) → StatesVoid
+    → IsSoundInFull b → last ≡ last_stamp_of b → IsVoidIfAny floor last void → IsStatedIfAny void b
+stated_from None last None b states whole is asked = tt
+stated_from None last (Some void) b states whole is asked = absurd asked
+stated_from (Some floor) last None b states whole is asked = absurd asked
+stated_from (Some floor) None (Some void) b states whole is asked = absurd asked
+stated_from (Some floor) (Some s) (Some void) b states whole is asked =
+    let found = last_of_stamp b s (sym is) in
+    states void b found.0 whole found.1 (subst (IsRestated void) found.2 asked.restated)
 
 -- ---- both books
 
@@ -325,16 +483,77 @@ stands_as_book disk b store s = record {
   settled = λ honest is_open left leaves. (s.kept honest is_open).leaves left leaves;
 }
 
-pub closed_over : {D : Type 0} (disk : Disk D) (held : Image) (done : Result Carried StoreFault)
-    → IsDoneOver disk held (λ opened left. Closes (over_tables over_files) opened left done)
-    → IfOk done (λ carried. IsClosedOver disk held carried)
-closed_over disk held (Ok carried) closes = closes
-closed_over disk held (Err fault) closes = tt
+-- what is told of a closing where it is answered, and where it is refused
+pub closed_over : {D : Type 0} (disk : Disk D) (held : Image) (floor : Option Floor)
+    (done : Result Carried ContinuationFault)
+    → IsDoneOver disk held (λ opened left. Carries (over_tables over_files) (λ b. Unit {0}) floor opened left done)
+    → IfOk done (IsClosedOver disk held floor)
+closed_over disk held floor (Ok carried) closes = closes
+closed_over disk held floor (Err fault) closes = tt
 
-pub continued_over : {D E : Type 0} (disk : Disk D) (held : Image) (other : Disk E) (c : Carried) → TellsSigner
-    → ((floor : Option Floor) (b : History) → IsSound b → IsAboveIfAny floor b → FitInTurn (first_entries floor b) [])
-    → IsClosedOver disk held c → IsMadeOver other (entries_of c) → IsContinuedOver disk held other
-continued_over disk held other c tells fit (opened, found, (left, closes)) (made, stands) = (
+pub unclosed_over : {D : Type 0} (disk : Disk D) (held : Image) (floor : Option Floor)
+    (done : Result Carried ContinuationFault)
+    → IsDoneOver disk held (λ opened left. Carries (over_tables over_files) (λ b. Unit {0}) floor opened left done)
+    → IfErr done (IsRefusedOver disk held floor)
+unclosed_over disk held floor (Ok carried) closes = tt
+unclosed_over disk held floor (Err (Unopened fault)) (opened, found, (left, refused)) = absurd refused
+unclosed_over disk held floor (Err (Unclosed fault)) closes = closes
+unclosed_over disk held floor (Err NotAfter) closes = closes
+unclosed_over disk held floor (Err (Unfinished fault)) closes = closes
+
+-- closed, with no new one
+pub unfinished_over : {D : Type 0} (disk : Disk D) (held : Image) (floor : Option Floor) (c : Carried)
+    (fault : StoreFault) → IsOpeningFault fault → IsClosedOver disk held floor c
+    → IsRefusedOver disk held floor (Unfinished fault)
+unfinished_over disk held floor c fault is (opened, found, (left, closes)) = (
+  opened,
+  found,
+  (
+    left,
+    (
+      is,
+      record {
+        honest = closes.0.honest;
+        stands = λ h b s k. inr (closes.0.closes h b s k);
+        crash = closes.0.crash;
+      },
+    ),
+  ),
+)
+
+-- what is known of histories that go on
+pub record Laws : Type 0 where
+  pub tells : TellsSigner
+  pub fit : (void : Option Void) (b : History) → IsSound b → IsAboveIfAny void b → FitInTurn (first_entries void b) []
+  pub serial : (b : History) → IsSound b → greatest_serial (continued None b) ≡ greatest_serial b
+  pub moment : (b : History) → last_gen_time (continued None b) ≡ last_gen_time b
+  pub above : (void : Void) (b : History) → IsAbove void b
+      → (greatest_serial (continued (Some void) b) ≡ void.serial)
+      × (last_gen_time (continued (Some void) b) ≡ Some void.gen_time)
+      × (token_of void.serial (continued (Some void) b) ≡ None)
+  pub states : StatesVoid
+  pub whole : (void : Option Void) (b : History) → IsSoundInFull b → IsAboveIfAny void b → IsStatedIfAny void b
+      → IsSoundInFull (continued void b)
+  pub rising : (void : Option Void) (b : History) → IsSoundInFull b → IsStatedIfAny void b
+      → Along IsRising (continued void b)
+
+reaches_from : Laws → (floor : Option Floor) (last : Option StampRow) (void : Option Void) (b : History) → IsSound b
+    → IsVoidIfAny floor last void → IsAboveIfAny void b → Reaches floor b (continued void b)
+reaches_from laws None last None b sound asked above = (laws.serial b sound, laws.moment b)
+reaches_from laws None last (Some void) b sound asked above = absurd asked
+reaches_from laws (Some floor) last None b sound asked above = absurd asked
+reaches_from laws (Some floor) None (Some void) b sound asked above = absurd asked
+reaches_from laws (Some floor) (Some s) (Some void) b sound asked above =
+    let on = laws.above void b above in (
+      on.0 ∙ asked.serial,
+      on.1 ∙ ap Some asked.gen_time,
+      subst (λ n. token_of n (continued (Some void) b) ≡ None) asked.serial on.2,
+    )
+
+pub continued_over : {D E : Type 0} (disk : Disk D) (held : Image) (other : Disk E) (floor : Option Floor)
+    (c : Carried) → Laws → IsClosedOver disk held floor c → IsMadeOver other (entries_of c)
+    → IsContinuedOver disk held other floor
+continued_over disk held other floor c laws (opened, found, (left, closes)) (made, stands) = (
   opened,
   found,
   (
@@ -342,27 +561,30 @@ continued_over disk held other c tells fit (opened, found, (left, closes)) (made
     (
       made,
       record {
-        honest = closes.known.honest;
-        closes = λ h b s. closes.known.closes h b s tt;
-        crash = λ h l leaves. elim (closes.known.crash h l leaves) [
+        honest = closes.0.honest;
+        closes = λ h b s. closes.0.closes h b s tt;
+        crash = λ h l leaves. elim (closes.0.crash h l leaves) [
           | inl before ↦ inl before
           | inr adds ↦ inr (λ b s. adds b s tt)
         ];
+        void = void_in c;
         goes_on = λ h b s.
-            let same = entries_are c b s.sound tells (closes.carried h b s) in
-            subst (λ entries. Stands (over_tables over_files) (with_all entries []) made) same
-            (stands (rw same (fit None b s.sound tt)));
+            let carried = closes.2 h b s tt in
+            let same = entries_are c b s.sound laws.tells carried in
+            let above = above_from floor (option_map stamp_view c.stamp) (void_in c) b s.sound carried.stamp closes.1 in
+            record {
+              stands = subst (λ entries. Stands (over_tables over_files) (with_all entries []) made) same
+                  (stands (rw same (laws.fit (void_in c) b s.sound above)));
+              reaches = reaches_from laws floor (option_map stamp_view c.stamp) (void_in c) b s.sound closes.1 above;
+              whole = λ whole.
+                  let stated = stated_from floor (option_map stamp_view c.stamp) (void_in c) b laws.states whole
+                  carried.stamp closes.1 in
+                  (laws.whole (void_in c) b whole above stated, laws.rising (void_in c) b whole stated);
+            };
       },
     ),
   ),
 )
-
-pub continued_if : {D E : Type 0} (disk : Disk D) (held : Image) (other : Disk E) (c : Carried)
-    (done : Result (Unit {0}) StoreFault) → TellsSigner
-    → ((floor : Option Floor) (b : History) → IsSound b → IsAboveIfAny floor b → FitInTurn (first_entries floor b) [])
-    → IsClosedOver disk held c → OnOk done (IsMadeOver other (entries_of c)) → OnOk done (IsContinuedOver disk held other)
-continued_if disk held other c (Ok u) tells fit closes made = continued_over disk held other c tells fit closes made
-continued_if disk held other c (Err fault) tells fit closes made = tt
 
 -- a store was made with the same entries
 pub made_same : {D : Type 0} (disk : Disk D) (entries same : List Entry) (done : Result (Unit {0}) StoreFault)

@@ -8,3 +8,4 @@ pub mod OverFiles
 pub mod Reached
 pub mod Signing
 pub mod Visits
+pub mod VoidStamp

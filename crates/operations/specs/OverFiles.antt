@@ -18,13 +18,17 @@ use Rattle.desk.specs.Command.{Answer, Setting, Stamp}
 use Rattle.desk.specs.Stepped.{DeskValue, IsStep, with_signer}
 use Rattle.operations.specs.Addition.{IsAdded}
 use Rattle.operations.specs.Auditing.{IsAuditOf}
-use Rattle.operations.specs.Continuing.{Closes, Continues}
+use Rattle.operations.specs.Continuing.{Carries, Continues, IsRefused}
+use Rattle.operations.specs.Opening.{IsOpeningFault}
 use Rattle.operations.specs.Visits.{IsUnopened, IsVisited}
 use Rattle.operations.specs.declared.adding.Addition.{Addition}
 use Rattle.operations.specs.declared.auditing.AuditFault.{AuditFault}
 use Rattle.operations.specs.declared.auditing.Inquiry.{Inquiry}
 use Rattle.operations.specs.declared.carrying.Carried.{Carried}
+use Rattle.operations.specs.declared.fault.ContinuationFault.{ContinuationFault}
+use Rattle.operations.specs.declared.fault.ContinuationFault.TheVariants.{Unopened}
 use Rattle.operations.specs.declared.fault.OperationFault.{OperationFault}
+use Rattle.operations.specs.declared.void_stamp.Floor.{Floor}
 
 module _ {D : Type 0} (disk : Ghosts D) where
   -- a store over files was left so
@@ -51,15 +55,22 @@ module _ {D : Type 0} (disk : Ghosts D) (held : Image) where
   abbrev pub IsAddedOver : Addition → Result ℕ StoreFault → Type 0
   IsAddedOver addition done = IsDoneOver (λ opened left. IsAdded (over_tables over_files) addition opened left done)
 
-  -- it was closed for tokens, and this is carried on from it
-  abbrev pub IsClosedOver : Carried → Type 0
-  IsClosedOver carried = IsDoneOver (λ opened left. Closes (over_tables over_files) opened left (Ok carried))
+  -- it was closed for tokens, and this is carried on from it, above what is asked for
+  abbrev pub IsClosedOver : Option Floor → Carried → Type 0
+  IsClosedOver floor carried =
+      IsDoneOver (λ opened left. Carries (over_tables over_files) (λ b. Unit {0}) floor opened left (Ok carried))
 
   -- its history goes on in one that was made over other files
-  abbrev pub IsContinuedOver : {E : Type 0} → Ghosts E → Type 0
-  IsContinuedOver {E} other =
+  abbrev pub IsContinuedOver : {E : Type 0} → Ghosts E → Option Floor → Type 0
+  IsContinuedOver {E} other floor =
       IsDoneOver (λ opened left. (made : BaseValue (FileStore E other))
-      × Continues (over_tables over_files) (over_tables over_files) opened left made)
+      × Continues (over_tables over_files) (over_tables over_files) floor opened left made)
+
+  -- no store was opened, or it isn't closed, by the refusal
+  abbrev pub IsRefusedOver : Option Floor → ContinuationFault → Type 0
+  IsRefusedOver floor (Unopened fault) = IsOpeningFault fault
+  IsRefusedOver floor fault =
+      IsDoneOver (λ opened left. IsRefused (over_tables over_files) (λ b. Unit {0}) floor opened left fault)
 
   -- its stamps were extracted and checked
   abbrev pub IsAuditedOver : Inquiry → (out out' told told' : Option (List ℕ)) → Result Bool AuditFault → Type 0

@@ -5,9 +5,11 @@ ghost use Rattle.book.specs.Entries.{entries_view};
 ghost use Rattle.book.specs.History.{Calibrated};
 ghost use Rattle.book.specs.Values.{calibration_option, hold_view, identity_view, reservation_view, stamp_view};
 ghost use Rattle.operations.specs.Continuing.{entries_of, entries_of_hold, entries_of_holds, entries_of_identity};
-ghost use Rattle.operations.specs.Continuing.{entries_of_last, entries_of_stamp, identity_since_among, latest_of};
-ghost use Rattle.operations.specs.Continuing.{reserved_as};
+ghost use Rattle.operations.specs.Continuing.{entries_of_last, entries_of_sealed, entries_of_stamp};
+ghost use Rattle.operations.specs.Continuing.{identity_since_among, latest_of};
+ghost use Rattle.operations.specs.VoidStamp.{reserved_as, void_view};
 
+use crate::void_stamp::VoidStamp;
 use audit::identity_at;
 use book::{Calibration, Entry, Hold, IdentityRow, Reservation, Stamp};
 use std::alloc::{AllocError, Global};
@@ -23,6 +25,8 @@ pub(crate) struct Carried {
     pub stamp: Option<Stamp>,
     /// The identities that were installed, by number.
     pub identities: Vec<IdentityRow>,
+    /// What comes in place of the last stamp, if anything does.
+    pub void: Option<VoidStamp>,
 }
 
 impl Carried {
@@ -35,7 +39,7 @@ impl Carried {
         let mut entries = Vec::new(alloc);
         add_calibration(&mut entries, self.calibration)?;
         add_holds(&mut entries, self.holds.as_slice())?;
-        add_last(&mut entries, stamp, identities)?;
+        add_last(&mut entries, stamp, self.void.as_ref(), identities)?;
         add_identity(&mut entries, identity_since(stamp, identities))?;
         Ok(entries)
     }
@@ -82,20 +86,37 @@ pub(crate) fn holds_all(hold: &Hold) -> bool
     hold.from <= 0 && hold.to == i64::MAX
 }
 
-/// Adds the last stamp, behind the identity that was in force when it was reserved.
+/// Adds the last stamp or the void one in its place, behind the identity that was in force when it was reserved.
 fn add_last<'a>(
     entries: &mut Vec<Entry<'a>>,
     stamp: Option<&'a Stamp>,
+    void: Option<&'a VoidStamp>,
     identities: &'a [IdentityRow],
 ) -> Result<(), AllocError>
     ensures { OnOk result (entries_view entries.new.items ≡ entries_view entries.old.items
-        ++ entries_of_last (option_map (λ s. stamp_view s.now) stamp.entry) (map identity_view identities.now)) }
+        ++ entries_of_last (option_map (λ v. void_view v.now) void.entry)
+        (option_map (λ s. stamp_view s.now) stamp.entry) (map identity_view identities.now)) }
 {
     let Some(stamp) = stamp else {
         return Ok(());
     };
     add_identity(entries, identity_at(identities, stamp.serial))?;
-    add_stamp(entries, stamp)
+    add_stamp(entries, stamp, void)
+}
+
+/// Adds a stamp as it stands, or the void one in its place.
+fn add_stamp<'a>(
+    entries: &mut Vec<Entry<'a>>,
+    stamp: &'a Stamp,
+    void: Option<&'a VoidStamp>,
+) -> Result<(), AllocError>
+    ensures { OnOk result (entries_view entries.new.items ≡ entries_view entries.old.items
+        ++ entries_of_stamp (option_map (λ v. void_view v.now) void.entry) (stamp_view stamp.now)) }
+{
+    match void {
+        Some(void) => add(entries, Entry::Reserved(void.reservation(stamp))),
+        None => add_sealed(entries, stamp),
+    }
 }
 
 fn add_identity<'a>(
@@ -136,9 +157,9 @@ fn identity_since<'a>(
 }
 
 /// Adds a stamp as it stands, with its token where it has one.
-fn add_stamp<'a>(entries: &mut Vec<Entry<'a>>, stamp: &'a Stamp) -> Result<(), AllocError>
+fn add_sealed<'a>(entries: &mut Vec<Entry<'a>>, stamp: &'a Stamp) -> Result<(), AllocError>
     ensures { OnOk result (entries_view entries.new.items
-        ≡ entries_view entries.old.items ++ entries_of_stamp (stamp_view stamp.now)) }
+        ≡ entries_view entries.old.items ++ entries_of_sealed (stamp_view stamp.now)) }
 {
     add(entries, Entry::Reserved(reservation_of(stamp)))?;
     match &stamp.token {

@@ -1,5 +1,6 @@
 //! Why an operation over the database stops.
 ghost use Rattle.std.specs.Prelude.{◌≡◌};
+ghost use Rattle.operations.specs.declared.fault.ContinuationFault.TheVariants.{Unclosed};
 ghost use Rattle.operations.specs.declared.fault.OperationFault.TheVariants.{Store};
 
 use book::StoreFault;
@@ -18,6 +19,29 @@ pub enum OperationFault {
     Unheard,
     /// The clock failed.
     Clock,
+}
+
+/// Why a history doesn't go on in a new database, by what was done.
+#[derive(Clone, Copy)]
+pub enum ContinuationFault {
+    /// The old database can't be opened.
+    Unopened(StoreFault),
+    /// The old database was only looked at: it can't be read, or no database can be made at the new path, or memory
+    /// ran out.
+    Unclosed(StoreFault),
+    /// It was only looked at: the serial number isn't above its greatest, the moment is before its last genTime, or it
+    /// has no stamp.
+    NotAfter,
+    /// From its closing on: it is closed for tokens, or as it was.
+    Unfinished(StoreFault),
+}
+
+impl From<StoreFault> for ContinuationFault {
+    ghost from_gives = { λ fault e. e ≡ Unclosed fault };
+
+    fn from(fault: StoreFault) -> ContinuationFault {
+        ContinuationFault::Unclosed(fault)
+    }
 }
 
 impl From<StoreFault> for OperationFault {
