@@ -20,7 +20,7 @@ use Rattle.console.specs.declared.fault.Fault.{Fault}
 use Rattle.console.specs.declared.fault.Fault.TheVariants.{Der, Tsp, Cms, Policy, Store, Desk, Audit, Input}
 use Rattle.console.specs.declared.fault.InputFault.{InputFault}
 use Rattle.console.specs.declared.fault.InputFault.TheVariants.{NotHexadecimal, File, Hold, Account, Failed, Address}
-use Rattle.console.specs.declared.fault.InputFault.TheVariants.{Memory, Signer}
+use Rattle.console.specs.declared.fault.InputFault.TheVariants.{Memory, Signer, NotAfter}
 
 abbrev pub number_of : InputFault → ℕ
 number_of NotHexadecimal = 1
@@ -31,6 +31,7 @@ number_of Failed = 5
 number_of Address = 6
 number_of Memory = 7
 number_of Signer = 8
+number_of NotAfter = 9
 
 -- what a refusal to read digits is to the program
 abbrev pub fault_of : FromHexError → InputFault

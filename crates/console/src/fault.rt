@@ -179,6 +179,8 @@ pub enum InputFault {
     Memory = 7,
     /// The key holder can't be reached.
     Signer = 8,
+    /// What is asked to come after the last stamp of a history doesn't, or there is none.
+    NotAfter = 9,
 }
 
 impl From<AllocError> for InputFault {
@@ -224,7 +226,7 @@ impl From<FromHexError> for InputFault {
 impl InputFault {
     ghost use Rattle.console.specs.Fault.{number_of};
 
-    /// The refusal's number, 1 to 8.
+    /// The refusal's number, 1 to 9.
     fn number(self) -> u8
         ensures { result ≡ number_of self }
     {
