@@ -1,14 +1,17 @@
--- What the words of an operator add to the history.
-use Rattle.std.specs.Prelude.{◌≡◌, ℤ, Ok, Bool, true, false, ℕ, pos, neg_ℤ}
+-- What the words of an operator add to the history, and above what they have it go on.
+use Rattle.std.specs.Prelude.{◌≡◌, ℤ, Ok, Bool, true, false, ℕ, pos, neg_ℤ, Option, option_map}
 use Rattle.book.specs.History.{CalibrationValue, HoldValue}
 use Rattle.book.specs.Values.{calibration_view, hold_view}
 use Rattle.book.specs.declared.values.Calibration.{Calibration}
 use Rattle.book.specs.declared.values.Hold.{Hold}
 use Rattle.command_line.specs.declared.words.CalibrateWords.{CalibrateWords}
+use Rattle.command_line.specs.declared.words.ContinueWords.{ContinueWords}
+use Rattle.command_line.specs.declared.words.FloorWords.{FloorWords}
 use Rattle.command_line.specs.declared.words.HoldWords.{HoldWords}
 use Rattle.connections.specs.Clock.{Reading}
 use Rattle.operations.specs.OverFiles.{IsAddedOver}
 use Rattle.operations.specs.declared.adding.Addition.TheVariants as addition
+use Rattle.operations.specs.declared.void_stamp.Floor.{Floor}
 use Rattle.operations.specs.Machine.{Machine}
 
 -- a number of microseconds, or minus that number
@@ -25,6 +28,12 @@ calibration_of words = record {
 
 abbrev pub hold_of : HoldWords → HoldValue
 hold_of words = record { from = pos words.from; to = pos words.to }
+
+abbrev pub floor_in : FloorWords → Floor
+floor_in words = record { serial = words.above; gen_time = words.moment }
+
+abbrev pub floor_of : ContinueWords → Option Floor
+floor_of words = option_map floor_in words.floor
 
 -- it was added to the history that the database keeps
 pub record AddsCalibration {D X C : Type 0} (m : Machine D X C Reading) (words : CalibrateWords) : Type 0 where

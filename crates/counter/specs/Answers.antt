@@ -1,7 +1,7 @@
 -- What the words write for the text that they read.
 use Rattle.std.specs.Prelude.{◌≡◌, ℕ, ◌<◌, pos, List, [], Option, IfSome, Ok}
 use Rattle.console.specs.Accounts.{IsKnown, account_shown}
-use Rattle.counter.specs.Additions.{AddsCalibration, AddsHold}
+use Rattle.counter.specs.Additions.{AddsCalibration, AddsHold, floor_of}
 use Rattle.counter.specs.Audits.{Audits}
 use Rattle.console.specs.Counts.{Counts}
 use Rattle.counter.specs.Exchange.{Exchanges}
@@ -14,6 +14,7 @@ use Rattle.console.specs.Tst.{Answers}
 use Rattle.desk.specs.Command.{Answer as DeskAnswer, Setting}
 use Rattle.operations.specs.OverFiles.{IsAnsweredOver, IsMigratedOver}
 use Rattle.operations.specs.Signing.{algorithm_of}
+use Rattle.operations.specs.declared.void_stamp.Floor.{Floor}
 use Rattle.command_line.specs.declared.words.AnswerWords.{AnswerWords}
 use Rattle.command_line.specs.declared.words.Word.{Word}
 use Rattle.command_line.specs.declared.words.Word.TheVariants.{Tst, Check, Init, Migrate, Continue, Calibrate, Hold}
@@ -66,7 +67,7 @@ Does m contents out (Serve words) old new IsWritten = (new ≡ old) × ServesCon
 Does m contents out (Audit words) old new IsWritten =
     (new ≡ old) × ((text : List ℕ) × Audits words text × IsWritten text)
 
--- what is said of both databases, where the words carry a history on
-abbrev pub GoesOn : Word → Type 0 → Type 0
-GoesOn (Continue words) IsContinued = IsContinued
+-- what is said of both databases, where the words carry a history on, above what they state
+abbrev pub GoesOn : Word → (Option Floor → Type 0) → Type 0
+GoesOn (Continue words) IsContinued = IsContinued (floor_of words)
 GoesOn _ IsContinued = Unit {0}

@@ -3,10 +3,12 @@ use Rattle.std.specs.Prelude.{◌≡◌, ◌⊎◌}
 use Rattle.console.specs.Fault.{IsSettingFault}
 use Rattle.console.specs.declared.fault.Fault.{Fault}
 use Rattle.console.specs.declared.fault.Fault.TheVariants.{Store, Desk, Audit, Input}
-use Rattle.console.specs.declared.fault.InputFault.TheVariants.{Failed, Address, Signer}
+use Rattle.console.specs.declared.fault.InputFault.TheVariants.{Failed, Address, Signer, NotAfter}
 use Rattle.operations.specs.Opening.{IsServingFault}
 use Rattle.operations.specs.declared.auditing.AuditFault.{AuditFault}
 use Rattle.operations.specs.declared.auditing.AuditFault.TheVariants as auditing
+use Rattle.operations.specs.declared.fault.ContinuationFault.{ContinuationFault}
+use Rattle.operations.specs.declared.fault.ContinuationFault.TheVariants as continuation
 use Rattle.operations.specs.declared.fault.OperationFault.{OperationFault}
 use Rattle.operations.specs.declared.fault.OperationFault.TheVariants as operation
 
@@ -22,6 +24,13 @@ fault_of_operation (operation.Desk fault) = Desk fault
 fault_of_operation operation.Unreached = Input Signer
 fault_of_operation operation.Unheard = Input Address
 fault_of_operation operation.Clock = Input Failed
+
+-- what a history that doesn't go on is to the program
+abbrev pub fault_of_continuation : ContinuationFault → Fault
+fault_of_continuation (continuation.Unopened fault) = Store fault
+fault_of_continuation (continuation.Unclosed fault) = Store fault
+fault_of_continuation continuation.NotAfter = Input NotAfter
+fault_of_continuation (continuation.Unfinished fault) = Store fault
 
 -- such a file was refused, or the database, the key holder, the address or the clock failed
 abbrev pub IsServeFault : Fault → Type 0

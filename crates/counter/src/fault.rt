@@ -1,9 +1,9 @@
 //! What refusals of the operations over the database are to the program.
 ghost use Rattle.std.specs.Prelude.{◌≡◌, Err, MatchResult, Ok};
-ghost use Rattle.counter.specs.Fault.{fault_of_audit, fault_of_operation};
+ghost use Rattle.counter.specs.Fault.{fault_of_audit, fault_of_continuation, fault_of_operation};
 
 use console::{Fault, InputFault};
-use operations::{AuditFault, OperationFault};
+use operations::{AuditFault, ContinuationFault, OperationFault};
 
 /// Whether all stamps agree, as an audit answers, or the fault that its refusal is.
 pub fn agreement_of(done: Result<bool, AuditFault>) -> Result<bool, Fault>
@@ -13,6 +13,18 @@ pub fn agreement_of(done: Result<bool, AuditFault>) -> Result<bool, Fault>
         Ok(agree) => Ok(agree),
         Err(AuditFault::Store(fault)) => Err(Fault::Store(fault)),
         Err(AuditFault::Extract(fault)) => Err(Fault::Audit(fault)),
+    }
+}
+
+/// The fault that it is where a history doesn't go on.
+pub fn fault_of_continuation(refused: ContinuationFault) -> Fault
+    ensures { result ≡ fault_of_continuation refused }
+{
+    match refused {
+        ContinuationFault::Unopened(fault) => Fault::Store(fault),
+        ContinuationFault::Unclosed(fault) => Fault::Store(fault),
+        ContinuationFault::NotAfter => Fault::Input(InputFault::NotAfter),
+        ContinuationFault::Unfinished(fault) => Fault::Store(fault),
     }
 }
 

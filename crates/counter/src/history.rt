@@ -2,17 +2,21 @@
 ghost use Rattle.std.specs.Prelude.{◌≡◌, ◌<◌, ◌≤◌, Err, IfOk, IfErr, OnOk};
 ghost use Rattle.book.specs.Values.{calibration_view, hold_view};
 ghost use Rattle.operations.specs.Machine.{image_at};
-ghost use Rattle.operations.specs.OverFiles.{IsContinuedOver, IsMigratedOver};
-ghost use Rattle.counter.specs.Additions.{AddsCalibration, AddsHold, calibration_of, hold_of};
+ghost use Rattle.operations.specs.OverFiles.{IsContinuedOver, IsMigratedOver, IsRefusedOver};
+ghost use Rattle.counter.specs.Additions.{AddsCalibration, AddsHold, calibration_of, floor_of, hold_of};
+ghost use Rattle.counter.specs.Fault.{fault_of_continuation};
 ghost use Rattle.console.specs.Fault.{IsStoreFault};
 ghost use Rattle.operations.specs.Machine.{machine_of};
 
+use crate::fault::fault_of_continuation;
 use book::{Calibration, Hold};
 use cms::Signer;
 use command_line::{CalibrateWords, ContinueWords, HoldWords, InitWords, MigrateWords};
 use connections::{Clock, SystemClock};
 use console::{Fault, InputFault};
-use operations::{Addition, Disk, FileFrom, HostSigner, Start, Unknown};
+use operations::{
+    Addition, Continuation, ContinuationFault, Disk, FileFrom, Floor, HostSigner, Start, Unknown,
+};
 use std::rt::HostRuntime;
 
 /// Makes the tables of a new database.
@@ -34,17 +38,40 @@ pub fn migrate<F: Start + Drop>(
     Ok(operations::migrate(rt, words.db, start)?)
 }
 
-/// Closes a database for tokens, and has its history go on in a new one.
+/// Closes a database for tokens, and has its history go on in a new one, above what the words state. It is `input` 9
+/// where that doesn't come after the last stamp, or there is none.
 pub fn continue_in<F: Start + Drop>(
     rt: &HostRuntime,
     words: &ContinueWords<'_>,
     start: F,
 ) -> Result<(), Fault>
     ensures continued { OnOk result (IsContinuedOver ⟦<FileFrom<F> as Disk>⟧ (image_at F.Start)
-        ⟦<FileFrom<Unknown> as Disk>⟧) }
-    ensures faults { IfErr result IsStoreFault }
+        ⟦<FileFrom<Unknown> as Disk>⟧ (floor_of words.now)) }
+
+    // By the refusal, what was done to the old database.
+    ensures refused { IfErr result (λ fault. (refusal : ContinuationFault) × (fault ≡ fault_of_continuation refusal)
+        × IsRefusedOver ⟦<FileFrom<F> as Disk>⟧ (image_at F.Start) (floor_of words.now) refusal) }
 {
-    Ok(operations::continue_in(rt, words.from, start, words.db, Unknown)?)
+    let continuation = Continuation {
+        from: words.from,
+        db: words.db,
+        floor: floor_of(words),
+    };
+    match operations::continue_in(rt, &continuation, start, Unknown) {
+        Ok(()) => Ok(()),
+        Err(refusal) => Err(fault_of_continuation(refusal)),
+    }
+}
+
+/// Above what the history goes on, where the words state it.
+fn floor_of(words: &ContinueWords<'_>) -> Option<Floor>
+    ensures { result ≡ floor_of words.now }
+{
+    let floor = words.floor?;
+    Some(Floor {
+        serial: floor.above,
+        gen_time: floor.moment,
+    })
 }
 
 /// Adds the calibration that the words state.
