@@ -63,10 +63,7 @@ pub(crate) struct Heading {
 fn phrase(status: StatusCode) -> &'static str
     ensures { result.now ≡ phrase_of (reason_phrase status) }
 {
-    match status.canonical_reason() {
-        Some(phrase) => phrase,
-        None => "",
-    }
+    status.canonical_reason().unwrap_or("")
 }
 
 /// Appends a number in decimal digits.

@@ -21,10 +21,7 @@ pub(crate) struct Head<'b> {
 fn text_of(octets: &[u8]) -> &str
     ensures { IsUtf8 octets.now → result.now ≡ octets.now }
 {
-    match str::from_utf8(octets) {
-        Ok(text) => text,
-        Err(_) => "",
-    }
+    str::from_utf8(octets).unwrap_or("")
 }
 
 /// The head that begins octets.
