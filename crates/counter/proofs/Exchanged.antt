@@ -1,9 +1,8 @@
 -- What `exchange` writes, out of what the operation says of it.
-use Rattle.std.proofs.Common.{◌≡◌, ◌⊎◌, ◌∙◌, ℕ, ℤ, List, [], Option, Result, Ok, Err, IfOk, length, sym, subst}
+use Rattle.std.proofs.Common.{◌≡◌, ◌⊎◌, ◌∙◌, ℕ, ℤ, List, [], Option, length, sym, subst}
 use Rattle.std.proofs.Common.{inl, inr}
 use Rattle.std.proofs.Math.Seq.{take-length}
 use Rattle.std.specs.Io.KnownBytes.{Appends, Keeps}
-use Rattle.std.specs.Prelude.{OnErr}
 use Rattle.policy.specs.Record.{PolicyValue}
 use Rattle.service.specs.Answers.{answer_text, success}
 use Rattle.service.specs.declared.answer.Media.TheVariants.{Csv}
@@ -59,39 +58,28 @@ module _ (policy : PolicyValue) (reading : ℤ) (old new before : Option (List �
       let octets = e.1.1 in
       inr (inr (e.0, (octets, (length octets, rw (take-length octets) e.1.3))))
 
-  -- what is known of the exchange, and what is written, where it has ended
-  pub ended : (mid after : Option (List ℕ)) (outcome : Result Served Fault) (IsServed : Served → Type 0)
-      → IfOk outcome (known.IsExchanged policy reading old new before mid) → IfOk outcome IsServed
-      → HasEnded outcome mid after
-      → ((s : Served) × IsServed s) × WritesAnswer policy reading old new (Appends before after)
-  ended mid after (Ok Closed) IsServed told served end =
+  -- what is written where it has ended
+  pub ended : (mid after : Option (List ℕ)) (outcome : Served)
+      → known.IsExchanged policy reading old new before mid outcome → HasEnded outcome mid after
+      → WritesAnswer policy reading old new (Appends before after)
+  ended mid after Closed told end =
       let P : Option (List ℕ) → Type 0 = λ x. WritesAnswer policy reading old new (Appends before x) in
-      ((Closed, served), subst P (sym end) (writes_nothing mid told))
-  ended mid after (Ok (Answered status)) IsServed told served end =
-      ((Answered status, served), writes_all mid after status told end)
-  ended mid after (Ok ReadFailed) IsServed told served end = absurd end
-  ended mid after (Ok (WriteFailed status sent)) IsServed told served end = absurd end
-  ended mid after (Err refused) IsServed told served end = absurd end
+      subst P (sym end) (writes_nothing mid told)
+  ended mid after (Answered status) told end = writes_all mid after status told end
+  ended mid after ReadFailed told end = absurd end
+  ended mid after (WriteFailed status sent) told end = absurd end
 
   -- and where it is stopped
-  pub stopped : (mid after : Option (List ℕ)) (outcome : Result Served Fault) (IsServed : Served → Type 0)
-      (fault : Fault)
-      → IfOk outcome (known.IsExchanged policy reading old new before mid) → IfOk outcome IsServed
-      → OnErr outcome (mid ≡ before) → HasStopped outcome mid after fault
+  pub stopped : (mid after : Option (List ℕ)) (outcome : Served) (fault : Fault)
+      → known.IsExchanged policy reading old new before mid outcome → HasStopped outcome mid after fault
       → (after ≡ before)
-      ⊎ ((fault ≡ Input Failed)
-      × (((s : Served) × IsServed s) × WritesAnswer policy reading old new (Begins before after)))
-  stopped mid after (Ok Closed) IsServed fault told served unwritten stop = absurd stop
-  stopped mid after (Ok (Answered status)) IsServed fault told served unwritten stop =
-      inr (stop.0, ((Answered status, served), writes_unflushed mid after status told stop.1))
-  stopped mid after (Ok ReadFailed) IsServed fault told served unwritten stop = inl (stop.1 ∙ told.1)
-  stopped mid after (Ok (WriteFailed status sent)) IsServed fault told served unwritten stop =
+      ⊎ ((fault ≡ Input Failed) × WritesAnswer policy reading old new (Begins before after))
+  stopped mid after Closed fault told stop = absurd stop
+  stopped mid after (Answered status) fault told stop = inr (stop.0, writes_unflushed mid after status told stop.1)
+  stopped mid after ReadFailed fault told stop = inl (stop.1 ∙ told.1)
+  stopped mid after (WriteFailed status sent) fault told stop =
       inr (
         stop.0,
-        (
-          (WriteFailed status sent, served),
-          subst (λ x. WritesAnswer policy reading old new (Begins before x)) (sym stop.1)
-              (writes_part mid status sent told),
-        ),
+        subst (λ x. WritesAnswer policy reading old new (Begins before x)) (sym stop.1)
+            (writes_part mid status sent told),
       )
-  stopped mid after (Err refused) IsServed fault told served unwritten stop = inl (stop ∙ unwritten)

@@ -35,18 +35,6 @@ pub record RepliesTo {D X C : Type 0} (m : Machine D X C Reading) (words : Answe
   pub stepped : IsAnsweredOver m.disk m.held m.signs setting (algorithm_of set.signing)
       (account_shown setting.file words.key) (pos words.reading) query answer
 
--- the same, at a desk of that setting, where that algorithm signs
-pub record IsReplyAt {D X C : Type 0} (m : Machine D X C Reading) (words : AnswerWords) (setting : Setting)
-    (algorithm text reply : List ℕ) : Type 0 where
-  pub known : IsKnown setting.file words.key
-  pub query : List ℕ
-  pub spelled : IsHexadecimal text query
-  pub judged : IsJudgedReply setting.file (account_shown setting.file words.key) query reply
-  pub answer : DeskAnswer
-  pub says : IsReplyOf answer reply
-  pub stepped : IsAnsweredOver m.disk m.held m.signs setting algorithm (account_shown setting.file words.key)
-      (pos words.reading) query answer
-
 -- What is written is what was asked for: nothing by the words that change the database or serve connections. The
 -- input is left as `old`, and then as `new`: it is none where a reader doesn't tell its octets. The output is `out`
 -- before.

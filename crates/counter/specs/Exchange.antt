@@ -1,5 +1,5 @@
 -- What `exchange` writes.
-use Rattle.std.specs.Prelude.{◌≡◌, ◌⊎◌, pos, ℤ, ℕ, List, [], Option, Result, Ok, Err}
+use Rattle.std.specs.Prelude.{◌≡◌, ◌⊎◌, pos, ℤ, ℕ, List, [], Option}
 use Rattle.std.specs.Io.KnownBytes.{Consumes, IsAtEnd, Keeps}
 use Rattle.policy.specs.Record.{PolicyValue}
 use Rattle.desk.specs.Command.{Setting}
@@ -37,18 +37,16 @@ pub record Exchanges {D X C O : Type 0} (m : Machine D X C Reading) (contents : 
   pub served : IsServedOver m setting (algorithm_of set.signing) contents (pos words.reading) old
       new out written outcome
 
--- How an exchange ends, of which the operation told this: nothing was asked, or the answer was sent.
-abbrev pub HasEnded : Result Served Fault → (mid after : Option (List ℕ)) → Type 0
-HasEnded (Ok Closed) mid after = after ≡ mid
-HasEnded (Ok (Answered status)) mid after = Keeps mid after
-HasEnded (Ok ReadFailed) mid after = ⊥
-HasEnded (Ok (WriteFailed status sent)) mid after = ⊥
-HasEnded (Err refused) mid after = ⊥
+-- how an exchange ends: nothing was asked, or the answer was sent
+abbrev pub HasEnded : Served → (mid after : Option (List ℕ)) → Type 0
+HasEnded Closed mid after = after ≡ mid
+HasEnded (Answered status) mid after = Keeps mid after
+HasEnded ReadFailed mid after = ⊥
+HasEnded (WriteFailed status sent) mid after = ⊥
 
--- how it is stopped: the answer couldn't be sent, or a stream failed before that, or the operation was refused
-abbrev pub HasStopped : Result Served Fault → (mid after : Option (List ℕ)) → Fault → Type 0
-HasStopped (Ok Closed) mid after fault = ⊥
-HasStopped (Ok (Answered status)) mid after fault = (fault ≡ Input Failed) × Keeps mid after
-HasStopped (Ok ReadFailed) mid after fault = (fault ≡ Input Failed) × (after ≡ mid)
-HasStopped (Ok (WriteFailed status sent)) mid after fault = (fault ≡ Input Failed) × (after ≡ mid)
-HasStopped (Err refused) mid after fault = after ≡ mid
+-- how it is stopped: the answer couldn't be sent, or a stream failed before that
+abbrev pub HasStopped : Served → (mid after : Option (List ℕ)) → Fault → Type 0
+HasStopped Closed mid after fault = ⊥
+HasStopped (Answered status) mid after fault = (fault ≡ Input Failed) × Keeps mid after
+HasStopped ReadFailed mid after fault = (fault ≡ Input Failed) × (after ≡ mid)
+HasStopped (WriteFailed status sent) mid after fault = (fault ≡ Input Failed) × (after ≡ mid)

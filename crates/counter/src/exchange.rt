@@ -1,20 +1,20 @@
-//! The words `exchange` and `serve`.
-ghost use Rattle.std.specs.Prelude.{◌≡◌, ◌⊎◌, Ok, OnOk, IfErr};
+//! The word `exchange`.
+ghost use Rattle.std.specs.Prelude.{◌≡◌, ◌⊎◌, OnOk, IfErr};
 ghost use Rattle.std.specs.Io.KnownBytes.{Appends, Keeps};
-ghost use Rattle.counter.specs.Desks.{ServesConnections};
 ghost use Rattle.counter.specs.Exchange.{Exchanges, HasEnded, HasStopped};
-ghost use Rattle.counter.specs.Fault.{IsServeFault};
 ghost use Rattle.operations.specs.Machine.{machine_of};
 ghost use Rattle.console.specs.Writing.{Begins};
 
-use crate::fault::answer_of;
+use crate::exchanging::OneRequest;
+use crate::fault::fault_of;
 use crate::files::{Files, read_files};
-use crate::{exchanging, serving};
+use crate::host::Host;
 use cms::Signer;
-use command_line::{ExchangeWords, ServeWords};
+use command_line::ExchangeWords;
 use connections::{Clock, SystemClock};
 use console::{Fault, InputFault};
-use operations::{DatabaseDesk, Disk, FileFrom, HostSigner, Start, Terms};
+use desk::Settings;
+use operations::{DatabaseDesk, Disk, FileFrom, HostSigner, Renewal, Start, perform_at_desk};
 use service::Served;
 use std::io::{Read, Write};
 use std::rt::HostRuntime;
@@ -23,9 +23,8 @@ use std::rt::HostRuntime;
 /// first, then the database is opened, the key holder reached, and the request read last. `input` 5 where a read or a
 /// write fails, or the database or memory in the middle of an extract.
 pub fn exchange<F: Start + Drop, I: Read, O: Write>(
-    rt: &HostRuntime,
+    host: Host<'_, F>,
     words: &ExchangeWords<'_>,
-    start: F,
     input: &mut I,
     output: &mut O,
 ) -> Result<(), Fault>
@@ -40,43 +39,37 @@ pub fn exchange<F: Start + Drop, I: Read, O: Write>(
         ⟦<SystemClock<'static, HostRuntime> as Clock>⟧.reads) O.contents output.old words.now (I.remaining input.old) (I.remaining input.new)
         (Begins (O.contents output.old) (O.contents output.new)))) }
 {
+    let rt = host.rt;
     let Files {
         policy,
         identity,
         signing,
         algorithm,
     } = read_files(rt, &words.desk)?;
-    let terms = Terms {
-        policy: &policy,
-        identity: &identity,
-        algorithm: &algorithm,
-    };
     let desk = DatabaseDesk {
-        path: words.desk.db,
-        start,
-        terms,
+        database: host.database(words.desk.db),
+        settings: Settings {
+            policy: &policy,
+            identity: &identity,
+            algorithm: &algorithm,
+        },
         signing,
+        renewal: Renewal::Never,
     };
-    let reading = words.reading as i64;
-    let served = answer_of(exchanging::exchange(rt, desk, reading, input, output));
-    finish(served, output)
-}
-
-/// Has the output send the answer that was written. `input` 5 where a stream failed, and else the refusal.
-fn finish<O: Write>(served: Result<Served, Fault>, output: &mut O) -> Result<(), Fault>
-    ensures ended { OnOk result (HasEnded served (O.contents output.old) (O.contents output.new)) }
-    ensures stopped { IfErr result (HasStopped served (O.contents output.old) (O.contents output.new)) }
-{
-    match served {
-        Ok(served) => finish_served(served, output),
-        Err(fault) => Err(fault),
+    let asked = OneRequest {
+        alloc: rt.alloc(),
+        reading: words.reading as i64,
+    };
+    match perform_at_desk(rt, desk, asked, input, output) {
+        Ok(served) => finish(served, output),
+        Err(fault) => Err(fault_of(fault)),
     }
 }
 
 /// Has the output send the answer of a request that was served. `input` 5 where a stream failed.
-fn finish_served<O: Write>(served: Served, output: &mut O) -> Result<(), Fault>
-    ensures ended { OnOk result (HasEnded (Ok served) (O.contents output.old) (O.contents output.new)) }
-    ensures stopped { IfErr result (HasStopped (Ok served) (O.contents output.old) (O.contents output.new)) }
+fn finish<O: Write>(served: Served, output: &mut O) -> Result<(), Fault>
+    ensures ended { OnOk result (HasEnded served (O.contents output.old) (O.contents output.new)) }
+    ensures stopped { IfErr result (HasStopped served (O.contents output.old) (O.contents output.new)) }
 {
     match served {
         Served::Closed => Ok(()),
@@ -94,36 +87,4 @@ fn flush<O: Write>(output: &mut O) -> Result<(), InputFault>
         Ok(()) => Ok(()),
         Err(_) => Err(InputFault::Failed),
     }
-}
-
-/// Serves HTTP connections at an address. The files are read first, then the database is opened, the key holder
-/// reached, and the address listened on. Of the process's streams it writes standard error alone, where it tells of its
-/// start and of lost sessions with the key holder. Refused as `read_files` and `serving::serve`.
-pub fn serve<F: Start + Drop>(
-    rt: &HostRuntime,
-    words: &ServeWords<'_>,
-    start: F,
-) -> Result<(), Fault>
-    ensures served { OnOk result (ServesConnections (machine_of ⟦<FileFrom<F> as Disk>⟧ F.Start ⟦<HostSigner<'static> as Signer>⟧
-        ⟦<SystemClock<'static, HostRuntime> as Clock>⟧.reads) words.now (Ok tt)) }
-    ensures faults { IfErr result IsServeFault }
-{
-    let Files {
-        policy,
-        identity,
-        signing,
-        algorithm,
-    } = read_files(rt, &words.desk)?;
-    let terms = Terms {
-        policy: &policy,
-        identity: &identity,
-        algorithm: &algorithm,
-    };
-    let desk = DatabaseDesk {
-        path: words.desk.db,
-        start,
-        terms,
-        signing,
-    };
-    answer_of(serving::serve(rt, desk, words.listen, words.connections))
 }

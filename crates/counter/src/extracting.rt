@@ -5,19 +5,18 @@ ghost use Rattle.operations.specs.Auditing.{TellsSome};
 ghost use Rattle.counter.specs.Audits.{Audits, LeavesCut};
 
 use crate::fault::agreement_of;
+use crate::host::Host;
 use command_line::AuditWords;
 use console::{Fault, account_named, read_policy};
 use operations::{Inquiry, Start};
 use std::io::Write;
-use std::rt::HostRuntime;
 
 /// Writes the extract that the words ask for, and checks its stamps where they ask for that, with a line for each that
 /// fails: whether there is none. The policy file is read first, then the account looked for, and the database opened
 /// last.
 pub fn audit<F: Start + Drop, O: Write, E: Write>(
-    rt: &HostRuntime,
+    host: Host<'_, F>,
     words: &AuditWords<'_>,
-    start: F,
     output: &mut O,
     errors: &mut E,
 ) -> Result<bool, Fault>
@@ -29,6 +28,7 @@ pub fn audit<F: Start + Drop, O: Write, E: Write>(
     ensures refused { IfErr result (LeavesCut words.now (O.contents output.old) (O.contents output.new)
         (E.contents errors.old) (E.contents errors.new)) }
 {
+    let rt = host.rt;
     let policy = read_policy(rt, words.rules)?;
     let account = account_named(&policy, words.account)?;
     let inquiry = Inquiry {
@@ -38,5 +38,6 @@ pub fn audit<F: Start + Drop, O: Write, E: Write>(
         to: words.to,
         check: words.check,
     };
-    agreement_of(operations::audit(rt, words.db, start, &inquiry, output, errors))
+    let database = host.database(words.db);
+    agreement_of(operations::audit(rt, database, &inquiry, output, errors))
 }

@@ -37,7 +37,7 @@ pub fn answer_of<T>(done: Result<T, OperationFault>) -> Result<T, Fault>
 }
 
 /// The fault that the refusal of an operation is.
-fn fault_of(refused: OperationFault) -> Fault
+pub fn fault_of(refused: OperationFault) -> Fault
     ensures { result ≡ fault_of_operation refused }
 {
     match refused {

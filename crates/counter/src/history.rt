@@ -9,6 +9,7 @@ ghost use Rattle.console.specs.Fault.{IsStoreFault};
 ghost use Rattle.operations.specs.Machine.{machine_of};
 
 use crate::fault::fault_of_continuation;
+use crate::host::Host;
 use book::{Calibration, Hold};
 use cms::Signer;
 use command_line::{CalibrateWords, ContinueWords, HoldWords, InitWords, MigrateWords};
@@ -17,33 +18,27 @@ use console::{Fault, InputFault};
 use operations::{
     Addition, Continuation, ContinuationFault, Disk, FileFrom, Floor, HostSigner, Start, Unknown,
 };
-use std::rt::HostRuntime;
 
 /// Makes the tables of a new database.
-pub fn init<F: Start + Drop>(rt: &HostRuntime, words: &InitWords<'_>, start: F) -> Result<(), Fault>
+pub fn init<F: Start + Drop>(host: Host<'_, F>, words: &InitWords<'_>) -> Result<(), Fault>
     ensures { IfErr result IsStoreFault }
 {
-    Ok(operations::init(rt, words.db, start)?)
+    Ok(operations::init(host.rt, host.database(words.db))?)
 }
 
 /// Takes a database of an older schema over.
-pub fn migrate<F: Start + Drop>(
-    rt: &HostRuntime,
-    words: &MigrateWords<'_>,
-    start: F,
-) -> Result<(), Fault>
+pub fn migrate<F: Start + Drop>(host: Host<'_, F>, words: &MigrateWords<'_>) -> Result<(), Fault>
     ensures migrated { IfOk result (λ _. IsMigratedOver ⟦<FileFrom<F> as Disk>⟧ (image_at F.Start)) }
     ensures faults { IfErr result IsStoreFault }
 {
-    Ok(operations::migrate(rt, words.db, start)?)
+    Ok(operations::migrate(host.rt, host.database(words.db))?)
 }
 
 /// Closes a database for tokens, and has its history go on in a new one, above what the words state. It is `input` 9
 /// where that doesn't come after the last stamp, or there is none.
 pub fn continue_in<F: Start + Drop>(
-    rt: &HostRuntime,
+    host: Host<'_, F>,
     words: &ContinueWords<'_>,
-    start: F,
 ) -> Result<(), Fault>
     ensures continued { OnOk result (IsContinuedOver ⟦<FileFrom<F> as Disk>⟧ (image_at F.Start)
         ⟦<FileFrom<Unknown> as Disk>⟧ (floor_of words.now)) }
@@ -57,7 +52,7 @@ pub fn continue_in<F: Start + Drop>(
         db: words.db,
         floor: floor_of(words),
     };
-    match operations::continue_in(rt, &continuation, start, Unknown) {
+    match operations::continue_in(host.rt, &continuation, host.start, Unknown) {
         Ok(()) => Ok(()),
         Err(refusal) => Err(fault_of_continuation(refusal)),
     }
@@ -76,30 +71,29 @@ fn floor_of(words: &ContinueWords<'_>) -> Option<Floor>
 
 /// Adds the calibration that the words state.
 pub fn calibrate<F: Start + Drop>(
-    rt: &HostRuntime,
+    host: Host<'_, F>,
     words: &CalibrateWords<'_>,
-    start: F,
 ) -> Result<(), Fault>
     ensures added { IfOk result (λ _. AddsCalibration (machine_of ⟦<FileFrom<F> as Disk>⟧ F.Start ⟦<HostSigner<'static> as Signer>⟧
         ⟦<SystemClock<'static, HostRuntime> as Clock>⟧.reads) words.now) }
     ensures faults { IfErr result IsStoreFault }
 {
-    let calibration = calibration_of(words);
-    operations::add(rt, words.db, start, &Addition::Calibration(calibration))?;
+    let addition = Addition::Calibration(calibration_of(words));
+    operations::add(host.rt, host.database(words.db), &addition)?;
     Ok(())
 }
 
 /// Adds the hold that the words state. One that doesn't begin before it ends is `input` 3, before the database is
 /// looked at.
-pub fn hold<F: Start + Drop>(rt: &HostRuntime, words: &HoldWords<'_>, start: F) -> Result<(), Fault>
+pub fn hold<F: Start + Drop>(host: Host<'_, F>, words: &HoldWords<'_>) -> Result<(), Fault>
     ensures added { IfOk result (λ _. AddsHold (machine_of ⟦<FileFrom<F> as Disk>⟧ F.Start ⟦<HostSigner<'static> as Signer>⟧
         ⟦<SystemClock<'static, HostRuntime> as Clock>⟧.reads) words.now) }
     ensures some { IfOk result (λ _. words.now.from < words.now.to) }
     ensures none { words.now.to ≤ words.now.from → result ≡ Err (Fault.Input InputFault.Hold) }
     ensures faults { words.now.from < words.now.to → IfErr result IsStoreFault }
 {
-    let hold = hold_of(words)?;
-    operations::add(rt, words.db, start, &Addition::Hold(hold))?;
+    let addition = Addition::Hold(hold_of(words)?);
+    operations::add(host.rt, host.database(words.db), &addition)?;
     Ok(())
 }
 

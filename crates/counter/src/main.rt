@@ -9,6 +9,7 @@ mod extracting;
 mod fault;
 mod files;
 mod history;
+mod host;
 mod run;
 mod serving;
 

@@ -10,9 +10,11 @@ ghost use Rattle.operations.specs.OverFiles.{IsContinuedOver};
 ghost use Rattle.console.specs.Writing.{Begins};
 
 use crate::answer::{answer, octets_of};
-use crate::exchange::{exchange, serve};
+use crate::exchange::exchange;
 use crate::extracting::audit;
 use crate::history::{calibrate, continue_in, hold, init, migrate};
+use crate::host::Host;
+use crate::serving::serve;
 use cms::Signer;
 use command_line::{AnswerWords, AuditWords, Word};
 use connections::{Clock, SystemClock};
@@ -65,14 +67,17 @@ pub fn run(rt: &HostRuntime) -> u8
     ensures { result ≤ 2 }
 {
     match process_words(rt) {
-        Ok(words) => run_words(
-            rt,
-            words.as_slice(),
-            Unknown,
-            &mut rt.stdin(),
-            &mut rt.stdout(),
-            &mut rt.stderr(),
-        ),
+        Ok(words) => {
+            let host = Host { rt, start: Unknown };
+            let (mut input, mut output) = (rt.stdin(), rt.stdout());
+            run_words(
+                host,
+                words.as_slice(),
+                &mut input,
+                &mut output,
+                &mut rt.stderr(),
+            )
+        }
         Err(error) if error.kind() == io::ErrorKind::OutOfMemory => {
             report(Fault::Input(InputFault::Memory), &mut rt.stderr())
         }
@@ -105,9 +110,8 @@ fn process_words(rt: &HostRuntime) -> io::Result<Vec<String>> {
 /// refused on the way: then a beginning of it stands there; and where a check fails or is stopped: then the whole
 /// extract.
 pub fn run_words<F: Start + Drop, I: Read, O: Write, E: Write>(
-    rt: &HostRuntime,
+    host: Host<'_, F>,
     words: &[String],
-    start: F,
     input: &mut I,
     output: &mut O,
     errors: &mut E,
@@ -150,8 +154,8 @@ pub fn run_words<F: Start + Drop, I: Read, O: Write, E: Write>(
         × LeavesExtract audited (O.contents output.old) (O.contents output.new) (E.contents errors.old)
         (E.contents errors.new)))) }
 {
-    match Word::parse(rt.alloc(), words) {
-        Ok(word) => match run_word(rt, &word, start, input, output, errors) {
+    match Word::parse(host.rt.alloc(), words) {
+        Ok(word) => match run_word(host, &word, input, output, errors) {
             Ok(outcome) => outcome.status(),
             Err(fault) => report(fault, errors),
         },
@@ -161,9 +165,8 @@ pub fn run_words<F: Start + Drop, I: Read, O: Write, E: Write>(
 
 /// Does what a word asks for.
 fn run_word<F: Start + Drop, I: Read, O: Write, E: Write>(
-    rt: &HostRuntime,
+    host: Host<'_, F>,
     word: &Word<'_>,
-    start: F,
     input: &mut I,
     output: &mut O,
     errors: &mut E,
@@ -198,47 +201,47 @@ fn run_word<F: Start + Drop, I: Read, O: Write, E: Write>(
 {
     match word {
         Word::Tst(words) => {
-            answer_tst(rt.alloc(), words, input, output)?;
+            answer_tst(host.rt.alloc(), words, input, output)?;
             Ok(Outcome::Replied)
         }
         Word::Check(words) => {
-            check_policy(rt, words, output)?;
+            check_policy(host.rt, words, output)?;
             Ok(Outcome::Counted)
         }
         Word::Init(words) => {
-            init(rt, words, start)?;
+            init(host, words)?;
             Ok(Outcome::Changed)
         }
         Word::Migrate(words) => {
-            migrate(rt, words, start)?;
+            migrate(host, words)?;
             Ok(Outcome::Changed)
         }
         Word::Continue(words) => {
-            continue_in(rt, words, start)?;
+            continue_in(host, words)?;
             Ok(Outcome::Changed)
         }
         Word::Calibrate(words) => {
-            calibrate(rt, words, start)?;
+            calibrate(host, words)?;
             Ok(Outcome::Changed)
         }
         Word::Hold(words) => {
-            hold(rt, words, start)?;
+            hold(host, words)?;
             Ok(Outcome::Changed)
         }
         Word::Answer(words) => {
-            answer_request(rt, words, start, input, output)?;
+            answer_request(host, words, input, output)?;
             Ok(Outcome::Replied)
         }
         Word::Exchange(words) => {
-            exchange(rt, words, start, input, output)?;
+            exchange(host, words, input, output)?;
             Ok(Outcome::Exchanged)
         }
         Word::Serve(words) => {
-            serve(rt, words, start)?;
+            serve(host, words)?;
             Ok(Outcome::Served)
         }
         Word::Audit(words) => {
-            if audit(rt, words, start, output, errors)? {
+            if audit(host, words, output, errors)? {
                 Ok(Outcome::Extracted)
             } else {
                 Ok(Outcome::Failing)
@@ -249,9 +252,8 @@ fn run_word<F: Start + Drop, I: Read, O: Write, E: Write>(
 
 /// Reads a request, answers it over the database, and writes the reply.
 fn answer_request<F: Start + Drop, I: Read, O: Write>(
-    rt: &HostRuntime,
+    host: Host<'_, F>,
     words: &AnswerWords<'_>,
-    start: F,
     input: &mut I,
     output: &mut O,
 ) -> Result<(), Fault>
@@ -267,7 +269,8 @@ fn answer_request<F: Start + Drop, I: Read, O: Write>(
         ⟦<SystemClock<'static, HostRuntime> as Clock>⟧.reads) words.now text reply
         × Begins (O.contents output.old) (O.contents output.new) (line reply)))) }
 {
-    let reply = answer(rt, words, start, input)?;
-    write_octets(rt.alloc(), octets_of(&reply), output)?;
+    let alloc = host.rt.alloc();
+    let reply = answer(host, words, input)?;
+    write_octets(alloc, octets_of(&reply), output)?;
     Ok(())
 }

@@ -1,19 +1,25 @@
-//! How HTTP connections are served over the database at a path.
-ghost use Rattle.std.specs.Prelude.{◌≡◌, ◌⊎◌, Err, IfErr, IfOk, Ok};
-ghost use Rattle.operations.specs.Opening.{IsServingFault, IsUnheard};
-ghost use Rattle.counter.specs.Serving.{AreServedOver, ServesAt, state_after, state_before};
+//! The word `serve`.
+ghost use Rattle.std.specs.Prelude.{◌≡◌, ◌⊎◌, Err, IfErr, OnOk, Ok};
+ghost use Rattle.counter.specs.Desks.{ServesConnections};
+ghost use Rattle.counter.specs.Fault.{IsServeFault};
+ghost use Rattle.counter.specs.Serving.{ServesAt, state_after, state_before};
 ghost use Rattle.operations.specs.Machine.{machine_of};
-ghost use Rattle.operations.specs.Signing.{algorithm_of};
-ghost use Rattle.operations.specs.Visits.{setting_of};
+ghost use Rattle.operations.specs.Opening.{IsServingFault, IsUnheard};
+ghost use Rattle.operations.specs.declared.fault.OperationFault.TheVariants as operation;
 
 use crate::events::{tell_listening, tell_opening};
+use crate::fault::{answer_of, fault_of};
+use crate::files::{Files, read_files};
+use crate::host::Host;
 use book::Book;
 use cms::Signer;
+use command_line::ServeWords;
 use connections::{CONNECTION_SECONDS, Clock, Listening, SystemClock, serve_connections};
-use desk::Desk;
+use console::{Fault, InputFault};
+use desk::Settings;
 use operations::{
-    DatabaseDesk, DeskOperation, Disk, FileFrom, HostSigner, OperationFault, Renewal, Start,
-    perform_at_desk,
+    DatabaseDesk, DeskOperation, Disk, FileFrom, HostSigner, OperationFault, Renewal, SignedDesk,
+    Start, perform_at_desk,
 };
 use sockets::Listener;
 use std::time::{Duration, Instant};
@@ -21,6 +27,7 @@ use std::time::{Duration, Instant};
 /// Connections at an address are served.
 #[derive(Drop)]
 struct Serving<'a> {
+    rt: &'a HostRuntime,
     address: &'a str,
     connections: u32,
     /// When that began, if the clock tells.
@@ -42,85 +49,84 @@ impl DeskOperation<(), ()> for Serving<'_> {
 
     /// Listens on the address.
     fn prepare(&self, rt: &HostRuntime) -> Result<Listener, OperationFault> {
-        match Listener::bind(rt, self.address) {
-            Ok(listener) => Ok(listener),
-            Err(_) => Err(OperationFault::Unheard),
-        }
+        Listener::bind(rt, self.address).or(Err(OperationFault::Unheard))
     }
 
     fn perform<B: Book + Drop, G: Signer>(
         self,
         listener: Listener,
-        rt: &HostRuntime,
-        desk: &mut Desk<'_, B>,
-        signer: &mut G,
+        signed: &mut SignedDesk<'_, B, G>,
         _input: &mut (),
         _output: &mut (),
     ) -> Result<(), OperationFault> {
         let limit = Duration::from_secs(CONNECTION_SECONDS);
+        let rt = self.rt;
         let mut clock = SystemClock::new(rt);
         match Listening::new(rt, rt, &listener, limit) {
-            Ok(listening) => {
+            Ok(mut listening) => {
                 tell_listening(rt, &listener, self.address, self.begun);
-                serve_heard(listening, desk, signer, &mut clock, self.connections)
+                let SignedDesk { desk, signer } = signed;
+                match serve_connections(
+                    &mut listening,
+                    self.connections,
+                    &mut clock,
+                    desk,
+                    signer,
+                ) {
+                    Ok(()) => Ok(()),
+                    Err(_) => Err(OperationFault::Clock),
+                }
             }
             Err(_) => Err(OperationFault::Unheard),
         }
     }
 }
 
-/// Serves that many connections at the address, over the history that the database at the path keeps; readings are the
-/// machine's clock's. Connections are read side by side, and requests answered one at a time. One that fails counts
-/// too. Refused as `answer`, then with `Unheard` where the address can't be listened on or the system can't wait for
-/// several connections at once, and with `Clock` where the clock fails; those that were served before stand.
-pub fn serve<F: Start + Drop>(
-    rt: &HostRuntime,
-    desk: DatabaseDesk<'_, F>,
-    address: &str,
-    connections: u32,
-) -> Result<(), OperationFault>
+/// Serves HTTP connections at an address; readings are the machine's clock's. Connections are read side by side, and
+/// requests answered one at a time; one that fails counts too. The files are read first, then the database is opened,
+/// the key holder reached, and the address listened on. Of the process's streams it writes standard error alone, where
+/// it tells of its start and of lost sessions with the key holder.
+///
+/// Refused as `read_files` and `perform_at_desk`, with `input` 6 where the address can't be listened on or the system
+/// can't wait for several connections at once, and with `input` 5 where the clock fails; those that were served before
+/// stand.
+pub fn serve<F: Start + Drop>(host: Host<'_, F>, words: &ServeWords<'_>) -> Result<(), Fault>
     // Whatever the files hold: the connections are served at a desk over the store that was opened over them.
-    ensures served { IfOk result (λ _. AreServedOver (machine_of ⟦<FileFrom<F> as Disk>⟧ F.Start
-        ⟦<HostSigner<'static> as Signer>⟧ ⟦<SystemClock<'static, HostRuntime> as Clock>⟧.reads)
-        (setting_of desk.entry.terms) (algorithm_of desk.entry.signing) connections result) }
+    ensures served { OnOk result (ServesConnections (machine_of ⟦<FileFrom<F> as Disk>⟧ F.Start
+        ⟦<HostSigner<'static> as Signer>⟧ ⟦<SystemClock<'static, HostRuntime> as Clock>⟧.reads) words.now (Ok tt)) }
 
     // So are those before the clock failed.
-    ensures stopped { result ≡ Err OperationFault.Clock → AreServedOver (machine_of ⟦<FileFrom<F> as Disk>⟧ F.Start
-        ⟦<HostSigner<'static> as Signer>⟧ ⟦<SystemClock<'static, HostRuntime> as Clock>⟧.reads)
-        (setting_of desk.entry.terms) (algorithm_of desk.entry.signing) connections result }
-    ensures refusals { IfErr result IsServingFault }
+    ensures stopped { result ≡ Err (Fault.Input InputFault.Failed) → ServesConnections (machine_of
+        ⟦<FileFrom<F> as Disk>⟧ F.Start ⟦<HostSigner<'static> as Signer>⟧
+        ⟦<SystemClock<'static, HostRuntime> as Clock>⟧.reads) words.now (Err operation.Clock) }
+    ensures faults { IfErr result IsServeFault }
 {
+    let rt = host.rt;
+    let Files {
+        policy,
+        identity,
+        signing,
+        algorithm,
+    } = read_files(rt, &words.desk)?;
+    let desk = DatabaseDesk {
+        database: host.database(words.desk.db),
+        settings: Settings {
+            policy: &policy,
+            identity: &identity,
+            algorithm: &algorithm,
+        },
+        signing,
+        renewal: Renewal::AfterLoss,
+    };
     let serving = Serving {
-        address,
-        connections,
+        rt,
+        address: words.listen,
+        connections: words.connections,
         begun: Instant::now(rt).ok(),
     };
-    tell_opening(rt, desk.path);
-    match perform_at_desk(rt, desk, Renewal::AfterLoss, serving, &mut (), &mut ()) {
-        Ok(done) => done,
-        Err(fault) => Err(fault),
-    }
-}
-
-/// Serves connections that are heard. Those that were served are a run of the machine, which goes on from journeys and
-/// is isolated.
-fn serve_heard<B: Book + Drop, G: Signer, C: Clock>(
-    listening: Listening<'_, HostRuntime>,
-    desk: &mut Desk<'_, B>,
-    signer: &mut G,
-    clock: &mut C,
-    connections: u32,
-) -> Result<(), OperationFault>
-    ensures served { ServesAt C.reads B.Standing G.signs G.fault_count connections
-        (record { clock = clock.old; desk = desk.old; signer = signer.old })
-        (record { clock = clock.new; desk = desk.new; signer = signer.new }) result }
-    ensures setting { desk.new.setting ≡ desk.old.setting }
-    ensures honest { B.honest desk.new.store → B.honest desk.old.store }
-    ensures refusals { IfErr result IsServingFault }
-{
-    let mut listening = listening;
-    match serve_connections(&mut listening, connections, clock, desk, signer) {
-        Ok(()) => Ok(()),
-        Err(_) => Err(OperationFault::Clock),
+    tell_opening(rt, words.desk.db);
+    match perform_at_desk(rt, desk, serving, &mut (), &mut ()) {
+        Ok(done) => answer_of(done),
+        Err(fault) => Err(fault_of(fault)),
     }
 }

@@ -12,7 +12,7 @@ use Rattle.book.specs.Readers.{Viewer}
 use Rattle.book.specs.Sound.{IsSound}
 use Rattle.book.specs.Stands.{Stands}
 use Rattle.desk.specs.Outcome.{Outcome}
-use Rattle.desk.specs.Calls.{opening_view, or_before, succeeded_as}
+use Rattle.desk.specs.Calls.{settings_view, or_before, succeeded_as}
 use Rattle.desk.specs.Command.{InForce, Setting, Command, Succeed, Answer, setting_after}
 use Rattle.desk.specs.Effects.{Effect}
 use Rattle.desk.specs.Steps.{HasEffect, Moves}
@@ -22,7 +22,7 @@ use Rattle.desk.specs.Laws.{AreMet, Concerns, Continues, StaysFor}
 use Rattle.desk.specs.Obstacles.{hindered, outcome_with, told_with}
 use Rattle.desk.specs.Stepped.{StepsBy, IsBareStep, MayBeLeft, IsBlamed, IsOpened, no_signer, with_signer}
 use Rattle.desk.specs.Ran.{Obeys, WasOpen, AreSteps, ArePromised, MayBeLeftBy, AreCommandsOfOthers, OneConcerns, RunsBy, told_by}
-use Rattle.desk.specs.declared.opening.Opening.{Opening}
+use Rattle.desk.specs.declared.settings.Settings.{Settings}
 use Rattle.desk.specs.declared.obstacle.Obstacle.{Obstacle}
 use Rattle.desk.specs.declared.obstacle.Obstacle.TheVariants as obstacle
 use Rattle.desk.specs.Viewers.{viewer_in}
@@ -104,20 +104,20 @@ obeyed_as g signs count x y s c d old new said says stays plain same is step = (
 )
 
 -- a succession
-pub succeeded_after : (outcome : Result Opening Obstacle) (before : Opening) (k : InForce)
-    → IfOk outcome (λ after. opening_view after ≡ record (opening_view before) { in_force = k })
-    → opening_view (or_before outcome before)
-    ≡ setting_after (opening_view before) (Succeed k) (told_with succeeded_as outcome)
+pub succeeded_after : (outcome : Result Settings Obstacle) (before : Settings) (k : InForce)
+    → IfOk outcome (λ after. settings_view after ≡ record (settings_view before) { in_force = k })
+    → settings_view (or_before outcome before)
+    ≡ setting_after (settings_view before) (Succeed k) (told_with succeeded_as outcome)
 succeeded_after (Ok after) before k h = h
 succeeded_after (Err x) before k h = refl
 
-was_open : {B : Type 0} (g : Ghosts B) (k : InForce) (r : Result Opening Obstacle) (old : B) → OnOk r (g.is_open old)
+was_open : {B : Type 0} (g : Ghosts B) (k : InForce) (r : Result Settings Obstacle) (old : B) → OnOk r (g.is_open old)
     → WasOpen g (Succeed k) (told_with succeeded_as r) old
 was_open g k (Ok after) old opened = opened
 was_open g k (Err x) old opened = tt
 
 pub obeyed_succession : {B X : Type 0} (g : Ghosts B) (signs : X → List ℕ → Result (List ℕ) SignerFault → X → Type 0)
-    (count : X → ℕ) (x : X) (s : Setting) (k : InForce) (d : Command) (r : Result Opening Obstacle)
+    (count : X → ℕ) (x : X) (s : Setting) (k : InForce) (d : Command) (r : Result Settings Obstacle)
     (old new : B) (says : Answer) (after : Setting) → d ≡ Succeed k → says ≡ told_with succeeded_as r
     → after ≡ setting_after s (Succeed k) (told_with succeeded_as r)
     → StepsBy g no_signer s (Succeed k) (outcome_with r) old new (told_with succeeded_as r)

@@ -32,7 +32,7 @@ use Rattle.desk.specs.declared.finding.Found.TheVariants as found
 use Rattle.desk.specs.declared.finding.Planned.{Planned}
 use Rattle.desk.specs.declared.looking.Looked.{Looked}
 use Rattle.desk.specs.declared.reserving.Prepared.{Prepared}
-use Rattle.desk.specs.declared.opening.Opening.{Opening}
+use Rattle.desk.specs.declared.settings.Settings.{Settings}
 use Rattle.desk.specs.declared.refusal.Refusal.{Refusal}
 use Rattle.desk.specs.declared.refusal.Refusal.TheVariants as refusal
 
@@ -110,8 +110,8 @@ in_force_of identity algorithm = record { identity = identity; algorithm = algor
 abbrev pub setting_of : Policy → IdentityValue → List ℕ → Setting
 setting_of policy identity algorithm = record { file = policy_view policy; in_force = in_force_of identity algorithm }
 
-abbrev pub opening_view : Opening → Setting
-opening_view o = setting_of o.policy.now o.identity.now o.algorithm.now
+abbrev pub settings_view : Settings → Setting
+settings_view s = setting_of s.policy.now s.identity.now s.algorithm.now
 
 abbrev pub looked_at : ℤ → History → Looked
 looked_at reading b = record { clock = clock_of reading b; serial = greatest_serial b }
@@ -187,10 +187,10 @@ pub record Reserves {B : Type 0} (g : Ghosts B) (s : Setting) (account : List �
       → LeftReserving g s account plan octets (outcome_of result) b old left
 
 -- what is in force from now on is brought so
-abbrev pub succeeded_as : Opening → Answer
-succeeded_as opening = Done
+abbrev pub succeeded_as : Settings → Answer
+succeeded_as settings = Done
 
 -- with what the desk goes on, and as before where that is refused
-abbrev pub or_before : {E : Type 0} → Result Opening E → Opening → Opening
+abbrev pub or_before : {E : Type 0} → Result Settings E → Settings → Settings
 or_before (Ok after) before = after
 or_before (Err e) before = before

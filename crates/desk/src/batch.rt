@@ -3,7 +3,7 @@ ghost use Rattle.std.specs.Prelude.{◌≡◌, ◌≤◌, List, [], map, length,
 ghost use Rattle.std.specs.Prelude.{option_map};
 ghost use Rattle.desk.specs.Answers.{reply_as};
 ghost use Rattle.desk.specs.Batches.{stamps_for};
-ghost use Rattle.desk.specs.Calls.{opening_view};
+ghost use Rattle.desk.specs.Calls.{settings_view};
 ghost use Rattle.desk.specs.Outcome.{Outcome};
 ghost use Rattle.desk.specs.Ran.{AreSteps};
 ghost use Rattle.desk.specs.Together.{questions_view, merged, reply_for, IsAnsweredTogether};
@@ -14,8 +14,8 @@ use crate::completion::complete_each;
 use crate::desk::Desk;
 use crate::fault::Fault;
 use crate::finishing::no_answer;
-use crate::opening::{Opening, is_proper};
 use crate::reply::Reply;
+use crate::settings::{Settings, is_proper};
 use book::{Book, histories_show_the_same};
 use cms::Signer;
 use policy::Account;
@@ -37,22 +37,22 @@ pub struct Asked<'a> {
 fn answer_in_turn<B: Book + Drop, G: Signer>(
     store: &mut B,
     alloc: Global,
-    opening: Opening<'_>,
+    settings: Settings<'_>,
     asked: &[Asked<'_>],
     signer: &mut G,
     replies: &mut Vec<Reply>,
 )
     requires empty { replies.old.items ≡ [] }
     requires room { length asked.now ≤ vec_capacity replies.old }
-    ensures steps { (os : List Outcome) × AreSteps B.Standing G.signs G.fault_count (opening_view opening.entry)
+    ensures steps { (os : List Outcome) × AreSteps B.Standing G.signs G.fault_count (settings_view settings.entry)
         (stamps_for (questions_view asked.now)) os (map reply_as replies.new.items) store.old signer.old
-        (opening_view opening.entry) store.new signer.new }
+        (settings_view settings.entry) store.new signer.new }
 {
     for question in asked {
         replies.push_reserved(answer_with(
             store,
             alloc,
-            opening,
+            settings,
             question.account,
             question.reading,
             question.query,
@@ -108,7 +108,7 @@ fn room_for<T: Drop>(alloc: Global, count: usize) -> Result<Vec<T>, Fault>
 fn answer_together<B: Book + Drop, G: Signer>(
     store: &mut B,
     alloc: Global,
-    opening: Opening<'_>,
+    settings: Settings<'_>,
     asked: &[Asked<'_>],
     signer: &mut G,
 ) -> Result<Vec<Reply>, Fault>
@@ -116,23 +116,23 @@ fn answer_together<B: Book + Drop, G: Signer>(
     ensures memory { IfErr result (λ fault. fault ≡ Fault.Memory) }
     ensures unmoved { OnErr result ((store.new ≡ store.old) × (signer.new ≡ signer.old)) }
     ensures together { IfOk result (λ replies. IsAnsweredTogether B.Standing G.signs G.fault_count
-        (opening_view opening.entry) (questions_view asked.now) (map reply_as replies.items) store.old signer.old
+        (settings_view settings.entry) (questions_view asked.now) (map reply_as replies.items) store.old signer.old
         store.new signer.new) }
 {
     requests_have_one_reading();
     histories_show_the_same();
-    is_proper(opening);
+    is_proper(settings);
     let mut verdicts = room_for(alloc, asked.len())?;
     let mut waits = room_for(alloc, asked.len())?;
     let mut completed = room_for(alloc, asked.len())?;
     let mut replies = room_for(alloc, asked.len())?;
-    match begin_each(store, alloc, opening, asked, &mut verdicts, &mut waits) {
+    match begin_each(store, alloc, settings, asked, &mut verdicts, &mut waits) {
         Ok(()) => {
-            complete_each(store, alloc, opening, &waits, signer, &mut completed);
+            complete_each(store, alloc, settings, &waits, signer, &mut completed);
             merge(&verdicts, completed, &mut replies);
             store.tell_the_same();
         }
-        Err(_) => answer_in_turn(store, alloc, opening, asked, signer, &mut replies),
+        Err(_) => answer_in_turn(store, alloc, settings, asked, signer, &mut replies),
     }
     Ok(replies)
 }
@@ -159,7 +159,7 @@ impl<'p, B: Book + Drop> Desk<'p, B> {
             self.old.setting (questions_view asked.now) (map reply_as replies.items) self.old.store signer.old
             self.new.store signer.new) }
     {
-        let opening = self.opening;
-        answer_together(&mut self.store, self.alloc, opening, asked, signer)
+        let settings = self.settings;
+        answer_together(&mut self.store, self.alloc, settings, asked, signer)
     }
 }

@@ -5,7 +5,7 @@ ghost use Rattle.book.specs.Entries.{entries_view, Appends};
 ghost use Rattle.book.specs.History.{History, Reserved};
 ghost use Rattle.book.specs.Sound.{IsSound};
 ghost use Rattle.book.specs.Stands.{Stands, OnlyLooks};
-ghost use Rattle.desk.specs.Calls.{outcome_of, opening_view};
+ghost use Rattle.desk.specs.Calls.{outcome_of, settings_view};
 ghost use Rattle.desk.specs.Outcome.{faults_after};
 ghost use Rattle.desk.specs.Together.{question_view, questions_view, IsJudgedAs, HasItsText, AreJudged};
 ghost use Rattle.desk.specs.Together.{AreSplit};
@@ -14,9 +14,9 @@ ghost use Rattle.desk.specs.Waiting.{waiting_view, with_waiting, HasText};
 use crate::batch::Asked;
 use crate::beginning::name_of;
 use crate::finding::{Found, find_among};
-use crate::opening::Opening;
 use crate::refusal::Refusal;
 use crate::reserving::prepare;
+use crate::settings::Settings;
 use crate::waiting::{Waiting, reservation_of};
 use book::{Book, Entry, GREATEST_NUMBER, StoreFault};
 use std::alloc::Global;
@@ -35,7 +35,7 @@ pub(crate) enum Judged<'p, 'a> {
 fn judge_one<'p, 'a, B: Book + Drop>(
     store: &mut B,
     alloc: Global,
-    opening: Opening<'p>,
+    settings: Settings<'p>,
     waits: &[Waiting<'p, 'a>],
     asked: Asked<'a>,
 ) -> Result<Judged<'p, 'a>, Refusal>
@@ -43,13 +43,13 @@ fn judge_one<'p, 'a, B: Book + Drop>(
     ensures counted { B.fault_count store.new ≡ faults_after (outcome_of result) (B.fault_count store.old) }
     ensures judges { B.honest store.new → (b : History) → Stands B.Standing b store.old
         → IsSound (with_waiting waits.now b)
-        → IfOk result (IsJudgedAs (opening_view opening.entry) (question_view asked.entry) (with_waiting waits.now b)) }
-    ensures texts { IfOk result (HasItsText (opening_view opening.entry)) }
+        → IfOk result (IsJudgedAs (settings_view settings.entry) (question_view asked.entry) (with_waiting waits.now b)) }
+    ensures texts { IfOk result (HasItsText (settings_view settings.entry)) }
 {
     match find_among(
         store,
         waits,
-        opening.policy,
+        settings.policy,
         asked.account,
         asked.reading,
         asked.query,
@@ -60,7 +60,7 @@ fn judge_one<'p, 'a, B: Book + Drop>(
             if planned.last >= GREATEST_NUMBER {
                 return Err(Refusal::Spent);
             }
-            match prepare(alloc, opening, planned, asked.query) {
+            match prepare(alloc, settings, planned, asked.query) {
                 Ok(prepared) => Ok(Judged::Waits(Waiting {
                     account: name_of(asked.account),
                     query: asked.query,
@@ -77,7 +77,7 @@ fn judge_one<'p, 'a, B: Book + Drop>(
 fn judge_each<'p, 'a, B: Book + Drop>(
     store: &mut B,
     alloc: Global,
-    opening: Opening<'p>,
+    settings: Settings<'p>,
     asked: &[Asked<'a>],
     verdicts: &mut Vec<Option<Rule>>,
     waits: &mut Vec<Waiting<'p, 'a>>,
@@ -89,12 +89,12 @@ fn judge_each<'p, 'a, B: Book + Drop>(
     ensures looks { OnlyLooks B.Standing store.old store.new }
     ensures counted { B.fault_count store.new ≡ faults_after (outcome_of result) (B.fault_count store.old) }
     ensures judges { IfOk result (λ _. B.honest store.new → (b : History) → Stands B.Standing b store.old
-        → AreJudged (opening_view opening.entry) (questions_view asked.now) verdicts.new.items waits.new.items b) }
+        → AreJudged (settings_view settings.entry) (questions_view asked.now) verdicts.new.items waits.new.items b) }
     ensures split { IfOk result (λ _. AreSplit (questions_view asked.now) verdicts.new.items waits.new.items) }
-    ensures texts { IfOk result (λ _. AllByRecursion (HasText (opening_view opening.entry)) waits.new.items) }
+    ensures texts { IfOk result (λ _. AllByRecursion (HasText (settings_view settings.entry)) waits.new.items) }
 {
     for question in asked {
-        match judge_one(store, alloc, opening, waits, *question)? {
+        match judge_one(store, alloc, settings, waits, *question)? {
             Judged::Fails(rule) => verdicts.push_reserved(Some(rule)),
             Judged::Waits(waiting) => {
                 verdicts.push_reserved(None);
@@ -138,7 +138,7 @@ fn reserve_each<B: Book + Drop>(
 pub(crate) fn begin_each<'p, 'a, B: Book + Drop>(
     store: &mut B,
     alloc: Global,
-    opening: Opening<'p>,
+    settings: Settings<'p>,
     asked: &[Asked<'a>],
     verdicts: &mut Vec<Option<Rule>>,
     waits: &mut Vec<Waiting<'p, 'a>>,
@@ -150,14 +150,14 @@ pub(crate) fn begin_each<'p, 'a, B: Book + Drop>(
     ensures honest { B.honest store.new → B.honest store.old }
     ensures counted { B.fault_count store.new ≡ faults_after (outcome_of result) (B.fault_count store.old) }
     ensures split { IfOk result (λ _. AreSplit (questions_view asked.now) verdicts.new.items waits.new.items) }
-    ensures texts { IfOk result (λ _. AllByRecursion (HasText (opening_view opening.entry)) waits.new.items) }
+    ensures texts { IfOk result (λ _. AllByRecursion (HasText (settings_view settings.entry)) waits.new.items) }
     ensures judged { IfOk result (λ _. B.honest store.new → (b : History) → Stands B.Standing b store.old
-        → AreJudged (opening_view opening.entry) (questions_view asked.now) verdicts.new.items waits.new.items b) }
+        → AreJudged (settings_view settings.entry) (questions_view asked.now) verdicts.new.items waits.new.items b) }
     ensures reserved { IfOk result (λ _. B.honest store.new → (b : History) → Stands B.Standing b store.old
         → Stands B.Standing (with_waiting waits.new.items b) store.new) }
     ensures refused { OnErr result ((b : History) → Stands B.Standing b store.old → Stands B.Standing b store.new) }
 {
-    match judge_each(store, alloc, opening, asked, verdicts, waits) {
+    match judge_each(store, alloc, settings, asked, verdicts, waits) {
         Ok(()) => {}
         Err(refusal) => return Err(refusal),
     }

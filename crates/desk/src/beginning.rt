@@ -6,16 +6,16 @@ ghost use Rattle.tsp.specs.declared.rule.Rule.{Rule};
 ghost use Rattle.desk.specs.Effects.{name_of};
 ghost use Rattle.decide.specs.View.{account_asked};
 ghost use Rattle.desk.specs.Answers.{begun_as, told};
-ghost use Rattle.desk.specs.Calls.{outcome_of, opening_view, IsOfBeginning};
+ghost use Rattle.desk.specs.Calls.{outcome_of, settings_view, IsOfBeginning};
 ghost use Rattle.desk.specs.Command.{Begin, Rejected};
 ghost use Rattle.desk.specs.Findings.{HoldsUnasked};
 ghost use Rattle.desk.specs.Stepped.{StepsBy, no_signer};
 
 use crate::finding::{Found, find};
-use crate::opening::Opening;
 use crate::refusal::Refusal;
 use crate::reply::Begun;
 use crate::reserving::reserve_next;
+use crate::settings::Settings;
 use book::Book;
 use policy::Account;
 use std::alloc::Global;
@@ -36,26 +36,26 @@ pub(crate) fn name_of<'a>(account: Option<&'a Account>) -> &'a str
 pub(crate) fn begin_with<'p, B: Book + Drop>(
     store: &mut B,
     alloc: Global,
-    opening: Opening<'p>,
+    settings: Settings<'p>,
     account: Option<&Account>,
     reading: i64,
     query: &[u8],
 ) -> Result<Begun<'p>, Refusal>
     ensures honest { B.honest store.new → B.honest store.old }
-    ensures step { StepsBy B.Standing no_signer (opening_view opening.entry)
+    ensures step { StepsBy B.Standing no_signer (settings_view settings.entry)
         (Begin (account_asked account.entry) reading query.now) (outcome_of result) store.old store.new
         (told begun_as result) }
-    ensures unasked { (rule : Rule) → IsFirstFailing (HoldsUnasked (policy_view opening.entry.policy.now)
+    ensures unasked { (rule : Rule) → IsFirstFailing (HoldsUnasked (policy_view settings.entry.policy.now)
         (account_asked account.entry) query.now) rule
         → (told begun_as result ≡ Rejected rule) × (store.new ≡ store.old) }
     ensures refusals { IfErr result IsOfBeginning }
 {
-    let policy = opening.policy;
+    let policy = settings.policy;
     match find(store, policy, account, reading, query) {
         Err(refusal) => Err(refusal),
         Ok(Found::Fails(rule)) => Ok(Begun::Rejected(Rejection::of(rule))),
         Ok(Found::Allows(planned)) => {
-            match reserve_next(store, alloc, opening, name_of(account), planned, query) {
+            match reserve_next(store, alloc, settings, name_of(account), planned, query) {
                 Ok(pending) => Ok(Begun::Pending(pending)),
                 Err(refusal) => Err(refusal),
             }

@@ -6,7 +6,7 @@ ghost use Rattle.std.specs.List.{AllByRecursion};
 ghost use Rattle.cms.specs.declared.signer.SignerFault.{SignerFault as SpecFault};
 ghost use Rattle.cms.specs.Signer.{signed_by, count_after_each, SignsEach, IsSized};
 ghost use Rattle.desk.specs.Answers.{reply_as};
-ghost use Rattle.desk.specs.Calls.{opening_view};
+ghost use Rattle.desk.specs.Calls.{settings_view};
 ghost use Rattle.book.specs.Entries.{entries_view};
 ghost use Rattle.book.specs.History.{Sealed};
 ghost use Rattle.desk.specs.Completions.{texts_of, SealsEach, CompletesEach};
@@ -16,8 +16,8 @@ ghost use Rattle.desk.specs.Outcome.{Call, Fine, Outcome};
 ghost use Rattle.desk.specs.Waiting.{pending_in, pendings_in, HasText};
 
 use crate::finishing::no_answer;
-use crate::opening::Opening;
 use crate::reply::Reply;
+use crate::settings::Settings;
 use crate::waiting::Waiting;
 use book::{Book, Entry};
 use cms::{Signer, SignerFault, token};
@@ -41,12 +41,12 @@ struct Seal {
 /// The token over a signature, and the reply with it: none where there is no signature, or no memory.
 fn write(
     alloc: Global,
-    opening: Opening<'_>,
+    settings: Settings<'_>,
     waiting: &Waiting<'_, '_>,
     answer: &Result<Vec<u8>, SignerFault>,
 ) -> Option<Written>
     requires sized { IsSized answer.now }
-    ensures { IsWritten (pending_in (opening_view opening.entry) waiting.now) (signed_by answer.now) result }
+    ensures { IsWritten (pending_in (settings_view settings.entry) waiting.now) (signed_by answer.now) result }
 {
     let Ok(signature) = answer else {
         return None;
@@ -54,8 +54,8 @@ fn write(
     let prepared = &waiting.prepared;
     let token = match token(
         alloc,
-        opening.identity,
-        opening.algorithm,
+        settings.identity,
+        settings.algorithm,
         &prepared.tst,
         signature,
         prepared.certificate,
@@ -73,17 +73,17 @@ fn write(
 fn finish<B: Book + Drop>(
     store: &mut B,
     alloc: Global,
-    opening: Opening<'_>,
+    settings: Settings<'_>,
     waiting: &Waiting<'_, '_>,
     answer: &Result<Vec<u8>, SignerFault>,
 ) -> Reply
     requires sized { IsSized answer.now }
     ensures honest { B.honest store.new → B.honest store.old }
-    ensures seals { (o : Outcome) × SealsEach B.Standing (pending_in (opening_view opening.entry) waiting.now ∷ [])
+    ensures seals { (o : Outcome) × SealsEach B.Standing (pending_in (settings_view settings.entry) waiting.now ∷ [])
         (signed_by answer.now ∷ []) (o ∷ []) store.old store.new (reply_as result ∷ []) }
 {
     let serial = waiting.prepared.serial;
-    let Some(Written { token, bytes }) = write(alloc, opening, waiting, answer) else {
+    let Some(Written { token, bytes }) = write(alloc, settings, waiting, answer) else {
         return no_answer();
     };
     match store.seal(serial, &token) {
@@ -102,7 +102,7 @@ struct WrittenBatch {
 /// Writes the token of a stamp, where it was signed, and its reply.
 fn put(
     alloc: Global,
-    opening: Opening<'_>,
+    settings: Settings<'_>,
     waiting: &Waiting<'_, '_>,
     answer: &Result<Vec<u8>, SignerFault>,
     batch: &mut WrittenBatch,
@@ -110,7 +110,7 @@ fn put(
     requires sized { IsSized answer.now }
     requires room_for_seal { vec_len batch.old.seals < vec_capacity batch.old.seals }
     requires room_for_reply { vec_len batch.old.replies < vec_capacity batch.old.replies }
-    ensures written { AreWrittenMore (pending_in (opening_view opening.entry) waiting.now) (signed_by answer.now)
+    ensures written { AreWrittenMore (pending_in (settings_view settings.entry) waiting.now) (signed_by answer.now)
         (map seal_view batch.old.seals.items) (map reply_as batch.old.replies.items)
         (map seal_view batch.new.seals.items) (map reply_as batch.new.replies.items) }
     ensures seals { vec_len batch.new.seals ≤ vec_len batch.old.seals + 1 }
@@ -119,7 +119,7 @@ fn put(
     ensures room_for_replies { vec_capacity batch.new.replies ≡ vec_capacity batch.old.replies }
 {
     let serial = waiting.prepared.serial;
-    match write(alloc, opening, waiting, answer) {
+    match write(alloc, settings, waiting, answer) {
         Some(Written { token, bytes }) => {
             batch.seals.push_reserved(Seal { serial, token });
             batch
@@ -133,13 +133,13 @@ fn put(
 /// Writes the tokens of all stamps that were signed, and a reply for each stamp: none where there is no room for them.
 fn write_each(
     alloc: Global,
-    opening: Opening<'_>,
+    settings: Settings<'_>,
     waits: &[Waiting<'_, '_>],
     answers: &[Result<Vec<u8>, SignerFault>],
 ) -> Option<WrittenBatch>
     requires as_many { length answers.now ≡ length waits.now }
     requires sized { AllByRecursion IsSized answers.now }
-    ensures { IfSome result (λ batch. (os : List Outcome) × AreWritten (pendings_in (opening_view opening.entry)
+    ensures { IfSome result (λ batch. (os : List Outcome) × AreWritten (pendings_in (settings_view settings.entry)
         waits.now) (map signed_by answers.now) os (map seal_view batch.seals.items)
         (map reply_as batch.replies.items)) }
 {
@@ -151,7 +151,7 @@ fn write_each(
     };
     let mut batch = WrittenBatch { seals, replies };
     for (index, waiting) in waits.iter().enumerate() {
-        put(alloc, opening, waiting, &answers[index], &mut batch);
+        put(alloc, settings, waiting, &answers[index], &mut batch);
     }
     Some(batch)
 }
@@ -176,7 +176,7 @@ fn entries_of<'w>(alloc: Global, seals: &'w [Seal]) -> Result<Vec<Entry<'w>>, Al
 fn seal_together<B: Book + Drop>(
     store: &mut B,
     alloc: Global,
-    opening: Opening<'_>,
+    settings: Settings<'_>,
     waits: &[Waiting<'_, '_>],
     answers: &[Result<Vec<u8>, SignerFault>],
 ) -> Option<Vec<Reply>>
@@ -184,12 +184,12 @@ fn seal_together<B: Book + Drop>(
     requires sized { AllByRecursion IsSized answers.now }
     ensures honest { B.honest store.new → B.honest store.old }
     ensures sealed { IfSome result (λ replies. (os : List Outcome) × SealsEach B.Standing
-        (pendings_in (opening_view opening.entry) waits.now) (map signed_by answers.now) os store.old store.new
+        (pendings_in (settings_view settings.entry) waits.now) (map signed_by answers.now) os store.old store.new
         (map reply_as replies.items)) }
     ensures refused { IfNone result ((sealing : Call) × IsRefusedTogether B.Standing
-        (pendings_in (opening_view opening.entry) waits.now) (map signed_by answers.now) sealing store.old store.new) }
+        (pendings_in (settings_view settings.entry) waits.now) (map signed_by answers.now) sealing store.old store.new) }
 {
-    let WrittenBatch { seals, replies } = write_each(alloc, opening, waits, answers)?;
+    let WrittenBatch { seals, replies } = write_each(alloc, settings, waits, answers)?;
     if seals.is_empty() {
         return Some(replies);
     }
@@ -206,7 +206,7 @@ fn seal_together<B: Book + Drop>(
 fn finish_each<B: Book + Drop>(
     store: &mut B,
     alloc: Global,
-    opening: Opening<'_>,
+    settings: Settings<'_>,
     waits: &[Waiting<'_, '_>],
     answers: &[Result<Vec<u8>, SignerFault>],
     replies: &mut Vec<Reply>,
@@ -216,11 +216,11 @@ fn finish_each<B: Book + Drop>(
     requires empty { replies.old.items ≡ [] }
     requires room { length waits.now ≤ vec_capacity replies.old }
     ensures honest { B.honest store.new → B.honest store.old }
-    ensures seals { (os : List Outcome) × SealsEach B.Standing (pendings_in (opening_view opening.entry) waits.now)
+    ensures seals { (os : List Outcome) × SealsEach B.Standing (pendings_in (settings_view settings.entry) waits.now)
         (map signed_by answers.now) os store.old store.new (map reply_as replies.new.items) }
 {
     for (index, waiting) in waits.iter().enumerate() {
-        replies.push_reserved(finish(store, alloc, opening, waiting, &answers[index]));
+        replies.push_reserved(finish(store, alloc, settings, waiting, &answers[index]));
     }
 }
 
@@ -228,22 +228,22 @@ fn finish_each<B: Book + Drop>(
 fn complete_singly<B: Book + Drop, X: Signer>(
     store: &mut B,
     alloc: Global,
-    opening: Opening<'_>,
+    settings: Settings<'_>,
     waits: &[Waiting<'_, '_>],
     signer: &mut X,
     replies: &mut Vec<Reply>,
 )
-    requires texts { AllByRecursion (HasText (opening_view opening)) waits.now }
+    requires texts { AllByRecursion (HasText (settings_view settings)) waits.now }
     requires empty { replies.old.items ≡ [] }
     requires room { length waits.now ≤ vec_capacity replies.old }
     ensures honest { B.honest store.new → B.honest store.old }
     ensures completes { (signings : List (Result (List ℕ) SpecFault)) × (os : List Outcome)
-        × CompletesEach B.Standing X.signs X.fault_count (pendings_in (opening_view opening.entry) waits.now) signings
+        × CompletesEach B.Standing X.signs X.fault_count (pendings_in (settings_view settings.entry) waits.now) signings
         os Fine store.old signer.old store.new signer.new (map reply_as replies.new.items) }
 {
     for waiting in waits {
         let answer = signer.sign(&waiting.prepared.text);
-        replies.push_reserved(finish(store, alloc, opening, waiting, &answer));
+        replies.push_reserved(finish(store, alloc, settings, waiting, &answer));
     }
 }
 
@@ -290,25 +290,25 @@ fn sign_all<X: Signer>(
 pub(crate) fn complete_each<B: Book + Drop, X: Signer>(
     store: &mut B,
     alloc: Global,
-    opening: Opening<'_>,
+    settings: Settings<'_>,
     waits: &[Waiting<'_, '_>],
     signer: &mut X,
     replies: &mut Vec<Reply>,
 )
-    requires texts { AllByRecursion (HasText (opening_view opening)) waits.now }
+    requires texts { AllByRecursion (HasText (settings_view settings)) waits.now }
     requires empty { replies.old.items ≡ [] }
     requires room { length waits.now ≤ vec_capacity replies.old }
     ensures honest { B.honest store.new → B.honest store.old }
     ensures completes { (signings : List (Result (List ℕ) SpecFault)) × (os : List Outcome) × (sealing : Call)
-        × CompletesEach B.Standing X.signs X.fault_count (pendings_in (opening_view opening.entry) waits.now) signings
+        × CompletesEach B.Standing X.signs X.fault_count (pendings_in (settings_view settings.entry) waits.now) signings
         os sealing store.old signer.old store.new signer.new (map reply_as replies.new.items) }
 {
     let Some(answers) = sign_all(alloc, waits, signer) else {
-        complete_singly(store, alloc, opening, waits, signer, replies);
+        complete_singly(store, alloc, settings, waits, signer, replies);
         return;
     };
-    match seal_together(store, alloc, opening, waits, &answers) {
+    match seal_together(store, alloc, settings, waits, &answers) {
         Some(sealed) => *replies = sealed,
-        None => finish_each(store, alloc, opening, waits, &answers, replies),
+        None => finish_each(store, alloc, settings, waits, &answers, replies),
     }
 }

@@ -12,7 +12,7 @@ ghost use Rattle.book.specs.Sound.{greatest_number};
 ghost use Rattle.book.specs.Stands.{Stands, OnlyLooks};
 ghost use Rattle.book.specs.Values.{deposit_of};
 ghost use Rattle.desk.specs.Answers.{answered, begun_as, told};
-ghost use Rattle.desk.specs.Calls.{outcome_of, opening_view, plan_of, IsOfBeginning, IsOfReserving, Reserves};
+ghost use Rattle.desk.specs.Calls.{outcome_of, settings_view, plan_of, IsOfBeginning, IsOfReserving, Reserves};
 ghost use Rattle.desk.specs.Command.{Begin, Deposit};
 ghost use Rattle.desk.specs.Depositing.{known_in, IsRejectedLate, IsUnused, KeepsBy, SignsAndKeeps, StepsWhere};
 ghost use Rattle.desk.specs.Fault.{IsOfDeposit};
@@ -24,11 +24,11 @@ ghost use Rattle.desk.specs.Texts.{gives_certificate, octets_for, request_for};
 use crate::fault::Fault;
 use crate::finding::{Found, Planned, judge};
 use crate::obstacle::Obstacle;
-use crate::opening::Opening;
 use crate::pending::Pending;
 use crate::refusal::Refusal;
 use crate::reply::{Begun, Deposited};
 use crate::reserving::reserve_next;
+use crate::settings::Settings;
 use book::{Book, GREATEST_NUMBER, StoreFault};
 use cms::{Signer, token};
 use policy::{Account, Policy};
@@ -105,7 +105,7 @@ fn octets_of(alloc: Global, planned: &Planned<'_, '_>) -> Result<Vec<u8>, Refusa
 fn reserve<'p, B: Book + Drop>(
     store: &mut B,
     alloc: Global,
-    opening: Opening<'p>,
+    settings: Settings<'p>,
     account: &str,
     planned: Planned<'p, '_>,
 ) -> Result<Pending<'p>, Refusal>
@@ -117,7 +117,7 @@ fn reserve<'p, B: Book + Drop>(
     ensures counted { B.fault_count store.new ≡ faults_after (outcome_of result) (B.fault_count store.old) }
     ensures reserves { B.honest store.new → (b : History) → Stands B.Standing b store.old
         → greatest_serial b ≡ planned.entry.last
-        → Reserves B.Standing (opening_view opening.entry) account.now (plan_of planned.entry)
+        → Reserves B.Standing (settings_view settings.entry) account.now (plan_of planned.entry)
         (encoding (time_stamp_req unstated (request_view planned.entry.request))) b store.old store.new result }
     ensures refusals { IfErr result IsOfReserving }
 {
@@ -126,7 +126,7 @@ fn reserve<'p, B: Book + Drop>(
         Ok(octets) => octets,
         Err(refusal) => return Err(refusal),
     };
-    reserve_next(store, alloc, opening, account, planned, &octets)
+    reserve_next(store, alloc, settings, account, planned, &octets)
 }
 
 /// Judges the request as which a deposit is stamped, and reserves the next serial number where no rule fails. The
@@ -134,29 +134,29 @@ fn reserve<'p, B: Book + Drop>(
 fn begin<'p, B: Book + Drop>(
     store: &mut B,
     alloc: Global,
-    opening: Opening<'p>,
+    settings: Settings<'p>,
     account: &Account,
     reading: i64,
     bytes: &[u8],
 ) -> Result<Begun<'p>, Refusal>
     ensures honest { B.honest store.new → B.honest store.old }
-    ensures step { StepsBy B.Standing no_signer (opening_view opening.entry)
+    ensures step { StepsBy B.Standing no_signer (settings_view settings.entry)
         (Begin (Some (account_view account.now)) reading
-        (octets_for (policy_view opening.entry.policy.now) (account_view account.now) bytes.now))
+        (octets_for (policy_view settings.entry.policy.now) (account_view account.now) bytes.now))
         (outcome_of result) store.old store.new (told begun_as result) }
-    ensures spelled { Spells (octets_for (policy_view opening.entry.policy.now) (account_view account.now) bytes.now)
-        (request_for (policy_view opening.entry.policy.now) (account_view account.now) bytes.now) }
+    ensures spelled { Spells (octets_for (policy_view settings.entry.policy.now) (account_view account.now) bytes.now)
+        (request_for (policy_view settings.entry.policy.now) (account_view account.now) bytes.now) }
     ensures late { IfOk result IsRejectedLate }
     ensures refusals { IfErr result IsOfBeginning }
 {
-    let policy = opening.policy;
+    let policy = settings.policy;
     let digest = Sha256::digest(bytes);
     let request = Request::of_sha256(&digest, gives_certificate(policy, account));
     match judge(store, policy, Some(account), reading, request) {
         Err(refusal) => Err(refusal),
         Ok(Found::Fails(rule)) => Ok(Begun::Rejected(Rejection::of(rule))),
         Ok(Found::Allows(planned)) => {
-            match reserve(store, alloc, opening, account.name.as_str(), planned) {
+            match reserve(store, alloc, settings, account.name.as_str(), planned) {
                 Ok(pending) => Ok(Begun::Pending(pending)),
                 Err(refusal) => Err(refusal),
             }
@@ -237,7 +237,7 @@ fn sign_and_seal<B: Book + Drop, X: Signer>(
 fn deposit_new<B: Book + Drop, X: Signer>(
     store: &mut B,
     alloc: Global,
-    opening: Opening<'_>,
+    settings: Settings<'_>,
     account: &Account,
     reading: i64,
     reference: &str,
@@ -248,11 +248,11 @@ fn deposit_new<B: Book + Drop, X: Signer>(
     ensures honest { B.honest store.new → B.honest store.old }
     ensures refusals { IfErr result IsOfDeposit }
     ensures step { (o : Outcome) × StepsWhere B.Standing (with_signer X.signs X.fault_count signer.old signer.new)
-        (opening_view opening.entry) (Deposit (account_view account.now) reading reference.now bytes.now)
+        (settings_view settings.entry) (Deposit (account_view account.now) reading reference.now bytes.now)
         (IsUnused (account_view account.now) reference.now) o store.old store.new (answered deposited_as result) }
 {
     let owner = account.name.as_str();
-    match begin(store, alloc, opening, account, reading, bytes) {
+    match begin(store, alloc, settings, account, reading, bytes) {
         Err(refusal) => Err(Fault::from(refusal)),
         Ok(Begun::Rejected(rejection)) => Err(Fault::Rejected(rejection.rule)),
         Ok(Begun::Pending(pending)) => {
@@ -268,7 +268,7 @@ fn deposit_new<B: Book + Drop, X: Signer>(
 pub(crate) fn deposit_with<B: Book + Drop, X: Signer>(
     store: &mut B,
     alloc: Global,
-    opening: Opening<'_>,
+    settings: Settings<'_>,
     account: &Account,
     reading: i64,
     reference: &str,
@@ -280,7 +280,7 @@ pub(crate) fn deposit_with<B: Book + Drop, X: Signer>(
         → (result ≡ Err Fault.TooLarge) × (store.new ≡ store.old) × (signer.new ≡ signer.old) }
     ensures refusals { IfErr result IsOfDeposit }
     ensures step { IsBareStep B.Standing (with_signer X.signs X.fault_count signer.old signer.new)
-        (opening_view opening.entry)
+        (settings_view settings.entry)
         (Deposit (account_view account.now) reading reference.now bytes.now) store.old store.new
         (answered deposited_as result) }
 {
@@ -295,7 +295,7 @@ pub(crate) fn deposit_with<B: Book + Drop, X: Signer>(
         }),
         Ok(Known::Other) => Err(Fault::Conflict),
         Ok(Known::Nothing) => deposit_new(
-            store, alloc, opening, account, reading, reference, bytes, signer,
+            store, alloc, settings, account, reading, reference, bytes, signer,
         ),
     }
 }

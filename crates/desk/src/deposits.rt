@@ -45,11 +45,11 @@ impl<'p, B: Book + Drop> Desk<'p, B> {
         ensures step { IsStep B.Standing (with_signer G.signs G.fault_count signer.old signer.new) (Deposit (account_view account.now) reading reference.now bytes.now) self.old self.new (answered deposited_as result) }
     {
         steps_keep_their_promises();
-        let opening = self.opening;
+        let settings = self.settings;
         deposit_with(
             &mut self.store,
             self.alloc,
-            opening,
+            settings,
             account,
             reading,
             reference,
@@ -68,8 +68,8 @@ impl<'p, B: Book + Drop> Desk<'p, B> {
             self.old self.new (answered shown_as result) }
     {
         steps_keep_their_promises();
-        let opening = self.opening;
-        match show_to(&mut self.store, opening, account, number) {
+        let settings = self.settings;
+        match show_to(&mut self.store, settings, account, number) {
             Ok(bytes) => Ok(bytes),
             Err(obstacle) => Err(Fault::from(obstacle)),
         }
@@ -84,8 +84,8 @@ impl<'p, B: Book + Drop> Desk<'p, B> {
             self.old self.new (answered shown_as result) }
     {
         steps_keep_their_promises();
-        let opening = self.opening;
-        match token_to(&mut self.store, self.alloc, opening, account, number) {
+        let settings = self.settings;
+        match token_to(&mut self.store, self.alloc, settings, account, number) {
             Ok(reply) => Ok(reply),
             Err(obstacle) => Err(Fault::from(obstacle)),
         }
@@ -99,8 +99,8 @@ impl<'p, B: Book + Drop> Desk<'p, B> {
         ensures step { IsStep B.Standing no_signer (ListAll (account_view account.now)) self.old self.new (answered listed_as result) }
     {
         steps_keep_their_promises();
-        let opening = self.opening;
-        match list_to(&mut self.store, opening, account) {
+        let settings = self.settings;
+        match list_to(&mut self.store, settings, account) {
             Ok(rows) => Ok(rows),
             Err(obstacle) => Err(Fault::from(obstacle)),
         }
@@ -119,9 +119,9 @@ impl<'p, B: Book + Drop> Desk<'p, B> {
             self.old self.new (answered done_as result) }
     {
         steps_keep_their_promises();
-        let opening = self.opening;
+        let settings = self.settings;
         let reader = Reader::Account(name);
-        match grant_by(&mut self.store, opening, account, number, reader) {
+        match grant_by(&mut self.store, settings, account, number, reader) {
             Ok(()) => Ok(()),
             Err(obstacle) => Err(Fault::from(obstacle)),
         }
@@ -136,9 +136,9 @@ impl<'p, B: Book + Drop> Desk<'p, B> {
             self.old self.new (answered done_as result) }
     {
         steps_keep_their_promises();
-        let opening = self.opening;
+        let settings = self.settings;
         let reader = Reader::Account(name);
-        match revoke_by(&mut self.store, opening, account, number, reader) {
+        match revoke_by(&mut self.store, settings, account, number, reader) {
             Ok(()) => Ok(()),
             Err(obstacle) => Err(Fault::from(obstacle)),
         }
@@ -156,9 +156,9 @@ impl<'p, B: Book + Drop> Desk<'p, B> {
             self.old self.new (answered done_as result) }
     {
         steps_keep_their_promises();
-        let opening = self.opening;
+        let settings = self.settings;
         let group = Reader::Group(name);
-        match grant_by(&mut self.store, opening, account, number, group) {
+        match grant_by(&mut self.store, settings, account, number, group) {
             Ok(()) => Ok(()),
             Err(obstacle) => Err(Fault::from(obstacle)),
         }
@@ -174,9 +174,9 @@ impl<'p, B: Book + Drop> Desk<'p, B> {
             self.old self.new (answered done_as result) }
     {
         steps_keep_their_promises();
-        let opening = self.opening;
+        let settings = self.settings;
         let group = Reader::Group(name);
-        match revoke_by(&mut self.store, opening, account, number, group) {
+        match revoke_by(&mut self.store, settings, account, number, group) {
             Ok(()) => Ok(()),
             Err(obstacle) => Err(Fault::from(obstacle)),
         }

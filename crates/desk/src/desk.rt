@@ -9,7 +9,7 @@ ghost use Rattle.decide.specs.View.{account_asked};
 ghost use Rattle.book.specs.History.{History};
 ghost use Rattle.book.specs.Stands.{Stands};
 ghost use Rattle.desk.specs.Answers.{begun_as, reply_as, answered};
-ghost use Rattle.desk.specs.Calls.{setting_of};
+ghost use Rattle.desk.specs.Calls.{settings_view};
 ghost use Rattle.desk.specs.Command.{Begin, Finish, Abandon, Stamp, Stamped, Rejected, Done};
 ghost use Rattle.desk.specs.Findings.{HoldsUnasked};
 ghost use Rattle.desk.specs.Replies.{IsGranted, IsRejected};
@@ -22,12 +22,12 @@ use crate::beginning::begin_with;
 use crate::fault::Fault;
 use crate::finishing::finish_with;
 use crate::laws::steps_keep_their_promises;
-use crate::opening::{Opening, is_proper};
 use crate::pending::Pending;
 use crate::reply::{Begun, Reply};
+use crate::settings::{Settings, is_proper};
 use crate::succeeding::install;
 use book::Book;
-use cms::{Algorithm, Identity, Signer};
+use cms::Signer;
 use policy::{Account, Policy};
 use std::alloc::Global;
 use std::marker::Model;
@@ -38,7 +38,7 @@ use std::marker::Model;
 /// A call that is refused changes nothing, but for a reservation that was committed before the refusal: it stays void.
 #[derive(Drop)]
 pub struct Desk<'p, B: Book + Drop> {
-    pub(crate) opening: Opening<'p>,
+    pub(crate) settings: Settings<'p>,
     pub(crate) store: B,
     pub(crate) alloc: Global,
 }
@@ -51,47 +51,39 @@ impl<'p, B: Book + Drop> Model for Desk<'p, B> {
 
     ghost coded = { desk_code B.code };
 
-    ghost use Rattle.desk.specs.Calls.{opening_view};
+    ghost use Rattle.desk.specs.Calls.{settings_view};
 
-    ghost view = { λ desk. record { setting = opening_view desk.opening; store = desk.store } };
+    ghost view = { λ desk. record { setting = settings_view desk.settings; store = desk.store } };
 
     ghost invariant = { λ desk. Unit {0} };
 }
 
 impl<'p, B: Book + Drop> Desk<'p, B> {
-    /// Opens a desk over a store, by a policy file; its tokens name the identity's certificate and the signer's
-    /// algorithm, and carry the identity's certificates where they are asked for. The identity is installed in the store,
-    /// unless it is the one that was installed last (certificate and chain are equal). The desk keeps the allocator for
-    /// its answers.
+    /// Opens a desk over a store; its tokens name the identity's certificate and the signer's algorithm, and carry the
+    /// identity's certificates where they are asked for. The identity is installed in the store, unless it is the one
+    /// that was installed last (certificate and chain are equal). The desk keeps the allocator for its answers.
     ///
     /// Refused with `Memory` or `Store`, where it is met: nothing is installed then, and the store is handed back. The
     /// setting is proper, as what is promised of sound histories needs it.
     pub fn open(
         alloc: Global,
-        policy: &'p Policy,
-        identity: &'p Identity,
-        algorithm: &'p Algorithm,
+        settings: Settings<'p>,
         mut store: B,
     ) -> Result<Desk<'p, B>, (Fault, B)>
         ensures honest { MatchResult result (λ desk. B.honest desk.store → B.honest store)
             (λ refusal. B.honest refusal.1 → B.honest store) }
-        ensures step { HasOpened B.Standing (setting_of policy.now identity.now algorithm.now) store result }
+        ensures step { HasOpened B.Standing (settings_view settings.entry) store result }
         ensures in_force { IfOk result (λ desk. B.honest desk.store → (b : History) → Stands B.Standing b store
             → StandsInForce B.Standing desk.setting.in_force b desk.store) }
         ensures opened { IfOk result (λ desk. B.honest desk.store → B.is_open store) }
-        ensures proper { IsProper (setting_of policy.now identity.now algorithm.now) }
+        ensures proper { IsProper (settings_view settings.entry) }
         ensures refusals { IfErr result (λ refusal. (refusal.0 ≡ Fault.Memory) ⊎ (refusal.0 ≡ Fault.Store)) }
     {
         steps_keep_their_promises();
-        let opening = Opening {
-            policy,
-            identity,
-            algorithm,
-        };
-        is_proper(opening);
-        match install(&mut store, identity) {
+        is_proper(settings);
+        match install(&mut store, settings.identity) {
             Ok(()) => Ok(Desk {
-                opening,
+                settings,
                 store,
                 alloc,
             }),
@@ -103,7 +95,7 @@ impl<'p, B: Book + Drop> Desk<'p, B> {
     pub fn policy(&self) -> &'p Policy
         ensures { policy_view result.now ≡ self.now.setting.file }
     {
-        self.opening.policy
+        self.settings.policy
     }
 
     /// The store, lent: what it becomes is what the desk's store is from then on. Who installs an identity by it takes
@@ -122,7 +114,7 @@ impl<'p, B: Book + Drop> Desk<'p, B> {
         ensures { result ≡ self.entry.store }
     {
         let Desk {
-            opening: _,
+            settings: _,
             store,
             alloc: _,
         } = self;
@@ -152,11 +144,11 @@ impl<'p, B: Book + Drop> Desk<'p, B> {
         ensures refusals { IfErr result (λ fault. (fault ≡ Fault.Memory) ⊎ (fault ≡ Fault.Store)) }
     {
         steps_keep_their_promises();
-        let opening = self.opening;
+        let settings = self.settings;
         match begin_with(
             &mut self.store,
             self.alloc,
-            opening,
+            settings,
             account,
             reading,
             query,
@@ -221,11 +213,11 @@ impl<'p, B: Book + Drop> Desk<'p, B> {
         ensures step { IsStep B.Standing (with_signer G.signs G.fault_count signer.old signer.new) (Stamp (account_asked account.entry) reading query.now) self.old self.new (reply_as result) }
     {
         steps_keep_their_promises();
-        let opening = self.opening;
+        let settings = self.settings;
         answer_with(
             &mut self.store,
             self.alloc,
-            opening,
+            settings,
             account,
             reading,
             query,

@@ -19,13 +19,13 @@ mod finishing;
 mod laws;
 mod looking;
 mod obstacle;
-mod opening;
 mod pending;
 mod refusal;
 mod reply;
 mod reserving;
 mod rights;
 mod running;
+mod settings;
 mod showing;
 mod succeeding;
 mod waiting;
@@ -46,6 +46,6 @@ pub use laws::{
     texts_are_reserved,
 };
 pub use looking::Looked;
-pub use opening::has_subject;
 pub use pending::Pending;
 pub use reply::{Begun, Deposited, Reply};
+pub use settings::{Settings, has_subject};

@@ -12,14 +12,14 @@ ghost use Rattle.book.specs.Sound.{greatest_number};
 ghost use Rattle.book.specs.Stands.{Stands};
 ghost use Rattle.book.specs.Values.{reservation_view};
 ghost use Rattle.desk.specs.Outcome.{faults_after};
-ghost use Rattle.desk.specs.Calls.{outcome_of, plan_of, opening_view, IsPrepared, IsOfReserving};
+ghost use Rattle.desk.specs.Calls.{outcome_of, plan_of, settings_view, IsPrepared, IsOfReserving};
 ghost use Rattle.desk.specs.Calls.{Reserves};
 ghost use Rattle.desk.specs.Succession.{tsa_of};
 
 use crate::finding::Planned;
-use crate::opening::Opening;
 use crate::pending::Pending;
 use crate::refusal::Refusal;
+use crate::settings::Settings;
 use book::{Book, Entry, GREATEST_NUMBER, Reservation, StoreFault};
 use cms::attribute_text;
 use der::{DataValue, Oid};
@@ -49,12 +49,12 @@ fn micros_of(gen_time: GenTime) -> u64
 }
 
 /// Whom the TSTInfo names: the identity in force, where the policy file wants it (RFC 3161 2.4.2).
-fn name_in_force<'p>(opening: Opening<'p>) -> Option<DataValue<'p>>
-    ensures value { option_map value_view result ≡ tsa_of (opening_view opening.entry) }
+fn name_in_force<'p>(settings: Settings<'p>) -> Option<DataValue<'p>>
+    ensures value { option_map value_view result ≡ tsa_of (settings_view settings.entry) }
     ensures fitting { IfSome (option_map value_view result) IsTsaName }
 {
-    let policy = opening.policy;
-    let identity = opening.identity;
+    let policy = settings.policy;
+    let identity = settings.identity;
     if policy.counter.tsa_name {
         Some(identity.name())
     } else {
@@ -65,14 +65,14 @@ fn name_in_force<'p>(opening: Opening<'p>) -> Option<DataValue<'p>>
 /// Writes the TSTInfo and what is to be signed under the next serial number: all the memory that a reservation takes.
 pub(crate) fn prepare<'p, 'a>(
     alloc: Global,
-    opening: Opening<'p>,
+    settings: Settings<'p>,
     planned: Planned<'p, 'a>,
     query: &'a [u8],
 ) -> Result<Prepared<'p, 'a>, Refusal>
     requires spelled { Spells query.now (request_view planned.request) }
     requires short { length query.now ≤ 65536 }
     requires left { planned.last + 1 ≤ greatest_number }
-    ensures prepared { IfOk result (IsPrepared (opening_view opening.entry) (plan_of planned.entry)
+    ensures prepared { IfOk result (IsPrepared (settings_view settings.entry) (plan_of planned.entry)
         (planned.entry.last + 1)) }
     ensures memory { IfErr result (λ refusal. refusal ≡ Refusal.Growing) }
 {
@@ -88,7 +88,7 @@ pub(crate) fn prepare<'p, 'a>(
     let digest = request.hash();
     let certificate = request.cert_req();
     let micros = micros_of(gen_time);
-    let policy_file = opening.policy;
+    let policy_file = settings.policy;
     let counter = &policy_file.counter;
     let tst_info = request.into_tst_info(
         ObjectIdentifier::of(policy),
@@ -96,13 +96,13 @@ pub(crate) fn prepare<'p, 'a>(
         gen_time,
         counter.accuracy_us,
         counter.ordering,
-        name_in_force(opening),
+        name_in_force(settings),
     );
     let tst = match write_tst(alloc, &tst_info) {
         Ok(tst) => tst,
         Err(_) => return Err(Refusal::Growing),
     };
-    let text = match attribute_text(alloc, opening.identity, &tst) {
+    let text = match attribute_text(alloc, settings.identity, &tst) {
         Ok(text) => text,
         Err(_) => return Err(Refusal::Growing),
     };
@@ -130,7 +130,7 @@ fn add<B: Book + Drop>(store: &mut B, reservation: &Reservation<'_>) -> Result<(
 pub(crate) fn reserve_next<'p, 'a, B: Book + Drop>(
     store: &mut B,
     alloc: Global,
-    opening: Opening<'p>,
+    settings: Settings<'p>,
     account: &str,
     planned: Planned<'p, 'a>,
     query: &'a [u8],
@@ -142,14 +142,14 @@ pub(crate) fn reserve_next<'p, 'a, B: Book + Drop>(
     ensures counted { B.fault_count store.new ≡ faults_after (outcome_of result) (B.fault_count store.old) }
     ensures reserves { B.honest store.new → (b : History) → Stands B.Standing b store.old
         → greatest_serial b ≡ planned.entry.last
-        → Reserves B.Standing (opening_view opening.entry) account.now (plan_of planned.entry) query.now b store.old
+        → Reserves B.Standing (settings_view settings.entry) account.now (plan_of planned.entry) query.now b store.old
         store.new result }
     ensures refusals { IfErr result IsOfReserving }
 {
     if planned.last >= GREATEST_NUMBER {
         return Err(Refusal::Spent);
     }
-    let prepared = prepare(alloc, opening, planned, query)?;
+    let prepared = prepare(alloc, settings, planned, query)?;
     let reservation = Reservation {
         serial: prepared.serial,
         account,
@@ -169,7 +169,7 @@ pub(crate) fn reserve_next<'p, 'a, B: Book + Drop>(
         tst: prepared.tst,
         text: prepared.text,
         certificate: prepared.certificate,
-        identity: opening.identity,
-        algorithm: opening.algorithm,
+        identity: settings.identity,
+        algorithm: settings.algorithm,
     })
 }

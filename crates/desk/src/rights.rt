@@ -4,7 +4,7 @@ ghost use Rattle.policy.specs.View.{account_view, policy_view};
 ghost use Rattle.book.specs.Entries.{reader_view};
 ghost use Rattle.book.specs.History.{History};
 ghost use Rattle.book.specs.Stands.{Stands, OnlyLooks};
-ghost use Rattle.desk.specs.Calls.{opening_view};
+ghost use Rattle.desk.specs.Calls.{settings_view};
 ghost use Rattle.desk.specs.Command.{Grant, Revoke};
 ghost use Rattle.desk.specs.Effects.{has_account, has_group, objection};
 ghost use Rattle.desk.specs.Fault as refused;
@@ -14,7 +14,7 @@ ghost use Rattle.desk.specs.Shown.{done_as};
 ghost use Rattle.desk.specs.Stepped.{StepsBy, no_signer};
 
 use crate::obstacle::Obstacle;
-use crate::opening::Opening;
+use crate::settings::Settings;
 use crate::showing::see;
 use book::{Book, Entry, Reader};
 use policy::{Account, Policy};
@@ -87,18 +87,18 @@ fn may_name<B: Book + Drop>(
 /// Lets a reader see a deposit, from now on.
 pub(crate) fn grant_by<B: Book + Drop>(
     store: &mut B,
-    opening: Opening<'_>,
+    settings: Settings<'_>,
     account: &Account,
     number: u64,
     reader: Reader<'_>,
 ) -> Result<(), Obstacle>
     ensures honest { B.honest store.new → B.honest store.old }
-    ensures step { StepsBy B.Standing no_signer (opening_view opening.entry)
+    ensures step { StepsBy B.Standing no_signer (settings_view settings.entry)
         (Grant (account_view account.now) number (reader_view reader.entry)) (outcome_with result) store.old store.new
         (told_with done_as result) }
     ensures refusals { IfErr result (λ obstacle. refused.IsOfRight (reader_view reader.entry) (fault_with obstacle)) }
 {
-    let policy = opening.policy;
+    let policy = settings.policy;
     match may_name(store, policy, account.name.as_str(), number, reader) {
         Ok(()) => {}
         Err(obstacle) => return Err(obstacle),
@@ -112,18 +112,18 @@ pub(crate) fn grant_by<B: Book + Drop>(
 /// Takes that right away, from now on.
 pub(crate) fn revoke_by<B: Book + Drop>(
     store: &mut B,
-    opening: Opening<'_>,
+    settings: Settings<'_>,
     account: &Account,
     number: u64,
     reader: Reader<'_>,
 ) -> Result<(), Obstacle>
     ensures honest { B.honest store.new → B.honest store.old }
-    ensures step { StepsBy B.Standing no_signer (opening_view opening.entry)
+    ensures step { StepsBy B.Standing no_signer (settings_view settings.entry)
         (Revoke (account_view account.now) number (reader_view reader.entry)) (outcome_with result) store.old store.new
         (told_with done_as result) }
     ensures refusals { IfErr result (λ obstacle. refused.IsOfRight (reader_view reader.entry) (fault_with obstacle)) }
 {
-    let policy = opening.policy;
+    let policy = settings.policy;
     match may_name(store, policy, account.name.as_str(), number, reader) {
         Ok(()) => {}
         Err(obstacle) => return Err(obstacle),

@@ -2,13 +2,12 @@
 ghost use Rattle.std.specs.Prelude.{◌≡◌, List, IfOk, IfErr, OnErr};
 ghost use Rattle.desk.specs.Answers.{answered};
 ghost use Rattle.desk.specs.Asked.{command_view, answer_view, commands_view, answers_view};
-ghost use Rattle.desk.specs.Calls.{opening_view, or_before, succeeded_as};
+ghost use Rattle.desk.specs.Calls.{settings_view, or_before, succeeded_as};
 ghost use Rattle.desk.specs.Obstacles.{told_with};
 ghost use Rattle.desk.specs.Outcome.{Outcome};
 ghost use Rattle.desk.specs.Ran.{AreSteps, IsRun, Obeys};
 ghost use Rattle.desk.specs.Shown.{deposited_as, shown_as, listed_as, done_as, numbered_as};
 ghost use Rattle.desk.specs.Runs.{IsProper};
-ghost use Rattle.desk.specs.Stepped.{desk_of};
 
 use crate::answering::answer_with;
 use crate::commands::{Answer, Command};
@@ -17,9 +16,9 @@ use crate::desk::Desk;
 use crate::entering::{calibrate_by, hold_by};
 use crate::fault::Fault;
 use crate::obstacle::Obstacle;
-use crate::opening::{Opening, is_proper};
 use crate::reply::Deposited;
 use crate::rights::{grant_by, revoke_by};
+use crate::settings::{Settings, is_proper};
 use crate::showing::{list_to, show_to, token_to};
 use crate::succeeding::succeed_by;
 use book::{Book, Listed, Reader};
@@ -74,14 +73,14 @@ fn done(outcome: Result<(), Obstacle>) -> Answer
 
 /// Brings what is in force by a succession: the answer, and with what the desk goes on.
 fn succeeded<'p>(
-    outcome: Result<Opening<'p>, Obstacle>,
-    before: Opening<'p>,
-) -> (Answer, Opening<'p>)
+    outcome: Result<Settings<'p>, Obstacle>,
+    before: Settings<'p>,
+) -> (Answer, Settings<'p>)
     ensures answer { answer_view result.0 ≡ told_with succeeded_as outcome.entry }
     ensures after { result.1 ≡ or_before outcome.entry before.entry }
 {
     match outcome {
-        Ok(opening) => (Answer::Done, opening),
+        Ok(settings) => (Answer::Done, settings),
         Err(obstacle) => (Answer::Refused(Fault::from(obstacle)), before),
     }
 }
@@ -90,13 +89,13 @@ fn succeeded<'p>(
 pub(crate) fn obey<'p, B: Book + Drop, G: Signer>(
     store: &mut B,
     alloc: Global,
-    opening: Opening<'p>,
+    settings: Settings<'p>,
     command: &Command<'_, 'p>,
     signer: &mut G,
-) -> (Answer, Opening<'p>)
+) -> (Answer, Settings<'p>)
     ensures honest { B.honest store.new → B.honest store.old }
-    ensures step { Obeys B.Standing G.signs G.fault_count (opening_view opening.entry) (command_view command.now)
-        store.old signer.old (opening_view result.1) store.new signer.new (answer_view result.0) }
+    ensures step { Obeys B.Standing G.signs G.fault_count (settings_view settings.entry) (command_view command.now)
+        store.old signer.old (settings_view result.1) store.new signer.new (answer_view result.0) }
 {
     match *command {
         Command::Stamp {
@@ -106,9 +105,9 @@ pub(crate) fn obey<'p, B: Book + Drop, G: Signer>(
         } => {
             (
                 Answer::Stamped(answer_with(
-                    store, alloc, opening, account, reading, query, signer,
+                    store, alloc, settings, account, reading, query, signer,
                 )),
-                opening,
+                settings,
             )
         }
         Command::Deposit {
@@ -119,60 +118,60 @@ pub(crate) fn obey<'p, B: Book + Drop, G: Signer>(
         } => {
             (
                 kept(deposit_with(
-                    store, alloc, opening, account, reading, reference, bytes, signer,
+                    store, alloc, settings, account, reading, reference, bytes, signer,
                 )),
-                opening,
+                settings,
             )
         }
         Command::Show { account, number } => (
-            shown(show_to(store, opening, account, number)),
-            opening,
+            shown(show_to(store, settings, account, number)),
+            settings,
         ),
         Command::Token { account, number } => {
             (
-                shown(token_to(store, alloc, opening, account, number)),
-                opening,
+                shown(token_to(store, alloc, settings, account, number)),
+                settings,
             )
         }
-        Command::List { account } => (listed(list_to(store, opening, account)), opening),
+        Command::List { account } => (listed(list_to(store, settings, account)), settings),
         Command::Grant {
             account,
             number,
             reader,
         } => (
-            done(grant_by(store, opening, account, number, Reader::Account(reader))),
-            opening,
+            done(grant_by(store, settings, account, number, Reader::Account(reader))),
+            settings,
         ),
         Command::Revoke {
             account,
             number,
             reader,
         } => (
-            done(revoke_by(store, opening, account, number, Reader::Account(reader))),
-            opening,
+            done(revoke_by(store, settings, account, number, Reader::Account(reader))),
+            settings,
         ),
         Command::GrantGroup {
             account,
             number,
             group,
         } => (
-            done(grant_by(store, opening, account, number, Reader::Group(group))),
-            opening,
+            done(grant_by(store, settings, account, number, Reader::Group(group))),
+            settings,
         ),
         Command::RevokeGroup {
             account,
             number,
             group,
         } => (
-            done(revoke_by(store, opening, account, number, Reader::Group(group))),
-            opening,
+            done(revoke_by(store, settings, account, number, Reader::Group(group))),
+            settings,
         ),
-        Command::Calibrate(calibration) => (numbered(calibrate_by(store, &calibration)), opening),
-        Command::Hold(hold) => (numbered(hold_by(store, &hold)), opening),
+        Command::Calibrate(calibration) => (numbered(calibrate_by(store, &calibration)), settings),
+        Command::Hold(hold) => (numbered(hold_by(store, &hold)), settings),
         Command::Succeed {
             identity,
             algorithm,
-        } => succeeded(succeed_by(store, opening, identity, algorithm), opening),
+        } => succeeded(succeed_by(store, settings, identity, algorithm), settings),
     }
 }
 
@@ -181,21 +180,21 @@ pub(crate) fn obey<'p, B: Book + Drop, G: Signer>(
 pub(crate) fn obey_each<'p, B: Book + Drop, G: Signer>(
     store: &mut B,
     alloc: Global,
-    opening: Opening<'p>,
+    settings: Settings<'p>,
     commands: &[Command<'_, 'p>],
     signer: &mut G,
-) -> Result<(Vec<Answer>, Opening<'p>), Fault>
+) -> Result<(Vec<Answer>, Settings<'p>), Fault>
     ensures memory { IfErr result (λ fault. fault ≡ Fault.Memory) }
     ensures unmoved { OnErr result ((store.new ≡ store.old) × (signer.new ≡ signer.old)) }
     ensures steps { IfOk result (λ done. (os : List Outcome) × AreSteps B.Standing G.signs G.fault_count
-        (opening_view opening.entry) (commands_view commands.now) os (answers_view done.0.items) store.old signer.old
-        (opening_view done.1) store.new signer.new) }
+        (settings_view settings.entry) (commands_view commands.now) os (answers_view done.0.items) store.old signer.old
+        (settings_view done.1) store.new signer.new) }
 {
     let mut answers = match Vec::with_capacity(alloc, commands.len()) {
         Ok(answers) => answers,
         Err(_) => return Err(Fault::Memory),
     };
-    let mut current = opening;
+    let mut current = settings;
     for command in commands {
         let (answer, after) = obey(store, alloc, current, command, signer);
         current = after;
@@ -205,29 +204,6 @@ pub(crate) fn obey_each<'p, B: Book + Drop, G: Signer>(
         }
     }
     Ok((answers, current))
-}
-
-/// A run over a store: the answers, and with what the desk goes on.
-fn run_with<'p, B: Book + Drop, G: Signer>(
-    store: &mut B,
-    alloc: Global,
-    opening: Opening<'p>,
-    commands: &[Command<'_, 'p>],
-    signer: &mut G,
-) -> Result<(Vec<Answer>, Opening<'p>), Fault>
-    ensures honest { B.honest store.new → B.honest store.old }
-    ensures memory { IfErr result (λ fault. fault ≡ Fault.Memory) }
-    ensures unmoved { OnErr result ((store.new ≡ store.old) × (signer.new ≡ signer.old)) }
-    ensures run { IfOk result (λ done. IsRun B.Standing G.signs G.fault_count (commands_view commands.now)
-        (answers_view done.0.items) (desk_of (opening_view opening.entry) store.old) signer.old
-        (desk_of (opening_view done.1) store.new) signer.new) }
-{
-    requests_have_one_reading();
-    is_proper(opening);
-    match obey_each(store, alloc, opening, commands, signer) {
-        Ok(done) => Ok(done),
-        Err(fault) => Err(fault),
-    }
 }
 
 impl<'p, B: Book + Drop> Desk<'p, B> {
@@ -248,17 +224,16 @@ impl<'p, B: Book + Drop> Desk<'p, B> {
         ensures run { IfOk result (λ answers. IsRun B.Standing G.signs G.fault_count (commands_view commands.now)
             (answers_view answers.items) self.old signer.old self.new signer.new) }
     {
-        let opening = self.opening;
-        match run_with(&mut self.store, self.alloc, opening, commands, signer) {
+        requests_have_one_reading();
+        let settings = self.settings;
+        is_proper(settings);
+        match obey_each(&mut self.store, self.alloc, settings, commands, signer) {
             Ok((answers, after)) => {
                 is_proper(after);
-                self.opening = after;
+                self.settings = after;
                 Ok(answers)
             }
-            Err(fault) => {
-                is_proper(opening);
-                Err(fault)
-            }
+            Err(fault) => Err(fault),
         }
     }
 }

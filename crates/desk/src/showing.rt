@@ -6,7 +6,7 @@ ghost use Rattle.book.specs.History.{History};
 ghost use Rattle.book.specs.Rights.{is_visible, listed};
 ghost use Rattle.book.specs.Stands.{Stands, OnlyLooks};
 ghost use Rattle.book.specs.Values.{listed_view};
-ghost use Rattle.desk.specs.Calls.{opening_view};
+ghost use Rattle.desk.specs.Calls.{settings_view};
 ghost use Rattle.desk.specs.Command.{Show, Token, ListAll};
 ghost use Rattle.desk.specs.Fault as sight;
 ghost use Rattle.desk.specs.Obstacles.{fault_with, outcome_with, told_with, IsOfSight, Sees, IsUnseen};
@@ -17,7 +17,7 @@ ghost use Rattle.desk.specs.Viewers.{viewer_in};
 
 use crate::fault::Fault;
 use crate::obstacle::Obstacle;
-use crate::opening::Opening;
+use crate::settings::Settings;
 use book::{Book, Listed, StampedDeposit, StoreFault};
 use policy::{Account, Policy};
 use std::alloc::Global;
@@ -88,16 +88,16 @@ pub(crate) fn see<B: Book + Drop>(
 /// The octets of a deposit that the account sees.
 pub(crate) fn show_to<B: Book + Drop>(
     store: &mut B,
-    opening: Opening<'_>,
+    settings: Settings<'_>,
     account: &Account,
     number: u64,
 ) -> Result<Vec<u8>, Obstacle>
     ensures looks { OnlyLooks B.Standing store.old store.new }
-    ensures step { StepsBy B.Standing no_signer (opening_view opening.entry) (Show (account_view account.now) number)
+    ensures step { StepsBy B.Standing no_signer (settings_view settings.entry) (Show (account_view account.now) number)
         (outcome_with result) store.old store.new (told_with shown_as result) }
     ensures refusals { IfErr result (λ obstacle. sight.IsOfSight (fault_with obstacle)) }
 {
-    let policy = opening.policy;
+    let policy = settings.policy;
     match see(store, policy, account.name.as_str(), number) {
         Ok(found) => Ok(found.deposit.bytes),
         Err(obstacle) => Err(obstacle),
@@ -108,16 +108,16 @@ pub(crate) fn show_to<B: Book + Drop>(
 pub(crate) fn token_to<B: Book + Drop>(
     store: &mut B,
     alloc: Global,
-    opening: Opening<'_>,
+    settings: Settings<'_>,
     account: &Account,
     number: u64,
 ) -> Result<Vec<u8>, Obstacle>
     ensures looks { OnlyLooks B.Standing store.old store.new }
-    ensures step { StepsBy B.Standing no_signer (opening_view opening.entry) (Token (account_view account.now) number)
+    ensures step { StepsBy B.Standing no_signer (settings_view settings.entry) (Token (account_view account.now) number)
         (outcome_with result) store.old store.new (told_with shown_as result) }
     ensures refusals { IfErr result (λ obstacle. sight.IsOfSight (fault_with obstacle)) }
 {
-    let policy = opening.policy;
+    let policy = settings.policy;
     let token = match see(store, policy, account.name.as_str(), number) {
         Ok(found) => {
             let stamp = found.stamp;
@@ -137,16 +137,16 @@ pub(crate) fn token_to<B: Book + Drop>(
 /// All that the account sees, by number.
 pub(crate) fn list_to<B: Book + Drop>(
     store: &mut B,
-    opening: Opening<'_>,
+    settings: Settings<'_>,
     account: &Account,
 ) -> Result<Vec<Listed>, Obstacle>
     ensures looks { OnlyLooks B.Standing store.old store.new }
-    ensures step { StepsBy B.Standing no_signer (opening_view opening.entry) (ListAll (account_view account.now))
+    ensures step { StepsBy B.Standing no_signer (settings_view settings.entry) (ListAll (account_view account.now))
         (outcome_with result) store.old store.new (told_with listed_as result) }
     ensures refusals { IfErr result (λ obstacle. (fault_with obstacle ≡ Fault.Memory)
         ⊎ (fault_with obstacle ≡ Fault.Store)) }
 {
-    let policy = opening.policy;
+    let policy = settings.policy;
     match all_seen(store, policy, account.name.as_str()) {
         Ok(rows) => Ok(rows),
         Err(fault) => Err(Obstacle::Looking(fault)),

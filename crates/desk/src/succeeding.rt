@@ -7,7 +7,7 @@ ghost use Rattle.book.specs.Identities.{identities, latest_identity, installed_a
 ghost use Rattle.book.specs.Stands.{Stands, OnlyLooks};
 ghost use Rattle.book.specs.Values.{identity_view};
 ghost use Rattle.desk.specs.Answers.{answered};
-ghost use Rattle.desk.specs.Calls.{in_force_of, opening_view, succeeded_as};
+ghost use Rattle.desk.specs.Calls.{in_force_of, settings_view, succeeded_as};
 ghost use Rattle.desk.specs.Command.{Setting, Succeed};
 ghost use Rattle.desk.specs.Obstacles.{fault_with, outcome_with, told_with};
 ghost use Rattle.desk.specs.Shown.{done_as};
@@ -18,7 +18,7 @@ use crate::desk::Desk;
 use crate::fault::Fault;
 use crate::laws::steps_keep_their_promises;
 use crate::obstacle::Obstacle;
-use crate::opening::{Opening, has_subject};
+use crate::settings::{Settings, has_subject};
 use book::{Book, IdentityRow, StoreFault};
 use cms::{Algorithm, Identity};
 
@@ -89,26 +89,26 @@ pub(crate) fn install<B: Book + Drop>(store: &mut B, identity: &Identity) -> Res
 /// Brings an identity and an algorithm into force: with what a desk goes on, or why it goes on as before.
 pub(crate) fn succeed_by<'p, B: Book + Drop>(
     store: &mut B,
-    opening: Opening<'p>,
+    settings: Settings<'p>,
     identity: &'p Identity,
     algorithm: &'p Algorithm,
-) -> Result<Opening<'p>, Obstacle>
+) -> Result<Settings<'p>, Obstacle>
     ensures honest { B.honest store.new → B.honest store.old }
     ensures step { (s : Setting) → StepsBy B.Standing no_signer s (Succeed (in_force_of identity.now algorithm.now))
         (outcome_with result) store.old store.new (told_with succeeded_as result) }
     ensures opened { B.honest store.new → OnOk result (B.is_open store.old) }
     ensures in_force { B.honest store.new → (b : History) → Stands B.Standing b store.old
         → OnOk result (StandsInForce B.Standing (in_force_of identity.now algorithm.now) b store.new) }
-    ensures brought { IfOk result (λ after. opening_view after
-        ≡ record (opening_view opening.entry) { in_force = in_force_of identity.now algorithm.now }) }
+    ensures brought { IfOk result (λ after. settings_view after
+        ≡ record (settings_view settings.entry) { in_force = in_force_of identity.now algorithm.now }) }
     ensures refusals { IfErr result (λ obstacle. (fault_with obstacle ≡ Fault.Memory)
         ⊎ (fault_with obstacle ≡ Fault.Store)) }
 {
     match install(store, identity) {
-        Ok(()) => Ok(Opening {
+        Ok(()) => Ok(Settings {
             identity,
             algorithm,
-            ..opening
+            ..settings
         }),
         Err(obstacle) => Err(obstacle),
     }
@@ -131,10 +131,10 @@ impl<'p, B: Book + Drop> Desk<'p, B> {
     {
         steps_keep_their_promises();
         has_subject(identity);
-        let opening = self.opening;
-        match succeed_by(&mut self.store, opening, identity, algorithm) {
-            Ok(opening) => {
-                self.opening = opening;
+        let settings = self.settings;
+        match succeed_by(&mut self.store, settings, identity, algorithm) {
+            Ok(settings) => {
+                self.settings = settings;
                 Ok(())
             }
             Err(obstacle) => Err(Fault::from(obstacle)),

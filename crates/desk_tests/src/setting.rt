@@ -3,7 +3,7 @@
 //! Calls without clauses: a test's proof needn't read the contracts of what it calls.
 use super::octets::{ALGORITHM, CERTIFICATE};
 use cms::{Algorithm, Identity, KeyedHash};
-use desk::Desk;
+use desk::{Desk, Settings};
 use memory_book::MemoryBook;
 use policy::{EXAMPLE, Policy};
 use std::alloc::Global;
@@ -44,12 +44,12 @@ pub fn desk_of(
     setting: &Setting,
     book: MemoryBook,
 ) -> Result<Desk<'_, MemoryBook>, Fail> {
-    let Setting {
-        policy,
-        identity,
-        algorithm,
-    } = setting;
-    match Desk::open(alloc, policy, identity, algorithm, book) {
+    let settings = Settings {
+        policy: &setting.policy,
+        identity: &setting.identity,
+        algorithm: &setting.algorithm,
+    };
+    match Desk::open(alloc, settings, book) {
         Ok(desk) => Ok(desk),
         Err((fault, _)) => Err(Fail::from(fault)),
     }

@@ -3,17 +3,11 @@ use Rattle.std.specs.Prelude.{◌≡◌, ◌⊎◌, ℕ, List, Ok, Err}
 use Rattle.book.specs.declared.standing.Standing.{Ghosts}
 use Rattle.book.specs.History.{History}
 use Rattle.book.specs.Stands.{Stands}
-use Rattle.desk.specs.Calls.{setting_of as by_parts}
 use Rattle.desk.specs.declared.fault.Fault.{Fault}
 use Rattle.desk.specs.Command.{Setting}
 use Rattle.desk.specs.Stepped.{DeskValue, HasOpened, StandsInForce}
 use Rattle.operations.specs.declared.fault.OperationFault.{OperationFault}
 use Rattle.operations.specs.declared.fault.OperationFault.TheVariants as operation
-use Rattle.operations.specs.declared.terms.Terms.{Terms}
-
--- by what a desk is opened
-abbrev pub setting_of : Terms → Setting
-setting_of terms = by_parts terms.policy.now terms.identity.now terms.algorithm.now
 
 -- input, output, desk and signer before something is done, and after it
 pub record Visit (I O B X : Type 0) : Type 0 where

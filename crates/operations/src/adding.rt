@@ -7,6 +7,7 @@ ghost use Rattle.store.specs.Opening.{image_at};
 ghost use Rattle.operations.specs.Addition.{IsAdded, IsAdditionFault, IsBefore, entry_of, number_of};
 ghost use Rattle.operations.specs.OverFiles.{IsAddedOver};
 
+use crate::database::Database;
 use crate::opening::perform_at;
 use crate::operation::Operation;
 use book::{Book, Calibration, Hold, StoreFault};
@@ -63,14 +64,13 @@ impl Operation<(), ()> for Addition {
     }
 }
 
-/// Adds it to the history that the database at the path keeps, in one commit. Refused with `Memory`, with `Database`
+/// Adds it to the history that the database keeps, in one commit. Refused with `Memory`, with `Database`
 /// where no file stands there or the database fails, with `NotOurs` where it isn't a database of the counter's, and as
 /// `Addition::add_to`. A refused call makes no file, and changes no table, but where the database failed in the commit
 /// itself: the next opening may find the addition then. The answer is its number.
 pub fn add<F: Start + Drop>(
     rt: &HostRuntime,
-    path: &str,
-    start: F,
+    database: Database<'_, F>,
     addition: &Addition,
 ) -> Result<u64, StoreFault>
     // Whatever the files hold: it is added to the store that was opened over them.
@@ -80,8 +80,5 @@ pub fn add<F: Start + Drop>(
     ensures refusals { IfErr result (λ e. (e ≡ StoreFault.Memory)
         ⊎ ((e ≡ StoreFault.Database) ⊎ ((e ≡ StoreFault.NotOurs) ⊎ (e ≡ StoreFault.Backwards)))) }
 {
-    match perform_at(rt, path, start, *addition, &mut (), &mut ()) {
-        Ok(done) => done,
-        Err(fault) => Err(fault),
-    }
+    perform_at(rt, database, *addition, &mut (), &mut ())?
 }

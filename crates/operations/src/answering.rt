@@ -3,6 +3,7 @@ ghost use Rattle.std.specs.Prelude.{IfOk, IfErr};
 ghost use Rattle.policy.specs.View.{policy_view};
 ghost use Rattle.decide.specs.View.{account_asked};
 ghost use Rattle.desk.specs.Answers.{reply_as};
+ghost use Rattle.desk.specs.Calls.{settings_view};
 ghost use Rattle.desk.specs.Command.{Stamp};
 ghost use Rattle.desk.specs.Stepped.{IsStep, with_signer};
 ghost use Rattle.store.specs.Opening.{image_at};
@@ -10,16 +11,15 @@ ghost use Rattle.operations.specs.Judged.{IsJudgedReply};
 ghost use Rattle.operations.specs.Opening.{IsStartingFault};
 ghost use Rattle.operations.specs.Signing.{algorithm_of};
 ghost use Rattle.operations.specs.OverFiles.{IsAnsweredOver};
-ghost use Rattle.operations.specs.Visits.{setting_of};
 
 use crate::database_desk::DatabaseDesk;
 use crate::desk_operation::{DeskOperation, perform_at_desk};
 use crate::fault::OperationFault;
 use crate::reached::HostSigner;
-use crate::signing::Renewal;
+use crate::signed_desk::SignedDesk;
 use book::Book;
 use cms::Signer;
-use desk::{Desk, Reply};
+use desk::Reply;
 use policy::Account;
 use sqlite::{FileFrom, Start};
 use sqlite_disk::Disk;
@@ -56,17 +56,16 @@ impl DeskOperation<(), ()> for Question<'_> {
     fn perform<B: Book + Drop, G: Signer>(
         self,
         _means: (),
-        _rt: &HostRuntime,
-        desk: &mut Desk<'_, B>,
-        signer: &mut G,
+        signed: &mut SignedDesk<'_, B, G>,
         _input: &mut (),
         _output: &mut (),
     ) -> Reply {
-        answer_with(desk, signer, &self)
+        let SignedDesk { desk, signer } = signed;
+        desk.answer(self.account, self.reading, self.query, signer)
     }
 }
 
-/// Answers the request as `Desk::answer` does, over the history that the database at the path keeps. Refused with
+/// Answers the request as `Desk::answer` does, over the history that the database keeps. Refused with
 /// `Memory`, with `Database` where no file stands there, and with `NotOurs` where it isn't a database of the counter's;
 /// then with `Unreached` where the key holder can't be reached. After that there is a reply.
 pub fn answer<F: Start + Drop>(
@@ -75,30 +74,15 @@ pub fn answer<F: Start + Drop>(
     question: &Question<'_>,
 ) -> Result<Reply, OperationFault>
     // A request that fails a rule of 1 to 9 is rejected by the first of them, whatever the database holds.
-    ensures judged { IfOk result (λ reply. IsJudgedReply (policy_view desk.entry.terms.policy.now)
+    ensures judged { IfOk result (λ reply. IsJudgedReply (policy_view desk.entry.settings.policy.now)
         (account_asked question.now.account) question.now.query.now (reply_as reply)) }
 
     // Whatever the files hold: it is the answer of the machine's step, at a desk over the store that was opened over
     // them.
     ensures stepped { IfOk result (λ reply. IsAnsweredOver ⟦<FileFrom<F> as Disk>⟧ (image_at F.Start)
-        ⟦<HostSigner<'static> as Signer>⟧ (setting_of desk.entry.terms) (algorithm_of desk.entry.signing)
+        ⟦<HostSigner<'static> as Signer>⟧ (settings_view desk.entry.settings) (algorithm_of desk.entry.signing)
         (account_asked question.now.account) question.now.reading question.now.query.now (reply_as reply)) }
     ensures refusals { IfErr result IsStartingFault }
 {
-    perform_at_desk(rt, desk, Renewal::Never, *question, &mut (), &mut ())
-}
-
-/// Answers the request by a desk and a signer.
-fn answer_with<B: Book + Drop, G: Signer>(
-    desk: &mut Desk<'_, B>,
-    signer: &mut G,
-    question: &Question<'_>,
-) -> Reply
-    ensures judged { IsJudgedReply desk.old.setting.file (account_asked question.now.account) question.now.query.now
-        (reply_as result) }
-    ensures step { IsStep B.Standing (with_signer G.signs G.fault_count signer.old signer.new)
-        (Stamp (account_asked question.now.account) question.now.reading question.now.query.now) desk.old desk.new
-        (reply_as result) }
-{
-    desk.answer(question.account, question.reading, question.query, signer)
+    perform_at_desk(rt, desk, *question, &mut (), &mut ())
 }

@@ -13,6 +13,7 @@ ghost use Rattle.operations.specs.Auditing.{IsAudited, IsAuditOf, Leaves, TellsF
 ghost use Rattle.operations.specs.Auditing.{failing_line};
 ghost use Rattle.operations.specs.OverFiles.{IsAuditedOver};
 
+use crate::database::Database;
 use crate::opening::perform_at;
 use crate::operation::Operation;
 use audit::{ExtractFault, check_row, extract, write_octets};
@@ -85,14 +86,13 @@ impl<O: Write, E: Write> Operation<O, E> for Inquiry<'_> {
     }
 }
 
-/// Writes the extract of the stamps that the database at the path keeps, as `audit::extract` does, and then, where that
+/// Writes the extract of the stamps that the database keeps, as `audit::extract` does, and then, where that
 /// is asked, checks each stamp as `check_stamps` does: whether all agree. Refused with `Store` where the database can't
 /// be opened, and with `Extract` as `audit::extract`; nothing is checked then. Where the check is refused it is
 /// `Extract` for want of memory, and else `Store`; the whole extract is written then.
 pub fn audit<F: Start + Drop, O: Write, E: Write>(
     rt: &HostRuntime,
-    path: &str,
-    start: F,
+    database: Database<'_, F>,
     inquiry: &Inquiry<'_>,
     output: &mut O,
     errors: &mut E,
@@ -110,10 +110,7 @@ pub fn audit<F: Start + Drop, O: Write, E: Write>(
     ensures refused { IfErr result (Leaves inquiry.now (O.contents output.old) (O.contents output.new)
         (E.contents errors.old) (E.contents errors.new)) }
 {
-    match perform_at(rt, path, start, *inquiry, output, errors) {
-        Ok(done) => done,
-        Err(fault) => Err(AuditFault::Store(fault)),
-    }
+    perform_at(rt, database, *inquiry, output, errors)?
 }
 
 /// Writes the extract of a book, and then checks its stamps where that is asked.
@@ -176,10 +173,9 @@ fn write_extract<B: Book + Drop, O: Write>(
         inquiry.to,
         output,
     )?;
-    match output.flush() {
-        Ok(()) => Ok(()),
-        Err(_) => Err(AuditFault::Extract(ExtractFault::Write)),
-    }
+    output
+        .flush()
+        .or(Err(AuditFault::Extract(ExtractFault::Write)))
 }
 
 /// Checks each stamp of the range from its octets, and writes a line `row N fails` for each whose octets don't say what
@@ -204,23 +200,32 @@ pub fn check_stamps<B: Book + Drop, E: Write>(
     ensures refusals { IfErr result (λ e. (e ≡ ExtractFault.Memory) ⊎ (e ≡ ExtractFault.Store)) }
 {
     match book.identities() {
-        Ok(identities) => check_against(alloc, book, identities.as_slice(), from, to, errors),
+        Ok(identities) => {
+            let range = SerialRange { from, to };
+            check_against(alloc, book, identities.as_slice(), range, errors)
+        }
         Err(fault) => Err(ExtractFault::from(fault)),
     }
 }
 
-/// Checks the stamps against the identities that were installed, which are given by number.
+/// Serial numbers from the first to the last.
+#[derive(Clone, Copy)]
+struct SerialRange {
+    from: u64,
+    to: u64,
+}
+
+/// Checks the stamps of a range against the identities that were installed, which are given by number.
 fn check_against<B: Book + Drop, E: Write>(
     alloc: Global,
     book: &mut B,
     identities: &[IdentityRow],
-    from: u64,
-    to: u64,
+    range: SerialRange,
     errors: &mut E,
 ) -> Result<bool, ExtractFault>
     ensures looks { OnlyLooks B.Standing book.old book.new }
     ensures checked { B.honest book.new → (b : History) → Stands B.Standing b book.old
-        → IfOk result (Checks (map identity_view identities.now) (stamps_between from to b) (E.contents errors.old)
+        → IfOk result (Checks (map identity_view identities.now) (stamps_between range.from range.to b) (E.contents errors.old)
         (E.contents errors.new)) }
     ensures agreed { IfOk result (λ agree. agree ≡ true → E.contents errors.new ≡ E.contents errors.old) }
     ensures failed { IfOk result (λ agree. agree ≡ false
@@ -229,7 +234,7 @@ fn check_against<B: Book + Drop, E: Write>(
     ensures refusals { IfErr result (λ e. (e ≡ ExtractFault.Memory) ⊎ (e ≡ ExtractFault.Store)) }
 {
     let mut agree = true;
-    let mut walk = StampsBetween::of(book, from, to);
+    let mut walk = StampsBetween::of(book, range.from, range.to);
     while let Some(stamp) = walk.next()? {
         if !check_row(&stamp, identities)? {
             agree = false;

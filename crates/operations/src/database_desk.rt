@@ -1,16 +1,17 @@
 //! Over which database, by what and with whose signatures a desk is opened.
-use crate::signing::Signing;
-use crate::terms::Terms;
+use crate::database::Database;
+use crate::signing::{Renewal, Signing};
+use desk::Settings;
 
-/// The desk over the database at a path, before that is opened.
+/// The desk over a database, before that is opened.
 #[derive(Drop)]
 pub struct DatabaseDesk<'a, F> {
-    /// Where the database lies.
-    pub path: &'a str,
-    /// What is supposed of its files.
-    pub start: F,
+    /// The database.
+    pub database: Database<'a, F>,
     /// By what requests are judged and answered.
-    pub terms: Terms<'a>,
+    pub settings: Settings<'a>,
     /// Who signs.
     pub signing: Signing<'a>,
+    /// Whether another session with the key holder is opened where one was lost.
+    pub renewal: Renewal,
 }

@@ -7,18 +7,20 @@ ghost use Rattle.store.specs.Stands.{over_tables};
 ghost use Rattle.operations.specs.Opening.{IsOpeningFault};
 ghost use Rattle.operations.specs.OverFiles.{IsDoneOver, IsLeft, IsMigratedOver};
 
+use crate::database::Database;
 use crate::operation::Operation;
 use book::Book;
 use sqlite::{Alter, FileFrom, FileStore, Start};
 use sqlite_disk::Disk;
 use store::{Store, StoreFault};
 
-/// Makes the tables in a new database at the path, where no file stands, an empty one, or a database without tables.
+/// Makes the tables in a new database, where no file stands, an empty one, or a database without tables.
 /// Refused with `Memory`, with `Database` where the file can't be made, read or written, and with `NotOurs` where
 /// something else stands there, a database of the counter's too: that is left as it is.
-pub fn init<F: Start + Drop>(rt: &HostRuntime, path: &str, start: F) -> Result<(), StoreFault>
+pub fn init<F: Start + Drop>(rt: &HostRuntime, database: Database<'_, F>) -> Result<(), StoreFault>
     ensures { IfErr result IsOpeningFault }
 {
+    let Database { path, start } = database;
     match Store::make(rt, path, start) {
         Ok(store) => {
             close(store);
@@ -28,16 +30,20 @@ pub fn init<F: Start + Drop>(rt: &HostRuntime, path: &str, start: F) -> Result<(
     }
 }
 
-/// Takes the database at the path, which an earlier version of the counter may have made, to the schema of now, in one
-/// commit: each row is kept. Refused as `perform_at` is; what stands there is left as it is then.
-pub fn migrate<F: Start + Drop>(rt: &HostRuntime, path: &str, start: F) -> Result<(), StoreFault>
+/// Takes the database, which an earlier version of the counter may have made, to the schema of now, in one commit: each
+/// row is kept. Refused as `perform_at` is; what stands there is left as it is then.
+pub fn migrate<F: Start + Drop>(
+    rt: &HostRuntime,
+    database: Database<'_, F>,
+) -> Result<(), StoreFault>
     ensures migrated { IfOk result (λ _. IsMigratedOver ⟦<FileFrom<F> as Disk>⟧ (image_at F.Start)) }
     ensures refusals { IfErr result IsOpeningFault }
 {
+    let Database { path, start } = database;
     Store::migrate_at(rt, path, start)
 }
 
-/// Does it to the history that the database at the path keeps. Refused with `Memory`, with `Database` where no file
+/// Does it to the history that the database keeps. Refused with `Memory`, with `Database` where no file
 /// stands there or it can't be read or written, and with `NotOurs` where it isn't a database of the counter's: that is
 /// left as it is. Nothing is done then.
 ///
@@ -45,8 +51,7 @@ pub fn migrate<F: Start + Drop>(rt: &HostRuntime, path: &str, start: F) -> Resul
 /// names a store over the machine's files is dear to prove.
 pub(crate) fn perform_at<F: Start + Drop, I, O, T: Operation<I, O>>(
     rt: &HostRuntime,
-    path: &str,
-    start: F,
+    database: Database<'_, F>,
     operation: T,
     input: &mut I,
     output: &mut O,
@@ -60,6 +65,7 @@ pub(crate) fn perform_at<F: Start + Drop, I, O, T: Operation<I, O>>(
     ensures unwritten { OnErr result (output.new ≡ output.old) }
     ensures refusals { IfErr result IsOpeningFault }
 {
+    let Database { path, start } = database;
     match Store::open(rt, path, start) {
         Ok(store) => Ok(perform_and_close(rt, store, operation, input, output)),
         Err(fault) => Err(fault),

@@ -80,10 +80,8 @@ fn reach_once<'a>(
     ensures algorithm { IfOk result (λ signer. signer.algorithm ≡ algorithm) }
     ensures refusals { IfErr result IsUnreached }
 {
-    match connect_signer(rt, address, Duration::from_secs(SIGNER_SECONDS), algorithm) {
-        Ok(signer) => Ok(signer),
-        Err(_) => Err(OperationFault::Unreached),
-    }
+    let limit = Duration::from_secs(SIGNER_SECONDS);
+    connect_signer(rt, address, limit, algorithm).or(Err(OperationFault::Unreached))
 }
 
 /// Sessions with the key holder, of which standard error tells. `Unreached` where there is none.
@@ -96,8 +94,5 @@ fn reach_again<'a>(
     ensures refusals { IfErr result IsUnreached }
 {
     let limit = Duration::from_secs(SIGNER_SECONDS);
-    match connect_renewed(rt, address, limit, algorithm, rt.stderr()) {
-        Ok(signer) => Ok(signer),
-        Err(_) => Err(OperationFault::Unreached),
-    }
+    connect_renewed(rt, address, limit, algorithm, rt.stderr()).or(Err(OperationFault::Unreached))
 }

@@ -4,7 +4,7 @@ use crate::entries::entries_of;
 use crate::kept::{Connected, Opened, Place};
 use crate::setting::Setting;
 use book::Entry;
-use desk::{Desk, Fault};
+use desk::{Desk, Fault, Settings};
 use sqlite::{Alter, Connection, Error};
 use std::alloc::Global;
 use store::Book;
@@ -15,13 +15,12 @@ fn desk_over<B: Book + Drop>(
     setting: &Setting,
     store: B,
 ) -> Result<Desk<'_, B>, (Fault, B)> {
-    Desk::open(
-        alloc,
-        &setting.policy,
-        &setting.identity,
-        &setting.algorithm,
-        store,
-    )
+    let settings = Settings {
+        policy: &setting.policy,
+        identity: &setting.identity,
+        algorithm: &setting.algorithm,
+    };
+    Desk::open(alloc, settings, store)
 }
 
 /// Connects to an empty database in memory.

@@ -1,6 +1,6 @@
 //! By what requests are answered.
 use cms::{Algorithm, Identity};
-use desk::Desk;
+use desk::{Desk, Settings};
 use policy::{EXAMPLE, Policy};
 use std::alloc::Global;
 use store::Book;
@@ -68,6 +68,15 @@ impl Setting {
             &self.identity
         }
     }
+
+    /// By what a desk answers, before the succession or after it.
+    pub fn settings_after(&self, is_succeeded: bool) -> Settings<'_> {
+        Settings {
+            policy: &self.policy,
+            identity: self.identity_after(is_succeeded),
+            algorithm: &self.algorithm,
+        }
+    }
 }
 
 /// The example of a policy file, with quotas that aren't used up, an auditor who is an operator too, and a group.
@@ -88,13 +97,7 @@ pub fn open_desk<B: Book + Drop>(
     setting: &Setting,
     book: B,
 ) -> anyhow::Result<Desk<'_, B>> {
-    match Desk::open(
-        alloc,
-        &setting.policy,
-        &setting.identity,
-        &setting.algorithm,
-        book,
-    ) {
+    match Desk::open(alloc, setting.settings_after(false), book) {
         Ok(desk) => Ok(desk),
         Err((fault, _book)) => Err(fault.into()),
     }

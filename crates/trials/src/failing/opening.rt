@@ -253,15 +253,8 @@ fn open<'s, B: Book + Drop>(
     ledger: &Ledger,
     book: B,
 ) -> Result<Desk<'s, B>, (Fault, B)> {
-    let setting = course.setting;
-    let identity = setting.identity_after(ledger.is_succeeded);
-    Desk::open(
-        course.alloc,
-        &setting.policy,
-        identity,
-        &setting.algorithm,
-        book,
-    )
+    let settings = course.setting.settings_after(ledger.is_succeeded);
+    Desk::open(course.alloc, settings, book)
 }
 
 /// A course over files, and how far it came.

@@ -1,9 +1,33 @@
+use Rattle.std.proofs.Common.{◌≡◌, ◌<◌, ◌^◌, ap, refl, rules, w64}
+use Rattle.std.proofs.lemmas.Int.{to_z_pos}
 use Rattle.std.proofs.lemmas.Option.{IfSome_then}
 use Rattle.std.proofs.lemmas.Result.{IfOk-weaker}
+use Rattle.der.specs.Node.{encoding}
+use Rattle.desk.specs.Answers.{reply_as}
 use Rattle.desk.specs.Calls.{setting_of}
+use Rattle.desk.specs.Command as answer
 use Rattle.desk.specs.Command.{Setting}
+use Rattle.desk.specs.declared.reply.Reply.{Reply}
+use Rattle.desk.specs.declared.reply.Reply.TheVariants.{Granted, Rejected}
+use Rattle.tsp.specs.Rejection.{rejection}
+use Rattle.tsp.specs.declared.rule.Rule.{Rule}
 use Rattle.counter.specs.Desks.{IsSettingOf}
+use Rattle.counter.specs.Fault.{fault_of_operation}
+use Rattle.counter.specs.Replies.{IsReplyOf, octets_of}
+use Rattle.counter.proofs.Operating.{both, told}
 use Rattle.counter.proofs.answer.answer.Goals as goal
+
+rejected_octets : (reply : Reply) (rule : Rule) → reply_as reply ≡ answer.Rejected rule
+    → octets_of reply ≡ encoding (rejection rule)
+rejected_octets (Granted serial bytes) rule is = cc
+rejected_octets (Rejected rejected) rule is =
+    let same : rejected.rule ≡ rule = cc in
+    ap (λ r. encoding (rejection r)) same
+
+-- the octets are those of the machine's reply
+reply_octets : (reply : Reply) → IsReplyOf (reply_as reply) (octets_of reply)
+reply_octets (Granted serial bytes) = refl
+reply_octets (Rejected rejected) = refl
 
 pub returns : goal.returns
 returns g c =
@@ -19,17 +43,27 @@ returns g c =
       signs = c.in_ok-policy.ensures.signs;
       algorithm = c.in_ok-policy.ensures.algorithm;
     } in
-    IfOk-weaker c.answer_at.result _ _
-    (λ reply known. IfSome_then (g.I.Read.remaining c.args.input.now) known
-    (λ text it. record {
+    let small : c.args.words.now.reading < 2 ^ 63 = search rules in
+    let judged = rw (c.in_ok-account.ensures.found, c.as_slice.ensures.value) at c.answer.ensures.judged in
+    let stepped = rw (
+      c.in_ok-account.ensures.found,
+      c.as_slice.ensures.value,
+      to_z_pos w64 c.args.words.now.reading small,
+    ) at c.answer.ensures.stepped
+    in
+    let known = told fault_of_operation c.answer.result c.answer_of.result _ c.answer_of.ensures
+    (both c.answer.result _ _ judged stepped) in
+    IfOk-weaker c.answer_of.result _ _
+    (λ reply it. IfSome_then (g.I.Read.remaining c.args.input.now) c.in_ok-query.ensures.found
+    (λ text spelled. record {
       setting = setting;
       set = set;
-      known = it.known;
-      query = it.query;
-      spelled = it.spelled;
-      judged = it.judged;
-      answer = it.answer;
-      says = it.says;
-      stepped = it.stepped;
+      known = c.in_ok-account.ensures.known;
+      query = c.in_ok-query.query.items;
+      spelled = spelled;
+      judged = λ rule first. rejected_octets reply rule (it.0 rule first);
+      answer = reply_as reply;
+      says = reply_octets reply;
+      stepped = it.1;
     }))
-    c.answer_at.ensures
+    known

@@ -1,7 +1,7 @@
 use Rattle.std.proofs.Common.{◌∙◌, [], Ok, refl, ap, sym, subst, SFits, w64, to_z-of_z, rules}
 use Rattle.decide.specs.View.{account_asked}
 use Rattle.desk.specs.Answers.{begun_as, reply_as}
-use Rattle.desk.specs.Calls.{opening_view, refused, cause_with}
+use Rattle.desk.specs.Calls.{settings_view, refused, cause_with}
 use Rattle.desk.specs.Command.{Begin, Stamp, Answer, Refused}
 use Rattle.desk.specs.Effects.{fault_of}
 use Rattle.desk.specs.Outcome.{all_fine}
@@ -15,7 +15,7 @@ use Rattle.desk.proofs.answering.answer_with.Goals as goal
 pub returns-in-Ok-Pending-clause-step : goal.returns-in-Ok-Pending-clause-step
 returns-in-Ok-Pending-clause-step g c =
     let reading : SFits w64 c.args.reading = search rules in
-    let s = opening_view c.args.opening in
+    let s = settings_view c.args.settings in
     let account = account_asked c.args.account in
     let begin = subst (λ (f : Begun). StepsBy g.B.Standing no_signer s (Begin account c.args.reading c.args.query.now)
     (all_fine (Ok [])) c.args.store.now c.begin_with.new.store (begun_as f)) c.in-Ok-Pending.field-0-is
@@ -34,7 +34,7 @@ returns-in-Ok-Pending-clause-step g c =
 pub returns-in-Ok-Rejected-clause-step : goal.returns-in-Ok-Rejected-clause-step
 returns-in-Ok-Rejected-clause-step g c =
     let reading : SFits w64 c.args.reading = search rules in
-    let s = opening_view c.args.opening in
+    let s = settings_view c.args.settings in
     let account = account_asked c.args.account in
     let begin = subst (λ (f : Begun). StepsBy g.B.Standing no_signer s (Begin account c.args.reading c.args.query.now)
     (all_fine (Ok [])) c.args.store.now c.begin_with.new.store (begun_as f)) c.in-Ok-Rejected.field-0-is
@@ -50,7 +50,7 @@ returns-in-Ok-Rejected-clause-step g c =
 pub returns-in-Err-clause-step : goal.returns-in-Err-clause-step
 returns-in-Err-clause-step g c =
     let reading : SFits w64 c.args.reading = search rules in
-    let s = opening_view c.args.opening in
+    let s = settings_view c.args.settings in
     let account = account_asked c.args.account in
     let o = refused c.in-Err.field-0 in
     let begin = subst (λ x. StepsBy g.B.Standing no_signer s (Begin account x c.args.query.now) o c.args.store.now

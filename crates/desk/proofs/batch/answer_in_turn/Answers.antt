@@ -4,7 +4,7 @@ use Rattle.std.proofs.lemmas.List.{take_all}
 use Rattle.decide.specs.View.{account_asked}
 use Rattle.desk.specs.Answers.{reply_as}
 use Rattle.desk.specs.Batches.{stamp_for}
-use Rattle.desk.specs.Calls.{opening_view}
+use Rattle.desk.specs.Calls.{settings_view}
 use Rattle.desk.specs.Command.{Stamp}
 use Rattle.desk.specs.Ran.{AreSteps}
 use Rattle.desk.specs.Stepped.{IsBareStep, with_signer}
@@ -19,8 +19,8 @@ loop-question-init g c = record {
   room = c.requires.room;
   steps = (
     [],
-    subst (λ told. AreSteps g.B.Standing g.G.Signer.signs g.G.Signer.fault_count (opening_view c.args.opening) [] []
-        (map reply_as told) c.args.store.now c.args.signer.now (opening_view c.args.opening) c.args.store.now
+    subst (λ told. AreSteps g.B.Standing g.G.Signer.signs g.G.Signer.fault_count (settings_view c.args.settings) [] []
+        (map reply_as told) c.args.store.now c.args.signer.now (settings_view c.args.settings) c.args.store.now
         c.args.signer.now) (sym c.requires.empty) (refl, refl, refl),
   );
 }
@@ -30,7 +30,7 @@ loop-question-preserved g c =
     let before = c.loop-question.invariant.steps in
     let q = c.question-item.result in
     let reading : SFits w64 q.reading = search rules in
-    let s = opening_view c.args.opening in
+    let s = settings_view c.args.settings in
     let step = subst (λ x. IsBareStep g.B.Standing (with_signer g.G.Signer.signs g.G.Signer.fault_count
     c.loop-question.signer c.answer_with.new.signer) s (Stamp (account_asked q.account) x q.query.now)
     c.loop-question.store c.answer_with.new.store (reply_as c.answer_with.result)) (to_z-of_z reading)
@@ -52,7 +52,7 @@ loop-question-preserved g c =
 pub returns : goal.returns
 returns g c =
     let steps = c.loop-question.invariant.steps in
-    let s = opening_view c.args.opening in
+    let s = settings_view c.args.settings in
     record {
       steps = (
         steps.0,

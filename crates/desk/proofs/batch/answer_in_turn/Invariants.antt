@@ -2,7 +2,7 @@ use Rattle.std.proofs.Common.{◌≡◌, ◌≤◌, List, length, map, take, vec
 use Rattle.std.specs.Prelude.{vec_capacity}
 use Rattle.desk.specs.Answers.{reply_as}
 use Rattle.desk.specs.Batches.{stamp_for}
-use Rattle.desk.specs.Calls.{opening_view}
+use Rattle.desk.specs.Calls.{settings_view}
 use Rattle.desk.specs.Outcome.{Outcome}
 use Rattle.desk.specs.Ran.{AreSteps}
 use Rattle.desk.specs.Together.{question_view}
@@ -12,7 +12,7 @@ abbrev pub invariant-loop-question : goal.invariant-loop-question
 invariant-loop-question g l = record {
   counted : vec_len l.replies ≡ l.question-index;
   room : length l.asked ≤ vec_capacity l.replies;
-  steps : (os : List Outcome) × AreSteps g.B.Standing g.G.Signer.signs g.G.Signer.fault_count (opening_view l.opening)
+  steps : (os : List Outcome) × AreSteps g.B.Standing g.G.Signer.signs g.G.Signer.fault_count (settings_view l.settings)
       (map (λ a. stamp_for (question_view a)) (take l.question-index l.asked)) os (map reply_as l.replies.items)
-      l.fn.store l.fn.signer (opening_view l.opening) l.store l.signer;
+      l.fn.store l.fn.signer (settings_view l.settings) l.store l.signer;
 }

@@ -3,7 +3,7 @@ use Rattle.std.specs.Prelude.{vec_capacity}
 use Rattle.std.proofs.lemmas.List.{length-map}
 use Rattle.desk.specs.Answers.{reply_as}
 use Rattle.desk.specs.Batches.{stamps_for}
-use Rattle.desk.specs.Calls.{opening_view}
+use Rattle.desk.specs.Calls.{settings_view}
 use Rattle.desk.specs.Completions.{CompletesEach}
 use Rattle.desk.specs.Together.{question_view, questions_view, merged, IsAnsweredTogether}
 use Rattle.desk.specs.Waiting.{pendings_in}
@@ -35,7 +35,7 @@ merge-requires-clause-room g c =
 
 pub returns-clause-honest : goal.returns-clause-honest
 returns-clause-honest g c honest =
-    let s = opening_view c.args.opening in
+    let s = settings_view c.args.settings in
     elim c.match-begin_each.branch [
       | in-Ok w ↦ c.begin_each.ensures.honest (w.complete_each.ensures.honest
           (subst g.B.Standing.honest w.store-is honest))
@@ -49,7 +49,7 @@ returns-clause-honest g c honest =
 
 pub returns-clause-together : goal.returns-clause-together
 returns-clause-together g c =
-    let s = opening_view c.args.opening in
+    let s = settings_view c.args.settings in
     let asked = questions_view c.args.asked.now in
     let m = c.match-begin_each in
     let vs = c.begin_each.new.verdicts.items in

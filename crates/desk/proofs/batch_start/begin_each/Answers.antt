@@ -2,7 +2,7 @@ use Rattle.std.proofs.Common.{map, sym, subst}
 use Rattle.book.specs.History.{Reserved}
 use Rattle.book.specs.Sound.{IsSound}
 use Rattle.book.specs.Stands.{Stands}
-use Rattle.desk.specs.Calls.{opening_view}
+use Rattle.desk.specs.Calls.{settings_view}
 use Rattle.desk.specs.Together.{questions_view}
 use Rattle.desk.specs.Waiting.{waiting_view, with_waiting}
 use Rattle.desk.proofs.Batches.{fit_each}
@@ -14,7 +14,7 @@ returns-in-Ok-reserve_each-clause-reserved g c honest b st =
     let appends = c.in-Ok-reserve_each.ensures.appends in
     let ws = c.judge_each.new.waits.items in
     let judged = c.in-Ok.ensures.judges (appends.honest honest) b st in
-    let sound = judged_sound (opening_view c.args.opening) (questions_view c.args.asked.now)
+    let sound = judged_sound (settings_view c.args.settings) (questions_view c.args.asked.now)
     c.judge_each.new.verdicts.items ws b judged st.sound in
     let lent = c.deref.result.now in
     subst (λ x. Stands g.B.Standing (with_waiting x b) c.reserve_each.new.store) c.deref.ensures.value

@@ -2,7 +2,7 @@ use Rattle.std.proofs.Common.{◌+◌, ◌≤◌, ◌∙◌, length, take, vec_l
 use Rattle.std.specs.List.{AllByRecursion}
 use Rattle.std.specs.Prelude.{vec_capacity}
 use Rattle.book.specs.Sound.{IsSound}
-use Rattle.desk.specs.Calls.{opening_view}
+use Rattle.desk.specs.Calls.{settings_view}
 use Rattle.desk.specs.Together.{question_view, questions_view, IsJudgedAs, HasItsText, AreJudged, AreSplit}
 use Rattle.desk.specs.Waiting.{with_waiting, HasText}
 use Rattle.desk.proofs.Judgement.{looks_then}
@@ -13,7 +13,7 @@ use Rattle.desk.proofs.batch_start.judge_each.Goals as goal
 
 pub loop-question-preserved : goal.loop-question-preserved
 loop-question-preserved g c =
-    let s = opening_view c.args.opening in
+    let s = settings_view c.args.settings in
     let l = c.loop-question in
     let asked = c.args.asked.now in
     let i = l.question-index in

@@ -3,7 +3,7 @@ use Rattle.std.specs.List.{AllByRecursion}
 use Rattle.std.specs.Prelude.{vec_capacity}
 use Rattle.book.specs.History.{History}
 use Rattle.book.specs.Stands.{Stands, OnlyLooks}
-use Rattle.desk.specs.Calls.{opening_view}
+use Rattle.desk.specs.Calls.{settings_view}
 use Rattle.desk.specs.Together.{questions_view, AreJudged, AreSplit}
 use Rattle.desk.specs.Waiting.{HasText}
 use Rattle.desk.proofs.batch_start.judge_each.Given as goal
@@ -17,8 +17,8 @@ invariant-loop-question g l = record {
   looks : OnlyLooks g.B.Standing l.fn.store l.store;
   counted : g.B.Standing.fault_count l.store ≡ g.B.Standing.fault_count l.fn.store;
   judges : g.B.Standing.honest l.store → (b : History) → Stands g.B.Standing b l.fn.store
-      → AreJudged (opening_view l.opening) (questions_view (take l.question-index l.asked)) l.verdicts.items
+      → AreJudged (settings_view l.settings) (questions_view (take l.question-index l.asked)) l.verdicts.items
       l.waits.items b;
   split : AreSplit (questions_view (take l.question-index l.asked)) l.verdicts.items l.waits.items;
-  texts : AllByRecursion (HasText (opening_view l.opening)) l.waits.items;
+  texts : AllByRecursion (HasText (settings_view l.settings)) l.waits.items;
 }

@@ -1,7 +1,7 @@
 use Rattle.std.proofs.Common.{[], Ok, refl, sym, subst, SFits, w64, to_z-of_z, arith, rules}
 use Rattle.decide.specs.View.{account_asked}
 use Rattle.book.specs.History.{greatest_serial}
-use Rattle.desk.specs.Calls.{opening_view, plan_of, finding_of, HasLast}
+use Rattle.desk.specs.Calls.{settings_view, plan_of, finding_of, HasLast}
 use Rattle.desk.specs.Findings.{Finds}
 use Rattle.desk.specs.Outcome.{all_fine}
 use Rattle.desk.specs.Together.{question_view}
@@ -13,7 +13,7 @@ use Rattle.desk.proofs.batch_start.judge_one.Goals as goal
 pub returns-in-Ok-Fails-clause-judges : goal.returns-in-Ok-Fails-clause-judges
 returns-in-Ok-Fails-clause-judges g c honest b st sound =
     let reading : SFits w64 c.args.asked.reading = search rules in
-    let s = opening_view c.args.opening in
+    let s = settings_view c.args.settings in
     let account = account_asked c.args.asked.account in
     let octets = c.args.asked.query.now in
     let d = with_waiting c.args.waits.now b in
@@ -25,7 +25,7 @@ returns-in-Ok-Fails-clause-judges g c honest b st sound =
 pub returns-in-Ok-clause-judges : goal.returns-in-Ok-clause-judges
 returns-in-Ok-clause-judges g c honest b st sound =
     let reading : SFits w64 c.args.asked.reading = search rules in
-    let s = opening_view c.args.opening in
+    let s = settings_view c.args.settings in
     let account = account_asked c.args.asked.account in
     let octets = c.args.asked.query.now in
     let d = with_waiting c.args.waits.now b in
@@ -42,7 +42,7 @@ returns-in-Ok-clause-judges g c honest b st sound =
 
 pub returns-in-Ok-clause-texts : goal.returns-in-Ok-clause-texts
 returns-in-Ok-clause-texts g c =
-    let s = opening_view c.args.opening in
+    let s = settings_view c.args.settings in
     let planned = c.in-Ok-Allows.planned in
     has_text s (plan_of planned) _
     (record { account = c.name_of.result; query = c.args.asked.query; prepared = c.in-Ok.prepared })

@@ -1,7 +1,7 @@
 use Rattle.std.proofs.Common.{[], Ok, Err, sym, subst, SFits, w64, to_z-of_z, rules}
 use Rattle.decide.specs.View.{account_asked}
 use Rattle.book.specs.History.{greatest_serial}
-use Rattle.desk.specs.Calls.{refused, opening_view, plan_of, finding_of, HasLast}
+use Rattle.desk.specs.Calls.{refused, settings_view, plan_of, finding_of, HasLast}
 use Rattle.desk.specs.Command.{Begin, Rejected}
 use Rattle.desk.specs.Findings.{Finds}
 use Rattle.desk.specs.Outcome.{all_fine}
@@ -13,7 +13,7 @@ use Rattle.desk.proofs.beginning.begin_with.Goals as goal
 pub returns-in-Err-clause-step : goal.returns-in-Err-clause-step
 returns-in-Err-clause-step g c =
     let reading : SFits w64 c.args.reading = search rules in
-    let s = opening_view c.args.opening in
+    let s = settings_view c.args.settings in
     let account = account_asked c.args.account in
     leaves_open g.B.Standing s account c.args.reading c.args.query.now c.args.store.now c.find.new.store
     c.in-Err.refusal c.in-Err.ensures.refusals c.in-Err.ensures.somebody c.in-Err.ensures.looks
@@ -24,7 +24,7 @@ returns-in-Err-clause-step g c =
 pub returns-in-Ok-Fails-clause-step : goal.returns-in-Ok-Fails-clause-step
 returns-in-Ok-Fails-clause-step g c =
     let reading : SFits w64 c.args.reading = search rules in
-    let s = opening_view c.args.opening in
+    let s = settings_view c.args.settings in
     let account = account_asked c.args.account in
     let octets = c.args.query.now in
     subst (λ x. StepsBy g.B.Standing no_signer s (Begin account c.args.reading octets) (all_fine (Ok []))
@@ -40,7 +40,7 @@ returns-in-Ok-Fails-clause-step g c =
 pub returns-in-Ok-clause-step : goal.returns-in-Ok-clause-step
 returns-in-Ok-clause-step g c =
     let reading : SFits w64 c.args.reading = search rules in
-    let s = opening_view c.args.opening in
+    let s = settings_view c.args.settings in
     let account = account_asked c.args.account in
     let octets = c.args.query.now in
     reserves_after g.B.Standing s account c.args.reading octets c.args.store.now c.find.new.store
@@ -63,7 +63,7 @@ returns-in-Ok-clause-step g c =
 pub returns-in-Err-reserve_next-clause-step : goal.returns-in-Err-reserve_next-clause-step
 returns-in-Err-reserve_next-clause-step g c =
     let reading : SFits w64 c.args.reading = search rules in
-    let s = opening_view c.args.opening in
+    let s = settings_view c.args.settings in
     let account = account_asked c.args.account in
     let octets = c.args.query.now in
     let refusal = c.in-Err-reserve_next.refusal in

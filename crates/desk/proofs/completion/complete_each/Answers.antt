@@ -2,7 +2,7 @@ use Rattle.std.proofs.Common.{◌∙◌, List, ℕ, Result, Vec, Global, map, su
 use Rattle.cms.specs.Signer.{signed_by, SignsEach}
 use Rattle.cms.specs.declared.signer.SignerFault.{SignerFault}
 use Rattle.desk.specs.Answers.{reply_as}
-use Rattle.desk.specs.Calls.{opening_view}
+use Rattle.desk.specs.Calls.{settings_view}
 use Rattle.desk.specs.Completions.{SealsEach}
 use Rattle.desk.specs.Written.{IsRefusedTogether}
 use Rattle.desk.specs.Outcome.{Fine}
@@ -12,7 +12,7 @@ use Rattle.desk.proofs.completion.complete_each.Goals as goal
 
 pub returns-in-Some-seal_together-clause-completes : goal.returns-in-Some-seal_together-clause-completes
 returns-in-Some-seal_together-clause-completes g c =
-    let s = opening_view c.args.opening in
+    let s = settings_view c.args.settings in
     let ps = pendings_in s c.args.waits.now in
     let answers = c.in-Some.answers.items in
     let sealed = c.in-Some-seal_together.ensures.sealed in
@@ -33,7 +33,7 @@ returns-in-Some-seal_together-clause-completes g c =
 
 pub returns-clause-completes : goal.returns-clause-completes
 returns-clause-completes g c =
-    let s = opening_view c.args.opening in
+    let s = settings_view c.args.settings in
     let ps = pendings_in s c.args.waits.now in
     let answers = c.in-Some.answers.items in
     let refused = c.in-None.ensures.refused in

@@ -2,7 +2,7 @@ use Rattle.std.proofs.Common.{◌+◌, ◌∙◌, ◌++◌, ◌∷◌, [], lengt
 use Rattle.std.proofs.lemmas.List.{take_all}
 use Rattle.cms.specs.Signer.{signed_by, count_after}
 use Rattle.desk.specs.Answers.{reply_as}
-use Rattle.desk.specs.Calls.{opening_view}
+use Rattle.desk.specs.Calls.{settings_view}
 use Rattle.desk.specs.Completions.{SealsEach, CompletesEach}
 use Rattle.desk.specs.Outcome.{Fine}
 use Rattle.desk.specs.Waiting.{pending_in, pendings_in, HasText}
@@ -30,7 +30,7 @@ loop-waiting-init g c =
 
 pub loop-waiting-preserved : goal.loop-waiting-preserved
 loop-waiting-preserved g c =
-    let s = opening_view c.args.opening in
+    let s = settings_view c.args.settings in
     let before = c.loop-waiting.invariant in
     let signings = before.completes.0 in
     let os = before.completes.1 in
@@ -65,7 +65,7 @@ loop-waiting-preserved g c =
 
 pub returns-clause-completes : goal.returns-clause-completes
 returns-clause-completes g c =
-    let s = opening_view c.args.opening in
+    let s = settings_view c.args.settings in
     let all = c.loop-waiting.invariant.completes in (
       all.0,
       all.1,

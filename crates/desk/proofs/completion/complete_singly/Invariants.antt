@@ -3,7 +3,7 @@ use Rattle.std.specs.Prelude.{vec_capacity}
 use Rattle.cms.specs.Signer.{count_after_each, SignsEach}
 use Rattle.cms.specs.declared.signer.SignerFault.{SignerFault}
 use Rattle.desk.specs.Answers.{reply_as}
-use Rattle.desk.specs.Calls.{opening_view}
+use Rattle.desk.specs.Calls.{settings_view}
 use Rattle.desk.specs.Completions.{texts_of, SealsEach}
 use Rattle.desk.specs.Outcome.{Outcome}
 use Rattle.desk.specs.Waiting.{pendings_in}
@@ -16,8 +16,8 @@ invariant-loop-waiting g l = record {
   honest : g.B.Standing.honest l.store → g.B.Standing.honest l.fn.store;
   completes : (signings : List (Result (List ℕ) SignerFault)) × (os : List Outcome)
       × (SignsEach g.X.Signer.signs l.fn.signer
-      (texts_of (pendings_in (opening_view l.opening) (take l.waiting-index l.waits))) signings l.signer
+      (texts_of (pendings_in (settings_view l.settings) (take l.waiting-index l.waits))) signings l.signer
       × (g.X.Signer.fault_count l.signer ≡ count_after_each signings (g.X.Signer.fault_count l.fn.signer))
-      × SealsEach g.B.Standing (pendings_in (opening_view l.opening) (take l.waiting-index l.waits)) signings os
+      × SealsEach g.B.Standing (pendings_in (settings_view l.settings) (take l.waiting-index l.waits)) signings os
       l.fn.store l.store (map reply_as l.replies.items));
 }

@@ -1,6 +1,6 @@
 use Rattle.std.proofs.Common.{[], ◌∷◌, Ok, sym, subst, refl}
 use Rattle.cms.specs.Signer.{signed_by}
-use Rattle.desk.specs.Calls.{opening_view, refused}
+use Rattle.desk.specs.Calls.{settings_view, refused}
 use Rattle.desk.specs.Command.{Answer}
 use Rattle.desk.specs.Completions.{SealsEach}
 use Rattle.desk.specs.Written.{unwritten}
@@ -12,7 +12,7 @@ use Rattle.desk.proofs.completion.finish.Goals as goal
 
 pub returns-in_default-clause-seals : goal.returns-in_default-clause-seals
 returns-in_default-clause-seals g c =
-    let p = pending_in (opening_view c.args.opening) c.args.waiting.now in
+    let p = pending_in (settings_view c.args.settings) c.args.waiting.now in
     let signing = signed_by c.args.answer.now in (
       unwritten signing,
       subst (λ (a : Answer). SealsEach g.B.Standing (p ∷ []) (signing ∷ []) (unwritten signing ∷ []) c.args.store.now
@@ -22,7 +22,7 @@ returns-in_default-clause-seals g c =
 
 pub returns-in-Ok-clause-seals : goal.returns-in-Ok-clause-seals
 returns-in-Ok-clause-seals g c =
-    let p = pending_in (opening_view c.args.opening) c.args.waiting.now in (
+    let p = pending_in (settings_view c.args.settings) c.args.waiting.now in (
       all_fine (Ok []),
       sealed_one g.B.Standing p (signed_by c.args.answer.now) c.in-Some.field-0 c.args.waiting.now.prepared.serial
           c.deref.result.now c.args.store.now c.seal.new.self c.in-Some.ensures refl
@@ -32,7 +32,7 @@ returns-in-Ok-clause-seals g c =
 
 pub returns-clause-seals : goal.returns-clause-seals
 returns-clause-seals g c =
-    let p = pending_in (opening_view c.args.opening) c.args.waiting.now in
+    let p = pending_in (settings_view c.args.settings) c.args.waiting.now in
     let signing = signed_by c.args.answer.now in
     let fault = c.in-Err.field-0 in (
       refused (refusal.Sealing fault),

@@ -1,7 +1,7 @@
 use Rattle.std.proofs.Common.{◌+◌, ◌∙◌, ◌++◌, ◌∷◌, [], ap, arith}
 use Rattle.cms.specs.Signer.{signed_by}
 use Rattle.desk.specs.Answers.{reply_as}
-use Rattle.desk.specs.Calls.{opening_view}
+use Rattle.desk.specs.Calls.{settings_view}
 use Rattle.desk.specs.Waiting.{pending_in}
 use Rattle.desk.proofs.Completing.{seals_next}
 use Rattle.desk.proofs.completion.finish_each.Goals as goal
@@ -16,7 +16,7 @@ loop-index-preserved g c =
       honest = λ honest. before.honest (c.finish.ensures.honest honest);
       seals = (
         before.seals.0 ++ (step.0 ∷ []),
-        seals_next g.B.Standing (pending_in (opening_view c.args.opening)) signed_by reply_as c.args.waits.now
+        seals_next g.B.Standing (pending_in (settings_view c.args.settings)) signed_by reply_as c.args.waits.now
             c.args.answers.now c.loop-index.index c.index-waits-index.result c.index-answers-index.result
             c.loop-index.replies.items c.push_reserved.new.self.items c.finish.result before.seals.0 step.0
             c.args.store.now c.loop-index.store c.finish.new.store c.loop-index-test.true

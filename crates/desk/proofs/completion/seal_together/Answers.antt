@@ -3,7 +3,7 @@ use Rattle.book.specs.Entries.{entries_view}
 use Rattle.book.specs.History.{Sealed}
 use Rattle.cms.specs.Signer.{signed_by}
 use Rattle.desk.specs.Answers.{reply_as}
-use Rattle.desk.specs.Calls.{call_of, opening_view}
+use Rattle.desk.specs.Calls.{call_of, settings_view}
 use Rattle.desk.specs.Written.{seal_view}
 use Rattle.desk.specs.Waiting.{pendings_in}
 use Rattle.desk.specs.declared.completion.Seal.{Seal}
@@ -19,7 +19,7 @@ returns-in-Ok-append-clause-sealed g c =
     ∙ (ap (map (λ (s : Seal). Sealed s.serial s.token.items)) c.deref.ensures.value
     ∙ entries_of_seals batch.seals.items)) in (
       written.0,
-      sealed_together g.B.Standing (pendings_in (opening_view c.args.opening) c.args.waits.now)
+      sealed_together g.B.Standing (pendings_in (settings_view c.args.settings) c.args.waits.now)
           (map signed_by c.args.answers.now) written.0 (map seal_view batch.seals.items)
           (entries_view c.deref-2.result.now) c.args.store.now c.append.new.self (map reply_as batch.replies.items)
           written.1 are c.in-Ok-append.ensures.appends,
@@ -35,7 +35,7 @@ returns-clause-refused g c =
     ∙ (ap (map (λ (s : Seal). Sealed s.serial s.token.items)) c.deref.ensures.value
     ∙ entries_of_seals batch.seals.items)) in (
       call_of fault,
-      refused_together g.B.Standing (pendings_in (opening_view c.args.opening) c.args.waits.now)
+      refused_together g.B.Standing (pendings_in (settings_view c.args.settings) c.args.waits.now)
           (map signed_by c.args.answers.now) written.0 (map seal_view batch.seals.items)
           (entries_view c.deref-2.result.now) fault c.args.store.now c.append.new.self
           (map reply_as batch.replies.items) written.1 are c.in-Err.ensures.refusals c.in-Err.ensures.appends,

@@ -1,7 +1,7 @@
 use Rattle.std.proofs.Common.{◌+◌, ◌∙◌, map, ap, arith}
 use Rattle.cms.specs.Signer.{signed_by}
 use Rattle.desk.specs.Answers.{reply_as}
-use Rattle.desk.specs.Calls.{opening_view}
+use Rattle.desk.specs.Calls.{settings_view}
 use Rattle.desk.specs.Written.{seal_view}
 use Rattle.desk.specs.Waiting.{pending_in}
 use Rattle.desk.proofs.Completing.{written_next}
@@ -16,7 +16,7 @@ loop-index-preserved c =
       many_replies = put.replies ∙ ap (λ n. n + 1) before.many_replies;
       room_for_seals = omega (arith, before.room_for_seals, put.room_for_seals);
       room_for_replies = omega (arith, before.room_for_replies, put.room_for_replies);
-      written = written_next (pending_in (opening_view c.args.opening)) signed_by c.args.waits.now c.args.answers.now
+      written = written_next (pending_in (settings_view c.args.settings)) signed_by c.args.waits.now c.args.answers.now
           c.loop-index.index c.index-waits-index.result c.index-answers-index.result before.written.0
           (map seal_view c.loop-index.batch.seals.items) (map seal_view c.put.new.batch.seals.items)
           (map reply_as c.loop-index.batch.replies.items) (map reply_as c.put.new.batch.replies.items)

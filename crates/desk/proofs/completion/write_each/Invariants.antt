@@ -2,7 +2,7 @@ use Rattle.std.proofs.Common.{◌≡◌, ◌≤◌, List, length, map, take, vec
 use Rattle.std.specs.Prelude.{vec_capacity}
 use Rattle.cms.specs.Signer.{signed_by}
 use Rattle.desk.specs.Answers.{reply_as}
-use Rattle.desk.specs.Calls.{opening_view}
+use Rattle.desk.specs.Calls.{settings_view}
 use Rattle.desk.specs.Written.{seal_view, AreWritten}
 use Rattle.desk.specs.Outcome.{Outcome}
 use Rattle.desk.specs.Waiting.{pendings_in}
@@ -14,7 +14,7 @@ invariant-loop-index l = record {
   many_replies : vec_len l.batch.replies ≡ l.index;
   room_for_seals : length l.waits ≤ vec_capacity l.batch.seals;
   room_for_replies : length l.waits ≤ vec_capacity l.batch.replies;
-  written : (os : List Outcome) × AreWritten (pendings_in (opening_view l.opening) (take l.index l.waits))
+  written : (os : List Outcome) × AreWritten (pendings_in (settings_view l.settings) (take l.index l.waits))
       (map signed_by (take l.index l.answers)) os (map seal_view l.batch.seals.items)
       (map reply_as l.batch.replies.items);
 }

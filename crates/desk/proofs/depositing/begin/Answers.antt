@@ -4,7 +4,7 @@ use Rattle.policy.specs.View.{account_view}
 use Rattle.tsp.specs.Request.{RequestValue, time_stamp_req, unstated}
 use Rattle.tsp.specs.View.{request_view}
 use Rattle.book.specs.History.{greatest_serial}
-use Rattle.desk.specs.Calls.{refused, opening_view, plan_of, finding_of, HasLast, HasRequest, Reserves}
+use Rattle.desk.specs.Calls.{refused, settings_view, plan_of, finding_of, HasLast, HasRequest, Reserves}
 use Rattle.desk.specs.Command.{Begin, Rejected, Refused, Begun}
 use Rattle.desk.specs.Depositing.{FailsLate}
 use Rattle.desk.specs.Fault.{IsLate}
@@ -24,7 +24,7 @@ octets_of r = encoding (time_stamp_req unstated r)
 pub returns-in-Err-clause-step : goal.returns-in-Err-clause-step
 returns-in-Err-clause-step g c =
     let reading : SFits w64 c.args.reading = search rules in
-    let s = opening_view c.args.opening in
+    let s = settings_view c.args.settings in
     let a = account_view c.args.account.now in
     let made = c.of_sha256-request.ensures in
     let r = request_view c.of_sha256-request.result in
@@ -42,7 +42,7 @@ returns-in-Err-clause-step g c =
 pub returns-in-Ok-Fails-clause-step : goal.returns-in-Ok-Fails-clause-step
 returns-in-Ok-Fails-clause-step g c =
     let reading : SFits w64 c.args.reading = search rules in
-    let s = opening_view c.args.opening in
+    let s = settings_view c.args.settings in
     let a = account_view c.args.account.now in
     let made = c.of_sha256-request.ensures in
     let r = request_view c.of_sha256-request.result in
@@ -62,7 +62,7 @@ returns-in-Ok-Fails-clause-step g c =
 pub returns-in-Ok-clause-step : goal.returns-in-Ok-clause-step
 returns-in-Ok-clause-step g c =
     let reading : SFits w64 c.args.reading = search rules in
-    let s = opening_view c.args.opening in
+    let s = settings_view c.args.settings in
     let a = account_view c.args.account.now in
     let made = c.of_sha256-request.ensures in
     let r = request_view c.of_sha256-request.result in
@@ -92,7 +92,7 @@ returns-in-Ok-clause-step g c =
 pub returns-in-Err-reserve-clause-step : goal.returns-in-Err-reserve-clause-step
 returns-in-Err-reserve-clause-step g c =
     let reading : SFits w64 c.args.reading = search rules in
-    let s = opening_view c.args.opening in
+    let s = settings_view c.args.settings in
     let a = account_view c.args.account.now in
     let made = c.of_sha256-request.ensures in
     let r = request_view c.of_sha256-request.result in

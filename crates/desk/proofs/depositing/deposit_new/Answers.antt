@@ -2,7 +2,7 @@ use Rattle.std.proofs.Common.{ℕ, List, [], Some, Ok, sym, subst, SFits, w64, t
 use Rattle.policy.specs.View.{account_view}
 use Rattle.book.specs.Values.{deposit_of}
 use Rattle.desk.specs.Answers.{begun_as}
-use Rattle.desk.specs.Calls.{opening_view, refused, cause_with}
+use Rattle.desk.specs.Calls.{settings_view, refused, cause_with}
 use Rattle.desk.specs.Command.{Begin, Deposit, Refused}
 use Rattle.desk.specs.Fault.{IsOfDeposit}
 use Rattle.desk.specs.Depositing.{IsRejectedLate, IsUnused, SignsAndKeeps, StepsWhere}
@@ -21,7 +21,7 @@ use Rattle.desk.proofs.depositing.deposit_new.Goals as goal
 pub returns-in-Err-clause-step : goal.returns-in-Err-clause-step
 returns-in-Err-clause-step g c =
     let reading : SFits w64 c.args.reading = search rules in
-    let s = opening_view c.args.opening in
+    let s = settings_view c.args.settings in
     let a = account_view c.args.account.now in
     let reference = c.args.reference.now in
     let bytes = c.args.bytes.now in
@@ -43,7 +43,7 @@ returns-in-Err-clause-step g c =
 pub returns-in-Ok-Rejected-clause-step : goal.returns-in-Ok-Rejected-clause-step
 returns-in-Ok-Rejected-clause-step g c =
     let reading : SFits w64 c.args.reading = search rules in
-    let s = opening_view c.args.opening in
+    let s = settings_view c.args.settings in
     let a = account_view c.args.account.now in
     let reference = c.args.reference.now in
     let bytes = c.args.bytes.now in
@@ -62,7 +62,7 @@ returns-in-Ok-Rejected-clause-step g c =
 pub returns-in-Ok-clause-step : goal.returns-in-Ok-clause-step
 returns-in-Ok-clause-step g c =
     let reading : SFits w64 c.args.reading = search rules in
-    let s = opening_view c.args.opening in
+    let s = settings_view c.args.settings in
     let a = account_view c.args.account.now in
     let reference = c.args.reference.now in
     let bytes = c.args.bytes.now in
@@ -88,7 +88,7 @@ returns-in-Ok-clause-step g c =
 pub returns-in-Err-sign_and_seal-clause-step : goal.returns-in-Err-sign_and_seal-clause-step
 returns-in-Err-sign_and_seal-clause-step g c =
     let reading : SFits w64 c.args.reading = search rules in
-    let s = opening_view c.args.opening in
+    let s = settings_view c.args.settings in
     let a = account_view c.args.account.now in
     let reference = c.args.reference.now in
     let bytes = c.args.bytes.now in

@@ -1,7 +1,7 @@
 use Rattle.std.proofs.Common.{[], Ok, length, sym, subst, SFits, w64, to_z-of_z, rules, arith}
 use Rattle.policy.specs.View.{account_view}
 use Rattle.desk.specs.Answers.{answered}
-use Rattle.desk.specs.Calls.{opening_view}
+use Rattle.desk.specs.Calls.{settings_view}
 use Rattle.desk.specs.Command.{Deposit, Refused}
 use Rattle.desk.specs.Calls.{store_cause}
 use Rattle.desk.specs.Fault.{IsOfDeposit}
@@ -18,14 +18,14 @@ use Rattle.desk.proofs.depositing.deposit_with.Goals as goal
 pub returns-then-bytes-gt-MOST-clause-step : goal.returns-then-bytes-gt-MOST-clause-step
 returns-then-bytes-gt-MOST-clause-step g c = (
   all_fine (Ok []),
-  is_too_large g.B.Standing g.X.Signer.signs g.X.Signer.fault_count c.args.signer.now (opening_view c.args.opening)
+  is_too_large g.B.Standing g.X.Signer.signs g.X.Signer.fault_count c.args.signer.now (settings_view c.args.settings)
       (account_view c.args.account.now) c.args.reading c.args.reference.now c.args.bytes.now c.args.store.now
       (omega arith),
 )
 
 pub returns-in-Err-clause-step : goal.returns-in-Err-clause-step
 returns-in-Err-clause-step g c =
-    let s = opening_view c.args.opening in
+    let s = settings_view c.args.settings in
     let a = account_view c.args.account.now in
     let f = c.in-Err.fault in (
       unsearched f,
@@ -40,7 +40,7 @@ returns-in-Err-clause-step g c =
 
 pub returns-in-Ok-Same-clause-step : goal.returns-in-Ok-Same-clause-step
 returns-in-Ok-Same-clause-step g c =
-    let s = opening_view c.args.opening in
+    let s = settings_view c.args.settings in
     let a = account_view c.args.account.now in
     let bytes = c.args.bytes.now in
     let reference = c.args.reference.now in (
@@ -53,7 +53,7 @@ returns-in-Ok-Same-clause-step g c =
 
 pub returns-in-Ok-Other-clause-step : goal.returns-in-Ok-Other-clause-step
 returns-in-Ok-Other-clause-step g c =
-    let s = opening_view c.args.opening in
+    let s = settings_view c.args.settings in
     let a = account_view c.args.account.now in
     let bytes = c.args.bytes.now in
     let reference = c.args.reference.now in (
@@ -67,7 +67,7 @@ returns-in-Ok-Other-clause-step g c =
 pub returns-in-Ok-Nothing-clause-step : goal.returns-in-Ok-Nothing-clause-step
 returns-in-Ok-Nothing-clause-step g c =
     let reading : SFits w64 c.args.reading = search rules in
-    let s = opening_view c.args.opening in
+    let s = settings_view c.args.settings in
     let a = account_view c.args.account.now in
     let bytes = c.args.bytes.now in
     let reference = c.args.reference.now in

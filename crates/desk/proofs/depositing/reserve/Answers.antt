@@ -1,7 +1,7 @@
 use Rattle.der.specs.Node.{encoding}
 use Rattle.tsp.specs.Request.{time_stamp_req, unstated}
 use Rattle.tsp.specs.View.{request_view}
-use Rattle.desk.specs.Calls.{opening_view, plan_of}
+use Rattle.desk.specs.Calls.{settings_view, plan_of}
 use Rattle.desk.proofs.Reserves.{unwritten}
 use Rattle.desk.proofs.depositing.reserve.Goals as goal
 
@@ -13,5 +13,5 @@ octets_of-requires g c =
 
 pub returns-in-Err-clause-reserves : goal.returns-in-Err-clause-reserves
 returns-in-Err-clause-reserves g c honest b st e =
-    unwritten g.B.Standing (opening_view c.args.opening) c.args.account.now (plan_of c.args.planned) _ b
+    unwritten g.B.Standing (settings_view c.args.settings) c.args.account.now (plan_of c.args.planned) _ b
     c.args.planned.last c.args.store.now c.in-Err.refusal c.in-Err.ensures.left e st

@@ -2,7 +2,7 @@ use Rattle.std.proofs.Common.{◌<◌, ◌∙◌, [], Ok, refl, sym, ap, inl, ar
 use Rattle.der.specs.ObjectIdentifier.{oid_content}
 use Rattle.book.specs.History.{greatest_serial}
 use Rattle.book.specs.Sound.{greatest_number}
-use Rattle.desk.specs.Calls.{plan_of, opening_view}
+use Rattle.desk.specs.Calls.{plan_of, settings_view}
 use Rattle.desk.specs.Outcome.{all_fine}
 use Rattle.desk.proofs.Reserves.{next_is, fits_next, adding_counted, adding_refused, reserves_next}
 use Rattle.desk.proofs.Reserves.{left_number, made, unwritten, waiting, waits_for}
@@ -17,7 +17,7 @@ returns-in-Err-clause-reserves g c honest b st e =
     let p = c.in_ok-prepared.ensures.prepared in
     let left : c.args.planned.last < greatest_number = omega arith in
     let below : greatest_serial b < greatest_number = omega arith in
-    let s = opening_view c.args.opening in
+    let s = settings_view c.args.settings in
     let plan = plan_of c.args.planned in
     let octets = c.args.query.now in
     adding_refused g.B.Standing s c.args.account.now plan octets b c.args.store.now c.add.new.store c.in-Err.fault _
@@ -32,7 +32,7 @@ returns-clause-reserves g c honest b st e =
     let p = c.in_ok-prepared.ensures.prepared in
     let left : c.args.planned.last < greatest_number = omega arith in
     let below : greatest_serial b < greatest_number = omega arith in
-    let s = opening_view c.args.opening in
+    let s = settings_view c.args.settings in
     let plan = plan_of c.args.planned in
     let octets = c.args.query.now in
     let prepared = c.in_ok-prepared.prepared in
@@ -51,5 +51,5 @@ returns-clause-reserves g c honest b st e =
 pub returns-then-planned-ge-GREATEST_NUMBER-clause-reserves
     : goal.returns-then-planned-ge-GREATEST_NUMBER-clause-reserves
 returns-then-planned-ge-GREATEST_NUMBER-clause-reserves g c honest b st e =
-    unwritten g.B.Standing (opening_view c.args.opening) c.args.account.now (plan_of c.args.planned) c.args.query.now b
+    unwritten g.B.Standing (settings_view c.args.settings) c.args.account.now (plan_of c.args.planned) c.args.query.now b
     c.args.planned.last c.args.store.now _ (inl (refl, omega arith)) e st

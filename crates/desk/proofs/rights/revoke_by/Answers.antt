@@ -2,7 +2,7 @@ use Rattle.std.proofs.Common.{refl, subst}
 use Rattle.policy.specs.View.{account_view}
 use Rattle.book.specs.Entries.{reader_view}
 use Rattle.book.specs.History.{Revoked}
-use Rattle.desk.specs.Calls.{opening_view}
+use Rattle.desk.specs.Calls.{settings_view}
 use Rattle.desk.specs.Command.{Revoke}
 use Rattle.desk.specs.Obstacles.{MayName, MayNot}
 use Rattle.desk.proofs.Granting.{right_entered, right_denied, right_refused}
@@ -10,7 +10,7 @@ use Rattle.desk.proofs.rights.revoke_by.Goals as goal
 
 pub returns-in-Ok-append-clause-step : goal.returns-in-Ok-append-clause-step
 returns-in-Ok-append-clause-step g c =
-    let s = opening_view c.args.opening in
+    let s = settings_view c.args.settings in
     let a = account_view c.args.account.now in
     let name = reader_view c.args.reader in
     let n = c.args.number in
@@ -28,7 +28,7 @@ returns-in-Ok-append-clause-step g c =
 
 pub returns-in-Err-clause-step : goal.returns-in-Err-clause-step
 returns-in-Err-clause-step g c =
-    let s = opening_view c.args.opening in
+    let s = settings_view c.args.settings in
     let a = account_view c.args.account.now in
     let name = reader_view c.args.reader in
     let n = c.args.number in
@@ -40,7 +40,7 @@ returns-in-Err-clause-step g c =
 
 pub returns-in-Err-append-clause-step : goal.returns-in-Err-append-clause-step
 returns-in-Err-append-clause-step g c =
-    let s = opening_view c.args.opening in
+    let s = settings_view c.args.settings in
     let a = account_view c.args.account.now in
     let name = reader_view c.args.reader in
     let n = c.args.number in

@@ -2,7 +2,7 @@ use Rattle.std.proofs.Common.{[], Ok, refl, subst}
 use Rattle.policy.specs.View.{account_view}
 use Rattle.book.specs.Readers.{Account}
 use Rattle.book.specs.Values.{deposit_view}
-use Rattle.desk.specs.Calls.{opening_view}
+use Rattle.desk.specs.Calls.{settings_view}
 use Rattle.desk.specs.Viewers.{viewer_in}
 use Rattle.desk.specs.Command.{Show, Shown}
 use Rattle.desk.specs.Obstacles.{Sees, IsUnseen}
@@ -12,7 +12,7 @@ use Rattle.desk.proofs.showing.show_to.Goals as goal
 
 pub returns-in-Err-clause-step : goal.returns-in-Err-clause-step
 returns-in-Err-clause-step g c =
-    let s = opening_view c.args.opening in
+    let s = settings_view c.args.settings in
     let a = account_view c.args.account.now in
     let n = c.args.number in
     let x = c.in-Err.obstacle in
@@ -23,7 +23,7 @@ returns-in-Err-clause-step g c =
 
 pub returns-in-Ok-clause-step : goal.returns-in-Ok-clause-step
 returns-in-Ok-clause-step g c =
-    let s = opening_view c.args.opening in
+    let s = settings_view c.args.settings in
     let a = account_view c.args.account.now in
     let n = c.args.number in
     let d = deposit_view c.in-Ok.found.deposit in

@@ -4,7 +4,7 @@ use Rattle.policy.specs.View.{account_view}
 use Rattle.tsp.specs.Granted.{granted_octets}
 use Rattle.book.specs.Readers.{Account}
 use Rattle.book.specs.Values.{deposit_view}
-use Rattle.desk.specs.Calls.{opening_view}
+use Rattle.desk.specs.Calls.{settings_view}
 use Rattle.desk.specs.Viewers.{viewer_in}
 use Rattle.desk.specs.Command.{Token, Shown, Refused}
 use Rattle.desk.specs.Obstacles.{Sees, IsUnseen}
@@ -17,7 +17,7 @@ use Rattle.desk.proofs.showing.token_to.Goals as goal
 
 pub returns-in-Err-clause-step : goal.returns-in-Err-clause-step
 returns-in-Err-clause-step g c =
-    let s = opening_view c.args.opening in
+    let s = settings_view c.args.settings in
     let a = account_view c.args.account.now in
     let n = c.args.number in
     let x = c.in-Err.obstacle in
@@ -31,7 +31,7 @@ returns-in-Err-clause-refusals g c = sight_told c.in-Err.obstacle c.in-Err.ensur
 
 pub returns-in_default-clause-step : goal.returns-in_default-clause-step
 returns-in_default-clause-step g c =
-    let s = opening_view c.args.opening in
+    let s = settings_view c.args.settings in
     let a = account_view c.args.account.now in
     let n = c.args.number in
     looks_as g.B.Standing s (Token a n) c.args.store.now c.see.new.store (all_fine (Ok [])) (Refused fault.NotHere)
@@ -44,7 +44,7 @@ returns-in_default-clause-step g c =
 
 pub returns-in-Ok-write_granted-clause-step : goal.returns-in-Ok-write_granted-clause-step
 returns-in-Ok-write_granted-clause-step g c =
-    let s = opening_view c.args.opening in
+    let s = settings_view c.args.settings in
     let a = account_view c.args.account.now in
     let n = c.args.number in
     let reply = c.in-Ok-write_granted.reply.items in
@@ -59,7 +59,7 @@ returns-in-Ok-write_granted-clause-step g c =
 
 pub returns-clause-step : goal.returns-clause-step
 returns-clause-step g c =
-    let s = opening_view c.args.opening in
+    let s = settings_view c.args.settings in
     let a = account_view c.args.account.now in
     let n = c.args.number in
     let o = record (all_fine (Ok [])) { growing = Wanting } in

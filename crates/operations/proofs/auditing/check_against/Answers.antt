@@ -20,7 +20,7 @@ loop-stamp-preserved g c =
     let handed = c.in_ok-stamp.ensures in
     let now = c.loop-stamp.walk in
     let then = c.next.new.self in
-    let next = next_is (map identity_view c.args.identities.now) g.B.Standing now.book.now then.book.now now.from then.from c.args.to now.to then.to
+    let next = next_is (map identity_view c.args.identities.now) g.B.Standing now.book.now then.book.now now.from then.from c.args.range.to now.to then.to
     c.in_ok-stamp.field-0 c.in-Some.stamp c.in-Some.is before.1 handed.end handed.value in (
       elim c.if-not-branch.branch [
         | then-not-branch+in_ok-tell+else-not-branch-2 w ↦
@@ -42,7 +42,7 @@ loop-stamp-preserved-after-not-branch g c =
     let handed = c.in_ok-stamp.ensures in
     let now = c.loop-stamp.walk in
     let then = c.next.new.self in
-    let next = next_is (map identity_view c.args.identities.now) g.B.Standing now.book.now then.book.now now.from then.from c.args.to now.to then.to
+    let next = next_is (map identity_view c.args.identities.now) g.B.Standing now.book.now then.book.now now.from then.from c.args.range.to now.to then.to
     c.in_ok-stamp.field-0 c.in-Some.stamp c.in-Some.is before.1 handed.end handed.value in (
       elim c.if-not-branch.branch [
         | then-not-branch+in_ok-tell+else-not-branch-2 w ↦
@@ -74,14 +74,14 @@ returns-then-not-branch-2-clause-checked g c =
     let handed = c.in_ok-stamp.ensures in
     let now = c.loop-stamp.walk in
     let then = c.next.new.self in
-    let next = next_is (map identity_view c.args.identities.now) g.B.Standing now.book.now then.book.now now.from then.from c.args.to now.to then.to
+    let next = next_is (map identity_view c.args.identities.now) g.B.Standing now.book.now then.book.now now.from then.from c.args.range.to now.to then.to
     c.in_ok-stamp.field-0 c.in-Some.stamp c.in-Some.is before.1 handed.end handed.value in
     let fails = c.if-not-branch.true in
     let cut = c.in_ok-tell.ensures.cut c.if-not-branch-2.true in
     let book = c.book-then-not-branch-2-1.given.0 in
     let same : c.next.new.self.book.now ≡ book = search rules in
     subst (λ s. g.B.Standing.honest s → (b : History) → Stands g.B.Standing b c.args.book.now
-    → Checks (map identity_view c.args.identities.now) (stamps_between c.args.from c.args.to b) (g.E.Write.contents c.args.errors.now)
+    → Checks (map identity_view c.args.identities.now) (stamps_between c.args.range.from c.args.range.to b) (g.E.Write.contents c.args.errors.now)
     (g.E.Write.contents c.tell.new.errors) false) same
     (cut_off (map identity_view c.args.identities.now) g.B.Standing _ _ _ _ _ _ _ _ _ _ _ (stamp_view c.in-Some.stamp) before.0 handed.looks next
     (λ h. let yes = c.in_ok-check_row.ensures.1 h in cc (yes, fails)) cut)

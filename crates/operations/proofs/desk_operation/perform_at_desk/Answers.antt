@@ -1,5 +1,5 @@
 use Rattle.operations.proofs.OverFiles.{answered_over}
 use Rattle.operations.proofs.desk_operation.perform_at_desk.Goals as goal
 
-pub returns-in-Ok-clause-moved : goal.returns-in-Ok-clause-moved
-returns-in-Ok-clause-moved g c = answered_over _ _ _ _ _ c.in-Ok.ensures.moved
+pub returns-clause-moved : goal.returns-clause-moved
+returns-clause-moved g c = answered_over _ _ _ _ _ c.in_ok-perform_at.ensures.moved

@@ -1,6 +1,6 @@
 use Rattle.std.proofs.Common.{◌≡◌, ◌∙◌, refl, sym, ap}
 use Rattle.desk.specs.Answers.{reply_as, answered, told}
-use Rattle.desk.specs.Calls.{outcome_of, opening_view}
+use Rattle.desk.specs.Calls.{outcome_of, settings_view}
 use Rattle.desk.specs.Command.{Finish, Refused}
 use Rattle.desk.specs.Stepped.{no_signer}
 use Rattle.desk.proofs.Opened.{steps_opened}
@@ -16,8 +16,8 @@ returns-clause-step g c =
           ∙ (ap Refused w.from.ensures ∙ sym (ap (told reply_as) w.in-Err.is))
     ] in
     steps_opened g.B.Standing c.steps_keep_their_promises.ensures no_signer
-    (record { setting = opening_view c.self.inside.opening; store = c.self.inside.store }) c.args.self.now
+    (record { setting = settings_view c.self.inside.settings; store = c.self.inside.store }) c.args.self.now
     (Finish c.args.pending c.args.signature.now) (Finish c.args.pending c.args.signature.now)
     (outcome_of c.finish_with.result) c.finish_with.new.store (told reply_as c.finish_with.result)
     (answered reply_as c.match-finish_with.result) (λ s a. refl) c.self.view_is refl same
-    (c.finish_with.ensures.step (opening_view c.self.inside.opening))
+    (c.finish_with.ensures.step (settings_view c.self.inside.settings))

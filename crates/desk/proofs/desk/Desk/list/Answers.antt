@@ -1,7 +1,7 @@
 use Rattle.std.proofs.Common.{◌≡◌, ◌∙◌, refl, sym, ap}
 use Rattle.policy.specs.View.{account_view}
 use Rattle.desk.specs.Answers.{answered}
-use Rattle.desk.specs.Calls.{opening_view}
+use Rattle.desk.specs.Calls.{settings_view}
 use Rattle.desk.specs.Command.{ListAll, Refused}
 use Rattle.desk.specs.Obstacles.{outcome_with, told_with}
 use Rattle.desk.specs.Shown.{listed_as}
@@ -20,7 +20,7 @@ returns-clause-step g c =
     ] in
     let command = (ListAll (account_view c.args.account.now)) in
     steps_opened g.B.Standing c.steps_keep_their_promises.ensures no_signer
-    (record { setting = opening_view c.self.inside.opening; store = c.self.inside.store }) c.args.self.now
+    (record { setting = settings_view c.self.inside.settings; store = c.self.inside.store }) c.args.self.now
     command command (outcome_with c.list_to.result) c.list_to.new.store (told_with listed_as c.list_to.result)
     (answered listed_as c.match-list_to.result) (λ s a. refl) c.self.view_is refl same
     c.list_to.ensures.step

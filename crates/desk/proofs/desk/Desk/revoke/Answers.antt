@@ -2,7 +2,7 @@ use Rattle.std.proofs.Common.{◌≡◌, ◌∙◌, refl, sym, ap}
 use Rattle.policy.specs.View.{account_view}
 use Rattle.book.specs.Readers.{Account}
 use Rattle.desk.specs.Answers.{answered}
-use Rattle.desk.specs.Calls.{opening_view}
+use Rattle.desk.specs.Calls.{settings_view}
 use Rattle.desk.specs.Command.{Revoke, Refused}
 use Rattle.desk.specs.Obstacles.{outcome_with, told_with}
 use Rattle.desk.specs.Shown.{done_as}
@@ -21,6 +21,6 @@ returns-clause-step g c =
     ] in
     let command = (Revoke (account_view c.args.account.now) c.args.number (Account c.args.name.now)) in
     steps_opened g.B.Standing c.steps_keep_their_promises.ensures no_signer
-    (record { setting = opening_view c.self.inside.opening; store = c.self.inside.store }) c.args.self.now
+    (record { setting = settings_view c.self.inside.settings; store = c.self.inside.store }) c.args.self.now
     command command (outcome_with c.revoke_by.result) c.revoke_by.new.store (told_with done_as c.revoke_by.result)
     (answered done_as c.match-revoke_by.result) (λ s a. refl) c.self.view_is refl same c.revoke_by.ensures.step

@@ -2,7 +2,7 @@ use Rattle.std.proofs.Common.{map, subst}
 use Rattle.std.specs.List.{AllByRecursion}
 use Rattle.der.specs.ObjectIdentifier.{IsOid}
 use Rattle.policy.specs.View.{tsa_policy_view}
-use Rattle.desk.proofs.opening.is_proper.Goals as goal
+use Rattle.desk.proofs.settings.is_proper.Goals as goal
 
 pub returns : goal.returns
 returns c = record {

@@ -3,20 +3,23 @@ ghost use Rattle.std.specs.Prelude.{◌≤◌, map};
 ghost use Rattle.std.specs.List.{AllByRecursion};
 ghost use Rattle.der.specs.ObjectIdentifier.{IsOid};
 ghost use Rattle.policy.specs.View.{tsa_policy_view};
-ghost use Rattle.desk.specs.Calls.{opening_view};
+ghost use Rattle.desk.specs.Calls.{settings_view};
 ghost use Rattle.desk.specs.Runs.{IsProper};
 ghost use Rattle.desk.specs.Succession.{HasSubject};
 
 use cms::{Algorithm, Identity};
 use policy::{Counter, Policy, TsaPolicy};
 
-/// By what a desk answers: the policy file, and what is in force, whose certificate its tokens name and under which
-/// algorithm they are signed.
+/// By what a desk answers: the policy file, and what is in force. The contracts see it as a `Setting`
+/// (`settings_view`).
 #[derive(Clone, Copy)]
-pub(crate) struct Opening<'p> {
-    pub(crate) policy: &'p Policy,
-    pub(crate) identity: &'p Identity,
-    pub(crate) algorithm: &'p Algorithm,
+pub struct Settings<'p> {
+    /// The policy file.
+    pub policy: &'p Policy,
+    /// Whose certificate the tokens name.
+    pub identity: &'p Identity,
+    /// Under which algorithm the tokens are signed, the signer's.
+    pub algorithm: &'p Algorithm,
 }
 
 /// The accuracy of a policy file is in its range.
@@ -45,11 +48,11 @@ pub fn has_subject(identity: &Identity)
 }
 
 /// What the laws need of accuracy, object identifiers and the identity, the types of policy and identity keep.
-pub(crate) fn is_proper(opening: Opening<'_>)
-    ensures { IsProper (opening_view opening.entry) }
+pub(crate) fn is_proper(settings: Settings<'_>)
+    ensures { IsProper (settings_view settings.entry) }
 {
-    let policy = opening.policy;
+    let policy = settings.policy;
     has_accuracy(&policy.counter);
     has_object_identifiers(&policy.policies);
-    has_subject(opening.identity);
+    has_subject(settings.identity);
 }

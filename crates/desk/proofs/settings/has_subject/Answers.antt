@@ -1,6 +1,6 @@
 use Rattle.std.proofs.Common.{subst}
 use Rattle.cms.specs.Certificate.{IsSubject, IsSubjectName}
-use Rattle.desk.proofs.opening.has_subject.Goals as goal
+use Rattle.desk.proofs.settings.has_subject.Goals as goal
 
 pub returns : goal.returns
 returns c = record {

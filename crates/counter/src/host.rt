@@ -1,0 +1,26 @@
+//! The machine that the program runs on.
+ghost use Rattle.std.specs.Prelude.{◌≡◌};
+
+use operations::Database;
+
+/// The machine that the program runs on.
+#[derive(Drop)]
+pub struct Host<'a, F> {
+    /// Its system.
+    pub rt: &'a HostRuntime,
+    /// What is supposed of the files of the database that the arguments name.
+    pub start: F,
+}
+
+impl<F> Host<'_, F> {
+    /// The database at a path of it.
+    pub fn database<'p>(self, path: &'p str) -> Database<'p, F>
+        ensures path { result.path.now ≡ path.now }
+        ensures start { result.start ≡ self.entry.start }
+    {
+        Database {
+            path,
+            start: self.start,
+        }
+    }
+}

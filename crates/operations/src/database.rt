@@ -1,0 +1,10 @@
+//! A database at a path.
+
+/// The database at a path, before it is opened.
+#[derive(Drop)]
+pub struct Database<'a, F> {
+    /// Where it lies.
+    pub path: &'a str,
+    /// What is supposed of its files.
+    pub start: F,
+}
