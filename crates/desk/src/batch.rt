@@ -141,9 +141,9 @@ impl<'p, B: Book + Drop> Desk<'p, B> {
     /// Answers stamps together (RFC 3161 2.4.2): a reply for each, in their order, as if each was answered by `answer`,
     /// one after the other. All that no rule refuses are reserved in one commit, their texts are signed in their order,
     /// and all that were signed are sealed in a second one, after which they are answered. Each is judged by the
-    /// history with the reservations of those before it. One whose signer or memory refuses is rejected by rule 12, stays void,
-    /// and leaves the others. Where a call before the first commit is refused, or that commit, nothing was done, and
-    /// each is answered by itself; where the second is refused, each is sealed by itself.
+    /// history with the reservations of those before it. One whose signer or memory refuses is rejected by rule 12,
+    /// stays void, and leaves the others. Where a call before the first commit is refused, or that commit, nothing was
+    /// done, and each is answered by itself; where the second is refused, each is sealed by itself.
     ///
     /// Room for the replies is taken first: where it is refused, the answer is `Memory`, and nothing is done.
     pub fn answer_each<G: Signer>(
