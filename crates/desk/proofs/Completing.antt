@@ -1,7 +1,8 @@
 -- Stamps of a batch from their reservations on: what is sealed of each, of several after one another, and of all in
 -- one commit.
 use Rattle.std.proofs.Common.{◌≡◌, ℕ, ◌<◌, List, [], ◌∷◌, ◌++◌, map, length, Option, Some, None, Result, Ok, Err}
-use Rattle.std.proofs.Common.{refl, sym, ◌∙◌, ap, subst, inl, inr, arith, append_assoc, append-nil, length-append, ◌+◌, ◌==◌}
+use Rattle.std.proofs.Common.{refl, sym, ◌∙◌, ap, subst, inl, inr, arith, append_assoc, append-nil, length-append, ◌+◌}
+use Rattle.std.proofs.Common.{◌==◌}
 use Rattle.std.proofs.Common.{false, if◌then◌else◌, take, slice_index_or, ◌≤◌, IfOk, Vec, vec_len}
 use Rattle.std.proofs.lemmas.List.{map-append, take_more}
 use Rattle.std.proofs.lemmas.List.Elements.{All-get_or, All-from_recursion}
@@ -702,8 +703,8 @@ counts_each (Err signer.Failed ∷ answers) count = counts_each answers (wrappin
 counts_each (Err signer.Memory ∷ answers) count = counts_each answers count
 
 -- one more is written, and pushed
-pub more_sealed : (p : PendingValue) (signing : Result (List ℕ) SignerFault) (w : Written) (seals_before seals_now : List Seal)
-    (before now : List Reply) (seal : Seal) (reply : Reply) → IsWritten p signing (Some w)
+pub more_sealed : (p : PendingValue) (signing : Result (List ℕ) SignerFault) (w : Written)
+    (seals_before seals_now : List Seal) (before now : List Reply) (seal : Seal) (reply : Reply) → IsWritten p signing (Some w)
     → seals_now ≡ seals_before ++ (seal ∷ []) → now ≡ before ++ (reply ∷ [])
     → seal_view seal ≡ record { serial = p.serial; token = w.token.items }
     → reply_as reply ≡ Stamped p.serial w.bytes.items

@@ -58,8 +58,8 @@ pub record IsSealedInDoubt {B : Type 0} (g : Ghosts B) (ps : List PendingValue)
   pub kept : AreKept (completed ps signings os) (completed ps signings outcomes)
   pub holds : g.holds left (seals_of ps signings outcomes b)
 
--- What a stop after them may leave: where nothing was sealed, what it could leave before; else the history with all that
--- were sealed, and with those in doubt.
+-- What a stop after them may leave: where nothing was sealed, what it could leave before; else the history with all
+-- that were sealed, and with those in doubt.
 abbrev pub MayBeLeftSealed : {B : Type 0} → (g : Ghosts B) → List PendingValue → List (Result (List ℕ) SignerFault)
     → List Outcome → History → B → g.Left → Type 0
 MayBeLeftSealed g ps signings os b old left =

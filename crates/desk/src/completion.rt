@@ -1,19 +1,18 @@
 //! Stamps of a batch from their reservations on: all texts are signed, and all that were signed are sealed in one
 //! commit.
-ghost use Rattle.std.specs.Prelude.{◌≡◌, ◌≤◌, ◌<◌, ◌+◌, ◌++◌, ◌∷◌, ℕ, List, [], Option, Result, length, map, IfOk, IfErr, IfSome, IfNone};
+ghost use Rattle.std.specs.Prelude.{◌≡◌, ◌≤◌, ◌<◌, ◌+◌, ◌∷◌, ℕ, List, [], Result, length, map, IfOk, IfSome, IfNone};
 ghost use Rattle.std.specs.Prelude.{vec_len, vec_capacity};
 ghost use Rattle.std.specs.List.{AllByRecursion};
 ghost use Rattle.cms.specs.declared.signer.SignerFault.{SignerFault as SpecFault};
 ghost use Rattle.cms.specs.Signer.{signed_by, count_after_each, SignsEach, IsSized};
-ghost use Rattle.desk.specs.Answers.{reply_as};
-ghost use Rattle.desk.specs.Calls.{settings_view};
 ghost use Rattle.book.specs.Entries.{entries_view};
 ghost use Rattle.book.specs.History.{Sealed};
-ghost use Rattle.desk.specs.Completions.{texts_of, SealsEach, CompletesEach};
-ghost use Rattle.desk.specs.Written.{IsWritten, AreWritten, AreWrittenMore};
-ghost use Rattle.desk.specs.Written.{seal_view, IsRefusedTogether};
+ghost use Rattle.desk.specs.Answers.{reply_as};
+ghost use Rattle.desk.specs.Calls.{settings_view};
+ghost use Rattle.desk.specs.Completions.{SealsEach, CompletesEach};
 ghost use Rattle.desk.specs.Outcome.{Call, Fine, Outcome};
 ghost use Rattle.desk.specs.Waiting.{pending_in, pendings_in, HasText};
+ghost use Rattle.desk.specs.Written.{seal_view, IsWritten, AreWritten, AreWrittenMore, IsRefusedTogether};
 
 use crate::finishing::no_answer;
 use crate::reply::Reply;
@@ -259,7 +258,8 @@ fn texts_of<'w>(alloc: Global, waits: &'w [Waiting<'_, '_>]) -> Result<Vec<&'w [
     Ok(texts)
 }
 
-/// Has all texts signed, in their order: an answer for each. None, and none is asked for, where there is no room for them.
+/// Has all texts signed, in their order: an answer for each. None, and none is asked for, where there is no room for
+/// them.
 fn sign_all<X: Signer>(
     alloc: Global,
     waits: &[Waiting<'_, '_>],
