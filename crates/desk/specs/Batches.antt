@@ -127,7 +127,8 @@ pub record IsCutTogether (s : Setting) (asked : List Question) (b : History) (w 
   pub sound : IsSound history
   pub same : ShowsSame left history
 
--- The store's count of faults after commands, and after a batch: at most its own two commits are counted besides.
+-- The store's count of faults after commands, and after a batch: at most two calls are counted besides, the one at which
+-- its first half was given up, and its second commit.
 abbrev pub faults_along : List Outcome → ℕ → ℕ
 faults_along [] count = count
 faults_along (o ∷ os) count = faults_along os (faults_after o count)
