@@ -14,9 +14,9 @@ use Rattle.book.specs.Rows.{StampRow}
 use Rattle.book.specs.History.{History, stamps_between}
 use Rattle.book.specs.Stands.{Stands, OnlyLooks}
 use Rattle.audit.specs.Extract.{columns, extract_text, fields, header_text, lines_text, stamp_text, stamps_text}
-use Rattle.audit.specs.Failing.{HasFailed, StopsFor}
+use Rattle.audit.specs.Failures.{HasFailed, StopsFor}
 use Rattle.audit.specs.Steps.{IsNextLine}
-use Rattle.audit.specs.Writing.{Writes, WritesLine}
+use Rattle.audit.specs.Writes.{Writes, WritesLine}
 use Rattle.audit.specs.declared.fault.ExtractFault.{ExtractFault}
 use Rattle.audit.specs.declared.fault.ExtractFault.TheVariants.{Write}
 

@@ -1,7 +1,7 @@
 -- What an inquiry stands for.
 use Rattle.policy.specs.View.{account_view, policy_view}
 use Rattle.audit.specs.Auditor.{IsAllowed, ComesWhere}
-use Rattle.audit.specs.declared.extracting.Inquiry.{Inquiry}
+use Rattle.audit.specs.declared.extracts.Inquiry.{Inquiry}
 use Rattle.audit.specs.declared.fault.ExtractFault.{ExtractFault}
 
 -- an auditor asks, and for a range

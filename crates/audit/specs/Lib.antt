@@ -1,9 +1,9 @@
 pub mod Auditor
 pub mod Consistent
 pub mod Extract
-pub mod Failing
+pub mod Failures
 pub mod Fault
 pub mod Inquiries
 pub mod Steps
 pub mod Texts
-pub mod Writing
+pub mod Writes

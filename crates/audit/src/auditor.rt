@@ -4,7 +4,7 @@ ghost use Rattle.policy.specs.View.{account_view, policy_view};
 ghost use Rattle.audit.specs.Auditor.{IsAuditor};
 ghost use Rattle.audit.specs.Inquiries.{Allows, ComesFor};
 
-use crate::extracting::Inquiry;
+use crate::extracts::Inquiry;
 use crate::fault::ExtractFault;
 use policy::{Account, Policy};
 

@@ -3,14 +3,14 @@
 
 mod auditor;
 mod check;
-mod extracting;
+mod extracts;
 mod fault;
 mod line;
 mod output;
-mod writing;
+mod writes;
 
 pub use check::{check_row, identity_at};
-pub use extracting::{Extracted, Inquiry, extract, extract_length, write_extract};
+pub use extracts::{Extracted, Inquiry, extract, extract_length, write_extract};
 pub use fault::ExtractFault;
 pub use output::Output;
-pub use writing::write_octets;
+pub use writes::write_octets;

@@ -1,7 +1,7 @@
 //! Outputs, of which some tell how often they failed.
 ghost use Rattle.std.specs.Prelude.{◌≡◌, ◌<◌, ◌≤◌, ℕ, Option, None, true, false, length, take};
 ghost use Rattle.std.specs.Io.KnownBytes.{Appends, Keeps};
-ghost use Rattle.audit.specs.Failing.{HasFailed};
+ghost use Rattle.audit.specs.Failures.{HasFailed};
 
 use std::io::Write;
 

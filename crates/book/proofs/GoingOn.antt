@@ -11,10 +11,10 @@ use Rattle.std.proofs.lemmas.Grind.{reverse_onto}
 use Rattle.std.proofs.lemmas.Int.{ints}
 use Rattle.std.proofs.lemmas.List.{append-nil, reverse-reverse}
 use Rattle.gentime.specs.GenTime.{last_moment}
-use Rattle.book.specs.Continuing.{holds_all, is_closed, all_moments, closed, other_holds, last_reservation}
-use Rattle.book.specs.Continuing.{identity_since, Floor, reserved_as, token_as, entry_if, last_stamp}
-use Rattle.book.specs.Continuing.{stamp_with_identity, first_entries}
-use Rattle.book.specs.Continuing.{continued, IsAbove, IsAboveIfAny}
+use Rattle.book.specs.Continuation.{holds_all, is_closed, all_moments, closed, other_holds, last_reservation}
+use Rattle.book.specs.Continuation.{identity_since, Floor, reserved_as, token_as, entry_if, last_stamp}
+use Rattle.book.specs.Continuation.{stamp_with_identity, first_entries}
+use Rattle.book.specs.Continuation.{continued, IsAbove, IsAboveIfAny}
 use Rattle.book.specs.Entries.{with_all, FitInTurn}
 use Rattle.book.specs.History.{Entry, Reserved, Sealed, Calibrated, Held, Installed, History}
 use Rattle.book.specs.History.{HoldValue, CalibrationValue, InstalledValue, ReservationValue, reservations}
@@ -23,7 +23,7 @@ use Rattle.book.specs.History.{is_held}
 use Rattle.book.specs.History.{token_of, reservation_at, stamp_of, stamp_at}
 use Rattle.book.specs.Identities.{latest_identity, identity_at_reservation}
 use Rattle.book.specs.Sound.{IsSound, greatest_number}
-use Rattle.book.proofs.Showing.{sound_all}
+use Rattle.book.proofs.Shown.{sound_all}
 
 -- ---- entries one list after the other
 

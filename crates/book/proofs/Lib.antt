@@ -2,6 +2,6 @@ pub mod GoingOn
 pub mod Identities
 pub mod Numbers
 pub mod Rights
-pub mod Showing
+pub mod Shown
 mod Worked
-mod WorkedContinuing
+mod WorkedContinuation

@@ -1,4 +1,4 @@
-pub mod Continuing
+pub mod Continuation
 pub mod Entries
 pub mod Fault
 pub mod History

@@ -54,8 +54,8 @@ abbrev pub IsSound : History → Type 0
 IsSound b = Along Fits b
 
 -- all serial numbers are used up
-abbrev pub IsSpent : History → Type 0
-IsSpent b = greatest_serial b ≡ greatest_number
+abbrev pub IsExhausted : History → Type 0
+IsExhausted b = greatest_serial b ≡ greatest_number
 
 -- the reading is before that of the latest calibration
 abbrev pub is_backwards : CalibrationValue → Option CalibrationValue → Bool

@@ -9,7 +9,7 @@ ghost use Rattle.book.specs.Identities.{identities};
 ghost use Rattle.book.specs.Readers.{Account, Group};
 ghost use Rattle.book.specs.Rights.{is_visible, listed, deposit_with_stamp};
 ghost use Rattle.book.specs.Shows.{ShowsSame};
-ghost use Rattle.book.specs.Sound.{IsSound, IsSpent, IsBackwards, greatest_number};
+ghost use Rattle.book.specs.Sound.{IsSound, IsExhausted, IsBackwards, greatest_number};
 ghost use Rattle.book.specs.Stands.{Stands, OnlyLooks, LeavesAsBefore};
 ghost use Rattle.book.specs.Fault.{CountsFaults, IsOfStorage, IsOfStorageOr};
 ghost use Rattle.book.specs.Values.{reservation_view, calibration_view, hold_view, last_of, calibration_option};
@@ -171,8 +171,8 @@ pub trait Book: Standing {
         ensures appends { Appends Self.Standing (Reserved (reservation_view reservation.now) ∷ []) self.old self.new
             result }
         ensures full { Self.honest self.new → (b : History) → Stands Self.Standing b self.old
-            → result ≡ Err StoreFault.Full → IsSpent b }
-        ensures spent { Self.honest self.new → (b : History) → Stands Self.Standing b self.old → IsSpent b
+            → result ≡ Err StoreFault.Full → IsExhausted b }
+        ensures exhausted { Self.honest self.new → (b : History) → Stands Self.Standing b self.old → IsExhausted b
             → IsErr result × LeavesAsBefore Self.Standing self.old self.new }
         ensures refusals { IfErr result (IsOfStorageOr StoreFault.Full) }
     {

@@ -2,7 +2,7 @@
 #![tactic(auto)]
 
 mod book;
-mod continuing;
+mod continuation;
 mod entries;
 mod fault;
 mod laws;
@@ -13,7 +13,7 @@ mod standing;
 mod values;
 
 pub use book::Book;
-pub use continuing::{closed_books_hold_all_moments, continuations_go_on};
+pub use continuation::{closed_books_hold_all_moments, continuations_go_on};
 pub use entries::{Entry, Reader};
 pub use fault::StoreFault;
 pub use laws::{histories_show_the_same, identities_tell_who_signed};

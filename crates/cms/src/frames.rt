@@ -19,7 +19,7 @@ pub(crate) const MAX_ANSWER: usize = 4_096;
 pub(crate) struct Stopped;
 
 /// Writes octets, all of them or a beginning.
-fn write_octets<W: Write>(writer: &mut W, octets: &[u8]) -> Result<(), Stopped>
+fn write_all<W: Write>(writer: &mut W, octets: &[u8]) -> Result<(), Stopped>
     ensures ok { OnOk result (Appends (W.contents writer.old) (W.contents writer.new) octets.now) }
     ensures err { OnErr result (SendsBeginning (W.contents writer.old) (W.contents writer.new) octets.now) }
 {
@@ -84,11 +84,11 @@ pub(crate) fn send<W: Write>(writer: &mut W, octets: &[u8]) -> Result<(), Stoppe
     ensures ok { OnOk result (Appends (W.contents writer.old) (W.contents writer.new) (frame octets.now)) }
     ensures err { OnErr result (SendsBeginning (W.contents writer.old) (W.contents writer.new) (frame octets.now)) }
 {
-    match write_octets(writer, &(octets.len() as u32).to_be_bytes()) {
+    match write_all(writer, &(octets.len() as u32).to_be_bytes()) {
         Ok(()) => {}
         Err(Stopped) => return Err(Stopped),
     }
-    match write_octets(writer, octets) {
+    match write_all(writer, octets) {
         Ok(()) => Ok(()),
         Err(Stopped) => Err(Stopped),
     }

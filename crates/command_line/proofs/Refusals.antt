@@ -7,8 +7,8 @@ use Rattle.clap.specs.declared.error.kind.ErrorKind.TheVariants.{ArgumentConflic
 use Rattle.clap.specs.declared.error.kind.ErrorKind.TheVariants.{MissingRequiredArgument, OutOfMemory}
 use Rattle.command_line.specs.Options.{counter_command}
 use Rattle.command_line.specs.Words.{AskNothing, AsksHelp, IsOwnKind, IsRefusal, IsShown, MixSigners}
-use Rattle.command_line.specs.declared.refusal.Refusal.{Refusal}
-use Rattle.command_line.specs.declared.refusal.Refusal.TheVariants.{Help, Mistake, Memory}
+use Rattle.command_line.specs.declared.refusal.WordsRefusal.{WordsRefusal}
+use Rattle.command_line.specs.declared.refusal.WordsRefusal.TheVariants.{Help, Mistake, Memory}
 
 asks_help : (texts : List Text) (kind : ErrorKind) → IsAmong kind (fault_of counter_command texts)
     → (kind ≡ DisplayHelp) ⊎ (kind ≡ DisplayVersion) → AsksHelp texts
@@ -31,7 +31,7 @@ own_is_no_help texts kind (inl missing) shown =
 own_is_no_help texts kind (inr conflict) shown =
     no_help texts kind ArgumentConflict conflict (λ h. cc) (λ h. cc) shown
 
-pub refusal_of : (texts : List Text) (error : Error) (refusal : Refusal)
+pub refusal_of : (texts : List Text) (error : Error) (refusal : WordsRefusal)
     → HasKind (fault_of counter_command texts) error
     ⊎ (IsOwnKind (kind_of error) × (MixSigners texts ⊎ AskNothing texts))
     → IsShown (kind_of error) refusal → IsRefusal texts refusal

@@ -12,8 +12,8 @@ use Rattle.clap.specs.declared.error.kind.ErrorKind.{ErrorKind}
 use Rattle.clap.specs.declared.error.kind.ErrorKind.TheVariants.{ArgumentConflict, DisplayHelp, DisplayVersion}
 use Rattle.clap.specs.declared.error.kind.ErrorKind.TheVariants.{MissingRequiredArgument, OutOfMemory}
 use Rattle.command_line.specs.Options.{counter_command}
-use Rattle.command_line.specs.declared.refusal.Refusal.{Refusal}
-use Rattle.command_line.specs.declared.refusal.Refusal.TheVariants.{Help, Mistake, Memory}
+use Rattle.command_line.specs.declared.refusal.WordsRefusal.{WordsRefusal}
+use Rattle.command_line.specs.declared.refusal.WordsRefusal.TheVariants.{Help, Mistake, Memory}
 use Rattle.command_line.specs.declared.words.AnswerWords.{AnswerWords}
 use Rattle.command_line.specs.declared.words.AuditWords.{AuditWords}
 use Rattle.command_line.specs.declared.words.CalibrateWords.{CalibrateWords}
@@ -225,13 +225,13 @@ abbrev pub IsOwnKind : ErrorKind → Type 0
 IsOwnKind kind = (kind ≡ MissingRequiredArgument) ⊎ (kind ≡ ArgumentConflict)
 
 -- the words ask for help, or aren't understood; of want of memory nothing is said
-abbrev pub IsRefusal : List Text → Refusal → Type 0
+abbrev pub IsRefusal : List Text → WordsRefusal → Type 0
 IsRefusal texts (Help text) = AsksHelp texts
 IsRefusal texts (Mistake text) = AreRefused texts
 IsRefusal texts Memory = ⊤
 
 -- what becomes of `clap`'s error by its kind
-abbrev pub IsShown : ErrorKind → Refusal → Type 0
+abbrev pub IsShown : ErrorKind → WordsRefusal → Type 0
 IsShown kind (Help text) = (kind ≡ DisplayHelp) ⊎ (kind ≡ DisplayVersion)
 IsShown kind (Mistake text) = (kind ≢ DisplayHelp) × (kind ≢ DisplayVersion) × (kind ≢ OutOfMemory)
 IsShown kind Memory = ⊤

@@ -10,7 +10,7 @@ mod table;
 mod version;
 mod words;
 
-pub use refusal::Refusal;
+pub use refusal::WordsRefusal;
 pub use words::{
     AnswerWords, AuditWords, CalibrateWords, CheckWords, ContinueWords, DeskWords, ExchangeWords,
     FloorWords, HoldWords, InitWords, MigrateWords, ServeWords, SignerWords, TstWords, Word,

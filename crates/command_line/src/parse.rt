@@ -10,7 +10,7 @@ ghost use Rattle.command_line.specs.Words.{MixSigners, StatesDesk, StatesFloor, 
 
 use crate::command::command;
 use crate::options::Numbers;
-use crate::refusal::Refusal;
+use crate::refusal::WordsRefusal;
 use crate::signer::{error_of, signer_words};
 use crate::table::{
     ACCURACIES, CONNECTIONS, DIGITS, MOMENTS, SERIALS, UNCERTAINTIES, WHOLE_NUMBERS,
@@ -26,7 +26,7 @@ use std::alloc::{AllocError, Global};
 impl<'a> Word<'a> {
     /// Reads the words, of which the first is the program's name. They are a `Mistake` where they aren't understood,
     /// and `Help` where they ask for help; `Memory` where memory runs out.
-    pub fn parse(alloc: Global, words: &'a [String]) -> Result<Word<'a>, Refusal>
+    pub fn parse(alloc: Global, words: &'a [String]) -> Result<Word<'a>, WordsRefusal>
         ensures asked { IfOk result (Asks (texts_of words.now)) }
         ensures refused { IfErr result (IsRefusal (texts_of words.now)) }
     {
@@ -34,7 +34,7 @@ impl<'a> Word<'a> {
             Ok(word) => Ok(word),
             Err(error) => match refusal_of(alloc, &error) {
                 Ok(refusal) => Err(refusal),
-                Err(_) => Err(Refusal::Memory),
+                Err(_) => Err(WordsRefusal::Memory),
             },
         }
     }
@@ -79,17 +79,17 @@ fn asked_in<'a>(alloc: Global, matches: &ArgMatches<'a>) -> Result<Word<'a>, Err
 }
 
 /// What `clap` shows on standard output is help or the version, and anything else is a mistake.
-fn refusal_of(alloc: Global, error: &Error) -> Result<Refusal, AllocError>
+fn refusal_of(alloc: Global, error: &Error) -> Result<WordsRefusal, AllocError>
     ensures { IfOk result (IsShown (kind_of error.now)) }
 {
     if error.kind() == ErrorKind::OutOfMemory {
-        return Ok(Refusal::Memory);
+        return Ok(WordsRefusal::Memory);
     }
     let text = format!(in alloc; "{error}")?;
     if error.use_stderr() {
-        Ok(Refusal::Mistake(text))
+        Ok(WordsRefusal::Mistake(text))
     } else {
-        Ok(Refusal::Help(text))
+        Ok(WordsRefusal::Help(text))
     }
 }
 

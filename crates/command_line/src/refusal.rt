@@ -1,11 +1,11 @@
 ghost use Rattle.std.specs.Prelude.{◌≡◌};
-ghost use Rattle.command_line.specs.declared.refusal.Refusal.TheVariants.{Memory};
+ghost use Rattle.command_line.specs.declared.refusal.WordsRefusal.TheVariants.{Memory};
 
 use std::alloc::AllocError;
 
 /// Why there is nothing to do.
 #[derive(Drop)]
-pub enum Refusal {
+pub enum WordsRefusal {
     /// The words ask for help or for the version, and this is its text.
     Help(String),
     /// The words aren't understood, and this is why.
@@ -14,10 +14,10 @@ pub enum Refusal {
     Memory,
 }
 
-impl From<AllocError> for Refusal {
+impl From<AllocError> for WordsRefusal {
     ghost from_gives = { λ _ refusal. refusal ≡ Memory };
 
-    fn from(_e: AllocError) -> Refusal {
-        Refusal::Memory
+    fn from(_e: AllocError) -> WordsRefusal {
+        WordsRefusal::Memory
     }
 }

@@ -4,8 +4,8 @@ use Rattle.std.proofs.Common.{OnErr, OnOk, arith, refl, ap, subst}
 use Rattle.std.proofs.lemmas.List.{length-append}
 use Rattle.book.specs.declared.standing.Standing.{Ghosts}
 use Rattle.cms.specs.declared.signer.SignerFault.{SignerFault}
-use Rattle.desk.specs.Runs.{IsProper}
-use Rattle.desk.specs.Stepped.{DeskValue}
+use Rattle.desk.specs.CallContract.{DeskValue}
+use Rattle.desk.specs.MachineRuns.{IsProper}
 use Rattle.service.specs.Received.{ReceivedValue}
 use Rattle.connections.specs.Heard.{Hall, IsAnswered, Comes, failed, answered, IsHeard, Follow, AreHeard, StopsHearing, hall}
 use Rattle.connections.specs.Run.{ServesEach}

@@ -5,7 +5,7 @@ use Rattle.std.proofs.lemmas.Bool.{leb-true}
 use Rattle.book.specs.History.{History, CalibrationValue, HoldValue}
 use Rattle.book.specs.Readers as readers
 use Rattle.desk.specs.Command.{Command, Stamp, Deposit, Show, Token, ListAll, Grant, Revoke, Calibrate, Hold}
-use Rattle.desk.specs.Steps.{IsMet}
+use Rattle.desk.specs.MachineStep.{IsMet}
 use Rattle.policy.specs.Record.{PolicyValue}
 use Rattle.service.specs.Checks.{◌>>=◌, check, account_shown, active_account, operator_shown, watcher_shown}
 use Rattle.service.specs.Forms.{calibration_stated, hold_stated, most_uncertainty, fields_counted, field_stated}

@@ -2,10 +2,10 @@
 use Rattle.std.proofs.Common.{◌≡◌, ◌∙◌, ℕ, List, [], ◌∷◌, Result, Ok, Err, IfOk, OnErr, ap}
 use Rattle.book.specs.declared.standing.Standing.{Ghosts}
 use Rattle.cms.specs.declared.signer.SignerFault.{SignerFault}
+use Rattle.desk.specs.CallContract.{DeskValue, desk_of}
 use Rattle.desk.specs.Command.{Setting, Answer}
 use Rattle.desk.specs.Outcome.{Outcome}
-use Rattle.desk.specs.Ran.{AreSteps, IsRun}
-use Rattle.desk.specs.Stepped.{DeskValue, desk_of}
+use Rattle.desk.specs.RunContract.{AreSteps, IsRun}
 
 module _ {B X : Type 0} (g : Ghosts B) (signs : X → List ℕ → Result (List ℕ) SignerFault → X → Type 0) (count : X → ℕ)
   where

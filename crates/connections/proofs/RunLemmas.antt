@@ -17,13 +17,13 @@ use Rattle.desk.specs.Agreement.{Agree}
 use Rattle.desk.specs.Laws.{AreMet, AreCommandsOf, Concerns, Continues, IsCommandOfOther, RunsAlike, StaysFor}
 use Rattle.desk.specs.Outcome.{Outcome}
 use Rattle.desk.specs.Promises.{KeepsPromises}
-use Rattle.desk.specs.Ran as ran
+use Rattle.desk.specs.RunContract as ran
 use Rattle.desk.specs.Readers.{rights_along}
-use Rattle.desk.specs.Runs.{Told, Runs, Journey, HasProperties, IsProper, after}
+use Rattle.desk.specs.MachineRuns.{Told, Runs, Journey, HasProperties, IsProper, after}
 use Rattle.desk.specs.Serials.{given_along, AreInOrder}
-use Rattle.desk.specs.Steps.{HasEffect, IsMet, Moves}
+use Rattle.desk.specs.MachineStep.{HasEffect, IsMet, Moves}
 use Rattle.desk.specs.Viewers.{viewer_in}
-use Rattle.desk.specs.Stepped.{DeskValue, IsStep, MayBeLeft, no_signer, with_signer}
+use Rattle.desk.specs.CallContract.{DeskValue, IsStep, MayBeLeft, no_signer, with_signer}
 use Rattle.desk.proofs.Whole.{continued}
 use Rattle.service.specs.Answers.{AnswerValue}
 use Rattle.service.specs.Requests.{IsRequest, Step}

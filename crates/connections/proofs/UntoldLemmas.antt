@@ -2,7 +2,7 @@
 use Rattle.std.proofs.Common.{ℕ, ℤ, List, Option, None, Result, refl, inl, inr}
 use Rattle.book.specs.declared.standing.Standing.{Ghosts}
 use Rattle.cms.specs.declared.signer.SignerFault.{SignerFault}
-use Rattle.desk.specs.Stepped.{DeskValue}
+use Rattle.desk.specs.CallContract.{DeskValue}
 use Rattle.service.specs.Answers.{AnswerValue}
 use Rattle.service.specs.Served.{Turn, IsIdle, IsSilent, IsLook, IsAnswer, refuses, replies, turns_back, looks}
 use Rattle.service.specs.Served.{wants_early, wants_list, Sends, SendsOctets, Writes, Extracts, Serves}

@@ -4,7 +4,7 @@ use Rattle.std.specs.Prelude.{◌≡◌, ℕ, ◌<◌, ℤ, true, List, [], ◌�
 use Rattle.std.specs.Io.KnownBytes.{Consumes, IsAtEnd}
 use Rattle.book.specs.declared.standing.Standing.{Ghosts}
 use Rattle.cms.specs.declared.signer.SignerFault.{SignerFault}
-use Rattle.desk.specs.Stepped.{DeskValue}
+use Rattle.desk.specs.CallContract.{DeskValue}
 use Rattle.service.specs.Received.{ReceivedValue}
 use Rattle.service.specs.Served.{Serves}
 use Rattle.service.specs.declared.served.Served.{Served}

@@ -8,9 +8,9 @@ use Rattle.book.specs.Stands.{Stands}
 use Rattle.cms.specs.declared.signer.SignerFault.{SignerFault}
 use Rattle.desk.specs.Command.{Command, Calibrate, ListAll, Answer, Listed}
 use Rattle.desk.specs.Laws.{AreMet}
+use Rattle.desk.specs.MachineRuns.{Told}
 use Rattle.desk.specs.Outcome.{Outcome}
-use Rattle.desk.specs.Ran.{HasRun}
-use Rattle.desk.specs.Runs.{Told}
+use Rattle.desk.specs.RunContract.{HasRun}
 use Rattle.service.specs.Answers.{AnswerValue}
 use Rattle.service.specs.Served.{Turn, IsAnswer, refuses, replies, turned_back, turns_back, looks, wants_early}
 use Rattle.service.specs.Served.{wants_list, Serves}

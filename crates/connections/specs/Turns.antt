@@ -3,7 +3,7 @@
 use Rattle.std.specs.Prelude.{◌≡◌, ℕ, ◌<◌, ℤ, List, [], ◌∷◌, length, Option, None, Result, Ok, Err}
 use Rattle.book.specs.declared.standing.Standing.{Ghosts}
 use Rattle.cms.specs.declared.signer.SignerFault.{SignerFault}
-use Rattle.desk.specs.Stepped.{DeskValue}
+use Rattle.desk.specs.CallContract.{DeskValue}
 use Rattle.service.specs.Served.{Serves}
 use Rattle.service.specs.declared.served.Served.{Served}
 use Rattle.connections.specs.declared.clock.ClockFailed.{ClockFailed}

@@ -3,8 +3,8 @@ ghost use Rattle.std.specs.Prelude.{◌≡◌, ℤ, List, ℕ, Option, Ok};
 ghost use Rattle.policy.specs.Record.{PolicyValue};
 ghost use Rattle.book.specs.History.{History};
 ghost use Rattle.desk.specs.Command.{Command};
-ghost use Rattle.desk.specs.Runs.{IsProper};
-ghost use Rattle.desk.specs.Steps.{IsMet};
+ghost use Rattle.desk.specs.MachineRuns.{IsProper};
+ghost use Rattle.desk.specs.MachineStep.{IsMet};
 ghost use Rattle.service.specs.Requests.{IsRequest, Step};
 
 use book::Book;

@@ -9,11 +9,11 @@ mod limited;
 mod listening;
 mod look;
 mod peer;
-mod serving;
+mod server;
 mod waiting;
 
 pub use clock::{Clock, ClockFailed, SystemClock};
 pub use hearing::Hearing;
 pub use laws::requests_ask_for_what_is_met;
 pub use listening::Listening;
-pub use serving::{CONNECTION_SECONDS, serve_connections, serve_each};
+pub use server::{CONNECTION_SECONDS, serve_connections, serve_each};

@@ -1,5 +1,5 @@
 pub mod Algorithms
 pub mod Digits
-pub mod Judging
+pub mod Judgement
 pub mod Rows
-pub mod Writing
+pub mod Writes

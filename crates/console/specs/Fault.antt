@@ -14,8 +14,8 @@ use Rattle.policy.specs.declared.fault.PolicyFault.{PolicyFault}
 use Rattle.book.specs.Fault as store
 use Rattle.book.specs.declared.fault.StoreFault.{StoreFault}
 use Rattle.tsp.specs.Fault as tsp
-use Rattle.command_line.specs.declared.refusal.Refusal.{Refusal}
-use Rattle.command_line.specs.declared.refusal.Refusal.TheVariants as refusal
+use Rattle.command_line.specs.declared.refusal.WordsRefusal.{WordsRefusal}
+use Rattle.command_line.specs.declared.refusal.WordsRefusal.TheVariants as refusal
 use Rattle.console.specs.declared.fault.Fault.{Fault}
 use Rattle.console.specs.declared.fault.Fault.TheVariants.{Der, Tsp, Cms, Policy, Store, Desk, Audit, Input}
 use Rattle.console.specs.declared.fault.InputFault.{InputFault}
@@ -66,7 +66,7 @@ abbrev pub fault_line : Fault → List ℕ
 fault_line fault = line_beginning fault ++ (decimal (number_of_fault fault) ++ 0x0a ∷ [])
 
 -- why there are no words to do, where neither help nor a mistake could tell it
-abbrev pub IsExplained : Refusal → InputFault → Type 0
+abbrev pub IsExplained : WordsRefusal → InputFault → Type 0
 IsExplained (refusal.Help text) fault = fault ≡ Failed
 IsExplained (refusal.Mistake text) fault = ⊥
 IsExplained refusal.Memory fault = fault ≡ Memory

@@ -7,4 +7,4 @@ pub mod Identity
 pub mod Known
 pub mod Settings
 pub mod Tst
-pub mod Writing
+pub mod Writes

@@ -7,7 +7,7 @@ ghost use Rattle.policy.specs.Meaning.{meaning_of};
 ghost use Rattle.policy.specs.View.{policy_view};
 ghost use Rattle.policy.specs.declared.fault.PolicyFault.{PolicyFault};
 ghost use Rattle.console.specs.Counts.{Counts, counts_line, line_of_words};
-ghost use Rattle.console.specs.Writing.{Begins};
+ghost use Rattle.console.specs.Writes.{Begins};
 
 use crate::fault::{Fault, InputFault};
 use crate::output::write_text;

@@ -39,7 +39,7 @@ pub enum Fault {
 
 impl Fault {
     ghost use Rattle.console.specs.Fault.{fault_line, line_beginning, number_of_fault};
-    ghost use Rattle.console.specs.Writing.{Begins, IsWhole};
+    ghost use Rattle.console.specs.Writes.{Begins, IsWhole};
 
     /// Writes the fault's line, or a beginning of it where standard error fails. It takes no memory.
     pub fn write_line<W: Output>(self, errors: &mut W)

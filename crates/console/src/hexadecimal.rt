@@ -2,7 +2,7 @@
 ghost use Rattle.std.specs.Prelude.{◌≡◌, ◌⊎◌, List, ℕ, Err, OnOk, IfOk, IfErr, IfSome, string_bytes};
 ghost use Rattle.std.specs.Io.KnownBytes.{Appends};
 ghost use Rattle.console.specs.Hexadecimal.{IsHexadecimal, is_blank, line, without_blanks};
-ghost use Rattle.console.specs.Writing.{Begins};
+ghost use Rattle.console.specs.Writes.{Begins};
 
 use crate::fault::InputFault;
 use crate::output::write_text;
@@ -11,7 +11,7 @@ use std::io::{ErrorKind, Read, Write};
 
 /// The octets that a reader's hexadecimal text spells. All of it is read before it is judged. `Failed` where a read
 /// fails, `NotHexadecimal` where the text spells no octets, and `Memory` where memory runs out.
-pub fn read_octets<R: Read>(alloc: Global, input: &mut R) -> Result<Vec<u8>, InputFault>
+pub fn read_hexadecimal<R: Read>(alloc: Global, input: &mut R) -> Result<Vec<u8>, InputFault>
     ensures found { IfOk result (λ v. IfSome (R.remaining input.old) (λ text.
         IsHexadecimal text v.items)) }
     ensures refused { result ≡ Err InputFault.NotHexadecimal
@@ -25,7 +25,7 @@ pub fn read_octets<R: Read>(alloc: Global, input: &mut R) -> Result<Vec<u8>, Inp
 
 /// Writes the octets as one line of hexadecimal digits in lower case. A write that fails is `Failed`: a beginning of
 /// the line was written then. `Memory` where memory runs out, before anything is written.
-pub fn write_octets<W: Write>(
+pub fn write_hexadecimal<W: Write>(
     alloc: Global,
     octets: &[u8],
     output: &mut W,

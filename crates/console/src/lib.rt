@@ -18,7 +18,7 @@ pub use accounts::{account_named, account_of};
 pub use check::{check_policy, read_policy};
 pub use fault::{Fault, InputFault};
 pub use files::{read_algorithm, read_identity, read_signer};
-pub use hexadecimal::{read_octets, write_octets};
+pub use hexadecimal::{read_hexadecimal, write_hexadecimal};
 pub use source::FileSource;
 pub use status::{DONE, FAULT, WORDS_REFUSED, explain, report};
 pub use tst::answer_tst;

@@ -1,8 +1,8 @@
 //! Texts on an output.
 ghost use Rattle.std.specs.Prelude.{◌≡◌, OnOk, OnErr, IfErr};
 ghost use Rattle.std.specs.Io.KnownBytes.{Appends};
-ghost use Rattle.audit.specs.Failing.{HasFailed};
-ghost use Rattle.console.specs.Writing.{Begins};
+ghost use Rattle.audit.specs.Failures.{HasFailed};
+ghost use Rattle.console.specs.Writes.{Begins};
 
 use crate::fault::InputFault;
 use audit::{Output, write_octets};

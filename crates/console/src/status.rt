@@ -2,15 +2,15 @@
 ghost use Rattle.std.specs.Prelude.{◌≡◌, ◌≤◌, ◌⊎◌, String, string_bytes};
 ghost use Rattle.std.specs.Io.KnownBytes.{Appends};
 ghost use Rattle.std.specs.declared.alloc.Global.{Global};
-ghost use Rattle.command_line.specs.declared.refusal.Refusal.TheVariants.{Help, Mistake};
-ghost use Rattle.audit.specs.Failing.{HasFailed};
+ghost use Rattle.command_line.specs.declared.refusal.WordsRefusal.TheVariants.{Help, Mistake};
+ghost use Rattle.audit.specs.Failures.{HasFailed};
 ghost use Rattle.console.specs.Fault.{IsExplained, fault_line};
-ghost use Rattle.console.specs.Writing.{Begins, IsWhole};
+ghost use Rattle.console.specs.Writes.{Begins, IsWhole};
 
 use crate::fault::{Fault, InputFault};
 use crate::output::write_text;
 use audit::Output;
-use command_line::Refusal;
+use command_line::WordsRefusal;
 
 /// What the words ask for is done; a rejection and help are done too.
 pub const DONE: u8 = 0;
@@ -34,7 +34,7 @@ pub fn report<E: Output>(fault: Fault, errors: &mut E) -> u8
 
 /// Writes why there are no words to do: help to `output`, with status 0, a mistake to `errors`, with status 2, and else
 /// the line of `input` 5 where help can't be written, and of 7 where memory ran out, with status 1.
-pub fn explain<O: Output, E: Output>(refusal: &Refusal, output: &mut O, errors: &mut E) -> u8
+pub fn explain<O: Output, E: Output>(refusal: &WordsRefusal, output: &mut O, errors: &mut E) -> u8
     ensures status { result ≤ 2 }
     ensures silent { result ≡ 0 → E.contents errors.new ≡ E.contents errors.old }
 
@@ -62,15 +62,15 @@ pub fn explain<O: Output, E: Output>(refusal: &Refusal, output: &mut O, errors: 
         → HasFailed (O.failures output.old) (O.failures output.new) }
 {
     match refusal {
-        Refusal::Help(text) => match write_text(text.as_str(), output) {
+        WordsRefusal::Help(text) => match write_text(text.as_str(), output) {
             Ok(()) => DONE,
             Err(fault) => report(Fault::Input(fault), errors),
         },
-        Refusal::Mistake(text) => {
+        WordsRefusal::Mistake(text) => {
             // Where standard error fails, the status alone tells.
             let _ = write_text(text.as_str(), errors);
             WORDS_REFUSED
         }
-        Refusal::Memory => report(Fault::Input(InputFault::Memory), errors),
+        WordsRefusal::Memory => report(Fault::Input(InputFault::Memory), errors),
     }
 }

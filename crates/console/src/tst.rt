@@ -12,10 +12,10 @@ ghost use Rattle.tsp.specs.View.{request_view};
 ghost use Rattle.tsp.specs.declared.fault.TspFault.TheVariants.{Memory};
 ghost use Rattle.console.specs.Settings.{settings_value};
 ghost use Rattle.console.specs.Tst.{Answers, HasLawfulAnswers, IsReply, IsReplyFault, IsTstFault, tst_of};
-ghost use Rattle.console.specs.Writing.{Begins};
+ghost use Rattle.console.specs.Writes.{Begins};
 
 use crate::fault::{Fault, InputFault};
-use crate::hexadecimal::{read_octets, write_octets};
+use crate::hexadecimal::{read_hexadecimal, write_hexadecimal};
 use crate::rules::first_failing;
 use crate::settings::Settings;
 use command_line::TstWords;
@@ -53,9 +53,9 @@ pub fn answer_tst<I: Read, O: Write>(
     ensures faults { IfErr result (IsTstFault (I.remaining input.old)) }
 {
     let settings = Settings::of_words(alloc, words)?;
-    let query = read_octets(alloc, input)?;
+    let query = read_hexadecimal(alloc, input)?;
     let reply = tst_reply(alloc, query.as_slice(), &settings)?;
-    write_octets(alloc, reply.as_slice(), output)?;
+    write_hexadecimal(alloc, reply.as_slice(), output)?;
     Ok(())
 }
 

@@ -12,9 +12,9 @@ use Rattle.console.specs.declared.fault.Fault.{Fault}
 use Rattle.console.specs.declared.fault.Fault.TheVariants.{Input}
 use Rattle.console.specs.declared.fault.InputFault.TheVariants.{Failed}
 use Rattle.counter.specs.Exchange.{HasEnded, HasStopped, WritesAnswer}
-use Rattle.counter.specs.Exchanging as known
-use Rattle.console.specs.Writing.{Begins}
-use Rattle.console.proofs.Writing.{appends_nothing, keeps_beginning}
+use Rattle.counter.specs.HttpRequest as known
+use Rattle.console.specs.Writes.{Begins}
+use Rattle.console.proofs.Writes.{appends_nothing, keeps_beginning}
 
 module _ (policy : PolicyValue) (reading : ℤ) (old new before : Option (List ℕ)) where
   -- the input is at its end

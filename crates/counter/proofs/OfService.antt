@@ -9,8 +9,8 @@ use Rattle.service.specs.Served.{Turn, Takes, IsAnswer, refuses, replies, turns_
 use Rattle.service.specs.Served.{tells_status, wants_status, Extracts, Serves}
 use Rattle.service.specs.declared.served.Served.{Served}
 use Rattle.service.specs.declared.served.Served.TheVariants as served
-use Rattle.counter.specs.Exchanging as known
-use Rattle.counter.specs.Exchanging.{AsksExtract, IsExchanged, IsAnswerFor, IsJudged}
+use Rattle.counter.specs.HttpRequest as known
+use Rattle.counter.specs.HttpRequest.{AsksExtract, IsExchanged, IsAnswerFor, IsJudged}
 
 module _ {W B X : Type 0} (g : Ghosts B) (signs : X → List ℕ → Result (List ℕ) SignerFault → X → Type 0)
     (count : X → ℕ) (contents : W → Option (List ℕ)) (reading : ℤ) (t : Turn W B X) where

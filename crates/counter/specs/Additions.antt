@@ -10,7 +10,7 @@ use Rattle.command_line.specs.declared.words.FloorWords.{FloorWords}
 use Rattle.command_line.specs.declared.words.HoldWords.{HoldWords}
 use Rattle.connections.specs.Clock.{Reading}
 use Rattle.operations.specs.OverFiles.{IsAddedOver}
-use Rattle.operations.specs.declared.adding.Addition.TheVariants as addition
+use Rattle.operations.specs.declared.addition.Addition.TheVariants as addition
 use Rattle.operations.specs.declared.void_stamp.Floor.{Floor}
 use Rattle.operations.specs.Machine.{Machine}
 

@@ -9,14 +9,14 @@ use Rattle.command_line.specs.Words.{Asks}
 use Rattle.command_line.specs.declared.words.AuditWords.{AuditWords}
 use Rattle.command_line.specs.declared.words.Word.{Word}
 use Rattle.command_line.specs.declared.words.Word.TheVariants.{Audit}
-use Rattle.operations.specs.Auditing.{TellsSome, extract_of, failing_lines}
+use Rattle.operations.specs.Audits.{TellsSome, extract_of, failing_lines}
 use Rattle.policy.specs.LookUp.{account_named}
 use Rattle.policy.specs.Meaning.{meaning_of}
 use Rattle.policy.specs.Record.{AccountValue, PolicyValue}
 use Rattle.book.specs.declared.fault.StoreFault.TheVariants as store
 use Rattle.book.specs.Rows.{StampRow}
 use Rattle.console.specs.Fault.{fault_line}
-use Rattle.console.specs.Writing.{Begins}
+use Rattle.console.specs.Writes.{Begins}
 use Rattle.console.specs.declared.fault.Fault.{Fault}
 use Rattle.console.specs.declared.fault.Fault.TheVariants as fault
 

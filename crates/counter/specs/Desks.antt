@@ -10,7 +10,7 @@ use Rattle.operations.specs.declared.signing.Signing.{Signing}
 use Rattle.policy.specs.Meaning.{meaning_of}
 use Rattle.operations.specs.Machine.{Machine}
 use Rattle.console.specs.Identity.{IsIdentity}
-use Rattle.counter.specs.Serving.{AreServedOver}
+use Rattle.counter.specs.Server.{AreServedOver}
 use Rattle.counter.specs.Signers.{SignsAs}
 
 -- by a policy that some text means, an identity, whose chain is empty where the words name none, and the algorithm of

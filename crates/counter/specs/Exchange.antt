@@ -13,7 +13,7 @@ use Rattle.console.specs.declared.fault.Fault.{Fault}
 use Rattle.console.specs.declared.fault.Fault.TheVariants.{Input}
 use Rattle.console.specs.declared.fault.InputFault.TheVariants.{Failed}
 use Rattle.counter.specs.Desks.{IsSettingOf}
-use Rattle.counter.specs.Exchanging.{AsksExtract, IsAnswerFor, IsServedOver}
+use Rattle.counter.specs.HttpRequest.{AsksExtract, IsAnswerFor, IsServedOver}
 use Rattle.operations.specs.Machine.{Machine}
 
 -- The input is at its end, and nothing is written; or it is a request, and what is written is an answer's text; or it

@@ -4,9 +4,9 @@ use Rattle.console.specs.Fault.{IsSettingFault}
 use Rattle.console.specs.declared.fault.Fault.{Fault}
 use Rattle.console.specs.declared.fault.Fault.TheVariants.{Store, Desk, Audit, Input}
 use Rattle.console.specs.declared.fault.InputFault.TheVariants.{Failed, Address, Signer, NotAfter}
-use Rattle.operations.specs.Opening.{IsServingFault}
-use Rattle.operations.specs.declared.auditing.AuditFault.{AuditFault}
-use Rattle.operations.specs.declared.auditing.AuditFault.TheVariants as auditing
+use Rattle.operations.specs.DatabaseFaults.{IsServingFault}
+use Rattle.operations.specs.declared.audits.AuditFault.{AuditFault}
+use Rattle.operations.specs.declared.audits.AuditFault.TheVariants as auditing
 use Rattle.operations.specs.declared.fault.ContinuationFault.{ContinuationFault}
 use Rattle.operations.specs.declared.fault.ContinuationFault.TheVariants as continuation
 use Rattle.operations.specs.declared.fault.OperationFault.{OperationFault}

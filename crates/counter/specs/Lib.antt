@@ -3,8 +3,8 @@ pub mod Audits
 pub mod Desks
 pub mod Answers
 pub mod Fault
-pub mod Serving
+pub mod Server
 pub mod Replies
 pub mod Signers
 pub mod Exchange
-pub mod Exchanging
+pub mod HttpRequest

@@ -10,7 +10,7 @@ use crate::host::Host;
 use cms::Signer;
 use command_line::AnswerWords;
 use connections::{Clock, SystemClock};
-use console::{Fault, account_of, read_octets};
+use console::{Fault, account_of, read_hexadecimal};
 use desk::{Reply, Settings};
 use operations::{DatabaseDesk, Disk, FileFrom, HostSigner, Question, Renewal, Start};
 use std::io::Read;
@@ -35,7 +35,7 @@ pub fn answer<F: Start + Drop, I: Read>(
         algorithm,
     } = read_files(rt, &words.desk)?;
     let account = account_of(&policy, words.key)?;
-    let query = read_octets(rt.alloc(), input)?;
+    let query = read_hexadecimal(rt.alloc(), input)?;
     let desk = DatabaseDesk {
         database: host.database(words.desk.db),
         settings: Settings {

@@ -3,12 +3,12 @@ ghost use Rattle.std.specs.Prelude.{◌≡◌, ◌⊎◌, OnOk, IfErr};
 ghost use Rattle.std.specs.Io.KnownBytes.{Appends, Keeps};
 ghost use Rattle.counter.specs.Exchange.{Exchanges, HasEnded, HasStopped};
 ghost use Rattle.operations.specs.Machine.{machine_of};
-ghost use Rattle.console.specs.Writing.{Begins};
+ghost use Rattle.console.specs.Writes.{Begins};
 
-use crate::exchanging::OneRequest;
 use crate::fault::fault_of;
 use crate::files::{Files, read_files};
 use crate::host::Host;
+use crate::http_request::OneRequest;
 use cms::Signer;
 use command_line::ExchangeWords;
 use connections::{Clock, SystemClock};

@@ -4,14 +4,14 @@
 mod answer;
 mod events;
 mod exchange;
-mod exchanging;
-mod extracting;
+mod extract;
 mod fault;
 mod files;
 mod history;
 mod host;
+mod http_request;
 mod run;
-mod serving;
+mod server;
 
 use std::process::ExitCode;
 

@@ -7,20 +7,20 @@ ghost use Rattle.console.specs.Fault.{fault_line};
 ghost use Rattle.console.specs.Hexadecimal.{line};
 ghost use Rattle.operations.specs.Machine.{image_at, machine_of};
 ghost use Rattle.operations.specs.OverFiles.{IsContinuedOver};
-ghost use Rattle.console.specs.Writing.{Begins};
+ghost use Rattle.console.specs.Writes.{Begins};
 
 use crate::answer::{answer, octets_of};
 use crate::exchange::exchange;
-use crate::extracting::audit;
+use crate::extract::audit;
 use crate::history::{calibrate, continue_in, hold, init, migrate};
 use crate::host::Host;
-use crate::serving::serve;
+use crate::server::serve;
 use cms::Signer;
 use command_line::{AnswerWords, AuditWords, Word};
 use connections::{Clock, SystemClock};
 use console::{
     DONE, FAULT, Fault, InputFault, WORDS_REFUSED, answer_tst, check_policy, explain, report,
-    write_octets,
+    write_hexadecimal,
 };
 use operations::{Disk, FileFrom, HostSigner, Start, Unknown};
 use std::io::{Read, Write};
@@ -271,6 +271,6 @@ fn answer_request<F: Start + Drop, I: Read, O: Write>(
 {
     let alloc = host.rt.alloc();
     let reply = answer(host, words, input)?;
-    write_octets(alloc, octets_of(&reply), output)?;
+    write_hexadecimal(alloc, octets_of(&reply), output)?;
     Ok(())
 }

@@ -1,5 +1,5 @@
 pub mod Clocks
-pub mod Judging
+pub mod Judgement
 pub mod Lists
 pub mod Rows
 pub mod Sentences

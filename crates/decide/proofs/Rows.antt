@@ -12,7 +12,7 @@ use Rattle.decide.specs.Rules.{HoldsOf}
 use Rattle.decide.specs.declared.facts.Calibration.{Calibration}
 use Rattle.decide.specs.declared.facts.ClockFacts.{ClockFacts}
 use Rattle.decide.proofs.Lists.{contains_here, contains_none}
-use Rattle.decide.proofs.Judging.{after_version, below_next}
+use Rattle.decide.proofs.Judgement.{after_version, below_next}
 
 abbrev counter : ℕ → CounterValue
 counter accuracy = record {

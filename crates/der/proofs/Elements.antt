@@ -5,7 +5,7 @@ use Rattle.std.proofs.lemmas.Bool.{eq-eqb, ne_eqb, eqb-true}
 use Rattle.std.proofs.lemmas.List.{length-append}
 use Rattle.std.proofs.Math.Seq.{take-append_seam, drop-append_seam}
 use Rattle.der.specs.Node.{element}
-use Rattle.der.specs.Reading.{Piece, element_at, expected_at}
+use Rattle.der.specs.FirstFault.{Piece, element_at, expected_at}
 use Rattle.der.specs.declared.fault.DerFault.{DerFault}
 use Rattle.der.specs.declared.fault.DerFault.TheVariants.{WrongKind}
 use Rattle.der.proofs.ReadingSteps.{ok_is, err_is_not}

@@ -3,9 +3,9 @@ pub mod DigitsElements
 pub mod Lengths
 pub mod NumberContents
 pub mod OidContents
+pub mod OidLoop
 pub mod OidNumbers
 pub mod OidOfTexts
-pub mod OidReading
 pub mod OidTextLoops
 pub mod OidTexts
 mod Rows

@@ -5,7 +5,7 @@ use Rattle.std.proofs.lemmas.Bool.{ltb-false, le-ltb, ne_eqb, eqb-false}
 use Rattle.std.proofs.lemmas.List.{length-append, take-append-drop, length-take-le}
 use Rattle.std.proofs.Math.Seq.{take-append_seam, drop-append_seam}
 use Rattle.der.specs.Node.{length_octets, element, AreOctets}
-use Rattle.der.specs.Reading.{Piece, identifier_at, length_at, contents_at, element_at}
+use Rattle.der.specs.FirstFault.{Piece, identifier_at, length_at, contents_at, element_at}
 use Rattle.der.specs.declared.fault.DerFault.TheVariants.{Truncated, HighTag}
 use Rattle.der.proofs.Octets.{AreOctets-parts}
 use Rattle.der.proofs.ReadingSteps.{ok_is, else_ok, bind_ok}

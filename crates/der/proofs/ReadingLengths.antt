@@ -10,7 +10,7 @@ use Rattle.std.proofs.lemmas.Slice.Eq.{bytes_eq-Decides}
 use Rattle.std.proofs.lemmas.List.{length-append, take-append-drop, length-take-le}
 use Rattle.std.proofs.Math.Seq.{take-append_seam, drop-append_seam}
 use Rattle.der.specs.Node.{length_octets, AreOctets}
-use Rattle.der.specs.Reading.{is_length_of, long_length, length_at}
+use Rattle.der.specs.FirstFault.{is_length_of, long_length, length_at}
 use Rattle.der.specs.declared.fault.DerFault.{DerFault}
 use Rattle.der.specs.declared.fault.DerFault.TheVariants.{Truncated, LengthForm, TooLong}
 use Rattle.der.proofs.Digits.{digits_of-number}

@@ -5,7 +5,7 @@ use Rattle.std.proofs.lemmas.Bool.{ne_eqb, eq-eqb, eqb-true, eqb-false}
 use Rattle.std.proofs.lemmas.List.{length-append, append-nil}
 use Rattle.der.specs.Node.{Node, primitive, constructed, Nodes, no_nodes, node, length_octets, element, encoding}
 use Rattle.der.specs.Node.{encodings, levels, levels_of, bit_six, IsFormed, AreFormed, AreOctets, IsLawful}
-use Rattle.der.specs.Reading.{◌>>=◌, Piece, element_at, nodes_with, node_of, node_at, tree_of}
+use Rattle.der.specs.FirstFault.{◌>>=◌, Piece, element_at, nodes_with, node_of, node_at, tree_of}
 use Rattle.der.specs.declared.fault.DerFault.{DerFault}
 use Rattle.der.specs.declared.fault.DerFault.TheVariants.{Trailing, TooDeep}
 use Rattle.der.proofs.Octets.{AreOctets-parts}

@@ -3,7 +3,7 @@ use Rattle.std.proofs.Common.{◌≡◌, ℕ, zero, suc, ◌-◌, ◌<◌, ◌==
 use Rattle.std.proofs.Common.{Err, refl, sym, ap, ◌∙◌, arith}
 use Rattle.der.specs.Node.{Node, primitive, constructed, Nodes, no_nodes, node, bit_six}
 use Rattle.der.specs.Tree.{nodes}
-use Rattle.der.specs.Reading.{◌>>=◌, IsFaultOf, Piece, element_at, nodes_with, node_of, node_at}
+use Rattle.der.specs.FirstFault.{◌>>=◌, IsFaultOf, Piece, element_at, nodes_with, node_of, node_at}
 use Rattle.der.specs.declared.fault.DerFault.{DerFault}
 use Rattle.der.specs.declared.fault.DerFault.TheVariants.{Truncated, LengthForm, HighTag, WrongKind, TooDeep, TooLong}
 use Rattle.der.specs.declared.fault.DerFault.TheVariants.{Trailing, BadValue, Memory}

@@ -2,7 +2,7 @@
 use Rattle.std.proofs.Common.{◌≡◌, ℕ, ◌<◌, ◌==◌, true, false, List, length, Result, Ok, Err, refl, sym, ap, ◌∙◌, arith}
 use Rattle.std.proofs.lemmas.Bool.{eq-eqb, ne_eqb}
 use Rattle.der.specs.Node.{Node, encoding, IsLawful}
-use Rattle.der.specs.Reading.{IsFaultOf, node_at, tree_of}
+use Rattle.der.specs.FirstFault.{IsFaultOf, node_at, tree_of}
 use Rattle.der.specs.declared.fault.DerFault.{DerFault}
 use Rattle.der.specs.declared.fault.DerFault.TheVariants.{Truncated, LengthForm, HighTag, WrongKind, TooDeep, TooLong}
 use Rattle.der.specs.declared.fault.DerFault.TheVariants.{Trailing, BadValue, Memory}

@@ -4,8 +4,9 @@ use Rattle.der.specs.Node.{Node, primitive, constructed, no_nodes, node, encodin
 use Rattle.der.specs.Node.{contents_of, first_of, take_under}
 use Rattle.der.specs.Number.{number_content, twos_value}
 use Rattle.der.specs.ObjectIdentifier.{oid_content, oid_text, subidentifier_octets, decimal}
-use Rattle.der.specs.Reading.{tree_of, node_at, node_of, nodes_with, element_at, identifier_at, length_at, contents_at}
-use Rattle.der.specs.Reading.{long_length, is_length_of}
+use Rattle.der.specs.FirstFault.{tree_of, node_at, node_of, nodes_with, element_at, identifier_at, length_at}
+use Rattle.der.specs.FirstFault.{contents_at}
+use Rattle.der.specs.FirstFault.{long_length, is_length_of}
 use Rattle.der.specs.declared.fault.DerFault.TheVariants.{Truncated, LengthForm, HighTag, Trailing}
 
 -- 201 is 81 C9 (X.690 8.1.3.5's example)

@@ -6,7 +6,7 @@ use Rattle.std.proofs.lemmas.Bool.{ltb-true, lt-ltb}
 use Rattle.std.proofs.lemmas.List.{length-append}
 use Rattle.der.specs.Node.{Node, primitive, constructed, Nodes, no_nodes, node, encoding, encodings, levels_of, bit_six}
 use Rattle.der.specs.Node.{AreOctets, AreFormed, IsLawful}
-use Rattle.der.specs.Reading.{◌>>=◌, Piece, element_at, node_at, nodes_with, values_at, tree_of}
+use Rattle.der.specs.FirstFault.{◌>>=◌, Piece, element_at, node_at, nodes_with, values_at, tree_of}
 use Rattle.der.specs.DataValue.{AreEncodings, read_or, value_in, values_in, is_value, are_values}
 use Rattle.der.specs.declared.fault.DerFault.{DerFault}
 use Rattle.der.proofs.Octets.{AreOctets-parts}

@@ -6,7 +6,7 @@ use Rattle.std.proofs.lemmas.List.{length-append, append-nil}
 use Rattle.der.specs.Node.{Node, primitive, constructed, Nodes, no_nodes, node, element, encoding, encodings}
 use Rattle.der.specs.Node.{contents_octets, identifier_of, contents_of, components_of, first_of, take_under, is_end}
 use Rattle.der.specs.Node.{levels_of, bit_six, IsLowTag, IsFormed, AreFormed, IsLawful, AreOctets}
-use Rattle.der.specs.Reading.{tree_of}
+use Rattle.der.specs.FirstFault.{tree_of}
 use Rattle.der.specs.DataValue.{value_in, values_in, is_value, are_values}
 use Rattle.der.proofs.Elements.{one_beginning}
 use Rattle.der.proofs.ReadingNodes.{encoding_some, tree_of_reads}

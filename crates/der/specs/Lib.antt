@@ -1,10 +1,10 @@
 pub mod DataValue
 pub mod DataValueView
 pub mod Fault
+pub mod FirstFault
 pub mod Node
 pub mod Number
 pub mod ObjectIdentifier
 pub mod OidText
 pub mod Piece
-pub mod Reading
 pub mod Tree

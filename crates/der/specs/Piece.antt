@@ -1,5 +1,5 @@
 -- What a reader's `Piece` is among the definitions of reading.
-use Rattle.der.specs.Reading as reading
+use Rattle.der.specs.FirstFault as reading
 use Rattle.der.specs.declared.read.Piece.{Piece}
 
 abbrev pub piece_view : Piece → reading.Piece

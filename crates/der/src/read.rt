@@ -3,8 +3,8 @@ ghost use Rattle.std.specs.Prelude.{◌≡◌, ℕ, ◌<◌, ◌+◌, ◌*◌, L
 ghost use Rattle.der.specs.Node.{Node, encoding, IsLawful};
 ghost use Rattle.der.specs.Piece.{piece_view};
 ghost use Rattle.der.specs.Tree.{view, nodes, IsRead};
-ghost use Rattle.der.specs.Reading.{Gives, Reads, IsFaultOf, long_length, length_at, identifier_at, element_at};
-ghost use Rattle.der.specs.Reading.{node_at, nodes_with, tree_of};
+ghost use Rattle.der.specs.FirstFault.{Gives, Reads, IsFaultOf, long_length, length_at, identifier_at, element_at};
+ghost use Rattle.der.specs.FirstFault.{node_at, nodes_with, tree_of};
 
 use crate::fault::DerFault;
 use crate::tag::Tag;
@@ -23,7 +23,7 @@ pub(crate) struct Piece<'a> {
 }
 
 /// The identifier octet, and the octets after it.
-#[tactic(auto, unfolding(crate::specs::Reading::identifier_at))]
+#[tactic(auto, unfolding(crate::specs::FirstFault::identifier_at))]
 fn read_identifier(bytes: &[u8]) -> Result<(Tag, &[u8]), DerFault>
     ensures read { Reads (λ found. (found.0.octet, found.1.now)) result (identifier_at bytes.now) }
     ensures shorter { IfOk result (λ found. length found.1.now < length bytes.now) }
@@ -39,7 +39,7 @@ fn read_identifier(bytes: &[u8]) -> Result<(Tag, &[u8]), DerFault>
 
 /// How many contents octets there are, by the octets after the first length octet. They must be the fewest, so the
 /// first of them is not 0 and the number is at least 128 (X.690 8.1.3.5, 10.1).
-#[tactic(auto, unfolding(crate::specs::Reading::long_length))]
+#[tactic(auto, unfolding(crate::specs::FirstFault::long_length))]
 fn long_length(octets: &[u8]) -> Result<usize, DerFault>
     ensures { (rest : List ℕ) → Reads (λ count. (count, rest)) result (long_length octets.now rest) }
 {
@@ -60,7 +60,7 @@ fn long_length(octets: &[u8]) -> Result<usize, DerFault>
 }
 
 /// How many contents octets there are, by the length octets at the front, and the octets after those.
-#[tactic(auto, unfolding(crate::specs::Reading::length_at))]
+#[tactic(auto, unfolding(crate::specs::FirstFault::length_at))]
 fn read_length(bytes: &[u8]) -> Result<(usize, &[u8]), DerFault>
     ensures read { Reads (λ found. (found.0, found.1.now)) result (length_at bytes.now) }
     ensures shorter { IfOk result (λ found. length found.1.now < length bytes.now) }
@@ -85,7 +85,7 @@ fn read_length(bytes: &[u8]) -> Result<(usize, &[u8]), DerFault>
 }
 
 /// Identifier and contents of the value at the front, and the octets after it, whatever the contents are.
-#[tactic(auto, unfolding(crate::specs::Reading::element_at, crate::specs::Reading::contents_at))]
+#[tactic(auto, unfolding(crate::specs::FirstFault::element_at, crate::specs::FirstFault::contents_at))]
 pub(crate) fn read_element(bytes: &[u8]) -> Result<Piece<'_>, DerFault>
     ensures read { Reads piece_view result (element_at bytes.now) }
     ensures shorter { IfOk result (λ piece. length piece.rest.now < length bytes.now) }

@@ -3,7 +3,7 @@ ghost use Rattle.std.specs.Prelude.{◌≡◌, ℕ, ◌≤◌, ◌↔◌, true, 
 ghost use Rattle.std.specs.Prelude.{IfOk, IfErr, IsNone, MatchResult};
 ghost use Rattle.der.specs.Node.{Node, Nodes, no_nodes, encoding, encodings, identifier_of, contents_of};
 ghost use Rattle.der.specs.Node.{components_of, first_of, take_under, is_end, levels_of, AreFormed, IsLawful};
-ghost use Rattle.der.specs.Reading.{node_at, values_at, tree_of};
+ghost use Rattle.der.specs.FirstFault.{node_at, values_at, tree_of};
 ghost use Rattle.der.specs.DataValue.{AreEncodings, is_value, are_values, value_in, values_in};
 ghost use Rattle.der.specs.DataValueView.{value_view, values_view};
 

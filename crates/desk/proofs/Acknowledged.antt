@@ -2,7 +2,7 @@
 use Rattle.std.proofs.Common.{zero, suc, ◌≡◌, ℕ, ◌+◌, ◌==◌, ◌&&◌, nat_le, cond, ℤ, Bool, true, false, List, [], ◌∷◌, ◌++◌, drop, length}
 use Rattle.std.proofs.Common.{Option, Some, None, refl, sym, ◌∙◌, ap, subst}
 use Rattle.policy.specs.Record.{AccountValue}
-use Rattle.book.specs.Continuing.{Floor, continued}
+use Rattle.book.specs.Continuation.{Floor, continued}
 use Rattle.book.specs.History.{Entry, Reserved, Sealed, Deposited, Calibrated, Held, Granted, Revoked, History}
 use Rattle.book.specs.History.{Installed, InstalledValue, calibrations, holds, latest_calibration, token_of}
 use Rattle.book.specs.History.{deposit_under}
@@ -24,13 +24,13 @@ use Rattle.desk.specs.Effects.{accepted, numbered, succeed_effect, calibrate_eff
 use Rattle.desk.specs.Succession.{installed_by, is_latest}
 use Rattle.desk.specs.declared.fault.Fault.{Fault}
 use Rattle.desk.specs.declared.fault.Fault.TheVariants as fault
-use Rattle.desk.specs.Steps.{KeepsByReference, KeepsOnceSearched, KeepsWithinSize, HasEffect}
-use Rattle.desk.specs.Runs.{Told, Journey, begins, opens, opens_older, shuts, rests, enters, breaks, goes, stops}
-use Rattle.desk.specs.Runs.{continues}
+use Rattle.desk.specs.MachineStep.{KeepsByReference, KeepsOnceSearched, KeepsWithinSize, HasEffect}
+use Rattle.desk.specs.MachineRuns.{Told, Journey, begins, opens, opens_older, shuts, rests, enters, breaks, goes, stops}
+use Rattle.desk.specs.MachineRuns.{continues}
 use Rattle.desk.specs.Readers.{where_done, rights_by, rights_along}
 use Rattle.desk.specs.Viewers.{viewer_in}
 use Rattle.desk.proofs.Branches.{if_has, unless_has, right_has}
-use Rattle.desk.proofs.Stepping.{shows_none, tokens_none, answers_none}
+use Rattle.desk.proofs.StepFacts.{shows_none, tokens_none, answers_none}
 use Rattle.desk.proofs.WholeOn.{goes_along}
 
 -- entries that are the same to each reader of each deposit

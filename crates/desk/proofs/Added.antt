@@ -9,18 +9,18 @@ use Rattle.book.specs.Stands.{Stands, LeavesAsBefore}
 use Rattle.book.specs.declared.fault.StoreFault.{StoreFault}
 use Rattle.book.specs.declared.fault.StoreFault.TheVariants as store
 use Rattle.desk.specs.Fit.{IsFit}
-use Rattle.desk.specs.Outcome.{Call, Fine, Wanting, Failed, Outcome, Cause, OfMemory, OfStore, cause_of}
+use Rattle.desk.specs.Outcome.{Call, Fine, OutOfMemory, Failed, Outcome, Cause, OfMemory, OfStore, cause_of}
 use Rattle.desk.specs.Outcome.{faults_after, all_fine}
 use Rattle.desk.specs.Command.{Setting, Command, Numbered, Refused}
 use Rattle.desk.specs.Effects.{Effect, only, unless, fault_of, numbered}
 use Rattle.desk.specs.Calls.{store_cause}
 use Rattle.desk.specs.Obstacles.{hindered}
-use Rattle.desk.specs.Steps.{HasEffect, IsMet}
-use Rattle.desk.specs.Stepped.{StepsBy, MayBeLeft, IsBlamed, IsExcused, IsOpened, no_signer, committed}
+use Rattle.desk.specs.MachineStep.{HasEffect, IsMet}
+use Rattle.desk.specs.CallContract.{StepsBy, MayBeLeft, IsBlamed, IsExcused, IsOpened, no_signer, committed}
 use Rattle.desk.specs.declared.fault.Fault.TheVariants as fault
 use Rattle.desk.specs.declared.obstacle.Obstacle.TheVariants as obstacle
-use Rattle.desk.proofs.Fitting.{none_failed}
-use Rattle.desk.proofs.Sealing.{one_in_doubt}
+use Rattle.desk.proofs.Fits.{none_failed}
+use Rattle.desk.proofs.Seals.{one_in_doubt}
 
 -- what a command does that enters one entry, unless the history turns it back
 abbrev pub entering : Entry → ℕ → Option Cause → Bool → Effect
@@ -144,7 +144,7 @@ pub refuses_by : {B : Type 0} (g : Ghosts B) (s : Setting) (c : Command) (entry 
     → StepsBy g no_signer s c (hindered (obstacle.Adding f)) old new (Refused (fault_of (store_cause f)))
 refuses_by g s c entry numbers turns old new store.Memory enters which a turned excuses before =
     refused_as g s c entry numbers turns old new (hindered (obstacle.Adding store.Memory)) OfMemory enters refl refl
-    (λ a e. cc) (enters.made Wanting)
+    (λ a e. cc) (enters.made OutOfMemory)
     (none_failed _ tt tt tt tt tt tt tt tt) a.faults store.Memory a before
 refuses_by g s c entry numbers turns old new store.Database enters which a turned excuses before =
     refused_as g s c entry numbers turns old new (hindered (obstacle.Adding store.Database)) OfStore enters refl refl

@@ -14,9 +14,9 @@ use Rattle.book.specs.Sound.{FitsReserved, IsSound, greatest_number}
 use Rattle.desk.specs.Batches.{with_reserved}
 use Rattle.desk.specs.Calls.{looked_at, moment_or_last}
 use Rattle.desk.specs.Facts.{calibration_of, is_held_at, now_in}
-use Rattle.desk.specs.Waiting.{waiting_view, with_waiting}
-use Rattle.desk.specs.declared.looking.Looked.{Looked}
-use Rattle.desk.specs.declared.waiting.Waiting.{Waiting}
+use Rattle.desk.specs.WaitingStamps.{waiting_view, with_waiting}
+use Rattle.desk.specs.declared.clock_facts.Looked.{Looked}
+use Rattle.desk.specs.declared.waiting_stamp.Waiting.{Waiting}
 use Rattle.decide.specs.declared.facts.Calibration.{Calibration}
 use Rattle.desk.proofs.SameEffect.{held_same}
 

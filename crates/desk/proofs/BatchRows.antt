@@ -11,7 +11,7 @@ use Rattle.desk.specs.Outcome.{Failed, Fine, all_fine, Outcome}
 use Rattle.desk.specs.Command.{Rejected}
 use Rattle.desk.specs.Effects.{Effect, next_reservation, stamping_of, stamp_effect}
 use Rattle.desk.specs.Texts.{pending_of, token_with}
-use Rattle.desk.specs.Runs.{after}
+use Rattle.desk.specs.MachineRuns.{after}
 use Rattle.desk.specs.Batches.{BatchEffect, batch_of, with_reserved, once_reserved, after_batch, faults_together}
 use Rattle.desk.proofs.Rows.{carol, file, setting, reserved, history, plan}
 

@@ -21,8 +21,8 @@ use Rattle.desk.specs.Command.{Setting, PendingValue, Stamp, Answer}
 use Rattle.desk.specs.Texts.{pending_of, token_with}
 use Rattle.desk.specs.Effects.{Effect, no_number, no_seal, next_reservation, sealed_or_void, signed_or_void}
 use Rattle.desk.specs.Effects.{stamping_of, stamp_effect, stamp_found, name_of}
-use Rattle.desk.specs.Steps.{HasEffect, Moves}
-use Rattle.desk.specs.Runs.{Runs, Told, after, cut}
+use Rattle.desk.specs.MachineStep.{HasEffect, Moves}
+use Rattle.desk.specs.MachineRuns.{Runs, Told, after, cut}
 use Rattle.desk.specs.Laws.{Continues}
 use Rattle.desk.specs.Wholes.{joined}
 use Rattle.desk.specs.Batches.{Question, stamp_for, stamps_for, SealValue, seals, seal_entry, with_reserved}
@@ -30,7 +30,7 @@ use Rattle.desk.specs.Batches.{with_sealed, HaveEffects, all_reserved, all_seale
 use Rattle.desk.specs.Batches.{after_batch, once_reserved, IsRunTogether, IsLeftInBatch, IsCutTogether}
 use Rattle.desk.proofs.SameEffect.{finds_same, stamp_found_same, held_same}
 use Rattle.desk.proofs.Sound.{gen_time_bound, number_left, not_full}
-use Rattle.desk.proofs.Stamping.{finds_joined}
+use Rattle.desk.proofs.Stamps.{finds_joined}
 use Rattle.desk.proofs.Views.{unsealed_above, reservation_stays}
 
 -- what book says of histories that show the same

@@ -10,7 +10,7 @@ use Rattle.book.specs.declared.values.Last.{Last}
 use Rattle.decide.specs.declared.facts.Calibration.{Calibration}
 use Rattle.desk.specs.Facts.{now_in, now_with, is_held_at}
 use Rattle.desk.specs.Calls.{looked_at, calibrations_as, moment_or_last}
-use Rattle.desk.specs.declared.looking.Looked.{Looked}
+use Rattle.desk.specs.declared.clock_facts.Looked.{Looked}
 
 within : (moment : ℕ) → moment ≤ last_moment → moment_or_last moment ≡ moment
 within moment h = omega arith

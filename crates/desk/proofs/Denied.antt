@@ -15,13 +15,13 @@ use Rattle.desk.specs.Fit.{IsFit}
 use Rattle.desk.specs.Fault as sight
 use Rattle.desk.specs.Obstacles.{fault_with, hindered, IsOfSight, IsOfRight, IsUnseen}
 use Rattle.desk.specs.Outcome.{Call, Fine, Outcome, OfMemory, cause_of, faults_after, all_fine}
-use Rattle.desk.specs.Steps.{HasEffect}
-use Rattle.desk.specs.Stepped.{no_signer, IsBlamed, IsOpened, StepsBy}
+use Rattle.desk.specs.MachineStep.{HasEffect}
+use Rattle.desk.specs.CallContract.{no_signer, IsBlamed, IsOpened, StepsBy}
 use Rattle.desk.specs.declared.fault.Fault.{Fault}
 use Rattle.desk.specs.declared.fault.Fault.TheVariants as fault
 use Rattle.desk.specs.declared.obstacle.Obstacle.{Obstacle}
 use Rattle.desk.specs.declared.obstacle.Obstacle.TheVariants as obstacle
-use Rattle.desk.proofs.Fitting.{none_failed}
+use Rattle.desk.proofs.Fits.{none_failed}
 
 blamed : {B : Type 0} (reader : Reader) (g : Ghosts B) (c : Command) (old new : B) (x : Obstacle)
     → IsOfRight reader x
@@ -41,7 +41,7 @@ blamed reader g c old new (obstacle.Looking store.Database) of = inl (inr (inl r
 blamed reader g c old new (obstacle.Looking store.NotOurs) of = absurd (elim of [ inl e ↦ cc | inr e ↦ cc ])
 blamed reader g c old new (obstacle.Looking store.Full) of = absurd (elim of [ inl e ↦ cc | inr e ↦ cc ])
 blamed reader g c old new (obstacle.Looking store.Backwards) of = absurd (elim of [ inl e ↦ cc | inr e ↦ cc ])
-blamed reader g c old new obstacle.Growing of = absurd of
+blamed reader g c old new obstacle.OutOfMemory of = absurd of
 blamed reader g c old new (obstacle.Adding f) of = absurd of
 
 -- the calls that were made until then
@@ -57,7 +57,7 @@ denied_fits reader c obstacle.UnknownGroup fits of = fits Fine Fine
 denied_fits reader c obstacle.SelfGrant fits of = fits Fine Fine
 denied_fits reader c (obstacle.Searching f) fits of = fits (call_of f) Fine
 denied_fits reader c (obstacle.Looking f) fits of = fits Fine (call_of f)
-denied_fits reader c obstacle.Growing fits of = absurd of
+denied_fits reader c obstacle.OutOfMemory fits of = absurd of
 denied_fits reader c (obstacle.Adding f) fits of = absurd of
 
 -- a look-up is answered, and changes nothing
@@ -109,7 +109,7 @@ sight_told (obstacle.Looking store.Database) of = tt
 sight_told (obstacle.Looking store.NotOurs) of = tt
 sight_told (obstacle.Looking store.Full) of = tt
 sight_told (obstacle.Looking store.Backwards) of = tt
-sight_told obstacle.Growing of = absurd of
+sight_told obstacle.OutOfMemory of = absurd of
 sight_told (obstacle.Adding f) of = absurd of
 
 pub sight_is_right : (reader : Reader) (x : Obstacle) → IsOfSight x → IsOfRight reader x
@@ -120,7 +120,7 @@ sight_is_right reader obstacle.UnknownGroup of = absurd of
 sight_is_right reader obstacle.SelfGrant of = absurd of
 sight_is_right reader (obstacle.Searching f) of = of
 sight_is_right reader (obstacle.Looking f) of = of
-sight_is_right reader obstacle.Growing of = absurd of
+sight_is_right reader obstacle.OutOfMemory of = absurd of
 sight_is_right reader (obstacle.Adding f) of = absurd of
 
 -- what isn't seen isn't shown, and neither is its token
@@ -144,7 +144,7 @@ unshown viewer n b (obstacle.Looking store.Database) of unseen =
 unshown viewer n b (obstacle.Looking store.NotOurs) of unseen = absurd (elim of [ inl e ↦ cc | inr e ↦ cc ])
 unshown viewer n b (obstacle.Looking store.Full) of unseen = absurd (elim of [ inl e ↦ cc | inr e ↦ cc ])
 unshown viewer n b (obstacle.Looking store.Backwards) of unseen = absurd (elim of [ inl e ↦ cc | inr e ↦ cc ])
-unshown viewer n b obstacle.Growing of unseen = absurd of
+unshown viewer n b obstacle.OutOfMemory of unseen = absurd of
 unshown viewer n b (obstacle.Adding f) of unseen = absurd of
 
 pub untold : (viewer : Viewer) (n : ℕ) (b : History) (x : Obstacle) → IsOfSight x → IsUnseen viewer n b x
@@ -167,7 +167,7 @@ untold viewer n b (obstacle.Looking store.Database) of unseen =
 untold viewer n b (obstacle.Looking store.NotOurs) of unseen = absurd (elim of [ inl e ↦ cc | inr e ↦ cc ])
 untold viewer n b (obstacle.Looking store.Full) of unseen = absurd (elim of [ inl e ↦ cc | inr e ↦ cc ])
 untold viewer n b (obstacle.Looking store.Backwards) of unseen = absurd (elim of [ inl e ↦ cc | inr e ↦ cc ])
-untold viewer n b obstacle.Growing of unseen = absurd of
+untold viewer n b obstacle.OutOfMemory of unseen = absurd of
 untold viewer n b (obstacle.Adding f) of unseen = absurd of
 
 -- the octets of what is seen

@@ -22,15 +22,15 @@ use Rattle.desk.specs.Effects.{only, accepted}
 use Rattle.desk.specs.Fit.{IsFit}
 use Rattle.desk.specs.Findings.{HoldsUnasked}
 use Rattle.desk.specs.Laws.{IsFinished, IsStampOfPlan, IsRefusalOfPlan, AreMet}
-use Rattle.desk.specs.Outcome.{Wanting, Failed, all_fine}
+use Rattle.desk.specs.Outcome.{OutOfMemory, Failed, all_fine}
 use Rattle.desk.specs.Promises.{IsAlike}
 use Rattle.desk.specs.Readers.{rights_by}
 use Rattle.desk.specs.Replies.{IsRejected}
-use Rattle.desk.specs.Runs.{IsProper, IsKept}
+use Rattle.desk.specs.MachineRuns.{IsProper, IsKept}
 use Rattle.desk.specs.Serials.{given_by, Falls, AreInOrder}
 use Rattle.desk.specs.Sight.{ShowsExactly, IsExactList}
-use Rattle.desk.specs.Stepped.{IsBlamedFor, IsOpened}
-use Rattle.desk.specs.Steps.{HasEffect}
+use Rattle.desk.specs.CallContract.{IsBlamedFor, IsOpened}
+use Rattle.desk.specs.MachineStep.{HasEffect}
 use Rattle.desk.specs.Viewers.{viewer_in}
 use Rattle.desk.specs.declared.fault.Fault.TheVariants as fault
 use Rattle.tsp.specs.declared.rule.Rule.TheVariants.{Spelling, System}
@@ -133,7 +133,7 @@ repeated h = let below : 2 < 2 = h.rising.0.0 in absurd (omega arith)
 
 -- a list that the database refused, and counted, is told as want of memory: by a call that it doesn't make, or though
 -- its own call was counted
-elsewhere : IsFit (ListAll alice) (record (all_fine (Ok [])) { looking = Wanting; searching = Failed }) → ⊥
+elsewhere : IsFit (ListAll alice) (record (all_fine (Ok [])) { looking = OutOfMemory; searching = Failed }) → ⊥
 elsewhere fits = let same = ap (λ o. o.searching) fits.0 in cc
 
 counted : {B : Type 0} (g : Ghosts B) (old new : B)

@@ -27,7 +27,7 @@ use Rattle.desk.specs.Effects.{accepted, numbered, succeed_effect}
 use Rattle.desk.specs.Succession.{installed_by, is_latest}
 use Rattle.desk.specs.declared.fault.Fault.{Fault}
 use Rattle.desk.specs.declared.fault.Fault.TheVariants as fault
-use Rattle.desk.specs.Steps.{KeepsByReference, KeepsOnceSearched, KeepsWithinSize, HasEffect}
+use Rattle.desk.specs.MachineStep.{KeepsByReference, KeepsOnceSearched, KeepsWithinSize, HasEffect}
 use Rattle.desk.specs.Laws.{IsReservedText, IsPendingOf}
 use Rattle.desk.specs.Serials.{serials_of}
 use Rattle.desk.proofs.Headline.{SealedBy, stamping_by}

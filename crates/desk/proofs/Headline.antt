@@ -23,7 +23,7 @@ use Rattle.desk.specs.Command.{Setting, PendingValue, Stamp, Answer, Stamped, Re
 use Rattle.desk.specs.Texts.{pending_of, token_with}
 use Rattle.desk.specs.Effects.{Effect, Stamping, Unreserved, Void, Sealing, no_number, no_seal, next_reservation}
 use Rattle.desk.specs.Effects.{sealed_or_void, signed_or_void, stamping_of, stamp_effect, stamp_found, name_of}
-use Rattle.desk.specs.Steps.{HasEffect}
+use Rattle.desk.specs.MachineStep.{HasEffect}
 use Rattle.desk.specs.Laws.{causes_of, IsUnanswered, IsGrant, IsRejection}
 
 -- what is reserved is the next reservation; and what is sealed has the token over the signer's answer
@@ -120,9 +120,9 @@ seal_among o cause (zero, below, is) = (5, omega arith, is)
 seal_among o cause (suc zero, below, is) = (6, omega arith, is)
 seal_among o cause (suc (suc k), below, is) = absurd (omega arith)
 
-no_number_by : (o : Outcome) (b : History) (cause : Cause) (spent : Bool)
-    → nat_le greatest_number (greatest_serial b) ≡ spent
-    → first_cause ((if spent then Some OfStore else None) ∷ cause_of o.growing ∷ cause_of o.adding ∷ [])
+no_number_by : (o : Outcome) (b : History) (cause : Cause) (exhausted : Bool)
+    → nat_le greatest_number (greatest_serial b) ≡ exhausted
+    → first_cause ((if exhausted then Some OfStore else None) ∷ cause_of o.growing ∷ cause_of o.adding ∷ [])
     ≡ Some cause → IsRefused o b
 no_number_by o b cause true le e = inr (grind (arith, nat_tests))
 no_number_by o b cause false le e =
@@ -312,7 +312,7 @@ granted_where s account reading octets o b e plan allowed left answered h =
       )
       | inr k ↦ absurd (elim (rejected_is s account reading octets o b e k.0 h k.1) [
         | inl first ↦ first.fails (allowed.holds k.0)
-        | inr last ↦ elim last.2 [ inl call ↦ answered call | inr spent ↦ omega arith ]
+        | inr last ↦ elim last.2 [ inl call ↦ answered call | inr exhausted ↦ omega arith ]
       ])
     ]
 

@@ -21,27 +21,28 @@ use Rattle.book.specs.Stands.{Stands}
 use Rattle.book.specs.declared.fault.StoreFault.{StoreFault}
 use Rattle.book.specs.declared.fault.StoreFault.TheVariants as store
 use Rattle.book.specs.Values.{deposit_of}
-use Rattle.desk.specs.Outcome.{Call, Fine, Wanting, Failed, Outcome, Cause, cause_of, counted, all_fine}
+use Rattle.desk.specs.Outcome.{Call, Fine, OutOfMemory, Failed, Outcome, Cause, cause_of, counted, all_fine}
 use Rattle.desk.specs.Findings.{StampPlan, Finding, Fails, Unanswered, Allowed, Finds}
 use Rattle.desk.specs.Command.{Setting, PendingValue, Command, Begin, Deposit, Answer, Rejected, Begun, Kept, Refused}
 use Rattle.desk.specs.Texts.{gives_certificate, pending_of, token_with, request_for, octets_for}
 use Rattle.desk.specs.Effects.{Effect, only, fault_of, no_number, no_seal, next_reservation, sealed_or_void}
 use Rattle.desk.specs.Effects.{signed_or_void, stamping_of, begin_effect, begin_found, deposit_effect}
 use Rattle.desk.specs.Effects.{deposit_found}
-use Rattle.desk.specs.Steps.{HasEffect, KeepsWithinSize, KeepsOnceSearched, KeepsByReference, Moves}
-use Rattle.desk.specs.Runs.{after}
+use Rattle.desk.specs.MachineStep.{HasEffect, KeepsWithinSize, KeepsOnceSearched, KeepsByReference, Moves}
+use Rattle.desk.specs.MachineRuns.{after}
 use Rattle.desk.specs.Fit.{IsFit, IsUncounted, AreGrowths}
-use Rattle.desk.specs.Stepped.{StepsBy, IsBlamed, IsBlamedFor, IsExcused, IsOpened, MayBeLeft, IsDoubted, no_signer}
-use Rattle.desk.specs.Stepped.{with_signer, committed, oldest, in_doubt}
-use Rattle.desk.proofs.Fitting.{none_failed}
+use Rattle.desk.specs.CallContract.{StepsBy, IsBlamed, IsBlamedFor, IsExcused, IsOpened, MayBeLeft, IsDoubted}
+use Rattle.desk.specs.CallContract.{no_signer}
+use Rattle.desk.specs.CallContract.{with_signer, committed, oldest, in_doubt}
+use Rattle.desk.proofs.Fits.{none_failed}
 use Rattle.desk.specs.Wholes.{joined}
 use Rattle.desk.specs.Calls.{refused, cause_with, store_cause, signer_cause, IsOfBeginning}
-use Rattle.desk.specs.Depositing.{kept_by, kept, MayStayKept, KeepsBy, SignsAndKeeps, StepsWhere, IsUnused}
+use Rattle.desk.specs.NewDeposit.{kept_by, kept, MayStayKept, KeepsBy, SignsAndKeeps, StepsWhere, IsUnused}
 use Rattle.desk.specs.declared.fault.Fault.{Fault}
 use Rattle.desk.specs.declared.fault.Fault.TheVariants as fault
-use Rattle.desk.specs.declared.refusal.Refusal.{Refusal}
-use Rattle.desk.specs.declared.refusal.Refusal.TheVariants as refusal
-use Rattle.desk.proofs.Stamping.{IsBegun, stamp_begun, finds_joined, begun_adds, sure}
+use Rattle.desk.specs.declared.refusal.StampRefusal.{StampRefusal}
+use Rattle.desk.specs.declared.refusal.StampRefusal.TheVariants as refusal
+use Rattle.desk.proofs.Stamps.{IsBegun, stamp_begun, finds_joined, begun_adds, sure}
 use Rattle.desk.proofs.Views.{unsealed_above}
 
 -- the request as which a deposit is stamped
@@ -56,7 +57,7 @@ request_is file a bytes digest certificate r made hashed gives =
 -- no memory for the token
 pub unwrapped : {B : Type 0} (g : Ghosts B) (p : PendingValue) (d : DepositRow) (signature : List ℕ)
     (v : B)
-    → KeepsBy g p d (Ok signature) (refused refusal.Wrapping) v v (Refused fault.Memory)
+    → KeepsBy g p d (Ok signature) (refused refusal.OutOfReplyMemory) v v (Refused fault.Memory)
 unwrapped g p d signature v = record {
   grows = tt;
   counted = refl;
@@ -308,8 +309,8 @@ doubted : {B : Type 0} (g : Ghosts B) (s : Setting) (c : Command) (a : AccountVa
     → MayBeLeft g s c o b old (only answer) left
 doubted g s c a reading reference bytes octets P o b old answer left new p fine sealed Fine is d =
     absurd (d.refused is sealed)
-doubted g s c a reading reference bytes octets P o b old answer left new p fine sealed Wanting is d =
-    doubted_first g s c a reading reference bytes octets P o b old answer left new p fine Wanting is
+doubted g s c a reading reference bytes octets P o b old answer left new p fine sealed OutOfMemory is d =
+    doubted_first g s c a reading reference bytes octets P o b old answer left new p fine OutOfMemory is
     (λ entries. refl) d
 doubted g s c a reading reference bytes octets P o b old answer left new p fine sealed Failed is d =
     doubted_first g s c a reading reference bytes octets P o b old answer left new p fine Failed is
@@ -366,15 +367,15 @@ is_rejected g signs count x s c a reading reference bytes octets P old new rule 
     (λ b f. rejected_found s a.name reference bytes octets (all_fine (Ok [])) b rule f) tt tt
 
 -- a beginning that is refused was refused by a look-up or by its reservation
-beginning_calls : (r : Refusal) → IsOfBeginning r
+beginning_calls : (r : StampRefusal) → IsOfBeginning r
     → ((refused r).searching ≡ Fine) × ((refused r).sealing ≡ Fine) × ((refused r).signing ≡ Ok [])
 beginning_calls (refusal.Looking f) h = (refl, refl, refl)
 beginning_calls (refusal.Counting f) h = (refl, refl, refl)
-beginning_calls refusal.Spent h = (refl, refl, refl)
-beginning_calls refusal.Growing h = (refl, refl, refl)
+beginning_calls refusal.Exhausted h = (refl, refl, refl)
+beginning_calls refusal.OutOfMemory h = (refl, refl, refl)
 beginning_calls (refusal.Adding f) h = (refl, refl, refl)
 beginning_calls (refusal.Signing f) h = absurd (elim h [ inl x ↦ x | inr x ↦ x ])
-beginning_calls refusal.Wrapping h = absurd (elim h [ inl x ↦ x | inr x ↦ x ])
+beginning_calls refusal.OutOfReplyMemory h = absurd (elim h [ inl x ↦ x | inr x ↦ x ])
 beginning_calls (refusal.Sealing f) h = absurd (elim h [ inl x ↦ x | inr x ↦ x ])
 
 -- its fault names what the deposit's does
@@ -391,12 +392,12 @@ blamed_too g one other o old new fault.TooLarge excused h = tt
 blamed_too g one other o old new (fault.Rejected rule) excused h = tt
 blamed_too g one other o old new fault.Memory excused h = h
 blamed_too g one other o old new fault.Store excused (inl failed) = inl failed
-blamed_too g one other o old new fault.Store excused (inr spent) = inr (excused spent)
+blamed_too g one other o old new fault.Store excused (inr exhausted) = inr (excused exhausted)
 blamed_too g one other o old new fault.Signer excused h = h
 
 pub is_refused : {B X : Type 0} (g : Ghosts B) (signs : X → List ℕ → Result (List ℕ) SignerFault → X → Type 0)
     (count : X → ℕ) (x : X) (s : Setting) (c : Command) (a : AccountValue) (reading : ℤ)
-    (reference bytes octets : List ℕ) (P : History → Type 0) (old new : B) (r : Refusal)
+    (reference bytes octets : List ℕ) (P : History → Type 0) (old new : B) (r : StampRefusal)
     → IsNew g s c a reading reference bytes octets P → IsOfBeginning r
     → StepsBy g no_signer s (Begin (Some a) reading octets) (refused r) old new (Refused (fault_of (cause_with r)))
     → StepsWhere g (with_signer signs count x x) s c P (refused r) old new (Refused (fault_of (cause_with r)))

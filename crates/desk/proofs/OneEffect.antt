@@ -19,7 +19,7 @@ use Rattle.desk.specs.Command.{Setting, Command, Stamp, Begin, Finish, Abandon, 
 use Rattle.desk.specs.Command.{Revoke, Calibrate, Hold, Succeed}
 use Rattle.desk.specs.Effects.{Effect, stamp_found, begin_found, deposit_found, name_of}
 use Rattle.desk.specs.Facts.{facts_of}
-use Rattle.desk.specs.Steps.{KeepsByReference, KeepsOnceSearched, KeepsWithinSize, HasEffect}
+use Rattle.desk.specs.MachineStep.{KeepsByReference, KeepsOnceSearched, KeepsWithinSize, HasEffect}
 use Rattle.desk.specs.Texts.{octets_for}
 use Rattle.desk.proofs.Headline.{one_first}
 use Rattle.desk.proofs.Sound.{TextLaws}

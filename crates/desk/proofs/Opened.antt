@@ -10,8 +10,8 @@ use Rattle.desk.specs.declared.obstacle.Obstacle.{Obstacle}
 use Rattle.desk.specs.Effects.{Effect}
 use Rattle.desk.specs.Outcome.{Outcome, all_fine}
 use Rattle.desk.specs.Promises.{KeepsPromises}
-use Rattle.desk.specs.Steps.{HasEffect}
-use Rattle.desk.specs.Stepped.{DeskValue, desk_of, SignerStep, no_signer, StepsBy, IsStepBy, IsStep, HasOpened}
+use Rattle.desk.specs.MachineStep.{HasEffect}
+use Rattle.desk.specs.CallContract.{DeskValue, desk_of, SignerStep, no_signer, StepsBy, IsStepBy, IsStep, HasOpened}
 
 -- what is promised of each command
 abbrev pub ArePromises : Type 0

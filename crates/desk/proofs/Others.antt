@@ -24,14 +24,14 @@ use Rattle.desk.specs.Texts.{octets_for}
 use Rattle.desk.specs.Effects.{Effect, unless, Stamping, Unreserved, Void, Sealing, no_number, next_reservation}
 use Rattle.desk.specs.Effects.{stamping_of, stamp_effect, stamp_found, deposit_effect, deposit_found}
 use Rattle.desk.specs.Effects.{right_effect, no_sight}
-use Rattle.desk.specs.Steps.{KeepsByReference, KeepsOnceSearched, KeepsWithinSize, HasEffect}
+use Rattle.desk.specs.MachineStep.{KeepsByReference, KeepsOnceSearched, KeepsWithinSize, HasEffect}
 use Rattle.desk.specs.Laws.{IsCommandOfOther, Concerns, StaysFor}
 use Rattle.desk.specs.Viewers.{viewer_in}
-use Rattle.desk.proofs.Reading.{nobody_reads, seen_beside_grant, seen_beside_revocation}
+use Rattle.desk.proofs.Readers.{nobody_reads, seen_beside_grant, seen_beside_revocation}
 use Rattle.desk.proofs.Views.{sealed_below, deposit_sealed}
-use Rattle.desk.proofs.Stepping.{right_seen, shows_none, tokens_none, answers_none, IsAtMost, at_most_unless}
-use Rattle.desk.proofs.Stepping.{right_at_most}
-use Rattle.desk.proofs.Agreeing.{differ, seen_beside, IsNext, next_stamping, next_above}
+use Rattle.desk.proofs.StepFacts.{right_seen, shows_none, tokens_none, answers_none, IsAtMost, at_most_unless}
+use Rattle.desk.proofs.StepFacts.{right_at_most}
+use Rattle.desk.proofs.Agreement.{differ, seen_beside, IsNext, next_stamping, next_above}
 
 deposit_below : (b : History) → Along Fits b → (n : ℕ) → FitsRight n b → n ≤ greatest_serial b
 deposit_below b sound n fits =

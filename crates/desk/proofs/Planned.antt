@@ -19,10 +19,10 @@ use Rattle.desk.specs.Effects.{Effect, only, unless, Stamping, Unreserved, Void,
 use Rattle.desk.specs.Effects.{next_reservation, stamping_of, begin_effect, begin_found, finish_effect}
 use Rattle.desk.specs.Effects.{deposit_effect, deposit_found, known_effect, fault_of}
 use Rattle.desk.specs.declared.fault.Fault.TheVariants as fault
-use Rattle.desk.specs.Steps.{KeepsByReference, KeepsOnceSearched, KeepsWithinSize, HasEffect}
+use Rattle.desk.specs.MachineStep.{KeepsByReference, KeepsOnceSearched, KeepsWithinSize, HasEffect}
 use Rattle.desk.specs.Laws.{IsDeposited, IsStampOfPlan, IsBeginningOfPlan, IsFinishOfPlan, IsOfPlan}
 use Rattle.desk.proofs.Headline.{SealedBy, stamping_by, granted_is, rejected_is, stamp_answered}
-use Rattle.desk.proofs.Keeping.{same_row}
+use Rattle.desk.proofs.KeptPromises.{same_row}
 use Rattle.desk.proofs.Sound.{TextLaws}
 use Rattle.desk.proofs.Views.{found_under, same_octets}
 

@@ -2,14 +2,14 @@
 use Rattle.std.proofs.Common.{subst}
 use Rattle.desk.specs.Command.{Setting, Command}
 use Rattle.desk.specs.Effects.{Effect}
+use Rattle.desk.specs.MachineStep.{HasEffect}
 use Rattle.desk.specs.Outcome.{Outcome}
 use Rattle.desk.specs.Promises.{KeepsPromises}
-use Rattle.desk.specs.Steps.{HasEffect}
 use Rattle.book.specs.History.{History}
 use Rattle.book.specs.Sound.{IsSound}
-use Rattle.desk.proofs.Agreeing.{step_agrees}
+use Rattle.desk.proofs.Agreement.{step_agrees}
 use Rattle.desk.proofs.Given.{asked_is_reserved, begun_is_reserved}
-use Rattle.desk.proofs.Installing.{in_force_kept, brought_in_force}
+use Rattle.desk.proofs.Installation.{in_force_kept, brought_in_force}
 use Rattle.desk.proofs.Others.{step_stays}
 use Rattle.desk.proofs.Planned.{of_plan}
 use Rattle.desk.proofs.SameEffect.{effect_same}

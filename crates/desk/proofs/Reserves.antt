@@ -18,24 +18,24 @@ use Rattle.desk.specs.Command.{Setting, PendingValue, Begun}
 use Rattle.desk.specs.Effects.{no_number, next_reservation, begin_effect}
 use Rattle.desk.specs.Findings.{StampPlan}
 use Rattle.desk.specs.Outcome.{Outcome, Fine, all_fine, Cause, OfStore, cause_of, first_cause, faults_after}
-use Rattle.desk.specs.Runs.{after}
-use Rattle.desk.specs.Stepped.{committed}
-use Rattle.desk.specs.declared.refusal.Refusal.{Refusal}
-use Rattle.desk.specs.declared.refusal.Refusal.TheVariants as refusal
+use Rattle.desk.specs.MachineRuns.{after}
+use Rattle.desk.specs.CallContract.{committed}
+use Rattle.desk.specs.declared.refusal.StampRefusal.{StampRefusal}
+use Rattle.desk.specs.declared.refusal.StampRefusal.TheVariants as refusal
 use Rattle.desk.specs.Texts.{tst_of, pending_of, reservation_of}
 
-is_spent : (n : ℕ) → greatest_number ≤ n → nat_le greatest_number n ≡ true
-is_spent n h = grind (arith, nat_tests)
+is_exhausted : (n : ℕ) → greatest_number ≤ n → nat_le greatest_number n ≡ true
+is_exhausted n h = grind (arith, nat_tests)
 
 is_left : (n : ℕ) → n < greatest_number → nat_le greatest_number n ≡ false
 is_left n h = grind (arith, nat_tests)
 
 abbrev causes_at : Outcome → Bool → Option Cause
-causes_at o spent = first_cause ((cond spent (Some OfStore) None) ∷ cause_of o.growing ∷ cause_of o.adding ∷ [])
+causes_at o exhausted = first_cause ((cond exhausted (Some OfStore) None) ∷ cause_of o.growing ∷ cause_of o.adding ∷ [])
 
 -- why there is no number: they are spent, or what was refused
-pub spent_number : (o : Outcome) (b : History) → greatest_number ≤ greatest_serial b → no_number o b ≡ Some OfStore
-spent_number o b h = ap (causes_at o) (is_spent (greatest_serial b) h)
+pub exhausted_number : (o : Outcome) (b : History) → greatest_number ≤ greatest_serial b → no_number o b ≡ Some OfStore
+exhausted_number o b h = ap (causes_at o) (is_exhausted (greatest_serial b) h)
 
 pub left_number : (o : Outcome) (b : History) → greatest_serial b < greatest_number
     → no_number o b ≡ first_cause (cause_of o.growing ∷ cause_of o.adding ∷ [])
@@ -43,7 +43,7 @@ left_number o b h = ap (causes_at o) (is_left (greatest_serial b) h)
 
 -- nothing is reserved
 pub reserves_refused : {B : Type 0} (g : Ghosts B) (s : Setting) (account : List ℕ) (plan : StampPlan) (octets : List ℕ)
-    (b : History) (old new : B) (r : Refusal) → no_number (refused r) b ≡ Some (cause_with r)
+    (b : History) (old new : B) (r : StampRefusal) → no_number (refused r) b ≡ Some (cause_with r)
     → Stands g b new → ((left : g.Left) → g.leaves new left → g.leaves old left
     ⊎ (((refused r).adding ≡ Fine → ⊥)
     × g.holds left (after (reserving s account plan octets (committed (refused r)) b) b)))
@@ -59,15 +59,15 @@ reserves_refused g s account plan octets b old new r e st leaves = record {
 
 -- the numbers are spent, or memory for what is written is wanting, and the store is as it was
 pub unwritten : {B : Type 0} (g : Ghosts B) (s : Setting) (account : List ℕ) (plan : StampPlan) (octets : List ℕ)
-    (b : History) (last : ℕ) (old : B) (r : Refusal)
-    → ((r ≡ refusal.Spent) × (greatest_number ≤ last)) ⊎ ((r ≡ refusal.Growing) × (last < greatest_number))
+    (b : History) (last : ℕ) (old : B) (r : StampRefusal)
+    → ((r ≡ refusal.Exhausted) × (greatest_number ≤ last)) ⊎ ((r ≡ refusal.OutOfMemory) × (last < greatest_number))
     → greatest_serial b ≡ last → Stands g b old → Reserves g s account plan octets b old old (Err r)
 unwritten g s account plan octets b last old r why e st =
     let cause : no_number (refused r) b ≡ Some (cause_with r) = elim why [
-      | inl spent ↦ subst (λ x. no_number (refused x) b ≡ Some (cause_with x)) (sym spent.0)
-          (spent_number (refused refusal.Spent) b (subst (λ n. greatest_number ≤ n) (sym e) spent.1))
+      | inl exhausted ↦ subst (λ x. no_number (refused x) b ≡ Some (cause_with x)) (sym exhausted.0)
+          (exhausted_number (refused refusal.Exhausted) b (subst (λ n. greatest_number ≤ n) (sym e) exhausted.1))
       | inr wanting ↦ subst (λ x. no_number (refused x) b ≡ Some (cause_with x)) (sym wanting.0)
-          (left_number (refused refusal.Growing) b (subst (λ n. n < greatest_number) (sym e) wanting.1))
+          (left_number (refused refusal.OutOfMemory) b (subst (λ n. n < greatest_number) (sym e) wanting.1))
     ] in
     reserves_refused g s account plan octets b old old r cause st (λ left recovers. inl recovers)
 

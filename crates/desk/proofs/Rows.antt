@@ -11,7 +11,7 @@ use Rattle.book.specs.History.{Installed}
 use Rattle.book.specs.Readers.{Reader, Account, Group}
 use Rattle.book.specs.Rights.{seen_by}
 use Rattle.desk.specs.Facts.{facts_of, count_in, gen_time_in}
-use Rattle.desk.specs.Outcome.{Wanting, Failed, OfMemory, OfStore, all_fine, faults_after}
+use Rattle.desk.specs.Outcome.{OutOfMemory, Failed, OfMemory, OfStore, all_fine, faults_after}
 use Rattle.desk.specs.Findings.{StampPlan}
 use Rattle.desk.specs.Command.{InForce, Setting, Succeed, Rejected, Refused, Kept, Done, Numbered, setting_after}
 use Rattle.cms.specs.Identity.{IdentityValue}
@@ -143,7 +143,7 @@ failed_deposit : (deposit_effect setting (codes "carol") [] [] (stamping_of sett
 failed_deposit = refl
 
 -- no memory before the reservation: nothing is added
-wanting : no_number (record (all_fine (Ok [])) { growing = Wanting }) history ≡ Some OfMemory
+wanting : no_number (record (all_fine (Ok [])) { growing = OutOfMemory }) history ≡ Some OfMemory
 wanting = refl
 
 -- the serial numbers are used up
@@ -154,7 +154,7 @@ used_up = refl
 one_fault : faults_after (record (all_fine (Ok [])) { adding = Failed }) 18446744073709551615 ≡ 0
 one_fault = refl
 
-no_fault : faults_after (record (all_fine (Ok [])) { adding = Wanting }) 7 ≡ 7
+no_fault : faults_after (record (all_fine (Ok [])) { adding = OutOfMemory }) 7 ≡ 7
 no_fault = refl
 
 -- alice's deposit, under the number of its stamp

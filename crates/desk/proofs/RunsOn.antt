@@ -15,21 +15,22 @@ use Rattle.desk.specs.Outcome.{Outcome}
 use Rattle.desk.specs.Calls.{settings_view, or_before, succeeded_as}
 use Rattle.desk.specs.Command.{InForce, Setting, Command, Succeed, Answer, setting_after}
 use Rattle.desk.specs.Effects.{Effect}
-use Rattle.desk.specs.Steps.{HasEffect, Moves}
+use Rattle.desk.specs.MachineStep.{HasEffect, Moves}
 use Rattle.desk.specs.Promises.{KeepsPromises}
-use Rattle.desk.specs.Runs.{IsProper, Told, Runs, after}
+use Rattle.desk.specs.MachineRuns.{IsProper, Told, Runs, after}
 use Rattle.desk.specs.Laws.{AreMet, Concerns, Continues, StaysFor}
 use Rattle.desk.specs.Obstacles.{hindered, outcome_with, told_with}
-use Rattle.desk.specs.Stepped.{StepsBy, IsBareStep, MayBeLeft, IsBlamed, IsOpened, no_signer, with_signer}
-use Rattle.desk.specs.Ran.{Obeys, WasOpen, AreSteps, ArePromised, MayBeLeftBy, AreCommandsOfOthers, OneConcerns, RunsBy, told_by}
+use Rattle.desk.specs.CallContract.{StepsBy, IsBareStep, MayBeLeft, IsBlamed, IsOpened, no_signer, with_signer}
+use Rattle.desk.specs.RunContract.{Obeys, WasOpen, AreSteps, ArePromised, MayBeLeftBy, AreCommandsOfOthers, OneConcerns}
+use Rattle.desk.specs.RunContract.{RunsBy, told_by}
 use Rattle.desk.specs.declared.settings.Settings.{Settings}
 use Rattle.desk.specs.declared.obstacle.Obstacle.{Obstacle}
 use Rattle.desk.specs.declared.obstacle.Obstacle.TheVariants as obstacle
 use Rattle.desk.specs.Viewers.{viewer_in}
 use Rattle.desk.proofs.Sound.{TextLaws}
 use Rattle.desk.proofs.Acknowledged.{readers_along}
-use Rattle.desk.proofs.Falling.{given_in_order}
-use Rattle.desk.proofs.Keeping.{journeys_have_properties}
+use Rattle.desk.proofs.FallingSerials.{given_in_order}
+use Rattle.desk.proofs.KeptPromises.{journeys_have_properties}
 use Rattle.desk.proofs.Opened.{StaysUnder}
 use Rattle.desk.proofs.Others.{step_stays}
 use Rattle.desk.proofs.Promised.{keeps_promises}
@@ -67,7 +68,7 @@ unsigned_by obstacle.SelfGrant = refl
 unsigned_by obstacle.UnknownGroup = refl
 unsigned_by (obstacle.Searching f) = refl
 unsigned_by (obstacle.Looking f) = refl
-unsigned_by obstacle.Growing = refl
+unsigned_by obstacle.OutOfMemory = refl
 unsigned_by (obstacle.Adding f) = refl
 
 unsigned : {A : Type 0} (r : Result A Obstacle) → (outcome_with r).signing ≡ Ok []

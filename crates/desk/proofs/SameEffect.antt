@@ -31,7 +31,7 @@ use Rattle.desk.specs.Texts.{octets_for, reservation_of, pending_of}
 use Rattle.desk.specs.Effects.{Stamping, Unreserved, signed_or_void, stamping_of, stamp_effect, deposit_effect}
 use Rattle.desk.specs.Effects.{no_number, reply_or_nothing, Effect, only, unless, stamp_found, deposit_found}
 use Rattle.desk.specs.Effects.{show_effect, token_effect, right_effect}
-use Rattle.desk.specs.Steps.{KeepsByReference, KeepsOnceSearched, KeepsWithinSize, HasEffect}
+use Rattle.desk.specs.MachineStep.{KeepsByReference, KeepsOnceSearched, KeepsWithinSize, HasEffect}
 use Rattle.desk.specs.Viewers.{viewer_in}
 
 -- the day's count is that of the account's own stamps

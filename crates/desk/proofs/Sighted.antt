@@ -16,11 +16,11 @@ use Rattle.book.specs.Sound.{Along, Fits, IsSound}
 use Rattle.desk.specs.Command.{Setting, Command, Stamp, Begin, Finish, Abandon, Deposit, Show, Token, ListAll, Grant}
 use Rattle.desk.specs.Command.{Revoke, Calibrate, Hold, Succeed, Shown, Listed, Refused}
 use Rattle.desk.specs.Effects.{Effect, only, unless, fault_of, no_sight, show_effect, token_effect, reply_or_nothing}
-use Rattle.desk.specs.Outcome.{Call, Fine, Wanting, Failed, Outcome, Cause, OfMemory, OfStore, OfSigner, cause_of}
+use Rattle.desk.specs.Outcome.{Call, Fine, OutOfMemory, Failed, Outcome, Cause, OfMemory, OfStore, OfSigner, cause_of}
 use Rattle.desk.specs.Outcome.{first_cause}
 use Rattle.desk.specs.Sight.{MaySee, HasNoSight, IsShownFrom, IsBytesOf, IsReplyOf, IsRowOf, Climbs}
 use Rattle.desk.specs.Sight.{IsListedFrom, ShowsExactly}
-use Rattle.desk.specs.Steps.{HasEffect}
+use Rattle.desk.specs.MachineStep.{HasEffect}
 use Rattle.desk.specs.Viewers.{viewer_in}
 use Rattle.desk.proofs.Shows.{deposit_reserved}
 use Rattle.desk.proofs.Views.{deposit_sealed, reserved_below, same_octets}
@@ -108,17 +108,17 @@ unsees viewer n b none d m = let some = sees viewer n b d m in cc
 
 -- no call of the store is the signer's
 unsigned : (x y z : Call) → first_cause (cause_of x ∷ cause_of y ∷ cause_of z ∷ []) ≡ Some OfSigner → ⊥
-unsigned Wanting y z e = cc
+unsigned OutOfMemory y z e = cc
 unsigned Failed y z e = cc
-unsigned Fine Wanting z e = cc
+unsigned Fine OutOfMemory z e = cc
 unsigned Fine Failed z e = cc
-unsigned Fine Fine Wanting e = cc
+unsigned Fine Fine OutOfMemory e = cc
 unsigned Fine Fine Failed e = cc
 unsigned Fine Fine Fine e = cc
 
 unsigned_call : (x : Call) → cause_of x ≡ Some OfSigner → ⊥
 unsigned_call Fine e = cc
-unsigned_call Wanting e = cc
+unsigned_call OutOfMemory e = cc
 unsigned_call Failed e = cc
 
 refused_sight : (IsOf : DepositRow → List ℕ → Type 0) (viewer : Viewer) (n : ℕ) (o : Outcome) (b : History)

@@ -17,7 +17,7 @@ use Rattle.desk.specs.Command.{Setting}
 use Rattle.desk.specs.Succession.{installed_by, subject_of, tsa_of, IsNameable, NamesLatest}
 use Rattle.desk.specs.Texts.{tst_of}
 use Rattle.desk.specs.Effects.{next_reservation}
-use Rattle.desk.specs.Runs.{IsProper, IsRising}
+use Rattle.desk.specs.MachineRuns.{IsProper, IsRising}
 use Rattle.desk.specs.Outcome.{Cause, OfStore, first_cause}
 use Rattle.std.proofs.Math.Nat.{div-mul-le_self}
 use Rattle.std.proofs.lemmas.List.Elements.{All-contains, All-from_recursion}

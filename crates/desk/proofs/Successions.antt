@@ -21,11 +21,11 @@ use Rattle.desk.specs.Effects.{only, unless, fault_of, accepted, succeed_effect}
 use Rattle.desk.specs.Fit.{IsFit}
 use Rattle.desk.specs.Obstacles.{fault_with, hindered}
 use Rattle.desk.specs.Outcome.{Fine, Outcome, Cause, OfMemory, OfStore, cause_of, faults_after, all_fine}
-use Rattle.desk.specs.Stepped.{no_signer, IsBlamed, StepsBy, committed}
+use Rattle.desk.specs.CallContract.{no_signer, IsBlamed, StepsBy, committed}
 use Rattle.desk.specs.Succession.{installed_by, is_latest}
 use Rattle.desk.specs.declared.obstacle.Obstacle.TheVariants as obstacle
-use Rattle.desk.proofs.Fitting.{none_failed}
-use Rattle.desk.proofs.Sealing.{one_in_doubt}
+use Rattle.desk.proofs.Fits.{none_failed}
+use Rattle.desk.proofs.Seals.{one_in_doubt}
 
 -- the latest identity is that of the newest row
 abbrev newest_in : List InstalledRow → Option InstalledValue

@@ -10,16 +10,16 @@ use Rattle.desk.specs.Outcome.{Outcome}
 use Rattle.desk.specs.Command.{Setting, Command, Stamp, Begin, Finish, Abandon, Deposit, Show, Token, ListAll, Grant}
 use Rattle.desk.specs.Command.{Revoke, Calibrate, Hold, Succeed, Answer, setting_after}
 use Rattle.desk.specs.Effects.{Effect}
-use Rattle.desk.specs.Steps.{HasEffect, IsMet}
-use Rattle.desk.specs.Runs.{IsProper, Told, Journey, goes, stops, after, cut, Runs, HasProperties}
+use Rattle.desk.specs.MachineStep.{HasEffect, IsMet}
+use Rattle.desk.specs.MachineRuns.{IsProper, Told, Journey, goes, stops, after, cut, Runs, HasProperties}
 use Rattle.desk.specs.Laws.{Continues, AreMet, AreCommandsOf, RunsAlike}
-use Rattle.desk.specs.Naming.{IsNameableFor}
+use Rattle.desk.specs.Names.{IsNameableFor}
 use Rattle.desk.specs.Viewers.{viewer_in}
 use Rattle.desk.proofs.Sound.{TextLaws}
-use Rattle.desk.proofs.Stepping.{step_adds, adds_fit, adds_true, adds_names, adds_cut}
-use Rattle.desk.proofs.Keeping.{journeys_have_properties, proper_after}
+use Rattle.desk.proofs.StepFacts.{step_adds, adds_fit, adds_true, adds_names, adds_cut}
+use Rattle.desk.proofs.KeptPromises.{journeys_have_properties, proper_after}
 use Rattle.desk.proofs.SameEffect.{effect_same}
-use Rattle.desk.proofs.Agreeing.{step_agrees}
+use Rattle.desk.proofs.Agreement.{step_agrees}
 
 pub step_sound : TextLaws → (s : Setting) (c : Command) (o : Outcome) (e : Effect) (b : History) → IsProper s
     → IsNameableFor s c b → IsSoundInFull b → IsMet c b → HasEffect s c o b e

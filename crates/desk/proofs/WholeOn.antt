@@ -7,8 +7,8 @@ use Rattle.der.specs.ObjectIdentifier.{oid_content}
 use Rattle.tsp.specs.Request.{RequestValue, Spells}
 use Rattle.tsp.specs.Tst.{SpellsTst, TstValue, answer}
 use Rattle.decide.specs.Clock.{Follows}
-use Rattle.book.specs.Continuing.{Floor, entry_if, reserved_as, token_as, continued, last_reservation, identity_since}
-use Rattle.book.specs.Continuing.{other_holds, IsAboveIfAny}
+use Rattle.book.specs.Continuation.{Floor, entry_if, reserved_as, token_as, continued, last_reservation, identity_since}
+use Rattle.book.specs.Continuation.{other_holds, IsAboveIfAny}
 use Rattle.book.specs.Entries.{with_all}
 use Rattle.book.specs.History.{Entry, Reserved, Sealed, Calibrated, Held, Installed, History}
 use Rattle.book.specs.History.{HoldValue, CalibrationValue, InstalledValue, ReservationValue, latest_calibration}
@@ -17,8 +17,8 @@ use Rattle.book.specs.Sound.{Along}
 use Rattle.book.proofs.GoingOn.{clocked_as, goes_on, goes_on_unstamped, by_last, signer_before, none_before}
 use Rattle.book.proofs.GoingOn.{continued_sound}
 use Rattle.desk.specs.Content.{IsForRequest, IsNamedBy, IsTrueOf, IsNaming, IsSoundInFull}
-use Rattle.desk.specs.Continuing.{Names, IsRestated, IsStated, IsStatedIfAny}
-use Rattle.desk.specs.Runs.{IsRising}
+use Rattle.desk.specs.Continuation.{Names, IsRestated, IsStated, IsStatedIfAny}
+use Rattle.desk.specs.MachineRuns.{IsRising}
 use Rattle.desk.specs.Succession.{NamesLatest}
 
 -- ---- a fact of each entry, over entries of which it says nothing

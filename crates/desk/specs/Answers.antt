@@ -6,7 +6,7 @@ use Rattle.book.specs.declared.fault.StoreFault.{StoreFault}
 use Rattle.desk.specs.Calls.{cause_with, store_cause}
 use Rattle.desk.specs.Effects.{fault_of}
 use Rattle.desk.specs.declared.fault.Fault.{Fault}
-use Rattle.desk.specs.declared.refusal.Refusal.{Refusal}
+use Rattle.desk.specs.declared.refusal.StampRefusal.{StampRefusal}
 use Rattle.desk.specs.declared.reply.Begun.{Begun}
 use Rattle.desk.specs.declared.reply.Begun.TheVariants as begun
 use Rattle.desk.specs.declared.reply.Reply.{Reply}
@@ -26,7 +26,7 @@ answered as_answer (Ok a) = as_answer a
 answered as_answer (Err fault) = answer.Refused fault
 
 -- the same of the parts of a call, whose refusals tell which call was refused
-abbrev pub told : {A : Type 0} → (A → Answer) → Result A Refusal → Answer
+abbrev pub told : {A : Type 0} → (A → Answer) → Result A StampRefusal → Answer
 told as_answer (Ok a) = as_answer a
 told as_answer (Err refusal) = answer.Refused (fault_of (cause_with refusal))
 

@@ -10,8 +10,8 @@ use Rattle.book.specs.Sound.{IsSound}
 use Rattle.desk.specs.Outcome.{Call, counted, Outcome, faults_after}
 use Rattle.desk.specs.Command.{Setting, Command, Stamp, Answer}
 use Rattle.desk.specs.Effects.{Effect}
-use Rattle.desk.specs.Steps.{HasEffect, Moves}
-use Rattle.desk.specs.Runs.{Runs, Told}
+use Rattle.desk.specs.MachineStep.{HasEffect, Moves}
+use Rattle.desk.specs.MachineRuns.{Runs, Told}
 use Rattle.desk.specs.Laws.{Continues}
 
 -- who asks for a stamp, at which reading of the clock, by which octets

@@ -20,25 +20,25 @@ use Rattle.book.specs.declared.standing.Standing.{Ghosts}
 use Rattle.book.specs.History.{History, CalibrationValue, greatest_serial, count_of_day}
 use Rattle.book.specs.Stands.{Stands}
 use Rattle.desk.specs.Facts.{calibration_of, clock_of}
-use Rattle.desk.specs.Outcome.{Call, Fine, Wanting, Failed, Outcome, Cause, OfMemory, OfStore, OfSigner, all_fine}
+use Rattle.desk.specs.Outcome.{Call, Fine, OutOfMemory, Failed, Outcome, Cause, OfMemory, OfStore, OfSigner, all_fine}
 use Rattle.desk.specs.Effects.{Effect, begin_effect, no_number, fault_of}
 use Rattle.desk.specs.Findings.{StampPlan, Finding, Fails, Unanswered, Allowed}
 use Rattle.desk.specs.Command.{InForce, Setting, PendingValue, Answer, Begun, Done, Refused}
-use Rattle.desk.specs.Runs.{after}
-use Rattle.desk.specs.Stepped.{committed}
+use Rattle.desk.specs.MachineRuns.{after}
+use Rattle.desk.specs.CallContract.{committed}
 use Rattle.desk.specs.Texts.{tst_of}
-use Rattle.desk.specs.declared.finding.Found.{Found}
-use Rattle.desk.specs.declared.finding.Found.TheVariants as found
-use Rattle.desk.specs.declared.finding.Planned.{Planned}
-use Rattle.desk.specs.declared.looking.Looked.{Looked}
-use Rattle.desk.specs.declared.reserving.Prepared.{Prepared}
+use Rattle.desk.specs.declared.findings.Judgement.{Judgement}
+use Rattle.desk.specs.declared.findings.Judgement.TheVariants as found
+use Rattle.desk.specs.declared.findings.Planned.{Planned}
+use Rattle.desk.specs.declared.clock_facts.Looked.{Looked}
+use Rattle.desk.specs.declared.reservation.Prepared.{Prepared}
 use Rattle.desk.specs.declared.settings.Settings.{Settings}
-use Rattle.desk.specs.declared.refusal.Refusal.{Refusal}
-use Rattle.desk.specs.declared.refusal.Refusal.TheVariants as refusal
+use Rattle.desk.specs.declared.refusal.StampRefusal.{StampRefusal}
+use Rattle.desk.specs.declared.refusal.StampRefusal.TheVariants as refusal
 
 -- how a call of the store was answered that is refused so
 abbrev pub call_of : StoreFault → Call
-call_of store.Memory = Wanting
+call_of store.Memory = OutOfMemory
 call_of store.Database = Failed
 call_of _ = Fine
 
@@ -50,55 +50,55 @@ abbrev pub signer_cause : SignerFault → Cause
 signer_cause signer.Failed = OfSigner
 signer_cause signer.Memory = OfMemory
 
-abbrev pub cause_with : Refusal → Cause
+abbrev pub cause_with : StampRefusal → Cause
 cause_with (refusal.Looking f) = store_cause f
 cause_with (refusal.Counting f) = store_cause f
-cause_with refusal.Spent = OfStore
-cause_with refusal.Growing = OfMemory
+cause_with refusal.Exhausted = OfStore
+cause_with refusal.OutOfMemory = OfMemory
 cause_with (refusal.Adding f) = store_cause f
 cause_with (refusal.Signing f) = signer_cause f
-cause_with refusal.Wrapping = OfMemory
+cause_with refusal.OutOfReplyMemory = OfMemory
 cause_with (refusal.Sealing f) = store_cause f
 
 -- all calls answered but the one that was refused
-abbrev pub refused : Refusal → Outcome
+abbrev pub refused : StampRefusal → Outcome
 refused (refusal.Looking f) = record (all_fine (Ok [])) { looking = call_of f }
 refused (refusal.Counting f) = record (all_fine (Ok [])) { counting = call_of f }
-refused refusal.Spent = all_fine (Ok [])
-refused refusal.Growing = record (all_fine (Ok [])) { growing = Wanting }
+refused refusal.Exhausted = all_fine (Ok [])
+refused refusal.OutOfMemory = record (all_fine (Ok [])) { growing = OutOfMemory }
 refused (refusal.Adding f) = record (all_fine (Ok [])) { adding = call_of f }
 refused (refusal.Signing f) = all_fine (Err f)
-refused refusal.Wrapping = record (all_fine (Ok [])) { wrapping = Wanting }
+refused refusal.OutOfReplyMemory = record (all_fine (Ok [])) { wrapping = OutOfMemory }
 refused (refusal.Sealing f) = record (all_fine (Ok [])) { sealing = call_of f }
 
 -- a look-up was refused
-abbrev pub IsOfLooks : Refusal → Type 0
+abbrev pub IsOfLooks : StampRefusal → Type 0
 IsOfLooks (refusal.Looking f) = IsOfStorage f
 IsOfLooks (refusal.Counting f) = IsOfStorage f
 IsOfLooks _ = ⊥
 
 -- the day that was asked for, and refused, is somebody's
-abbrev pub IsSomebodys : Option AccountValue → Refusal → Type 0
+abbrev pub IsSomebodys : Option AccountValue → StampRefusal → Type 0
 IsSomebodys account (refusal.Looking f) = Unit {0}
 IsSomebodys account (refusal.Counting f) = account ≡ None → ⊥
-IsSomebodys account refusal.Spent = Unit {0}
-IsSomebodys account refusal.Growing = Unit {0}
+IsSomebodys account refusal.Exhausted = Unit {0}
+IsSomebodys account refusal.OutOfMemory = Unit {0}
 IsSomebodys account (refusal.Adding f) = Unit {0}
 IsSomebodys account (refusal.Signing f) = Unit {0}
-IsSomebodys account refusal.Wrapping = Unit {0}
+IsSomebodys account refusal.OutOfReplyMemory = Unit {0}
 IsSomebodys account (refusal.Sealing f) = Unit {0}
 
 -- a reservation was refused
-abbrev pub IsOfReserving : Refusal → Type 0
-IsOfReserving refusal.Spent = Unit {0}
-IsOfReserving refusal.Growing = Unit {0}
+abbrev pub IsOfReserving : StampRefusal → Type 0
+IsOfReserving refusal.Exhausted = Unit {0}
+IsOfReserving refusal.OutOfMemory = Unit {0}
 IsOfReserving (refusal.Adding f) = IsOfStorage f
 IsOfReserving _ = ⊥
 
-abbrev pub IsOfBeginning : Refusal → Type 0
+abbrev pub IsOfBeginning : StampRefusal → Type 0
 IsOfBeginning r = IsOfLooks r ⊎ IsOfReserving r
 
-abbrev pub outcome_of : {A : Type 0} → Result A Refusal → Outcome
+abbrev pub outcome_of : {A : Type 0} → Result A StampRefusal → Outcome
 outcome_of (Ok a) = all_fine (Ok [])
 outcome_of (Err r) = refused r
 
@@ -126,22 +126,22 @@ moment_or_last moment = min moment last_moment
 abbrev pub plan_of : Planned → StampPlan
 plan_of p = record { request = request_view p.request; policy = p.policy.now; gen_time = p.gen_time }
 
-abbrev pub finding_of : Result Found Refusal → Finding
+abbrev pub finding_of : Result Judgement StampRefusal → Finding
 finding_of (Ok (found.Fails rule)) = Fails rule
 finding_of (Ok (found.Allows p)) = Allowed (plan_of p)
 finding_of (Err r) = Unanswered (cause_with r)
 
 -- the stamp's request is the one that the octets spell
-abbrev pub IsReadFrom : List ℕ → Found → Type 0
+abbrev pub IsReadFrom : List ℕ → Judgement → Type 0
 IsReadFrom octets (found.Fails rule) = Unit {0}
 IsReadFrom octets (found.Allows p) = Spells octets (request_view p.request) × (length octets ≤ 65536)
 
-abbrev pub HasRequest : RequestValue → Found → Type 0
+abbrev pub HasRequest : RequestValue → Judgement → Type 0
 HasRequest r (found.Fails rule) = Unit {0}
 HasRequest r (found.Allows p) = request_view p.request ≡ r
 
 -- the greatest serial number was this one
-abbrev pub HasLast : ℕ → Found → Type 0
+abbrev pub HasLast : ℕ → Judgement → Type 0
 HasLast last (found.Fails rule) = Unit {0}
 HasLast last (found.Allows p) = p.last ≡ last
 
@@ -163,7 +163,7 @@ pub record IsPrepared (s : Setting) (plan : StampPlan) (serial : ℕ) (p : Prepa
   pub text_is : p.text.items ≡ attribute_text s.in_force.identity (tst_of s plan serial)
 
 -- what waits for its signature, or the refusal
-abbrev pub pending_as : Result PendingValue Refusal → Answer
+abbrev pub pending_as : Result PendingValue StampRefusal → Answer
 pending_as (Ok p) = Begun p
 pending_as (Err r) = Refused (fault_of (cause_with r))
 
@@ -180,7 +180,7 @@ LeftReserving g s account plan octets o b old left =
     ⊎ ((o.adding ≡ Fine → ⊥) × g.holds left (after (reserving s account plan octets (committed o) b) b)))
 
 pub record Reserves {B : Type 0} (g : Ghosts B) (s : Setting) (account : List ℕ) (plan : StampPlan) (octets : List ℕ)
-    (b : History) (old new : B) (result : Result PendingValue Refusal) : Type 0 where
+    (b : History) (old new : B) (result : Result PendingValue StampRefusal) : Type 0 where
   pub says : pending_as result ≡ (reserving s account plan octets (outcome_of result) b).says
   pub stands : Stands g (after (reserving s account plan octets (outcome_of result) b) b) new
   pub left : (left : g.Left) → g.leaves new left

@@ -1,10 +1,10 @@
 -- What a command gives out of a book that is closed for tokens: nothing, and it leaves it so.
 use Rattle.std.specs.Prelude.{◌≡◌, ℕ, true, [], drop, None}
-use Rattle.book.specs.Continuing.{is_closed}
+use Rattle.book.specs.Continuation.{is_closed}
 use Rattle.book.specs.History.{History, greatest_serial, last_gen_time, reservations}
 use Rattle.desk.specs.Command.{Command, Finish, Answer, Stamped, Begun, Kept}
 use Rattle.desk.specs.Effects.{Effect}
-use Rattle.desk.specs.Runs.{cut}
+use Rattle.desk.specs.MachineRuns.{cut}
 use Rattle.desk.specs.Serials.{given_by}
 
 -- no stamp is granted or begun, and no deposit is new

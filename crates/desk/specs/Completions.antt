@@ -12,8 +12,8 @@ use Rattle.desk.specs.Batches.{with_sealed, all_sealed}
 use Rattle.desk.specs.Command.{PendingValue, Answer}
 use Rattle.desk.specs.Effects.{Effect}
 use Rattle.desk.specs.Fit.{IsUncounted}
+use Rattle.desk.specs.MachineStep.{IsWaiting}
 use Rattle.desk.specs.Outcome.{Call, Outcome, counted}
-use Rattle.desk.specs.Steps.{IsWaiting}
 use Rattle.desk.specs.Wholes.{stamped}
 
 -- the texts that are signed

@@ -4,7 +4,7 @@ use Rattle.std.specs.Prelude.{◌≡◌, List, [], ℕ, Option, Some, None, Resu
 use Rattle.policy.specs.Record.{AccountValue}
 use Rattle.cms.specs.declared.signer.SignerFault.{SignerFault}
 use Rattle.cms.specs.declared.signer.SignerFault.TheVariants as signer
-use Rattle.desk.specs.Outcome.{Call, Fine, Wanting, Failed, Outcome, all_fine}
+use Rattle.desk.specs.Outcome.{Call, Fine, OutOfMemory, Failed, Outcome, all_fine}
 use Rattle.desk.specs.Command.{Command, Stamp, Begin, Finish, Abandon, Deposit, Show, Token, ListAll, Grant, Revoke}
 use Rattle.desk.specs.Command.{Calibrate, Hold, Succeed}
 
@@ -52,7 +52,7 @@ made_by (Succeed next) o = record (all_fine (Ok [])) { looking = o.looking; addi
 -- a call that wasn't refused for a cause that is counted
 abbrev pub IsUncounted : Call → Type 0
 IsUncounted Fine = Unit {0}
-IsUncounted Wanting = Unit {0}
+IsUncounted OutOfMemory = Unit {0}
 IsUncounted Failed = ⊥
 
 abbrev pub IsUnfailed : Result (List ℕ) SignerFault → Type 0

@@ -27,8 +27,8 @@ use Rattle.desk.specs.Texts.{tst_of, reservation_of, pending_of, token_with, giv
 use Rattle.desk.specs.Effects.{Effect, next_reservation, name_of}
 use Rattle.desk.specs.declared.fault.Fault.{Fault}
 use Rattle.desk.specs.declared.fault.Fault.TheVariants as fault
-use Rattle.desk.specs.Steps.{HasEffect, IsMet}
-use Rattle.desk.specs.Runs.{Told, after, cut, Runs}
+use Rattle.desk.specs.MachineStep.{HasEffect, IsMet}
+use Rattle.desk.specs.MachineRuns.{Told, after, cut, Runs}
 use Rattle.desk.specs.Serials.{serials_of}
 use Rattle.desk.specs.Succession.{installed_by, IsInForce}
 use Rattle.desk.specs.Viewers.{viewer_in}

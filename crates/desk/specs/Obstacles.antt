@@ -10,7 +10,7 @@ use Rattle.book.specs.Readers.{Reader, Viewer}
 use Rattle.book.specs.Rights.{seen_by}
 use Rattle.book.specs.declared.fault.StoreFault.{StoreFault}
 use Rattle.book.specs.declared.values.StampedDeposit.{StampedDeposit}
-use Rattle.desk.specs.Outcome.{Outcome, Wanting, all_fine}
+use Rattle.desk.specs.Outcome.{Outcome, OutOfMemory, all_fine}
 use Rattle.desk.specs.Command.{Answer, Refused}
 use Rattle.desk.specs.Effects.{fault_of, objection}
 use Rattle.desk.specs.Calls.{call_of, store_cause}
@@ -29,7 +29,7 @@ fault_with obstacle.UnknownGroup = fault.UnknownGroup
 fault_with obstacle.SelfGrant = fault.SelfGrant
 fault_with (obstacle.Searching f) = fault_of (store_cause f)
 fault_with (obstacle.Looking f) = fault_of (store_cause f)
-fault_with obstacle.Growing = fault.Memory
+fault_with obstacle.OutOfMemory = fault.Memory
 fault_with (obstacle.Adding f) = fault_of (store_cause f)
 
 -- what stands in the way where the store refuses to add
@@ -46,7 +46,7 @@ hindered obstacle.UnknownGroup = all_fine (Ok [])
 hindered obstacle.SelfGrant = all_fine (Ok [])
 hindered (obstacle.Searching f) = record (all_fine (Ok [])) { searching = call_of f }
 hindered (obstacle.Looking f) = record (all_fine (Ok [])) { looking = call_of f }
-hindered obstacle.Growing = record (all_fine (Ok [])) { growing = Wanting }
+hindered obstacle.OutOfMemory = record (all_fine (Ok [])) { growing = OutOfMemory }
 hindered (obstacle.Adding f) = record (all_fine (Ok [])) { adding = call_of f }
 
 abbrev pub outcome_with : {A : Type 0} → Result A Obstacle → Outcome
@@ -67,7 +67,7 @@ IsOfSight obstacle.UnknownGroup = ⊥
 IsOfSight obstacle.SelfGrant = ⊥
 IsOfSight (obstacle.Searching f) = IsOfStorage f
 IsOfSight (obstacle.Looking f) = IsOfStorage f
-IsOfSight obstacle.Growing = ⊥
+IsOfSight obstacle.OutOfMemory = ⊥
 IsOfSight (obstacle.Adding f) = ⊥
 
 -- what stands in the way of giving or taking a right to it
@@ -79,7 +79,7 @@ IsOfRight reader obstacle.UnknownGroup = NamesGroup reader
 IsOfRight reader obstacle.SelfGrant = NamesAccount reader
 IsOfRight reader (obstacle.Searching f) = IsOfStorage f
 IsOfRight reader (obstacle.Looking f) = IsOfStorage f
-IsOfRight reader obstacle.Growing = ⊥
+IsOfRight reader obstacle.OutOfMemory = ⊥
 IsOfRight reader (obstacle.Adding f) = ⊥
 
 -- who asks sees this deposit, and its number has this token
@@ -96,7 +96,7 @@ IsUnseen viewer number b obstacle.UnknownGroup = Unit {0}
 IsUnseen viewer number b obstacle.SelfGrant = Unit {0}
 IsUnseen viewer number b (obstacle.Searching f) = Unit {0}
 IsUnseen viewer number b (obstacle.Looking f) = (d : DepositRow) × (seen_by viewer number b ≡ Some d)
-IsUnseen viewer number b obstacle.Growing = Unit {0}
+IsUnseen viewer number b obstacle.OutOfMemory = Unit {0}
 IsUnseen viewer number b (obstacle.Adding f) = Unit {0}
 
 -- the account sees this deposit, which is its own
@@ -113,7 +113,7 @@ IsOpposed file owner reader obstacle.UnknownGroup = objection file owner reader 
 IsOpposed file owner reader obstacle.SelfGrant = objection file owner reader ≡ Some fault.SelfGrant
 IsOpposed file owner reader (obstacle.Searching f) = ⊥
 IsOpposed file owner reader (obstacle.Looking f) = ⊥
-IsOpposed file owner reader obstacle.Growing = ⊥
+IsOpposed file owner reader obstacle.OutOfMemory = ⊥
 IsOpposed file owner reader (obstacle.Adding f) = ⊥
 
 -- the account may give and take a reader's right to the deposit
@@ -137,5 +137,5 @@ MayNot file account reader number b obstacle.SelfGrant =
 MayNot file account reader number b (obstacle.Searching f) = Unit {0}
 MayNot file account reader number b (obstacle.Looking f) =
     (d : DepositRow) × (seen_by (viewer_in file account) number b ≡ Some d)
-MayNot file account reader number b obstacle.Growing = Unit {0}
+MayNot file account reader number b obstacle.OutOfMemory = Unit {0}
 MayNot file account reader number b (obstacle.Adding f) = Unit {0}

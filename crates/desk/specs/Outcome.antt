@@ -9,7 +9,7 @@ use Rattle.cms.specs.declared.signer.SignerFault.TheVariants as signer
 -- the store counts
 pub data Call : Type 0 where
   Fine : Call
-  Wanting : Call
+  OutOfMemory : Call
   Failed : Call
 
 -- A call that a command doesn't make is Fine (`IsFit`).
@@ -39,7 +39,7 @@ pub data Cause : Type 0 where
 
 abbrev pub cause_of : Call → Option Cause
 cause_of Fine = None
-cause_of Wanting = Some OfMemory
+cause_of OutOfMemory = Some OfMemory
 cause_of Failed = Some OfStore
 
 abbrev pub cause_of_signing : Result (List ℕ) SignerFault → Option Cause
@@ -56,7 +56,7 @@ first_cause (Some cause ∷ causes) = Some cause
 -- the store's count of faults: it goes up with each call that is refused for another cause than memory
 abbrev pub counted : Call → ℕ → ℕ
 counted Fine count = count
-counted Wanting count = count
+counted OutOfMemory count = count
 counted Failed count = wrapping_add count 1
 
 abbrev pub faults_after : Outcome → ℕ → ℕ

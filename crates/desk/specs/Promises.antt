@@ -8,11 +8,11 @@ use Rattle.desk.specs.Content.{IsSoundInFull}
 use Rattle.desk.specs.Outcome.{Outcome}
 use Rattle.desk.specs.Command.{InForce, Setting, PendingValue, Command, Succeed, Begun, Done, setting_after}
 use Rattle.desk.specs.Effects.{Effect}
-use Rattle.desk.specs.Steps.{HasEffect, IsMet}
-use Rattle.desk.specs.Runs.{IsProper, after}
+use Rattle.desk.specs.MachineStep.{HasEffect, IsMet}
+use Rattle.desk.specs.MachineRuns.{IsProper, after}
 use Rattle.desk.specs.Laws.{IsReservedText, IsPendingOf, IsOfPlan, IsCommandOfOther, Concerns, StaysFor}
 use Rattle.desk.specs.Sight.{ShowsExactly}
-use Rattle.desk.specs.Naming.{IsNameableFor}
+use Rattle.desk.specs.Names.{IsNameableFor}
 use Rattle.desk.specs.Succession.{IsInForce}
 use Rattle.desk.specs.Viewers.{viewer_in}
 

@@ -4,8 +4,8 @@ use Rattle.std.specs.Prelude.{ℕ, ◌<◌, ◌≤◌, List, [], ◌++◌, ◌�
 use Rattle.std.specs.List.{AllByRecursion}
 use Rattle.book.specs.History.{Entry, History, reservations, greatest_serial}
 use Rattle.desk.specs.Command.{Setting, Answer, Stamped, Rejected, Begun, Kept, Shown, Listed, Done, Numbered, Refused}
-use Rattle.desk.specs.Runs.{Told, Journey, begins, opens, opens_older, shuts, rests, enters, breaks, goes, stops}
-use Rattle.desk.specs.Runs.{continues}
+use Rattle.desk.specs.MachineRuns.{Told, Journey, begins, opens, opens_older, shuts, rests, enters, breaks, goes, stops}
+use Rattle.desk.specs.MachineRuns.{continues}
 
 -- the serial numbers that entries reserve, the newest first
 abbrev pub serials_of : List Entry → List ℕ

@@ -10,16 +10,16 @@ use Rattle.book.specs.History.{Reserved, History, greatest_serial}
 use Rattle.book.specs.Sound.{greatest_number}
 use Rattle.book.specs.Stands.{Stands}
 use Rattle.desk.specs.Outcome.{Call, Outcome, all_fine}
-use Rattle.desk.specs.Runs.{Runs}
+use Rattle.desk.specs.MachineRuns.{Runs}
 use Rattle.desk.specs.Findings.{StampPlan, Fails, Allowed, Finds}
 use Rattle.desk.specs.Command.{Setting, Answer, Rejected}
 use Rattle.desk.specs.Texts.{pending_of}
 use Rattle.desk.specs.Effects.{next_reservation, name_of}
 use Rattle.desk.specs.Batches.{Question, stamp_for, stamps_for, faults_together}
 use Rattle.desk.specs.Fit.{IsFit}
-use Rattle.desk.specs.Waiting.{waiting_view, pending_in, HasText}
+use Rattle.desk.specs.WaitingStamps.{waiting_view, pending_in, HasText}
 use Rattle.desk.specs.declared.batch.Asked.{Asked}
-use Rattle.desk.specs.declared.waiting.Waiting.{Waiting}
+use Rattle.desk.specs.declared.waiting_stamp.Waiting.{Waiting}
 use Rattle.desk.specs.declared.batch_start.Judged.{Judged}
 use Rattle.desk.specs.declared.batch_start.Judged.TheVariants as judged
 

@@ -12,10 +12,10 @@ use Rattle.desk.specs.Fit.{IsUncounted}
 use Rattle.desk.specs.Command.{PendingValue, Command, Answer, Stamped, Rejected}
 use Rattle.desk.specs.Texts.{token_with}
 use Rattle.desk.specs.Effects.{Effect, no_seal}
-use Rattle.desk.specs.Steps.{IsWaiting}
-use Rattle.desk.specs.Stepped.{SignerStep, IsOpened}
-use Rattle.desk.specs.declared.refusal.Refusal.{Refusal}
-use Rattle.desk.specs.declared.refusal.Refusal.TheVariants as refusal
+use Rattle.desk.specs.MachineStep.{IsWaiting}
+use Rattle.desk.specs.CallContract.{SignerStep, IsOpened}
+use Rattle.desk.specs.declared.refusal.StampRefusal.{StampRefusal}
+use Rattle.desk.specs.declared.refusal.StampRefusal.TheVariants as refusal
 
 -- what the three parts met
 abbrev pub joined : Outcome → Result (List ℕ) SignerFault → Outcome → Outcome
@@ -41,8 +41,8 @@ stamped p (Err fault) begun finished =
     record { adds = begun; asks = Some (attribute_text p.identity p.tst); says = Rejected System }
 
 -- the refusals of a finish
-abbrev pub IsOfFinish : Refusal → Type 0
-IsOfFinish refusal.Wrapping = Unit {0}
+abbrev pub IsOfFinish : StampRefusal → Type 0
+IsOfFinish refusal.OutOfReplyMemory = Unit {0}
 IsOfFinish (refusal.Sealing f) = Unit {0}
 IsOfFinish _ = ⊥
 

@@ -10,14 +10,14 @@ use Rattle.desk.specs.Batches.{SealValue, all_sealed}
 use Rattle.desk.specs.Command.{PendingValue, Answer}
 use Rattle.desk.specs.Completions.{completed, seals_of, AreWaiting, faults_sealing}
 use Rattle.desk.specs.Fit.{IsUncounted}
-use Rattle.desk.specs.Outcome.{Call, Wanting, Outcome, counted, all_fine}
+use Rattle.desk.specs.Outcome.{Call, OutOfMemory, Outcome, counted, all_fine}
 use Rattle.desk.specs.Texts.{token_with}
 use Rattle.desk.specs.declared.completion.Seal.{Seal}
 use Rattle.desk.specs.declared.completion.Written.{Written}
 
 -- what was met where nothing is sealed: no signature, or want of memory for token and reply
 abbrev pub unwritten : Result (List ℕ) SignerFault → Outcome
-unwritten (Ok signature) = record (all_fine (Ok [])) { wrapping = Wanting }
+unwritten (Ok signature) = record (all_fine (Ok [])) { wrapping = OutOfMemory }
 unwritten (Err fault) = all_fine (Ok [])
 
 -- token and reply over a signature are written, or nothing is

@@ -9,15 +9,15 @@ ghost use Rattle.desk.specs.Calls.{outcome_of, settings_view};
 ghost use Rattle.desk.specs.Outcome.{faults_after};
 ghost use Rattle.desk.specs.Together.{question_view, questions_view, IsJudgedAs, HasItsText, AreJudged};
 ghost use Rattle.desk.specs.Together.{AreSplit};
-ghost use Rattle.desk.specs.Waiting.{waiting_view, with_waiting, HasText};
+ghost use Rattle.desk.specs.WaitingStamps.{waiting_view, with_waiting, HasText};
 
 use crate::batch::Asked;
-use crate::beginning::name_of;
-use crate::finding::{Found, find_among};
-use crate::refusal::Refusal;
-use crate::reserving::prepare;
+use crate::findings::{Judgement, find_among};
+use crate::refusal::StampRefusal;
+use crate::reservation::prepare;
 use crate::settings::Settings;
-use crate::waiting::{Waiting, reservation_of};
+use crate::stamp_start::name_of;
+use crate::waiting_stamp::{Waiting, reservation_of};
 use book::{Book, Entry, GREATEST_NUMBER, StoreFault};
 use std::alloc::Global;
 use tsp::Rule;
@@ -38,7 +38,7 @@ fn judge_one<'p, 'a, B: Book + Drop>(
     settings: Settings<'p>,
     waits: &[Waiting<'p, 'a>],
     asked: Asked<'a>,
-) -> Result<Judged<'p, 'a>, Refusal>
+) -> Result<Judged<'p, 'a>, StampRefusal>
     ensures looks { OnlyLooks B.Standing store.old store.new }
     ensures counted { B.fault_count store.new ≡ faults_after (outcome_of result) (B.fault_count store.old) }
     ensures judges { B.honest store.new → (b : History) → Stands B.Standing b store.old
@@ -55,10 +55,10 @@ fn judge_one<'p, 'a, B: Book + Drop>(
         asked.query,
     ) {
         Err(refusal) => Err(refusal),
-        Ok(Found::Fails(rule)) => Ok(Judged::Fails(rule)),
-        Ok(Found::Allows(planned)) => {
+        Ok(Judgement::Fails(rule)) => Ok(Judged::Fails(rule)),
+        Ok(Judgement::Allows(planned)) => {
             if planned.last >= GREATEST_NUMBER {
-                return Err(Refusal::Spent);
+                return Err(StampRefusal::Exhausted);
             }
             match prepare(alloc, settings, planned, asked.query) {
                 Ok(prepared) => Ok(Judged::Waits(Waiting {
@@ -81,7 +81,7 @@ fn judge_each<'p, 'a, B: Book + Drop>(
     asked: &[Asked<'a>],
     verdicts: &mut Vec<Option<Rule>>,
     waits: &mut Vec<Waiting<'p, 'a>>,
-) -> Result<(), Refusal>
+) -> Result<(), StampRefusal>
     requires none_judged { verdicts.old.items ≡ [] }
     requires none_waits { waits.old.items ≡ [] }
     requires verdicts_room { length asked.now ≤ vec_capacity verdicts.old }
@@ -142,7 +142,7 @@ pub(crate) fn begin_each<'p, 'a, B: Book + Drop>(
     asked: &[Asked<'a>],
     verdicts: &mut Vec<Option<Rule>>,
     waits: &mut Vec<Waiting<'p, 'a>>,
-) -> Result<(), Refusal>
+) -> Result<(), StampRefusal>
     requires none_judged { verdicts.old.items ≡ [] }
     requires none_waits { waits.old.items ≡ [] }
     requires verdicts_room { length asked.now ≤ vec_capacity verdicts.old }
@@ -166,6 +166,6 @@ pub(crate) fn begin_each<'p, 'a, B: Book + Drop>(
     }
     match reserve_each(store, alloc, waits) {
         Ok(()) => Ok(()),
-        Err(fault) => Err(Refusal::Adding(fault)),
+        Err(fault) => Err(StampRefusal::Adding(fault)),
     }
 }

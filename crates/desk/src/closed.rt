@@ -3,18 +3,18 @@ ghost use Rattle.std.specs.Prelude.{◌≡◌, ℕ, ◌<◌, ◌≤◌, ◌++◌
 ghost use Rattle.std.specs.List.{Contains};
 ghost use Rattle.policy.specs.Record.{CounterValue};
 ghost use Rattle.decide.specs.Clock.{IsGood};
-ghost use Rattle.book.specs.Continuing.{Floor, IsAboveIfAny, continued, is_closed, last_reservation};
+ghost use Rattle.book.specs.Continuation.{Floor, IsAboveIfAny, continued, is_closed, last_reservation};
 ghost use Rattle.book.specs.History.{Entry, History, ReservationValue, reservations};
 ghost use Rattle.book.specs.Sound.{Along, IsSound};
 ghost use Rattle.desk.specs.Closed.{GivesNothingOut, StaysClosed};
 ghost use Rattle.desk.specs.Command.{Setting, Command};
 ghost use Rattle.desk.specs.Content.{IsSoundInFull};
-ghost use Rattle.desk.specs.Continuing.{IsRestated, IsStated, IsStatedIfAny};
+ghost use Rattle.desk.specs.Continuation.{IsRestated, IsStated, IsStatedIfAny};
 ghost use Rattle.desk.specs.Effects.{Effect};
 ghost use Rattle.desk.specs.Facts.{clock_of};
+ghost use Rattle.desk.specs.MachineRuns.{IsRising};
+ghost use Rattle.desk.specs.MachineStep.{HasEffect};
 ghost use Rattle.desk.specs.Outcome.{Outcome};
-ghost use Rattle.desk.specs.Runs.{IsRising};
-ghost use Rattle.desk.specs.Steps.{HasEffect};
 
 use tsp::{requests_have_one_reading, tst_infos_have_one_reading};
 

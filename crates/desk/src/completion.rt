@@ -11,13 +11,13 @@ ghost use Rattle.desk.specs.Answers.{reply_as};
 ghost use Rattle.desk.specs.Calls.{settings_view};
 ghost use Rattle.desk.specs.Completions.{SealsEach, CompletesEach};
 ghost use Rattle.desk.specs.Outcome.{Call, Fine, Outcome};
-ghost use Rattle.desk.specs.Waiting.{pending_in, pendings_in, HasText};
+ghost use Rattle.desk.specs.WaitingStamps.{pending_in, pendings_in, HasText};
 ghost use Rattle.desk.specs.Written.{seal_view, IsWritten, AreWritten, AreWrittenMore, IsRefusedTogether};
 
-use crate::finishing::no_answer;
 use crate::reply::Reply;
 use crate::settings::Settings;
-use crate::waiting::Waiting;
+use crate::stamp_end::no_answer;
+use crate::waiting_stamp::Waiting;
 use book::{Book, Entry};
 use cms::{Signer, SignerFault, token};
 use std::alloc::{AllocError, Global};

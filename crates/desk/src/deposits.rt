@@ -3,18 +3,18 @@ ghost use Rattle.std.specs.Prelude.{◌≡◌, ◌⊎◌, ◌<◌, length, Err, 
 ghost use Rattle.policy.specs.View.{account_view};
 ghost use Rattle.book.specs.Readers.{Account as Named, Group};
 ghost use Rattle.desk.specs.Answers.{answered};
+ghost use Rattle.desk.specs.CallContract.{IsStep, no_signer, with_signer};
 ghost use Rattle.desk.specs.Command.{Deposit, Show, Token, ListAll, Grant, Revoke};
 ghost use Rattle.desk.specs.Fault.{IsOfDeposit, IsOfSight, IsOfRight};
 ghost use Rattle.desk.specs.Shown.{deposited_as, shown_as, listed_as, done_as};
-ghost use Rattle.desk.specs.Stepped.{IsStep, no_signer, with_signer};
 
-use crate::depositing::deposit_with;
 use crate::desk::Desk;
 use crate::fault::Fault;
 use crate::laws::steps_keep_their_promises;
+use crate::new_deposit::deposit_with;
 use crate::reply::Deposited;
 use crate::rights::{grant_by, revoke_by};
-use crate::showing::{list_to, show_to, token_to};
+use crate::sight::{list_to, show_to, token_to};
 use book::{Book, Listed, Reader};
 use cms::Signer;
 use policy::Account;

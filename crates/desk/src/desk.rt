@@ -9,23 +9,23 @@ ghost use Rattle.decide.specs.View.{account_asked};
 ghost use Rattle.book.specs.History.{History};
 ghost use Rattle.book.specs.Stands.{Stands};
 ghost use Rattle.desk.specs.Answers.{begun_as, reply_as, answered};
+ghost use Rattle.desk.specs.CallContract.{HasOpened, StandsInForce, IsStep, no_signer, with_signer, with_store};
 ghost use Rattle.desk.specs.Calls.{settings_view};
 ghost use Rattle.desk.specs.Command.{Begin, Finish, Abandon, Stamp, Stamped, Rejected, Done};
 ghost use Rattle.desk.specs.Findings.{HoldsUnasked};
+ghost use Rattle.desk.specs.MachineRuns.{IsProper};
 ghost use Rattle.desk.specs.Replies.{IsGranted, IsRejected};
-ghost use Rattle.desk.specs.Runs.{IsProper};
-ghost use Rattle.desk.specs.Stepped.{HasOpened, StandsInForce, IsStep, no_signer, with_signer, with_store};
 ghost use Rattle.desk.specs.contracts.desk.Desk.{the_row as desk_row};
 
-use crate::answering::answer_with;
-use crate::beginning::begin_with;
 use crate::fault::Fault;
-use crate::finishing::finish_with;
 use crate::laws::steps_keep_their_promises;
 use crate::pending::Pending;
 use crate::reply::{Begun, Reply};
 use crate::settings::{Settings, is_proper};
-use crate::succeeding::install;
+use crate::stamp::answer_with;
+use crate::stamp_end::finish_with;
+use crate::stamp_start::begin_with;
+use crate::succession::install;
 use book::Book;
 use cms::Signer;
 use policy::{Account, Policy};
@@ -44,8 +44,8 @@ pub struct Desk<'p, B: Book + Drop> {
 }
 
 impl<'p, B: Book + Drop> Model for Desk<'p, B> {
+    ghost use Rattle.desk.specs.CallContract.{DeskValue};
     ghost use Rattle.desk.specs.Codes.{desk_code};
-    ghost use Rattle.desk.specs.Stepped.{DeskValue};
 
     ghost Value = { DeskValue B };
 

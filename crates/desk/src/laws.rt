@@ -25,11 +25,11 @@ ghost use Rattle.desk.specs.Findings.{StampPlan, IsAllowed, HoldsAt};
 ghost use Rattle.desk.specs.Outcome.{Outcome};
 ghost use Rattle.desk.specs.Promises.{KeepsPromises};
 ghost use Rattle.desk.specs.Readers.{rights_along};
-ghost use Rattle.desk.specs.Runs.{IsProper, Told, Journey, HasProperties, Runs, after, cut};
+ghost use Rattle.desk.specs.MachineRuns.{IsProper, Told, Journey, HasProperties, Runs, after, cut};
 ghost use Rattle.desk.specs.Serials.{given_along, AreInOrder};
 ghost use Rattle.desk.specs.Sight.{ShowsExactly};
-ghost use Rattle.desk.specs.Steps.{HasEffect, IsMet};
-ghost use Rattle.desk.specs.Naming.{IsNameableFor};
+ghost use Rattle.desk.specs.MachineStep.{HasEffect, IsMet};
+ghost use Rattle.desk.specs.Names.{IsNameableFor};
 ghost use Rattle.desk.specs.Succession.{IsInForce, IsNameable};
 ghost use Rattle.desk.specs.Viewers.{viewer_in};
 

@@ -2,35 +2,36 @@
 //! it accepted, and the laws that follow.
 #![tactic(auto)]
 
-mod answering;
+mod additions;
 mod batch;
 mod batch_start;
-mod beginning;
+mod clock_facts;
 mod closed;
 mod commands;
 mod completion;
-mod depositing;
 mod deposits;
 mod desk;
-mod entering;
 mod fault;
-mod finding;
-mod finishing;
+mod findings;
 mod laws;
-mod looking;
+mod new_deposit;
 mod obstacle;
 mod pending;
 mod refusal;
 mod reply;
-mod reserving;
+mod reservation;
 mod rights;
-mod running;
+mod run;
 mod settings;
-mod showing;
-mod succeeding;
-mod waiting;
+mod sight;
+mod stamp;
+mod stamp_end;
+mod stamp_start;
+mod succession;
+mod waiting_stamp;
 
 pub use batch::Asked;
+pub use clock_facts::Looked;
 pub use closed::{
     closed_books_give_nothing_out, closed_books_stay_closed, continuations_are_sound_in_full,
     continuations_rise, void_stamps_are_stated,
@@ -45,7 +46,6 @@ pub use laws::{
     steps_keep_their_promises, steps_leave_sound_histories, successions_bring_their_identity,
     texts_are_reserved,
 };
-pub use looking::Looked;
 pub use pending::Pending;
 pub use reply::{Begun, Deposited, Reply};
 pub use settings::{Settings, has_subject};

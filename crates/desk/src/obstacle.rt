@@ -24,7 +24,7 @@ pub(crate) enum Obstacle {
     /// What is shown.
     Looking(StoreFault),
     /// The memory for what is shown.
-    Growing,
+    OutOfMemory,
     /// The right.
     Adding(StoreFault),
 }
@@ -42,7 +42,7 @@ impl From<Obstacle> for Fault {
             Obstacle::Searching(fault) | Obstacle::Looking(fault) | Obstacle::Adding(fault) => {
                 fault_of(fault)
             }
-            Obstacle::Growing => Fault::Memory,
+            Obstacle::OutOfMemory => Fault::Memory,
         }
     }
 }

@@ -9,21 +9,21 @@ use cms::SignerFault;
 
 /// The call that was refused.
 #[derive(Clone, Copy)]
-pub(crate) enum Refusal {
+pub(crate) enum StampRefusal {
     /// The facts of the clock.
     Looking(StoreFault),
     /// The account's day.
     Counting(StoreFault),
     /// No serial number is left.
-    Spent,
+    Exhausted,
     /// The memory for what is signed.
-    Growing,
+    OutOfMemory,
     /// The reservation.
     Adding(StoreFault),
     /// The signature.
     Signing(SignerFault),
     /// The memory for token and reply.
-    Wrapping,
+    OutOfReplyMemory,
     /// The token.
     Sealing(StoreFault),
 }
@@ -38,19 +38,19 @@ pub(crate) fn fault_of(fault: StoreFault) -> Fault
     }
 }
 
-impl From<Refusal> for Fault {
+impl From<StampRefusal> for Fault {
     ghost from_gives = { λ refusal fault. fault ≡ fault_for (cause_with refusal) };
 
-    fn from(refusal: Refusal) -> Fault {
+    fn from(refusal: StampRefusal) -> Fault {
         match refusal {
-            Refusal::Looking(fault)
-            | Refusal::Counting(fault)
-            | Refusal::Adding(fault)
-            | Refusal::Sealing(fault) => fault_of(fault),
-            Refusal::Spent => Fault::Store,
-            Refusal::Growing | Refusal::Wrapping => Fault::Memory,
-            Refusal::Signing(SignerFault::Failed) => Fault::Signer,
-            Refusal::Signing(SignerFault::Memory) => Fault::Memory,
+            StampRefusal::Looking(fault)
+            | StampRefusal::Counting(fault)
+            | StampRefusal::Adding(fault)
+            | StampRefusal::Sealing(fault) => fault_of(fault),
+            StampRefusal::Exhausted => Fault::Store,
+            StampRefusal::OutOfMemory | StampRefusal::OutOfReplyMemory => Fault::Memory,
+            StampRefusal::Signing(SignerFault::Failed) => Fault::Signer,
+            StampRefusal::Signing(SignerFault::Memory) => Fault::Memory,
         }
     }
 }

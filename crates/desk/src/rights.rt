@@ -4,6 +4,7 @@ ghost use Rattle.policy.specs.View.{account_view, policy_view};
 ghost use Rattle.book.specs.Entries.{reader_view};
 ghost use Rattle.book.specs.History.{History};
 ghost use Rattle.book.specs.Stands.{Stands, OnlyLooks};
+ghost use Rattle.desk.specs.CallContract.{StepsBy, no_signer};
 ghost use Rattle.desk.specs.Calls.{settings_view};
 ghost use Rattle.desk.specs.Command.{Grant, Revoke};
 ghost use Rattle.desk.specs.Effects.{has_account, has_group, objection};
@@ -11,11 +12,10 @@ ghost use Rattle.desk.specs.Fault as refused;
 ghost use Rattle.desk.specs.Obstacles.{fault_with, outcome_with, told_with, IsOfRight, IsOpposed, MayName, MayNot};
 ghost use Rattle.desk.specs.Outcome.{faults_after};
 ghost use Rattle.desk.specs.Shown.{done_as};
-ghost use Rattle.desk.specs.Stepped.{StepsBy, no_signer};
 
 use crate::obstacle::Obstacle;
 use crate::settings::Settings;
-use crate::showing::see;
+use crate::sight::see;
 use book::{Book, Entry, Reader};
 use policy::{Account, Policy};
 

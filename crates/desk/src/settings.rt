@@ -4,7 +4,7 @@ ghost use Rattle.std.specs.List.{AllByRecursion};
 ghost use Rattle.der.specs.ObjectIdentifier.{IsOid};
 ghost use Rattle.policy.specs.View.{tsa_policy_view};
 ghost use Rattle.desk.specs.Calls.{settings_view};
-ghost use Rattle.desk.specs.Runs.{IsProper};
+ghost use Rattle.desk.specs.MachineRuns.{IsProper};
 ghost use Rattle.desk.specs.Succession.{HasSubject};
 
 use cms::{Algorithm, Identity};

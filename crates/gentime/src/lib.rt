@@ -5,7 +5,7 @@ mod components;
 mod fault;
 mod laws;
 mod moment;
-mod reading;
+mod parser;
 
 pub use fault::GenTimeFault;
 pub use laws::{texts_are_distinct, texts_are_rounded, texts_are_short};

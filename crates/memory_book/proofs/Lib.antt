@@ -1,5 +1,5 @@
 pub mod Changes
-pub mod Falling
+pub mod FallingSerials
 pub mod Numbers
 pub mod SameViews
 pub mod Walk

@@ -9,8 +9,8 @@ use Rattle.book.specs.History.{History, ReservationValue, reservations, reservat
 use Rattle.book.specs.Readers.{Viewer}
 use Rattle.book.specs.Rights.{ListedValue, listed_as, seen_by, listed_at, listed}
 use Rattle.book.specs.Sound.{IsSound}
-use Rattle.memory_book.specs.Listing.{listed_along}
-use Rattle.memory_book.proofs.Falling.{Falls, reservations_fall, first_is_greatest, differs, none_beyond}
+use Rattle.memory_book.specs.Sight.{listed_along}
+use Rattle.memory_book.proofs.FallingSerials.{Falls, reservations_fall, first_is_greatest, differs, none_beyond}
 
 -- what is listed of the numbers up to one
 abbrev listed_up_to : Viewer → History → ℕ → List ListedValue

@@ -9,7 +9,7 @@ use Rattle.book.specs.Readers.{Reader, Viewer, readers_as}
 use Rattle.book.specs.Rights.{is_reader, may_read, is_visible, listed_at, deposit_with_stamp}
 use Rattle.book.specs.Shows.{ShowsSame}
 use Rattle.book.specs.Values.{last_of}
-use Rattle.memory_book.specs.Listing.{listed_along}
+use Rattle.memory_book.specs.Sight.{listed_along}
 
 -- what is said of the slice is said of the history
 pub told : {X : Type 0} (f : History → X) (lent kept b : History) → lent ≡ kept → f kept ≡ f b → f lent ≡ f b

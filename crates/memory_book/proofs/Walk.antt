@@ -9,7 +9,7 @@ use Rattle.book.specs.Rows.{StampRow}
 use Rattle.book.specs.History.{History, ReservationValue, reservations, greatest_of, stamp_of, token_of, stamps_between}
 use Rattle.book.specs.Sound.{IsSound, greatest_number}
 use Rattle.memory_book.specs.Ranges.{oldest_within, or_else}
-use Rattle.memory_book.proofs.Falling.{Falls, reservations_fall}
+use Rattle.memory_book.proofs.FallingSerials.{Falls, reservations_fall}
 
 abbrev within : ℕ → ℕ → ℕ → Bool
 within from to serial = nat_le from serial && nat_le serial to

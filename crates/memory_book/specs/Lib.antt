@@ -1,4 +1,4 @@
 pub mod Calls
 pub mod Entries
-pub mod Listing
 pub mod Ranges
+pub mod Sight

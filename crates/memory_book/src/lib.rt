@@ -6,9 +6,9 @@ mod copies;
 mod entry;
 mod identities;
 mod laws;
-mod listing;
 mod memory_book;
 mod rights;
+mod sight;
 mod views;
 
 pub use laws::one_history_is_shown;

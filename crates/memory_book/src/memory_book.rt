@@ -7,7 +7,7 @@ use crate::calls::Calls;
 use crate::copies::{add_all, entries_of, stamp_of};
 use crate::entry::OwnedEntry;
 use crate::identities::identities;
-use crate::listing::{by_reference, is_visible, listed, stamped_deposit};
+use crate::sight::{by_reference, is_visible, listed, stamped_deposit};
 use crate::views::{
     count_of_calibrations, count_of_day, count_of_holds, is_held, last_of, latest_calibration,
     oldest_within, token_of,

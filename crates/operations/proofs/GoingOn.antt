@@ -16,9 +16,9 @@ use Rattle.sqlite.specs.Files.{over_files}
 use Rattle.tables.specs.Base.{BaseValue}
 use Rattle.store.specs.Stands.{over_tables, Stands as StoreStands}
 use Rattle.gentime.specs.GenTime.{last_moment}
-use Rattle.book.specs.Continuing.{Floor as Void, all_moments, closed, continued, entry_if, first_entries, holds_all}
-use Rattle.book.specs.Continuing.{IsAbove, IsAboveIfAny, identity_since, is_closed, last_reservation, last_stamp}
-use Rattle.book.specs.Continuing.{other_holds, stamp_with_identity}
+use Rattle.book.specs.Continuation.{Floor as Void, all_moments, closed, continued, entry_if, first_entries, holds_all}
+use Rattle.book.specs.Continuation.{IsAbove, IsAboveIfAny, identity_since, is_closed, last_reservation, last_stamp}
+use Rattle.book.specs.Continuation.{other_holds, stamp_with_identity}
 use Rattle.book.specs.Entries.{Appends, FitInTurn, with_all}
 use Rattle.book.specs.Fault.{IsOfStorage}
 use Rattle.book.specs.History.{Entry, Reserved, Installed, Calibrated, Held, History, HoldValue, InstalledValue}
@@ -38,20 +38,21 @@ use Rattle.book.specs.declared.rows.Stamp.{Stamp}
 use Rattle.book.specs.declared.standing.Standing.{Ghosts}
 use Rattle.book.specs.declared.values.Hold.{Hold}
 use Rattle.desk.specs.Content.{IsSoundInFull}
-use Rattle.desk.specs.Continuing.{IsRestated, IsStated, IsStatedIfAny}
-use Rattle.desk.specs.Runs.{IsRising}
-use Rattle.operations.specs.Continuing.{Carries, ClosesKnown, Continues, IsBelow, IsCarried, IsClosedKnown, IsLookFault}
-use Rattle.operations.specs.Continuing.{IsRefused, MayBeClosed, Reaches, entries_of, entries_of_hold}
-use Rattle.operations.specs.Continuing.{entries_of_holds, entries_of_identity, entries_of_last, entries_of_stamp}
-use Rattle.operations.specs.Continuing.{identity_since_among, last_stamp_of, latest_of, void_in}
-use Rattle.operations.specs.Opening.{IsOpeningFault}
+use Rattle.desk.specs.Continuation.{IsRestated, IsStated, IsStatedIfAny}
+use Rattle.desk.specs.MachineRuns.{IsRising}
+use Rattle.operations.specs.Continuation.{Carries, ClosesKnown, Continues, IsBelow, IsCarried, IsClosedKnown}
+use Rattle.operations.specs.Continuation.{IsLookFault}
+use Rattle.operations.specs.Continuation.{IsRefused, MayBeClosed, Reaches, entries_of, entries_of_hold}
+use Rattle.operations.specs.Continuation.{entries_of_holds, entries_of_identity, entries_of_last, entries_of_stamp}
+use Rattle.operations.specs.Continuation.{identity_since_among, last_stamp_of, latest_of, void_in}
+use Rattle.operations.specs.DatabaseFaults.{IsOpeningFault}
 use Rattle.operations.specs.OverFiles.{IsClosedOver, IsContinuedOver, IsDoneOver, IsLeft, IsMadeOver, IsRefusedOver}
 use Rattle.operations.specs.VoidStamp.{IsNoneAfterIfAny, IsVoidFault, IsVoidIfAny, reserved_as}
-use Rattle.operations.specs.declared.carrying.Carried.{Carried}
+use Rattle.operations.specs.declared.carried.Carried.{Carried}
 use Rattle.operations.specs.declared.fault.ContinuationFault.{ContinuationFault}
 use Rattle.operations.specs.declared.fault.ContinuationFault.TheVariants.{Unopened, Unclosed, NotAfter, Unfinished}
 use Rattle.operations.specs.declared.void_stamp.Floor.{Floor}
-use Rattle.operations.proofs.Checking.{looks_after}
+use Rattle.operations.proofs.CheckedStamps.{looks_after}
 
 -- ---- lists
 

@@ -1,4 +1,4 @@
-pub mod Checking
+pub mod CheckedStamps
 pub mod GoingOn
 pub mod OverFiles
-pub mod Reaching
+pub mod ReachedSigners

@@ -6,7 +6,7 @@ use Rattle.sqlite_wal.specs.Recovery.{Image}
 use Rattle.tables.specs.Base.{BaseValue}
 use Rattle.book.specs.declared.fault.StoreFault.{StoreFault}
 use Rattle.book.specs.declared.fault.StoreFault.TheVariants.{Backwards}
-use Rattle.operations.specs.Opening.{IsOpeningFault}
+use Rattle.operations.specs.DatabaseFaults.{IsOpeningFault}
 use Rattle.operations.specs.OverFiles.{IsDoneOver}
 
 -- what is said of an answer, where there is one

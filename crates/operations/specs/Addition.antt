@@ -9,8 +9,8 @@ use Rattle.book.specs.Values.{calibration_view, hold_view}
 use Rattle.book.specs.declared.fault.StoreFault.{StoreFault}
 use Rattle.book.specs.declared.standing.Standing.{Ghosts}
 use Rattle.book.specs.declared.fault.StoreFault.TheVariants.{Backwards}
-use Rattle.operations.specs.declared.adding.Addition.{Addition}
-use Rattle.operations.specs.declared.adding.Addition.TheVariants.{Calibration, Hold}
+use Rattle.operations.specs.declared.addition.Addition.{Addition}
+use Rattle.operations.specs.declared.addition.Addition.TheVariants.{Calibration, Hold}
 
 abbrev pub entry_of : Addition → Entry
 entry_of (Calibration calibration) = Calibrated (calibration_view calibration)

@@ -1,11 +1,11 @@
 pub mod Addition
-pub mod Auditing
-pub mod Continuing
-pub mod Opening
+pub mod Audits
+pub mod Continuation
+pub mod DatabaseFaults
 pub mod Judged
 pub mod Machine
 pub mod OverFiles
-pub mod Reached
+pub mod AnySigner
 pub mod Signing
 pub mod Visits
 pub mod VoidStamp

@@ -9,22 +9,22 @@ use Rattle.cms.specs.declared.signer.Signer.{Ghosts as Signs}
 use Rattle.book.specs.declared.fault.StoreFault.{StoreFault}
 use Rattle.book.specs.declared.standing.Standing.{Ghosts as Book}
 use Rattle.tables.specs.Base.{BaseValue}
-use Rattle.store.specs.Opening.{MigratesFound, OpensThen}
+use Rattle.store.specs.Files.{MigratesFound, OpensThen}
 use Rattle.store.specs.Stands.{over_tables}
 use Rattle.book.specs.Entries.{FitInTurn, with_all}
 use Rattle.book.specs.History.{Entry}
 use Rattle.book.specs.Stands.{Stands}
+use Rattle.desk.specs.CallContract.{DeskValue, IsStep, with_signer}
 use Rattle.desk.specs.Command.{Answer, Setting, Stamp}
-use Rattle.desk.specs.Stepped.{DeskValue, IsStep, with_signer}
 use Rattle.operations.specs.Addition.{IsAdded}
-use Rattle.operations.specs.Auditing.{IsAuditOf}
-use Rattle.operations.specs.Continuing.{Carries, Continues, IsRefused}
-use Rattle.operations.specs.Opening.{IsOpeningFault}
+use Rattle.operations.specs.Audits.{IsAuditOf}
+use Rattle.operations.specs.Continuation.{Carries, Continues, IsRefused}
+use Rattle.operations.specs.DatabaseFaults.{IsOpeningFault}
 use Rattle.operations.specs.Visits.{IsUnopened, IsVisited}
-use Rattle.operations.specs.declared.adding.Addition.{Addition}
-use Rattle.operations.specs.declared.auditing.AuditFault.{AuditFault}
-use Rattle.operations.specs.declared.auditing.Inquiry.{Inquiry}
-use Rattle.operations.specs.declared.carrying.Carried.{Carried}
+use Rattle.operations.specs.declared.addition.Addition.{Addition}
+use Rattle.operations.specs.declared.audits.AuditFault.{AuditFault}
+use Rattle.operations.specs.declared.audits.Inquiry.{Inquiry}
+use Rattle.operations.specs.declared.carried.Carried.{Carried}
 use Rattle.operations.specs.declared.fault.ContinuationFault.{ContinuationFault}
 use Rattle.operations.specs.declared.fault.ContinuationFault.TheVariants.{Unopened}
 use Rattle.operations.specs.declared.fault.OperationFault.{OperationFault}

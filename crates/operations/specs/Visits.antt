@@ -5,7 +5,7 @@ use Rattle.book.specs.History.{History}
 use Rattle.book.specs.Stands.{Stands}
 use Rattle.desk.specs.declared.fault.Fault.{Fault}
 use Rattle.desk.specs.Command.{Setting}
-use Rattle.desk.specs.Stepped.{DeskValue, HasOpened, StandsInForce}
+use Rattle.desk.specs.CallContract.{DeskValue, HasOpened, StandsInForce}
 use Rattle.operations.specs.declared.fault.OperationFault.{OperationFault}
 use Rattle.operations.specs.declared.fault.OperationFault.TheVariants as operation
 

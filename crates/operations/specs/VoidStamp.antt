@@ -1,12 +1,12 @@
 -- A void stamp in place of a history's last one.
 use Rattle.std.specs.Prelude.{◌≡◌, ◌⊎◌, ℕ, ◌<◌, ◌≤◌, List, Option, Some, None}
 use Rattle.gentime.specs.GenTime.{last_moment}
-use Rattle.book.specs.Continuing.{Floor as Void, reserved_as as reserved_above}
+use Rattle.book.specs.Continuation.{Floor as Void, reserved_as as reserved_above}
 use Rattle.book.specs.History.{ReservationValue}
 use Rattle.book.specs.Rows.{StampRow}
 use Rattle.book.specs.Sound.{greatest_number}
 use Rattle.book.specs.declared.fault.StoreFault.TheVariants.{Memory, NotOurs}
-use Rattle.desk.specs.Continuing.{IsRestated}
+use Rattle.desk.specs.Continuation.{IsRestated}
 use Rattle.operations.specs.declared.fault.ContinuationFault.{ContinuationFault}
 use Rattle.operations.specs.declared.fault.ContinuationFault.TheVariants.{Unclosed, NotAfter}
 use Rattle.operations.specs.declared.void_stamp.Floor.{Floor}

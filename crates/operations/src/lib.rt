@@ -1,32 +1,32 @@
 //! What the words of the program do to the database at a path.
 #![tactic(auto)]
 
-mod adding;
-mod answering;
-mod auditing;
-mod carrying;
-mod continuing;
+mod addition;
+mod any_signer;
+mod audits;
+mod carried;
+mod continuation;
 mod database;
 mod database_desk;
 mod desk_operation;
 mod fault;
-mod opening;
+mod lifecycle;
 mod operation;
-mod reached;
+mod question;
 mod signed_desk;
 mod signing;
 mod void_stamp;
 
-pub use adding::{Addition, add};
-pub use answering::{Question, answer};
-pub use auditing::{AuditFault, Inquiry, audit, check_stamps};
-pub use continuing::{Continuation, continue_in};
+pub use addition::{Addition, add};
+pub use any_signer::{AnySigner, HostSigner};
+pub use audits::{AuditFault, Inquiry, audit, check_stamps};
+pub use continuation::{Continuation, continue_in};
 pub use database::Database;
 pub use database_desk::DatabaseDesk;
 pub use desk_operation::{DeskOperation, perform_at_desk};
 pub use fault::{ContinuationFault, OperationFault};
-pub use opening::{init, migrate};
-pub use reached::{HostSigner, ReachedSigner};
+pub use lifecycle::{init, migrate};
+pub use question::{Question, answer};
 pub use signed_desk::SignedDesk;
 pub use signing::{Renewal, Signing};
 pub use sqlite::{FileFrom, Start, Unknown};

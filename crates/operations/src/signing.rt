@@ -1,12 +1,12 @@
 //! Who signs.
 ghost use Rattle.std.specs.Prelude.{◌≡◌, IfErr, IfOk};
-ghost use Rattle.operations.specs.Opening.{IsUnreached};
+ghost use Rattle.operations.specs.DatabaseFaults.{IsUnreached};
 ghost use Rattle.operations.specs.Signing.{algorithm_of};
 
+use crate::any_signer::{AnySigner, HostSigner};
 use crate::fault::OperationFault;
-use crate::reached::{HostSigner, ReachedSigner};
 use cms::{Algorithm, KeyedHash, Signer};
-use sessions::{KeyHolderSigner, SIGNER_SECONDS, Session, connect_renewed, connect_signer};
+use sessions::{KeyHolderSigner, SIGNER_SECONDS, Session, connect_reconnecting, connect_signer};
 use std::io::Stderr;
 use std::time::Duration;
 
@@ -60,10 +60,10 @@ impl<'a> Signing<'a> {
         ensures refusals { IfErr result IsUnreached }
     {
         match self {
-            Signing::Keyed(signer) => Ok(ReachedSigner::Keyed(signer)),
+            Signing::Keyed(signer) => Ok(AnySigner::Keyed(signer)),
             Signing::Session { address, algorithm } => match renewal {
-                Renewal::Never => Ok(ReachedSigner::Session(reach_once(rt, address, algorithm)?)),
-                Renewal::AfterLoss => Ok(ReachedSigner::Renewed(reach_again(
+                Renewal::Never => Ok(AnySigner::Session(reach_once(rt, address, algorithm)?)),
+                Renewal::AfterLoss => Ok(AnySigner::Reconnecting(reach_again(
                     rt, address, algorithm,
                 )?)),
             },
@@ -94,5 +94,7 @@ fn reach_again<'a>(
     ensures refusals { IfErr result IsUnreached }
 {
     let limit = Duration::from_secs(SIGNER_SECONDS);
-    connect_renewed(rt, address, limit, algorithm, rt.stderr()).or(Err(OperationFault::Unreached))
+    connect_reconnecting(rt, address, limit, algorithm, rt.stderr()).or(Err(
+        OperationFault::Unreached,
+    ))
 }

@@ -3,7 +3,7 @@ ghost use Rattle.std.specs.Prelude.{◌≡◌, ◌⊎◌, ◌<◌, ◌≤◌, op
 ghost use Rattle.gentime.specs.GenTime.{last_moment};
 ghost use Rattle.book.specs.Sound.{greatest_number};
 ghost use Rattle.book.specs.Values.{reservation_view, stamp_view};
-ghost use Rattle.desk.specs.Continuing.{IsRestated};
+ghost use Rattle.desk.specs.Continuation.{IsRestated};
 ghost use Rattle.operations.specs.VoidStamp.{ComesAfter, IsNoneAfter, IsNoneAfterIfAny, IsVoidFault};
 ghost use Rattle.operations.specs.VoidStamp.{IsVoidFor, IsVoidIfAny, reserved_as, reserved_in_place, void_of, void_view};
 

@@ -1,7 +1,7 @@
 //! Plays rows of calls and makes trials, part by part.
 #![tactic(auto)]
 
-mod serving;
+mod loopback;
 mod vectors;
 
 use std::{env, fs, io};
@@ -38,7 +38,7 @@ fn perform(rt: &HostRuntime, words: &[String]) -> anyhow::Result<()> {
         [word, paths @ ..] if word.as_str() == "vectors" => play_vectors(rt, paths),
         [word, paths @ ..] if word.as_str() == "scenarios" => play_scenarios(rt, paths),
         [work, what, count] if work.as_str() == "work" && what.as_str() == "serve" => {
-            serving::serve(rt, count.parse()?)
+            loopback::serve(rt, count.parse()?)
         }
         words => trials::perform(rt, words),
     }

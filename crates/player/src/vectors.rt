@@ -2,21 +2,21 @@
 mod clocks;
 mod decisions;
 mod elements;
+mod encodings;
 mod ends;
 mod files;
 mod identifiers;
 mod laws;
 mod look_ups;
 mod moments;
-mod playing;
 mod refusals;
 mod requests;
+mod rows;
 mod signers;
 mod tokens;
 mod trees;
 mod tst_infos;
 mod values;
-mod writing;
 
 use policy::EXAMPLE;
 use std::alloc::AllocError;
@@ -28,6 +28,6 @@ pub fn play(rt: &HostRuntime, text: &str) -> Result<(), AllocError> {
     let mut names = Names::new(rt.alloc());
     names.add("EXAMPLE", Vec::from_slice(rt.alloc(), EXAMPLE.as_bytes())?)?;
     names.read(text)?;
-    playing::play(rt, &names, text);
+    rows::play(rt, &names, text);
     Ok(())
 }

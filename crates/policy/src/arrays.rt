@@ -17,7 +17,7 @@ use crate::fault::PolicyFault;
 use crate::field::Field;
 use crate::find::has_hash;
 use crate::hash_algorithm::HashAlgorithm;
-use crate::reading::{
+use crate::parser::{
     hash, member, new_name, new_oid, number, only, optional_name, optional_names, optional_truth,
     some_names, values,
 };

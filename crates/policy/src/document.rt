@@ -10,8 +10,8 @@ use crate::entries::{Account, Counter};
 use crate::fault::PolicyFault;
 use crate::field::Field;
 use crate::find::has_name;
+use crate::parser::{member, only};
 use crate::policy::Policy;
-use crate::reading::{member, only};
 use std::alloc::Global;
 use toml::Table;
 

@@ -11,8 +11,8 @@ mod find;
 mod groups;
 mod hash_algorithm;
 mod laws;
+mod parser;
 mod policy;
-mod reading;
 
 pub use entries::{Account, Algorithm, Counter, Extension, Group, TsaPolicy};
 pub use example::EXAMPLE;

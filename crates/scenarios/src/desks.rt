@@ -1,5 +1,5 @@
 //! Calls of the desk.
-use crate::listing::{tell_list, tell_rows};
+use crate::lists::{tell_list, tell_rows};
 use cms::{Algorithm, Identity, Signer};
 use desk::{Answer, Begun, Command, Desk, Fault, Pending, Reply};
 use policy::Account;

@@ -2,21 +2,21 @@
 //! each, and prints what they tell.
 #![tactic(auto)]
 
-mod auditing;
 mod bench;
 mod commands;
-mod connecting;
+mod connections;
 mod desks;
 mod entries;
+mod extracts;
 mod kept;
 mod laws;
-mod listing;
-mod playing;
+mod lines;
+mod lists;
+mod requests;
 mod rows;
-mod serving;
 mod setting;
 mod stamps;
 mod stores;
-mod tabling;
+mod table_calls;
 
-pub use playing::play;
+pub use lines::play;

@@ -1,7 +1,7 @@
 //! Calls of the store.
 use crate::entries::entries_of;
 use crate::kept::Kept;
-use crate::listing::tell_list;
+use crate::lists::tell_list;
 use crate::stamps::{AskedOfStamps, tell_stamp, tell_stamps};
 use book::{Entry, IdentityRow};
 use store::{Book, Calibration, Deposit, Hold, Reservation, StampedDeposit, StoreFault};

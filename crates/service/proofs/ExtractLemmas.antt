@@ -11,13 +11,13 @@ use Rattle.book.specs.Stands.{OnlyLooks, Stands}
 use Rattle.audit.specs.Auditor.{ComesWhere, IfUnasked, IsAllowed}
 use Rattle.audit.specs.Extract.{extract_text}
 use Rattle.audit.specs.Fault.{count_after}
-use Rattle.audit.specs.Writing.{Writes}
+use Rattle.audit.specs.Writes.{Writes}
 use Rattle.audit.specs.declared.fault.ExtractFault.{ExtractFault}
 use Rattle.audit.specs.declared.fault.ExtractFault.TheVariants.{Write}
 use Rattle.policy.specs.Record.{AccountValue, PolicyValue}
 use Rattle.service.specs.Answers.{AnswerValue, allow_line, answer_text, content_lines, crlf, extract_answer, head_text}
 use Rattle.service.specs.Answers.{refusal_answer, status_line, success}
-use Rattle.service.specs.Extracting.{SendsExtract, ServesExtract, extracted, kept_back}
+use Rattle.service.specs.ExtractAnswers.{SendsExtract, ServesExtract, extracted, kept_back}
 use Rattle.service.specs.Refusals.{refusal_of_extract}
 use Rattle.service.specs.Served.{Sends, SendsOctets}
 use Rattle.service.specs.declared.answer.Media.TheVariants as media

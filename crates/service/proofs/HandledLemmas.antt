@@ -8,19 +8,19 @@ use Rattle.cms.specs.declared.signer.SignerFault.{SignerFault}
 use Rattle.desk.specs.Answers.{answered, reply_as}
 use Rattle.desk.specs.Command.{Command, Answer, Stamp, Deposit, ListAll, Kept, Listed}
 use Rattle.desk.specs.Shown.{done_as}
-use Rattle.desk.specs.Stepped.{DeskValue}
+use Rattle.desk.specs.CallContract.{DeskValue}
 use Rattle.desk.specs.declared.fault.Fault.{Fault}
 use Rattle.desk.specs.declared.reply.Reply.{Reply}
 use Rattle.desk.specs.declared.reply.Reply.TheVariants as reply
 use Rattle.policy.specs.Record.{AccountValue}
 use Rattle.service.specs.Answers.{AnswerValue, line_feed, refusal_answer, success}
 use Rattle.service.specs.Checks.{◌>>=◌}
-use Rattle.service.specs.Extracting.{ServesExtract}
-use Rattle.service.specs.Handling.{Handles, RequestValue}
+use Rattle.service.specs.ExtractAnswers.{ServesExtract}
+use Rattle.service.specs.Handlers.{Handles, RequestValue}
 use Rattle.service.specs.Requests.{Asked, Report, Step, Look, Extract, Status, IsRequest, asked_by}
 use Rattle.service.specs.Served.{Reports, Sends, Steps, Tells, plainly, tells_status, unavailable, wants_list}
 use Rattle.service.specs.Served.{wants_status}
-use Rattle.service.specs.Telling.{ServesStatus}
+use Rattle.service.specs.StateAnswers.{ServesStatus}
 use Rattle.service.specs.Views.{done_answer, stamp_answer, status_kept}
 use Rattle.service.specs.declared.answer.Media.TheVariants as media
 use Rattle.service.specs.declared.refusal.Refusal.{Refusal}

@@ -16,7 +16,8 @@ use Rattle.service.specs.Heads.{most_octets, most_fields, BeginsWith, IsHead, Ha
 use Rattle.service.specs.Heads.{IsHeadless}
 use Rattle.service.specs.Checks.{WantedValue, wanted_by}
 use Rattle.service.specs.Heads.{head_value}
-use Rattle.service.specs.Known.{BeginsAt, IsKnown, IsParsed, IsRefusedAt, checked, headless, spoiled, wanting_body}
+use Rattle.service.specs.Known.{BeginsAt, IsKnown, IsParsed, IsRefusedAt, checked, headless, malformed}
+use Rattle.service.specs.Known.{out_of_memory_for_body}
 use Rattle.service.specs.Received.{IsAll, IsPartial, ends_with_body, has_no_body, in_body, with_body, without_body}
 use Rattle.service.specs.declared.known.Parsed.{Parsed}
 use Rattle.service.specs.declared.known.Refused.{Refused}
@@ -210,23 +211,23 @@ pub wanting_room : (octets : List ℕ) (headers : List HeaderSpan) (parsed : Par
     → IsRefusedAt octets (record { refusal = refusal.Unavailable; taken = parsed.spans.len; is_all = false })
 wanting_room octets headers parsed is less = record {
   within = has_head octets headers parsed is;
-  is = wanting_body is.begins.read is.begins.head is.asked is.wanted
+  is = out_of_memory_for_body is.begins.read is.begins.head is.asked is.wanted
       (omega (arith, less, is.size, has_head octets headers parsed is))
       (head_octets octets parsed.seen is.seen headers parsed.spans is.begins) refl;
   all = λ all. cc;
 }
 
 -- so many octets are no head
-pub spoiled_at : (octets : List ℕ) (headers : List HeaderSpan) (taken : ℕ) → taken ≤ length octets
+pub malformed_at : (octets : List ℕ) (headers : List HeaderSpan) (taken : ℕ) → taken ≤ length octets
     → IsHeadless (take taken octets) → IsKnown octets headers (headless taken)
-spoiled_at octets headers taken within is = record { within = within; is = spoiled is refl; all = λ all. cc }
+malformed_at octets headers taken within is = record { within = within; is = malformed is refl; all = λ all. cc }
 
 -- as many as a head has at most are none
 pub long_at : (octets : List ℕ) (headers : List HeaderSpan) → length octets ≡ most_octets → HasNoRequest octets
     → MayBegin octets → IsKnown octets headers (headless (length octets))
 long_at octets headers full none may =
     let P : List ℕ → Type 0 = λ l. IsHeadless l in
-    spoiled_at octets headers (length octets) (omega arith)
+    malformed_at octets headers (length octets) (omega arith)
     (subst P (sym (take_all (length octets) octets (omega arith))) (headless_by_limit octets full none may))
 
 -- a whole request of which nothing follows

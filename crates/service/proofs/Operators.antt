@@ -12,15 +12,15 @@ use Rattle.book.specs.Stands.{Stands}
 use Rattle.cms.specs.declared.signer.SignerFault.{SignerFault}
 use Rattle.desk.specs.Answers.{entered}
 use Rattle.desk.specs.Calls.{looked_at}
-use Rattle.desk.specs.declared.looking.Looked.{Looked}
+use Rattle.desk.specs.declared.clock_facts.Looked.{Looked}
 use Rattle.policy.specs.Record.{CounterValue}
+use Rattle.desk.specs.CallContract.{DeskValue}
 use Rattle.desk.specs.Command.{Calibrate, Hold}
-use Rattle.desk.specs.Stepped.{DeskValue}
 use Rattle.service.specs.Answers.{AnswerValue, success}
 use Rattle.service.specs.Forms.{field_of}
 use Rattle.service.specs.Served.{Tells, plainly, backwards, SendsOrWants}
 use Rattle.service.specs.Status.{IsStatusText}
-use Rattle.service.specs.Telling.{ServesStatus}
+use Rattle.service.specs.StateAnswers.{ServesStatus}
 use Rattle.service.specs.declared.answer.Media.TheVariants as media
 use Rattle.service.specs.declared.served.Served.{Served}
 use Rattle.service.specs.Views.{added_answer}

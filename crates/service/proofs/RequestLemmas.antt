@@ -7,7 +7,7 @@ use Rattle.httparse.specs.Grammar.{print_request}
 use Rattle.httparse.specs.declared.spans.HeaderSpan.{HeaderSpan}
 use Rattle.service.specs.Heads.{head_value, most_octets}
 use Rattle.service.specs.Known.{IsBehind, IsCut, IsDue, IsKept, IsParsed, IsRefused, is_wanting, received}
-use Rattle.service.specs.Known.{IsAnswerable, taken_of, wanting_body}
+use Rattle.service.specs.Known.{IsAnswerable, taken_of, out_of_memory_for_body}
 use Rattle.service.specs.Received.{IsPartial, in_head, is_open, most}
 use Rattle.service.specs.declared.due.Due.TheVariants as due
 use Rattle.service.specs.Views.{IsInPlace, head_view}
@@ -119,7 +119,7 @@ due_in_body room headers filled parsed false f kept less ended wanting =
     let P : ℕ → Type 0 = λ n. IsRefused (take n octets) f in
     let taken : taken_of (known.Parsed parsed) filled false ≡ parsed.spans.len = rw test in
     inl (subst P (sym taken)
-    (wanting_body is.begins.read is.begins.head is.asked is.wanted
+    (out_of_memory_for_body is.begins.read is.begins.head is.asked is.wanted
     (omega (arith, less, is.size, has_head octets headers parsed is, length-take-le filled room kept.within))
     (head_octets octets parsed.seen is.seen headers parsed.spans is.begins) (wanting refl)))
 

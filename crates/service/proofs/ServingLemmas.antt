@@ -6,13 +6,13 @@ use Rattle.std.proofs.lemmas.List.{take_all}
 use Rattle.std.specs.Io.KnownBytes.{Consumes, IsAtEnd}
 use Rattle.book.specs.declared.standing.Standing.{Ghosts}
 use Rattle.cms.specs.declared.signer.SignerFault.{SignerFault}
+use Rattle.desk.specs.CallContract.{DeskValue}
 use Rattle.desk.specs.Command.{Command, Answer, Calibrate}
-use Rattle.desk.specs.Stepped.{DeskValue}
 use Rattle.policy.specs.Record.{AccountValue, PolicyValue}
 use Rattle.service.specs.Answers.{AnswerValue, refusal_answer}
 use Rattle.service.specs.Refusals.{refusal_of_extract}
-use Rattle.service.specs.Extracting.{ServesExtract, extracted, kept_back}
-use Rattle.service.specs.Known.{IsAnswerable, IsDue, checked, spoiled, wanting, wanting_body}
+use Rattle.service.specs.ExtractAnswers.{ServesExtract, extracted, kept_back}
+use Rattle.service.specs.Known.{IsAnswerable, IsDue, checked, malformed, out_of_memory, out_of_memory_for_body}
 use Rattle.service.specs.Received.{ReceivedValue, in_body, in_head}
 use Rattle.service.specs.Requests.{Report, Step, Look, Extract, IsEarly, IsRequest, asked_by, cut_body, cut_head, head}
 use Rattle.service.specs.Requests.{headless, nothing, refused_head, whole}
@@ -94,15 +94,15 @@ module _ {W B X : Type 0} (g : Ghosts B) (signs : X → List ℕ → Result (Lis
       → (r.is_ended ≡ true → r.taken ≡ length r.octets → IsAtEnd t.input_after) → IsIdle t
       → Sends contents reading t.writer t.writer_after (refusal_answer f) outcome
       → Serves g signs count contents reading t outcome
-  refusing_due r f outcome (inl (spoiled is same)) read ended idle sent =
+  refusing_due r f outcome (inl (malformed is same)) read ended idle sent =
       refusing f outcome (headless (take r.taken r.octets) is read (ap Err same)) idle sent
   refusing_due r f outcome (inl (checked h is wanted same)) read ended idle sent =
       let P : List ℕ → Type 0 = λ l. Consumes t.input t.input_after l in
       refusing f outcome (refused_head h is (subst P same read) f wanted refl) idle sent
-  refusing_due r f outcome (inl (wanting none same)) read ended idle sent =
+  refusing_due r f outcome (inl (out_of_memory none same)) read ended idle sent =
       let P : List ℕ → Type 0 = λ l. Consumes t.input t.input_after l in
       sends (refusal_answer f) outcome (wants_early (nothing (subst P none read)) idle (ap refusal_answer same)) sent
-  refusing_due r f outcome (inl (wanting_body h is w wanted some split same)) read ended idle sent =
+  refusing_due r f outcome (inl (out_of_memory_for_body h is w wanted some split same)) read ended idle sent =
       let P : List ℕ → Type 0 = λ l. Consumes t.input t.input_after l in
       sends (refusal_answer f) outcome (wants_early (head h is w wanted some (subst P split read)) idle (ap refusal_answer same))
       sent

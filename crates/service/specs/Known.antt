@@ -30,11 +30,12 @@ pub record BeginsAt (octets : List ℕ) (headers : List HeaderSpan) (spans : Req
 
 -- why the octets are refused, or memory is wanting for those behind them
 pub data IsRefused (octets : List ℕ) (f : Refusal) : Type 0 where
-  spoiled : IsHeadless octets → f ≡ refusal.BadRequest → IsRefused octets f
+  malformed : IsHeadless octets → f ≡ refusal.BadRequest → IsRefused octets f
   checked : (h : RequestHead) → IsHead (print_request h) h → wanted_by (head_value h) ≡ Err f
       → octets ≡ print_request h → IsRefused octets f
-  wanting : octets ≡ [] → f ≡ refusal.Unavailable → IsRefused octets f
-  wanting_body : (h : RequestHead) → IsHead (print_request h) h → (w : WantedValue) → wanted_by (head_value h) ≡ Ok w
+  out_of_memory : octets ≡ [] → f ≡ refusal.Unavailable → IsRefused octets f
+  out_of_memory_for_body : (h : RequestHead) → IsHead (print_request h) h → (w : WantedValue)
+      → wanted_by (head_value h) ≡ Ok w
       → 0 < w.count → octets ≡ print_request h → f ≡ refusal.Unavailable → IsRefused octets f
 
 -- a head begins the octets, and asks for this

@@ -1,9 +1,9 @@
 pub mod Answers
 pub mod Checks
-pub mod Extracting
+pub mod ExtractAnswers
 pub mod Fields
 pub mod Forms
-pub mod Handling
+pub mod Handlers
 pub mod Heads
 pub mod Known
 pub mod Numbers
@@ -12,6 +12,6 @@ pub mod Refusals
 pub mod Requests
 pub mod Routes
 pub mod Served
+pub mod StateAnswers
 pub mod Status
-pub mod Telling
 pub mod Views

@@ -14,7 +14,7 @@ use Rattle.desk.specs.Command.{Command, Stamp, Deposit, ListAll, Calibrate, Answ
 use Rattle.desk.specs.declared.fault.Fault.TheVariants as fault
 use Rattle.desk.specs.Calls.{looked_at}
 use Rattle.desk.specs.Findings.{HoldsUnasked}
-use Rattle.desk.specs.Stepped.{DeskValue, IsStep, no_signer, with_signer}
+use Rattle.desk.specs.CallContract.{DeskValue, IsStep, no_signer, with_signer}
 use Rattle.audit.specs.Auditor.{IsAllowed, ComesWhere, IfUnasked}
 use Rattle.audit.specs.Fault.{count_after}
 use Rattle.audit.specs.declared.fault.ExtractFault.{ExtractFault}

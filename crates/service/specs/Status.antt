@@ -7,7 +7,7 @@ use Rattle.policy.specs.Record.{CounterValue}
 use Rattle.decide.specs.Clock.{IsGood, step}
 use Rattle.decide.specs.declared.facts.Calibration.{Calibration}
 use Rattle.decide.specs.declared.facts.ClockFacts.{ClockFacts}
-use Rattle.desk.specs.declared.looking.Looked.{Looked}
+use Rattle.desk.specs.declared.clock_facts.Looked.{Looked}
 use Rattle.service.specs.Answers.{line_feed}
 
 -- what uncertainty and rounding leave of the accuracy for the drift, in microseconds

@@ -22,19 +22,19 @@ use Rattle.service.specs.declared.answer.Media.TheVariants as media
 use Rattle.service.specs.Checks.{WantedValue}
 use Rattle.service.specs.Fields.{Stated, Never, Once, Twice}
 use Rattle.service.specs.Heads.{HeadValue}
-use Rattle.service.specs.Handling.{RequestValue}
+use Rattle.service.specs.Handlers.{RequestValue}
 use Rattle.service.specs.declared.context.Context.{Context}
-use Rattle.service.specs.declared.fields.Found.{Found}
-use Rattle.service.specs.declared.fields.Found.TheVariants as field
+use Rattle.service.specs.declared.fields.Occurrence.{Occurrence}
+use Rattle.service.specs.declared.fields.Occurrence.TheVariants as field
 use Rattle.service.specs.declared.head.Head.{Head}
 use Rattle.service.specs.declared.refusal.Refusal.{Refusal}
 use Rattle.service.specs.declared.refusal.Refusal.TheVariants as refusal
 use Rattle.service.specs.declared.wanted.Wanted.{Wanted}
 
-abbrev pub found_view : Found → Stated
-found_view field.Never = Never
-found_view (field.Once value) = Once value.now
-found_view field.Twice = Twice
+abbrev pub occurrence_view : Occurrence → Stated
+occurrence_view field.Never = Never
+occurrence_view (field.Once value) = Once value.now
+occurrence_view field.Twice = Twice
 
 abbrev pub head_view : Head → HeadValue
 head_view h = record {

@@ -10,7 +10,7 @@ ghost use Rattle.service.specs.Requests.{calibration_asked, hold_asked};
 ghost use Rattle.service.specs.Views.{head_view, IsInPlace, octets_given, result_by, account_given, account_found};
 
 use crate::context::Context;
-use crate::fields::{Found, stated};
+use crate::fields::{Occurrence, stated};
 use crate::form::{calibration_stated, hold_stated};
 use crate::head::Head;
 use crate::numbers::{is_reference, number_in};
@@ -54,9 +54,9 @@ pub(crate) fn account_shown<'a>(
     ensures { account_found result ≡ account_shown (policy_view policy.now) (head_view head.entry) }
 {
     match stated(head.octets, head.headers, b"counter-key") {
-        Found::Never => Ok(policy.anonymous()),
-        Found::Once(key) => Ok(policy.account_of_key(key)),
-        Found::Twice => Err(Refusal::BadRequest),
+        Occurrence::Never => Ok(policy.anonymous()),
+        Occurrence::Once(key) => Ok(policy.account_of_key(key)),
+        Occurrence::Twice => Err(Refusal::BadRequest),
     }
 }
 

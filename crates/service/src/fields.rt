@@ -5,13 +5,13 @@ ghost use Rattle.httparse.specs.Grammar.{trim_ows, is_ows, skip_ows};
 ghost use Rattle.httparse.specs.Spans.{IsHeaderWithin, header_bytes};
 ghost use Rattle.service.specs.Checks.{is_never, type_in};
 ghost use Rattle.service.specs.Fields.{same_letters, values, stated};
-ghost use Rattle.service.specs.Views.{found_view};
+ghost use Rattle.service.specs.Views.{occurrence_view};
 
 use httparse::spans::HeaderSpan;
 
 /// How often a name stands among field lines, and its value where it stands once.
 #[derive(Clone, Copy)]
-pub(crate) enum Found<'b> {
+pub(crate) enum Occurrence<'b> {
     /// It doesn't stand.
     Never,
     /// It stands once.
@@ -20,12 +20,12 @@ pub(crate) enum Found<'b> {
     Twice,
 }
 
-impl Found<'_> {
+impl Occurrence<'_> {
     /// Whether it doesn't stand.
     pub(crate) fn is_never(self) -> bool
-        ensures { result ≡ is_never (found_view self.entry) }
+        ensures { result ≡ is_never (occurrence_view self.entry) }
     {
-        matches!(self, Found::Never)
+        matches!(self, Occurrence::Never)
     }
 }
 
@@ -57,15 +57,15 @@ fn first_field<'b, 'h>(
 }
 
 /// How often a field of a name stands, and its value where it stands once.
-pub(crate) fn stated<'b>(octets: &'b [u8], headers: &[HeaderSpan], name: &[u8]) -> Found<'b>
+pub(crate) fn stated<'b>(octets: &'b [u8], headers: &[HeaderSpan], name: &[u8]) -> Occurrence<'b>
     requires { All (IsHeaderWithin (length octets.now)) headers.now }
-    ensures { found_view result ≡ stated name.now (map (header_bytes octets.now) headers.now) }
+    ensures { occurrence_view result ≡ stated name.now (map (header_bytes octets.now) headers.now) }
 {
     match first_field(octets, headers, name) {
-        None => Found::Never,
+        None => Occurrence::Never,
         Some((value, rest)) => match first_field(octets, rest, name) {
-            None => Found::Once(value),
-            Some(_) => Found::Twice,
+            None => Occurrence::Once(value),
+            Some(_) => Occurrence::Twice,
         },
     }
 }

@@ -1,7 +1,7 @@
 //! A handler for each route and method: it makes the checks of a whole request, has the desk take its step, and writes
 //! the answer.
 ghost use Rattle.std.specs.Prelude.{◌≡◌};
-ghost use Rattle.service.specs.Handling.{Handles};
+ghost use Rattle.service.specs.Handlers.{Handles};
 ghost use Rattle.service.specs.Views.{request_view, IsInPlace};
 
 mod calibrations;

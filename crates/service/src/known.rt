@@ -78,12 +78,12 @@ fn ends_with_body(head: Head<'_>) -> bool
 
 /// After how many of these octets it is so that no head begins them, whatever follows, if it is so after all of them, and
 /// not after so many.
-fn spoiled_after(octets: &[u8], before: usize, headers: &mut [HeaderSpan]) -> usize
+fn malformed_after(octets: &[u8], before: usize, headers: &mut [HeaderSpan]) -> usize
     requires few { length octets.now ≤ most_octets }
     requires fields { length headers.old ≡ most_fields }
     requires before { before < length octets.now }
     requires begun { IsBegun (take before octets.now) }
-    requires spoiled { RequestOverflows most_fields octets.now }
+    requires malformed { RequestOverflows most_fields octets.now }
     ensures behind { before < result }
     ensures within { result ≤ length octets.now }
     ensures headless { IsHeadless (take result octets.now) }
@@ -160,7 +160,7 @@ pub(crate) fn known_of(
         Ok(Status::Complete(spans)) => known_by_head(routes, octets, headers, spans),
         Ok(Status::Partial) if octets.len() < MOST_OCTETS => Known::Open,
         Ok(Status::Partial) => headless(octets.len()),
-        Err(_) => headless(spoiled_after(octets, before, headers)),
+        Err(_) => headless(malformed_after(octets, before, headers)),
     }
 }
 

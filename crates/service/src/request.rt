@@ -65,7 +65,7 @@ fn read_behind<R: Read>(
 /// Why a request is refused to which octets are wanting: its input has ended, or there is no memory for them.
 fn cut(is_ended: bool) -> Refusal
     ensures ended { is_ended ≡ true → result ≡ Refusal.BadRequest }
-    ensures wanting { is_ended ≡ false → result ≡ Refusal.Unavailable }
+    ensures out_of_memory { is_ended ≡ false → result ≡ Refusal.Unavailable }
 {
     if is_ended {
         Refusal::BadRequest

@@ -6,11 +6,11 @@ ghost use Rattle.policy.specs.View.{counter_view};
 ghost use Rattle.book.specs.Stands.{OnlyLooks};
 ghost use Rattle.service.specs.Status.{drifting, greatest_age, age, age_left, or_none, yes_or_no, named};
 ghost use Rattle.service.specs.Status.{calibration_lines, giving_lines, clock_lines, fault_lines, Gives, IsStatusText};
-ghost use Rattle.service.specs.Telling.{ServesStatus};
+ghost use Rattle.service.specs.StateAnswers.{ServesStatus};
 
 use crate::answer::Media;
 use crate::context::Context;
-use crate::responding::{succeed, wanting};
+use crate::responses::{out_of_memory, succeed};
 use crate::served::Served;
 use book::Book;
 use decide::{Calibration, ClockFacts, ClockState, clock_state};
@@ -251,12 +251,12 @@ pub(crate) fn serve_status<W: Write, B: Book + Drop>(
         desk.new.store desk.old.setting.file.counter signer_faults result }
 {
     let Ok(looked) = desk.look(context.at.reading) else {
-        return wanting(writer, context.at);
+        return out_of_memory(writer, context.at);
     };
     let store = store_faults(desk);
     let policy = desk.policy();
     match status_text(context.alloc, &policy.counter, looked, store, signer_faults) {
         Some(text) => succeed(writer, context.at, Media::Text, &text),
-        None => wanting(writer, context.at),
+        None => out_of_memory(writer, context.at),
     }
 }

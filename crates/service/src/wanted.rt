@@ -3,9 +3,9 @@ ghost use Rattle.std.specs.Prelude.{◌≡◌, ◌≤◌, Option, IfOk};
 ghost use Rattle.service.specs.Checks.{without_coding, stated_length, body_length, stated_query, typed, wanted_at, wanted_by};
 ghost use Rattle.service.specs.Checks.{most_body};
 ghost use Rattle.service.specs.Checks.{once, has_body, is_stamp};
-ghost use Rattle.service.specs.Views.{found_view, head_view, IsInPlace, octets_given, result_by, wanted_view};
+ghost use Rattle.service.specs.Views.{occurrence_view, head_view, IsInPlace, octets_given, result_by, wanted_view};
 
-use crate::fields::{Found, same_letters, stated, type_in};
+use crate::fields::{Occurrence, same_letters, stated, type_in};
 use crate::head::Head;
 use crate::numbers::length_in;
 use crate::refusal::Refusal;
@@ -25,14 +25,14 @@ pub(crate) struct Wanted {
 pub(crate) fn once<'b>(
     absent: Refusal,
     repeated: Refusal,
-    found: Found<'b>,
+    found: Occurrence<'b>,
 ) -> Result<&'b [u8], Refusal>
-    ensures { octets_given result ≡ once absent repeated (found_view found.entry) }
+    ensures { octets_given result ≡ once absent repeated (occurrence_view found.entry) }
 {
     match found {
-        Found::Never => Err(absent),
-        Found::Once(value) => Ok(value),
-        Found::Twice => Err(repeated),
+        Occurrence::Never => Err(absent),
+        Occurrence::Once(value) => Ok(value),
+        Occurrence::Twice => Err(repeated),
     }
 }
 

@@ -10,7 +10,8 @@ use Rattle.cms.specs.Ahead.{SignsAhead, SignedAhead, none_failed}
 use Rattle.cms.specs.Signer.{signed_by, count_after, count_after_each, SignsEach, IsSized}
 use Rattle.cms.specs.declared.signer.SignerFault.{SignerFault}
 use Rattle.cms.specs.declared.signer.SignerFault.TheVariants.{Failed, Memory}
-use Rattle.sessions.specs.Renewed.{RenewedState, AsksSession, IsTaken, SignsRenewed, SignedSome, asks, refused}
+use Rattle.sessions.specs.ReconnectingSigner.{ReconnectingState, AsksSession, IsTaken, SignsRenewed, SignedSome, asks}
+use Rattle.sessions.specs.ReconnectingSigner.{refused}
 
 -- no more texts are answered than are there
 pub few_ahead : {S : Type 0} (signs : S → List ℕ → Result (List ℕ) SignerFault → S → Type 0) (x : S)
@@ -39,8 +40,8 @@ counted_ahead signs x [] (answer ∷ more) y count ahead = absurd ahead
 
 -- a signer whose session is kept while it answers, and lost where it fails
 pub renewed_ahead : {S A : Type 0} (signs : S → List ℕ → Result (List ℕ) SignerFault → S → Type 0) (fresh : S → Type 0)
-    (before : RenewedState S) (session : S) (texts : List (List ℕ)) (more : List (Result (Vec ℕ A) SignerFault)) (y : S)
-    (after : RenewedState S) → IsTaken fresh before.session session
+    (before : ReconnectingState S) (session : S) (texts : List (List ℕ)) (more : List (Result (Vec ℕ A) SignerFault))
+    (y : S) (after : ReconnectingState S) → IsTaken fresh before.session session
     → SignsAhead signs session texts (map signed_by more) y → 1 ≤ length more
     → after.session ≡ cond (none_failed more) (Some y) None
     → SignsEach (SignsRenewed signs fresh) before (take (length more) texts) (map signed_by more) after
@@ -76,8 +77,8 @@ renewed_ahead signs fresh before session [] (b ∷ more) y after taken ahead som
 
 -- a session that was taken and put back is asked as if it had just been taken
 pub asked_once : {S : Type 0} (signs : S → List ℕ → Result (List ℕ) SignerFault → S → Type 0) (fresh : S → Type 0)
-    (before between : RenewedState S) (session : S) (text : List ℕ) (answer : Result (List ℕ) SignerFault)
-    (after : RenewedState S) → IsTaken fresh before.session session → between.session ≡ Some session
+    (before between : ReconnectingState S) (session : S) (text : List ℕ) (answer : Result (List ℕ) SignerFault)
+    (after : ReconnectingState S) → IsTaken fresh before.session session → between.session ≡ Some session
     → SignsRenewed signs fresh between text answer after → SignsRenewed signs fresh before text answer after
 asked_once signs fresh before between session text answer after taken is (asks other (inl same) step) =
     let one : other ≡ session = cc in
@@ -124,7 +125,7 @@ some_failed (a ∷ more) fails = omega arith
 
 -- the session failed, and none is kept
 pub lost_some : {S A : Type 0} (signs : S → List ℕ → Result (List ℕ) SignerFault → S → Type 0) (count : S → ℕ)
-    (fresh : S → Type 0) (before after : RenewedState S) (session y : S) (texts : List (List ℕ))
+    (fresh : S → Type 0) (before after : ReconnectingState S) (session y : S) (texts : List (List ℕ))
     (old new : List (Result (Vec ℕ A) SignerFault)) → IsTaken fresh before.session session
     → SignedAhead signs count session texts old new false y → after.session ≡ None
     → after.faults ≡ wrapping_add before.faults 1
@@ -146,7 +147,7 @@ lost_some signs count fresh before after session y texts old new taken s none co
 
 -- it answered each, and is kept
 pub kept_some : {S A : Type 0} (signs : S → List ℕ → Result (List ℕ) SignerFault → S → Type 0) (count : S → ℕ)
-    (fresh : S → Type 0) (before after : RenewedState S) (session y : S) (texts : List (List ℕ))
+    (fresh : S → Type 0) (before after : ReconnectingState S) (session y : S) (texts : List (List ℕ))
     (old new : List (Result (Vec ℕ A) SignerFault)) → IsTaken fresh before.session session
     → SignedAhead signs count session texts old new true y → after.session ≡ Some y → after.faults ≡ before.faults
     → length old < length new
@@ -196,7 +197,7 @@ unasked signs count session y texts old new fine s short =
 
 -- one text is signed by itself
 pub signs_one : {S A T : Type 0} (signs : S → List ℕ → Result (List ℕ) SignerFault → S → Type 0) (fresh : S → Type 0)
-    (before after : RenewedState S) (f : T → List ℕ) (texts : List T) (d : T)
+    (before after : ReconnectingState S) (f : T → List ℕ) (texts : List T) (d : T)
     (old new : List (Result (Vec ℕ A) SignerFault)) (answer : Result (Vec ℕ A) SignerFault) → 0 < length texts
     → SignsRenewed signs fresh before (f (slice_index_or texts 0 d)) (signed_by answer) after
     → new ≡ old ++ (answer ∷ []) → IsSized answer
@@ -215,7 +216,7 @@ signs_one signs fresh before after f (text ∷ texts) d old new answer some one 
 
 -- no session can be opened
 pub refuses_one : {S A : Type 0} (signs : S → List ℕ → Result (List ℕ) SignerFault → S → Type 0) (fresh : S → Type 0)
-    (before after : RenewedState S) (texts : List (List ℕ)) (old new : List (Result (Vec ℕ A) SignerFault))
+    (before after : ReconnectingState S) (texts : List (List ℕ)) (old new : List (Result (Vec ℕ A) SignerFault))
     → 0 < length texts → before.session ≡ None → after.session ≡ None → new ≡ old ++ (Err Failed ∷ [])
     → after.faults ≡ wrapping_add before.faults 1
     → SignedSome (SignsRenewed signs fresh) before texts old new after
@@ -231,8 +232,9 @@ refuses_one signs fresh before after (text ∷ texts) old new some none left all
 }
 
 -- the list goes on by some more
-pub goes_on : {S A : Type 0} (signs : RenewedState S → List ℕ → Result (List ℕ) SignerFault → RenewedState S → Type 0)
-    (x y z : RenewedState S) (texts : List (List ℕ)) (n : ℕ) (old new : List (Result (Vec ℕ A) SignerFault))
+pub goes_on : {S A : Type 0} (signs : ReconnectingState S → List ℕ → Result (List ℕ) SignerFault → ReconnectingState S
+    → Type 0)
+    (x y z : ReconnectingState S) (texts : List (List ℕ)) (n : ℕ) (old new : List (Result (Vec ℕ A) SignerFault))
     → SignsEach signs x (take n texts) (map signed_by old) y → (s : SignedSome signs y (drop n texts) old new z)
     → SignsEach signs x (take (n + length s.more) texts) (map signed_by new) z
 goes_on signs x y z texts n old new before s =

@@ -1,1 +1,1 @@
-pub mod Renewed
+pub mod ReconnectingSigner

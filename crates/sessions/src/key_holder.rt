@@ -1,8 +1,8 @@
 //! Sessions with the key holder at an address.
 ghost use Rattle.std.specs.Prelude.{◌≡◌, ◌≤◌, false, IfSome, IfOk};
-ghost use Rattle.sessions.specs.Renewed.{IsOpened};
+ghost use Rattle.sessions.specs.ReconnectingSigner.{IsOpened};
 
-use crate::renewed::{RenewedSigner, Sessions};
+use crate::reconnecting_signer::{ReconnectingSigner, Sessions};
 use crate::signer::{Session, SignerUnreached, connect_signer};
 use cms::Algorithm;
 use std::io::Write;
@@ -31,7 +31,7 @@ pub struct KeyHolder<'a, R, W> {
 }
 
 /// A signer whose sessions are a key holder's.
-pub type KeyHolderSigner<'a, R, W> = RenewedSigner<Session<'a, R>, KeyHolder<'a, R, W>>;
+pub type KeyHolderSigner<'a, R, W> = ReconnectingSigner<Session<'a, R>, KeyHolder<'a, R, W>>;
 
 impl<'a, R: Net<Stream = TcpStream> + Clock + AllocGlobal, W: Write> KeyHolder<'a, R, W> {
     /// Whether a pause ends only behind this moment.
@@ -65,7 +65,7 @@ impl<'a, R: Net<Stream = TcpStream> + Clock + AllocGlobal, W: Write> KeyHolder<'
 
 impl<'a, R: Net<Stream = TcpStream> + Clock + AllocGlobal, W: Write> Sessions<Session<'a, R>>
     for KeyHolder<'a, R, W> {
-    ghost use Rattle.sessions.specs.Renewed.{IsOpened};
+    ghost use Rattle.sessions.specs.ReconnectingSigner.{IsOpened};
 
     ghost fresh = { IsOpened };
 
@@ -98,7 +98,7 @@ impl<'a, R: Net<Stream = TcpStream> + Clock + AllocGlobal, W: Write> Sessions<Se
 /// each call is `Failed` at once. A line tells of each loss, and of each session that was opened after one.
 ///
 /// `SignerUnreached` where the first session can't be opened, or memory runs out.
-pub fn connect_renewed<'a, R: Net<Stream = TcpStream> + Clock + AllocGlobal, W: Write + Drop>(
+pub fn connect_reconnecting<'a, R: Net<Stream = TcpStream> + Clock + AllocGlobal, W: Write + Drop>(
     rt: &'a R,
     address: &'a str,
     limit: Duration,
@@ -118,7 +118,7 @@ pub fn connect_renewed<'a, R: Net<Stream = TcpStream> + Clock + AllocGlobal, W: 
         until: None,
     };
     match holder.connect(&algorithm) {
-        Some(session) => Ok(RenewedSigner::new(holder, session, algorithm)),
+        Some(session) => Ok(ReconnectingSigner::new(holder, session, algorithm)),
         None => Err(SignerUnreached),
     }
 }

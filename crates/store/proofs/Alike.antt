@@ -22,7 +22,7 @@ use Rattle.tables.specs.Changes.{calibration_row, hold_row}
 use Rattle.store.specs.TablesOf.{numbered}
 use Rattle.store.proofs.Members.{IsFalling, IsSingle, member_here, member_after, member_cases, no_member, all_of}
 use Rattle.store.proofs.Members.{some_pass, none_pass, fails_each, true_or_false, find_none, find_single, found_member}
-use Rattle.store.proofs.Falling.{stamps_fall}
+use Rattle.store.proofs.FallingSerials.{stamps_fall}
 use Rattle.store.proofs.Numbered.{numbers_fall, calibrations_are, holds_are}
 use Rattle.store.proofs.Installed.{identities_are, rows_fall}
 use Rattle.store.proofs.Stamps.{stamps_are}

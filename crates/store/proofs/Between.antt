@@ -17,7 +17,7 @@ use Rattle.book.specs.Sound.{IsSound, greatest_number}
 use Rattle.book.specs.Ranges.{IsNextStamp, IsWithin}
 use Rattle.store.specs.Steps.{only_within}
 use Rattle.store.specs.Replay.{replayed}
-use Rattle.store.proofs.Falling.{stamps_fall}
+use Rattle.store.proofs.FallingSerials.{stamps_fall}
 use Rattle.store.proofs.Members.{IsFalling, member_here, member_after, member_cases, no_member, all_of}
 use Rattle.store.proofs.Stamps.{stamps_are}
 

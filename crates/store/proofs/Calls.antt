@@ -11,7 +11,7 @@ use Rattle.book.specs.declared.fault.StoreFault.{StoreFault}
 use Rattle.book.specs.Entries.{with_all, FitInTurn, LeavesOrAddsAll, Appends}
 use Rattle.book.specs.Fault.{count_after}
 use Rattle.book.specs.Sound.{IsSound}
-use Rattle.book.proofs.Showing.{sound_all}
+use Rattle.book.proofs.Shown.{sound_all}
 use Rattle.store.specs.Replay.{replayed}
 use Rattle.store.specs.TablesOf.{tables_of}
 use Rattle.store.proofs.Replayed.{replayed_is}

@@ -22,7 +22,7 @@ use Rattle.book.specs.Readers.{Reader, is_same, Viewer, readers_as}
 use Rattle.book.specs.Rights.{is_reader, may_read, shown_to, is_visible}
 use Rattle.book.specs.Sound.{IsSound, greatest_number}
 use Rattle.store.specs.Replay.{replayed}
-use Rattle.store.proofs.Falling.{stamps_fall}
+use Rattle.store.proofs.FallingSerials.{stamps_fall}
 use Rattle.store.proofs.Members.{IsSingle, IsSearchedAs, both_true, true_or_false, found_is_searched, found_member}
 use Rattle.store.proofs.Members.{find_single, find_none, none_pass, some_pass, falling_single, member_cases}
 use Rattle.store.proofs.Members.{no_member}

@@ -13,7 +13,7 @@ use Rattle.std.proofs.lemmas.List.Sorted.{IsPermutation-map}
 use Rattle.sqlite_trees.specs.Tree.{Trees}
 use Rattle.sqlite.specs.State.{State}
 use Rattle.tables.specs.Base.{StandsFor}
-use Rattle.tables.specs.Holding.{Holds, cells_of, rows_of}
+use Rattle.tables.specs.Layout.{Holds, cells_of, rows_of}
 use Rattle.tables.specs.Names.{Name}
 use Rattle.tables.specs.Schema.{the_version}
 use Rattle.tables.specs.Tables.{Tables, ReaderRow, is_reader_row, name_of, rights_of}

@@ -4,7 +4,7 @@ use Rattle.std.proofs.lemmas.List.Sorted.{IsPermutation-refl}
 use Rattle.sqlite_trees.specs.declared.store.Store.{Ghosts}
 use Rattle.tables.specs.Base.{BaseValue, Keeps}
 use Rattle.tables.specs.Changes.{calibration_row, hold_row}
-use Rattle.tables.specs.Holding.{rows_of}
+use Rattle.tables.specs.Layout.{rows_of}
 use Rattle.tables.specs.Names.{Name}
 use Rattle.tables.specs.Names as name
 use Rattle.tables.specs.Schema.{the_version}

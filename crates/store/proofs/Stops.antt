@@ -10,13 +10,13 @@ use Rattle.sqlite_store.specs.declared.store.FileStore.{FileStore}
 use Rattle.sqlite.specs.Effect.{Database, IsDatabase}
 use Rattle.sqlite.specs.Files.{file_state, over_files}
 use Rattle.tables.specs.Base.{BaseValue, IsStored}
-use Rattle.tables.specs.Holding.{IsDatabaseOf}
+use Rattle.tables.specs.Layout.{IsDatabaseOf}
 use Rattle.tables.specs.Tables.{Tables}
 use Rattle.book.specs.Entries.{with_all}
 use Rattle.book.specs.History.{History}
 use Rattle.book.specs.Sound.{IsSound}
-use Rattle.book.proofs.Showing.{sound_all}
-use Rattle.store.specs.Opening.{OpensFound, KeepsAlone}
+use Rattle.book.proofs.Shown.{sound_all}
+use Rattle.store.specs.Files.{OpensFound, KeepsAlone}
 use Rattle.store.specs.Stands.{Stands}
 use Rattle.store.specs.Stops.{FindsTheSame, FindsBeforeOrAfter, FindsNothingOrMade, FindsOldOrMigrated, FindsTheClosed}
 use Rattle.store.specs.TablesOf.{tables_of}

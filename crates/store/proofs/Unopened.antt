@@ -12,7 +12,7 @@ use Rattle.sqlite.specs.declared.error.ErrorCode.TheVariants as code
 use Rattle.sqlite.specs.declared.file.Leftover.{Leftover}
 use Rattle.sqlite.specs.Files.{image_of, IsCleanLeft, FailsToOpenFiles, LeavesFiles, HoldsDatabase, IsNothing}
 use Rattle.sqlite.specs.State.{store_error}
-use Rattle.store.specs.Opening.{OpensNothing}
+use Rattle.store.specs.Files.{OpensNothing}
 
 no_fault : (cause : StoreError) → ¬ (SqliteFailure code.NotADatabase ≡ store_error cause)
 no_fault OutOfMemory e = cc

@@ -14,7 +14,7 @@ use Rattle.store.specs.Steps.{IsNextSeen, IsCursor, AreCursors, AreNextReadable,
 use Rattle.store.specs.declared.cursors.Cursors.{Cursors}
 use Rattle.book.specs.Values.{listed_view}
 use Rattle.book.specs.declared.values.Listed.{Listed}
-use Rattle.store.proofs.Listing.{listed_up_to, next_listed, all_listed, still_cursors}
+use Rattle.store.proofs.Lists.{listed_up_to, next_listed, all_listed, still_cursors}
 
 pub looks_after : {S : Type 0} (g : Ghosts S) (old mid new : BaseValue S) → OnlyLooks (over_tables g) old mid
     → OnlyLooks (over_tables g) mid new

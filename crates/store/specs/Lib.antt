@@ -1,5 +1,5 @@
 pub mod Alike
-pub mod Opening
+pub mod Files
 pub mod Replay
 pub mod Stands
 pub mod Steps

@@ -11,13 +11,13 @@ use Rattle.sqlite.specs.Files.{over_files, image_of, HoldsDatabase}
 use Rattle.sqlite.specs.Held.{Held, state}
 use Rattle.sqlite.specs.State.{HasCleanDisk}
 use Rattle.tables.specs.Base.{BaseValue, IsHonest, IsOpen, Recovers}
-use Rattle.tables.specs.Opening.{IsFoundIn, number_of}
-use Rattle.tables.specs.declared.opening.Version.{Version}
+use Rattle.tables.specs.Versions.{IsFoundIn, number_of}
+use Rattle.tables.specs.declared.version.Version.{Version}
 use Rattle.tables.specs.Schema.{no_schema}
 use Rattle.book.specs.Entries.{with_all, FitInTurn}
 use Rattle.book.specs.History.{Entry, History}
 use Rattle.book.specs.Sound.{Fits, IsSound}
-use Rattle.store.specs.Opening.{OpensFound, LeavesFiles, LeavesOrMakes, LeavesOrMigrates}
+use Rattle.store.specs.Files.{OpensFound, LeavesFiles, LeavesOrMakes, LeavesOrMigrates}
 use Rattle.store.specs.Stands.{Stands, LeavesOrAdds}
 use Rattle.store.specs.TablesOf.{tables_of}
 

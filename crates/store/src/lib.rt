@@ -1,14 +1,14 @@
 //! The history of what the counter accepted, kept in tables.
 #![tactic(auto)]
 
+mod connection;
 mod cursors;
 mod deposits;
-mod finding;
 mod holds;
 mod identities;
 mod laws;
-mod opening;
 mod path;
+mod place;
 mod ranges;
 mod store;
 

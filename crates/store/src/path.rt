@@ -6,21 +6,21 @@ ghost use Rattle.sqlite.specs.Held.{state};
 ghost use Rattle.sqlite.specs.Start.{FindsIn};
 ghost use Rattle.sqlite.specs.State.{HasCleanDisk};
 ghost use Rattle.sqlite_store.specs.FileStore.{view};
-ghost use Rattle.tables.specs.Asking.{Looks};
-ghost use Rattle.tables.specs.Opening.{IsFound, LooksOurs};
+ghost use Rattle.tables.specs.QueryAnswers.{Looks};
 ghost use Rattle.tables.specs.Schema.{no_schema};
+ghost use Rattle.tables.specs.Versions.{IsFound, LooksOurs};
 ghost use Rattle.book.specs.Entries.{entries_view, with_all, FitInTurn};
 ghost use Rattle.book.specs.History.{History};
 ghost use Rattle.book.specs.Sound.{IsSound};
 ghost use Rattle.store.specs.TablesOf.{tables_of};
 ghost use Rattle.store.specs.Stands.{Stands};
-ghost use Rattle.store.specs.Opening.{OpensFound, IsForeign, OpensNothing, SeemsForeign, IsMigrated, HasMigrated};
-ghost use Rattle.store.specs.Opening.{MigratesFound};
-ghost use Rattle.store.specs.Opening.{told_opening};
-ghost use Rattle.store.specs.Opening.{fault_where, fault_where_made, fault_at};
+ghost use Rattle.store.specs.Files.{OpensFound, IsForeign, OpensNothing, SeemsForeign, IsMigrated, HasMigrated};
+ghost use Rattle.store.specs.Files.{MigratesFound};
+ghost use Rattle.store.specs.Files.{told_opening};
+ghost use Rattle.store.specs.Files.{fault_where, fault_where_made, fault_at};
 ghost use Rattle.book.specs.Fault.{IsOfStorageOr};
 
-use crate::finding::{Found, Place, find, try_making};
+use crate::place::{FileState, Place, find, try_making};
 use crate::store::Store;
 use book::{Entry, StoreFault};
 use sqlite::{Alter, Connection, Error, ErrorCode, FileFrom, FileStore, Start, Unknown};
@@ -169,23 +169,23 @@ fn find_database<'path>(rt: &HostRuntime, path: &'path str) -> Result<Place<'pat
 }
 
 /// Whether a store may be opened where this was found.
-fn may_open(found: Found) -> Result<(), StoreFault>
+fn may_open(found: FileState) -> Result<(), StoreFault>
     ensures { result ≡ fault_where found }
 {
     match found {
-        Found::Nothing => Err(StoreFault::Database),
-        Found::Empty | Found::Other => Err(StoreFault::NotOurs),
-        Found::Database => Ok(()),
+        FileState::Nothing => Err(StoreFault::Database),
+        FileState::Empty | FileState::Other => Err(StoreFault::NotOurs),
+        FileState::Database => Ok(()),
     }
 }
 
 /// Whether tables may be made where this was found.
-fn may_make(found: Found) -> Result<(), StoreFault>
+fn may_make(found: FileState) -> Result<(), StoreFault>
     ensures { result ≡ fault_where_made found }
 {
     match found {
-        Found::Nothing | Found::Empty | Found::Database => Ok(()),
-        Found::Other => Err(StoreFault::NotOurs),
+        FileState::Nothing | FileState::Empty | FileState::Database => Ok(()),
+        FileState::Other => Err(StoreFault::NotOurs),
     }
 }
 
@@ -197,9 +197,9 @@ pub fn may_make_at(rt: &HostRuntime, path: &str) -> Result<(), StoreFault>
     let place = find(rt, path)?;
     may_make(place.found)?;
     match place.found {
-        Found::Nothing => try_making(rt, path)?,
-        Found::Database => look_for_tables(rt, path)?,
-        Found::Empty | Found::Other => {}
+        FileState::Nothing => try_making(rt, path)?,
+        FileState::Database => look_for_tables(rt, path)?,
+        FileState::Empty | FileState::Other => {}
     }
     Ok(())
 }

@@ -3,8 +3,8 @@ use Rattle.std.proofs.Common.{Result, Ok, Err, IsErr, IfOk, OnOk, refl, inl, ari
 use Rattle.sqlite.specs.declared.error.Error.{Error}
 use Rattle.sqlite_trees.specs.Tree.{Trees}
 use Rattle.sqlite.specs.State.{State, Survives, KeepsCommit}
-use Rattle.tables.specs.Carrying.{Carries}
 use Rattle.tables.specs.Tables.{Tables}
+use Rattle.tables.specs.Transaction.{Carries}
 
 pub no_answer : {A E : Type 0} (r : Result A E) (P : A → Type 0) → IsErr r → IfOk r P
 no_answer (Ok a) P refused = absurd cc

@@ -15,13 +15,13 @@ use Rattle.sqlite.specs.State.{Fails, FailsToQuery, FailsToShow, IsTooLate, Show
 use Rattle.sqlite.specs.declared.error.Error.TheVariants.{SqliteFailure}
 use Rattle.sqlite.specs.declared.error.ErrorCode.TheVariants as code
 use Rattle.sqlite_trees.specs.declared.error.StoreError.TheVariants as stored
-use Rattle.tables.specs.Opening.{HasFailed, IsRefused, IsUnanswered, IsUnderstood}
+use Rattle.tables.specs.Versions.{HasFailed, IsRefused, IsUnanswered, IsUnderstood}
 use Rattle.sqlite.proofs.Callers.{IsPlain, reads_as, command_of}
-use Rattle.tables.specs.Carrying.{Goes, Carries, IsSoundOf}
-use Rattle.tables.specs.Holding.{IsDatabaseOf}
+use Rattle.tables.specs.Transaction.{Goes, Carries, IsSoundOf}
+use Rattle.tables.specs.Layout.{IsDatabaseOf}
 use Rattle.tables.specs.Tables.{Tables}
 use Rattle.tables.specs.Schema.{the_schema}
-use Rattle.tables.specs.Asking.{IsQueryText, IsPlainIn, Answers, TellsRows, Looks, StaysUsable}
+use Rattle.tables.specs.QueryAnswers.{IsQueryText, IsPlainIn, Answers, TellsRows, Looks, StaysUsable}
 use Rattle.tables.proofs.UsableLemmas.{survivor_usable, usable_in_turn}
 
 unchanged_keeps : (old new : State) → IsUnchanged old new → KeepsCommit old new

@@ -8,15 +8,15 @@ use Rattle.sqlite.specs.Effect.{Database, IsDatabase}
 use Rattle.sqlite.specs.State.{HasCleanDisk}
 use Rattle.sqlite.specs.Held.{Held, state}
 use Rattle.book.specs.History.{Entry}
-use Rattle.tables.specs.Asking.{Looks}
+use Rattle.tables.specs.QueryAnswers.{Looks}
 use Rattle.tables.specs.Changes.{applied_all}
-use Rattle.tables.specs.Opening.{IsFound, Creates}
+use Rattle.tables.specs.Versions.{IsFound, Creates}
 use Rattle.tables.specs.Schema.{no_schema}
 use Rattle.tables.specs.Tables.{Tables, no_rows}
 use Rattle.tables.specs.Base.{StandsFor}
-use Rattle.tables.specs.Holding.{IsStored, IsDatabaseOf}
+use Rattle.tables.specs.Layout.{IsStored, IsDatabaseOf}
 use Rattle.tables.proofs.CommitLemmas.{stored}
-use Rattle.tables.specs.Carrying.{Commits}
+use Rattle.tables.specs.Transaction.{Commits}
 
 -- a crash leaves the last commit of an open store
 abbrev pub IsSettled : {S : Type 0} → Ghosts S → Type 0

@@ -3,10 +3,10 @@ use Rattle.std.proofs.Common.{◌≡◌, false, Result, Ok, Err, IsErrAnd, IfOk,
 use Rattle.sqlite_trees.specs.declared.store.Store.{Ghosts}
 use Rattle.sqlite.specs.Effect.{IsDatabase}
 use Rattle.sqlite.specs.Held.{state}
-use Rattle.tables.specs.Asking.{Looks}
+use Rattle.tables.specs.QueryAnswers.{Looks}
 use Rattle.tables.specs.Base.{BaseValue, IsHonest, IsOpen, Keeps}
 use Rattle.tables.specs.Changes.{IsCounted}
-use Rattle.tables.specs.Holding.{IsDatabaseOf}
+use Rattle.tables.specs.Layout.{IsDatabaseOf}
 use Rattle.tables.specs.Queries.{OnlyReads, LooksUp}
 use Rattle.tables.specs.Tables.{Tables}
 use Rattle.tables.specs.declared.fault.TableFault.{TableFault}

@@ -14,8 +14,8 @@ use Rattle.sqlite.specs.State.{Runs, Writes}
 use Rattle.sqlite.proofs.Callers.{IsPlain, command_of, statement_of, runs_as}
 use Rattle.tables.specs.Schema.{the_schema}
 use Rattle.tables.specs.Tables.{Tables}
-use Rattle.tables.specs.Holding.{Holds, IsDatabaseOf}
-use Rattle.tables.specs.Carrying.{Goes, Carries}
+use Rattle.tables.specs.Layout.{Holds, IsDatabaseOf}
+use Rattle.tables.specs.Transaction.{Goes, Carries}
 use Rattle.tables.proofs.WriteLemmas.{plain_mode}
 
 pub keeps_unchanged : (old new : State) → IsUnchanged old new → KeepsCommit old new

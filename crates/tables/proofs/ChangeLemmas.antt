@@ -19,7 +19,7 @@ use Rattle.sqlite_rules.specs.Edit.{put_all, without_all, are_fresh, have_rowids
 use Rattle.sqlite_rules.specs.Calls.{ids_of}
 use Rattle.sqlite_rules.specs.Lists.{Has}
 use Rattle.sqlite_rules.proofs.ListLemmas.{has_filtered, has_kept}
-use Rattle.tables.specs.Holding.{AreRows, said}
+use Rattle.tables.specs.Layout.{AreRows, said}
 use Rattle.tables.proofs.ListLemmas.{map_same_in, filter_equal, split_changed, has_permutation, has_image, image_has}
 use Rattle.tables.proofs.RowLemmas.{put_all_is, left_is}
 

@@ -9,9 +9,9 @@ use Rattle.sqlite.specs.State.{State, HasCleanDisk, Survives, KeepsCommit, Shows
 use Rattle.sqlite.specs.Steps.{FailsToCommit}
 use Rattle.sqlite.specs.Held.{Held, state}
 use Rattle.tables.specs.Tables.{Tables}
-use Rattle.tables.specs.Holding.{IsStored, IsDatabaseOf}
-use Rattle.tables.specs.Asking.{StaysUsable}
-use Rattle.tables.specs.Carrying.{GoesFrom, CarriesFrom, CommitsFrom}
+use Rattle.tables.specs.Layout.{IsStored, IsDatabaseOf}
+use Rattle.tables.specs.QueryAnswers.{StaysUsable}
+use Rattle.tables.specs.Transaction.{GoesFrom, CarriesFrom, CommitsFrom}
 use Rattle.tables.proofs.UsableLemmas.{survivor_usable, usable_in_turn}
 
 -- a sound database of the tables lists our schema

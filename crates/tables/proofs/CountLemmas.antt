@@ -8,8 +8,8 @@ use Rattle.sqlite.specs.State.{State, HasCleanDisk, KeepsCommit}
 use Rattle.sqlite.proofs.StateLemmas.{survives_then}
 use Rattle.tables.specs.Tables.{Tables, TallyRow, is_tally_of, raised_row}
 use Rattle.tables.specs.Steps.{with_raised, with_first_tally, with_count}
-use Rattle.tables.specs.Holding.{IsDatabaseOf}
-use Rattle.tables.specs.Carrying.{GoesFrom, CarriesFrom, IsSoundOf, Goes, Carries}
+use Rattle.tables.specs.Layout.{IsDatabaseOf}
+use Rattle.tables.specs.Transaction.{GoesFrom, CarriesFrom, IsSoundOf, Goes, Carries}
 use Rattle.tables.proofs.ListLemmas.{none_any, some_any}
 
 pub keeps_then : (a b c : State) → KeepsCommit a b → KeepsCommit b c → KeepsCommit a c

@@ -29,11 +29,11 @@ use Rattle.sqlite.specs.State.{State, HasCleanDisk, Survives, KeepsCommit, Write
 use Rattle.sqlite.proofs.Callers.{IsPlain, command_of, statement_of}
 use Rattle.tables.specs.Names.{Name}
 use Rattle.tables.specs.Names as name
-use Rattle.tables.specs.Making.{Making, makings, insert_version, make_all}
+use Rattle.tables.specs.Creation.{Making, makings, insert_version, make_all}
 use Rattle.tables.specs.Schema.{the_schema, the_version, no_schema, schema_after, placed, meta}
 use Rattle.tables.specs.Tables.{no_rows}
-use Rattle.tables.specs.Carrying.{GoesFrom, CarriesFrom}
-use Rattle.tables.specs.Holding.{AreRows, HoldsAt, IsDatabaseOf, version_cells, tree_of}
+use Rattle.tables.specs.Transaction.{GoesFrom, CarriesFrom}
+use Rattle.tables.specs.Layout.{AreRows, HoldsAt, IsDatabaseOf, version_cells, tree_of}
 use Rattle.tables.proofs.BatchLemmas.{ran_as, went, same_ok, Ran, Goes, InTurn, in_turn}
 use Rattle.tables.proofs.NameLemmas.{IsMaking, free_as_alone}
 use Rattle.tables.proofs.MakingLemmas.{are_makings, are_cut}

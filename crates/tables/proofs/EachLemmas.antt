@@ -9,10 +9,10 @@ use Rattle.sqlite.specs.State.{State}
 use Rattle.book.specs.declared.entries.Entry.{Entry}
 use Rattle.book.specs.Entries.{entry_view, entries_view}
 use Rattle.book.specs.History as history
-use Rattle.tables.specs.Opening.{Fills}
+use Rattle.tables.specs.Versions.{Fills}
 use Rattle.tables.specs.Schema.{no_schema}
 use Rattle.tables.specs.Tables.{Tables, no_rows}
-use Rattle.tables.specs.Carrying.{CarriesFrom, IsSoundOf, Carries}
+use Rattle.tables.specs.Transaction.{CarriesFrom, IsSoundOf, Carries}
 use Rattle.tables.specs.Changes.{applied, applied_all}
 use Rattle.tables.proofs.AnswerLemmas.{survives_same, keeps_same}
 use Rattle.tables.proofs.CountLemmas.{built_on, chained, restated}

@@ -9,7 +9,7 @@ use Rattle.sqlite_resolve.specs.declared.error.CompileError.TheVariants.{NoSuchT
 use Rattle.sqlite_resolve.specs.Body.{table_at}
 use Rattle.sqlite.specs.Given.{IsPlain}
 use Rattle.sqlite.proofs.Callers.{command_of}
-use Rattle.tables.specs.Opening.{IsUnderstood}
+use Rattle.tables.specs.Versions.{IsUnderstood}
 use Rattle.tables.proofs.FreeLemmas.{HasMeta}
 use Rattle.sqlite_ast.specs.declared.Statement.{Statement}
 use Rattle.sqlite_ast.specs.declared.Statement.TheVariants as written
@@ -25,7 +25,7 @@ use Rattle.sqlite_resolve.specs.Compile.{first, compiled, on_table, new_rows, fo
 use Rattle.sqlite_tied.specs.Compute.{everything}
 use Rattle.sqlite.specs.Listing.{understood, listing_schema, misses_table, if_select}
 use Rattle.tables.specs.Schema.{the_schema, placed, meta}
-use Rattle.tables.specs.Making.{insert_version}
+use Rattle.tables.specs.Creation.{insert_version}
 use Rattle.tables.proofs.CreateLemmas.{version_terms}
 
 abbrev rows_in : Statement → Rows → Rows

@@ -7,7 +7,7 @@ use Rattle.sqlite_value.specs.Order.{Row}
 use Rattle.sqlite_trees.specs.declared.store.Store.{Ghosts}
 use Rattle.sqlite_rules.specs.Lists.{Has}
 use Rattle.sqlite_rules.proofs.ListLemmas.{has_contained, contains_had}
-use Rattle.tables.specs.Asking.{TellsFirst, IsReadAs}
+use Rattle.tables.specs.QueryAnswers.{TellsFirst, IsReadAs}
 use Rattle.tables.specs.Base.{BaseValue}
 use Rattle.tables.specs.Found.{IsFoundAs, IsGreatestAs, IsLeastAs}
 use Rattle.tables.specs.Queries.{LooksUp, TellsRow, TellsAs}

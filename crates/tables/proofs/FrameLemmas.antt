@@ -12,9 +12,9 @@ use Rattle.tables.specs.Names as name
 use Rattle.tables.specs.Schema.{the_schema, the_version, placed, meta, stamp, calibration, hold, deposit, reader, tally}
 use Rattle.tables.specs.Schema.{group_reader, identity}
 use Rattle.tables.specs.Tables.{Tables, StampRow, CalibrationRow, HoldRow, DepositRow, ReaderRow, TallyRow, InstalledRow}
-use Rattle.tables.specs.Holding.{AreRows, Holds, HoldsAt, cells_of, is_keyed, tree_of, rows_of, first_version}
-use Rattle.tables.specs.Holding.{stamp_cells, calibration_cells, hold_cells, deposit_cells, reader_cells, tally_cells}
-use Rattle.tables.specs.Holding.{identity_cells}
+use Rattle.tables.specs.Layout.{AreRows, Holds, HoldsAt, cells_of, is_keyed, tree_of, rows_of, first_version}
+use Rattle.tables.specs.Layout.{stamp_cells, calibration_cells, hold_cells, deposit_cells, reader_cells, tally_cells}
+use Rattle.tables.specs.Layout.{identity_cells}
 
 -- ---- each table by its name
 

@@ -15,8 +15,8 @@ use Rattle.sqlite.specs.Effect.{value_rows}
 use Rattle.sqlite.specs.Listing.{understood}
 use Rattle.sqlite.specs.State.{State, HasCleanDisk, Survives, ExecutesInside}
 use Rattle.sqlite.proofs.Callers.{IsPlain, command_of}
-use Rattle.tables.specs.Carrying.{Carries}
-use Rattle.tables.specs.Holding.{identity_cells}
+use Rattle.tables.specs.Transaction.{Carries}
+use Rattle.tables.specs.Layout.{identity_cells}
 use Rattle.tables.specs.Names as name
 use Rattle.tables.specs.Schema.{the_schema, identity, placed}
 use Rattle.tables.specs.Statements.{insert_identity}

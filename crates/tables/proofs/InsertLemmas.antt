@@ -20,14 +20,14 @@ use Rattle.sqlite.specs.declared.error.Error.{Error}
 use Rattle.sqlite.specs.Listing.{understood}
 use Rattle.sqlite.specs.State.{State, HasCleanDisk, Survives, ExecutesInside}
 use Rattle.sqlite.proofs.Callers.{IsPlain, command_of}
-use Rattle.tables.specs.Carrying.{Carries}
+use Rattle.tables.specs.Transaction.{Carries}
 use Rattle.tables.specs.Statements.{insert_stamp, insert_calibration, insert_hold, insert_deposit}
 use Rattle.tables.specs.Statements.{first_tally}
 use Rattle.tables.specs.Schema.{the_schema, stamp, calibration, hold, deposit, tally, placed}
 use Rattle.tables.specs.Tables.{Tables, StampRow, CalibrationRow, HoldRow, DepositRow, TallyRow}
 use Rattle.tables.specs.Tables.{with_calibration, with_hold, with_deposit}
-use Rattle.tables.specs.Holding.{stamp_cells, calibration_cells, hold_cells}
-use Rattle.tables.specs.Holding.{deposit_cells, tally_cells}
+use Rattle.tables.specs.Layout.{stamp_cells, calibration_cells, hold_cells}
+use Rattle.tables.specs.Layout.{deposit_cells, tally_cells}
 use Rattle.tables.specs.Names as name
 use Rattle.tables.proofs.CarryLemmas.{carried, Makes}
 use Rattle.tables.proofs.FrameLemmas.{with_stamps, with_calibrations, with_holds, with_deposits}

@@ -23,9 +23,9 @@ use Rattle.sqlite_rules.proofs.ListLemmas.{has_contained, contains_had, has_filt
 use Rattle.sqlite.specs.Effect.{Reads}
 use Rattle.sqlite.specs.Listing.{understood}
 use Rattle.sqlite.proofs.Callers.{command_of}
-use Rattle.tables.specs.Asking.{IsQueryText, TellsFirst}
+use Rattle.tables.specs.QueryAnswers.{IsQueryText, TellsFirst}
 use Rattle.tables.specs.Found.{IsFoundAs, IsLeastAs, IsGreatestAs}
-use Rattle.tables.specs.Holding.{Holds, RowOf, cells_of, is_keyed, tree_of, rows_of}
+use Rattle.tables.specs.Layout.{Holds, RowOf, cells_of, is_keyed, tree_of, rows_of}
 use Rattle.tables.specs.Names.{Name}
 use Rattle.tables.specs.Names as name
 use Rattle.tables.specs.Schema.{the_schema, the_version}

@@ -3,8 +3,8 @@ use Rattle.std.proofs.Common.{refl}
 use Rattle.std.specs.List.{AllByRecursion}
 use Rattle.sqlite_tied.specs.Compute.{everything}
 use Rattle.sqlite.specs.Listing.{understood}
-use Rattle.tables.specs.Making.{make_meta, make_stamp, make_calibration, make_hold, make_deposit, make_reader}
-use Rattle.tables.specs.Making.{make_tally, make_group_reader, make_identity, makings, insert_version}
+use Rattle.tables.specs.Creation.{make_meta, make_stamp, make_calibration, make_hold, make_deposit, make_reader}
+use Rattle.tables.specs.Creation.{make_tally, make_group_reader, make_identity, makings, insert_version}
 use Rattle.tables.proofs.BatchLemmas.{AreCut}
 use Rattle.tables.proofs.NameLemmas.{IsMaking}
 

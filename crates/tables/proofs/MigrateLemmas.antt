@@ -21,20 +21,20 @@ use Rattle.sqlite.specs.Listing.{understood}
 use Rattle.sqlite.specs.State.{State, HasCleanDisk, Survives, ExecutesInside, mode_of}
 use Rattle.sqlite.proofs.Callers.{IsPlain, command_of, statement_of, runs_as}
 use Rattle.sqlite.proofs.StateLemmas.{survives_then}
-use Rattle.tables.specs.Asking.{Looks, StaysUsable}
-use Rattle.tables.specs.Carrying.{IsLed, LeadsOn, GoesFrom, CarriesFrom, CommitsFrom}
-use Rattle.tables.specs.Holding.{AreRows, HoldsAt, HoldsNoLater, IsDatabaseOf, IsDatabaseIn, IsOnTheWay, IsStored}
-use Rattle.tables.specs.Holding.{tree_of, rows_of, cells_of, is_keyed, first_version, version_cells}
-use Rattle.tables.specs.Making.{Making, make_group_reader, make_identity, set_version}
-use Rattle.tables.specs.Migrating.{Migrates}
+use Rattle.tables.specs.QueryAnswers.{Looks, StaysUsable}
+use Rattle.tables.specs.Transaction.{IsLed, LeadsOn, GoesFrom, CarriesFrom, CommitsFrom}
+use Rattle.tables.specs.Layout.{AreRows, HoldsAt, HoldsNoLater, IsDatabaseOf, IsDatabaseIn, IsOnTheWay, IsStored}
+use Rattle.tables.specs.Layout.{tree_of, rows_of, cells_of, is_keyed, first_version, version_cells}
+use Rattle.tables.specs.Creation.{Making, make_group_reader, make_identity, set_version}
+use Rattle.tables.specs.Migration.{Migrates}
 use Rattle.tables.specs.Names.{Name}
 use Rattle.tables.specs.Names as name
-use Rattle.tables.specs.Opening.{IsFound, IsFoundIn, number_of, tells_taken}
+use Rattle.tables.specs.Versions.{IsFound, IsFoundIn, number_of, tells_taken}
 use Rattle.tables.specs.Schema.{schema_of, the_schema, the_version, placed, meta, stamp, calibration, hold, deposit, reader}
 use Rattle.tables.specs.Schema.{tally, group_reader}
 use Rattle.tables.specs.Tables.{Tables}
-use Rattle.tables.specs.declared.opening.Version.{Version}
-use Rattle.tables.specs.declared.opening.Version.TheVariants as version
+use Rattle.tables.specs.declared.version.Version.{Version}
+use Rattle.tables.specs.declared.version.Version.TheVariants as version
 use Rattle.tables.proofs.CarryLemmas.{did, kept_inside}
 use Rattle.tables.proofs.CountLemmas.{keeps_then}
 use Rattle.tables.proofs.CreateLemmas.{MakesIn, table_made, empty_rows}

@@ -25,9 +25,9 @@ use Rattle.sqlite_resolve.specs.Lowering.{Checked, and_then}
 use Rattle.sqlite_resolve.specs.Compile.{is_attached, compiled}
 use Rattle.sqlite.specs.Listing.{understood, listing_schema, misses_table, if_select}
 use Rattle.sqlite.specs.Given.{IsPlain}
-use Rattle.tables.specs.Making.{Making}
-use Rattle.tables.specs.Opening.{IsUnderstood}
+use Rattle.tables.specs.Creation.{Making}
 use Rattle.tables.specs.Schema.{no_schema}
+use Rattle.tables.specs.Versions.{IsUnderstood}
 use Rattle.sqlite_trees.specs.declared.store.Store.{Ghosts}
 use Rattle.sqlite.specs.Held.{Held, state}
 use Rattle.tables.proofs.BatchLemmas.{ran_as, went, same_ok, InTurn}

@@ -10,11 +10,11 @@ use Rattle.sqlite_rules.specs.Lists.{Has}
 use Rattle.sqlite_rules.proofs.ListLemmas.{has_contained, contains_had}
 use Rattle.sqlite.specs.declared.error.Error.{Error}
 use Rattle.sqlite.specs.State.{State, HasCleanDisk}
-use Rattle.tables.specs.Asking.{TellsRows, IsReadAs, TellsNumber}
-use Rattle.tables.specs.Carrying.{Carries}
+use Rattle.tables.specs.QueryAnswers.{TellsRows, IsReadAs, TellsNumber}
+use Rattle.tables.specs.Transaction.{Carries}
 use Rattle.tables.specs.Changes.{greatest_by}
 use Rattle.tables.specs.Found.{IsGreatestAs}
-use Rattle.tables.specs.Holding.{Holds, IsDatabaseOf}
+use Rattle.tables.specs.Layout.{Holds, IsDatabaseOf}
 use Rattle.tables.specs.Tables.{Tables}
 use Rattle.tables.proofs.LookupLemmas.{FindsGreatest}
 use Rattle.tables.proofs.CountLemmas.{chained, reworded}

@@ -29,15 +29,15 @@ use Rattle.std.proofs.lemmas.Bool.{cases_Bool}
 use Rattle.sqlite.specs.State.{State, HasCleanDisk, Survives, IsUnchanged, IsNotRun, store_error}
 use Rattle.sqlite.proofs.Callers.{command_of, one_permutation}
 use Rattle.tables.specs.Schema.{schema_of, the_schema}
-use Rattle.tables.specs.declared.opening.Version.{Version}
-use Rattle.tables.specs.declared.opening.Version.TheVariants as version
+use Rattle.tables.specs.declared.version.Version.{Version}
+use Rattle.tables.specs.declared.version.Version.TheVariants as version
 use Rattle.tables.specs.Tables.{Tables}
-use Rattle.tables.specs.Holding.{AreRows, IsDatabaseIn, version_cells}
+use Rattle.tables.specs.Layout.{AreRows, IsDatabaseIn, version_cells}
 use Rattle.tables.specs.Names as name
-use Rattle.tables.specs.Asking.{IsQueryText, IsPlainIn, Answers, Looks, StaysUsable}
-use Rattle.tables.specs.Opening.{all_columns, second_columns, first_columns, version_query, number_of}
-use Rattle.tables.specs.Opening.{IsUnderstood, IsKnownAs, IsVersion, LooksForeign, TellsVersion}
-use Rattle.tables.specs.Opening.{HasFailed, IsUnfit, IsRefused, IsUnprepared, IsUnanswered}
+use Rattle.tables.specs.QueryAnswers.{IsQueryText, IsPlainIn, Answers, Looks, StaysUsable}
+use Rattle.tables.specs.Versions.{all_columns, second_columns, first_columns, version_query, number_of}
+use Rattle.tables.specs.Versions.{IsUnderstood, IsKnownAs, IsVersion, LooksForeign, TellsVersion}
+use Rattle.tables.specs.Versions.{HasFailed, IsUnfit, IsRefused, IsUnprepared, IsUnanswered}
 use Rattle.tables.proofs.AskLemmas.{fails_so}
 use Rattle.tables.proofs.UsableLemmas.{survivor_usable}
 use Rattle.tables.proofs.ReadLemmas.{program_of, no_limit, passes, shows, answered}

@@ -2,7 +2,7 @@
 use Rattle.std.proofs.Common.{◌≡◌, ◌∙◌, ℕ, ℤ, pos, List, Option, Some, None, refl, sym, ap, ap₂}
 use Rattle.sqlite_value.specs.declared.value.Value.TheVariants.{Int, Text, Blob}
 use Rattle.sqlite_value.specs.Order.{Row, column}
-use Rattle.tables.specs.Holding.{token_cell}
+use Rattle.tables.specs.Layout.{token_cell}
 use Rattle.tables.specs.Queries.{ShowsLast}
 use Rattle.tables.specs.Shown.{last_shown}
 use Rattle.tables.specs.Tables.{StampRow}

@@ -38,9 +38,9 @@ use Rattle.sqlite.specs.Rows.{Part, Then, Gives, Task, Written, Queried, Sourced
 use Rattle.sqlite.specs.State.{State, RunsAlone, IsStatement, ExecutesIn, IsNotRun}
 use Rattle.sqlite.specs.State.{shows_rows, mode_of, store_error}
 use Rattle.sqlite.proofs.Callers.{IsPlain, command_of, statement_of}
-use Rattle.tables.specs.Making.{Making, makings, later_makings, joined, insert_version, make_all}
+use Rattle.tables.specs.Creation.{Making, makings, later_makings, joined, insert_version, make_all}
 use Rattle.tables.specs.Schema.{the_schema, placed, meta}
-use Rattle.tables.specs.Opening.{IsUnderstood, IsInTheWay, takes_name, takes_index, tells_taken}
+use Rattle.tables.specs.Versions.{IsUnderstood, IsInTheWay, takes_name, takes_index, tells_taken}
 use Rattle.tables.proofs.WriteLemmas.{plain_mode}
 use Rattle.tables.proofs.BatchLemmas.{AreCut, Goes, Turns, cut_last, turn, ended, in_turn}
 use Rattle.tables.proofs.CreateLemmas.{MakesIn, makes_in, makes_table, schema_with, version_terms, begun}

@@ -22,8 +22,8 @@ use Rattle.sqlite.specs.Listing.{understood}
 use Rattle.sqlite.specs.State.{State, HasCleanDisk, Survives, ExecutesInside}
 use Rattle.sqlite.proofs.Callers.{IsPlain, command_of}
 use Rattle.book.specs.Readers.{Reader, Account, Group}
-use Rattle.tables.specs.Carrying.{Carries}
-use Rattle.tables.specs.Holding.{AreRows, reader_cells}
+use Rattle.tables.specs.Transaction.{Carries}
+use Rattle.tables.specs.Layout.{AreRows, reader_cells}
 use Rattle.tables.specs.Names as name
 use Rattle.tables.specs.Queries.{is_readable_after}
 use Rattle.tables.specs.Schema.{the_schema, placed, right_table}

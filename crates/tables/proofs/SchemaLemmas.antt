@@ -19,10 +19,10 @@ use Rattle.sqlite_catalog.specs.Listing.{is_table_row, is_index_row, is_view_row
 use Rattle.sqlite.specs.Effect.{Database, IsDatabase}
 use Rattle.tables.specs.Schema.{schema_of, the_schema, meta}
 use Rattle.tables.specs.Tables.{Tables}
-use Rattle.tables.specs.Holding.{IsStored, IsDatabaseOf, IsStoredIn, IsDatabaseIn}
-use Rattle.tables.specs.Opening.{number_of}
-use Rattle.tables.specs.declared.opening.Version.{Version}
-use Rattle.tables.specs.declared.opening.Version.TheVariants as version
+use Rattle.tables.specs.Layout.{IsStored, IsDatabaseOf, IsStoredIn, IsDatabaseIn}
+use Rattle.tables.specs.Versions.{number_of}
+use Rattle.tables.specs.declared.version.Version.{Version}
+use Rattle.tables.specs.declared.version.Version.TheVariants as version
 
 -- lists that stand for the same rows, where a row stands for one thing alone
 zipped_once : {A B : Type 0} (R : A → B → Type 0) → ((a : A) (x y : B) → R a x → R a y → x ≡ y)

@@ -32,13 +32,13 @@ use Rattle.sqlite.specs.declared.error.Error.{Error}
 use Rattle.sqlite.specs.Listing.{understood}
 use Rattle.sqlite.specs.State.{State, HasCleanDisk, Survives, ExecutesInside}
 use Rattle.sqlite.proofs.Callers.{IsPlain, command_of}
-use Rattle.tables.specs.Carrying.{Carries}
+use Rattle.tables.specs.Transaction.{Carries}
 use Rattle.tables.specs.Statements.{set_token, raise_tally}
 use Rattle.tables.specs.Schema.{the_schema, placed, tally}
 use Rattle.tables.specs.Tables.{Tables, StampRow, TallyRow, is_stamp, is_tally_of, sealed_row}
 use Rattle.tables.specs.Tables.{raised_row, with_token}
 use Rattle.tables.specs.Steps.{with_raised}
-use Rattle.tables.specs.Holding.{Holds, IsDatabaseOf, stamp_cells, tally_cells}
+use Rattle.tables.specs.Layout.{Holds, IsDatabaseOf, stamp_cells, tally_cells}
 use Rattle.tables.specs.Names as name
 use Rattle.tables.proofs.CarryLemmas.{carried, did, Makes}
 use Rattle.tables.proofs.FrameLemmas.{with_stamps, with_tallies}

@@ -27,7 +27,7 @@ use Rattle.sqlite_rules.proofs.RuleLemmas.{keeps_at}
 use Rattle.sqlite_rules.proofs.TableLemmas.{put_all_adds}
 use Rattle.sqlite.specs.Does.{Tally, Does}
 use Rattle.sqlite.specs.Effect.{Database, Answers}
-use Rattle.tables.specs.Holding.{AreRows, said}
+use Rattle.tables.specs.Layout.{AreRows, said}
 use Rattle.tables.proofs.WriteLemmas.{IsIdle, plain_mode, its_table, OthersHold, updates, deletes}
 use Rattle.tables.proofs.WriteLemmas.{Makes as MakesEdit}
 use Rattle.tables.proofs.ReadLemmas.{program_of, no_limit, passes, shows, answered}

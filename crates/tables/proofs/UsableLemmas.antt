@@ -2,7 +2,7 @@
 use Rattle.std.proofs.Common.{◌∙◌, inl, inr, arith}
 use Rattle.sqlite_trees.specs.Tree.{Trees}
 use Rattle.sqlite.specs.State.{State, HasCleanDisk, Survives}
-use Rattle.tables.specs.Asking.{StaysUsable, Looks}
+use Rattle.tables.specs.QueryAnswers.{StaysUsable, Looks}
 
 pub survivor_usable : (old new : State) (Commits : Trees → Type 0) → Survives old new Commits → StaysUsable old new
 survivor_usable old new Commits s = record { counts = s.counts; stays = s.closes; limit = s.limit }

@@ -8,7 +8,7 @@ use Rattle.sqlite.specs.State.{State, HasCleanDisk}
 use Rattle.sqlite_trees.specs.Tree.{Trees}
 use Rattle.sqlite_trees.specs.declared.store.Store.{Ghosts}
 use Rattle.tables.specs.Tables.{Tables}
-pub use Rattle.tables.specs.Holding.{IsStored, IsDatabaseOf}
+pub use Rattle.tables.specs.Layout.{IsStored, IsDatabaseOf}
 
 pub record BaseValue (S : Type 0) : Type 0 where
   pub conn : Held S

@@ -5,9 +5,9 @@ use Rattle.sqlite_value.specs.Order.{Row}
 use Rattle.sqlite.specs.Held.{state}
 use Rattle.sqlite_trees.specs.Tree.{Trees}
 use Rattle.sqlite_trees.specs.declared.store.Store.{Ghosts}
-use Rattle.tables.specs.Asking.{StaysUsable, TellsFirst, IsReadAs}
+use Rattle.tables.specs.QueryAnswers.{StaysUsable, TellsFirst, IsReadAs}
 use Rattle.tables.specs.Changes.{IsCounted}
-use Rattle.tables.specs.Holding.{Holds}
+use Rattle.tables.specs.Layout.{Holds}
 use Rattle.tables.specs.Tables.{Tables, StampRow, CalibrationRow, HoldRow, TallyRow, DepositRow, ReaderRow}
 use Rattle.tables.specs.Tables.{InstalledRow}
 use Rattle.tables.specs.Base.{BaseValue, IsHonest, IsOpen, Keeps, Recovers}

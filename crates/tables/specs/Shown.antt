@@ -2,7 +2,7 @@
 use Rattle.std.specs.Prelude.{pos, [], ◌∷◌}
 use Rattle.sqlite_value.specs.declared.value.Value.TheVariants.{Int, Text, Blob}
 use Rattle.sqlite_value.specs.Order.{Row}
-use Rattle.tables.specs.Holding.{token_cell}
+use Rattle.tables.specs.Layout.{token_cell}
 use Rattle.tables.specs.Tables.{StampRow, TallyRow, CalibrationRow, HoldRow, DepositRow, ReaderRow, InstalledRow}
 
 abbrev pub stamp_shown : StampRow → Row

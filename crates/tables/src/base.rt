@@ -4,19 +4,19 @@ ghost use Rattle.std.specs.Prelude.{◌≡◌, ◌⊎◌, ◌<◌, length, false
 ghost use Rattle.sqlite.specs.Held.{state};
 ghost use Rattle.sqlite.specs.State.{HasCleanDisk};
 ghost use Rattle.book.specs.Entries.{entries_view};
-ghost use Rattle.tables.specs.Asking.{Looks, StaysUsable};
-ghost use Rattle.tables.specs.Opening.{IsFound, LooksOurs, LooksForeign, Creates, IsInTheWay, IsUntold, takes_name};
+ghost use Rattle.tables.specs.QueryAnswers.{Looks, StaysUsable};
 ghost use Rattle.tables.specs.Schema.{no_schema};
+ghost use Rattle.tables.specs.Versions.{IsFound, LooksOurs, LooksForeign, Creates, IsInTheWay, IsUntold, takes_name};
 ghost use Rattle.sqlite_trees.specs.Tree.{Trees};
 ghost use Rattle.tables.specs.Tables.{Tables, no_rows};
 ghost use Rattle.tables.specs.Base.{IsHonest, IsOpen, Keeps, Recovers, IsStored};
 ghost use Rattle.tables.specs.Changes.{applied_all, IsCounted};
 ghost use Rattle.tables.specs.Faults.{told_using};
 
-use crate::creating::make_tables;
+use crate::changes::commit_entries;
+use crate::creation::make_tables;
 use crate::fault::{OpenFault, TableFault, Task};
-use crate::opening::{Version, found_version};
-use crate::writing::commit_entries;
+use crate::version::{Version, found_version};
 use book::Entry;
 use sqlite::{Alter, Connection, Error};
 use std::marker::Model;

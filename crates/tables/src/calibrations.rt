@@ -4,14 +4,14 @@ ghost use Rattle.std.specs.Prelude.{◌≡◌};
 ghost use Rattle.sqlite.specs.Held.{state};
 ghost use Rattle.book.specs.History.{Calibrated};
 ghost use Rattle.book.specs.Values.{calibration_view};
-ghost use Rattle.tables.specs.Carrying.{Carries};
 ghost use Rattle.tables.specs.Changes.{applied};
 ghost use Rattle.tables.specs.Found.{IsGreatestAs};
 ghost use Rattle.tables.specs.Queries.{LooksUp, ShowsCalibration};
+ghost use Rattle.tables.specs.Transaction.{Carries};
 
-use crate::asking::{FromRow, number, number_in, signed};
 use crate::base::Base;
 use crate::fault::TableFault;
+use crate::queries::{FromRow, number, number_in, signed};
 use crate::rows::{LatestCalibration, column};
 use book::Calibration;
 use sqlite::types::ToSql;

@@ -4,15 +4,15 @@ ghost use Rattle.std.specs.List.{list_any};
 ghost use Rattle.std.specs.Prelude.{◌≡◌, ◌<◌, ◌^◌, IfOk, IfSome};
 ghost use Rattle.sqlite.specs.Held.{state};
 ghost use Rattle.book.specs.Values.{deposit_of};
-ghost use Rattle.tables.specs.Carrying.{Carries};
 ghost use Rattle.tables.specs.Found.{IsFoundAs, IsLeastAs};
 ghost use Rattle.tables.specs.Queries.{LooksUp, ShowsDeposit, ShowsLabel, ShowsDepositSerial, is_owned};
 ghost use Rattle.tables.specs.Queries.{is_owned_after};
 ghost use Rattle.tables.specs.Tables.{with_deposit, is_deposit, is_deposit_of};
+ghost use Rattle.tables.specs.Transaction.{Carries};
 
-use crate::asking::{FromRow, number, octets, text};
 use crate::base::Base;
 use crate::fault::TableFault;
+use crate::queries::{FromRow, number, octets, text};
 use crate::rows::{Label, column};
 use book::Deposit;
 use sqlite::types::ValueRef;

@@ -1,6 +1,6 @@
 ghost use Rattle.std.specs.Prelude.{◌≡◌, ◌≢◌, true};
 ghost use Rattle.tables.specs.Faults.{fault_of, opening_fault_of, told, told_using};
-ghost use Rattle.tables.specs.Opening.{tells_taken};
+ghost use Rattle.tables.specs.Versions.{tells_taken};
 
 use book::StoreFault;
 use sqlite::{Error, ErrorCode};

@@ -5,15 +5,15 @@ ghost use Rattle.std.specs.Prelude.{◌≡◌, ◌<◌, ◌^◌, IfOk, IfSome};
 ghost use Rattle.sqlite.specs.Held.{state};
 ghost use Rattle.book.specs.History.{Held};
 ghost use Rattle.book.specs.Values.{hold_view};
-ghost use Rattle.tables.specs.Carrying.{Carries};
 ghost use Rattle.tables.specs.Changes.{applied};
 ghost use Rattle.tables.specs.Found.{IsFoundAs, IsGreatestAs};
 ghost use Rattle.tables.specs.Queries.{LooksUp, ShowsHold, ShowsNumber, holds_at};
 ghost use Rattle.tables.specs.Tables.{is_hold};
+ghost use Rattle.tables.specs.Transaction.{Carries};
 
-use crate::asking::{FromRow, number_in, signed};
 use crate::base::Base;
 use crate::fault::TableFault;
+use crate::queries::{FromRow, number_in, signed};
 use crate::rows::column;
 use book::Hold;
 use sqlite::types::{ToSql, ValueRef};

@@ -4,15 +4,15 @@ ghost use Rattle.std.specs.Prelude.{◌≡◌};
 ghost use Rattle.sqlite.specs.Held.{state};
 ghost use Rattle.book.specs.History.{Installed};
 ghost use Rattle.book.specs.Values.{installed_of};
-ghost use Rattle.tables.specs.Carrying.{Carries};
 ghost use Rattle.tables.specs.Changes.{applied};
 ghost use Rattle.tables.specs.Found.{IsFoundAs};
 ghost use Rattle.tables.specs.Queries.{LooksUp, ShowsIdentity};
 ghost use Rattle.tables.specs.Tables.{is_identity};
+ghost use Rattle.tables.specs.Transaction.{Carries};
 
-use crate::asking::{FromRow, number, number_in, octets};
 use crate::base::Base;
 use crate::fault::TableFault;
+use crate::queries::{FromRow, number, number_in, octets};
 use crate::rows::column;
 use crate::stamps::LAST_STAMP;
 use book::IdentityRow;

@@ -2,27 +2,27 @@
 //! of the history and each query means of their rows.
 #![tactic(auto)]
 
-mod asking;
 mod base;
 mod calibrations;
-mod creating;
+mod changes;
+mod creation;
 mod deposits;
 mod fault;
 mod holds;
 mod identities;
 mod laws;
-mod migrating;
-mod opening;
+mod migration;
+mod queries;
 mod rights;
 mod rows;
 mod stamps;
 mod tallies;
-mod writing;
+mod version;
 
 pub use base::Base;
 pub use book::{Deposit, IdentityRow, Stamp};
 pub use fault::{OpenFault, TableFault, Task};
 pub use laws::{earlier_tables_are_found, stored_tables_are_found};
-pub use migrating::migrate;
-pub use opening::Version;
+pub use migration::migrate;
 pub use rows::{ColumnNumber, Label, LastStamp, LatestCalibration, Origin};
+pub use version::Version;

@@ -4,11 +4,11 @@ ghost use Rattle.std.specs.List.{list_any};
 ghost use Rattle.std.specs.Prelude.{◌≡◌, ◌<◌, ◌^◌, IfOk, IfSome};
 ghost use Rattle.sqlite.specs.Held.{state};
 ghost use Rattle.book.specs.Entries.{reader_view};
-ghost use Rattle.tables.specs.Carrying.{Carries};
 ghost use Rattle.tables.specs.Found.{IsLeastAs};
 ghost use Rattle.tables.specs.Queries.{LooksUp, ShowsReaderSerial, is_readable_after};
 ghost use Rattle.tables.specs.Steps.{with_right_alone};
 ghost use Rattle.tables.specs.Tables.{without_right, is_reader_row, rights_of, name_of};
+ghost use Rattle.tables.specs.Transaction.{Carries};
 
 use crate::base::Base;
 use crate::fault::TableFault;

@@ -4,15 +4,15 @@ ghost use Rattle.std.specs.Prelude.{◌≡◌, None};
 ghost use Rattle.sqlite.specs.Held.{state};
 ghost use Rattle.book.specs.History.{day_of, stamp_of};
 ghost use Rattle.book.specs.Values.{reservation_view};
-ghost use Rattle.tables.specs.Carrying.{Carries};
 ghost use Rattle.tables.specs.Found.{IsFoundAs, IsLeastAs, IsGreatestAs};
 ghost use Rattle.tables.specs.Queries.{LooksUp, ShowsStamp, ShowsOrigin, ShowsLast, is_within};
 ghost use Rattle.tables.specs.Steps.{with_stamp_alone};
 ghost use Rattle.tables.specs.Tables.{with_token, is_stamp};
+ghost use Rattle.tables.specs.Transaction.{Carries};
 
-use crate::asking::{FromRow, number, octets, octets_or_none, text};
 use crate::base::Base;
 use crate::fault::TableFault;
+use crate::queries::{FromRow, number, octets, octets_or_none, text};
 use crate::rows::{ColumnNumber, LastStamp, Origin, column};
 use book::{DAY, Reservation, Stamp};
 use sqlite::types::ValueRef;

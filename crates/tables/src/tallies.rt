@@ -3,12 +3,12 @@
 ghost use Rattle.std.specs.Prelude.{◌≡◌, IsTrue, IfOk, length, filter};
 ghost use Rattle.sqlite.specs.Held.{state};
 ghost use Rattle.sqlite.specs.State.{HasCleanDisk};
-ghost use Rattle.tables.specs.Carrying.{Carries};
 ghost use Rattle.tables.specs.Found.{IsFoundAs};
-ghost use Rattle.tables.specs.Holding.{IsDatabaseOf};
+ghost use Rattle.tables.specs.Layout.{IsDatabaseOf};
 ghost use Rattle.tables.specs.Queries.{LooksUp, ShowsCount};
 ghost use Rattle.tables.specs.Steps.{with_raised, with_first_tally, with_count};
 ghost use Rattle.tables.specs.Tables.{Tables, is_tally_of};
+ghost use Rattle.tables.specs.Transaction.{Carries};
 
 use crate::base::Base;
 use crate::fault::TableFault;

@@ -4,7 +4,7 @@
 
 mod books;
 mod desks;
-mod failing;
+mod failures;
 mod fields;
 mod octets;
 mod setting;
@@ -19,6 +19,6 @@ pub fn perform(rt: &HostRuntime, words: &[String]) -> anyhow::Result<()> {
     match words {
         [word, files @ ..] if word.as_str() == "octets" => octets::try_files(rt, files),
         [word, words @ ..] if word.as_str() == "work" => work::perform(rt, words),
-        words => failing::perform(rt, words),
+        words => failures::perform(rt, words),
     }
 }

@@ -1,9 +1,9 @@
 //! Work for other programs to time or to read: readings, replies and tokens of one request, long heads, a database, and
 //! a desk for what its caller does.
-mod granting;
+mod grants;
 mod heads;
-mod reading;
-mod replying;
+mod replies;
+mod requests;
 mod sample;
 mod setting;
 
@@ -25,19 +25,19 @@ fn octets_of(rt: &HostRuntime, path: &str) -> io::Result<Vec<u8>> {
 /// Writes as many replies, by a certificate in a file.
 fn reply_by(rt: &HostRuntime, path: &str, count: u64) -> anyhow::Result<u64> {
     let certificate = octets_of(rt, path)?;
-    replying::replies(rt.alloc(), &certificate, count)
+    replies::replies(rt.alloc(), &certificate, count)
 }
 
 /// Does the work as many times as the words say, and tells how many times it was done.
 fn times_done(rt: &HostRuntime, words: &[String]) -> anyhow::Result<u64> {
     match words {
-        [what, count] if what.as_str() == "read" => Ok(reading::readings(number_of(count))),
+        [what, count] if what.as_str() == "read" => Ok(requests::readings(number_of(count))),
         [what, count] if what.as_str() == "reply" => {
-            replying::replies(rt.alloc(), CERTIFICATE, number_of(count))
+            replies::replies(rt.alloc(), CERTIFICATE, number_of(count))
         }
         [what, count, path] if what.as_str() == "reply" => reply_by(rt, path, number_of(count)),
         [what, count, path] if what.as_str() == "grant" => {
-            granting::grants(rt, path.as_str(), number_of(count))
+            grants::grants(rt, path.as_str(), number_of(count))
         }
         [what, count, fields] if what.as_str() == "head" => {
             heads::heads(rt.alloc(), number_of(count), size_of(fields), MOST_OCTETS)

@@ -11,7 +11,7 @@ use Rattle.tsp.specs.View.{extension_view}
 use Rattle.tsp.specs.declared.extensions.Extension.{Extension}
 use Rattle.tsp.proofs.RequestReads.{extensions_of-extension_nodes, all_allowed}
 use Rattle.tsp.proofs.RequestTakes.{extensions_takes}
-use Rattle.tsp.specs.Reading.{extension_of, extensions_of, some_extensions, extension_list_of}
+use Rattle.tsp.specs.Parser.{extension_of, extensions_of, some_extensions, extension_list_of}
 use Rattle.tsp.specs.ExtensionsInPlace.{extensions_in, AreExtensions}
 
 abbrev pub count_of : Nodes → ℕ

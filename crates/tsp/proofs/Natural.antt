@@ -11,8 +11,8 @@ use Rattle.std.proofs.lemmas.List.{length-take-le}
 use Rattle.der.specs.Node.{AreOctets}
 use Rattle.der.proofs.Octets.{AreOctets-take, AreOctets-at}
 use Rattle.der.specs.Number.{is_shortest, twos_value}
-use Rattle.tsp.specs.Reading.{integer_value_of}
-use Rattle.tsp.specs.TstReading.{natural, natural_of}
+use Rattle.tsp.specs.Parser.{integer_value_of}
+use Rattle.tsp.specs.TstParser.{natural, natural_of}
 
 -- fewer than eight octets are a number below 2 ^ 56
 pub prefix_small : (os : List ℕ) (i n : ℕ) → ((k : ℕ) → get_or os k 0 < 256) → i < length os → length os ≤ 8

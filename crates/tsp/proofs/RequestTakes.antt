@@ -16,9 +16,9 @@ use Rattle.der.proofs.OidContents.{oid_of-some}
 use Rattle.tsp.specs.Grammar.{integer, boolean, octet_string, object_identifier, sequence, optional, false_by_default}
 use Rattle.tsp.specs.Request.{ImprintValue, ExtensionValue, RequestValue, IsRequest, Stated, message_imprint, extension}
 use Rattle.tsp.specs.Request.{extension_nodes, extensions_under, time_stamp_req}
-use Rattle.tsp.specs.Reading.{integer_value_of, integer_of, truth_of, boolean_of, stated_of, oid_in, only, end_of}
-use Rattle.tsp.specs.Reading.{optional_of, optional_at, flag_at, parameters_of, algorithm_of, imprint_of, extension_of}
-use Rattle.tsp.specs.Reading.{extensions_of, some_extensions, extension_list_of, extensions_at, request_of}
+use Rattle.tsp.specs.Parser.{integer_value_of, integer_of, truth_of, boolean_of, stated_of, oid_in, only, end_of}
+use Rattle.tsp.specs.Parser.{optional_of, optional_at, flag_at, parameters_of, algorithm_of, imprint_of, extension_of}
+use Rattle.tsp.specs.Parser.{extensions_of, some_extensions, extension_list_of, extensions_at, request_of}
 use Rattle.tsp.proofs.Components.{before, nodes-append, contents_takes, components_takes, front_takes}
 use Rattle.tsp.proofs.RequestReads.{before-none, request_tail, IsAllowed}
 

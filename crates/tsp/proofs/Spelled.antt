@@ -6,7 +6,7 @@ use Rattle.std.proofs.lemmas.Option.{same_Some, none-some}
 use Rattle.der.specs.Node.{Node, encoding, IsLawful}
 use Rattle.der.proofs.ReadingNodes.{encoding_ends}
 use Rattle.tsp.specs.Request.{RequestValue, Spells, time_stamp_req}
-use Rattle.tsp.specs.Reading.{request_of}
+use Rattle.tsp.specs.Parser.{request_of}
 use Rattle.tsp.specs.View.{request_view}
 use Rattle.tsp.specs.declared.request.Request.{Request}
 use Rattle.tsp.specs.declared.fault.TspFault.{TspFault}

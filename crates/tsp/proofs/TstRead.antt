@@ -9,11 +9,11 @@ use Rattle.gentime.specs.GenTime.{last_moment, text_of}
 use Rattle.der.proofs.ReadingNodes.{encoding_ends}
 use Rattle.gentime.proofs.Moments.{same_text}
 use Rattle.tsp.specs.Tst.{TstValue, IsName, IsTst, SpellsTst, tst_info}
-use Rattle.tsp.specs.TstReading.{TstParts, parts_of, parts_in, info_of}
+use Rattle.tsp.specs.TstParser.{TstParts, parts_of, parts_in, info_of}
 use Rattle.tsp.specs.TstView.{parts_view}
 use Rattle.tsp.specs.View.{tst_view}
 use Rattle.tsp.specs.declared.tst.TstInfo.{TstInfo}
-use Rattle.tsp.specs.declared.tst_reading.Parts.{Parts}
+use Rattle.tsp.specs.declared.tst_parser.Parts.{Parts}
 use Rattle.tsp.proofs.TstReads.{IsHead, parts_of-info_of}
 use Rattle.tsp.proofs.TstTakes.{parts_takes}
 

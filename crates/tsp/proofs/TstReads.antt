@@ -14,9 +14,9 @@ use Rattle.der.proofs.NumberContents.{twos_value-number_content, is_shortest-num
 use Rattle.tsp.specs.Grammar.{integer, object_identifier, optional, false_by_default}
 use Rattle.tsp.specs.Request.{message_imprint, extensions_under}
 use Rattle.tsp.specs.Tst.{IsName, accuracy_part, accuracy, tsa}
-use Rattle.tsp.specs.Reading.{integer_value_of, integer_of, only, end_of}
-use Rattle.tsp.specs.TstReading.{TstHead, TstParts, natural, natural_of, up_to, number_in, part_at, accuracy_of}
-use Rattle.tsp.specs.TstReading.{head_of, explicit_of, name_of, tsa_of, parts_of, info_of}
+use Rattle.tsp.specs.Parser.{integer_value_of, integer_of, only, end_of}
+use Rattle.tsp.specs.TstParser.{TstHead, TstParts, natural, natural_of, up_to, number_in, part_at, accuracy_of}
+use Rattle.tsp.specs.TstParser.{head_of, explicit_of, name_of, tsa_of, parts_of, info_of}
 use Rattle.tsp.proofs.Components.{before, nodes-append}
 use Rattle.tsp.proofs.RequestReads.{before-none, integer_of-integer, oid_in-object_identifier}
 use Rattle.tsp.proofs.RequestReads.{imprint_of-message_imprint, optional_at-some, optional_at-none}

@@ -13,10 +13,10 @@ use Rattle.der.specs.ObjectIdentifier.{IsOid}
 use Rattle.tsp.specs.Grammar.{integer, object_identifier, sequence, optional, false_by_default}
 use Rattle.tsp.specs.Request.{ExtensionValue, message_imprint, extension, extension_nodes, extensions_under}
 use Rattle.tsp.specs.Tst.{IsName, accuracy_part, accuracy, tsa}
-use Rattle.tsp.specs.Reading.{integer_value_of, integer_of, oid_in, only, imprint_of, optional_at, flag_at}
-use Rattle.tsp.specs.Reading.{extensions_at}
-use Rattle.tsp.specs.TstReading.{TstHead, TstParts, natural, natural_of, up_to, number_in, part_at, accuracy_of}
-use Rattle.tsp.specs.TstReading.{head_of, explicit_of, name_of, tsa_of, parts_of, info_of}
+use Rattle.tsp.specs.Parser.{integer_value_of, integer_of, oid_in, only, imprint_of, optional_at, flag_at}
+use Rattle.tsp.specs.Parser.{extensions_at}
+use Rattle.tsp.specs.TstParser.{TstHead, TstParts, natural, natural_of, up_to, number_in, part_at, accuracy_of}
+use Rattle.tsp.specs.TstParser.{head_of, explicit_of, name_of, tsa_of, parts_of, info_of}
 use Rattle.tsp.proofs.Components.{before, contents_takes, components_takes, front_takes}
 use Rattle.tsp.proofs.RequestReads.{before-none, IsAllowed}
 use Rattle.tsp.proofs.RequestTakes.{number_takes, integer_takes, oid_takes, imprint_takes, only_takes}

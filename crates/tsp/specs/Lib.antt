@@ -2,13 +2,13 @@ pub mod ExtensionsInPlace
 pub mod Fault
 pub mod Grammar
 pub mod Granted
-pub mod Reading
+pub mod Parser
 pub mod Rejection
 pub mod Request
 pub mod Rules
 pub mod RulesOfOctets
 pub mod Spellings
 pub mod Tst
-pub mod TstReading
+pub mod TstParser
 pub mod TstView
 pub mod View

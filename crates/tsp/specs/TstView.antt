@@ -1,10 +1,10 @@
 -- What the parts of a TSTInfo stand for while it is read.
 use Rattle.std.specs.Prelude.{option_map}
 use Rattle.der.specs.DataValueView.{value_view}
-use Rattle.tsp.specs.TstReading.{TstHead, TstParts}
+use Rattle.tsp.specs.TstParser.{TstHead, TstParts}
 use Rattle.tsp.specs.View.{imprint_view}
-use Rattle.tsp.specs.declared.tst_reading.Head.{Head}
-use Rattle.tsp.specs.declared.tst_reading.Parts.{Parts}
+use Rattle.tsp.specs.declared.tst_parser.Head.{Head}
+use Rattle.tsp.specs.declared.tst_parser.Parts.{Parts}
 
 abbrev pub head_view : Head → TstHead
 head_view head = record {

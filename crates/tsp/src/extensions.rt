@@ -6,7 +6,7 @@ ghost use Rattle.tsp.specs.View.{extension_view};
 ghost use Rattle.tsp.specs.ExtensionsInPlace.{extensions_in, AreExtensions};
 
 use crate::object_identifier::ObjectIdentifier;
-use crate::reading::extension_from;
+use crate::parser::extension_from;
 use der::DataValues;
 use std::marker::Model;
 
@@ -45,7 +45,7 @@ impl<'a> Model for Extensions<'a> {
 
 impl<'a> Extensions<'a> {
     /// No extension.
-    #[tactic(auto, unfolding(crate::specs::Reading::extensions_of, crate::specs::ExtensionsInPlace::extensions_in))]
+    #[tactic(auto, unfolding(crate::specs::Parser::extensions_of, crate::specs::ExtensionsInPlace::extensions_in))]
     pub(crate) fn none() -> Extensions<'a>
         ensures { result ≡ [] }
     {

@@ -1,7 +1,7 @@
 //! Integers where their contents octets lie.
 ghost use Rattle.std.specs.Prelude.{◌≡◌, pos};
 ghost use Rattle.der.specs.Number.{number_content};
-ghost use Rattle.tsp.specs.Reading.{integer_value_of};
+ghost use Rattle.tsp.specs.Parser.{integer_value_of};
 
 use der::is_number_content;
 use std::marker::Model;
@@ -25,7 +25,7 @@ impl<'a> Model for Integer<'a> {
 
 impl<'a> Integer<'a> {
     /// The number whose contents octets these are; none where they are not the fewest that have its value.
-    #[tactic(auto, unfolding(crate::specs::Reading::integer_value_of))]
+    #[tactic(auto, unfolding(crate::specs::Parser::integer_value_of))]
     pub fn from_content(content: &'a [u8]) -> Option<Integer<'a>>
         ensures { result ≡ integer_value_of content.now }
     {

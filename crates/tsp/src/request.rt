@@ -5,7 +5,7 @@ ghost use Rattle.der.specs.Number.{number_content};
 ghost use Rattle.der.specs.ObjectIdentifier.{IsOid, oid_content};
 ghost use Rattle.der.specs.DataValueView.{value_view};
 ghost use Rattle.gentime.specs.GenTime.{last_moment};
-ghost use Rattle.tsp.specs.Reading.{request_of, only};
+ghost use Rattle.tsp.specs.Parser.{request_of, only};
 ghost use Rattle.tsp.specs.Request.{RequestValue, IsRequest, unstated, time_stamp_req, sha256_request, Spells};
 ghost use Rattle.tsp.specs.Rules.{HasVersionOne, HasPlainParameters};
 ghost use Rattle.tsp.specs.Spellings.{HasNoFalse, AreRequest};
@@ -18,7 +18,7 @@ use crate::fault::TspFault;
 use crate::imprint::MessageImprint;
 use crate::integer::Integer;
 use crate::object_identifier::ObjectIdentifier;
-use crate::reading::{
+use crate::parser::{
     end, extensions, flag, imprint_from, integer_from, optional_integer, optional_oid,
 };
 use crate::tags::REQUEST_EXTENSIONS;
@@ -248,7 +248,7 @@ pub fn read_request(octets: &[u8]) -> Result<Request<'_>, TspFault>
 }
 
 /// The request that a value is.
-#[tactic(auto, unfolding(crate::specs::Reading::request_of, crate::specs::Reading::only))]
+#[tactic(auto, unfolding(crate::specs::Parser::request_of, crate::specs::Parser::only))]
 fn request_from(value: DataValue<'_>) -> Option<Request<'_>>
     ensures { option_map request_view result ≡ request_of (value_view value.entry) }
 {

@@ -1,5 +1,5 @@
 //! Elements, one after the other.
-use crate::vectors::writing::tag_of;
+use crate::vectors::encodings::tag_of;
 use der::{Cursor, DerFault, Element};
 use std::alloc::AllocError;
 use transcript::{Printer, Words};

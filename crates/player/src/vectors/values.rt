@@ -1,6 +1,6 @@
 //! Values under the Distinguished Encoding Rules, as both readers read them.
+use crate::vectors::encodings::tag_of;
 use crate::vectors::trees::is_tree;
-use crate::vectors::writing::tag_of;
 use der::{DataValue, DataValues, DerFault, Tree, check_values, read_tree, read_value};
 use std::alloc::{AllocError, Global};
 use transcript::{Printer, Words};

@@ -1,12 +1,12 @@
 //! `/calibrations`: the calibrations of the clock.
 ghost use Rattle.std.specs.Prelude.{◌≡◌};
-ghost use Rattle.service.specs.Handling.{Handles};
+ghost use Rattle.service.specs.Handlers.{Handles};
 ghost use Rattle.service.specs.Views.{request_view, IsInPlace};
 ghost use Rattle.service.specs.declared.routes.Action.TheVariants.{Calibrate};
 
 use crate::checks::calibration_asked;
 use crate::context::Context;
-use crate::responding::{refuse, write_added};
+use crate::responses::{refuse, write_added};
 use crate::served::Served;
 use book::Book;
 use cms::Signer;

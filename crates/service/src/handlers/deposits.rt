@@ -1,15 +1,15 @@
 //! `/deposits`: what is deposited.
 ghost use Rattle.std.specs.Prelude.{◌≡◌};
-ghost use Rattle.service.specs.Handling.{Handles};
+ghost use Rattle.service.specs.Handlers.{Handles};
 ghost use Rattle.service.specs.Views.{request_view, IsInPlace};
 ghost use Rattle.service.specs.declared.routes.Action.TheVariants.{Keep, List};
 
 use crate::answer::Media;
 use crate::checks::{account_and_reference, active_account};
 use crate::context::Context;
-use crate::listing::listed_lines;
+use crate::lists::listed_lines;
 use crate::refusal::Refusal;
-use crate::responding::{refuse, succeed, wanting, write_deposited};
+use crate::responses::{out_of_memory, refuse, succeed, write_deposited};
 use crate::served::Served;
 use book::Book;
 use cms::Signer;
@@ -62,6 +62,6 @@ pub(crate) fn list<W: Write, B: Book + Drop, G: Signer>(
     };
     match listed_lines(context.alloc, &rows) {
         Some(lines) => succeed(writer, context.at, Media::Text, &lines),
-        None => wanting(writer, context.at),
+        None => out_of_memory(writer, context.at),
     }
 }

@@ -1,13 +1,13 @@
 //! `/audit/{from}/{to}`: stamps by serial number, for auditors.
 ghost use Rattle.std.specs.Prelude.{◌≡◌};
-ghost use Rattle.service.specs.Handling.{Handles};
+ghost use Rattle.service.specs.Handlers.{Handles};
 ghost use Rattle.service.specs.Views.{request_view, IsInPlace};
 ghost use Rattle.service.specs.declared.routes.Action.TheVariants.{Extract};
 
 use crate::checks::account_and_range;
 use crate::context::Context;
-use crate::extracting::serve_extract;
-use crate::responding::refuse;
+use crate::extracts::serve_extract;
+use crate::responses::refuse;
 use crate::served::Served;
 use book::Book;
 use cms::Signer;

@@ -1,12 +1,12 @@
 //! `/holds`: the moments at which no token is given.
 ghost use Rattle.std.specs.Prelude.{◌≡◌};
-ghost use Rattle.service.specs.Handling.{Handles};
+ghost use Rattle.service.specs.Handlers.{Handles};
 ghost use Rattle.service.specs.Views.{request_view, IsInPlace};
 ghost use Rattle.service.specs.declared.routes.Action.TheVariants.{Hold};
 
 use crate::checks::hold_asked;
 use crate::context::Context;
-use crate::responding::{refuse, write_added};
+use crate::responses::{refuse, write_added};
 use crate::served::Served;
 use book::Book;
 use cms::Signer;

@@ -1,12 +1,12 @@
 //! `/deposits/{number}/readers/{name}`: the accounts that may see a deposit.
 ghost use Rattle.std.specs.Prelude.{◌≡◌};
-ghost use Rattle.service.specs.Handling.{Handles};
+ghost use Rattle.service.specs.Handlers.{Handles};
 ghost use Rattle.service.specs.Views.{request_view, IsInPlace};
 ghost use Rattle.service.specs.declared.routes.Action.TheVariants.{Grant, Revoke};
 
 use crate::checks::account_and_number;
 use crate::context::Context;
-use crate::responding::{refuse, write_done};
+use crate::responses::{refuse, write_done};
 use crate::served::Served;
 use book::Book;
 use cms::Signer;

@@ -1,12 +1,12 @@
 //! `/status`: the counter's state.
 ghost use Rattle.std.specs.Prelude.{◌≡◌};
-ghost use Rattle.service.specs.Handling.{Handles};
+ghost use Rattle.service.specs.Handlers.{Handles};
 ghost use Rattle.service.specs.Views.{request_view, IsInPlace};
 ghost use Rattle.service.specs.declared.routes.Action.TheVariants.{Status};
 
 use crate::checks::watcher_shown;
 use crate::context::Context;
-use crate::responding::refuse;
+use crate::responses::refuse;
 use crate::served::Served;
 use crate::status::serve_status;
 use book::Book;

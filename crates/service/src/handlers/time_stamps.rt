@@ -1,12 +1,12 @@
 //! `/tsp`: time-stamp requests (RFC 3161 3.4).
 ghost use Rattle.std.specs.Prelude.{◌≡◌};
-ghost use Rattle.service.specs.Handling.{Handles};
+ghost use Rattle.service.specs.Handlers.{Handles};
 ghost use Rattle.service.specs.Views.{request_view, IsInPlace};
 ghost use Rattle.service.specs.declared.routes.Action.TheVariants.{Stamp};
 
 use crate::checks::account_shown;
 use crate::context::Context;
-use crate::responding::{refuse, write_reply};
+use crate::responses::{refuse, write_reply};
 use crate::served::Served;
 use book::Book;
 use cms::Signer;

@@ -1,6 +1,6 @@
 //! `/deposits/{number}/token`: the token of a deposit.
 ghost use Rattle.std.specs.Prelude.{◌≡◌};
-ghost use Rattle.service.specs.Handling.{Handles};
+ghost use Rattle.service.specs.Handlers.{Handles};
 ghost use Rattle.service.specs.Views.{request_view, IsInPlace};
 ghost use Rattle.service.specs.declared.routes.Action.TheVariants.{Token};
 
@@ -8,7 +8,7 @@ use crate::answer::Media;
 use crate::checks::account_and_number;
 use crate::context::Context;
 use crate::refusal::Refusal;
-use crate::responding::{refuse, succeed};
+use crate::responses::{refuse, succeed};
 use crate::served::Served;
 use book::Book;
 use cms::Signer;

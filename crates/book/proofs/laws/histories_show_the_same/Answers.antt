@@ -1,5 +1,5 @@
 use Rattle.std.proofs.Common.{refl}
-use Rattle.book.proofs.Showing.{grant_shows, revocation_shows, shows_more}
+use Rattle.book.proofs.Shown.{grant_shows, revocation_shows, shows_more}
 use Rattle.book.proofs.laws.histories_show_the_same.Goals as goal
 
 pub returns-clause-granted : goal.returns-clause-granted

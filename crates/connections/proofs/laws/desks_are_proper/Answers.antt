@@ -1,6 +1,6 @@
 use Rattle.std.proofs.Common.{subst}
 use Rattle.desk.specs.Asked.{answers_view}
-use Rattle.desk.specs.Runs.{IsProper}
+use Rattle.desk.specs.MachineRuns.{IsProper}
 use Rattle.connections.proofs.ProperLemmas.{no_run}
 use Rattle.connections.proofs.laws.desks_are_proper.Goals as goal
 

@@ -1,5 +1,5 @@
 use Rattle.std.proofs.Common.{arith}
-use Rattle.console.proofs.Writing.{digit_line, eleven_line, ten_line}
+use Rattle.console.proofs.Writes.{digit_line, eleven_line, ten_line}
 use Rattle.console.proofs.fault.line_end.Goals as goal
 
 pub returns-in-0 : goal.returns-in-0

@@ -1,5 +1,5 @@
 use Rattle.tsp.specs.View.{request_view}
-use Rattle.console.proofs.Judging.{all_hold}
+use Rattle.console.proofs.Judgement.{all_hold}
 use Rattle.console.proofs.rules.first_failing.Goals as goal
 
 pub returns : goal.returns

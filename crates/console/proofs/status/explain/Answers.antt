@@ -1,5 +1,5 @@
 use Rattle.std.proofs.Common.{inr, refl}
-use Rattle.console.proofs.Writing.{begins_whatever, whole_whatever}
+use Rattle.console.proofs.Writes.{begins_whatever, whole_whatever}
 use Rattle.console.specs.declared.fault.InputFault.TheVariants.{Memory}
 use Rattle.console.proofs.status.explain.Goals as goal
 

@@ -6,15 +6,15 @@ use Rattle.console.specs.Settings.{settings_value}
 use Rattle.console.specs.declared.fault.Fault.TheVariants.{Input}
 use Rattle.console.proofs.tst.answer_tst.Goals as goal
 
-pub returns-in_err-write_octets-clause-kept : goal.returns-in_err-write_octets-clause-kept
-returns-in_err-write_octets-clause-kept g c =
-    let failing = err_from_is_err_and c.from_residual-in_err-write_octets.result
-    c.from_residual-in_err-write_octets.ensures.1 in
+pub returns-in_err-write_hexadecimal-clause-kept : goal.returns-in_err-write_hexadecimal-clause-kept
+returns-in_err-write_hexadecimal-clause-kept g c =
+    let failing = err_from_is_err_and c.from_residual-in_err-write_hexadecimal.result
+    c.from_residual-in_err-write_hexadecimal.ensures.1 in
     let reply = c.in_ok-reply.reply.items in
     rw failing.1
-    (elim c.in_err-write_octets.ensures.faults [
+    (elim c.in_err-write_hexadecimal.ensures.faults [
       | inl failed ↦
-          let begun = rw c.as_slice-2.ensures.value at c.in_err-write_octets.ensures.begun (ap Err failed) in
+          let begun = rw c.as_slice-2.ensures.value at c.in_err-write_hexadecimal.ensures.begun (ap Err failed) in
           inr (
             failing.2 ∙ ap Input failed,
             IfSome_then (g.I.Read.remaining c.args.input.now) c.in_ok-query.ensures.found
@@ -32,5 +32,5 @@ returns-in_err-write_octets-clause-kept g c =
                   begun,
                 )),
           )
-      | inr memory ↦ inl (c.in_err-write_octets.ensures.kept (ap Err memory))
+      | inr memory ↦ inl (c.in_err-write_hexadecimal.ensures.kept (ap Err memory))
     ])

@@ -5,7 +5,7 @@ use Rattle.tsp.specs.View.{request_view}
 use Rattle.tsp.specs.declared.rule.Rule.TheVariants.{Spelling}
 use Rattle.console.specs.Settings.{settings_value}
 use Rattle.console.specs.declared.fault.Fault.TheVariants.{Tsp}
-use Rattle.console.proofs.Judging.{only_request, lifted, granted, rejected, first_lifted, spelling_fails}
+use Rattle.console.proofs.Judgement.{only_request, lifted, granted, rejected, first_lifted, spelling_fails}
 use Rattle.console.proofs.tst.tst_reply.Goals as goal
 
 pub write_reply-requires-clause-lawful : goal.write_reply-requires-clause-lawful

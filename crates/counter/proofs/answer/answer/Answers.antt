@@ -14,7 +14,7 @@ use Rattle.tsp.specs.declared.rule.Rule.{Rule}
 use Rattle.counter.specs.Desks.{IsSettingOf}
 use Rattle.counter.specs.Fault.{fault_of_operation}
 use Rattle.counter.specs.Replies.{IsReplyOf, octets_of}
-use Rattle.counter.proofs.Operating.{both, told}
+use Rattle.counter.proofs.Operations.{both, told}
 use Rattle.counter.proofs.answer.answer.Goals as goal
 
 rejected_octets : (reply : Reply) (rule : Rule) → reply_as reply ≡ answer.Rejected rule

@@ -1,5 +1,5 @@
 use Rattle.std.proofs.Common.{refl}
-use Rattle.console.proofs.Writing.{appends_nothing}
+use Rattle.console.proofs.Writes.{appends_nothing}
 use Rattle.counter.proofs.run.run_word.Goals as goal
 
 pub returns-in_ok-migrate-in-Migrate-clause-done : goal.returns-in_ok-migrate-in-Migrate-clause-done

@@ -1,6 +1,6 @@
 use Rattle.std.proofs.Common.{inl, inr}
 use Rattle.command_line.specs.Words.{texts_of}
-use Rattle.counter.proofs.Auditing.{audit_or_not, failing_or_not, failing_told, failing_kept, cut_told, cut_kept}
+use Rattle.counter.proofs.Audits.{audit_or_not, failing_or_not, failing_told, failing_kept, cut_told, cut_kept}
 use Rattle.counter.proofs.run.run_words.Goals as goal
 
 pub returns-in-Ok-run_word-clause-told : goal.returns-in-Ok-run_word-clause-told

@@ -1,7 +1,7 @@
 use Rattle.std.proofs.Common.{option_map}
 use Rattle.policy.specs.View.{policy_view, account_view}
 use Rattle.tsp.specs.View.{request_view}
-use Rattle.decide.proofs.Judging.{clock_fails, quota_fails, all_hold, refuted}
+use Rattle.decide.proofs.Judgement.{clock_fails, quota_fails, all_hold, refuted}
 use Rattle.decide.proofs.judge.decide.Goals as goal
 
 pub returns-in_default-clause-verdict : goal.returns-in_default-clause-verdict

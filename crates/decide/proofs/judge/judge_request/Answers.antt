@@ -1,7 +1,7 @@
 use Rattle.policy.specs.View.{policy_view}
 use Rattle.tsp.specs.View.{request_view}
 use Rattle.decide.specs.View.{account_asked}
-use Rattle.decide.proofs.Judging.{judged_number}
+use Rattle.decide.proofs.Judgement.{judged_number}
 use Rattle.decide.proofs.judge.judge_request.Goals as goal
 
 pub returns-in-Err-clause-number : goal.returns-in-Err-clause-number

@@ -1,8 +1,8 @@
 use Rattle.std.proofs.Common.{Some}
 use Rattle.policy.specs.View.{policy_view, account_view}
 use Rattle.tsp.specs.View.{request_view}
-use Rattle.decide.proofs.Judging.{after_length, after_policy, after_algorithm, after_extensions, algorithm_fails}
-use Rattle.decide.proofs.Judging.{extensions_fail, certificate_fails, judged_all, refuted}
+use Rattle.decide.proofs.Judgement.{after_length, after_policy, after_algorithm, after_extensions, algorithm_fails}
+use Rattle.decide.proofs.Judgement.{extensions_fail, certificate_fails, judged_all, refuted}
 use Rattle.decide.proofs.judge.judged.Goals as goal
 
 pub returns-in_default-accepted_policy : goal.returns-in_default-accepted_policy

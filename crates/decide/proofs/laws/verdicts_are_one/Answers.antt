@@ -1,4 +1,4 @@
-use Rattle.decide.proofs.Judging.{first_lifted, clock_fails, quota_fails, all_hold, one_verdict, one_judged}
+use Rattle.decide.proofs.Judgement.{first_lifted, clock_fails, quota_fails, all_hold, one_verdict, one_judged}
 use Rattle.decide.proofs.laws.verdicts_are_one.Goals as goal
 
 pub returns : goal.returns

@@ -1,6 +1,6 @@
 use Rattle.std.proofs.Common.{◌≡◌, ◌+◌, ◌-◌, ◌*◌, slice_index_or, refl, arith}
-use Rattle.der.proofs.OidReading.{read_none, refused_large, refused_padded, tells_refused, tells_at_end}
-use Rattle.der.proofs.OidReading.{tells_others_at_end, tells_none}
+use Rattle.der.proofs.OidLoop.{read_none, refused_large, refused_padded, tells_refused, tells_at_end}
+use Rattle.der.proofs.OidLoop.{tells_others_at_end, tells_none}
 use Rattle.der.proofs.oid.is_oid_content.Goals as goal
 
 pub loop-octet-init : goal.loop-octet-init

@@ -1,4 +1,4 @@
-use Rattle.der.proofs.OidReading.{IsReadSoFar}
+use Rattle.der.proofs.OidLoop.{IsReadSoFar}
 use Rattle.der.proofs.oid.is_oid_content.Given as goal
 
 abbrev pub invariant-loop-octet : goal.invariant-loop-octet

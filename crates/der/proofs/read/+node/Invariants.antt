@@ -1,6 +1,6 @@
 use Rattle.std.proofs.Common.{◌≡◌, ◌≤◌, ◌+◌, ◌-◌, ◌*◌, length, map}
 use Rattle.der.specs.Tree.{view}
-use Rattle.der.specs.Reading.{node_at, nodes_with}
+use Rattle.der.specs.FirstFault.{node_at, nodes_with}
 use Rattle.der.proofs.ReadingRuns.{after_found}
 use Rattle.der.proofs.read.+node.Given as goal
 

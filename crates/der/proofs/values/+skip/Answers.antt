@@ -2,7 +2,7 @@ use Rattle.std.proofs.Common.{◌≡◌, ◌<◌, ◌==◌, true, false, length,
 use Rattle.std.proofs.lemmas.Result.{err_from_is_err_and}
 use Rattle.der.specs.Node.{bit_six}
 use Rattle.der.specs.Piece.{piece_view}
-use Rattle.der.specs.Reading.{values_at}
+use Rattle.der.specs.FirstFault.{values_at}
 use Rattle.der.proofs.Octets.{AreOctets-at}
 use Rattle.der.proofs.ReadingRuns.{node_at_none, node_at_refused}
 use Rattle.der.proofs.ValuesRead.{forget, forget_ok, forget_err, values_follow, values_fail, values_end, inner_fails}

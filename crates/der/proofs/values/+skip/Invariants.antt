@@ -1,6 +1,6 @@
 use Rattle.std.proofs.Common.{◌≡◌, ◌+◌, ◌*◌, length}
 use Rattle.der.specs.Node.{AreOctets}
-use Rattle.der.specs.Reading.{values_at}
+use Rattle.der.specs.FirstFault.{values_at}
 use Rattle.der.proofs.ValuesRead.{forget}
 use Rattle.der.proofs.values.+skip.Given as goal
 

@@ -1,7 +1,7 @@
 use Rattle.std.proofs.Common.{◌≡◌, ◌<◌, length, arith, sym, ap, ◌∙◌}
 use Rattle.std.proofs.lemmas.Result.{err_from_is_err_and}
 use Rattle.der.specs.Node.{Node}
-use Rattle.der.specs.Reading.{tree_of}
+use Rattle.der.specs.FirstFault.{tree_of}
 use Rattle.der.proofs.Octets.{AreOctets-at}
 use Rattle.der.proofs.ReadingSteps.{ok_is}
 use Rattle.der.proofs.ReadingNodes.{tree_of-encoding}

@@ -6,11 +6,11 @@ use Rattle.desk.specs.Answers.{reply_as}
 use Rattle.desk.specs.Batches.{stamp_for}
 use Rattle.desk.specs.Calls.{settings_view}
 use Rattle.desk.specs.Command.{Stamp}
-use Rattle.desk.specs.Ran.{AreSteps}
-use Rattle.desk.specs.Stepped.{IsBareStep, with_signer}
+use Rattle.desk.specs.RunContract.{AreSteps}
+use Rattle.desk.specs.CallContract.{IsBareStep, with_signer}
 use Rattle.desk.specs.Together.{question_view}
 use Rattle.desk.proofs.RunsOn.{steps_more}
-use Rattle.desk.proofs.Turning.{stamps_are}
+use Rattle.desk.proofs.Turns.{stamps_are}
 use Rattle.desk.proofs.batch.answer_in_turn.Goals as goal
 
 pub loop-question-init : goal.loop-question-init

@@ -4,7 +4,7 @@ use Rattle.desk.specs.Answers.{reply_as}
 use Rattle.desk.specs.Batches.{stamp_for}
 use Rattle.desk.specs.Calls.{settings_view}
 use Rattle.desk.specs.Outcome.{Outcome}
-use Rattle.desk.specs.Ran.{AreSteps}
+use Rattle.desk.specs.RunContract.{AreSteps}
 use Rattle.desk.specs.Together.{question_view}
 use Rattle.desk.proofs.batch.answer_in_turn.Given as goal
 

@@ -6,12 +6,12 @@ use Rattle.desk.specs.Batches.{stamps_for}
 use Rattle.desk.specs.Calls.{settings_view}
 use Rattle.desk.specs.Completions.{CompletesEach}
 use Rattle.desk.specs.Together.{question_view, questions_view, merged, IsAnsweredTogether}
-use Rattle.desk.specs.Waiting.{pendings_in}
-use Rattle.desk.proofs.Assembling.{assembled}
+use Rattle.desk.specs.WaitingStamps.{pendings_in}
+use Rattle.desk.proofs.Assembly.{assembled}
 use Rattle.desk.proofs.Batches.{ShowLaws}
 use Rattle.desk.proofs.RunsOn.{honest_before}
 use Rattle.desk.proofs.Sound.{TextLaws}
-use Rattle.desk.proofs.Turning.{turned, split_few, split_many}
+use Rattle.desk.proofs.Turns.{turned, split_few, split_many}
 use Rattle.desk.proofs.batch.answer_together.Goals.{in-Ok, in-Err}
 use Rattle.desk.proofs.batch.answer_together.Goals as goal
 

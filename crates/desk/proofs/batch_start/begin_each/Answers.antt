@@ -4,9 +4,9 @@ use Rattle.book.specs.Sound.{IsSound}
 use Rattle.book.specs.Stands.{Stands}
 use Rattle.desk.specs.Calls.{settings_view}
 use Rattle.desk.specs.Together.{questions_view}
-use Rattle.desk.specs.Waiting.{waiting_view, with_waiting}
+use Rattle.desk.specs.WaitingStamps.{waiting_view, with_waiting}
 use Rattle.desk.proofs.Batches.{fit_each}
-use Rattle.desk.proofs.Judging.{judged_sound}
+use Rattle.desk.proofs.BatchJudgement.{judged_sound}
 use Rattle.desk.proofs.batch_start.begin_each.Goals as goal
 
 pub returns-in-Ok-reserve_each-clause-reserved : goal.returns-in-Ok-reserve_each-clause-reserved

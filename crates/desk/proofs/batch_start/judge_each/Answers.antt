@@ -4,10 +4,10 @@ use Rattle.std.specs.Prelude.{vec_capacity}
 use Rattle.book.specs.Sound.{IsSound}
 use Rattle.desk.specs.Calls.{settings_view}
 use Rattle.desk.specs.Together.{question_view, questions_view, IsJudgedAs, HasItsText, AreJudged, AreSplit}
-use Rattle.desk.specs.Waiting.{with_waiting, HasText}
+use Rattle.desk.specs.WaitingStamps.{with_waiting, HasText}
 use Rattle.desk.proofs.Judgement.{looks_then}
-use Rattle.desk.proofs.Judging.{judged_sound, judged_failing, judged_waiting, split_failing, split_waiting}
-use Rattle.desk.proofs.Judging.{all_more, both}
+use Rattle.desk.proofs.BatchJudgement.{judged_sound, judged_failing, judged_waiting, split_failing, split_waiting}
+use Rattle.desk.proofs.BatchJudgement.{all_more, both}
 use Rattle.desk.proofs.batch_start.judge_each.Goals.{in-Fails, in-Waits}
 use Rattle.desk.proofs.batch_start.judge_each.Goals as goal
 

@@ -5,7 +5,7 @@ use Rattle.book.specs.History.{History}
 use Rattle.book.specs.Stands.{Stands, OnlyLooks}
 use Rattle.desk.specs.Calls.{settings_view}
 use Rattle.desk.specs.Together.{questions_view, AreJudged, AreSplit}
-use Rattle.desk.specs.Waiting.{HasText}
+use Rattle.desk.specs.WaitingStamps.{HasText}
 use Rattle.desk.proofs.batch_start.judge_each.Given as goal
 
 abbrev pub invariant-loop-question : goal.invariant-loop-question

@@ -5,9 +5,9 @@ use Rattle.desk.specs.Calls.{settings_view, plan_of, finding_of, HasLast}
 use Rattle.desk.specs.Findings.{Finds}
 use Rattle.desk.specs.Outcome.{all_fine}
 use Rattle.desk.specs.Together.{question_view}
-use Rattle.desk.specs.Waiting.{with_waiting}
-use Rattle.desk.specs.declared.finding.Found.{Found}
-use Rattle.desk.proofs.Judging.{awaits, has_text}
+use Rattle.desk.specs.WaitingStamps.{with_waiting}
+use Rattle.desk.specs.declared.findings.Judgement.{Judgement}
+use Rattle.desk.proofs.BatchJudgement.{awaits, has_text}
 use Rattle.desk.proofs.batch_start.judge_one.Goals as goal
 
 pub returns-in-Ok-Fails-clause-judges : goal.returns-in-Ok-Fails-clause-judges
@@ -17,7 +17,7 @@ returns-in-Ok-Fails-clause-judges g c honest b st sound =
     let account = account_asked c.args.asked.account in
     let octets = c.args.asked.query.now in
     let d = with_waiting c.args.waits.now b in
-    subst (λ (f : Found). Finds s.file account c.args.asked.reading octets (all_fine (Ok [])) d (finding_of (Ok f)))
+    subst (λ (f : Judgement). Finds s.file account c.args.asked.reading octets (all_fine (Ok [])) d (finding_of (Ok f)))
     c.in-Ok-Fails.field-0-is
     (subst (λ x. Finds s.file account x octets (all_fine (Ok [])) d (finding_of (Ok c.in-Ok-Fails.field-0)))
     (to_z-of_z reading) (c.in-Ok-Fails.ensures.finds honest b st sound))
@@ -32,8 +32,8 @@ returns-in-Ok-clause-judges g c honest b st sound =
     let planned = c.in-Ok-Allows.planned in
     awaits s (question_view c.args.asked) d (plan_of planned) planned.last
     (record { account = c.name_of.result; query = c.args.asked.query; prepared = c.in-Ok.prepared })
-    (subst (λ (f : Found). Finds s.file account c.args.asked.reading octets (all_fine (Ok [])) d (finding_of (Ok f)))
-    c.in-Ok-Allows.field-0-is
+    (subst (λ (f : Judgement). Finds s.file account c.args.asked.reading octets (all_fine (Ok [])) d
+    (finding_of (Ok f))) c.in-Ok-Allows.field-0-is
     (subst (λ x. Finds s.file account x octets (all_fine (Ok [])) d (finding_of (Ok c.in-Ok-Allows.field-0)))
     (to_z-of_z reading) (c.in-Ok-Allows.ensures.finds honest b st sound)))
     (sym (subst (HasLast (greatest_serial d)) c.in-Ok-Allows.field-0-is

@@ -6,8 +6,8 @@ use Rattle.desk.specs.Calls.{settings_view}
 use Rattle.desk.specs.Completions.{SealsEach}
 use Rattle.desk.specs.Written.{IsRefusedTogether}
 use Rattle.desk.specs.Outcome.{Fine}
-use Rattle.desk.specs.Waiting.{pendings_in}
-use Rattle.desk.proofs.Completing.{texts_written, counts_each, completes, completes_after}
+use Rattle.desk.specs.WaitingStamps.{pendings_in}
+use Rattle.desk.proofs.CompletionLemmas.{texts_written, counts_each, completes, completes_after}
 use Rattle.desk.proofs.completion.complete_each.Goals as goal
 
 pub returns-in-Some-seal_together-clause-completes : goal.returns-in-Some-seal_together-clause-completes

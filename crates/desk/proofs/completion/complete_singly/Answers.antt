@@ -5,8 +5,8 @@ use Rattle.desk.specs.Answers.{reply_as}
 use Rattle.desk.specs.Calls.{settings_view}
 use Rattle.desk.specs.Completions.{SealsEach, CompletesEach}
 use Rattle.desk.specs.Outcome.{Fine}
-use Rattle.desk.specs.Waiting.{pending_in, pendings_in, HasText}
-use Rattle.desk.proofs.Completing.{seals_none, seals_signed, signs_next, count_next, holds_at, completes}
+use Rattle.desk.specs.WaitingStamps.{pending_in, pendings_in, HasText}
+use Rattle.desk.proofs.CompletionLemmas.{seals_none, seals_signed, signs_next, count_next, holds_at, completes}
 use Rattle.desk.proofs.completion.complete_singly.Goals as goal
 
 pub loop-waiting-init : goal.loop-waiting-init

@@ -6,7 +6,7 @@ use Rattle.desk.specs.Answers.{reply_as}
 use Rattle.desk.specs.Calls.{settings_view}
 use Rattle.desk.specs.Completions.{texts_of, SealsEach}
 use Rattle.desk.specs.Outcome.{Outcome}
-use Rattle.desk.specs.Waiting.{pendings_in}
+use Rattle.desk.specs.WaitingStamps.{pendings_in}
 use Rattle.desk.proofs.completion.complete_singly.Given as goal
 
 abbrev pub invariant-loop-waiting : goal.invariant-loop-waiting

@@ -5,9 +5,9 @@ use Rattle.desk.specs.Command.{Answer}
 use Rattle.desk.specs.Completions.{SealsEach}
 use Rattle.desk.specs.Written.{unwritten}
 use Rattle.desk.specs.Outcome.{all_fine}
-use Rattle.desk.specs.Waiting.{pending_in}
-use Rattle.desk.specs.declared.refusal.Refusal.TheVariants as refusal
-use Rattle.desk.proofs.Completing.{seals_nothing, sealed_one, refused_one}
+use Rattle.desk.specs.WaitingStamps.{pending_in}
+use Rattle.desk.specs.declared.refusal.StampRefusal.TheVariants as refusal
+use Rattle.desk.proofs.CompletionLemmas.{seals_nothing, sealed_one, refused_one}
 use Rattle.desk.proofs.completion.finish.Goals as goal
 
 pub returns-in_default-clause-seals : goal.returns-in_default-clause-seals

@@ -2,8 +2,8 @@ use Rattle.std.proofs.Common.{◌+◌, ◌∙◌, ◌++◌, ◌∷◌, [], ap, a
 use Rattle.cms.specs.Signer.{signed_by}
 use Rattle.desk.specs.Answers.{reply_as}
 use Rattle.desk.specs.Calls.{settings_view}
-use Rattle.desk.specs.Waiting.{pending_in}
-use Rattle.desk.proofs.Completing.{seals_next}
+use Rattle.desk.specs.WaitingStamps.{pending_in}
+use Rattle.desk.proofs.CompletionLemmas.{seals_next}
 use Rattle.desk.proofs.completion.finish_each.Goals as goal
 
 pub loop-index-preserved : goal.loop-index-preserved

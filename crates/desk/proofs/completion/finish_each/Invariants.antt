@@ -5,7 +5,7 @@ use Rattle.desk.specs.Answers.{reply_as}
 use Rattle.desk.specs.Calls.{settings_view}
 use Rattle.desk.specs.Completions.{SealsEach}
 use Rattle.desk.specs.Outcome.{Outcome}
-use Rattle.desk.specs.Waiting.{pendings_in}
+use Rattle.desk.specs.WaitingStamps.{pendings_in}
 use Rattle.desk.proofs.completion.finish_each.Given as goal
 
 abbrev pub invariant-loop-index : goal.invariant-loop-index

@@ -2,8 +2,8 @@ use Rattle.std.proofs.Common.{map, refl}
 use Rattle.cms.specs.Signer.{signed_by}
 use Rattle.desk.specs.Calls.{settings_view}
 use Rattle.desk.specs.Written.{seal_view}
-use Rattle.desk.specs.Waiting.{pending_in}
-use Rattle.desk.proofs.Completing.{more_sealed, more_void}
+use Rattle.desk.specs.WaitingStamps.{pending_in}
+use Rattle.desk.proofs.CompletionLemmas.{more_sealed, more_void}
 use Rattle.desk.proofs.completion.put.Goals as goal
 
 pub returns-in-Some-clause-written : goal.returns-in-Some-clause-written

@@ -5,9 +5,9 @@ use Rattle.cms.specs.Signer.{signed_by}
 use Rattle.desk.specs.Answers.{reply_as}
 use Rattle.desk.specs.Calls.{call_of, settings_view}
 use Rattle.desk.specs.Written.{seal_view}
-use Rattle.desk.specs.Waiting.{pendings_in}
+use Rattle.desk.specs.WaitingStamps.{pendings_in}
 use Rattle.desk.specs.declared.completion.Seal.{Seal}
-use Rattle.desk.proofs.Completing.{sealed_together, refused_together, entries_of_seals}
+use Rattle.desk.proofs.CompletionLemmas.{sealed_together, refused_together, entries_of_seals}
 use Rattle.desk.proofs.completion.seal_together.Goals as goal
 
 pub returns-in-Ok-append-clause-sealed : goal.returns-in-Ok-append-clause-sealed

@@ -3,8 +3,8 @@ use Rattle.cms.specs.Signer.{signed_by}
 use Rattle.desk.specs.Answers.{reply_as}
 use Rattle.desk.specs.Calls.{settings_view}
 use Rattle.desk.specs.Written.{seal_view}
-use Rattle.desk.specs.Waiting.{pending_in}
-use Rattle.desk.proofs.Completing.{written_next}
+use Rattle.desk.specs.WaitingStamps.{pending_in}
+use Rattle.desk.proofs.CompletionLemmas.{written_next}
 use Rattle.desk.proofs.completion.write_each.Goals as goal
 
 pub loop-index-preserved : goal.loop-index-preserved

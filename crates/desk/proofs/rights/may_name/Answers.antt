@@ -3,7 +3,7 @@ use Rattle.std.specs.Str.{bytes_eq}
 use Rattle.policy.specs.View.{policy_view}
 use Rattle.book.specs.Values.{deposit_view}
 use Rattle.book.specs.Entries.{reader_view}
-use Rattle.desk.proofs.Granting.{unseen_named, named_by, uncounted_by}
+use Rattle.desk.proofs.Grants.{unseen_named, named_by, uncounted_by}
 use Rattle.desk.proofs.rights.may_name.Goals as goal
 
 pub returns-in-Err-clause-may : goal.returns-in-Err-clause-may

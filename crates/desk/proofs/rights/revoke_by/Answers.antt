@@ -5,7 +5,7 @@ use Rattle.book.specs.History.{Revoked}
 use Rattle.desk.specs.Calls.{settings_view}
 use Rattle.desk.specs.Command.{Revoke}
 use Rattle.desk.specs.Obstacles.{MayName, MayNot}
-use Rattle.desk.proofs.Granting.{right_entered, right_denied, right_refused}
+use Rattle.desk.proofs.Grants.{right_entered, right_denied, right_refused}
 use Rattle.desk.proofs.rights.revoke_by.Goals as goal
 
 pub returns-in-Ok-append-clause-step : goal.returns-in-Ok-append-clause-step

@@ -1,7 +1,7 @@
 use Rattle.std.proofs.Common.{◌≡◌, ◌∙◌, arith, inr, subst, sym}
 use Rattle.service.specs.Known.{BeginsAt, IsBehind, IsKnown, IsShort, headless}
 use Rattle.service.specs.declared.known.Known.{Known}
-use Rattle.service.proofs.KnownLemmas.{begins_at, ends_behind, long_at, spoiled_at}
+use Rattle.service.proofs.KnownLemmas.{begins_at, ends_behind, long_at, malformed_at}
 use Rattle.service.proofs.known.known_of.Goals as goal
 
 pub known_by_head-requires : goal.known_by_head-requires
@@ -41,15 +41,15 @@ returns-in-Ok-Partial-2-clause-short c =
 
 pub returns-in-Err-clause-known : goal.returns-in-Err-clause-known
 returns-in-Err-clause-known c =
-    let P : Known → Type 0 = λ k. IsKnown c.args.octets.now c.spoiled_after.new.headers k in
+    let P : Known → Type 0 = λ k. IsKnown c.args.octets.now c.malformed_after.new.headers k in
     subst P (sym c.headless-in-Err.ensures)
-    (spoiled_at c.args.octets.now c.spoiled_after.new.headers c.spoiled_after.result c.spoiled_after.ensures.within
-    c.spoiled_after.ensures.headless)
+    (malformed_at c.args.octets.now c.malformed_after.new.headers c.malformed_after.result
+    c.malformed_after.ensures.within c.malformed_after.ensures.headless)
 
 pub returns-in-Err-clause-behind : goal.returns-in-Err-clause-behind
 returns-in-Err-clause-behind c =
     let P : Known → Type 0 = λ k. IsBehind c.args.before k in
-    subst P (sym c.headless-in-Err.ensures) c.spoiled_after.ensures.behind
+    subst P (sym c.headless-in-Err.ensures) c.malformed_after.ensures.behind
 
 pub returns-in-Err-clause-short : goal.returns-in-Err-clause-short
 returns-in-Err-clause-short c =

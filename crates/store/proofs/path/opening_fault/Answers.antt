@@ -1,5 +1,5 @@
 use Rattle.std.proofs.Common.{◌∙◌, sym, refl}
-use Rattle.store.proofs.Migrating.{told_not_ours}
+use Rattle.store.proofs.Migration.{told_not_ours}
 use Rattle.store.proofs.path.opening_fault.Goals as goal
 
 pub returns-clause-none : goal.returns-clause-none

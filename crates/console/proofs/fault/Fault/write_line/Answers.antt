@@ -1,6 +1,6 @@
 use Rattle.std.proofs.Common.{[], ◌∷◌, ◌++◌, inr}
 use Rattle.std.specs.Fmt.{decimal}
-use Rattle.console.proofs.Writing.{begins_after, begins_before, begins_whatever, whole_after}
+use Rattle.console.proofs.Writes.{begins_after, begins_before, begins_whatever, whole_after}
 use Rattle.console.specs.Fault.{line_beginning, number_of_fault}
 use Rattle.console.proofs.fault.Fault.write_line.Goals as goal
 

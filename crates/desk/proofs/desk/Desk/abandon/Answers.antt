@@ -2,7 +2,7 @@ use Rattle.std.proofs.Common.{[], Ok, refl, inl}
 use Rattle.desk.specs.Command.{Abandon, Done}
 use Rattle.desk.specs.Effects.{only}
 use Rattle.desk.specs.Outcome.{all_fine}
-use Rattle.desk.specs.Stepped.{no_signer}
+use Rattle.desk.specs.CallContract.{no_signer}
 use Rattle.desk.proofs.Opened.{promised}
 use Rattle.desk.proofs.desk.Desk.abandon.Goals as goal
 

@@ -3,7 +3,7 @@ use Rattle.decide.specs.View.{account_asked}
 use Rattle.desk.specs.Answers.{begun_as, answered, told}
 use Rattle.desk.specs.Calls.{outcome_of, settings_view}
 use Rattle.desk.specs.Command.{Begin, Refused}
-use Rattle.desk.specs.Stepped.{no_signer}
+use Rattle.desk.specs.CallContract.{no_signer}
 use Rattle.desk.proofs.Opened.{steps_opened}
 use Rattle.desk.proofs.desk.Desk.begin.Goals as goal
 use Rattle.desk.proofs.desk.Desk.begin.Goals.{in-Ok, in-Err}

@@ -2,7 +2,7 @@ use Rattle.std.proofs.Common.{◌≡◌, ◌∙◌, refl, sym, ap}
 use Rattle.desk.specs.Answers.{reply_as, answered, told}
 use Rattle.desk.specs.Calls.{outcome_of, settings_view}
 use Rattle.desk.specs.Command.{Finish, Refused}
-use Rattle.desk.specs.Stepped.{no_signer}
+use Rattle.desk.specs.CallContract.{no_signer}
 use Rattle.desk.proofs.Opened.{steps_opened}
 use Rattle.desk.proofs.desk.Desk.finish.Goals as goal
 use Rattle.desk.proofs.desk.Desk.finish.Goals.{in-Ok, in-Err}

@@ -5,7 +5,7 @@ use Rattle.desk.specs.Calls.{settings_view}
 use Rattle.desk.specs.Command.{Hold}
 use Rattle.desk.specs.Obstacles.{adding, outcome_with, told_with}
 use Rattle.desk.specs.Shown.{numbered_as}
-use Rattle.desk.specs.Stepped.{no_signer}
+use Rattle.desk.specs.CallContract.{no_signer}
 use Rattle.desk.proofs.Entered.{entered_as_told}
 use Rattle.desk.proofs.Opened.{steps_opened}
 use Rattle.desk.proofs.desk.Desk.hold.Goals as goal

@@ -5,7 +5,7 @@ use Rattle.desk.specs.Calls.{settings_view}
 use Rattle.desk.specs.Command.{ListAll, Refused}
 use Rattle.desk.specs.Obstacles.{outcome_with, told_with}
 use Rattle.desk.specs.Shown.{listed_as}
-use Rattle.desk.specs.Stepped.{no_signer}
+use Rattle.desk.specs.CallContract.{no_signer}
 use Rattle.desk.proofs.Opened.{steps_opened}
 use Rattle.desk.proofs.desk.Desk.list.Goals as goal
 use Rattle.desk.proofs.desk.Desk.list.Goals.{in-Ok, in-Err}

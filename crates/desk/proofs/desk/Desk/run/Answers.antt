@@ -1,8 +1,8 @@
 use Rattle.std.proofs.Common.{subst}
 use Rattle.desk.specs.Asked.{commands_view, answers_view}
 use Rattle.desk.specs.Calls.{settings_view}
-use Rattle.desk.specs.Ran.{IsRun}
-use Rattle.desk.specs.Stepped.{desk_of}
+use Rattle.desk.specs.RunContract.{IsRun}
+use Rattle.desk.specs.CallContract.{desk_of}
 use Rattle.desk.proofs.Sound.{TextLaws}
 use Rattle.desk.proofs.RunsOn.{honest_before, steps_run}
 use Rattle.desk.proofs.desk.Desk.run.Goals as goal

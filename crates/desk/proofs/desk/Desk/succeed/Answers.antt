@@ -1,5 +1,5 @@
 use Rattle.desk.specs.Calls.{in_force_of, settings_view}
-use Rattle.desk.specs.Stepped.{desk_of}
+use Rattle.desk.specs.CallContract.{desk_of}
 use Rattle.desk.proofs.Opened.{succeeds_by, succession_refused}
 use Rattle.desk.proofs.desk.Desk.succeed.Goals as goal
 

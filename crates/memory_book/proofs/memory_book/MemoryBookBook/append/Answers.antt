@@ -2,7 +2,7 @@ use Rattle.std.proofs.Common.{◌≡◌, inr, sym, subst, ◌∙◌}
 use Rattle.book.specs.Entries.{entries_view, with_all}
 use Rattle.book.specs.History.{History}
 use Rattle.book.specs.Shows.{ShowsSame}
-use Rattle.book.proofs.Showing.{shows_all, sound_all}
+use Rattle.book.proofs.Shown.{shows_all, sound_all}
 use Rattle.memory_book.specs.Entries.{history_of}
 use Rattle.memory_book.proofs.Changes.{added}
 use Rattle.memory_book.proofs.memory_book.MemoryBookBook.append.Goals as goal

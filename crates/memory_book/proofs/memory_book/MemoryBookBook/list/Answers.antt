@@ -2,7 +2,7 @@ use Rattle.std.proofs.Common.{map, ap, ◌∙◌}
 use Rattle.book.specs.History.{History, reservations}
 use Rattle.book.specs.Values.{viewer_of}
 use Rattle.memory_book.specs.Entries.{history_of}
-use Rattle.memory_book.specs.Listing.{listed_along}
+use Rattle.memory_book.specs.Sight.{listed_along}
 use Rattle.memory_book.proofs.Changes.{if_ok}
 use Rattle.memory_book.proofs.Numbers.{listed_is}
 use Rattle.memory_book.proofs.SameViews.{same_listed}

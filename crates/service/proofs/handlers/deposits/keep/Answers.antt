@@ -1,7 +1,7 @@
 use Rattle.std.proofs.Common.{ℤ, Ok, Err, refl, ap, subst, rules, SFits, w64, to_z-of_z}
 use Rattle.policy.specs.View.{account_view}
+use Rattle.desk.specs.CallContract.{IsStep, with_signer}
 use Rattle.desk.specs.Command.{Deposit, Kept, Refused}
-use Rattle.desk.specs.Stepped.{IsStep, with_signer}
 use Rattle.service.specs.Answers.{refusal_answer}
 use Rattle.service.specs.Views.{request_view, kept_answer}
 use Rattle.service.specs.Served.{plainly}

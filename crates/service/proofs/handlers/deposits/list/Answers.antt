@@ -40,6 +40,8 @@ pub returns-clause-served : goal.returns-clause-served
 returns-clause-served g c =
     let account = account_view c.in-Ok.asked.now in
     list_wanted g.B.Standing g.G.Signer.signs g.G.Signer.fault_count g.W.Write.contents (request_view c.args.context.now) action.List
-    c.args.writer.now c.wanting.new.writer c.args.desk.now c.list.new.self c.args._signer.now c.args._signer.now
-    c.wanting.result account (map listed_view c.in-Ok-list.rows.items) (rw c.deref.ensures.value at c.in-None.ensures)
-    (checks _ _ (Ok account) (rw c.policy.ensures at c.in-Ok.ensures)) (c.in-Ok-list.ensures.step, refl) c.wanting.ensures
+    c.args.writer.now c.out_of_memory.new.writer c.args.desk.now c.list.new.self c.args._signer.now c.args._signer.now
+    c.out_of_memory.result account (map listed_view c.in-Ok-list.rows.items)
+    (rw c.deref.ensures.value at c.in-None.ensures)
+    (checks _ _ (Ok account) (rw c.policy.ensures at c.in-Ok.ensures)) (c.in-Ok-list.ensures.step, refl)
+    c.out_of_memory.ensures

@@ -1,7 +1,7 @@
 use Rattle.std.proofs.Common.{◌≡◌, ◌∙◌, Ok, Err, refl, ap, subst}
 use Rattle.policy.specs.Record.{PolicyValue}
 use Rattle.policy.specs.View.{account_view, policy_view}
-use Rattle.service.specs.Extracting.{ServesExtract}
+use Rattle.service.specs.ExtractAnswers.{ServesExtract}
 use Rattle.service.specs.Views.{request_view}
 use Rattle.service.specs.declared.routes.Action.TheVariants as action
 use Rattle.service.proofs.HandledLemmas.{refused, extracted, checks}

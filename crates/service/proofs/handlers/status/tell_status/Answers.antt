@@ -1,6 +1,6 @@
 use Rattle.std.proofs.Common.{ℕ, Ok, Err, refl, subst}
 use Rattle.policy.specs.View.{account_view}
-use Rattle.service.specs.Telling.{ServesStatus}
+use Rattle.service.specs.StateAnswers.{ServesStatus}
 use Rattle.service.specs.Views.{request_view}
 use Rattle.service.specs.declared.routes.Action.TheVariants as action
 use Rattle.service.proofs.HandledLemmas.{refused, status_told, checks}

@@ -1,8 +1,8 @@
 use Rattle.std.proofs.Common.{ℤ, Ok, Err, refl, subst, rules, SFits, w64, to_z-of_z}
 use Rattle.decide.specs.View.{account_asked}
 use Rattle.desk.specs.Answers.{reply_as}
+use Rattle.desk.specs.CallContract.{IsStep, with_signer}
 use Rattle.desk.specs.Command.{Stamp}
-use Rattle.desk.specs.Stepped.{IsStep, with_signer}
 use Rattle.service.specs.Views.{request_view, stamp_answer}
 use Rattle.service.specs.declared.routes.Action.TheVariants as action
 use Rattle.service.proofs.HandledLemmas.{refused, told, checks, stamp_told}

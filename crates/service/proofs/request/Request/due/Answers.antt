@@ -26,7 +26,7 @@ returns-in-Parsed-clause-due c =
     let V : ReceivedValue → Type 0 = λ v. IsDue v (due.Refusal c.cut-in-Parsed.result) in
     subst V (ap (λ k. received r.room.items r.filled k r.is_ended) (sym c.in-Parsed.is) ∙ c.self.view_is)
     (due_in_body r.room.items r.headers r.filled c.in-Parsed.parsed r.is_ended c.cut-in-Parsed.result kept
-    c.if-self-parsed.true c.cut-in-Parsed.ensures.ended c.cut-in-Parsed.ensures.wanting)
+    c.if-self-parsed.true c.cut-in-Parsed.ensures.ended c.cut-in-Parsed.ensures.out_of_memory)
 
 pub returns-in-Parsed-2-clause-due : goal.returns-in-Parsed-2-clause-due
 returns-in-Parsed-2-clause-due c =

@@ -1,5 +1,5 @@
 use Rattle.sqlite.specs.Files.{over_files}
-use Rattle.store.proofs.Making.{made_of_none}
+use Rattle.store.proofs.Creation.{made_of_none}
 use Rattle.store.proofs.path.Store+FileStore+FileFrom+T.make.Goals as goal
 
 pub returns-clause-made : goal.returns-clause-made

@@ -3,7 +3,7 @@ use Rattle.std.proofs.lemmas.List.{length-map}
 use Rattle.book.specs.History.{History, holds}
 use Rattle.book.specs.History.{HoldValue}
 use Rattle.book.specs.Values.{hold_view}
-use Rattle.store.proofs.Gathering.{HasGathered, nothing_gathered, one_gathered, one_more, all_gathered}
+use Rattle.store.proofs.Gathered.{HasGathered, nothing_gathered, one_gathered, one_more, all_gathered}
 use Rattle.store.proofs.Walk.{looks_after}
 use Rattle.store.proofs.store.Store.holds.Goals as goal
 

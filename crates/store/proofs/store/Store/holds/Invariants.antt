@@ -2,7 +2,7 @@
 use Rattle.std.proofs.Common.{◌-◌, ◌^◌, length, map, reverse}
 use Rattle.book.specs.History.{holds}
 use Rattle.book.specs.Values.{hold_view}
-use Rattle.store.proofs.Gathering.{HasGathered}
+use Rattle.store.proofs.Gathered.{HasGathered}
 use Rattle.store.proofs.store.Store.holds.Given as goal
 
 abbrev pub invariant-loop-holds : goal.invariant-loop-holds

@@ -1,6 +1,6 @@
 use Rattle.book.specs.Entries.{reader_view}
 use Rattle.store.proofs.Calls.{looks_now, kept_seen}
-use Rattle.store.proofs.Listing.{right_view}
+use Rattle.store.proofs.Lists.{right_view}
 use Rattle.store.proofs.store.Store.next_right.Goals as goal
 
 pub returns-in_err-next-clause-looks : goal.returns-in_err-next-clause-looks

@@ -3,7 +3,7 @@ use Rattle.std.proofs.lemmas.List.{length-map}
 use Rattle.book.specs.Values.{viewer_of}
 use Rattle.store.specs.Steps.{IsNextSeen, least_of, later_of}
 use Rattle.store.proofs.Calls.{looks_now, kept_seen, no_answer}
-use Rattle.store.proofs.Listing.{next_view, later_view}
+use Rattle.store.proofs.Lists.{next_view, later_view}
 use Rattle.store.proofs.Walk.{looks_after}
 use Rattle.store.proofs.store.Store.next_seen.Goals as goal
 

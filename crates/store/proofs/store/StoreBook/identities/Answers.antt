@@ -2,7 +2,7 @@ use Rattle.std.proofs.Common.{◌≡◌, ◌∙◌, map, option_map, slice_get, 
 use Rattle.std.proofs.lemmas.List.{length-map}
 use Rattle.book.specs.Identities.{identities}
 use Rattle.book.specs.Values.{identity_view}
-use Rattle.store.proofs.Gathering.{HasGathered, nothing_gathered, one_gathered, one_more, all_gathered}
+use Rattle.store.proofs.Gathered.{HasGathered, nothing_gathered, one_gathered, one_more, all_gathered}
 use Rattle.store.proofs.Walk.{looks_after}
 use Rattle.store.proofs.store.StoreBook.identities.Goals as goal
 

@@ -2,7 +2,7 @@
 use Rattle.std.proofs.Common.{◌-◌, ◌^◌, length, map}
 use Rattle.book.specs.Identities.{identities}
 use Rattle.book.specs.Values.{identity_view}
-use Rattle.store.proofs.Gathering.{HasGathered}
+use Rattle.store.proofs.Gathered.{HasGathered}
 use Rattle.store.proofs.store.StoreBook.identities.Given as goal
 
 abbrev pub invariant-loop-identities : goal.invariant-loop-identities

@@ -1,6 +1,6 @@
 use Rattle.std.proofs.Common.{◌∙◌}
 use Rattle.store.proofs.Calls.{looks_now, kept_seen}
-use Rattle.store.proofs.Falling.{last_view}
+use Rattle.store.proofs.FallingSerials.{last_view}
 use Rattle.store.proofs.store.StoreBook.last.Goals as goal
 
 pub returns-in_err-stamp-clause-looks : goal.returns-in_err-stamp-clause-looks

@@ -1,8 +1,8 @@
 use Rattle.std.proofs.Common.{◌≡◌, ◌≢◌, ◌∙◌, Option, None, Some, ap, sym, subst}
 use Rattle.sqlite.specs.Held.{state}
-use Rattle.tables.specs.Opening.{TellsVersion}
-use Rattle.tables.specs.declared.opening.Version.{Version}
-use Rattle.tables.specs.declared.opening.Version.TheVariants as version
+use Rattle.tables.specs.Versions.{TellsVersion}
+use Rattle.tables.specs.declared.version.Version.{Version}
+use Rattle.tables.specs.declared.version.Version.TheVariants as version
 use Rattle.tables.proofs.BaseLemmas.{adopted_keeps}
 use Rattle.tables.proofs.MigrateLemmas.{in_now}
 use Rattle.tables.proofs.base.Base.adopt.Goals as goal

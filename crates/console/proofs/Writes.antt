@@ -1,0 +1,78 @@
+-- Writing in steps.
+use Rattle.std.proofs.Common.{◌≡◌, ◌∙◌, Result, Ok, Err, ◌+◌, ◌<◌, ◌≤◌, ℕ, List, [], ◌∷◌, ◌++◌, Option, Some, None}
+use Rattle.std.proofs.Common.{length, min, take, sym, subst, refl, arith, inl, inr}
+use Rattle.std.proofs.KnownBytes.{Appends-trans}
+use Rattle.std.proofs.Math.Seq.{take-append-add, take-length}
+use Rattle.std.proofs.lemmas.List.{append-nil, take-append-le, take_min}
+use Rattle.std.specs.Io.KnownBytes.{Appends, Keeps}
+use Rattle.std.proofs.lemmas.Fmt.{decimal_digit}
+use Rattle.std.specs.Fmt.{decimal, digits}
+use Rattle.std.specs.Prelude.{OnErr, OnOk}
+use Rattle.audit.specs.Failures.{HasFailed}
+use Rattle.console.specs.Writes.{Begins, IsWhole}
+
+pub appends_nothing : (old : Option (List ℕ)) → Appends old old []
+appends_nothing None = tt
+appends_nothing (Some xs) = sym (append-nil xs)
+
+pub keeps_beginning : (old mid new : Option (List ℕ)) (text : List ℕ) → Appends old mid text → Keeps mid new
+    → Appends old new text
+keeps_beginning None mid new text appended kept = tt
+keeps_beginning (Some xs) None new text appended kept = absurd appended
+keeps_beginning (Some xs) (Some ys) None text appended kept = absurd kept
+keeps_beginning (Some xs) (Some ys) (Some zs) text appended kept = kept ∙ appended
+
+-- a beginning of the second text after the first is one of both
+pub begins_after : (old mid new : Option (List ℕ)) (first second : List ℕ) → Appends old mid first
+    → Begins mid new second
+    → Begins old new (first ++ second)
+begins_after old mid new first second one two = (
+  length first + two.0,
+  rw (take-append-add first second two.0)
+      (Appends-trans old mid new first (take two.0 second) one two.1),
+)
+
+-- a beginning of the first text is one of both
+pub begins_before : (old new : Option (List ℕ)) (first second : List ℕ) → Begins old new first
+    → Begins old new (first ++ second)
+begins_before old new first second one =
+    let n = min one.0 (length first) in
+    let small : n ≤ length first = omega arith in
+    let same : take n (first ++ second) ≡ take one.0 first = take-append-le n first second small
+    ∙ take_min one.0 first in
+    (n, rw same one.1)
+
+-- whatever a write answers, it left a beginning
+pub begins_whatever : {T E : Type 0} (old new : Option (List ℕ)) (text : List ℕ) (written : Result T E)
+    → OnOk written (Appends old new text)
+    → OnErr written (Begins old new text) → Begins old new text
+begins_whatever {T} {E} old new text (Ok done) whole begun = (length text, rw (take-length text) whole)
+begins_whatever {T} {E} old new text (Err e) whole begun = begun
+
+-- what is written in two steps is whole, unless one of them fails
+pub whole_after : {T E : Type 0} (old mid new : Option (List ℕ)) (a b c : Option ℕ) (first second : List ℕ)
+    (written : Result T E) → Appends old mid first → b ≡ a → OnOk written (Appends mid new second)
+    → OnErr written (HasFailed b c) → IsWhole old new a c (first ++ second)
+whole_after {T} {E} old mid new a b c first second (Ok done) one kept two failed =
+    inl (Appends-trans old mid new first second one two)
+whole_after {T} {E} old mid new a b c first second (Err e) one kept two failed =
+    inr (subst (λ failures. HasFailed failures c) kept failed)
+
+-- whatever a write answers, the text is whole, or it failed
+pub whole_whatever : {T E : Type 0} (old new : Option (List ℕ)) (before after : Option ℕ) (text : List ℕ)
+    (written : Result T E) → OnOk written (Appends old new text) → OnErr written (HasFailed before after)
+    → IsWhole old new before after text
+whole_whatever {T} {E} old new before after text (Ok done) whole failed = inl whole
+whole_whatever {T} {E} old new before after text (Err e) whole failed = inr failed
+
+-- the end of a fault's line
+pub digit_line : (number digit : ℕ) → number ≡ digit → digit < 10 → (48 + digit) ∷ 10 ∷ [] ≡ decimal number ++ 10 ∷ []
+digit_line number digit is small = rw (is, decimal_digit digit small) refl
+
+pub ten_line : (number : ℕ) → number ≡ 10 → 49 ∷ 48 ∷ 10 ∷ [] ≡ decimal number ++ 10 ∷ []
+unfolding digits
+ten_line number is = rw is refl
+
+pub eleven_line : (number : ℕ) → number ≡ 11 → 49 ∷ 49 ∷ 10 ∷ [] ≡ decimal number ++ 10 ∷ []
+unfolding digits
+eleven_line number is = rw is refl

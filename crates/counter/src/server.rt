@@ -1,0 +1,132 @@
+//! The word `serve`.
+ghost use Rattle.std.specs.Prelude.{◌≡◌, ◌⊎◌, Err, IfErr, OnOk, Ok};
+ghost use Rattle.counter.specs.Desks.{ServesConnections};
+ghost use Rattle.counter.specs.Fault.{IsServeFault};
+ghost use Rattle.counter.specs.Server.{ServesAt, state_after, state_before};
+ghost use Rattle.operations.specs.DatabaseFaults.{IsServingFault, IsUnheard};
+ghost use Rattle.operations.specs.Machine.{machine_of};
+ghost use Rattle.operations.specs.declared.fault.OperationFault.TheVariants as operation;
+
+use crate::events::{tell_listening, tell_opening};
+use crate::fault::{answer_of, fault_of};
+use crate::files::{Files, read_files};
+use crate::host::Host;
+use book::Book;
+use cms::Signer;
+use command_line::ServeWords;
+use connections::{CONNECTION_SECONDS, Clock, Listening, SystemClock, serve_connections};
+use console::{Fault, InputFault};
+use desk::Settings;
+use operations::{
+    DatabaseDesk, DeskOperation, Disk, FileFrom, HostSigner, OperationFault, Renewal, SignedDesk,
+    Start, perform_at_desk,
+};
+use sockets::Listener;
+use std::time::{Duration, Instant};
+
+/// Connections at an address are served.
+#[derive(Drop)]
+struct Serving<'a> {
+    rt: &'a HostRuntime,
+    address: &'a str,
+    connections: u32,
+    /// When that began, if the clock tells.
+    begun: Option<Instant>,
+}
+
+impl DeskOperation<(), ()> for Serving<'_> {
+    type Answer = Result<(), OperationFault>;
+
+    type Means = Listener;
+
+    ghost lacks = { IsUnheard };
+
+    ghost answers = { λ _ _ _ _ _ _ done. IfErr done IsServingFault };
+
+    ghost moves = { λ _ _ g signs serving visit done. (clock clock' : _)
+        × ServesAt ⟦<SystemClock<'static, HostRuntime> as Clock>⟧.reads g signs.signs signs.fault_count
+        serving.connections (state_before clock visit) (state_after clock' visit) done };
+
+    /// Listens on the address.
+    fn prepare(&self, rt: &HostRuntime) -> Result<Listener, OperationFault> {
+        Listener::bind(rt, self.address).or(Err(OperationFault::Unheard))
+    }
+
+    fn perform<B: Book + Drop, G: Signer>(
+        self,
+        listener: Listener,
+        signed: &mut SignedDesk<'_, B, G>,
+        _input: &mut (),
+        _output: &mut (),
+    ) -> Result<(), OperationFault> {
+        let limit = Duration::from_secs(CONNECTION_SECONDS);
+        let rt = self.rt;
+        let mut clock = SystemClock::new(rt);
+        match Listening::new(rt, rt, &listener, limit) {
+            Ok(mut listening) => {
+                tell_listening(rt, &listener, self.address, self.begun);
+                let SignedDesk { desk, signer } = signed;
+                match serve_connections(
+                    &mut listening,
+                    self.connections,
+                    &mut clock,
+                    desk,
+                    signer,
+                ) {
+                    Ok(()) => Ok(()),
+                    Err(_) => Err(OperationFault::Clock),
+                }
+            }
+            Err(_) => Err(OperationFault::Unheard),
+        }
+    }
+}
+
+/// Serves HTTP connections at an address; readings are the machine's clock's. Connections are read side by side, and
+/// requests answered one at a time; one that fails counts too. The files are read first, then the database is opened,
+/// the key holder reached, and the address listened on. Of the process's streams it writes standard error alone, where
+/// it tells of its start and of lost sessions with the key holder.
+///
+/// Refused as `read_files` and `perform_at_desk`, with `input` 6 where the address can't be listened on or the system
+/// can't wait for several connections at once, and with `input` 5 where the clock fails; those that were served before
+/// stand.
+pub fn serve<F: Start + Drop>(host: Host<'_, F>, words: &ServeWords<'_>) -> Result<(), Fault>
+    // Whatever the files hold: the connections are served at a desk over the store that was opened over them.
+    ensures served { OnOk result (ServesConnections (machine_of ⟦<FileFrom<F> as Disk>⟧ F.Start
+        ⟦<HostSigner<'static> as Signer>⟧ ⟦<SystemClock<'static, HostRuntime> as Clock>⟧.reads) words.now (Ok tt)) }
+
+    // So are those before the clock failed.
+    ensures stopped { result ≡ Err (Fault.Input InputFault.Failed) → ServesConnections (machine_of
+        ⟦<FileFrom<F> as Disk>⟧ F.Start ⟦<HostSigner<'static> as Signer>⟧
+        ⟦<SystemClock<'static, HostRuntime> as Clock>⟧.reads) words.now (Err operation.Clock) }
+    ensures faults { IfErr result IsServeFault }
+{
+    let rt = host.rt;
+    let Files {
+        policy,
+        identity,
+        signing,
+        algorithm,
+    } = read_files(rt, &words.desk)?;
+    let desk = DatabaseDesk {
+        database: host.database(words.desk.db),
+        settings: Settings {
+            policy: &policy,
+            identity: &identity,
+            algorithm: &algorithm,
+        },
+        signing,
+        renewal: Renewal::AfterLoss,
+    };
+    let serving = Serving {
+        rt,
+        address: words.listen,
+        connections: words.connections,
+        begun: Instant::now(rt).ok(),
+    };
+    tell_opening(rt, words.desk.db);
+    match perform_at_desk(rt, desk, serving, &mut (), &mut ()) {
+        Ok(done) => answer_of(done),
+        Err(fault) => Err(fault_of(fault)),
+    }
+}

@@ -1,0 +1,17 @@
+use Rattle.der.specs.Node.{encoding}
+use Rattle.tsp.specs.Request.{time_stamp_req, unstated}
+use Rattle.tsp.specs.View.{request_view}
+use Rattle.desk.specs.Calls.{settings_view, plan_of}
+use Rattle.desk.proofs.Reserves.{unwritten}
+use Rattle.desk.proofs.new_deposit.reserve.Goals as goal
+
+pub octets_of-requires : goal.octets_of-requires
+octets_of-requires g c =
+    let r = request_view c.args.planned.request in
+    c.requests_have_one_reading.ensures.unstated (encoding (time_stamp_req unstated r)) r c.requires.spelled
+    c.requires.short
+
+pub returns-in-Err-clause-reserves : goal.returns-in-Err-clause-reserves
+returns-in-Err-clause-reserves g c honest b st e =
+    unwritten g.B.Standing (settings_view c.args.settings) c.args.account.now (plan_of c.args.planned) _ b
+    c.args.planned.last c.args.store.now c.in-Err.refusal c.in-Err.ensures.left e st

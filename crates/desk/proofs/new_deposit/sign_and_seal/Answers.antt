@@ -1,0 +1,45 @@
+use Rattle.std.proofs.Common.{ℕ, List, [], Ok, Err, sym, ◌∙◌, subst}
+use Rattle.book.specs.Values.{deposit_of}
+use Rattle.desk.specs.Outcome.{all_fine}
+use Rattle.desk.specs.Calls.{refused}
+use Rattle.desk.proofs.NewDeposits.{unsigned}
+use Rattle.desk.proofs.Stamps.{signer_counted}
+use Rattle.desk.proofs.new_deposit.sign_and_seal.Goals as goal
+
+pub returns-in-Ok-seal-clause-keeps : goal.returns-in-Ok-seal-clause-keeps
+returns-in-Ok-seal-clause-keeps g c =
+    let lent = c.deref.result.now in
+    let signed = subst (λ (t : List ℕ). g.X.Signer.signs c.args.signer.now t (Ok lent) c.sign.new.self) c.text.ensures
+    (subst (λ (v : List ℕ). g.X.Signer.signs c.args.signer.now c.text.result.now (Ok v) c.sign.new.self)
+    (sym c.deref.ensures.value) c.in-Ok.ensures.signs) in (
+      Ok lent,
+      all_fine (Ok []),
+      record { signer = c.in-Ok.ensures.counted; moves = signed; keeps = c.in-Ok-seal.ensures.keeps },
+    )
+
+pub returns-in-Ok-clause-keeps : goal.returns-in-Ok-clause-keeps
+returns-in-Ok-clause-keeps g c =
+    let lent = c.deref.result.now in
+    let signed = subst (λ (t : List ℕ). g.X.Signer.signs c.args.signer.now t (Ok lent) c.sign.new.self) c.text.ensures
+    (subst (λ (v : List ℕ). g.X.Signer.signs c.args.signer.now c.text.result.now (Ok v) c.sign.new.self)
+    (sym c.deref.ensures.value) c.in-Ok.ensures.signs) in (
+      Ok lent,
+      refused c.in-Err-seal.refusal,
+      record { signer = c.in-Ok.ensures.counted; moves = signed; keeps = c.in-Err-seal.ensures.keeps },
+    )
+
+pub returns-clause-keeps : goal.returns-clause-keeps
+returns-clause-keeps g c =
+    let fault = c.in-Err.fault in
+    let signed = subst (λ (t : List ℕ). g.X.Signer.signs c.args.signer.now t (Err fault) c.sign.new.self)
+    c.text.ensures c.in-Err.ensures.signs in (
+      Err fault,
+      all_fine (Ok []),
+      record {
+        signer = c.in-Err.ensures.counted ∙ signer_counted ⊥ fault (g.X.Signer.fault_count c.args.signer.now);
+        moves = signed;
+        keeps = unsigned g.B.Standing c.args.pending
+            (deposit_of c.args.pending.serial c.args.owner.now c.args.reference.now c.args.bytes.now) fault
+            c.args.store.now;
+      },
+    )

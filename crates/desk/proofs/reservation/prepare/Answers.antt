@@ -1,0 +1,48 @@
+use Rattle.std.proofs.Common.{◌≡◌, ◌+◌, ◌≤◌, refl, sym, ap, ◌∙◌, subst, arith, option_map}
+use Rattle.der.specs.DataValueView.{value_view}
+use Rattle.der.specs.Node.{encoding, IsLawful}
+use Rattle.der.specs.ObjectIdentifier.{IsOid}
+use Rattle.gentime.specs.GenTime.{last_moment}
+use Rattle.tsp.specs.Tst.{answer, tst_info}
+use Rattle.tsp.specs.View.{request_view}
+use Rattle.cms.specs.SignedData.{attribute_text}
+use Rattle.desk.specs.Calls.{settings_view, plan_of}
+use Rattle.desk.specs.Texts.{tst_of}
+use Rattle.desk.proofs.reservation.prepare.Goals as goal
+
+pub write_tst-requires-clause-lawful : goal.write_tst-requires-clause-lawful
+write_tst-requires-clause-lawful c =
+    let counter = c.args.settings.policy.now.counter in
+    let oid = subst IsOid (sym c.of.ensures.same) c.of.ensures.oid in
+    subst (λ t. IsLawful (tst_info t)) (sym c.into_tst_info-tst_info.ensures)
+    (c.requests_have_one_reading.ensures.answer c.args.query.now (request_view c.args.planned.request)
+    c.requires.spelled c.requires.short c.of.result (c.args.planned.last + 1) c.args.planned.gen_time
+    counter.accuracy_us counter.ordering (option_map value_view c.name_in_force.result) oid (omega arith) (omega arith)
+    c.micros_of-micros.ensures.within counter.accuracy_some counter.accuracy c.name_in_force.ensures.fitting).1
+
+pub returns-clause-prepared : goal.returns-clause-prepared
+returns-clause-prepared c =
+    let counter = c.args.settings.policy.now.counter in
+    let planned = c.args.planned in
+    let r = request_view planned.request in
+    let serial = planned.last + 1 in
+    let made = c.into_tst_info-tst_info.ensures
+    ∙ (ap (λ x. answer r x serial planned.gen_time counter.accuracy_us counter.ordering
+    (option_map value_view c.name_in_force.result)) c.of.ensures.same
+    ∙ ap (answer r planned.policy.now serial planned.gen_time counter.accuracy_us counter.ordering)
+    c.name_in_force.ensures.value) in
+    let tst : c.in-Ok.tst.items ≡ tst_of (settings_view c.args.settings) (plan_of planned) serial =
+    c.in-Ok.ensures.text ∙ ap (λ t. encoding (tst_info t)) made in
+    record {
+      number = refl;
+      moment = c.micros_of-micros.ensures.same;
+      moment_within = subst (λ n. n ≤ last_moment) (sym c.micros_of-micros.ensures.same)
+          c.micros_of-micros.ensures.within;
+      policy_is = refl;
+      algorithm_is = c.algorithm-algorithm.ensures;
+      digest_is = c.hash-digest.ensures;
+      certificate_is = c.cert_req-certificate.ensures;
+      tst_is = tst;
+      text_is = c.in-Ok-attribute_text.ensures.text
+          ∙ ap (attribute_text c.args.settings.identity.now) (c.deref.ensures.value ∙ tst);
+    }

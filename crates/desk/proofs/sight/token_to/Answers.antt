@@ -1,0 +1,71 @@
+use Rattle.std.proofs.Common.{[], Ok, refl, ◌∙◌, ap, subst}
+use Rattle.std.specs.Option.{option_map}
+use Rattle.policy.specs.View.{account_view}
+use Rattle.tsp.specs.Granted.{granted_octets}
+use Rattle.book.specs.Readers.{Account}
+use Rattle.book.specs.Values.{deposit_view}
+use Rattle.desk.specs.Calls.{settings_view}
+use Rattle.desk.specs.Viewers.{viewer_in}
+use Rattle.desk.specs.Command.{Token, Shown, Refused}
+use Rattle.desk.specs.Obstacles.{Sees, IsUnseen}
+use Rattle.desk.specs.Outcome.{OutOfMemory, all_fine}
+use Rattle.desk.specs.declared.fault.Fault.TheVariants as fault
+use Rattle.desk.proofs.Denied.{looks_as, denied, sight_is_right, sight_told, untold, untokened, told}
+use Rattle.desk.proofs.Denied.{ungrown}
+use Rattle.desk.proofs.Fits.{none_failed}
+use Rattle.desk.proofs.sight.token_to.Goals as goal
+
+pub returns-in-Err-clause-step : goal.returns-in-Err-clause-step
+returns-in-Err-clause-step g c =
+    let s = settings_view c.args.settings in
+    let a = account_view c.args.account.now in
+    let n = c.args.number in
+    let x = c.in-Err.obstacle in
+    denied (Account a.name) g.B.Standing s (Token a n) c.args.store.now c.see.new.store x (λ searching looking. (refl, (tt, tt)))
+    (λ f. tt) (sight_is_right (Account a.name) x c.in-Err.ensures.refusals) c.in-Err.ensures.looks c.in-Err.ensures.counted
+    (λ honest b st. untold (viewer_in s.file a.name) n b x c.in-Err.ensures.refusals
+    (subst (λ k. IsUnseen (viewer_in s.file k) n b x) c.as_str.ensures.value (c.in-Err.ensures.sees honest b st)))
+
+pub returns-in-Err-clause-refusals : goal.returns-in-Err-clause-refusals
+returns-in-Err-clause-refusals g c = sight_told c.in-Err.obstacle c.in-Err.ensures.refusals
+
+pub returns-in_default-clause-step : goal.returns-in_default-clause-step
+returns-in_default-clause-step g c =
+    let s = settings_view c.args.settings in
+    let a = account_view c.args.account.now in
+    let n = c.args.number in
+    looks_as g.B.Standing s (Token a n) c.args.store.now c.see.new.store (all_fine (Ok [])) (Refused fault.NotHere)
+    (refl, (tt, tt)) c.in-Ok.ensures.counted tt tt c.in-Ok.ensures.looks
+    (λ honest b st.
+    let sees = subst (λ k. Sees (viewer_in s.file k) n b c.in-Ok.found) c.as_str.ensures.value
+    (c.in-Ok.ensures.sees honest b st) in
+    untokened (viewer_in s.file a.name) n b (deposit_view c.in-Ok.found.deposit) sees.seen
+    (sees.token ∙ ap (option_map (λ t. t.items)) c.in_default.is))
+
+pub returns-in-Ok-write_granted-clause-step : goal.returns-in-Ok-write_granted-clause-step
+returns-in-Ok-write_granted-clause-step g c =
+    let s = settings_view c.args.settings in
+    let a = account_view c.args.account.now in
+    let n = c.args.number in
+    let reply = c.in-Ok-write_granted.reply.items in
+    looks_as g.B.Standing s (Token a n) c.args.store.now c.see.new.store (all_fine (Ok [])) (Shown reply)
+    (refl, (tt, tt)) c.in-Ok.ensures.counted tt tt c.in-Ok.ensures.looks
+    (λ honest b st.
+    let sees = subst (λ k. Sees (viewer_in s.file k) n b c.in-Ok.found) c.as_str.ensures.value
+    (c.in-Ok.ensures.sees honest b st) in
+    told (viewer_in s.file a.name) n b (deposit_view c.in-Ok.found.deposit) c.in-Some.token.items reply sees.seen
+    (sees.token ∙ ap (option_map (λ t. t.items)) c.in-Some.is)
+    (c.in-Ok-write_granted.ensures.text ∙ ap granted_octets c.deref.ensures.value))
+
+pub returns-clause-step : goal.returns-clause-step
+returns-clause-step g c =
+    let s = settings_view c.args.settings in
+    let a = account_view c.args.account.now in
+    let n = c.args.number in
+    let o = record (all_fine (Ok [])) { growing = OutOfMemory } in
+    looks_as g.B.Standing s (Token a n) c.args.store.now c.see.new.store o (Refused fault.Memory) (refl, (tt, tt))
+    c.in-Ok.ensures.counted (none_failed o tt tt tt tt tt tt tt tt) tt c.in-Ok.ensures.looks
+    (λ honest b st.
+    let sees = subst (λ k. Sees (viewer_in s.file k) n b c.in-Ok.found) c.as_str.ensures.value
+    (c.in-Ok.ensures.sees honest b st) in
+    ungrown (viewer_in s.file a.name) n b (deposit_view c.in-Ok.found.deposit) sees.seen)

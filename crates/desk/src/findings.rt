@@ -1,0 +1,243 @@
+//! What is found of a request before anything is reserved.
+ghost use Rattle.std.specs.Prelude.{◌≡◌, ℕ, ◌≤◌, List, None, length, IfOk, IfErr};
+ghost use Rattle.policy.specs.View.{policy_view};
+ghost use Rattle.tsp.specs.Request.{Spells};
+ghost use Rattle.tsp.specs.View.{request_view};
+ghost use Rattle.decide.specs.Verdict.{IsJudged};
+ghost use Rattle.decide.specs.View.{account_asked};
+ghost use Rattle.book.specs.History.{History, greatest_serial, day_of};
+ghost use Rattle.book.specs.Fault.{CountsFaults, IsOfStorage};
+ghost use Rattle.book.specs.Sound.{IsSound};
+ghost use Rattle.book.specs.Stands.{Stands, OnlyLooks};
+ghost use Rattle.tsp.specs.Rules.{HasVersionOne, IsFirstFailing};
+ghost use Rattle.tsp.specs.declared.rule.Rule.{Rule};
+ghost use Rattle.desk.specs.NewDeposit.{FailsLate};
+ghost use Rattle.desk.specs.Findings.{HoldsUnasked, Finds, Fails};
+ghost use Rattle.desk.specs.Outcome.{faults_after};
+ghost use Rattle.desk.specs.Calls.{outcome_of, finding_of, count_for, IsOfLooks, IsSomebodys, HasRequest, IsReadFrom};
+ghost use Rattle.desk.specs.Calls.{HasLast};
+ghost use Rattle.desk.specs.WaitingStamps.{with_waiting};
+
+use crate::clock_facts::{Looked, look_among};
+use crate::refusal::StampRefusal;
+use crate::waiting_stamp::{Waiting, count_waiting};
+use book::{Book, StoreFault};
+use decide::{ClockState, Facts, Verdict, clock_state, decide, judge_request, verdicts_are_one};
+use der::Oid;
+use gentime::GenTime;
+use policy::{Account, Policy};
+use tsp::{Request, Rule, read_request, requests_have_one_reading};
+
+/// A stamp that no rule refuses: its request, its policy and its genTime, and the greatest serial number so far.
+#[derive(Drop)]
+pub(crate) struct Planned<'p, 'a> {
+    pub(crate) request: Request<'a>,
+    pub(crate) policy: &'p Oid,
+    pub(crate) gen_time: GenTime,
+    pub(crate) last: u64,
+}
+
+/// What is found, where each call was answered.
+#[derive(Drop)]
+pub(crate) enum Judgement<'p, 'a> {
+    /// The first rule of 1 to 11 that fails.
+    Fails(Rule),
+    /// None fails.
+    Allows(Planned<'p, 'a>),
+}
+
+/// How many reservations the account has on the day of a genTime, with those that wait.
+fn count<B: Book + Drop>(
+    store: &mut B,
+    waits: &[Waiting<'_, '_>],
+    account: Option<&Account>,
+    gen_time: GenTime,
+) -> Result<u64, StoreFault>
+    ensures looks { OnlyLooks B.Standing store.old store.new }
+    ensures value { B.honest store.new → (b : History) → Stands B.Standing b store.old
+        → IsSound (with_waiting waits.now b)
+        → IfOk result (λ count. count ≡ count_for (account_asked account.entry) (day_of gen_time)
+        (with_waiting waits.now b)) }
+    ensures somebody { IfErr result (λ _. account_asked account.entry ≡ None → ⊥) }
+    ensures refusals { IfErr result IsOfStorage }
+    ensures faults { CountsFaults result (B.fault_count store.old) (B.fault_count store.new) }
+{
+    match account {
+        None => Ok(0),
+        Some(account) => {
+            let day = gen_time.day();
+            let name = account.name.as_str();
+            let stored = store.count_of_day(name, day)?;
+            Ok(stored.saturating_add(count_waiting(waits, name, day) as u64))
+        }
+    }
+}
+
+/// Judges the rules 10 and 11, which ask the store, of a request that the rules before them let through.
+fn ask<'p, 'a, B: Book + Drop>(
+    store: &mut B,
+    waits: &[Waiting<'_, '_>],
+    policy: &'p Policy,
+    account: Option<&Account>,
+    reading: i64,
+    request: Request<'a>,
+) -> Result<Judgement<'p, 'a>, StampRefusal>
+    ensures looks { OnlyLooks B.Standing store.old store.new }
+    ensures counted { B.fault_count store.new ≡ faults_after (outcome_of result) (B.fault_count store.old) }
+    ensures finds { B.honest store.new → (b : History) → Stands B.Standing b store.old
+        → IsSound (with_waiting waits.now b) → (octets : List ℕ)
+        → Spells octets (request_view request.entry) → length octets ≤ 65536
+        → IsJudged (policy_view policy.now) (account_asked account.entry) (request_view request.entry) None
+        → Finds (policy_view policy.now) (account_asked account.entry) reading octets (outcome_of result)
+        (with_waiting waits.now b) (finding_of result) }
+    ensures same { IfOk result (HasRequest (request_view request.entry)) }
+    ensures late { HasVersionOne (request_view request.entry) → IfOk result FailsLate }
+    ensures last { B.honest store.new → (b : History) → Stands B.Standing b store.old
+        → IsSound (with_waiting waits.now b) → IfOk result (HasLast (greatest_serial (with_waiting waits.now b))) }
+    ensures somebody { IfErr result (IsSomebodys (account_asked account.entry)) }
+    ensures refusals { IfErr result IsOfLooks }
+{
+    requests_have_one_reading();
+    verdicts_are_one();
+    let Looked { clock, serial } = match look_among(store, waits, reading) {
+        Ok(looked) => looked,
+        Err(fault) => return Err(StampRefusal::Looking(fault)),
+    };
+    let ClockState::Good(gen_time) = clock_state(&policy.counter, &clock) else {
+        return Ok(Judgement::Fails(Rule::Clock));
+    };
+    let count = match count(store, waits, account, gen_time) {
+        Ok(count) => count,
+        Err(fault) => return Err(StampRefusal::Counting(fault)),
+    };
+    match decide(policy, account, &request, &Facts { clock, count }) {
+        Verdict::Deny(rule) => Ok(Judgement::Fails(rule)),
+        Verdict::Allow(plan) => Ok(Judgement::Allows(Planned {
+            request,
+            policy: plan.policy,
+            gen_time: plan.gen_time,
+            last: serial,
+        })),
+    }
+}
+
+/// Judges the rules 2 to 11 of a request in their order, once all that waits is reserved.
+fn judge_among<'p, 'a, B: Book + Drop>(
+    store: &mut B,
+    waits: &[Waiting<'_, '_>],
+    policy: &'p Policy,
+    account: Option<&Account>,
+    reading: i64,
+    request: Request<'a>,
+) -> Result<Judgement<'p, 'a>, StampRefusal>
+    ensures looks { OnlyLooks B.Standing store.old store.new }
+    ensures counted { B.fault_count store.new ≡ faults_after (outcome_of result) (B.fault_count store.old) }
+    ensures finds { B.honest store.new → (b : History) → Stands B.Standing b store.old
+        → IsSound (with_waiting waits.now b) → (octets : List ℕ)
+        → Spells octets (request_view request.entry) → length octets ≤ 65536
+        → Finds (policy_view policy.now) (account_asked account.entry) reading octets (outcome_of result)
+        (with_waiting waits.now b) (finding_of result) }
+    ensures same { IfOk result (HasRequest (request_view request.entry)) }
+    ensures late { HasVersionOne (request_view request.entry) → IfOk result FailsLate }
+    ensures last { B.honest store.new → (b : History) → Stands B.Standing b store.old
+        → IsSound (with_waiting waits.now b) → IfOk result (HasLast (greatest_serial (with_waiting waits.now b))) }
+    ensures unasked { (octets : List ℕ) → Spells octets (request_view request.entry) → length octets ≤ 65536
+        → (rule : Rule) → IsFirstFailing (HoldsUnasked (policy_view policy.now) (account_asked account.entry) octets)
+        rule
+        → (finding_of result ≡ Fails rule) × (store.new ≡ store.old) }
+    ensures somebody { IfErr result (IsSomebodys (account_asked account.entry)) }
+    ensures refusals { IfErr result IsOfLooks }
+{
+    requests_have_one_reading();
+    verdicts_are_one();
+    match judge_request(policy, account, &request) {
+        Some(rule) => Ok(Judgement::Fails(rule)),
+        None => ask(store, waits, policy, account, reading, request),
+    }
+}
+
+/// Judges the rules 2 to 11 of a request in their order: `find`, once the request is read.
+pub(crate) fn judge<'p, 'a, B: Book + Drop>(
+    store: &mut B,
+    policy: &'p Policy,
+    account: Option<&Account>,
+    reading: i64,
+    request: Request<'a>,
+) -> Result<Judgement<'p, 'a>, StampRefusal>
+    ensures looks { OnlyLooks B.Standing store.old store.new }
+    ensures counted { B.fault_count store.new ≡ faults_after (outcome_of result) (B.fault_count store.old) }
+    ensures finds { B.honest store.new → (b : History) → Stands B.Standing b store.old → (octets : List ℕ)
+        → Spells octets (request_view request.entry) → length octets ≤ 65536
+        → Finds (policy_view policy.now) (account_asked account.entry) reading octets (outcome_of result) b
+        (finding_of result) }
+    ensures same { IfOk result (HasRequest (request_view request.entry)) }
+    ensures late { HasVersionOne (request_view request.entry) → IfOk result FailsLate }
+    ensures last { B.honest store.new → (b : History) → Stands B.Standing b store.old
+        → IfOk result (HasLast (greatest_serial b)) }
+    ensures unasked { (octets : List ℕ) → Spells octets (request_view request.entry) → length octets ≤ 65536
+        → (rule : Rule) → IsFirstFailing (HoldsUnasked (policy_view policy.now) (account_asked account.entry) octets)
+        rule
+        → (finding_of result ≡ Fails rule) × (store.new ≡ store.old) }
+    ensures somebody { IfErr result (IsSomebodys (account_asked account.entry)) }
+    ensures refusals { IfErr result IsOfLooks }
+{
+    judge_among(store, &[], policy, account, reading, request)
+}
+
+/// Judges the rules 1 to 11 in their order, once all that waits is reserved: `find` among stamps that are answered
+/// together.
+pub(crate) fn find_among<'p, 'a, B: Book + Drop>(
+    store: &mut B,
+    waits: &[Waiting<'_, '_>],
+    policy: &'p Policy,
+    account: Option<&Account>,
+    reading: i64,
+    query: &'a [u8],
+) -> Result<Judgement<'p, 'a>, StampRefusal>
+    ensures looks { OnlyLooks B.Standing store.old store.new }
+    ensures counted { B.fault_count store.new ≡ faults_after (outcome_of result) (B.fault_count store.old) }
+    ensures finds { B.honest store.new → (b : History) → Stands B.Standing b store.old
+        → IsSound (with_waiting waits.now b)
+        → Finds (policy_view policy.now) (account_asked account.entry) reading query.now (outcome_of result)
+        (with_waiting waits.now b) (finding_of result) }
+    ensures read { IfOk result (IsReadFrom query.now) }
+    ensures last { B.honest store.new → (b : History) → Stands B.Standing b store.old
+        → IsSound (with_waiting waits.now b) → IfOk result (HasLast (greatest_serial (with_waiting waits.now b))) }
+    ensures unasked { (rule : Rule)
+        → IsFirstFailing (HoldsUnasked (policy_view policy.now) (account_asked account.entry)
+        query.now) rule → (finding_of result ≡ Fails rule) × (store.new ≡ store.old) }
+    ensures somebody { IfErr result (IsSomebodys (account_asked account.entry)) }
+    ensures refusals { IfErr result IsOfLooks }
+{
+    let request = match read_request(query) {
+        Ok(request) => request,
+        Err(_) => return Ok(Judgement::Fails(Rule::Spelling)),
+    };
+    judge_among(store, waits, policy, account, reading, request)
+}
+
+/// Judges the rules 1 to 11 in their order. A request that fails one of the rules 1 to 9 is answered without a call of
+/// the store and without memory; the day is counted only where the clock is good.
+pub(crate) fn find<'p, 'a, B: Book + Drop>(
+    store: &mut B,
+    policy: &'p Policy,
+    account: Option<&Account>,
+    reading: i64,
+    query: &'a [u8],
+) -> Result<Judgement<'p, 'a>, StampRefusal>
+    ensures looks { OnlyLooks B.Standing store.old store.new }
+    ensures counted { B.fault_count store.new ≡ faults_after (outcome_of result) (B.fault_count store.old) }
+    ensures finds { B.honest store.new → (b : History) → Stands B.Standing b store.old
+        → Finds (policy_view policy.now) (account_asked account.entry) reading query.now (outcome_of result) b
+        (finding_of result) }
+    ensures read { IfOk result (IsReadFrom query.now) }
+    ensures last { B.honest store.new → (b : History) → Stands B.Standing b store.old
+        → IfOk result (HasLast (greatest_serial b)) }
+    ensures unasked { (rule : Rule)
+        → IsFirstFailing (HoldsUnasked (policy_view policy.now) (account_asked account.entry)
+        query.now) rule → (finding_of result ≡ Fails rule) × (store.new ≡ store.old) }
+    ensures somebody { IfErr result (IsSomebodys (account_asked account.entry)) }
+    ensures refusals { IfErr result IsOfLooks }
+{
+    find_among(store, &[], policy, account, reading, query)
+}

@@ -1,0 +1,154 @@
+//! What an account sees.
+ghost use Rattle.std.specs.Prelude.{◌≡◌, ◌⊎◌, map, IfOk, IfErr, MatchResult};
+ghost use Rattle.policy.specs.View.{account_view, policy_view};
+ghost use Rattle.book.specs.Fault.{CountsFaults, IsOfStorage};
+ghost use Rattle.book.specs.History.{History};
+ghost use Rattle.book.specs.Rights.{is_visible, listed};
+ghost use Rattle.book.specs.Stands.{Stands, OnlyLooks};
+ghost use Rattle.book.specs.Values.{listed_view};
+ghost use Rattle.desk.specs.CallContract.{StepsBy, no_signer};
+ghost use Rattle.desk.specs.Calls.{settings_view};
+ghost use Rattle.desk.specs.Command.{Show, Token, ListAll};
+ghost use Rattle.desk.specs.Fault as sight;
+ghost use Rattle.desk.specs.Obstacles.{fault_with, outcome_with, told_with, IsOfSight, Sees, IsUnseen};
+ghost use Rattle.desk.specs.Outcome.{faults_after};
+ghost use Rattle.desk.specs.Shown.{shown_as, listed_as};
+ghost use Rattle.desk.specs.Viewers.{viewer_in};
+
+use crate::fault::Fault;
+use crate::obstacle::Obstacle;
+use crate::settings::Settings;
+use book::{Book, Listed, StampedDeposit, StoreFault};
+use policy::{Account, Policy};
+use std::alloc::Global;
+use tsp::write_granted;
+
+/// Whether an account, which the policy file knows with its groups, sees the deposit with a number.
+fn is_seen<B: Book + Drop>(
+    store: &mut B,
+    policy: &Policy,
+    account: &str,
+    number: u64,
+) -> Result<bool, StoreFault>
+    ensures looks { OnlyLooks B.Standing store.old store.new }
+    ensures value { B.honest store.new → (b : History) → Stands B.Standing b store.old
+        → IfOk result (λ seen. seen ≡ is_visible (viewer_in (policy_view policy.now) account.now) number b) }
+    ensures refusals { IfErr result IsOfStorage }
+    ensures faults { CountsFaults result (B.fault_count store.old) (B.fault_count store.new) }
+{
+    let groups = policy.groups_of(account);
+    store.visible(number, account, groups.as_slice())
+}
+
+/// All that such an account sees, by number.
+fn all_seen<B: Book + Drop>(
+    store: &mut B,
+    policy: &Policy,
+    account: &str,
+) -> Result<Vec<Listed>, StoreFault>
+    ensures looks { OnlyLooks B.Standing store.old store.new }
+    ensures value { B.honest store.new → (b : History) → Stands B.Standing b store.old
+        → IfOk result (λ rows. map listed_view rows.items
+        ≡ listed (viewer_in (policy_view policy.now) account.now) b) }
+    ensures refusals { IfErr result IsOfStorage }
+    ensures faults { CountsFaults result (B.fault_count store.old) (B.fault_count store.new) }
+{
+    let groups = policy.groups_of(account);
+    store.list(account, groups.as_slice())
+}
+
+/// The deposit with a number, and its stamp, where the account sees it. It is read only then.
+pub(crate) fn see<B: Book + Drop>(
+    store: &mut B,
+    policy: &Policy,
+    account: &str,
+    number: u64,
+) -> Result<StampedDeposit, Obstacle>
+    ensures looks { OnlyLooks B.Standing store.old store.new }
+    ensures counted { B.fault_count store.new ≡ faults_after (outcome_with result) (B.fault_count store.old) }
+    ensures sees { B.honest store.new → (b : History) → Stands B.Standing b store.old
+        → MatchResult result (Sees (viewer_in (policy_view policy.now) account.now) number b)
+        (IsUnseen (viewer_in (policy_view policy.now) account.now) number b) }
+    ensures refusals { IfErr result IsOfSight }
+{
+    let visible = match is_seen(store, policy, account, number) {
+        Ok(visible) => visible,
+        Err(fault) => return Err(Obstacle::Searching(fault)),
+    };
+    if !visible {
+        return Err(Obstacle::NotHere);
+    }
+    match store.deposit(number) {
+        Ok(Some(found)) => Ok(found),
+        Ok(None) => Err(Obstacle::NotHere),
+        Err(fault) => Err(Obstacle::Looking(fault)),
+    }
+}
+
+/// The octets of a deposit that the account sees.
+pub(crate) fn show_to<B: Book + Drop>(
+    store: &mut B,
+    settings: Settings<'_>,
+    account: &Account,
+    number: u64,
+) -> Result<Vec<u8>, Obstacle>
+    ensures looks { OnlyLooks B.Standing store.old store.new }
+    ensures step { StepsBy B.Standing no_signer (settings_view settings.entry) (Show (account_view account.now) number)
+        (outcome_with result) store.old store.new (told_with shown_as result) }
+    ensures refusals { IfErr result (λ obstacle. sight.IsOfSight (fault_with obstacle)) }
+{
+    let policy = settings.policy;
+    match see(store, policy, account.name.as_str(), number) {
+        Ok(found) => Ok(found.deposit.bytes),
+        Err(obstacle) => Err(obstacle),
+    }
+}
+
+/// The granted reply with the token of a deposit that the account sees.
+pub(crate) fn token_to<B: Book + Drop>(
+    store: &mut B,
+    alloc: Global,
+    settings: Settings<'_>,
+    account: &Account,
+    number: u64,
+) -> Result<Vec<u8>, Obstacle>
+    ensures looks { OnlyLooks B.Standing store.old store.new }
+    ensures step { StepsBy B.Standing no_signer (settings_view settings.entry) (Token (account_view account.now) number)
+        (outcome_with result) store.old store.new (told_with shown_as result) }
+    ensures refusals { IfErr result (λ obstacle. sight.IsOfSight (fault_with obstacle)) }
+{
+    let policy = settings.policy;
+    let token = match see(store, policy, account.name.as_str(), number) {
+        Ok(found) => {
+            let stamp = found.stamp;
+            stamp.token
+        }
+        Err(obstacle) => return Err(obstacle),
+    };
+    let Some(token) = token else {
+        return Err(Obstacle::NotHere);
+    };
+    match write_granted(alloc, &token) {
+        Ok(reply) => Ok(reply),
+        Err(_) => Err(Obstacle::OutOfMemory),
+    }
+}
+
+/// All that the account sees, by number.
+pub(crate) fn list_to<B: Book + Drop>(
+    store: &mut B,
+    settings: Settings<'_>,
+    account: &Account,
+) -> Result<Vec<Listed>, Obstacle>
+    ensures looks { OnlyLooks B.Standing store.old store.new }
+    ensures step { StepsBy B.Standing no_signer (settings_view settings.entry) (ListAll (account_view account.now))
+        (outcome_with result) store.old store.new (told_with listed_as result) }
+    ensures refusals { IfErr result (λ obstacle. (fault_with obstacle ≡ Fault.Memory)
+        ⊎ (fault_with obstacle ≡ Fault.Store)) }
+{
+    let policy = settings.policy;
+    match all_seen(store, policy, account.name.as_str()) {
+        Ok(rows) => Ok(rows),
+        Err(fault) => Err(Obstacle::Looking(fault)),
+    }
+}

@@ -1,0 +1,45 @@
+//! A stamp from its request to its reply.
+ghost use Rattle.std.specs.Prelude.{◌≡◌};
+ghost use Rattle.policy.specs.View.{policy_view};
+ghost use Rattle.tsp.specs.Rules.{IsFirstFailing};
+ghost use Rattle.tsp.specs.declared.rule.Rule.{Rule};
+ghost use Rattle.decide.specs.View.{account_asked};
+ghost use Rattle.desk.specs.Answers.{reply_as};
+ghost use Rattle.desk.specs.CallContract.{IsBareStep, with_signer};
+ghost use Rattle.desk.specs.Calls.{settings_view};
+ghost use Rattle.desk.specs.Command.{Stamp, Rejected};
+ghost use Rattle.desk.specs.Findings.{HoldsUnasked};
+
+use crate::reply::{Begun, Reply};
+use crate::settings::Settings;
+use crate::stamp_end::{complete, no_answer};
+use crate::stamp_start::begin_with;
+use book::Book;
+use cms::Signer;
+use policy::Account;
+use std::alloc::Global;
+
+/// Answers a request: the granted reply, the rejection by the first rule that fails, or the rejection by rule 12.
+pub(crate) fn answer_with<B: Book + Drop, G: Signer>(
+    store: &mut B,
+    alloc: Global,
+    settings: Settings<'_>,
+    account: Option<&Account>,
+    reading: i64,
+    query: &[u8],
+    signer: &mut G,
+) -> Reply
+    ensures honest { B.honest store.new → B.honest store.old }
+    ensures unasked { (rule : Rule) → IsFirstFailing (HoldsUnasked (policy_view settings.entry.policy.now)
+        (account_asked account.entry) query.now) rule
+        → (reply_as result ≡ Rejected rule) × (store.new ≡ store.old) × (signer.new ≡ signer.old) }
+    ensures step { IsBareStep B.Standing (with_signer G.signs G.fault_count signer.old signer.new)
+        (settings_view settings.entry)
+        (Stamp (account_asked account.entry) reading query.now) store.old store.new (reply_as result) }
+{
+    match begin_with(store, alloc, settings, account, reading, query) {
+        Ok(Begun::Pending(pending)) => complete(store, alloc, pending, signer),
+        Ok(Begun::Rejected(rejection)) => Reply::Rejected(rejection),
+        Err(_) => no_answer(),
+    }
+}

@@ -1,7 +1,0 @@
-use Rattle.std.proofs.Common.{◌≡◌, ◌+◌, ◌≤◌, drop}
-use Rattle.gentime.specs.Fraction.{worth, micros_of}
-use Rattle.gentime.proofs.reading.micros_of.Given as goal
-
-abbrev pub invariant-loop-digit : goal.invariant-loop-digit
-invariant-loop-digit l =
-    (l.unit ≤ 100_000) × (l.micros + worth l.unit (drop l.digit-index l.digits) ≡ micros_of l.digits)

@@ -1,0 +1,19 @@
+use Rattle.std.proofs.Common.{◌≡◌, ◌∙◌, ap, map, reverse}
+use Rattle.book.specs.History.{holds}
+use Rattle.book.specs.Values.{hold_view}
+use Rattle.operations.proofs.GoingOn.{may_be_closed, may_from, storage_fault}
+use Rattle.operations.proofs.continuation.carry.Goals as goal
+
+pub returns-in-Err-close_for_tokens : goal.returns-in-Err-close_for_tokens
+returns-in-Err-close_for_tokens g c =
+    let found = c.in_ok-carried.ensures in
+    let refused = c.in-Err-close_for_tokens in
+    let value = c.as_slice.ensures.value in
+    let held = found.same in
+    let same : map hold_view c.as_slice.result.now ≡ map hold_view c.args.held.items = cc in (
+      storage_fault refused.refused refused.ensures.refusals,
+      may_from g.B.Standing (λ b. map hold_view c.as_slice.result.now ≡ reverse (holds b)) _ c.args.book.now
+          c.look_up.new.book c.close_for_tokens.new.book found.looks (λ honest b s k. same ∙ k)
+          (may_be_closed g.B.Standing _ c.look_up.new.book c.close_for_tokens.new.book refused.refused
+          refused.ensures.closes),
+    )

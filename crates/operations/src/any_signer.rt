@@ -1,0 +1,63 @@
+//! A signer that was reached.
+use cms::{Algorithm, KeyedHash, Signer, SignerFault};
+use sessions::{KeyHolderSigner, Session};
+use std::io::Stderr;
+
+/// A signer that was reached, whichever it is: it answers as that.
+#[derive(Drop)]
+pub enum AnySigner<S, K> {
+    /// The stand-in.
+    Keyed(KeyedHash),
+    /// One session.
+    Session(S),
+    /// Sessions, of which another is opened where one was lost.
+    Reconnecting(K),
+}
+
+/// The stand-in, or a key holder that this machine reaches.
+pub type HostSigner<'a> = AnySigner<
+    Session<'a, HostRuntime>,
+    KeyHolderSigner<'a, HostRuntime, Stderr>,
+>;
+
+impl<S: Signer, K: Signer> Signer for AnySigner<S, K> {
+    ghost use Rattle.operations.specs.AnySigner.{algorithm_of, faults_of, SignsAsAny};
+
+    ghost signs = { SignsAsAny S.signs K.signs };
+
+    ghost fault_count = { faults_of S.fault_count K.fault_count };
+
+    ghost algorithm_octets = { algorithm_of S.algorithm_octets K.algorithm_octets };
+
+    fn sign(&mut self, text: &[u8]) -> Result<Vec<u8>, SignerFault> {
+        match self {
+            AnySigner::Keyed(signer) => signer.sign(text),
+            AnySigner::Session(signer) => signer.sign(text),
+            AnySigner::Reconnecting(signer) => signer.sign(text),
+        }
+    }
+
+    fn sign_each(&mut self, texts: &[&[u8]], answers: &mut Vec<Result<Vec<u8>, SignerFault>>) {
+        match self {
+            AnySigner::Keyed(signer) => signer.sign_each(texts, answers),
+            AnySigner::Session(signer) => signer.sign_each(texts, answers),
+            AnySigner::Reconnecting(signer) => signer.sign_each(texts, answers),
+        }
+    }
+
+    fn algorithm(&self) -> &Algorithm {
+        match self {
+            AnySigner::Keyed(signer) => signer.algorithm(),
+            AnySigner::Session(signer) => signer.algorithm(),
+            AnySigner::Reconnecting(signer) => signer.algorithm(),
+        }
+    }
+
+    fn faults(&self) -> u64 {
+        match self {
+            AnySigner::Keyed(signer) => signer.faults(),
+            AnySigner::Session(signer) => signer.faults(),
+            AnySigner::Reconnecting(signer) => signer.faults(),
+        }
+    }
+}

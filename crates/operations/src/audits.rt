@@ -1,0 +1,266 @@
+//! How the stamps that the database at a path keeps are extracted and checked.
+ghost use Rattle.std.specs.Prelude.{◌≡◌, ◌⊎◌, true, false, map, IfOk, IfErr, OnOk, OnErr, string_bytes};
+ghost use Rattle.std.specs.Io.KnownBytes.{Appends};
+ghost use Rattle.audit.specs.Extract.{extract_text};
+ghost use Rattle.book.specs.History.{History, stamps_between};
+ghost use Rattle.book.specs.Identities.{identities};
+ghost use Rattle.book.specs.Stands.{OnlyLooks, Stands};
+ghost use Rattle.book.specs.Values.{identity_view};
+ghost use Rattle.store.specs.Files.{image_at};
+ghost use Rattle.operations.specs.Audits.{Allows, BeginsExtract, Checks, ComesWhere, IsCutOff, IsExtractFault};
+ghost use Rattle.operations.specs.declared.audits.AuditFault.TheVariants.{Extract, Store};
+ghost use Rattle.operations.specs.Audits.{IsAudited, IsAuditOf, Leaves, TellsFailing, TellsSome, WritesExtract};
+ghost use Rattle.operations.specs.Audits.{failing_line};
+ghost use Rattle.operations.specs.OverFiles.{IsAuditedOver};
+
+use crate::database::Database;
+use crate::lifecycle::perform_at;
+use crate::operation::Operation;
+use audit::{ExtractFault, check_row, extract, write_octets};
+use book::{Book, IdentityRow, StampsBetween, StoreFault};
+use policy::{Account, Policy};
+use sqlite::{FileFrom, Start};
+use sqlite_disk::Disk;
+use std::alloc::{AllocError, Global};
+use std::io::Write;
+
+/// Of which stamps an account asks for an extract.
+#[derive(Clone, Copy)]
+pub struct Inquiry<'a> {
+    /// The policy file.
+    pub policy: &'a Policy,
+    /// The account that asks.
+    pub account: &'a Account,
+    /// The first serial number.
+    pub from: u64,
+    /// The last serial number.
+    pub to: u64,
+    /// Whether each stamp is checked as well.
+    pub check: bool,
+}
+
+/// Why there is no extract, or no check of it.
+#[derive(Clone, Copy)]
+pub enum AuditFault {
+    /// The database refused, or isn't the counter's.
+    Store(StoreFault),
+    /// The extract is refused, or memory ran out over the check.
+    Extract(ExtractFault),
+}
+
+impl From<StoreFault> for AuditFault {
+    ghost from_gives = { λ fault e. e ≡ Store fault };
+
+    fn from(fault: StoreFault) -> AuditFault {
+        AuditFault::Store(fault)
+    }
+}
+
+impl From<ExtractFault> for AuditFault {
+    ghost from_gives = { λ fault e. e ≡ Extract fault };
+
+    fn from(fault: ExtractFault) -> AuditFault {
+        AuditFault::Extract(fault)
+    }
+}
+
+impl<O: Write, E: Write> Operation<O, E> for Inquiry<'_> {
+    type Answer = Result<bool, AuditFault>;
+
+    ghost answers = { λ inquiry out out' told told' done. IsAudited inquiry (O.contents out) (O.contents out')
+        (E.contents told) (E.contents told') done };
+
+    ghost moves = { λ _ g inquiry old new out out' told told' done. IsAuditOf g inquiry old new (O.contents out)
+        (O.contents out') (E.contents told) (E.contents told') done };
+
+    fn perform<B: Book + Drop>(
+        self,
+        rt: &HostRuntime,
+        book: B,
+        output: &mut O,
+        errors: &mut E,
+    ) -> (B, Result<bool, AuditFault>) {
+        let mut book = book;
+        let done = audit_book(rt.alloc(), &mut book, &self, output, errors);
+        (book, done)
+    }
+}
+
+/// Writes the extract of the stamps that the database keeps, as `audit::extract` does, and then, where that
+/// is asked, checks each stamp as `check_stamps` does: whether all agree. Refused with `Store` where the database can't
+/// be opened, and with `Extract` as `audit::extract`; nothing is checked then. Where the check is refused it is
+/// `Extract` for want of memory, and else `Store`; the whole extract is written then.
+pub fn audit<F: Start + Drop, O: Write, E: Write>(
+    rt: &HostRuntime,
+    database: Database<'_, F>,
+    inquiry: &Inquiry<'_>,
+    output: &mut O,
+    errors: &mut E,
+) -> Result<bool, AuditFault>
+    ensures allowed { IfOk result (λ _. Allows inquiry.now) }
+    ensures extracted { OnOk result (WritesExtract (O.contents output.old) (O.contents output.new)) }
+
+    // Whatever the files hold: the store that was opened over them is audited.
+    ensures audited { IfOk result (λ _. IsAuditedOver ⟦<FileFrom<F> as Disk>⟧ (image_at F.Start) inquiry.now
+        (O.contents output.old) (O.contents output.new) (E.contents errors.old) (E.contents errors.new) result) }
+    ensures agreed { IfOk result (λ agree. agree ≡ true → E.contents errors.new ≡ E.contents errors.old) }
+    ensures failed { IfOk result (λ agree. agree ≡ false
+        → (inquiry.now.check ≡ true) × TellsSome (E.contents errors.old) (E.contents errors.new)) }
+    ensures comes { IfErr result (ComesWhere inquiry.now) }
+    ensures refused { IfErr result (Leaves inquiry.now (O.contents output.old) (O.contents output.new)
+        (E.contents errors.old) (E.contents errors.new)) }
+{
+    perform_at(rt, database, *inquiry, output, errors)?
+}
+
+/// Writes the extract of a book, and then checks its stamps where that is asked.
+fn audit_book<B: Book + Drop, O: Write, E: Write>(
+    alloc: Global,
+    book: &mut B,
+    inquiry: &Inquiry<'_>,
+    output: &mut O,
+    errors: &mut E,
+) -> Result<bool, AuditFault>
+    ensures looks { OnlyLooks B.Standing book.old book.new }
+    ensures whole { B.honest book.new → (b : History) → Stands B.Standing b book.old → OnOk result (Appends
+        (O.contents output.old) (O.contents output.new) (extract_text inquiry.now.from inquiry.now.to b)) }
+    ensures checked { B.honest book.new → (b : History) → Stands B.Standing b book.old → inquiry.now.check ≡ true
+        → IfOk result (Checks (identities b) (stamps_between inquiry.now.from inquiry.now.to b) (E.contents errors.old)
+        (E.contents errors.new)) }
+    ensures allowed { IfOk result (λ _. Allows inquiry.now) }
+    ensures extracted { OnOk result (WritesExtract (O.contents output.old) (O.contents output.new)) }
+    ensures agreed { IfOk result (λ agree. agree ≡ true → E.contents errors.new ≡ E.contents errors.old) }
+    ensures failed { IfOk result (λ agree. agree ≡ false
+        → (inquiry.now.check ≡ true) × TellsSome (E.contents errors.old) (E.contents errors.new)) }
+    ensures comes { IfErr result (ComesWhere inquiry.now) }
+    ensures refused { IfErr result (Leaves inquiry.now (O.contents output.old) (O.contents output.new)
+        (E.contents errors.old) (E.contents errors.new)) }
+{
+    write_extract(alloc, book, inquiry, output)?;
+    if !inquiry.check {
+        return Ok(true);
+    }
+    match check_stamps(alloc, book, inquiry.from, inquiry.to, errors) {
+        Ok(agree) => Ok(agree),
+        Err(ExtractFault::Memory) => Err(AuditFault::Extract(ExtractFault::Memory)),
+        // No other refusal of a walk over stamps is told than the database's.
+        Err(_) => Err(AuditFault::Store(StoreFault::Database)),
+    }
+}
+
+/// Writes the extract of a book, and has the output send what it keeps.
+fn write_extract<B: Book + Drop, O: Write>(
+    alloc: Global,
+    book: &mut B,
+    inquiry: &Inquiry<'_>,
+    output: &mut O,
+) -> Result<(), AuditFault>
+    ensures looks { OnlyLooks B.Standing book.old book.new }
+    ensures whole { B.honest book.new → (b : History) → Stands B.Standing b book.old → OnOk result (Appends
+        (O.contents output.old) (O.contents output.new) (extract_text inquiry.now.from inquiry.now.to b)) }
+    ensures allowed { IfOk result (λ _. Allows inquiry.now) }
+    ensures extracted { OnOk result (WritesExtract (O.contents output.old) (O.contents output.new)) }
+    ensures comes { IfErr result (ComesWhere inquiry.now) }
+    ensures refused { IfErr result (λ fault. (O.contents output.new ≡ O.contents output.old)
+        ⊎ (IsExtractFault fault × Allows inquiry.now × BeginsExtract (O.contents output.old) (O.contents output.new))) }
+{
+    extract(
+        alloc,
+        book,
+        inquiry.policy,
+        inquiry.account,
+        inquiry.from,
+        inquiry.to,
+        output,
+    )?;
+    output
+        .flush()
+        .or(Err(AuditFault::Extract(ExtractFault::Write)))
+}
+
+/// Checks each stamp of the range from its octets, and writes a line `row N fails` for each whose octets don't say what
+/// its row and the identity of its serial number say, N being that number: whether there is none. Where a line can't be
+/// written the stamps after it aren't looked at. Refused with `Memory` and `Store`, where they are met; the lines that
+/// were written stand. The book changes nowhere, and no stamp is kept.
+pub fn check_stamps<B: Book + Drop, E: Write>(
+    alloc: Global,
+    book: &mut B,
+    from: u64,
+    to: u64,
+    errors: &mut E,
+) -> Result<bool, ExtractFault>
+    ensures looks { OnlyLooks B.Standing book.old book.new }
+    ensures checked { B.honest book.new → (b : History) → Stands B.Standing b book.old
+        → IfOk result (Checks (identities b) (stamps_between from to b) (E.contents errors.old)
+        (E.contents errors.new)) }
+    ensures agreed { IfOk result (λ agree. agree ≡ true → E.contents errors.new ≡ E.contents errors.old) }
+    ensures failed { IfOk result (λ agree. agree ≡ false
+        → TellsSome (E.contents errors.old) (E.contents errors.new)) }
+    ensures told { OnErr result (TellsFailing (E.contents errors.old) (E.contents errors.new)) }
+    ensures refusals { IfErr result (λ e. (e ≡ ExtractFault.Memory) ⊎ (e ≡ ExtractFault.Store)) }
+{
+    match book.identities() {
+        Ok(identities) => {
+            let range = SerialRange { from, to };
+            check_against(alloc, book, identities.as_slice(), range, errors)
+        }
+        Err(fault) => Err(ExtractFault::from(fault)),
+    }
+}
+
+/// Serial numbers from the first to the last.
+#[derive(Clone, Copy)]
+struct SerialRange {
+    from: u64,
+    to: u64,
+}
+
+/// Checks the stamps of a range against the identities that were installed, which are given by number.
+fn check_against<B: Book + Drop, E: Write>(
+    alloc: Global,
+    book: &mut B,
+    identities: &[IdentityRow],
+    range: SerialRange,
+    errors: &mut E,
+) -> Result<bool, ExtractFault>
+    ensures looks { OnlyLooks B.Standing book.old book.new }
+    ensures checked { B.honest book.new → (b : History) → Stands B.Standing b book.old
+        → IfOk result (Checks (map identity_view identities.now) (stamps_between range.from range.to b) (E.contents errors.old)
+        (E.contents errors.new)) }
+    ensures agreed { IfOk result (λ agree. agree ≡ true → E.contents errors.new ≡ E.contents errors.old) }
+    ensures failed { IfOk result (λ agree. agree ≡ false
+        → TellsSome (E.contents errors.old) (E.contents errors.new)) }
+    ensures told { OnErr result (TellsFailing (E.contents errors.old) (E.contents errors.new)) }
+    ensures refusals { IfErr result (λ e. (e ≡ ExtractFault.Memory) ⊎ (e ≡ ExtractFault.Store)) }
+{
+    let mut agree = true;
+    let mut walk = StampsBetween::of(book, range.from, range.to);
+    while let Some(stamp) = walk.next()? {
+        if !check_row(&stamp, identities)? {
+            agree = false;
+            if !tell(alloc, stamp.serial, errors)? {
+                return Ok(false);
+            }
+        }
+    }
+    Ok(agree)
+}
+
+/// Writes the line of a stamp that fails: whether all of it is written.
+fn tell<E: Write>(alloc: Global, serial: u64, errors: &mut E) -> Result<bool, AllocError>
+    ensures whole { IfOk result (λ whole. whole ≡ true
+        → Appends (E.contents errors.old) (E.contents errors.new) (failing_line serial)) }
+    ensures cut { IfOk result (λ whole. whole ≡ false
+        → IsCutOff (E.contents errors.old) (E.contents errors.new) (failing_line serial)) }
+    ensures untold { OnErr result (E.contents errors.new ≡ E.contents errors.old) }
+{
+    let line = line_of(alloc, serial)?;
+    let taken = write_octets(errors, line.as_bytes());
+    Ok(taken == line.len())
+}
+
+fn line_of(alloc: Global, serial: u64) -> Result<String, AllocError>
+    ensures { IfOk result (λ line. string_bytes line ≡ failing_line serial) }
+{
+    format!(in alloc; "row {serial} fails\n")
+}

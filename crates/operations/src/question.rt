@@ -1,0 +1,88 @@
+//! How a request is answered over the database at a path.
+ghost use Rattle.std.specs.Prelude.{IfOk, IfErr};
+ghost use Rattle.policy.specs.View.{policy_view};
+ghost use Rattle.decide.specs.View.{account_asked};
+ghost use Rattle.desk.specs.Answers.{reply_as};
+ghost use Rattle.desk.specs.CallContract.{IsStep, with_signer};
+ghost use Rattle.desk.specs.Calls.{settings_view};
+ghost use Rattle.desk.specs.Command.{Stamp};
+ghost use Rattle.store.specs.Files.{image_at};
+ghost use Rattle.operations.specs.Judged.{IsJudgedReply};
+ghost use Rattle.operations.specs.DatabaseFaults.{IsStartingFault};
+ghost use Rattle.operations.specs.Signing.{algorithm_of};
+ghost use Rattle.operations.specs.OverFiles.{IsAnsweredOver};
+
+use crate::any_signer::HostSigner;
+use crate::database_desk::DatabaseDesk;
+use crate::desk_operation::{DeskOperation, perform_at_desk};
+use crate::fault::OperationFault;
+use crate::signed_desk::SignedDesk;
+use book::Book;
+use cms::Signer;
+use desk::Reply;
+use policy::Account;
+use sqlite::{FileFrom, Start};
+use sqlite_disk::Disk;
+
+/// A request, and who asks when.
+#[derive(Clone, Copy)]
+pub struct Question<'a> {
+    /// The account that asks, if it is known.
+    pub account: Option<&'a Account>,
+    /// The clock's reading, in microseconds.
+    pub reading: i64,
+    /// The request's octets.
+    pub query: &'a [u8],
+}
+
+impl DeskOperation<(), ()> for Question<'_> {
+    type Answer = Reply;
+
+    type Means = ();
+
+    ghost lacks = { λ _. ⊥ };
+
+    ghost answers = { λ question file _ _ _ _ reply. IsJudgedReply file (account_asked question.account)
+        question.query.now (reply_as reply) };
+
+    ghost moves = { λ _ _ g signs question visit reply. IsStep g (with_signer signs.signs signs.fault_count visit.signer
+        visit.signer_after) (Stamp (account_asked question.account) question.reading question.query.now) visit.desk
+        visit.desk_after (reply_as reply) };
+
+    fn prepare(&self, _rt: &HostRuntime) -> Result<(), OperationFault> {
+        Ok(())
+    }
+
+    fn perform<B: Book + Drop, G: Signer>(
+        self,
+        _means: (),
+        signed: &mut SignedDesk<'_, B, G>,
+        _input: &mut (),
+        _output: &mut (),
+    ) -> Reply {
+        let SignedDesk { desk, signer } = signed;
+        desk.answer(self.account, self.reading, self.query, signer)
+    }
+}
+
+/// Answers the request as `Desk::answer` does, over the history that the database keeps. Refused with
+/// `Memory`, with `Database` where no file stands there, and with `NotOurs` where it isn't a database of the counter's;
+/// then with `Unreached` where the key holder can't be reached. After that there is a reply.
+pub fn answer<F: Start + Drop>(
+    rt: &HostRuntime,
+    desk: DatabaseDesk<'_, F>,
+    question: &Question<'_>,
+) -> Result<Reply, OperationFault>
+    // A request that fails a rule of 1 to 9 is rejected by the first of them, whatever the database holds.
+    ensures judged { IfOk result (λ reply. IsJudgedReply (policy_view desk.entry.settings.policy.now)
+        (account_asked question.now.account) question.now.query.now (reply_as reply)) }
+
+    // Whatever the files hold: it is the answer of the machine's step, at a desk over the store that was opened over
+    // them.
+    ensures stepped { IfOk result (λ reply. IsAnsweredOver ⟦<FileFrom<F> as Disk>⟧ (image_at F.Start)
+        ⟦<HostSigner<'static> as Signer>⟧ (settings_view desk.entry.settings) (algorithm_of desk.entry.signing)
+        (account_asked question.now.account) question.now.reading question.now.query.now (reply_as reply)) }
+    ensures refusals { IfErr result IsStartingFault }
+{
+    perform_at_desk(rt, desk, *question, &mut (), &mut ())
+}

@@ -1,0 +1,43 @@
+use Rattle.std.proofs.Common.{◌≡◌, rules, subst}
+use Rattle.audit.specs.Auditor.{ComesWhere}
+use Rattle.audit.specs.declared.fault.ExtractFault.TheVariants.{Write}
+use Rattle.policy.specs.View.{account_view, policy_view}
+use Rattle.service.proofs.ExtractLemmas.{answering, keeping_back, unwritten}
+use Rattle.service.proofs.extracts.serve_extract.Goals as goal
+
+pub returns-in-Err-clause-served : goal.returns-in-Err-clause-served
+returns-in-Err-clause-served g c =
+    let i = c.args.inquiry.now in
+    keeping_back g.B.Standing g.W.Write.contents c.args.context.now.at.reading c.args.writer.now
+    c.extract_length.new.out c.refuse.new.writer (policy_view i.policy.now) (account_view i.account.now) i.from i.to
+    c.extract_length.ensures.unwritten c.args.desk.now.store c.extract_length.new.store c.refuse.result
+    c.in-Err.fault c.from.result
+    c.in-Err.ensures.refusals
+    (rw c.store.ensures.same at c.in-Err.ensures.unasked)
+    (rw c.store.ensures.same at c.in-Err.ensures.faults)
+    (search rules)
+    c.from.ensures c.refuse.ensures
+
+pub returns-in-Err-Write-clause-served : goal.returns-in-Err-Write-clause-served
+returns-in-Err-Write-clause-served g c =
+    let i = c.args.inquiry.now in
+    let file = policy_view i.policy.now in
+    let account = account_view i.account.now in
+    let is : c.in-Err-Write.field-0 ≡ Write = search rules in
+    unwritten g.B.Standing g.W.Write.contents c.args.context.now.at.reading c.args.writer.now
+    c.extract_length.new.out c.extract_length.new.out file account i.from i.to
+    c.extract_length.ensures.unwritten c.args.desk.now.store c.extract_length.new.store c.as_u16.result
+    (subst (ComesWhere file account i.from i.to) is c.in-Err-Write.ensures.refusals) c.as_u16.ensures.value
+
+pub returns-in-Ok-clause-served : goal.returns-in-Ok-clause-served
+returns-in-Ok-clause-served g c =
+    let i = c.args.inquiry.now in
+    answering g.B.Standing g.W.Write.contents c.args.context.now.at.reading c.args.writer.now
+    c.extract_length.new.out c.send_extract.new.writer (policy_view i.policy.now) (account_view i.account.now)
+    i.from i.to c.extract_length.ensures.unwritten c.args.desk.now.store
+    c.extract_length.new.store c.send_extract.new.store c.in-Ok.length c.send_extract.result
+    c.in-Ok.ensures.refusals
+    (rw c.store.ensures.same at c.in-Ok.ensures.looks)
+    (rw c.store-in-Ok.ensures.same at c.send_extract.ensures.looks)
+    (rw c.store.ensures.same at c.in-Ok.ensures.value)
+    (rw c.store-in-Ok.ensures.same at c.send_extract.ensures.sent)

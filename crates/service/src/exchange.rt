@@ -1,0 +1,156 @@
+//! A request and its answer.
+ghost use Rattle.std.specs.Prelude.{◌≡◌, length, take, List, Option, ℕ, true};
+ghost use Rattle.std.specs.Io.KnownBytes.{Consumes, IsAtEnd};
+ghost use Rattle.service.specs.Known.{IsDue, IsDueAtEnd, IsDueInPlace};
+ghost use Rattle.service.specs.Received.{ReceivedValue, IsAll};
+ghost use Rattle.service.specs.Served.{Serves, TellsCut};
+
+use crate::answer::Occasion;
+use crate::context::{Context, Environment};
+use crate::due::Due;
+use crate::handlers::handle;
+use crate::request::Request;
+use crate::responses::{out_of_memory, refuse};
+use crate::routes::Routes;
+use crate::served::Served;
+use book::Book;
+use cms::Signer;
+use desk::Desk;
+use std::alloc::Global;
+use std::io::{Read, Write};
+
+/// What became of a request, by the octets that came of it.
+#[derive(Clone, Copy)]
+pub struct Exchanged {
+    /// What became of it.
+    pub served: Served,
+    /// It was whole, and nothing that came or may come follows it.
+    pub is_all: bool,
+}
+
+/// Gives a request what is due to it.
+fn give<W: Write, B: Book + Drop, G: Signer>(
+    environment: Environment<'_>,
+    due: Due<'_>,
+    desk: &mut Desk<'_, B>,
+    signer: &mut G,
+    writer: &mut W,
+) -> Served
+    requires { IsDueInPlace due }
+    ensures setting { desk.new.setting ≡ desk.old.setting }
+    ensures honest { B.honest desk.new.store → B.honest desk.old.store }
+    ensures served { (r : ReceivedValue) → IsDue r due.entry → (before after : Option (List ℕ))
+        → Consumes before after (take r.taken r.octets)
+        → (r.is_ended ≡ true → r.taken ≡ length r.octets → IsAtEnd after)
+        → Serves B.Standing G.signs G.fault_count W.contents environment.entry.reading (record {
+          input = before;
+          input_after = after;
+          writer = writer.old;
+          writer_after = writer.new;
+          desk = desk.old;
+          desk_after = desk.new;
+          signer = signer.old;
+          signer_after = signer.new;
+        }) result }
+    ensures cut { IsDueAtEnd due.entry → TellsCut result }
+{
+    let at = Occasion {
+        reading: environment.reading,
+    };
+    match due {
+        Due::Nothing => Served::Closed,
+        Due::Refusal(refusal) => refuse(writer, at, refusal),
+        Due::Answer(action, head, body) => {
+            let context = Context {
+                alloc: environment.alloc,
+                routes: environment.routes,
+                at,
+                head,
+                body,
+            };
+            handle(action, &context, desk, signer, writer)
+        }
+    }
+}
+
+impl Request {
+    /// Answers it by the octets that came, of which those behind it aren't looked at. One to which octets are wanting is
+    /// refused: by status 400 where the input ended, and else, as there is no memory for them, by 503.
+    pub fn serve<W: Write, B: Book + Drop, G: Signer>(
+        &self,
+        environment: Environment<'_>,
+        desk: &mut Desk<'_, B>,
+        signer: &mut G,
+        writer: &mut W,
+    ) -> Exchanged
+        ensures setting { desk.new.setting ≡ desk.old.setting }
+        ensures honest { B.honest desk.new.store → B.honest desk.old.store }
+        ensures served { (before after : Option (List ℕ)) → Consumes before after (take self.now.taken self.now.octets)
+            → (self.now.is_ended ≡ true → self.now.taken ≡ length self.now.octets → IsAtEnd after)
+            → Serves B.Standing G.signs G.fault_count W.contents environment.entry.reading (record {
+              input = before;
+              input_after = after;
+              writer = writer.old;
+              writer_after = writer.new;
+              desk = desk.old;
+              desk_after = desk.new;
+              signer = signer.old;
+              signer_after = signer.new;
+            }) result.served }
+        ensures all { result.is_all ≡ true → IsAll self.now.octets }
+        ensures cut { self.now.is_wanting ≡ true → self.now.is_ended ≡ true → TellsCut result.served }
+    {
+        Exchanged {
+            served: give(environment, self.due(), desk, signer, writer),
+            is_all: self.is_all(),
+        }
+    }
+}
+
+/// Reads one request, has the desk take the one step that it asks for, and writes one answer (RFC 9112, RFC 3161 3.4).
+/// The reading is the clock's, in microseconds.
+///
+/// It asks the reader for no octet behind the request, and for none once it is refused. `Closed` where the input ends
+/// before any octet, and `ReadFailed` where a read fails; nothing is written then, and nothing done. `WriteFailed`
+/// where a write fails or takes nothing; what the desk did stands. Want of memory here is answered by status 503. A
+/// desk that wants memory, or whose store or signer fails, is told by the reply's rule 12 on `/tsp`, and by 503
+/// elsewhere. An auditor's extract is written row by row, and no row is kept: it is `WriteFailed` too where the store
+/// or memory fails once the answer is begun.
+pub fn serve_one<R: Read, W: Write, B: Book + Drop, G: Signer>(
+    alloc: Global,
+    reader: &mut R,
+    writer: &mut W,
+    desk: &mut Desk<'_, B>,
+    reading: i64,
+    signer: &mut G,
+) -> Served
+    ensures setting { desk.new.setting ≡ desk.old.setting }
+    ensures honest { B.honest desk.new.store → B.honest desk.old.store }
+    ensures served { Serves B.Standing G.signs G.fault_count W.contents reading (record {
+      input = R.remaining reader.old;
+      input_after = R.remaining reader.new;
+      writer = writer.old;
+      writer_after = writer.new;
+      desk = desk.old;
+      desk_after = desk.new;
+      signer = signer.old;
+      signer_after = signer.new;
+    }) result }
+{
+    let Ok(routes) = Routes::new(alloc) else {
+        return out_of_memory(writer, Occasion { reading });
+    };
+    let mut request = Request::new(alloc);
+    'reading: while request.is_open() {
+        match request.read(&routes, reader) {
+            Ok(()) => {}
+            Err(_) => return Served::ReadFailed,
+        }
+    }
+    let environment = Environment {
+        alloc,
+        routes: &routes,
+        reading,
+    };
+    request.serve(environment, desk, signer, writer).served
+}

@@ -1,0 +1,166 @@
+//! Answers that are written.
+ghost use Rattle.std.specs.Prelude.{◌≡◌, ◌≤◌, ◌++◌, length, Option, option_map};
+ghost use Rattle.http.specs.StatusCode.{reason_phrase};
+ghost use Rattle.service.specs.Answers.{created, phrase_of, refusal_answer, success};
+ghost use Rattle.service.specs.Routes.{names_of};
+ghost use Rattle.service.specs.Served.{SendsText, Sends, unavailable};
+ghost use Rattle.service.specs.Views.{stamp_answer, status_kept, kept_answer, done_answer, added_answer};
+
+use crate::answer::{Heading, Media, Occasion, head_text};
+use crate::lists::number_line;
+use crate::refusal::Refusal;
+use crate::served::Served;
+use crate::writes::write_both;
+use book::StoreFault;
+use desk::{Deposited, Fault, Reply};
+use http::StatusCode;
+use std::io::Write;
+
+/// Writes an answer's head and its body.
+fn write_answer<W: Write>(writer: &mut W, status: StatusCode, head: &[u8], body: &[u8]) -> Served
+    requires { length head.now ≤ 512 }
+    ensures { SendsText W.contents writer.old writer.new status (head.now ++ body.now) result }
+{
+    let status = status.as_u16();
+    let sent = write_both(writer, head, body);
+    if sent < head.len() + body.len() {
+        return Served::WriteFailed { status, sent };
+    }
+    Served::Answered(status)
+}
+
+/// Writes an answer. It takes no memory.
+fn send<W: Write>(writer: &mut W, heading: Heading, body: &[u8]) -> Served
+    requires { length (phrase_of (reason_phrase heading.status)) ≤ 40 }
+    ensures { Sends W.contents heading.at.reading writer.old writer.new (record {
+      status = heading.status;
+      media = heading.media;
+      allow = option_map names_of heading.allow;
+      body = body.now;
+    }) result }
+{
+    let status = heading.status;
+    let head = head_text(heading, body.len());
+    write_answer(writer, status, head.as_str().as_bytes(), body)
+}
+
+/// Writes an answer of a status that tells success.
+fn tell<W: Write>(
+    writer: &mut W,
+    at: Occasion,
+    status: StatusCode,
+    media: Media,
+    body: &[u8],
+) -> Served
+    requires { length (phrase_of (reason_phrase status)) ≤ 40 }
+    ensures { Sends W.contents at.reading writer.old writer.new (success status media body.now) result }
+{
+    let heading = Heading {
+        at,
+        status,
+        media,
+        allow: None,
+    };
+    send(writer, heading, body)
+}
+
+/// Writes the answer that tells a refusal.
+pub(crate) fn refuse<W: Write>(writer: &mut W, at: Occasion, refusal: Refusal) -> Served
+    ensures { Sends W.contents at.reading writer.old writer.new (refusal_answer refusal) result }
+{
+    let heading = Heading {
+        at,
+        status: refusal.status(),
+        media: Media::Text,
+        allow: refusal.allowed(),
+    };
+    let body = refusal.body();
+    send(writer, heading, body.as_str().as_bytes())
+}
+
+/// Writes the answer that the counter can't answer now.
+pub(crate) fn out_of_memory<W: Write>(writer: &mut W, at: Occasion) -> Served
+    ensures { Sends W.contents at.reading writer.old writer.new unavailable result }
+{
+    refuse(writer, at, Refusal::Unavailable)
+}
+
+/// Writes an answer of status 200.
+pub(crate) fn succeed<W: Write>(writer: &mut W, at: Occasion, media: Media, body: &[u8]) -> Served
+    ensures { Sends W.contents at.reading writer.old writer.new (success 200 media body.now) result }
+{
+    tell(writer, at, StatusCode::OK, media, body)
+}
+
+/// Writes the reply to a time-stamp request.
+pub(crate) fn write_reply<W: Write>(writer: &mut W, at: Occasion, reply: &Reply) -> Served
+    ensures { Sends W.contents at.reading writer.old writer.new (stamp_answer reply.now) result }
+{
+    match reply {
+        Reply::Granted { serial: _, bytes } => succeed(writer, at, Media::Reply, bytes),
+        Reply::Rejected(rejection) => succeed(writer, at, Media::Reply, rejection.as_slice()),
+    }
+}
+
+/// The status that tells of a deposit: created, or there before.
+fn status_kept(is_new: bool) -> StatusCode
+    ensures value { result ≡ status_kept is_new }
+    ensures short { length (phrase_of (reason_phrase result)) ≤ 40 }
+{
+    if is_new {
+        StatusCode::CREATED
+    } else {
+        StatusCode::OK
+    }
+}
+
+/// Writes the answer to a deposit: its number.
+pub(crate) fn write_deposited<W: Write>(
+    writer: &mut W,
+    at: Occasion,
+    deposited: Deposited,
+) -> Served
+    ensures { Sends W.contents at.reading writer.old writer.new (kept_answer deposited) result }
+{
+    let line = number_line(deposited.number);
+    let status = status_kept(deposited.is_new);
+    tell(writer, at, status, Media::Text, line.as_str().as_bytes())
+}
+
+/// Writes the answer where a right is given or taken, or why it isn't.
+pub(crate) fn write_done<W: Write>(
+    writer: &mut W,
+    at: Occasion,
+    outcome: Result<(), Fault>,
+) -> Served
+    ensures { Sends W.contents at.reading writer.old writer.new (done_answer outcome) result }
+{
+    match outcome {
+        Ok(()) => succeed(writer, at, Media::Text, b""),
+        Err(fault) => refuse(writer, at, Refusal::from(fault)),
+    }
+}
+
+/// Writes the answer that something is created under a number.
+fn create<W: Write>(writer: &mut W, at: Occasion, number: u64) -> Served
+    ensures { Sends W.contents at.reading writer.old writer.new (created number) result }
+{
+    let line = number_line(number);
+    let octets = line.as_str().as_bytes();
+    tell(writer, at, StatusCode::CREATED, Media::Text, octets)
+}
+
+/// Writes the answer where a calibration or a hold is added: its number, or why it isn't.
+pub(crate) fn write_added<W: Write>(
+    writer: &mut W,
+    at: Occasion,
+    outcome: Result<u64, StoreFault>,
+) -> Served
+    ensures { Sends W.contents at.reading writer.old writer.new (added_answer outcome) result }
+{
+    match outcome {
+        Ok(number) => create(writer, at, number),
+        Err(StoreFault::Backwards) => refuse(writer, at, Refusal::Backwards),
+        Err(_) => out_of_memory(writer, at),
+    }
+}
