@@ -45,11 +45,14 @@ abbrev IsTold : Result (Unit {0}) OperationFault → Result (Unit {0}) Fault →
 IsTold done result =
     MatchResult done (λ answer. result ≡ Ok answer) (λ refused. result ≡ Err (fault_of_operation refused))
 
+abbrev IsDone : Result (Unit {0}) OperationFault → Type 0
+IsDone done = done ≡ Ok tt
+
 -- where it is told that all is done, it is
 pub told_done : (done : Result (Unit {0}) OperationFault) (result : Result (Unit {0}) Fault) → IsTold done result
-    → OnOk result (done ≡ Ok tt)
-told_done (Ok answer) result is = subst (λ r. OnOk r (Ok answer ≡ Ok tt)) (sym is) refl
-told_done (Err refused) result is = subst (λ r. OnOk r (Err refused ≡ Ok tt)) (sym is) tt
+    → OnOk result (IsDone done)
+told_done (Ok answer) result is = subst (λ r. OnOk r (IsDone (Ok answer))) (sym is) refl
+told_done (Err refused) result is = subst (λ r. OnOk r (IsDone (Err refused))) (sym is) tt
 
 -- and where a failure is told, the clock failed
 pub told_failed : (done : Result (Unit {0}) OperationFault) (result : Result (Unit {0}) Fault) → IsTold done result
