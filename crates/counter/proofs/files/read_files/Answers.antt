@@ -14,3 +14,8 @@ pub returns-in_err-signing-clause-faults : goal.returns-in_err-signing-clause-fa
 returns-in_err-signing-clause-faults c =
     let failing = err_from_is_err_and c.from_residual-in_err-signing.result c.from_residual-in_err-signing.ensures.1 in
     rw failing.1 (inl (subst IsFileFault (sym failing.2) c.in_err-signing.ensures.faults))
+
+pub returns-in_err-identity-clause-faults : goal.returns-in_err-identity-clause-faults
+returns-in_err-identity-clause-faults c =
+    let failing = err_from_is_err_and c.from_residual-in_err-identity.result c.from_residual-in_err-identity.ensures.1 in
+    rw failing.1 (inl (subst IsFileFault (sym failing.2) c.in_err-identity.ensures.faults))
