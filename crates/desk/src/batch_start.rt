@@ -6,6 +6,7 @@ ghost use Rattle.tsp.specs.Rules.{IsFirstFailing};
 ghost use Rattle.tsp.specs.declared.rule.Rule.{Rule};
 ghost use Rattle.decide.specs.View.{account_asked};
 ghost use Rattle.book.specs.Entries.{entries_view, Appends};
+ghost use Rattle.book.specs.Fault.{IsOfStorage};
 ghost use Rattle.book.specs.History.{History, Reserved};
 ghost use Rattle.book.specs.Sound.{IsSound};
 ghost use Rattle.book.specs.Stands.{Stands, OnlyLooks, LeavesAsBefore};
@@ -137,6 +138,7 @@ fn reserve_each<B: Book + Drop>(
 ) -> Result<(), StoreFault>
     requires some { 0 < length waits.now }
     ensures appends { Appends B.Standing (map Reserved (map waiting_view waits.now)) store.old store.new result }
+    ensures refusals { IfErr result IsOfStorage }
 {
     let entries = entries_of(alloc, waits)?;
     store.append(&entries)

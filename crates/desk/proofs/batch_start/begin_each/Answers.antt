@@ -1,4 +1,5 @@
-use Rattle.std.proofs.Common.{map, sym, subst}
+use Rattle.std.proofs.Common.{◌≡◌, ◌∙◌, [], length, map, vec_len, sym, ap, subst}
+use Rattle.std.proofs.lemmas.Bool.{eq-eqb}
 use Rattle.book.specs.History.{Reserved}
 use Rattle.book.specs.Sound.{IsSound}
 use Rattle.book.specs.Stands.{Stands}
@@ -6,7 +7,7 @@ use Rattle.desk.specs.Calls.{settings_view}
 use Rattle.desk.specs.Together.{questions_view}
 use Rattle.desk.specs.WaitingStamps.{waiting_view, with_waiting}
 use Rattle.desk.proofs.Batches.{fit_each}
-use Rattle.desk.proofs.BatchJudgement.{judged_sound}
+use Rattle.desk.proofs.BatchJudgement.{judged_sound, reserved_in_doubt}
 use Rattle.desk.proofs.batch_start.begin_each.Goals as goal
 
 pub returns-in-Ok-reserve_each-clause-reserved : goal.returns-in-Ok-reserve_each-clause-reserved
@@ -21,3 +22,15 @@ returns-in-Ok-reserve_each-clause-reserved g c honest b st =
     (appends.ok b (c.in-Ok.ensures.looks.stands b st)
     (fit_each (map Reserved (map waiting_view lent)) b
     (subst (λ x. IsSound (with_waiting x b)) (sym c.deref.ensures.value) sound)))
+
+pub returns-in-Err-reserve_each-clause-left : goal.returns-in-Err-reserve_each-clause-left
+returns-in-Err-reserve_each-clause-left g c honest b st left r =
+    let ws = c.judge_each.new.waits.items in
+    let some : ws ≡ [] → ⊥ = λ none.
+    let zero = c.judge_each.new.waits.ok.0 ∙ ap length none in
+    cc (sym (eq-eqb (vec_len c.judge_each.new.waits) 0 zero) ∙ (sym c.is_empty.ensures ∙ c.if-is_empty.false)) in
+    let refused = c.in-Err-reserve_each.ensures in
+    reserved_in_doubt g.B.Standing (settings_view c.args.settings) (questions_view c.args.asked.now)
+    c.judge_each.new.verdicts.items ws c.deref.result.now c.in-Err-reserve_each.fault c.args.store.now
+    c.judge_each.new.store c.reserve_each.new.store b left c.deref.ensures.value some refused.refusals
+    c.in-Ok.ensures.looks c.in-Ok.ensures.judges refused.appends honest st r
