@@ -131,12 +131,7 @@ impl Request {
     }
 
     /// Writes the reply to the stamp that it asks for, given at that reading.
-    pub fn write_stamped<W: Write>(
-        &self,
-        reading: i64,
-        reply: &Reply,
-        writer: &mut W,
-    ) -> Exchanged
+    pub fn write_stamped<W: Write>(&self, reading: i64, reply: &Reply, writer: &mut W) -> Exchanged
         ensures sent { Sends W.contents reading writer.old writer.new (stamp_answer reply.now) result.served }
         ensures tells { (asked : Question) → stamp_answer reply.now ≡ answer_to (stamp_for asked) (reply_as reply.now) }
         ensures all { result.is_all ≡ true → IsAll self.now.octets }
