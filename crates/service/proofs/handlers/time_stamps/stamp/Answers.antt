@@ -1,9 +1,7 @@
-use Rattle.std.proofs.Common.{ℤ, Ok, Err, refl, subst, rules, SFits, w64, to_z-of_z}
+use Rattle.std.proofs.Common.{Ok, Err, refl, sym}
 use Rattle.desk.specs.Answers.{reply_as}
 use Rattle.desk.specs.Batches.{stamp_for}
-use Rattle.desk.specs.CallContract.{IsStep, with_signer}
 use Rattle.desk.specs.Together.{question_view}
-use Rattle.service.specs.Requests.{Step, asked_by}
 use Rattle.service.specs.Views.{request_view, stamp_answer}
 use Rattle.service.specs.declared.routes.Action.TheVariants as action
 use Rattle.service.proofs.HandledLemmas.{refused, told, stamp_told}
