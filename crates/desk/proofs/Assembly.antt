@@ -11,14 +11,14 @@ use Rattle.cms.specs.declared.signer.SignerFault.{SignerFault}
 use Rattle.book.specs.History.{Reserved, History, ReservationValue, reservations}
 use Rattle.book.specs.History.{greatest_serial}
 use Rattle.book.specs.Sound.{FitsReserved, IsSound}
-use Rattle.desk.specs.Batches.{Question, stamp_for, stamps_for, seals, with_reserved, with_sealed, HaveEffects}
-use Rattle.desk.specs.Batches.{all_reserved, all_sealed, MoveInTurn, batch_of, after_batch, faults_along}
-use Rattle.desk.specs.Command.{Setting, PendingValue, Answer, Rejected}
+use Rattle.desk.specs.Batches.{Question, stamp_for, seals, with_reserved, HaveEffects}
+use Rattle.desk.specs.Batches.{all_reserved, all_sealed, MoveInTurn, faults_along}
+use Rattle.desk.specs.Command.{Setting, PendingValue, Rejected}
 use Rattle.desk.specs.Completions.{texts_of, completed, AreWaiting, faults_sealing}
 use Rattle.desk.specs.Effects.{Effect, only, no_number, no_seal, next_reservation, stamping_of, stamp_effect, name_of}
 use Rattle.desk.specs.Findings.{Fails, Allowed}
 use Rattle.desk.specs.Fit.{IsUncounted, counting_for}
-use Rattle.desk.specs.Outcome.{Call, Fine, Outcome, Cause, counted, all_fine}
+use Rattle.desk.specs.Outcome.{Fine, Outcome, Cause, counted, all_fine}
 use Rattle.desk.specs.MachineStep.{HasEffect, IsWaiting, Moves}
 use Rattle.desk.specs.Texts.{pending_of}
 use Rattle.desk.specs.Together.{Awaits, AreJudged, AreSplit, AreFit, merged}

@@ -9,20 +9,20 @@ use Rattle.cms.specs.SignedData.{attribute_text}
 use Rattle.cms.specs.declared.signer.SignerFault.{SignerFault}
 use Rattle.cms.specs.declared.signer.SignerFault.TheVariants as signer
 use Rattle.book.specs.Entries.{with_all, FitInTurn}
-use Rattle.book.specs.History.{Entry, Reserved, Sealed, History, ReservationValue, CalibrationValue, reservations}
+use Rattle.book.specs.History.{Entry, Reserved, Sealed, History, ReservationValue, reservations}
 use Rattle.book.specs.History.{calibrations, holds, greatest_serial, last_gen_time, latest_calibration, count_of_day}
 use Rattle.book.specs.History.{day_of, is_of_day}
 use Rattle.book.specs.Shows.{ShowsSame}
-use Rattle.book.specs.Sound.{FitsReserved, FitsSealed, Fits, IsSound, greatest_number}
+use Rattle.book.specs.Sound.{FitsReserved, FitsSealed, IsSound, greatest_number}
 use Rattle.desk.specs.Facts.{facts_of, is_held_at, now_in, count_in, gen_time_in, gen_time_of}
 use Rattle.desk.specs.Outcome.{Outcome, Cause}
 use Rattle.desk.specs.Findings.{StampPlan, IsAllowed, Finding, Fails, Unanswered, Allowed, Finds}
-use Rattle.desk.specs.Command.{Setting, PendingValue, Stamp, Answer}
+use Rattle.desk.specs.Command.{Setting, PendingValue, Answer}
 use Rattle.desk.specs.Texts.{pending_of, token_with}
 use Rattle.desk.specs.Effects.{Effect, no_number, no_seal, next_reservation, sealed_or_void, signed_or_void}
 use Rattle.desk.specs.Effects.{stamping_of, stamp_effect, stamp_found, name_of}
 use Rattle.desk.specs.MachineStep.{HasEffect, Moves}
-use Rattle.desk.specs.MachineRuns.{Runs, Told, after, cut}
+use Rattle.desk.specs.MachineRuns.{Runs, Told, after}
 use Rattle.desk.specs.Laws.{Continues}
 use Rattle.desk.specs.Wholes.{joined}
 use Rattle.desk.specs.Batches.{Question, stamp_for, stamps_for, SealValue, seals, seal_entry, with_reserved}

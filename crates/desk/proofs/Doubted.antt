@@ -16,7 +16,6 @@ use Rattle.desk.specs.Batches.{all_reserved, all_sealed, batch_of, after_batch}
 use Rattle.desk.specs.Command.{Setting, PendingValue}
 use Rattle.desk.specs.Completions.{completed, seals_of, AreWaiting, AreKept, IsSealedInDoubt, AreAllSealed}
 use Rattle.desk.specs.Effects.{Effect, no_seal}
-use Rattle.desk.specs.MachineRuns.{Told}
 use Rattle.desk.specs.Outcome.{Call, Fine, Outcome, Cause, all_fine}
 use Rattle.desk.specs.Texts.{token_with}
 use Rattle.desk.specs.Together.{AreJudged, AreSplit, AreFit, AreCommitted, AreSignedAlike, IsReservedInDoubt}

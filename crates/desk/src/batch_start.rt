@@ -176,10 +176,7 @@ pub(crate) fn begin_each<'p, 'a, B: Book + Drop>(
         → B.leaves store.old left ⊎ IsReservedInDoubt B.Standing (settings_view settings.entry)
         (questions_view asked.now) verdicts.new.items waits.new.items refusal b left) }
 {
-    match judge_each(store, alloc, settings, asked, verdicts, waits) {
-        Ok(()) => {}
-        Err(refusal) => return Err(refusal),
-    }
+    judge_each(store, alloc, settings, asked, verdicts, waits)?;
     if waits.is_empty() {
         return Ok(());
     }
