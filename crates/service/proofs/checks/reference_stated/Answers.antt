@@ -6,12 +6,13 @@ use Rattle.std.proofs.lemmas.List.{get_or_past}
 use Rattle.std.proofs.lemmas.List.Sums.{AllPass-from_list_all}
 use Rattle.std.proofs.lemmas.Str.{IsUtf8-from_ascii}
 use Rattle.std.specs.List.{list_all}
-use Rattle.std.specs.Prelude.{MatchResult}
+use Rattle.std.specs.Prelude.{MatchResult, codes}
 use Rattle.std.specs.Result.{IsErrAnd}
 use Rattle.std.specs.Str.{IsUtf8}
-use Rattle.service.specs.Checks.{◌>>=◌, check}
+use Rattle.service.specs.Checks.{◌>>=◌, check, once}
+use Rattle.service.specs.Fields.{stated}
 use Rattle.service.specs.Numbers.{is_reference, is_reference_octet}
-use Rattle.service.specs.Views.{octets_given}
+use Rattle.service.specs.Views.{head_view, octets_given}
 use Rattle.service.specs.declared.refusal.Refusal.{Refusal}
 use Rattle.service.specs.declared.refusal.Refusal.TheVariants as refusal
 use Rattle.service.proofs.checks.reference_stated.Goals as goal
@@ -54,4 +55,6 @@ returns c =
     let formed : is_reference reference ≡ true = sym c.is_reference.ensures ∙ c.if-not-is_reference.false in
     text_given _ _ c.from_utf8.result c.map_err.result reference c.map_err.ensures.cases c.from_utf8.ensures.cases
     (reference_is_text reference formed)
-    ∙ told_once _ reference c.in_ok-reference.ensures formed
+    ∙ told_once (once refusal.BadReference refusal.BadReference
+    (stated (codes "deposit-reference") (head_view c.args.head).fields)) reference
+    (c.in_ok-reference.ensures ∙ ap (once refusal.BadReference refusal.BadReference) c.stated-found.ensures) formed

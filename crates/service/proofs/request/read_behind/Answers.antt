@@ -39,7 +39,7 @@ returns-clause-fills g c =
     let room = c.args.room.now in
     let part = c.read.new.buf in
     let old = g.R.Read.remaining c.args.reader.now in
-    let new = g.R.Read.remaining c.read.new.reader in
+    let new = g.R.Read.remaining c.read.new.self in
     let within : a ≤ length room = omega (arith, c.requires.within) in
     if_ok (Fills old new room (put_mid a k room part) a) _ c.read.result c.map_err.result c.map_err.ensures.cases
     (λ count is.

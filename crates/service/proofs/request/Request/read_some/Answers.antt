@@ -1,3 +1,5 @@
+use Rattle.std.specs.Prelude.{OnErr}
+use Rattle.std.proofs.Common.{Result, Ok, Err}
 use Rattle.std.proofs.Common.{◌≡◌, ◌∙◌, ℕ, ◌+◌, ◌≤◌, Bool, true, List, ◌++◌, ap, arith, drop, length, subst, sym, take}
 use Rattle.std.proofs.lemmas.List.{with_items_is}
 use Rattle.httparse.specs.declared.spans.HeaderSpan.{HeaderSpan}
@@ -15,6 +17,10 @@ known_then all octets before after headers k k' same kept is then =
     let P : List ℕ → Type 0 = λ l. IsKnown l headers k in
     let Q : List ℕ → Type 0 = λ l. IsKnown l headers k' in
     subst Q (sym kept) (then (subst P same is))
+
+on_err : {T E P : Type 0} (r : Result T E) → P → OnErr r P
+on_err (Ok x) is = tt
+on_err (Err e) is = is
 
 pub invariant_of-self-in-Open : goal.invariant_of-self-in-Open
 invariant_of-self-in-Open g c =
@@ -71,5 +77,5 @@ returns-in_err-count-clause-partial g c =
     let opened : is_open (received r.room.items r.filled r.known r.is_ended) ≡ true =
     ap is_open c.self.view_is ∙ sym c.is_open.ensures ∙ c.if-not-is_open.false in
     let P : List ℕ → Type 0 = λ l. IsPartial l in
-    subst P (ap (λ v. v.octets) c.self.view_is)
-    (kept_partial r.room.items r.headers r.filled r.known c.self.invariant (open_parts _ r.is_ended opened).0)
+    on_err _ (subst P (ap (λ v. v.octets) c.self.view_is)
+    (kept_partial r.room.items r.headers r.filled r.known c.self.invariant (open_parts _ r.is_ended opened).0))
