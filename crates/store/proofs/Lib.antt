@@ -13,7 +13,7 @@ pub mod FallingSerials
 pub mod Gathered
 pub mod HeldBy
 pub mod Installed
-pub mod Labels
+pub mod LabelRows
 pub mod Lists
 pub mod Members
 pub mod Migration

@@ -31,10 +31,10 @@ impl Owned {
             result }
     {
         let at = self.labels.partition_point(|label| label.serial <= after);
-        match self.labels.get(at) {
-            Some(label) => Some(label.serial),
-            None => None,
+        if at == self.labels.len() {
+            return None;
         }
+        Some(self.labels[at].serial)
     }
 
     /// The reference of the deposit with a number.
@@ -44,13 +44,10 @@ impl Owned {
         ensures memory { IfErr result (λ e. e ≡ StoreFault.Memory) }
     {
         let at = self.labels.partition_point(|label| label.serial < number);
-        let Some(label) = self.labels.get(at) else {
-            return Ok(None);
-        };
-        if label.serial != number {
+        if at == self.labels.len() || self.labels[at].serial != number {
             return Ok(None);
         }
-        match label.reference.clone() {
+        match self.labels[at].reference.clone() {
             Ok(reference) => Ok(Some(reference)),
             Err(_) => Err(StoreFault::Memory),
         }

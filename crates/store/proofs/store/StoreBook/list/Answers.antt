@@ -3,7 +3,7 @@ use Rattle.std.proofs.lemmas.List.{length-map}
 use Rattle.book.specs.Values.{listed_view, viewer_of}
 use Rattle.store.specs.Steps.{IsNextSeen, AreNextReadable}
 use Rattle.store.proofs.Calls.{no_answer}
-use Rattle.store.proofs.Labels.{none_owned}
+use Rattle.store.proofs.LabelRows.{none_owned}
 use Rattle.store.proofs.Walk.{HasListed, at_first, looks_after, sized_at_first, ahead_at_first, nothing_listed}
 use Rattle.store.proofs.Walk.{row_listed, whole_listed}
 use Rattle.store.proofs.store.StoreBook.list.Goals as goal
