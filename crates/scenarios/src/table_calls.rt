@@ -87,9 +87,11 @@ fn tell_under<S: Alter + Drop>(printer: Printer<'_>, base: &mut Base<S>, words: 
     printer.tell(&base.deposit_under(owner, words.next()));
 }
 
-fn tell_label<S: Alter + Drop>(printer: Printer<'_>, base: &mut Base<S>, words: &mut Words<'_>) {
-    let serial = words.number();
-    printer.tell(&base.label(serial, words.next()));
+fn tell_labels<B: Book + Drop>(bench: &mut Bench<'_, B>, words: &mut Words<'_>) {
+    match &mut bench.tables {
+        Some(base) => bench.printer.tell(&base.labels(bench.alloc, words.next())),
+        None => bench.printer.line("  no tables"),
+    }
 }
 
 fn tell_owner<S: Alter + Drop>(printer: Printer<'_>, base: &mut Base<S>, words: &mut Words<'_>) {
@@ -109,15 +111,6 @@ fn tell_group_reader<S: Alter + Drop>(
 ) {
     let serial = words.number();
     printer.tell(&base.is_reader(serial, Reader::Group(words.next())));
-}
-
-fn tell_next_owned<S: Alter + Drop>(
-    printer: Printer<'_>,
-    base: &mut Base<S>,
-    words: &mut Words<'_>,
-) {
-    let account = words.next();
-    printer.tell(&base.next_owned(account, words.number()));
 }
 
 fn tell_next_readable<S: Alter + Drop>(
@@ -197,7 +190,6 @@ fn show_rights<S: Alter + Drop>(
     match word {
         "owner" => tell_owner(printer, base, words),
         "reader" => tell_reader(printer, base, words),
-        "next-owned" => tell_next_owned(printer, base, words),
         "next-readable" => tell_next_readable(printer, base, words),
         "group-reader" => tell_group_reader(printer, base, words),
         "next-group-readable" => tell_next_group_readable(printer, base, words),
@@ -217,7 +209,6 @@ fn show<S: Alter + Drop>(
         "tally" => tell_tally(printer, base, words),
         "found" => tell_deposit(printer, base, words),
         "under" => tell_under(printer, base, words),
-        "label" => tell_label(printer, base, words),
         _ => show_rights(printer, base, word, words),
     }
 }
@@ -250,6 +241,7 @@ pub fn call<B: Book + Drop>(bench: &mut Bench<'_, B>, words: &mut Words<'_>) {
         "create" => make(bench),
         "adopt" => take(bench),
         "part" => part(bench),
+        "labels" => tell_labels(bench, words),
         _ => ask(bench, word, words),
     }
 }

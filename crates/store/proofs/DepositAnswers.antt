@@ -1,12 +1,12 @@
 -- From what the tables answer to what the look-ups of deposits answer.
 use Rattle.std.proofs.Common.{◌≡◌, ℕ, List, Option, Some, None, option_map, refl}
-use Rattle.std.proofs.Common.{sym, ap, ◌∙◌, subst, string_bytes}
+use Rattle.std.proofs.Common.{sym, ap, ◌∙◌, subst, String, string_bytes}
+use Rattle.std.specs.declared.alloc.Global.{Global}
 use Rattle.tables.specs.Found.{IsFoundAs}
 use Rattle.tables.specs.Tables.{DepositRow, is_stamp, is_deposit}
-use Rattle.tables.specs.Queries.{ShowsStamp, ShowsDeposit, ShowsLabel, ShowsOrigin, stamp_view, deposit_view, is_owned}
+use Rattle.tables.specs.Queries.{ShowsStamp, ShowsDeposit, ShowsReference, ShowsOrigin, stamp_view, deposit_view, is_owned}
 use Rattle.book.specs.declared.rows.Stamp.{Stamp}
 use Rattle.book.specs.declared.rows.Deposit.{Deposit}
-use Rattle.tables.specs.declared.rows.Label.{Label}
 use Rattle.tables.specs.declared.rows.Origin.{Origin}
 use Rattle.book.specs.History.{History, deposit_at, stamp_at}
 use Rattle.book.specs.Rights.{deposit_with_stamp}
@@ -53,33 +53,34 @@ without_origin b n found s none rows =
     sym (unreserved_listing b n s (subst (λ o. IsOriginOf n b o) none (origin_view_of b n found s rows)))
 
 pub without_label : (b : History) (n : ℕ) (found : Option Origin) (origin : Origin) (account : List ℕ)
-    (label : Option Label) → IsSound b
-    → found ≡ Some origin → account ≡ string_bytes origin.account → label ≡ None
+    (labelled : Option (String Global)) → IsSound b
+    → found ≡ Some origin → account ≡ string_bytes origin.account → labelled ≡ None
     → IsFoundAs ShowsOrigin (is_stamp n) (replayed b).stamps found
-    → IsFoundAs ShowsLabel (is_owned n account) (replayed b).deposits label → None ≡ listing_at n b
-without_label b n found origin account label s is named none rows labels =
+    → IsFoundAs ShowsReference (is_owned n account) (replayed b).deposits labelled → None ≡ listing_at n b
+without_label b n found origin account labelled s is named none rows labels =
     let at = subst (λ o. IsOriginOf n b o) is (origin_view_of b n found s rows) in
-    let under : IsFoundAs ShowsLabel (is_owned n (string_bytes origin.account)) (replayed b).deposits label =
-    subst (λ a. IsFoundAs ShowsLabel (is_owned n a) (replayed b).deposits label) named labels in
+    let under : IsFoundAs ShowsReference (is_owned n (string_bytes origin.account)) (replayed b).deposits labelled =
+    subst (λ a. IsFoundAs ShowsReference (is_owned n a) (replayed b).deposits labelled) named labels in
     sym (unlabelled_listing b n origin s at
-    (subst (λ l. IsFoundAs ShowsLabel (is_owned n (string_bytes origin.account)) (replayed b).deposits l) none under))
+    (subst (λ l. IsFoundAs ShowsReference (is_owned n (string_bytes origin.account)) (replayed b).deposits l) none
+    under))
 
 pub with_label : (b : History) (n : ℕ) (found : Option Origin) (origin : Origin) (account : List ℕ)
-    (labelled : Option Label) (label : Label) → IsSound b
-    → found ≡ Some origin → account ≡ string_bytes origin.account → labelled ≡ Some label
+    (labelled : Option (String Global)) (reference : String Global) → IsSound b
+    → found ≡ Some origin → account ≡ string_bytes origin.account → labelled ≡ Some reference
     → IsFoundAs ShowsOrigin (is_stamp n) (replayed b).stamps found
-    → IsFoundAs ShowsLabel (is_owned n account) (replayed b).deposits labelled
+    → IsFoundAs ShowsReference (is_owned n account) (replayed b).deposits labelled
     → Some (record {
       number = n;
-      owner = string_bytes label.owner;
-      reference =
-          string_bytes label.reference;
+      owner = string_bytes origin.account;
+      reference = string_bytes reference;
       gen_time = origin.gen_time;
     })
     ≡ listing_at n b
-with_label b n found origin account labelled label s is named some rows labels =
+with_label b n found origin account labelled reference s is named some rows labels =
     let at = subst (λ o. IsOriginOf n b o) is (origin_view_of b n found s rows) in
-    let under : IsFoundAs ShowsLabel (is_owned n (string_bytes origin.account)) (replayed b).deposits labelled =
-    subst (λ a. IsFoundAs ShowsLabel (is_owned n a) (replayed b).deposits labelled) named labels in
-    labelled_listing b n origin label s at
-    (subst (λ l. IsFoundAs ShowsLabel (is_owned n (string_bytes origin.account)) (replayed b).deposits l) some under)
+    let under : IsFoundAs ShowsReference (is_owned n (string_bytes origin.account)) (replayed b).deposits labelled =
+    subst (λ a. IsFoundAs ShowsReference (is_owned n a) (replayed b).deposits labelled) named labels in
+    labelled_listing b n origin reference s at
+    (subst (λ l. IsFoundAs ShowsReference (is_owned n (string_bytes origin.account)) (replayed b).deposits l) some
+    under)

@@ -10,10 +10,10 @@ use Rattle.std.proofs.lemmas.Bool.Decides.{eqb_tells}
 use Rattle.std.proofs.lemmas.Slice.Eq.{bytes_eq-Decides}
 use Rattle.tables.specs.Found.{IsFoundAs}
 use Rattle.tables.specs.Tables.{StampRow, DepositRow, is_stamp, is_deposit, is_deposit_of}
-use Rattle.tables.specs.Queries.{ShowsStamp, ShowsDeposit, ShowsLabel, ShowsOrigin, stamp_view, deposit_view, is_owned}
+use Rattle.tables.specs.Queries.{ShowsStamp, ShowsDeposit, ShowsReference, ShowsOrigin, stamp_view, deposit_view, is_owned}
 use Rattle.book.specs.declared.rows.Stamp.{Stamp}
 use Rattle.book.specs.declared.rows.Deposit.{Deposit}
-use Rattle.tables.specs.declared.rows.Label.{Label}
+use Rattle.std.specs.declared.alloc.Global.{Global}
 use Rattle.tables.specs.declared.rows.Origin.{Origin}
 use Rattle.book.specs.History.{Reserved, Sealed, Deposited, Granted, Revoked, History}
 use Rattle.book.specs.History.{ReservationValue, reservations, reservation_at, greatest_serial, deposits}
@@ -335,13 +335,13 @@ unreserved_listing b n s none = rw (no_deposit b n s none) refl
 
 -- its label stands under the account of its stamp
 pub unlabelled_listing : (b : History) (n : ℕ) (origin : Origin) → IsSound b → IsOriginOf n b (Some origin)
-    → IsFoundAs ShowsLabel (is_owned n (string_bytes origin.account)) (replayed b).deposits None
+    → IsFoundAs ShowsReference (is_owned n (string_bytes origin.account)) (replayed b).deposits None
     → listing_at n b ≡ None
 unlabelled_listing b n origin s (r, at, account, gen_time) found =
     let P : List DepositRow → Type 0 =
-    λ rows. IsFoundAs ShowsLabel (is_owned n (string_bytes origin.account)) rows None in
+    λ rows. IsFoundAs ShowsReference (is_owned n (string_bytes origin.account)) rows None in
     none_found (subst P (deposits_are b) found) (deposit_at n b) refl where
-      none_found : IsFoundAs ShowsLabel (is_owned n (string_bytes origin.account)) (deposits b) None
+      none_found : IsFoundAs ShowsReference (is_owned n (string_bytes origin.account)) (deposits b) None
           → (o : Option DepositRow) → deposit_at n b ≡ o
           → listing_at n b ≡ None
       none_found none None e = rw e refl
@@ -355,24 +355,25 @@ unlabelled_listing b n origin s (r, at, account, gen_time) found =
                 (sym (account ∙ own.1)),
           ) refl in cc
 
-pub labelled_listing : (b : History) (n : ℕ) (origin : Origin) (label : Label) → IsSound b
+pub labelled_listing : (b : History) (n : ℕ) (origin : Origin) (reference : String Global) → IsSound b
     → IsOriginOf n b (Some origin)
-    → IsFoundAs ShowsLabel (is_owned n (string_bytes origin.account)) (replayed b).deposits (Some label)
+    → IsFoundAs ShowsReference (is_owned n (string_bytes origin.account)) (replayed b).deposits (Some reference)
     → Some (record {
       number = n;
-      owner = string_bytes label.owner;
-      reference =
-          string_bytes label.reference;
+      owner = string_bytes origin.account;
+      reference = string_bytes reference;
       gen_time = origin.gen_time;
     })
     ≡ listing_at n b
-labelled_listing b n origin label s (r, at, account, gen_time) (d, m, passes, shows) =
+labelled_listing b n origin reference s (r, at, account, gen_time) (d, m, passes, shows) =
     let P : List DepositRow → Type 0 = λ rows. Contains rows d in
     let parts = both_true (d.serial == n) (bytes_eq d.owner (string_bytes origin.account)) passes in
     let found : deposit_at n b ≡ Some d =
     find_single (is_deposit n) (deposits b) d (single_number b n s) (subst P (deposits_are b) m) parts.0 in
     let serial : d.serial ≡ n = eqb-true d.serial n parts.0 in
-    rw (found, at, shows.0, shows.1, gen_time, serial) refl
+    let owner : d.owner ≡ string_bytes origin.account =
+    (bytes_eq-Decides d.owner (string_bytes origin.account)).0 parts.1 in
+    rw (found, at, ← owner, shows, gen_time, serial) refl
 
 -- ---- who sees a number that is asked for
 

@@ -13,6 +13,7 @@ pub mod FallingSerials
 pub mod Gathered
 pub mod HeldBy
 pub mod Installed
+pub mod LabelRows
 pub mod Lists
 pub mod Members
 pub mod Migration

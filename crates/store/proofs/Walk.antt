@@ -11,6 +11,8 @@ use Rattle.book.specs.Rights.{ListedValue, listed}
 use Rattle.book.specs.Stands.{Stands, OnlyLooks}
 use Rattle.store.specs.Stands.{over_tables}
 use Rattle.store.specs.Steps.{IsNextSeen, IsCursor, AreCursors, AreNextReadable, listing_at}
+use Rattle.store.specs.Steps.{AreOwned}
+use Rattle.store.specs.declared.labels.Owned.{Owned}
 use Rattle.store.specs.declared.cursors.Cursors.{Cursors}
 use Rattle.book.specs.Values.{listed_view}
 use Rattle.book.specs.declared.values.Listed.{Listed}
@@ -27,15 +29,16 @@ looks_after g old mid new first second = record {
 
 -- the rows are what is listed up to a number, the cursors are known, and nothing has changed
 pub record HasListed {S : Type 0} (g : Ghosts S) (old now : BaseValue S) (viewer : Viewer) (rows : List ListedValue)
-    (last : ℕ) (cursors : Cursors)
+    (last : ℕ) (cursors : Cursors) (known : List Owned)
     : Type 0 where
   pub looks : OnlyLooks (over_tables g) old now
   pub faults : now.faults ≡ old.faults
-  pub opened : IsHonest g now → IsOpen g now → IsOpen g old
+  pub opened : IsHonest g now → IsOpen g old
   pub sized : length cursors.shared.items ≡ length viewer.groups
   pub listed : IsHonest g now → (b : History) → Stands (over_tables g) b old → rows ≡ listed_up_to viewer b last
   pub ahead : IsHonest g now → (b : History) → Stands (over_tables g) b old
       → AreCursors viewer last b cursors.own cursors.shared.items
+  pub owned : IsHonest g now → (b : History) → Stands (over_tables g) b old → AreOwned b known
 
 -- at the beginning no cursor is after 0
 abbrev pub at_first : Option ℕ
@@ -60,62 +63,73 @@ ahead_at_first viewer cursors own shared b = (
       (ap (λ l. get_or l k None) shared ∙ get_or-replicate (length viewer.groups) k at_first None within),
 )
 
-pub nothing_listed : {S : Type 0} (g : Ghosts S) (old : BaseValue S) (viewer : Viewer) (cursors : Cursors)
-    → length cursors.shared.items ≡ length viewer.groups
+pub nothing_listed : {S : Type 0} (g : Ghosts S) (old now : BaseValue S) (viewer : Viewer) (cursors : Cursors)
+    (known : List Owned) → OnlyLooks (over_tables g) old now → now.faults ≡ old.faults
+    → (IsHonest g now → IsOpen g old) → length cursors.shared.items ≡ length viewer.groups
     → ((b : History) → AreCursors viewer 0 b cursors.own cursors.shared.items)
-    → HasListed g old old viewer [] 0 cursors
-nothing_listed g old viewer cursors sized ahead = record {
-  looks = record { honest = λ h. h; stands = λ b s. s; leaves = λ h db r. r };
-  faults = refl;
-  opened = λ h o. o;
+    → (IsHonest g now → (b : History) → Stands (over_tables g) b old → AreOwned b known)
+    → HasListed g old now viewer [] 0 cursors known
+nothing_listed g old now viewer cursors known looks faults opened sized ahead owned = record {
+  looks = looks;
+  faults = faults;
+  opened = opened;
   sized = sized;
   listed = λ h b s. refl;
   ahead = λ h b s. ahead b;
+  owned = owned;
 }
 
 -- what one deposit adds
 pub row_listed : {S : Type 0} (g : Ghosts S) (old now seen new : BaseValue S) (viewer : Viewer)
-    (rows : List ListedValue) (last number : ℕ) (before after : Cursors) (row : Option Listed)
-    → HasListed g old now viewer rows last before
+    (rows : List ListedValue) (last number : ℕ) (before after : Cursors) (known more most : List Owned)
+    (row : Option Listed)
+    → HasListed g old now viewer rows last before known
     → OnlyLooks (over_tables g) now seen → OnlyLooks (over_tables g) seen new
     → seen.faults ≡ now.faults → new.faults ≡ seen.faults
-    → (IsHonest g seen → IsOpen g now)
     → last < number → length after.shared.items ≡ length before.shared.items
     → (IsHonest g seen → (b : History) → Stands (over_tables g) b now
-    → AreCursors viewer last b before.own before.shared.items
+    → AreCursors viewer last b before.own before.shared.items → AreOwned b known
     → IsNextSeen viewer last b (Some number) × AreNextReadable viewer last b after.own after.shared.items)
-    → (IsHonest g new → (b : History) → Stands (over_tables g) b seen
+    → (IsHonest g seen → (b : History) → Stands (over_tables g) b now → AreOwned b known → AreOwned b more)
+    → (IsHonest g new → (b : History) → Stands (over_tables g) b seen → AreOwned b more
     → option_map listed_view row ≡ listing_at number b)
-    → HasListed g old new viewer (rows ++ option_to_list (option_map listed_view row)) number after
-row_listed g old now seen new viewer rows last number before after row listed first second same still is_open rises
-    sized found shows = record {
+    → (IsHonest g new → (b : History) → Stands (over_tables g) b seen → AreOwned b more → AreOwned b most)
+    → HasListed g old new viewer (rows ++ option_to_list (option_map listed_view row)) number after most
+row_listed g old now seen new viewer rows last number before after known more most row listed first second same still
+    rises sized found learnt shows kept = record {
       looks = looks_after g old seen new (looks_after g old now seen listed.looks first) second;
       faults = still ∙ same ∙ listed.faults;
-      opened = λ h o. listed.opened (first.honest (second.honest h)) (is_open (second.honest h));
+      opened = λ h. listed.opened (first.honest (second.honest h));
       sized = sized ∙ listed.sized;
       listed = λ h b s.
           (let at_seen = second.honest h in
           let at_now = first.honest at_seen in
           let stood = listed.looks.stands b s in
-          let here = shows h b (first.stands b stood) in
-          let step = next_listed viewer b last number (found at_seen b stood (listed.ahead at_now b s)).0 in
+          let owned = listed.owned at_now b s in
+          let here = shows h b (first.stands b stood) (learnt at_seen b stood owned) in
+          let step = next_listed viewer b last number (found at_seen b stood (listed.ahead at_now b s) owned).0 in
           ap (λ l. l ++ option_to_list (option_map listed_view row)) (listed.listed at_now b s)
           ∙ ap (λ o. listed_up_to viewer b last ++ option_to_list o) here ∙ sym step);
       ahead = λ h b s.
           (let at_seen = second.honest h in
+          let at_now = first.honest at_seen in
           let stood = listed.looks.stands b s in
           still_cursors b viewer last number after.own after.shared.items rises
-          (found at_seen b stood (listed.ahead (first.honest at_seen) b s)).1);
+          (found at_seen b stood (listed.ahead at_now b s) (listed.owned at_now b s)).1);
+      owned = λ h b s.
+          (let at_seen = second.honest h in
+          let stood = listed.looks.stands b s in
+          kept h b (first.stands b stood) (learnt at_seen b stood (listed.owned (first.honest at_seen) b s)));
     }
 
 -- where none is seen any more, all is listed
 pub whole_listed : {S : Type 0} (g : Ghosts S) (old now seen : BaseValue S) (viewer : Viewer)
-    (rows : List ListedValue) (last : ℕ) (cursors : Cursors)
-    → HasListed g old now viewer rows last cursors → OnlyLooks (over_tables g) now seen
+    (rows : List ListedValue) (last : ℕ) (cursors : Cursors) (known : List Owned)
+    → HasListed g old now viewer rows last cursors known → OnlyLooks (over_tables g) now seen
     → (IsHonest g seen → (b : History) → Stands (over_tables g) b now
-    → AreCursors viewer last b cursors.own cursors.shared.items → IsNextSeen viewer last b None)
+    → AreCursors viewer last b cursors.own cursors.shared.items → AreOwned b known → IsNextSeen viewer last b None)
     → IsHonest g seen → (b : History) → Stands (over_tables g) b old → rows ≡ listed viewer b
-whole_listed g old now seen viewer rows last cursors before first none h b s =
+whole_listed g old now seen viewer rows last cursors known before first none h b s =
     let at_now = first.honest h in
     before.listed at_now b s ∙ all_listed viewer b last s.sound
-    (none h b (before.looks.stands b s) (before.ahead at_now b s))
+    (none h b (before.looks.stands b s) (before.ahead at_now b s) (before.owned at_now b s))

@@ -1,8 +1,11 @@
 -- What the calls make of a look-up's answer: stepping stones, no definitions.
 use Rattle.std.specs.Prelude.{◌≡◌, ℕ, ◌<◌, ◌&&◌, min, nat_lt, nat_le, if◌then◌else◌, Bool, true, false}
-use Rattle.std.specs.Prelude.{List, [], ◌∷◌, length, get_or, IfSome, Option, Some, None, option_map, option_and_then}
+use Rattle.std.specs.Prelude.{List, [], ◌∷◌, length, map, get_or, IfSome, Option, Some, None, option_map, option_and_then}
 use Rattle.std.specs.Prelude.{string_bytes}
 use Rattle.std.specs.Option.{unwrap_or}
+use Rattle.tables.specs.Found.{AreFoundAs}
+use Rattle.tables.specs.Queries.{label_of, label_view, is_owned_by}
+use Rattle.tables.specs.declared.rows.Label.{Label}
 use Rattle.tables.specs.declared.rows.LastStamp.{LastStamp}
 use Rattle.tables.specs.declared.rows.LatestCalibration.{LatestCalibration}
 use Rattle.tables.specs.declared.rows.Origin.{Origin}
@@ -11,7 +14,10 @@ use Rattle.book.specs.History.{CalibrationValue, ReservationValue, History, depo
 use Rattle.book.specs.Readers.{Reader, Account, Group, Viewer}
 use Rattle.book.specs.Rights.{ListedValue, listed_as, is_reader, is_visible}
 use Rattle.book.specs.Sound.{greatest_number}
+use Rattle.book.specs.Rows.{DepositRow}
 use Rattle.book.specs.declared.values.Last.{Last}
+use Rattle.store.specs.Replay.{replayed}
+use Rattle.store.specs.declared.labels.Owned.{Owned}
 
 abbrev pub last_from : Option LastStamp → Last
 last_from None = record { serial = 0; gen_time = None }
@@ -87,3 +93,14 @@ IsOriginOf serial b (Some origin) =
 abbrev pub only_within : ℕ → ℕ → Option Stamp → Option Stamp
 only_within from to None = None
 only_within from to (Some stamp) = if nat_le from stamp.serial && nat_le stamp.serial to then Some stamp else None
+
+-- what was looked up of an owner's deposits is all of them
+abbrev pub AreLabels : List ℕ → List DepositRow → List Label → Type 0
+AreLabels owner rows labels =
+    AreFoundAs label_of (λ label. label.serial) (is_owned_by owner) rows (map label_view labels)
+
+-- and so it is of each owner that is known
+abbrev pub AreOwned : History → List Owned → Type 0
+AreOwned b known =
+    (k : ℕ) (d : Owned) → k < length known
+    → AreLabels (string_bytes (get_or known k d).owner) (replayed b).deposits (get_or known k d).labels.items

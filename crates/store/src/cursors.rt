@@ -9,9 +9,10 @@ ghost use Rattle.book.specs.Entries.{reader_view};
 ghost use Rattle.book.specs.Values.{viewer_of};
 ghost use Rattle.book.specs.Stands.{Stands, OnlyLooks};
 ghost use Rattle.store.specs.Stands.{over_tables};
-ghost use Rattle.store.specs.Steps.{IsNextSeen, IsNextReadable, IsCursor, AreCursors, AreNextReadable};
+ghost use Rattle.store.specs.Steps.{IsNextSeen, IsNextReadable, IsCursor, AreCursors, AreNextReadable, AreOwned};
 ghost use Rattle.store.specs.Steps.{least_of, least_in, later_of};
 
+use crate::labels::Owned;
 use crate::store::Store;
 use book::{GREATEST_NUMBER, Reader, StoreFault};
 use sqlite::Alter;
@@ -65,14 +66,16 @@ impl<S: Alter + Drop> Store<S> {
         groups: &[&str],
         after: u64,
         cursors: &mut Cursors,
+        known: &mut Vec<Owned>,
     ) -> Result<Option<u64>, StoreFault>
         requires { length cursors.old.shared.items ≡ length groups.now }
         ensures looks { OnlyLooks (over_tables S.Store) self.old self.new }
-        ensures opened { IsHonest S.Store self.new → OnOk result (IsOpen S.Store self.old) }
         ensures sized { length cursors.new.shared.items ≡ length cursors.old.shared.items }
+        ensures known { IsHonest S.Store self.new → (b : History) → Stands (over_tables S.Store) b self.old
+            → AreOwned b known.old.items → OnOk result (AreOwned b known.new.items) }
         ensures value { IsHonest S.Store self.new → (b : History) → Stands (over_tables S.Store) b self.old
             → AreCursors (viewer_of account.now (map (λ name. name.now) groups.now)) after b
-            cursors.old.own cursors.old.shared.items
+            cursors.old.own cursors.old.shared.items → AreOwned b known.old.items
             → IfOk result (λ next. IsNextSeen (viewer_of account.now (map (λ name. name.now) groups.now)) after b next
             × AreNextReadable (viewer_of account.now (map (λ name. name.now) groups.now)) after b
             cursors.new.own cursors.new.shared.items) }
@@ -80,7 +83,7 @@ impl<S: Alter + Drop> Store<S> {
         ensures refusals { IfErr result IsOfStorage }
         ensures faults { CountsFaults result self.old.faults self.new.faults }
     {
-        let owned = self.base.next_owned(account, after)?;
+        let owned = self.next_owned(account, after, known)?;
         self.advance(account, groups, after, cursors)?;
         Ok(next_of(owned, cursors.least(), after))
     }

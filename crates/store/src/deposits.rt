@@ -9,8 +9,9 @@ ghost use Rattle.book.specs.Rights.{is_reader, may_read};
 ghost use Rattle.book.specs.Values.{listed_view, viewer_of};
 ghost use Rattle.book.specs.Stands.{Stands, OnlyLooks};
 ghost use Rattle.store.specs.Stands.{over_tables};
-ghost use Rattle.store.specs.Steps.{listing_at};
+ghost use Rattle.store.specs.Steps.{listing_at, AreOwned};
 
+use crate::labels::Owned;
 use crate::store::Store;
 use book::{Listed, Reader, StoreFault};
 use sqlite::Alter;
@@ -58,24 +59,29 @@ impl<S: Alter + Drop> Store<S> {
     }
 
     /// What a list shows of a deposit.
-    pub(crate) fn listing(&mut self, number: u64) -> Result<Option<Listed>, StoreFault>
+    pub(crate) fn listing(
+        &mut self,
+        number: u64,
+        known: &mut Vec<Owned>,
+    ) -> Result<Option<Listed>, StoreFault>
         ensures looks { OnlyLooks (over_tables S.Store) self.old self.new }
-        ensures opened { IsHonest S.Store self.new → OnOk result (IsOpen S.Store self.old) }
+        ensures known { IsHonest S.Store self.new → (b : History) → Stands (over_tables S.Store) b self.old
+            → AreOwned b known.old.items → OnOk result (AreOwned b known.new.items) }
         ensures value { IsHonest S.Store self.new → (b : History) → Stands (over_tables S.Store) b self.old
-            → IfOk result (λ found. option_map listed_view found ≡ listing_at number b) }
+            → AreOwned b known.old.items → IfOk result (λ found. option_map listed_view found ≡ listing_at number b) }
         ensures refusals { IfErr result IsOfStorage }
         ensures faults { CountsFaults result self.old.faults self.new.faults }
     {
         let Some(origin) = self.base.origin(number)? else {
             return Ok(None);
         };
-        let Some(label) = self.base.label(number, &origin.account)? else {
+        let Some(reference) = self.reference_of(number, &origin.account, known)? else {
             return Ok(None);
         };
         Ok(Some(Listed {
             number,
-            owner: label.owner,
-            reference: label.reference,
+            owner: origin.account,
+            reference,
             gen_time: origin.gen_time,
         }))
     }

@@ -6,6 +6,7 @@ mod cursors;
 mod deposits;
 mod holds;
 mod identities;
+mod labels;
 mod laws;
 mod path;
 mod place;

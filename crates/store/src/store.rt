@@ -116,9 +116,13 @@ impl<S: Alter + Drop> Book for Store<S> {
     fn list(&mut self, account: &str, groups: &[&str]) -> Result<Vec<Listed>, StoreFault> {
         let mut rows = Vec::new(self.alloc);
         let mut cursors = Cursors::new(self.alloc, groups.len())?;
+        let mut known = Vec::new(self.alloc);
+        self.look_up(account, &mut known)?;
         let mut last = 0;
-        while let Some(number) = self.next_seen(account, groups, last, &mut cursors)? {
-            let row = self.listing(number)?;
+        while let Some(number) =
+            self.next_seen(account, groups, last, &mut cursors, &mut known)?
+        {
+            let row = self.listing(number, &mut known)?;
             add_listed(&mut rows, row)?;
             last = number;
         }

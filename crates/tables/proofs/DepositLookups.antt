@@ -2,20 +2,19 @@
 use Rattle.std.proofs.Common.{ℕ, pos, List, [], ◌∷◌, ◌&&◌, codes, refl, ap₂, ◌∙◌}
 use Rattle.sqlite_value.specs.declared.value.Value.TheVariants.{Int, Text}
 use Rattle.sqlite_value.specs.declared.keys.Collation.TheVariants.{Binary}
-use Rattle.sqlite_sql.specs.declared.ops.CompareOp.TheVariants.{Gt}
-use Rattle.sqlite_sql.specs.declared.ops.BinaryOp.TheVariants.{Compare, Is}
+use Rattle.sqlite_sql.specs.declared.ops.BinaryOp.TheVariants.{Is}
 use Rattle.sqlite_sql.specs.Term.{Term, col, op2}
 use Rattle.sqlite_schema.specs.declared.command.Command.TheVariants.{Select}
 use Rattle.sqlite_tied.specs.Compute.{everything}
 use Rattle.sqlite.specs.Listing.{understood}
 use Rattle.tables.specs.Names as name
-use Rattle.tables.specs.Queries.{is_owned, is_owned_after}
-use Rattle.tables.specs.Shown.{deposit_shown, label_shown, number_shown}
+use Rattle.tables.specs.Queries.{is_owned, is_owned_by, label_of}
+use Rattle.tables.specs.Shown.{deposit_shown, label_shown, label_in, number_shown}
 use Rattle.tables.specs.Tables.{is_deposit, is_deposit_of}
-use Rattle.tables.proofs.LookupLemmas.{Asks, Finds, FindsLeast, finds, least, and_true, one, rising}
+use Rattle.tables.proofs.LookupLemmas.{Asks, Finds, FindsAll, finds, all, and_true, rising}
 use Rattle.tables.proofs.ReadLemmas.{program_of, no_limit}
 use Rattle.tables.proofs.SealLemmas.{equals}
-use Rattle.tables.proofs.TestLemmas.{test_number, test_text, test_is, test_after}
+use Rattle.tables.proofs.TestLemmas.{test_number, test_text, test_is}
 
 -- ---- a deposit by its number
 
@@ -57,25 +56,10 @@ finds_deposit_under owner reference =
     (λ y. ap₂ ◌&&◌ (test_text y.1.owner owner) (and_true _ ∙ test_text y.1.reference reference)) (λ y. refl)
     deposit_under_sql deposit_names asks_deposit_under
 
--- ---- of an owner by its number: its owner and reference, or that it is there
+-- ---- of an owner by its number
 
 abbrev owned_tests : List Term
 owned_tests = op2 (Is Binary) (col 1 0) (col 0 0) ∷ equals 2 1 ∷ []
-
-abbrev label_sql : List ℕ
-label_sql = codes "SELECT owner, reference FROM deposit WHERE serial IS ?1 AND owner = ?2"
-
-pub asks_label : Asks label_sql
-    (Select (program_of 4 owned_tests (col 1 2 ∷ col 1 3 ∷ []) [] no_limit) (codes "owner" ∷ codes "reference" ∷ []))
-unfolding understood everything
-asks_label = record { is = refl; text = record { plain = (refl, refl); unlisted = refl } }
-
-pub finds_label : (serial : ℕ) (owner : List ℕ) → Finds label_sql (Int (pos serial) ∷ Text owner ∷ []) (λ t. t.deposits)
-    label_shown (is_owned serial owner)
-finds_label serial owner =
-    finds name.Deposit (Int (pos serial) ∷ Text owner ∷ []) owned_tests _ (is_owned serial owner) label_shown
-    (λ y. ap₂ ◌&&◌ (test_is y.1.serial serial) (and_true _ ∙ test_text y.1.owner owner)) (λ y. refl) label_sql _
-    asks_label
 
 abbrev is_owner_sql : List ℕ
 is_owner_sql = codes "SELECT serial FROM deposit WHERE serial IS ?1 AND owner = ?2"
@@ -92,22 +76,20 @@ finds_is_owner serial owner =
     (λ y. ap₂ ◌&&◌ (test_is y.1.serial serial) (and_true _ ∙ test_text y.1.owner owner)) (λ y. refl) is_owner_sql _
     asks_is_owner
 
--- ---- the next of an owner
+-- ---- all of an owner
 
-abbrev next_owned_sql : List ℕ
-next_owned_sql = codes "SELECT serial FROM deposit WHERE owner = ?1 AND serial > ?2 ORDER BY serial LIMIT 1"
+abbrev labels_sql : List ℕ
+labels_sql = codes "SELECT serial, reference FROM deposit WHERE owner = ?1 ORDER BY serial"
 
-abbrev next_owned_tests : List Term
-next_owned_tests = equals 2 0 ∷ op2 (Compare Gt Binary) (col 1 0) (col 0 1) ∷ []
-
-pub asks_next_owned : Asks next_owned_sql
-    (Select (program_of 4 next_owned_tests (col 1 0 ∷ []) ((col 1 0, rising) ∷ []) one) (codes "serial" ∷ []))
+pub asks_labels : Asks labels_sql
+    (Select (program_of 4 (equals 2 0 ∷ []) (col 1 0 ∷ col 1 3 ∷ []) ((col 1 0, rising) ∷ []) no_limit)
+    (codes "serial" ∷ codes "reference" ∷ []))
 unfolding understood everything
-asks_next_owned = record { is = refl; text = record { plain = (refl, refl); unlisted = refl } }
+asks_labels = record { is = refl; text = record { plain = (refl, refl); unlisted = refl } }
 
-pub finds_next_owned : (owner : List ℕ) (after : ℕ) → FindsLeast next_owned_sql (Text owner ∷ Int (pos after) ∷ [])
-    (λ t. t.deposits) number_shown (is_owned_after owner after) (λ x. x.serial)
-finds_next_owned owner after =
-    least name.Deposit (Text owner ∷ Int (pos after) ∷ []) next_owned_tests _ (is_owned_after owner after) number_shown
-    (λ y. ap₂ ◌&&◌ (test_text y.1.owner owner) (and_true _ ∙ test_after y.1.serial after)) (λ y. refl) (col 1 0)
-    (λ x. x.serial) (λ y. refl) next_owned_sql _ asks_next_owned
+pub finds_labels : (owner : List ℕ) → FindsAll labels_sql (Text owner ∷ []) (λ t. t.deposits) label_shown label_of
+    (λ label. label.serial) label_in (is_owned_by owner)
+finds_labels owner =
+    all name.Deposit (Text owner ∷ []) (equals 2 0 ∷ []) _ (is_owned_by owner) label_shown
+    (λ y. and_true _ ∙ test_text y.1.owner owner) (λ y. refl) (col 1 0) (λ x. x.serial) (λ y. refl) label_of
+    (λ label. label.serial) label_in (λ x. refl) (λ x. refl) labels_sql _ asks_labels

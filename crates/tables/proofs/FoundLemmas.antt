@@ -1,5 +1,5 @@
 -- What a look-up tells of the tables, in the words of what is read of the first row of an answer.
-use Rattle.std.proofs.Common.{◌≡◌, ◌∙◌, ℕ, Bool, true, false, ◌||◌, List, [], ◌∷◌, Option, None, Some, Result, refl}
+use Rattle.std.proofs.Common.{◌≡◌, ◌∙◌, ℕ, Bool, true, false, ◌||◌, List, [], ◌∷◌, ◌++◌, map, Option, None, Some, Result, refl}
 use Rattle.std.proofs.Common.{sym, ap, subst, inl, inr, Contains}
 use Rattle.std.specs.List.{list_any}
 use Rattle.std.specs.Option.{is_some}
@@ -7,14 +7,14 @@ use Rattle.sqlite_value.specs.Order.{Row}
 use Rattle.sqlite_trees.specs.declared.store.Store.{Ghosts}
 use Rattle.sqlite_rules.specs.Lists.{Has}
 use Rattle.sqlite_rules.proofs.ListLemmas.{has_contained, contains_had}
-use Rattle.tables.specs.QueryAnswers.{TellsFirst, IsReadAs}
+use Rattle.tables.specs.QueryAnswers.{TellsFirst, TellsRows, IsReadAs, AreReadAs}
 use Rattle.tables.specs.Base.{BaseValue}
-use Rattle.tables.specs.Found.{IsFoundAs, IsGreatestAs, IsLeastAs}
-use Rattle.tables.specs.Queries.{LooksUp, TellsRow, TellsAs}
+use Rattle.tables.specs.Found.{IsFoundAs, IsGreatestAs, IsLeastAs, AreFoundAs}
+use Rattle.tables.specs.Queries.{LooksUp, TellsRow, TellsAs, TellsAllAs}
 use Rattle.tables.specs.Tables.{Tables}
 use Rattle.tables.specs.declared.fault.TableFault.{TableFault}
 use Rattle.tables.proofs.BaseReads.{retold}
-use Rattle.tables.proofs.LookupLemmas.{Finds, FindsLeast, FindsGreatest}
+use Rattle.tables.proofs.LookupLemmas.{Finds, FindsAll, FindsLeast, FindsGreatest}
 
 module _ {X Y : Type 0} (image : X → Row) (IsRead : Row → Y → Type 0) (Shows : X → Y → Type 0)
     (read : (x : X) (row : Row) (y : Y) → row ≡ image x → IsRead row y → Shows x y) (xs : List X) where
@@ -80,3 +80,30 @@ module _ {S X : Type 0} (g : Ghosts S) {sql : List ℕ} {params : Row} {rows : T
   any_looks {test} r l finds = retold g _ _ old new r
       (λ t any (row, (db, h, told), is). is ∙ found_any _ test (rows t) row
       (finds.found t db row h (subst (λ p. TellsFirst sql p db row) same told))) l
+
+-- what is read of rows is what they say
+pub all_read : {Y Z : Type 0} (view : Y → Z) (read : Row → Z) (rows : List Row) (found : List Y)
+    → AreReadAs (λ row y. view y ≡ read row) rows found → map view found ≡ map read rows
+all_read view read [] found e = rw e refl
+all_read view read (row ∷ rows) found (y, others, e, is, more) = rw (e, is, all_read view read rows others more) refl
+
+-- and one more row
+pub read_more : {Y : Type 0} (Shows : Row → Y → Type 0) (rows : List Row) (found : List Y) (row : Row) (y : Y)
+    → AreReadAs Shows rows found → Shows row y → AreReadAs Shows (rows ++ row ∷ []) (found ++ y ∷ [])
+read_more Shows [] found row y e is = (y, [], ap (λ l. l ++ y ∷ []) e, is, refl)
+read_more Shows (r ∷ rows) found row y (first, others, e, shows, more) is =
+    (first, others ++ y ∷ [], ap (λ l. l ++ y ∷ []) e, shows, read_more Shows rows others row y more is)
+
+pub all_looks : {S X Y Z : Type 0} (g : Ghosts S) {sql : List ℕ} {params : Row} {rows : Tables → List X}
+    {image : X → Row} {shown : X → Z} {number : Z → ℕ} {read : Row → Z} {test : X → Bool} (given : Row)
+    (same : given ≡ params) (old new : BaseValue S) {V : Type 0} (items : V → List Y) (view : Y → Z)
+    (r : Result V TableFault)
+    (l : LooksUp g (λ t found. TellsAllAs (λ row y. view y ≡ read row) sql given t (items found)) old new r)
+    → FindsAll sql params rows image shown number read test
+    → LooksUp g (λ t found. AreFoundAs shown number test (rows t) (map view (items found))) old new r
+all_looks g {sql = sql} {rows = rows} {shown = shown} {number = number} {read = read} {test = test} given same old new items view r l
+    finds =
+    retold g _ _ old new r
+    (λ t found (told, (db, h, tells), are). subst (AreFoundAs shown number test (rows t))
+    (sym (all_read view read told (items found) are))
+    (finds.found t db told h (subst (λ p. TellsRows sql p db told) same tells))) l

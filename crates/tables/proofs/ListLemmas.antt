@@ -1,5 +1,5 @@
 -- Lists: a test that splits a list, an image of one, and what permutations keep.
-use Rattle.std.proofs.Common.{◌≡◌, ◌≢◌, arith, length, Bool, true, false, not, cond, ◌||◌, List, [], ◌∷◌, ◌++◌}
+use Rattle.std.proofs.Common.{◌≡◌, ◌≢◌, ℕ, zero, suc, ◌<◌, arith, length, get_or, Bool, true, false, not, cond, ◌||◌, List, [], ◌∷◌, ◌++◌}
 use Rattle.std.proofs.Common.{map, filter, flat_map, refl, sym, ap, inl, inr, IsPermutation}
 use Rattle.std.specs.List.{list_any}
 use Rattle.std.proofs.lemmas.List.Sorted.{IsPermutation-refl, IsPermutation-sym, IsPermutation-cons}
@@ -95,3 +95,9 @@ some_any p (x ∷ xs) some = go (p x) some (some_any p xs)
         → (length (filter p xs) ≢ 0 → list_any p xs ≡ true) → (b || list_any p xs) ≡ true
     go true h later = refl
     go false h later = later h
+
+-- what stands past the end says nothing of what is within
+pub any_default : {X : Type 0} (xs : List X) (i : ℕ) (d e : X) → i < length xs → get_or xs i d ≡ get_or xs i e
+any_default [] i d e within = absurd (omega (arith, within))
+any_default (x ∷ xs) zero d e within = refl
+any_default (x ∷ xs) (suc i) d e within = any_default xs i d e (omega (arith, within))

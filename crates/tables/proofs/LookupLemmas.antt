@@ -1,11 +1,14 @@
 -- What a query tells of one table: a row that passes its tests, or of these the first in the order of a key.
-use Rattle.std.proofs.Common.{◌≡◌, ◌≢◌, ◌⊎◌, ℕ, pos, ◌≤◌, ◌&&◌, Bool, true, false, List, [], ◌∷◌, map, filter, Option}
-use Rattle.std.proofs.Common.{None, Some, refl, sym, ap, ap₂, ◌∙◌, subst, subst₂, inl, inr, arith, Contains}
+use Rattle.std.proofs.Common.{◌≡◌, ◌≢◌, ◌⊎◌, ℕ, pos, ◌<◌, ◌≤◌, ◌&&◌, Bool, true, false, List, [], ◌∷◌, map, filter, Option}
+use Rattle.std.proofs.Common.{None, Some, length, get_or, refl, sym, ap, ap₂, ◌∙◌, subst, subst₂, inl, inr, arith, Contains}
 use Rattle.std.proofs.Common.{IsPermutation, is_lt, int_cmp, Less, Equal, Greater, Ordering}
 use Rattle.std.specs.Ordering.{ordering_then}
 use Rattle.std.specs.List.{slice_get}
 use Rattle.std.specs.Prelude.{IsSorted}
-use Rattle.std.proofs.lemmas.List.Sorted.{sorted_far, IsPermutation-sym}
+use Rattle.std.specs.List.Sorted.{IsNonDecreasingBy}
+use Rattle.std.proofs.lemmas.List.{length-map, get_or-map}
+use Rattle.std.proofs.lemmas.List.Sorted.{sorted_far, IsPermutation-sym, IsPermutation-map}
+use Rattle.std.proofs.lemmas.List.Sorted.{IsNonDecreasingBy-from_default}
 use Rattle.std.proofs.lemmas.List.MinMax.{ranks_by}
 use Rattle.sqlite_value.specs.declared.value.Value.{Value}
 use Rattle.sqlite_value.specs.declared.value.Value.TheVariants.{Int}
@@ -14,6 +17,7 @@ use Rattle.sqlite_value.specs.declared.keys.Collation.TheVariants.{Binary}
 use Rattle.sqlite_value.specs.Order.{Row, value_cmp}
 use Rattle.sqlite_value.proofs.OrderLemmas.{value_cmp-Int}
 use Rattle.sqlite_trees.specs.Tree.{Trees}
+use Rattle.sqlite_trees.proofs.ListLemmas.{map-map}
 use Rattle.sqlite_sql.specs.Term.{Term, lit, eval_all}
 use Rattle.sqlite_sql.specs.Query.{Query, Output, output, output_cmp, page}
 use Rattle.sqlite_sql.proofs.QueryLemmas.{output_cmp_total}
@@ -23,8 +27,8 @@ use Rattle.sqlite_rules.proofs.ListLemmas.{has_contained, contains_had, has_filt
 use Rattle.sqlite.specs.Effect.{Reads}
 use Rattle.sqlite.specs.Listing.{understood}
 use Rattle.sqlite.proofs.Callers.{command_of}
-use Rattle.tables.specs.QueryAnswers.{IsQueryText, TellsFirst}
-use Rattle.tables.specs.Found.{IsFoundAs, IsLeastAs, IsGreatestAs}
+use Rattle.tables.specs.QueryAnswers.{IsQueryText, TellsFirst, TellsRows}
+use Rattle.tables.specs.Found.{IsFoundAs, IsLeastAs, IsGreatestAs, AreFoundAs}
 use Rattle.tables.specs.Layout.{Holds, RowOf, cells_of, is_keyed, tree_of, rows_of}
 use Rattle.tables.specs.Names.{Name}
 use Rattle.tables.specs.Names as name
@@ -32,7 +36,7 @@ use Rattle.tables.specs.Schema.{the_schema, the_version}
 use Rattle.tables.specs.Tables.{Tables}
 use Rattle.tables.proofs.ChangeLemmas.{raw, found_are}
 use Rattle.tables.proofs.FrameLemmas.{is_current}
-use Rattle.tables.proofs.ListLemmas.{has_permutation, has_image, image_has}
+use Rattle.tables.proofs.ListLemmas.{has_permutation, has_image, image_has, map_same, any_default}
 use Rattle.tables.proofs.ReadLemmas.{program_of, query_of, no_limit, passes, shows, answered, ordered_by}
 
 -- a query, as our schema has its text
@@ -53,6 +57,11 @@ module _ {X : Type 0} (sql : List ℕ) (params : Row) (rows : Tables → List X)
   pub record FindsGreatest (key : X → ℕ) : Type 0 where
     pub found : (t : Tables) (db : Trees) (row : Option Row) → Holds t db → TellsFirst sql params db row
         → IsGreatestAs (λ x r. r ≡ image x) key (rows t) row
+
+  -- what all its rows show
+  pub record FindsAll {Y : Type 0} (shown : X → Y) (number : Y → ℕ) (read : Row → Y) (test : X → Bool) : Type 0 where
+    pub found : (t : Tables) (db : Trees) (shows : List Row) → Holds t db → TellsRows sql params db shows
+        → AreFoundAs shown number test (rows t) (map read shows)
 
 pub and_true : (b : Bool) → (b && true) ≡ b
 and_true true = refl
@@ -216,3 +225,70 @@ module _ (n : Name) (params : Row) (tests project : List Term) (test : RowOf n �
                 (λ x y e. not_less (key x) (key y) e) xs row → IsGreatestAs (λ x r. r ≡ image x) key xs row
             as_greatest xs None h = λ x there. absurd (let no = h x there in let yes = all x in cc)
             as_greatest xs (Some r) h = (h.0, h.1, λ other there. h.3 other there (all other), h.4)
+
+        -- all that pass, as something else that their rows show
+        module _ {Y : Type 0} (shown : RowOf n → Y) (number : Y → ℕ) (read : Row → Y)
+            (reads : (x : RowOf n) → read (image x) ≡ shown x) (numbers : (x : RowOf n) → number (shown x) ≡ key x) where
+          abbrev whole_query : Query
+          whole_query = query_of (tree_of n) tests project ((place, rising) ∷ []) no_limit
+
+          abbrev read_out : Output → Y
+          read_out o = read o.1
+
+          each_of : (xs : List (RowOf n)) (ordered : List Output) → IsPermutation (map out_of (filter test xs)) ordered
+              → (p : Output) (i : ℕ) → i < length ordered → (x : RowOf n) × (get_or ordered i p ≡ out_of x)
+          each_of xs ordered same p i within =
+              let here = has_contained ordered (get_or ordered i p)
+              (i, within, any_default ordered i (get_or ordered i p) p within) in
+              let found = image_has out_of (filter test xs) (get_or ordered i p)
+              (has_permutation _ _ (get_or ordered i p) (IsPermutation-sym _ _ same) here) in
+              (found.0, found.2)
+
+          rises : (xs : List (RowOf n)) (ordered : List Output) → IsPermutation (map out_of (filter test xs)) ordered
+              → IsSorted (output_cmp whole_query) ordered → IsNonDecreasingBy number (map read_out ordered)
+          rises xs [] same sorted = λ i j d below within. absurd (omega (arith, within))
+          rises xs (p ∷ ps) same sorted =
+              IsNonDecreasingBy-from_default number (map read_out (p ∷ ps)) (read_out p) up where
+                up : (i j : ℕ) → i ≤ j → j < length (map read_out (p ∷ ps))
+                    → number (get_or (map read_out (p ∷ ps)) i (read_out p))
+                    ≤ number (get_or (map read_out (p ∷ ps)) j (read_out p))
+                up i j below within =
+                    let inside : j < length (p ∷ ps) = subst (λ k. j < k) (length-map (p ∷ ps) read_out) within in
+                    let a = each_of xs (p ∷ ps) same p i (omega (arith, below, inside)) in
+                    let b = each_of xs (p ∷ ps) same p j inside in
+                    let far = sorted_far (λ o q. is_lt (output_cmp whole_query o q))
+                    (ranks_by (output_cmp_total whole_query) (λ o. o)) (p ∷ ps) sorted i j p below inside in
+                    let less = not_less (key b.0) (key a.0)
+                    (subst₂ (λ o q. is_lt (output_cmp whole_query o q) ≡ false) b.1 a.1 far) in
+                    let first = value_at i a (omega (arith, below, inside)) in
+                    let second = value_at j b inside in
+                    subst₂ (λ m k. m ≤ k) (sym first) (sym second) less
+                  where
+                    value_at : (k : ℕ) (x : (x : RowOf n) × (get_or (p ∷ ps) k p ≡ out_of x)) → k < length (p ∷ ps)
+                        → number (get_or (map read_out (p ∷ ps)) k (read_out p)) ≡ key x.0
+                    value_at k x inside =
+                        ap number (get_or-map read_out (p ∷ ps) k p (read_out p) inside ∙ ap read_out x.1
+                        ∙ reads x.0) ∙ numbers x.0
+
+          pub all : (sql : List ℕ) (names : List (List ℕ))
+              → Asks sql (Select (program_of (tree_of n) tests project ((place, rising) ∷ []) no_limit) names)
+              → FindsAll sql params (rows_of the_version n) image shown number read test
+          all sql names asks = record {
+            found = λ t db rows h told.
+                let xs = rows_of the_version n t in
+                let reads_so = subst (λ k. Reads k (record { schema = the_schema; trees = db }) params rows) asks.is
+                told in
+                let by = ordered_by the_schema db params (tree_of n) tests project ((place, rising) ∷ []) no_limit rows
+                reads_so in
+                let typed = found_are (cells_of n) (cells_some n) (is_keyed n) xs (db (tree_of n))
+                (h.rows n (is_current n)) (passes tests params) test agree
+                (λ r. output whole_query (params ∷ r ∷ [])) out_of (λ y. ap₂ (λ k r. (k, r)) (keys y) (each y))
+                by.ordered by.same in
+                let images = map-map read_out out_of (filter test xs) ∙ map_same _ shown reads (filter test xs) in
+                let told_so : map read_out by.ordered ≡ map read rows =
+                sym (ap (map read) by.shown ∙ map-map read (λ o. o.1) by.ordered) in
+                record {
+                  same = subst₂ IsPermutation images told_so (IsPermutation-map read_out _ _ typed);
+                  rising = subst (IsNonDecreasingBy number) told_so (rises xs by.ordered typed by.sorted);
+                };
+          }

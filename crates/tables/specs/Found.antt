@@ -1,5 +1,7 @@
 -- What a look-up in rows says, whatever their order.
-use Rattle.std.specs.Prelude.{◌≡◌, ℕ, ◌≤◌, Bool, true, false, List, Option, Some, None, Contains}
+use Rattle.std.specs.Prelude.{◌≡◌, ℕ, ◌≤◌, Bool, true, false, List, map, filter, Option, Some, None, Contains}
+use Rattle.std.specs.Prelude.{IsPermutation}
+use Rattle.std.specs.List.Sorted.{IsNonDecreasingBy}
 
 -- none passes the test, or this is what one shows that does
 abbrev pub IsFoundAs : {X Y : Type 0} → (X → Y → Type 0) → (X → Bool) → List X → Option Y → Type 0
@@ -18,3 +20,9 @@ IsLeastAs {X} Shows key test rows None = (x : X) → Contains rows x → test x 
 IsLeastAs {X} Shows key test rows (Some y) =
     (x : X) × Contains rows x × (test x ≡ true)
     × ((other : X) → Contains rows other → test other ≡ true → key x ≤ key other) × Shows x y
+
+-- what is shown of all that pass the test, by their numbers
+pub record AreFoundAs {X Y : Type 0} (shown : X → Y) (number : Y → ℕ) (test : X → Bool) (rows : List X)
+    (found : List Y) : Type 0 where
+  pub same : IsPermutation (map shown (filter test rows)) found
+  pub rising : IsNonDecreasingBy number found

@@ -1,11 +1,12 @@
 -- What the queries show of a row.
 use Rattle.std.specs.Prelude.{◌≡◌, ◌==◌, ℕ, ℤ, ◌&&◌, Bool, List, Option, Result, IfOk, IfErr, OnOk, int_le, int_lt}
-use Rattle.std.specs.Prelude.{nat_le, nat_lt, bytes_eq, string_bytes}
+use Rattle.std.specs.Prelude.{nat_le, nat_lt, bytes_eq, String, string_bytes}
+use Rattle.std.specs.declared.alloc.Global.{Global}
 use Rattle.sqlite_value.specs.Order.{Row}
 use Rattle.sqlite.specs.Held.{state}
 use Rattle.sqlite_trees.specs.Tree.{Trees}
 use Rattle.sqlite_trees.specs.declared.store.Store.{Ghosts}
-use Rattle.tables.specs.QueryAnswers.{StaysUsable, TellsFirst, IsReadAs}
+use Rattle.tables.specs.QueryAnswers.{StaysUsable, TellsFirst, TellsRows, IsReadAs, AreReadAs}
 use Rattle.tables.specs.Changes.{IsCounted}
 use Rattle.tables.specs.Layout.{Holds}
 use Rattle.tables.specs.Tables.{Tables, StampRow, CalibrationRow, HoldRow, TallyRow, DepositRow, ReaderRow}
@@ -45,6 +46,13 @@ TellsRow sql params t row = (db : Trees) × Holds t db × TellsFirst sql params 
 abbrev pub TellsAs : {Y : Type 0} → (Row → Y → Type 0) → List ℕ → Row → Tables → Option Y → Type 0
 TellsAs Shows sql params t found = (row : Option Row) × TellsRow sql params t row × IsReadAs Shows row found
 
+-- and all its rows
+abbrev pub TellsAll : List ℕ → Row → Tables → List Row → Type 0
+TellsAll sql params t rows = (db : Trees) × Holds t db × TellsRows sql params db rows
+
+abbrev pub TellsAllAs : {Y : Type 0} → (Row → Y → Type 0) → List ℕ → Row → Tables → List Y → Type 0
+TellsAllAs Shows sql params t found = (rows : List Row) × TellsAll sql params t rows × AreReadAs Shows rows found
+
 abbrev pub ShowsLast : StampRow → LastStamp → Type 0
 ShowsLast row last = last ≡ record { serial = row.serial; gen_time = row.gen_time }
 
@@ -70,9 +78,19 @@ ShowsStamp row s = stamp_view s ≡ row
 abbrev pub ShowsDeposit : DepositRow → Deposit → Type 0
 ShowsDeposit row d = deposit_view d ≡ row
 
--- a deposit without its bytes
-abbrev pub ShowsLabel : DepositRow → Label → Type 0
-ShowsLabel row label = (string_bytes label.owner ≡ row.owner) × (string_bytes label.reference ≡ row.reference)
+-- a deposit's number and reference
+pub record LabelValue : Type 0 where
+  pub serial : ℕ
+  pub reference : List ℕ
+
+abbrev pub label_of : DepositRow → LabelValue
+label_of row = record { serial = row.serial; reference = row.reference }
+
+abbrev pub label_view : Label → LabelValue
+label_view label = record { serial = label.serial; reference = string_bytes label.reference }
+
+abbrev pub ShowsReference : DepositRow → String Global → Type 0
+ShowsReference row reference = string_bytes reference ≡ row.reference
 
 -- whose stamp it is, and of when
 abbrev pub ShowsOrigin : StampRow → Origin → Type 0
@@ -95,6 +113,9 @@ is_owned_after owner after row = bytes_eq row.owner owner && nat_lt after row.se
 
 abbrev pub is_readable_after : List ℕ → ℕ → ReaderRow → Bool
 is_readable_after name after row = bytes_eq row.name name && nat_lt after row.serial
+
+abbrev pub is_owned_by : List ℕ → DepositRow → Bool
+is_owned_by owner row = bytes_eq row.owner owner
 
 abbrev pub is_owned : ℕ → List ℕ → DepositRow → Bool
 is_owned serial owner row = (row.serial == serial) && bytes_eq row.owner owner

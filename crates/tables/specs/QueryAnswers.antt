@@ -1,5 +1,5 @@
 -- What a query tells, asked in a transaction of its own that is undone.
-use Rattle.std.specs.Prelude.{◌≡◌, ◌⊎◌, ℕ, pos, ◌≤◌, false, List, [], IsTrue, Option, None, Some, Ok, unwrap_or}
+use Rattle.std.specs.Prelude.{◌≡◌, ◌⊎◌, ℕ, pos, ◌≤◌, false, List, [], ◌∷◌, IsTrue, Option, None, Some, Ok, unwrap_or}
 use Rattle.std.specs.List.{slice_get}
 use Rattle.sqlite_disk.specs.Disk.{MoreFaults}
 use Rattle.sqlite_value.specs.declared.value.Value.TheVariants.{Int}
@@ -58,6 +58,12 @@ TellsFirst sql params db row = (rows : List Row) × TellsRows sql params db rows
 abbrev pub IsReadAs : {Y : Type 0} → (Row → Y → Type 0) → Option Row → Option Y → Type 0
 IsReadAs {Y} Shows None found = found ≡ None
 IsReadAs {Y} Shows (Some row) found = (y : Y) × (found ≡ Some y) × Shows row y
+
+-- what is read of each of the rows
+abbrev pub AreReadAs : {Y : Type 0} → (Row → Y → Type 0) → List Row → List Y → Type 0
+AreReadAs {Y} Shows [] found = found ≡ []
+AreReadAs {Y} Shows (row ∷ rows) found =
+    (y : Y) × (others : List Y) × (found ≡ y ∷ others) × Shows row y × AreReadAs Shows rows others
 
 -- what the first row of an answer shows, where there is one
 abbrev pub TellsFirstAs : {Y : Type 0} → (Row → Y → Type 0) → List ℕ → Row → Trees → Option Y → Type 0

@@ -1,8 +1,10 @@
 -- The cells that a look-up asks of a row: all but the bytes where it needs no bytes.
-use Rattle.std.specs.Prelude.{pos, [], ◌∷◌}
+use Rattle.std.specs.Prelude.{ℕ, pos, List, [], ◌∷◌}
+use Rattle.sqlite_value.specs.declared.value.Value.{Value}
 use Rattle.sqlite_value.specs.declared.value.Value.TheVariants.{Int, Text, Blob}
-use Rattle.sqlite_value.specs.Order.{Row}
+use Rattle.sqlite_value.specs.Order.{Row, column}
 use Rattle.tables.specs.Layout.{token_cell}
+use Rattle.tables.specs.Queries.{LabelValue}
 use Rattle.tables.specs.Tables.{StampRow, TallyRow, CalibrationRow, HoldRow, DepositRow, ReaderRow, InstalledRow}
 
 abbrev pub stamp_shown : StampRow → Row
@@ -33,7 +35,19 @@ abbrev pub deposit_shown : DepositRow → Row
 deposit_shown d = Int (pos d.serial) ∷ Text d.owner ∷ Text d.reference ∷ Blob d.bytes ∷ []
 
 abbrev pub label_shown : DepositRow → Row
-label_shown d = Text d.owner ∷ Text d.reference ∷ []
+label_shown d = Int (pos d.serial) ∷ Text d.reference ∷ []
+
+-- and what such a row says
+abbrev pub number_in : Value → ℕ
+number_in (Int (pos n)) = n
+number_in _ = 0
+
+abbrev pub text_in : Value → List ℕ
+text_in (Text octets) = octets
+text_in _ = []
+
+abbrev pub label_in : Row → LabelValue
+label_in row = record { serial = number_in (column row 0); reference = text_in (column row 1) }
 
 abbrev pub number_shown : DepositRow → Row
 number_shown d = Int (pos d.serial) ∷ []

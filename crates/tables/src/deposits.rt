@@ -1,12 +1,11 @@
 //! The table of deposits: the statement that adds one, inside a transaction, and the look-ups.
 
 ghost use Rattle.std.specs.List.{list_any};
-ghost use Rattle.std.specs.Prelude.{◌≡◌, ◌<◌, ◌^◌, IfOk, IfSome};
+ghost use Rattle.std.specs.Prelude.{◌≡◌, map};
 ghost use Rattle.sqlite.specs.Held.{state};
 ghost use Rattle.book.specs.Values.{deposit_of};
-ghost use Rattle.tables.specs.Found.{IsFoundAs, IsLeastAs};
-ghost use Rattle.tables.specs.Queries.{LooksUp, ShowsDeposit, ShowsLabel, ShowsDepositSerial, is_owned};
-ghost use Rattle.tables.specs.Queries.{is_owned_after};
+ghost use Rattle.tables.specs.Found.{IsFoundAs, AreFoundAs};
+ghost use Rattle.tables.specs.Queries.{LooksUp, ShowsDeposit, label_of, label_view, is_owned, is_owned_by};
 ghost use Rattle.tables.specs.Tables.{with_deposit, is_deposit, is_deposit_of};
 ghost use Rattle.tables.specs.Transaction.{Carries};
 
@@ -17,6 +16,7 @@ use crate::rows::{Label, column};
 use book::Deposit;
 use sqlite::types::ValueRef;
 use sqlite::{Alter, Error, Row, Transaction};
+use std::alloc::Global;
 
 const INSERT_DEPOSIT: &str =
     "INSERT INTO deposit (serial, owner, reference, bytes) VALUES (?1, ?2, ?3, ?4)";
@@ -26,14 +26,11 @@ const DEPOSIT: &str = "SELECT serial, owner, reference, bytes FROM deposit WHERE
 const DEPOSIT_UNDER: &str =
     "SELECT serial, owner, reference, bytes FROM deposit WHERE owner = ?1 AND reference = ?2";
 
-// `serial = ?1` would fetch the row by its number, with its bytes. By `IS` the rows of the index on owner and reference
-// do, which have no bytes.
-const LABEL: &str = "SELECT owner, reference FROM deposit WHERE serial IS ?1 AND owner = ?2";
+// The rows of the index on owner and reference have all that this shows, and no bytes.
+const LABELS: &str = "SELECT serial, reference FROM deposit WHERE owner = ?1 ORDER BY serial";
 
+// `serial = ?1` would fetch the row by its number, with its bytes. By `IS` the rows of that index do.
 const IS_OWNER: &str = "SELECT serial FROM deposit WHERE serial IS ?1 AND owner = ?2";
-
-const NEXT_OWNED: &str =
-    "SELECT serial FROM deposit WHERE owner = ?1 AND serial > ?2 ORDER BY serial LIMIT 1";
 
 pub(crate) fn put_deposit<S: Alter>(
     tx: &mut Transaction<'_, S>,
@@ -83,16 +80,15 @@ impl FromRow for Deposit {
 
 impl FromRow for Label {
     ghost use Rattle.std.specs.Prelude.{◌≡◌};
-    ghost use Rattle.tables.specs.Queries.{ShowsLabel};
-    ghost use Rattle.tables.specs.Shown.{label_shown};
-    ghost use Rattle.tables.specs.Tables.{DepositRow};
+    ghost use Rattle.tables.specs.Queries.{label_view};
+    ghost use Rattle.tables.specs.Shown.{label_in};
 
-    ghost shows = { λ row label. (x : DepositRow) → row ≡ label_shown x → ShowsLabel x label };
+    ghost shows = { λ row label. label_view label ≡ label_in row };
 
     fn from_row(row: &Row) -> Result<Label, Error> {
-        let owner = text(row, 0)?;
+        let serial = number(row, 0)?;
         let reference = text(row, 1)?;
-        Ok(Label { owner, reference })
+        Ok(Label { serial, reference })
     }
 }
 
@@ -124,32 +120,21 @@ impl<S: Alter + Drop> Base<S> {
         )
     }
 
-    /// The owner and the reference of the deposit with the number, where this account owns it. No deposit's bytes are
-    /// read: it looks through what an index has of the account's deposits.
-    pub fn label(&mut self, serial: u64, owner: &str) -> Result<Option<Label>, TableFault>
-        ensures { LooksUp S.Store (λ t found. IsFoundAs ShowsLabel (is_owned serial owner.now) t.deposits found)
-            self.old self.new result }
+    /// The numbers and references of all deposits of an owner, by number. No deposit's bytes are read: it goes through
+    /// what an index has of these deposits, once.
+    pub fn labels(&mut self, alloc: Global, owner: &str) -> Result<Vec<Label>, TableFault>
+        ensures { LooksUp S.Store (λ t found. AreFoundAs label_of (λ label. label.serial) (is_owned_by owner.now)
+            t.deposits (map label_view found.items)) self.old self.new result }
     {
-        let serial = self.column(serial)?;
-        self.first_as(LABEL, &[serial, ValueRef::Text(owner.as_bytes())])
+        self.all_as(alloc, LABELS, &[ValueRef::Text(owner.as_bytes())])
     }
 
-    /// Whether the account owns the deposit with the number. No deposit's bytes are read, as for `label`.
+    /// Whether the account owns the deposit with the number. No deposit's bytes are read, as for `labels`.
     pub fn is_owner(&mut self, serial: u64, account: &str) -> Result<bool, TableFault>
         ensures { LooksUp S.Store (λ t owner. owner ≡ list_any (is_owned serial account.now) t.deposits)
             self.old self.new result }
     {
         let serial = self.column(serial)?;
         self.any_row(IS_OWNER, &[serial, ValueRef::Text(account.as_bytes())])
-    }
-
-    /// The least number after `after` of a deposit that the account owns. No deposit's bytes are read, as for `label`.
-    pub fn next_owned(&mut self, account: &str, after: u64) -> Result<Option<u64>, TableFault>
-        ensures looks { LooksUp S.Store (λ t found. IsLeastAs ShowsDepositSerial (λ row. row.serial)
-            (is_owned_after account.now after) t.deposits found) self.old self.new result }
-        ensures small { IfOk result (λ found. IfSome found (λ number. number < 2 ^ 63)) }
-    {
-        let after = self.column(after)?;
-        self.first_number(NEXT_OWNED, &[ValueRef::Text(account.as_bytes()), after])
     }
 }

@@ -12,15 +12,17 @@ ghost use Rattle.tables.specs.Layout.{token_cell};
 ghost use Rattle.tables.specs.Versions.{IsUnanswered};
 ghost use Rattle.tables.specs.Schema.{the_schema};
 ghost use Rattle.tables.specs.QueryAnswers.{IsQueryText, IsPlainIn, Answers, TellsRows, TellsNumber, Looks};
+ghost use Rattle.tables.specs.QueryAnswers.{AreReadAs};
 ghost use Rattle.tables.specs.Transaction.{Carries};
 ghost use Rattle.tables.specs.Changes.{IsCounted};
-ghost use Rattle.tables.specs.Queries.{LooksUp, TellsRow, TellsAs};
+ghost use Rattle.tables.specs.Queries.{LooksUp, TellsRow, TellsAs, TellsAll, TellsAllAs};
 
 use crate::base::Base;
 use crate::fault::TableFault;
 use crate::rows;
 use sqlite::types::ValueRef;
 use sqlite::{Alter, Connection, Error, ErrorCode, Row, Transaction};
+use std::alloc::Global;
 
 /// What a row can be read as.
 pub(crate) trait FromRow {
@@ -132,6 +134,36 @@ impl<S: Alter + Drop> Base<S> {
         Ok(found.is_some())
     }
 
+    /// The rows that a query answers.
+    fn rows(&mut self, sql: &str, params: &[ValueRef<'_>]) -> Result<Vec<Row>, TableFault>
+        requires { IsQueryText sql.now }
+        ensures { LooksUp S.Store (λ t rows. TellsAll sql.now (bound params.now) t rows.items) self.old self.new
+            result }
+    {
+        match rows_of(&mut self.conn, sql, params) {
+            Ok(rows) => Ok(rows),
+            Err(error) => Err(self.fault(error)),
+        }
+    }
+
+    /// What each row that a query answers is read as.
+    pub(crate) fn all_as<R: FromRow + Drop>(
+        &mut self,
+        alloc: Global,
+        sql: &str,
+        params: &[ValueRef<'_>],
+    ) -> Result<Vec<R>, TableFault>
+        requires { IsQueryText sql.now }
+        ensures { LooksUp S.Store (λ t found. TellsAllAs R.shows sql.now (bound params.now) t found.items)
+            self.old self.new result }
+    {
+        let rows = self.rows(sql, params)?;
+        match read_all(alloc, &rows) {
+            Ok(values) => Ok(values),
+            Err(error) => Err(self.fault(error)),
+        }
+    }
+
     /// What the first row that a query answers is read as, if there is a row.
     pub(crate) fn first_as<R: FromRow>(
         &mut self,
@@ -182,6 +214,18 @@ impl<S: Alter + Drop> Base<S> {
             Err(error) => Err(self.fault(error)),
         }
     }
+}
+
+/// What each of the rows is read as.
+fn read_all<R: FromRow + Drop>(alloc: Global, rows: &[Row]) -> Result<Vec<R>, Error>
+    ensures { IfOk result (λ values. AreReadAs R.shows rows.now values.items) }
+{
+    let mut values = Vec::new(alloc);
+    for row in rows {
+        let value = R::from_row(row)?;
+        values.push(value)?;
+    }
+    Ok(values)
 }
 
 /// A whole number of a row, at least 0.

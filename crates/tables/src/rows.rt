@@ -61,10 +61,10 @@ pub struct LatestCalibration {
     ghost small: { n < 2 ^ 63 },
 }
 
-/// A deposit's owner and reference.
+/// A deposit's number and reference.
 #[derive(Debug, Drop)]
 pub struct Label {
-    pub owner: String,
+    pub serial: u64,
     pub reference: String,
 }
 

@@ -1,46 +1,53 @@
-use Rattle.store.proofs.Calls.{looks_now, looks_twice, kept_seen, no_answer}
+use Rattle.store.proofs.Calls.{looks_now, kept_seen, no_answer}
 use Rattle.store.proofs.DepositAnswers.{without_origin, without_label, with_label}
+use Rattle.store.proofs.Walk.{looks_after}
 use Rattle.store.proofs.store.Store.listing.Goals as goal
 
 pub returns-in_err-origin-clause-looks : goal.returns-in_err-origin-clause-looks
 returns-in_err-origin-clause-looks g c = looks_now g.S.Store _ _ _ c.self.view_is c.in_err-origin.ensures.reads
 
 pub returns-in_default-clause-value : goal.returns-in_default-clause-value
-returns-in_default-clause-value g c honest b s =
+returns-in_default-clause-value g c honest b s owned =
     let kept = kept_seen g.S.Store _ _ b c.self.view_is s in
     without_origin b _ _ s.sound c.in_default.is (c.in_ok-origin.ensures.value honest _ kept)
 
 pub returns-in_default-2-clause-value : goal.returns-in_default-2-clause-value
-returns-in_default-2-clause-value g c honest b s =
+returns-in_default-2-clause-value g c honest b s owned =
     let kept = kept_seen g.S.Store _ _ b c.self.view_is s in
-    let found = c.in_ok-origin.ensures.value (c.in_ok-label.ensures.reads.honest honest) _ kept in
-    let labelled = c.in_ok-label.ensures.value honest _ (c.in_ok-origin.ensures.reads.kept _ kept) in
+    let first = looks_now g.S.Store _ _ _ c.self.view_is c.in_ok-origin.ensures.reads in
+    let found = c.in_ok-origin.ensures.value (c.in_ok-reference_of.ensures.looks.honest honest) _ kept in
+    let labelled = c.in_ok-reference_of.ensures.value honest b (first.stands b s) owned in
     without_label b _ _ _ _ _ s.sound c.in-Some.is c.deref.ensures c.in_default-2.is found labelled
 
 pub returns-clause-value : goal.returns-clause-value
-returns-clause-value g c honest b s =
+returns-clause-value g c honest b s owned =
     let kept = kept_seen g.S.Store _ _ b c.self.view_is s in
-    let found = c.in_ok-origin.ensures.value (c.in_ok-label.ensures.reads.honest honest) _ kept in
-    let labelled = c.in_ok-label.ensures.value honest _ (c.in_ok-origin.ensures.reads.kept _ kept) in
+    let first = looks_now g.S.Store _ _ _ c.self.view_is c.in_ok-origin.ensures.reads in
+    let found = c.in_ok-origin.ensures.value (c.in_ok-reference_of.ensures.looks.honest honest) _ kept in
+    let labelled = c.in_ok-reference_of.ensures.value honest b (first.stands b s) owned in
     with_label b _ _ _ _ _ _ s.sound c.in-Some.is c.deref.ensures c.in-Some-2.is found labelled
 
 pub returns-in_default-clause-looks : goal.returns-in_default-clause-looks
 returns-in_default-clause-looks g c = looks_now g.S.Store _ _ _ c.self.view_is c.in_ok-origin.ensures.reads
 
-pub returns-in_err-label-clause-looks : goal.returns-in_err-label-clause-looks
-returns-in_err-label-clause-looks g c =
-    looks_twice g.S.Store _ _ _ _ c.self.view_is c.in_ok-origin.ensures.reads c.in_err-label.ensures.reads
+pub returns-in_err-reference_of-clause-looks : goal.returns-in_err-reference_of-clause-looks
+returns-in_err-reference_of-clause-looks g c =
+    looks_after g.S.Store _ _ _ (looks_now g.S.Store _ _ _ c.self.view_is c.in_ok-origin.ensures.reads)
+    c.in_err-reference_of.ensures.looks
 
 pub returns-in_default-2-clause-looks : goal.returns-in_default-2-clause-looks
 returns-in_default-2-clause-looks g c =
-    looks_twice g.S.Store _ _ _ _ c.self.view_is c.in_ok-origin.ensures.reads c.in_ok-label.ensures.reads
+    looks_after g.S.Store _ _ _ (looks_now g.S.Store _ _ _ c.self.view_is c.in_ok-origin.ensures.reads)
+    c.in_ok-reference_of.ensures.looks
 
 pub returns-clause-looks : goal.returns-clause-looks
 returns-clause-looks g c =
-    looks_twice g.S.Store _ _ _ _ c.self.view_is c.in_ok-origin.ensures.reads c.in_ok-label.ensures.reads
+    looks_after g.S.Store _ _ _ (looks_now g.S.Store _ _ _ c.self.view_is c.in_ok-origin.ensures.reads)
+    c.in_ok-reference_of.ensures.looks
 
 pub returns-in_err-origin-clause-value : goal.returns-in_err-origin-clause-value
-returns-in_err-origin-clause-value g c honest b s = no_answer _ _ c.from_residual.ensures.0
+returns-in_err-origin-clause-value g c honest b s owned = no_answer _ _ c.from_residual.ensures.0
 
-pub returns-in_err-label-clause-value : goal.returns-in_err-label-clause-value
-returns-in_err-label-clause-value g c honest b s = no_answer _ _ c.from_residual-in_err-label.ensures.0
+pub returns-in_err-reference_of-clause-value : goal.returns-in_err-reference_of-clause-value
+returns-in_err-reference_of-clause-value g c honest b s owned =
+    no_answer _ _ c.from_residual-in_err-reference_of.ensures.0

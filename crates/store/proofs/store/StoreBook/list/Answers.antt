@@ -3,6 +3,7 @@ use Rattle.std.proofs.lemmas.List.{length-map}
 use Rattle.book.specs.Values.{listed_view, viewer_of}
 use Rattle.store.specs.Steps.{IsNextSeen, AreNextReadable}
 use Rattle.store.proofs.Calls.{no_answer}
+use Rattle.store.proofs.LabelRows.{none_owned}
 use Rattle.store.proofs.Walk.{HasListed, at_first, looks_after, sized_at_first, ahead_at_first, nothing_listed}
 use Rattle.store.proofs.Walk.{row_listed, whole_listed}
 use Rattle.store.proofs.store.StoreBook.list.Goals as goal
@@ -13,10 +14,13 @@ loop-cursors-init g c =
     let cursors = c.in_ok-cursors.cursors in
     let shared = c.in_ok-cursors.ensures.shared
     ∙ ap (λ n. replicate n at_first) (sym (length-map c.args.groups.now (λ name. name.now))) in
-    subst (λ items. HasListed g.S.Store c.args.self.now c.args.self.now viewer (map listed_view items) 0 cursors)
+    subst (λ items. HasListed g.S.Store c.args.self.now c.look_up.new.self viewer (map listed_view items) 0 cursors
+    c.look_up.new.known.items)
     (sym c.new-rows.ensures.items)
-    (nothing_listed g.S.Store c.args.self.now viewer cursors (sized_at_first viewer cursors shared)
-    (ahead_at_first viewer cursors c.in_ok-cursors.ensures.own shared))
+    (nothing_listed g.S.Store c.args.self.now c.look_up.new.self viewer cursors c.look_up.new.known.items
+    c.in_ok-look_up.ensures.looks c.in_ok-look_up.ensures.faults c.in_ok-look_up.ensures.opened
+    (sized_at_first viewer cursors shared) (ahead_at_first viewer cursors c.in_ok-cursors.ensures.own shared)
+    (λ h b s. c.in_ok-look_up.ensures.value h b s (none_owned b _ c.new-known.ensures.items)))
 
 pub loop-cursors-preserved : goal.loop-cursors-preserved
 loop-cursors-preserved g c =
@@ -24,26 +28,30 @@ loop-cursors-preserved g c =
     let last = c.loop-cursors.last in
     let after = c.next_seen.new.cursors in
     let is = c.in-Some.is in
-    subst (λ rows. HasListed g.S.Store c.args.self.now c.listing.new.self viewer rows c.in-Some.number after)
+    subst (λ rows. HasListed g.S.Store c.args.self.now c.listing.new.self viewer rows c.in-Some.number after
+    c.listing.new.known.items)
     (sym c.in_ok-add_listed.ensures.added)
     (row_listed g.S.Store c.args.self.now c.loop-cursors.self c.next_seen.new.self c.listing.new.self viewer _ last
-    c.in-Some.number c.loop-cursors.cursors after c.in_ok-row.row c.loop-cursors.invariant
+    c.in-Some.number c.loop-cursors.cursors after c.loop-cursors.known.items c.next_seen.new.known.items
+    c.listing.new.known.items c.in_ok-row.row c.loop-cursors.invariant
     c.in_ok-number.ensures.looks c.in_ok-row.ensures.looks c.in_ok-number.ensures.faults c.in_ok-row.ensures.faults
-    c.in_ok-number.ensures.opened
     (subst (λ next. IfSome next (λ number. (last < number) × (number < 2 ^ 63))) is c.in_ok-number.ensures.rises).0
     c.in_ok-number.ensures.sized
-    (λ h b s ahead. subst (λ next. IsNextSeen viewer last b next
+    (λ h b s ahead owned. subst (λ next. IsNextSeen viewer last b next
     × AreNextReadable viewer last b after.own after.shared.items) is
-    (c.in_ok-number.ensures.value h b s ahead))
-    c.in_ok-row.ensures.value)
+    (c.in_ok-number.ensures.value h b s ahead owned))
+    c.in_ok-number.ensures.known c.in_ok-row.ensures.value c.in_ok-row.ensures.known)
 
 pub returns-clause-value : goal.returns-clause-value
 returns-clause-value g c =
     let viewer = viewer_of c.args.account.now (map (λ name. name.now) c.args.groups.now) in
-    whole_listed g.S.Store c.args.self.now c.loop-cursors.self c.next_seen.new.self viewer _ _ _
+    whole_listed g.S.Store c.args.self.now c.loop-cursors.self c.next_seen.new.self viewer _ _ _ _
     c.loop-cursors.invariant c.in_ok-number.ensures.looks
-    (λ h b s ahead. subst (λ next. IsNextSeen viewer c.loop-cursors.last b next) c.in_default.is
-    (c.in_ok-number.ensures.value h b s ahead).0)
+    (λ h b s ahead owned. subst (λ next. IsNextSeen viewer c.loop-cursors.last b next) c.in_default.is
+    (c.in_ok-number.ensures.value h b s ahead owned).0)
+
+pub returns-in_err-look_up-clause-value : goal.returns-in_err-look_up-clause-value
+returns-in_err-look_up-clause-value g c honest b s = no_answer _ _ c.from_residual-in_err-look_up.ensures.0
 
 pub returns-in_err-number-clause-looks : goal.returns-in_err-number-clause-looks
 returns-in_err-number-clause-looks g c =

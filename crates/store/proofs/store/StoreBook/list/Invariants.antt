@@ -7,7 +7,7 @@ use Rattle.store.proofs.store.StoreBook.list.Given as goal
 abbrev pub invariant-loop-cursors : goal.invariant-loop-cursors
 invariant-loop-cursors g l =
     HasListed g.S.Store l.fn.self l.self (viewer_of l.account (map (λ name. name.now) l.groups))
-    (map listed_view l.rows.items) l.last l.cursors
+    (map listed_view l.rows.items) l.last l.cursors l.known.items
 
 abbrev pub decreases-loop-cursors : goal.decreases-loop-cursors
 decreases-loop-cursors g l = 2 ^ 63 - l.last
