@@ -2,14 +2,17 @@
    its length, or has it or a folder on the disk, in the file that DISK_RECORD names. Each is a line: `make PATH`,
    `write AT COUNT PATH` with the octets behind it, `length COUNT PATH`, or `sync PATH`. With FAILING_CALL=N the Nth of
    them fails, counted from 1, and with FAILING_CALLS=all each one after it: there is no room to make, write or lengthen
-   a file, and a sync fails. A call that fails isn't recorded. */
+   a file, and a sync fails. A call that fails isn't recorded. With RECORDED_SOCKETS the record tells too what goes out
+   over sockets, as `send COUNT SOCKET` with the octets behind it; these never fail. */
 #include <errno.h>
 #include <fcntl.h>
 #include <stdarg.h>
 #include <stdio.h>
 #include <stdlib.h>
 #include <string.h>
+#include <sys/stat.h>
 #include <sys/syscall.h>
+#include <sys/uio.h>
 #include <unistd.h>
 
 static long calls;
@@ -83,3 +86,32 @@ static int synced(int file, int done) {
 int fsync(int file) { return has_failed(EIO) ? -1 : synced(file, (int)syscall(SYS_fsync, file)); }
 
 int fdatasync(int file) { return has_failed(EIO) ? -1 : synced(file, (int)syscall(SYS_fdatasync, file)); }
+
+static int is_recorded_socket(int file) {
+  struct stat found;
+  return getenv("RECORDED_SOCKETS") && fstat(file, &found) == 0 && S_ISSOCK(found.st_mode);
+}
+
+static void note_sent(int file, const void *octets, size_t count) {
+  char line[64];
+  snprintf(line, sizeof line, "send %zu ", count);
+  note(line, file, octets, count);
+}
+
+ssize_t write(int file, const void *octets, size_t count) {
+  ssize_t done = syscall(SYS_write, file, octets, count);
+  if (done > 0 && is_recorded_socket(file)) note_sent(file, octets, (size_t)done);
+  return done;
+}
+
+ssize_t writev(int file, const struct iovec *parts, int count) {
+  ssize_t done = syscall(SYS_writev, file, parts, count);
+  if (done <= 0 || !is_recorded_socket(file)) return done;
+  size_t left = (size_t)done;
+  for (int number = 0; left > 0; number++) {
+    size_t sent = parts[number].iov_len < left ? parts[number].iov_len : left;
+    note_sent(file, parts[number].iov_base, sent);
+    left -= sent;
+  }
+  return done;
+}
