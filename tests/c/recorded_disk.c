@@ -10,9 +10,9 @@
 #include <stdio.h>
 #include <stdlib.h>
 #include <string.h>
+#include <sys/socket.h>
 #include <sys/stat.h>
 #include <sys/syscall.h>
-#include <sys/uio.h>
 #include <unistd.h>
 
 static long calls;
@@ -87,31 +87,23 @@ int fsync(int file) { return has_failed(EIO) ? -1 : synced(file, (int)syscall(SY
 
 int fdatasync(int file) { return has_failed(EIO) ? -1 : synced(file, (int)syscall(SYS_fdatasync, file)); }
 
-static int is_recorded_socket(int file) {
+static int is_recorded(int file) {
   struct stat found;
   return getenv("RECORDED_SOCKETS") && fstat(file, &found) == 0 && S_ISSOCK(found.st_mode);
 }
 
-static void note_sent(int file, const void *octets, size_t count) {
+static ssize_t sent(int file, const void *octets, ssize_t done) {
   char line[64];
-  snprintf(line, sizeof line, "send %zu ", count);
-  note(line, file, octets, count);
+  if (done <= 0 || !is_recorded(file)) return done;
+  snprintf(line, sizeof line, "send %zd ", done);
+  note(line, file, octets, (size_t)done);
+  return done;
 }
 
 ssize_t write(int file, const void *octets, size_t count) {
-  ssize_t done = syscall(SYS_write, file, octets, count);
-  if (done > 0 && is_recorded_socket(file)) note_sent(file, octets, (size_t)done);
-  return done;
+  return sent(file, octets, syscall(SYS_write, file, octets, count));
 }
 
-ssize_t writev(int file, const struct iovec *parts, int count) {
-  ssize_t done = syscall(SYS_writev, file, parts, count);
-  if (done <= 0 || !is_recorded_socket(file)) return done;
-  size_t left = (size_t)done;
-  for (int number = 0; left > 0; number++) {
-    size_t sent = parts[number].iov_len < left ? parts[number].iov_len : left;
-    note_sent(file, parts[number].iov_base, sent);
-    left -= sent;
-  }
-  return done;
+ssize_t send(int file, const void *octets, size_t count, int flags) {
+  return sent(file, octets, syscall(SYS_sendto, file, octets, count, flags, NULL, 0));
 }

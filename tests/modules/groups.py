@@ -143,6 +143,11 @@ class Setting:
         self.libraries = {name: compiled_library(name, folder) for name in LIBRARIES}
         self.certificate, self.algorithm = self.write("tsa.der", CERTIFICATE), self.write("algorithm.der", ALGORITHM)
         self.key = self.write("signing.key", KEY)
+        # a database that is calibrated at the reading of the first request
+        self.begun = os.path.join(folder, "begun.db")
+        measured = ["--reading", str(FIRST), "--offset", "0", "--uncertainty", "0"]
+        for words in (["init"], ["calibrate", *measured]):
+            subprocess.run([PROGRAM, *words, "--db", self.begun], check=True)
 
     def write(self, name, octets):
         path = os.path.join(self.folder, name)
@@ -162,23 +167,25 @@ class Setting:
 
 
 class Counter:
-    """A database of its own, which is calibrated at the reading of the first request, and its policy file. Served once,
-    it has had its first identity."""
+    """A database of its own, which begins as a file does, and its policy file."""
 
     def __init__(self, setting, rules=None, begun=None):
-        self.setting, self.folder = setting, setting.new_folder()
+        self.setting, self.folder, self.chain = setting, setting.new_folder(), None
         self.db, self.rules = (os.path.join(self.folder, name) for name in ("counter.db", "policy.toml"))
         with open(self.rules, "w", encoding="utf-8") as file:
             file.write(text() if rules is None else rules)
-        self.chain = None
-        if begun:
-            shutil.copyfile(begun, self.db)
-        else:
-            self.run("init")
-            self.run("calibrate", "--reading", str(FIRST), "--offset", "0", "--uncertainty", "0")
+        shutil.copyfile(begun or setting.begun, self.db)
 
-    def run(self, word, *words):
-        subprocess.run([PROGRAM, word, "--db", self.db, *words], check=True)
+    def copy(self):
+        """Another one with the same files, before it is served again."""
+        with open(self.rules, encoding="utf-8") as file:
+            copied = Counter(self.setting, file.read(), self.db)
+        copied.chain = self.chain
+        return copied
+
+    def hold(self, begin, end):
+        words = ["hold", "--db", self.db, "--from", str(begin), "--to", str(end)]
+        subprocess.run([PROGRAM, *words], check=True)
 
     def continued(self, *words):
         """The database in which this one goes on."""
@@ -189,15 +196,6 @@ class Counter:
     def files(self):
         """What the database's files hold, by their names."""
         return {name: octets_of(os.path.join(self.folder, name)) for name in FILES if name in os.listdir(self.folder)}
-
-    def copy(self):
-        """Another one with the same files, before it is served again."""
-        copied = Counter.__new__(Counter)
-        copied.setting, copied.folder, copied.chain = self.setting, self.setting.new_folder(), self.chain
-        copied.db, copied.rules = (os.path.join(copied.folder, name) for name in ("counter.db", "policy.toml"))
-        shutil.copyfile(self.db, copied.db)
-        shutil.copyfile(self.rules, copied.rules)
-        return copied
 
     def desk_words(self, address=None):
         setting = self.setting
