@@ -2,13 +2,16 @@
    its length, or has it or a folder on the disk, in the file that DISK_RECORD names. Each is a line: `make PATH`,
    `write AT COUNT PATH` with the octets behind it, `length COUNT PATH`, or `sync PATH`. With FAILING_CALL=N the Nth of
    them fails, counted from 1, and with FAILING_CALLS=all each one after it: there is no room to make, write or lengthen
-   a file, and a sync fails. A call that fails isn't recorded. */
+   a file, and a sync fails. A call that fails isn't recorded. With RECORDED_SOCKETS the record tells too what goes out
+   over sockets, as `send COUNT SOCKET` with the octets behind it; these never fail. */
 #include <errno.h>
 #include <fcntl.h>
 #include <stdarg.h>
 #include <stdio.h>
 #include <stdlib.h>
 #include <string.h>
+#include <sys/socket.h>
+#include <sys/stat.h>
 #include <sys/syscall.h>
 #include <unistd.h>
 
@@ -83,3 +86,24 @@ static int synced(int file, int done) {
 int fsync(int file) { return has_failed(EIO) ? -1 : synced(file, (int)syscall(SYS_fsync, file)); }
 
 int fdatasync(int file) { return has_failed(EIO) ? -1 : synced(file, (int)syscall(SYS_fdatasync, file)); }
+
+static int is_recorded(int file) {
+  struct stat found;
+  return getenv("RECORDED_SOCKETS") && fstat(file, &found) == 0 && S_ISSOCK(found.st_mode);
+}
+
+static ssize_t sent(int file, const void *octets, ssize_t done) {
+  char line[64];
+  if (done <= 0 || !is_recorded(file)) return done;
+  snprintf(line, sizeof line, "send %zd ", done);
+  note(line, file, octets, (size_t)done);
+  return done;
+}
+
+ssize_t write(int file, const void *octets, size_t count) {
+  return sent(file, octets, syscall(SYS_write, file, octets, count));
+}
+
+ssize_t send(int file, const void *octets, size_t count, int flags) {
+  return sent(file, octets, syscall(SYS_sendto, file, octets, count, flags, NULL, 0));
+}

@@ -28,10 +28,11 @@ def script(found):
 
 
 def alike(text):
-    """The text without what differs from run to run: times, hashes of tokens, lengths of three digits and more, and the
-    commit."""
+    """The text without what differs from run to run: times, hashes of tokens, lengths of three digits and more, sizes of
+    databases, and the commit."""
     text = re.sub(r"\b\d{14}(\.\d{1,6})?Z", "TIME", text.replace("\r", ""))
     text = re.sub(r"^(calibration-(age|left)-us) \d+$", r"\1 SPAN", text, flags=re.M)
+    text = re.sub(r"^(database-octets) \d+$", r"\1 OCTETS", text, flags=re.M)
     text = re.sub(r"\((unknown commit|commit [0-9a-f]{7})\)$", "(COMMIT)", text, flags=re.M)
     text = re.sub(r"(?<=sealed,)[0-9a-f]{64}$", "TOKEN", text, flags=re.M)
     return re.sub(r"^(Content-Length: )\d{3,}$", r"\1LENGTH", text, flags=re.M)

@@ -7,7 +7,7 @@ import os
 
 
 class Calls(list):
-    """The calls of a record, one after the other: what is done, to which path, and with what."""
+    """The calls of a record, one after the other: what is done, to which path or socket, and with what."""
 
     def __init__(self, path):
         super().__init__()
@@ -19,7 +19,7 @@ class Calls(list):
             word, *numbers = octets[at:end].decode().split(" ")
             at = end + 1
             name = numbers.pop()
-            if word == "write":
+            if word in ("write", "send"):
                 count = int(numbers.pop())
                 numbers.append(octets[at : at + count])
                 at += count

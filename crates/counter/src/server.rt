@@ -62,7 +62,7 @@ impl DeskOperation<(), ()> for Serving<'_> {
         let limit = Duration::from_secs(CONNECTION_SECONDS);
         let rt = self.rt;
         let mut clock = SystemClock::new(rt);
-        match Listening::new(rt, rt, &listener, limit) {
+        match Listening::new(rt, rt, &listener, limit, None) {
             Ok(mut listening) => {
                 tell_listening(rt, &listener, self.address, self.begun);
                 let SignedDesk { desk, signer } = signed;
