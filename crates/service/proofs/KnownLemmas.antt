@@ -1,18 +1,17 @@
 -- Octets that begin with a head, or with none.
-use Rattle.std.proofs.Common.{◌≡◌, ◌∙◌, ℕ, ◌+◌, ◌<◌, ◌≤◌, List, [], ◌∷◌, ◌++◌, All, Option, length, take, drop, refl, sym}
-use Rattle.std.proofs.Common.{ap, subst, append_assoc, append-nil, length-append, length-take-le, length-drop, arith, inl}
+use Rattle.std.proofs.Common.{◌≡◌, ◌∙◌, ℕ, ◌+◌, ◌<◌, ◌≤◌, List, [], ◌∷◌, ◌++◌, All, length, take, drop, refl, sym}
+use Rattle.std.proofs.Common.{ap, subst, append-nil, length-append, length-take-le, length-drop, arith, inl}
 use Rattle.std.proofs.Common.{Bool, true, false, Ok, Err}
 use Rattle.std.proofs.lemmas.List.{take-append-drop, take-append-le, take_all, take_at, length-take, length-map}
-use Rattle.std.proofs.lemmas.List.{nil_from_length}
 use Rattle.std.proofs.lemmas.List.Elements.{All-weaker}
-use Rattle.httparse.specs.Grammar.{RequestHead, print_request, print_blank, print_version, print_end, print_section}
-use Rattle.httparse.specs.Grammar.{HasNoRequest, MayBecomeRequest, ReadsRequest}
+use Rattle.httparse.specs.Grammar.{print_request, print_blank, print_version, print_end, print_section}
+use Rattle.httparse.specs.Grammar.{HasNoRequest, ReadsRequest}
 use Rattle.httparse.specs.Spans.{IsRequestWithin, IsRequestAt, IsRequestOf, RequestOverflows, header_bytes}
 use Rattle.httparse.specs.Spans.{IsHeaderWithin, name_and_value}
 use Rattle.httparse.specs.declared.spans.HeaderSpan.{HeaderSpan}
 use Rattle.httparse.specs.declared.spans.RequestSpans.{RequestSpans}
 use Rattle.httparse.proofs.GrammarLemmas.{print_request-append, ReadsRequest-append, request_unique}
-use Rattle.service.specs.Heads.{most_octets, most_fields, BeginsWith, IsHead, HasNoHead, NeverHasHead, MayBegin, IsBegun}
+use Rattle.service.specs.Heads.{most_octets, most_fields, HasNoHead, NeverHasHead, MayBegin, IsBegun}
 use Rattle.service.specs.Heads.{IsHeadless}
 use Rattle.service.specs.Checks.{WantedValue, wanted_by}
 use Rattle.service.specs.Heads.{head_value}

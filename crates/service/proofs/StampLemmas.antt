@@ -1,5 +1,5 @@
 -- Octets that are a request for a stamp are nothing else.
-use Rattle.std.proofs.Common.{◌≡◌, ◌∙◌, ℕ, ℤ, true, false, List, [], ◌++◌, Option, Some, Result, Ok, Err, length, take}
+use Rattle.std.proofs.Common.{◌≡◌, ◌∙◌, ℕ, ℤ, true, false, List, [], ◌++◌, Some, Result, Ok, Err, length, take}
 use Rattle.std.proofs.Common.{Bor, ap, append-nil, arith, refl, inl, inr, subst, sym}
 use Rattle.std.proofs.lemmas.List.{take_all}
 use Rattle.std.specs.Prelude.{MatchOption}

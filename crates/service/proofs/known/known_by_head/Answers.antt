@@ -1,4 +1,4 @@
-use Rattle.std.proofs.Common.{◌≡◌, ◌∙◌, Bool, true, Ok, Err, ap, sym}
+use Rattle.std.proofs.Common.{◌≡◌, ◌∙◌, ap, sym}
 use Rattle.service.specs.Checks.{wanted_by}
 use Rattle.service.specs.Heads.{head_value}
 use Rattle.service.specs.Received.{ends_with_body, has_no_body}

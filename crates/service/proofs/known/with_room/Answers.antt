@@ -1,4 +1,4 @@
-use Rattle.std.proofs.Common.{List, ℕ, arith, length-take-le, subst, take}
+use Rattle.std.proofs.Common.{arith, length-take-le, subst, take}
 use Rattle.service.specs.Known.{IsKnown}
 use Rattle.service.specs.declared.known.Known.{Known}
 use Rattle.service.proofs.KnownLemmas.{wanting_room}

@@ -1,4 +1,4 @@
-use Rattle.std.proofs.Common.{ℤ, Ok, Err, refl, rules, subst, sym, SFits, to_z-of_z, w64}
+use Rattle.std.proofs.Common.{ℤ, refl, rules, subst, sym, SFits, to_z-of_z, w64}
 use Rattle.desk.specs.Answers.{reply_as}
 use Rattle.desk.specs.Batches.{stamp_for}
 use Rattle.desk.specs.CallContract.{IsStep, with_signer}

@@ -1,4 +1,4 @@
-use Rattle.std.proofs.Common.{◌≡◌, ◌∙◌, ℕ, List, ap, arith, drop, inl, length-take-le, subst, sym, take}
+use Rattle.std.proofs.Common.{◌≡◌, ◌∙◌, ℕ, List, ap, arith, drop, inl, subst, sym, take}
 use Rattle.httparse.specs.Spans.{IsRequestAt}
 use Rattle.service.specs.Heads.{head_value}
 use Rattle.service.specs.Known.{IsAnswerable, IsDue, IsKept, received}

@@ -1,4 +1,4 @@
-use Rattle.std.proofs.Common.{◌≡◌, ◌∙◌, ℕ, List, ap, length-take-le, subst, sym, take}
+use Rattle.std.proofs.Common.{◌∙◌, ℕ, List, ap, length-take-le, subst, sym, take}
 use Rattle.std.proofs.lemmas.Bool.{eqb-true}
 use Rattle.service.specs.Known.{IsKept}
 use Rattle.service.specs.Received.{IsAll}

@@ -1,4 +1,4 @@
-use Rattle.std.proofs.Common.{◌≡◌, ◌∙◌, ℤ, Option, Result, false, rules, subst, sym, true, SFits, to_z-of_z, w64}
+use Rattle.std.proofs.Common.{◌≡◌, ◌∙◌, ℤ, Option, false, rules, subst, sym, true, SFits, to_z-of_z, w64}
 use Rattle.std.specs.Prelude.{MatchOption}
 use Rattle.desk.specs.Batches.{Question, stamp_for}
 use Rattle.desk.specs.Together.{question_view}
