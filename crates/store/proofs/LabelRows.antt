@@ -1,7 +1,7 @@
 -- What was looked up of an owner's deposits, by number: the next of them, and the reference of one.
-use Rattle.std.proofs.Common.{◌≡◌, ◌≢◌, ◌⊎◌, ℕ, ◌<◌, ◌≤◌, ◌==◌, ◌&&◌, nat_lt, Bool, true, false, cond, List, [], ◌∷◌}
-use Rattle.std.proofs.Common.{map, filter, length, get_or, set, Some, None, refl, sym, ap, ◌∙◌, subst, subst₂, inl, inr}
-use Rattle.std.proofs.Common.{arith, Contains, String, string_bytes, leb, ltb}
+use Rattle.std.proofs.Common.{◌≡◌, ℕ, zero, suc, ◌<◌, ◌≤◌, ◌==◌, ◌&&◌, nat_lt, Bool, true, false, cond, List, [], ◌∷◌}
+use Rattle.std.proofs.Common.{◌++◌, map, filter, length, get_or, Option, Some, None, refl, sym, ap, ◌∙◌, subst, subst₂}
+use Rattle.std.proofs.Common.{inl, inr, arith, Contains, HoldsAt, String, string_bytes, leb, ltb}
 use Rattle.std.specs.declared.alloc.Global.{Global}
 use Rattle.std.specs.List.Sorted.{IsNonDecreasingBy, IsPartitionPoint}
 use Rattle.std.specs.Str.{bytes_eq}
@@ -15,8 +15,10 @@ use Rattle.tables.specs.Queries.{label_of, label_view}
 use Rattle.tables.specs.Tables.{DepositRow}
 use Rattle.tables.specs.declared.rows.Label.{Label}
 use Rattle.book.specs.History.{History}
+use Rattle.store.specs.Replay.{replayed}
 use Rattle.store.specs.Steps.{AreLabels, AreOwned}
 use Rattle.store.specs.declared.labels.Owned.{Owned}
+use Rattle.store.proofs.CursorMoves.{any_default}
 use Rattle.store.proofs.Members.{member_here, member_after, member_cases, no_member, both_true, true_or_false}
 
 map_member : {X Y : Type 0} (f : X → Y) (xs : List X) (y : X) → Contains xs y → Contains (map f xs) (f y)
@@ -53,14 +55,15 @@ filter_member {X} p (x ∷ xs) y m t =
 member_filter : {X : Type 0} (p : X → Bool) (xs : List X) (y : X) → Contains (filter p xs) y
     → Contains xs y × (p y ≡ true)
 member_filter p [] y m = absurd (no_member y m)
-member_filter {X} p (x ∷ xs) y m = go (p x) refl m where
-  go : (v : Bool) → p x ≡ v → Contains (cond v (x ∷ filter p xs) (filter p xs)) y → Contains (x ∷ xs) y × (p y ≡ true)
-  go true e k =
+member_filter {X} p (x ∷ xs) y m = go (p x) refl (λ later. member_filter p xs y later) m where
+  go : (v : Bool) → p x ≡ v → (Contains (filter p xs) y → Contains xs y × (p y ≡ true))
+      → Contains (cond v (x ∷ filter p xs) (filter p xs)) y → Contains (x ∷ xs) y × (p y ≡ true)
+  go true e among k =
       elim (member_cases x y (filter p xs) k) [
         | inl same ↦ (subst (λ z. Contains (x ∷ xs) z) same (member_here x xs), ap p (sym same) ∙ e)
-        | inr later ↦ (let found = member_filter p xs y later in (member_after x y xs found.0, found.1))
+        | inr later ↦ (let found = among later in (member_after x y xs found.0, found.1))
       ]
-  go false e k = let found = member_filter p xs y k in (member_after x y xs found.0, found.1)
+  go false e among k = let found = among k in (member_after x y xs found.0, found.1)
 
 -- nobody is known at first
 pub none_owned : (b : History) (known : List Owned) → known ≡ [] → AreOwned b known
@@ -81,14 +84,14 @@ module _ (owner : List ℕ) (rows : List DepositRow) (labels : List Label) (are 
 
   -- and each row has one
   place_of_row : (x : DepositRow) → Contains rows x → is_owned_by owner x ≡ true
-      → (k : ℕ) × (k < length labels) × ((d : Label) → (get_or labels k d).serial ≡ x.serial)
+      → Label × (k : ℕ) × (k < length labels) × ((d : Label) → (get_or labels k d).serial ≡ x.serial)
   place_of_row x m t =
       let there = map_member label_of (filter (is_owned_by owner) rows) x
       (filter_member (is_owned_by owner) rows x m t) in
       let moved = Contains-permutation _ _ (label_of x) are.same there in
       let source = member_image label_view labels (label_of x) moved in
       let at = at_from_Contains labels source.0 source.1 in
-      (at.0, at.1, λ d. ap (λ l. l.serial) (at.2 d) ∙ ap (λ l. l.serial) source.2)
+      (source.0, at.0, at.1, λ d. ap (λ l. l.serial) (at.2 d) ∙ ap (λ l. l.serial) source.2)
 
   pub rising : IsNonDecreasingBy (λ label. label.serial) labels
   rising i j d below within =
@@ -102,26 +105,26 @@ module _ (owner : List ℕ) (rows : List DepositRow) (labels : List Label) (are 
   module _ (after at : ℕ) (point : IsPartitionPoint (λ label. leb label.serial after ≡ true)
       (λ label. leb label.serial after ≡ false) labels at) where
     -- beyond the point or at it, where a row is after the number
-    beyond : (d : Label) (x : DepositRow) → Contains rows x → is_owned_after owner after x ≡ true
-        → (k : ℕ) × (k < length labels) × (at ≤ k) × ((get_or labels k d).serial ≡ x.serial)
-    beyond d x m t =
+    beyond : (x : DepositRow) → Contains rows x → is_owned_after owner after x ≡ true
+        → (k : ℕ) × (k < length labels) × (at ≤ k) × ((d : Label) → (get_or labels k d).serial ≡ x.serial)
+    beyond x m t =
         let parts = both_true (is_owned_by owner x) (nat_lt after x.serial) t in
         let later = ltb-true after x.serial parts.1 in
         let place = place_of_row x m parts.0 in
-        let same = place.2 d in
-        elim (true_or_false (nat_lt place.0 at)) [
-          | inl before ↦ (let low = ltb-true place.0 at before in
-              let not_after = leb-true _ _ (point.0 place.0 d (omega arith) low) in
+        let same = place.3 place.0 in
+        elim (true_or_false (nat_lt place.1 at)) [
+          | inl before ↦ (let low = ltb-true place.1 at before in
+              let not_after = leb-true _ _ (point.0 place.1 place.0 (omega arith) low) in
               absurd (omega (arith, not_after, same, later)))
-          | inr f ↦ (let not_before = ltb-false place.0 at f in
-              (place.0, place.1, omega (arith, not_before), same))
+          | inr f ↦ (let not_before = ltb-false place.1 at f in
+              (place.1, place.2, omega (arith, not_before), place.3))
         ]
 
-    pub none_after : Label → length labels ≤ at
+    pub none_after : length labels ≤ at
         → IsLeastAs ShowsDepositSerial (λ row. row.serial) (is_owned_after owner after) rows None
-    none_after d past = λ x m.
+    none_after past = λ x m.
         elim (true_or_false (is_owned_after owner after x)) [
-          | inl t ↦ (let k = beyond d x m t in absurd (omega (arith, past, k.1, k.2)))
+          | inl t ↦ (let k = beyond x m t in absurd (omega (arith, past, k.1, k.2)))
           | inr f ↦ f
         ]
 
@@ -137,46 +140,110 @@ module _ (owner : List ℕ) (rows : List DepositRow) (labels : List Label) (are 
           least : (other : DepositRow) → Contains rows other → is_owned_after owner after other ≡ true
               → (row_of at d within).0.serial ≤ other.serial
           least other m t =
-              let k = beyond d other m t in
+              let k = beyond other m t in
               let up = rising at k.0 d k.2 k.1 in
               let same = (row_of at d within).3 in
-              omega (arith, up, same, k.3)
+              omega (arith, up, same, k.3 d)
 
   module _ (number at : ℕ) (point : IsPartitionPoint (λ label. ltb label.serial number ≡ true)
       (λ label. ltb label.serial number ≡ false) labels at) where
     -- a row with the number has its label there
-    there : (d : Label) (x : DepositRow) → Contains rows x → is_owned number owner x ≡ true
-        → (at < length labels) × ((get_or labels at d).serial ≡ number)
-    there d x m t =
+    there : (x : DepositRow) → Contains rows x → is_owned number owner x ≡ true
+        → (at < length labels) × ((d : Label) → (get_or labels at d).serial ≡ number)
+    there x m t =
         let parts = both_true (x.serial == number) (bytes_eq x.owner owner) t in
         let is : x.serial ≡ number = eqb-true x.serial number parts.0 in
         let place = place_of_row x m parts.1 in
-        let same = place.2 d in
-        elim (true_or_false (nat_lt place.0 at)) [
-          | inl before ↦ (let low = ltb-true place.0 at before in
-              let less = ltb-true _ _ (point.0 place.0 d (omega arith) low) in
+        let same = place.3 place.0 in
+        elim (true_or_false (nat_lt place.1 at)) [
+          | inl before ↦ (let low = ltb-true place.1 at before in
+              let less = ltb-true _ _ (point.0 place.1 place.0 (omega arith) low) in
               absurd (omega (arith, less, same, is)))
-          | inr f ↦ (let not_before = ltb-false place.0 at f in
-              let within : at < length labels = omega (arith, not_before, place.1) in
-              let up = rising at place.0 d (omega (arith, not_before)) place.1 in
+          | inr f ↦ (let not_before = ltb-false place.1 at f in
+              let within : at < length labels = omega (arith, not_before, place.2) in
+              (within, λ d. at_number d place.1 (omega (arith, not_before)) place.2 (place.3 d ∙ is) within))
+        ] where
+          at_number : (d : Label) (k : ℕ) → at ≤ k → k < length labels → (get_or labels k d).serial ≡ number
+              → at < length labels → (get_or labels at d).serial ≡ number
+          at_number d k below inside same within =
+              let up = rising at k d below inside in
               let not_less = ltb-false _ _ (point.1 at d (omega arith) within) in
-              (within, omega (arith, up, not_less, same, is)))
+              omega (arith, up, not_less, same)
+
+    pub none_there : length labels ≤ at → IsFoundAs ShowsReference (is_owned number owner) rows None
+    none_there past = λ x m.
+        elim (true_or_false (is_owned number owner x)) [
+          | inl t ↦ (let found = there x m t in absurd (omega (arith, found.0, past)))
+          | inr f ↦ f
         ]
 
-    pub no_reference : (d : Label) → (at < length labels → (get_or labels at d).serial ≢ number)
+    pub another_there : (d : Label) → number < (get_or labels at d).serial
         → IsFoundAs ShowsReference (is_owned number owner) rows None
-    no_reference d other = λ x m.
+    another_there d more = λ x m.
         elim (true_or_false (is_owned number owner x)) [
-          | inl t ↦ (let found = there d x m t in absurd (other found.0 found.1))
+          | inl t ↦ (let found = there x m t in absurd (omega (arith, found.1 d, more)))
           | inr f ↦ f
         ]
 
     pub its_reference : (d : Label) (reference : String Global) → at < length labels
-        → (get_or labels at d).serial ≡ number
+        → (get_or labels at d).serial ≤ number
         → string_bytes reference ≡ string_bytes (get_or labels at d).reference
         → IsFoundAs ShowsReference (is_owned number owner) rows (Some reference)
-    its_reference d reference within is same =
+    its_reference d reference within less same =
         let row = row_of at d within in
+        let not_less = ltb-false _ _ (point.1 at d (omega arith) within) in
+        let is : (get_or labels at d).serial ≡ number = omega (arith, not_less, less) in
         let passes : is_owned number owner row.0 ≡ true =
         rw (eq-eqb row.0.serial number (sym row.3 ∙ is), row.2) refl in
         (row.0, row.1, passes, same ∙ row.4)
+
+-- one more owner
+each_more : (P : Owned → Type 0) (known : List Owned) (one : Owned)
+    → ((k : ℕ) (d : Owned) → k < length known → P (get_or known k d)) → P one
+    → (k : ℕ) (d : Owned) → k < length (known ++ one ∷ []) → P (get_or (known ++ one ∷ []) k d)
+each_more P [] one old new zero d within = new
+each_more P [] one old new (suc k) d within = absurd (omega (arith, within))
+each_more P (x ∷ xs) one old new zero d within = old 0 d (omega arith)
+each_more P (x ∷ xs) one old new (suc k) d within =
+    each_more P xs one (λ j e below. old (suc j) e (omega (arith, below))) new k d (omega (arith, within))
+
+pub one_more_owned : (b : History) (known more : List Owned) (one : Owned) (owner : List ℕ) → more ≡ known ++ one ∷ []
+    → AreOwned b known → string_bytes one.owner ≡ owner → AreLabels owner (replayed b).deposits one.labels.items
+    → AreOwned b more
+one_more_owned b known more one owner is owned named labels =
+    subst (AreOwned b) (sym is)
+    (each_more (λ o. AreLabels (string_bytes o.owner) (replayed b).deposits o.labels.items) known one owned
+    (subst (λ o. AreLabels o (replayed b).deposits one.labels.items) (sym named) labels))
+
+-- the owner that stands at a place
+pub at_item : (known : List Owned) (place : ℕ) (item : Owned) (owner : List ℕ) → place < length known
+    → item ≡ get_or known place item → string_bytes item.owner ≡ owner
+    → HoldsAt (λ owned. string_bytes owned.owner ≡ owner) known place
+at_item known place item owner within is named = λ d.
+    ap (λ (o : Owned). string_bytes o.owner) (any_default known place d item within ∙ sym is) ∙ named
+
+module _ (b : History) (owner : List ℕ) (known : List Owned) (place : ℕ) (item : Owned) (owned : AreOwned b known)
+    (within : place < length known) (names : HoldsAt (λ one. string_bytes one.owner ≡ owner) known place)
+    (is : item ≡ get_or known place item) where
+  named : string_bytes item.owner ≡ owner
+  named = ap (λ (o : Owned). string_bytes o.owner) is ∙ names item
+
+  labels_at : AreLabels (string_bytes item.owner) (replayed b).deposits item.labels.items
+  labels_at = subst (λ (o : Owned). AreLabels (string_bytes o.owner) (replayed b).deposits o.labels.items) (sym is)
+      (owned place item within)
+
+  pub next_at : (after : ℕ) (next : Option ℕ)
+      → ((rows : List DepositRow) → AreLabels (string_bytes item.owner) rows item.labels.items
+      → IsLeastAs ShowsDepositSerial (λ row. row.serial) (is_owned_after (string_bytes item.owner) after) rows next)
+      → IsLeastAs ShowsDepositSerial (λ row. row.serial) (is_owned_after owner after) (replayed b).deposits next
+  next_at after next told =
+      subst (λ o. IsLeastAs ShowsDepositSerial (λ row. row.serial) (is_owned_after o after) (replayed b).deposits next)
+      named (told (replayed b).deposits labels_at)
+
+  pub reference_at : (number : ℕ) (found : Option (String Global))
+      → ((rows : List DepositRow) → AreLabels (string_bytes item.owner) rows item.labels.items
+      → IsFoundAs ShowsReference (is_owned number (string_bytes item.owner)) rows found)
+      → IsFoundAs ShowsReference (is_owned number owner) (replayed b).deposits found
+  reference_at number found told =
+      subst (λ o. IsFoundAs ShowsReference (is_owned number o) (replayed b).deposits found) named
+      (told (replayed b).deposits labels_at)

@@ -1,5 +1,6 @@
 //! What was looked up of the deposits of owners, so that a list goes through those of each owner once.
-ghost use Rattle.std.specs.Prelude.{◌≡◌, ◌<◌, List, length, IfOk, IfErr, OnOk, HoldsAt, string_bytes};
+ghost use Rattle.std.specs.Prelude.{◌≡◌, ◌<◌, List, length, IfOk, IfErr, IfSome, OnOk, HoldsAt};
+ghost use Rattle.std.specs.Prelude.{string_bytes};
 ghost use Rattle.tables.specs.Base.{IsHonest, IsOpen};
 ghost use Rattle.tables.specs.Found.{IsFoundAs, IsLeastAs};
 ghost use Rattle.tables.specs.Queries.{ShowsDepositSerial, ShowsReference, is_owned, is_owned_after};
@@ -44,7 +45,10 @@ impl Owned {
         ensures memory { IfErr result (λ e. e ≡ StoreFault.Memory) }
     {
         let at = self.labels.partition_point(|label| label.serial < number);
-        if at == self.labels.len() || self.labels[at].serial != number {
+        if at == self.labels.len() {
+            return Ok(None);
+        }
+        if self.labels[at].serial > number {
             return Ok(None);
         }
         match self.labels[at].reference.clone() {
@@ -111,7 +115,10 @@ impl<S: Alter + Drop> Store<S> {
         ensures faults { CountsFaults result self.old.faults self.new.faults }
     {
         let place = self.place_of(owner, known)?;
-        known[place].reference(number)
+        match known[place].reference(number) {
+            Ok(found) => Ok(found),
+            Err(fault) => Err(fault),
+        }
     }
 
     /// Where an owner stands among those that are known. Where it doesn't stand there yet, its deposits are looked up.
@@ -124,11 +131,25 @@ impl<S: Alter + Drop> Store<S> {
         ensures refusals { IfErr result IsOfStorage }
         ensures faults { CountsFaults result self.old.faults self.new.faults }
     {
-        if let Some(place) = known.iter().position(|owned| owned.owner.as_str() == owner) {
+        if let Some(place) = place_in(known, owner) {
             return Ok(place);
         }
         let place = known.len();
         self.look_up(owner, known)?;
         Ok(place)
     }
+}
+
+/// Where an owner stands among those that are known.
+#[tactic(auto, using(crate::proofs::LabelRows::at_item))]
+fn place_in(known: &[Owned], owner: &str) -> Option<usize>
+    ensures { IfSome result (λ place. place < length known.now
+        × HoldsAt (λ owned. string_bytes owned.owner ≡ owner.now) known.now place) }
+{
+    for (place, owned) in known.iter().enumerate() {
+        if owned.owner.as_str() == owner {
+            return Some(place);
+        }
+    }
+    None
 }

@@ -4,10 +4,10 @@ use Rattle.book.specs.Values.{listed_view, viewer_of}
 use Rattle.store.proofs.Walk.{HasListed}
 use Rattle.store.proofs.store.StoreBook.list.Given as goal
 
-abbrev pub invariant-loop-cursors : goal.invariant-loop-cursors
-invariant-loop-cursors g l =
+abbrev pub invariant-loop-known : goal.invariant-loop-known
+invariant-loop-known g l =
     HasListed g.S.Store l.fn.self l.self (viewer_of l.account (map (λ name. name.now) l.groups))
     (map listed_view l.rows.items) l.last l.cursors l.known.items
 
-abbrev pub decreases-loop-cursors : goal.decreases-loop-cursors
-decreases-loop-cursors g l = 2 ^ 63 - l.last
+abbrev pub decreases-loop-known : goal.decreases-loop-known
+decreases-loop-known g l = 2 ^ 63 - l.last
