@@ -31,30 +31,22 @@ use std::str;
 fn number_stated(routes: &Routes, head: Head<'_>) -> Result<u64, Refusal>
     ensures { result ≡ number_stated (head_view head.entry) }
 {
-    match number_in(routes.parameter(head.target, "number").as_bytes()) {
-        Some(number) => Ok(number),
-        None => Err(Refusal::NotHere),
-    }
+    number_in(routes.parameter(head.target, "number").as_bytes()).ok_or(Refusal::NotHere)
 }
 
 /// The two serial numbers in a target.
 fn range_stated(routes: &Routes, head: Head<'_>) -> Result<(u64, u64), Refusal>
     ensures { result ≡ range_stated (head_view head.entry) }
 {
-    let Some(from) = number_in(routes.parameter(head.target, "from").as_bytes()) else {
-        return Err(Refusal::BadRange);
-    };
-    match number_in(routes.parameter(head.target, "to").as_bytes()) {
-        Some(to) => Ok((from, to)),
-        None => Err(Refusal::BadRange),
-    }
+    let from = number_in(routes.parameter(head.target, "from").as_bytes());
+    let from = from.ok_or(Refusal::BadRange)?;
+    let to = number_in(routes.parameter(head.target, "to").as_bytes());
+    let to = to.ok_or(Refusal::BadRange)?;
+    Ok((from, to))
 }
 
 /// The account whose key is shown, or the anonymous one, or none.
-fn account_shown<'a>(
-    policy: &'a Policy,
-    head: Head<'_>,
-) -> Result<Option<&'a Account>, Refusal>
+fn account_shown<'a>(policy: &'a Policy, head: Head<'_>) -> Result<Option<&'a Account>, Refusal>
     requires { IsInPlace head }
     ensures { account_found result ≡ account_shown (policy_view policy.now) (head_view head.entry) }
 {
@@ -138,10 +130,7 @@ fn reference_stated<'b>(head: Head<'b>) -> Result<&'b str, Refusal>
     if !is_reference(reference) {
         return Err(Refusal::BadReference);
     }
-    match str::from_utf8(reference) {
-        Ok(text) => Ok(text),
-        Err(_) => Err(Refusal::BadReference),
-    }
+    str::from_utf8(reference).map_err(|_| Refusal::BadReference)
 }
 
 /// An active account, and the reference of its deposit.

@@ -81,20 +81,14 @@ fn age_left(counter: &Counter, reading: i64, calibration: &Calibration) -> u64
 fn latest_age(clock: &ClockFacts) -> Option<i128>
     ensures { result ≡ option_map (age clock.now.reading) clock.now.calibration }
 {
-    match clock.calibration {
-        Some(calibration) => Some(age(clock.reading, &calibration)),
-        None => None,
-    }
+    Some(age(clock.reading, &clock.calibration?))
 }
 
 /// How long it lasts yet.
 fn latest_left(counter: &Counter, clock: &ClockFacts) -> Option<u64>
     ensures { result ≡ option_map (age_left (counter_view counter.now) clock.now.reading) clock.now.calibration }
 {
-    match clock.calibration {
-        Some(calibration) => Some(age_left(counter, clock.reading, &calibration)),
-        None => None,
-    }
+    Some(age_left(counter, clock.reading, &clock.calibration?))
 }
 
 /// Whether the clock lets a token be given.

@@ -56,11 +56,11 @@ fn stated_length(head: Head<'_>) -> Result<u64, Refusal>
 {
     let found = stated(head.octets, head.headers, b"content-length");
     let digits = once(Refusal::Length, Refusal::BadLength, found)?;
-    match length_in(digits) {
-        None => Err(Refusal::BadLength),
-        Some(count) if count <= MOST_BODY => Ok(count),
-        Some(_) => Err(Refusal::TooLarge),
+    let count = length_in(digits).ok_or(Refusal::BadLength)?;
+    if count > MOST_BODY {
+        return Err(Refusal::TooLarge);
     }
+    Ok(count)
 }
 
 /// Whether a body comes with a method.
@@ -72,7 +72,7 @@ pub(crate) fn has_body(method: &[u8]) -> bool
 
 impl Action {
     /// Whether it answers a time-stamp request.
-    fn is_stamp(self) -> bool
+    pub(crate) fn is_stamp(self) -> bool
         ensures { result ≡ is_stamp self }
     {
         matches!(self, Action::Stamp)
