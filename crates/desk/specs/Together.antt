@@ -10,6 +10,7 @@ use Rattle.cms.specs.Signer.{count_after_each}
 use Rattle.cms.specs.declared.signer.SignerFault.{SignerFault}
 use Rattle.cms.specs.declared.signer.SignerFault.TheVariants as signer
 use Rattle.decide.specs.View.{account_asked}
+use Rattle.book.specs.declared.fault.StoreFault.{StoreFault}
 use Rattle.book.specs.declared.standing.Standing.{Ghosts}
 use Rattle.book.specs.History.{Entry, Reserved, History, greatest_serial}
 use Rattle.book.specs.Shows.{ShowsSame}
@@ -19,13 +20,16 @@ use Rattle.desk.specs.Outcome.{Call, Fine, Outcome, all_fine}
 use Rattle.desk.specs.MachineRuns.{Runs, Told}
 use Rattle.desk.specs.RunContract.{MayBeLeftBy, ArePromised}
 use Rattle.desk.specs.Findings.{StampPlan, HoldsUnasked, Fails, Allowed, Finds}
+use Rattle.desk.specs.Calls.{call_of}
 use Rattle.desk.specs.Command.{Setting, Answer, Rejected}
 use Rattle.desk.specs.Texts.{pending_of}
 use Rattle.desk.specs.Effects.{next_reservation, name_of}
 use Rattle.desk.specs.Batches.{Question, stamp_for, stamps_for, IsCutTogether, faults_together}
 use Rattle.desk.specs.Fit.{IsFit}
-use Rattle.desk.specs.WaitingStamps.{waiting_view, pending_in, HasText}
+use Rattle.desk.specs.WaitingStamps.{waiting_view, with_waiting, pending_in, HasText}
 use Rattle.desk.specs.declared.batch.Asked.{Asked}
+use Rattle.desk.specs.declared.refusal.StampRefusal.{StampRefusal}
+use Rattle.desk.specs.declared.refusal.StampRefusal.TheVariants as refusal
 use Rattle.desk.specs.declared.waiting_stamp.Waiting.{Waiting}
 use Rattle.desk.specs.declared.batch_start.Judged.{Judged}
 use Rattle.desk.specs.declared.batch_start.Judged.TheVariants as judged
@@ -81,6 +85,30 @@ abbrev pub reply_for : Option Rule → Option Answer → Answer
 reply_for (Some rule) completion = Rejected rule
 reply_for None (Some answer) = answer
 reply_for None None = Rejected System
+
+-- it fails this rule
+abbrev pub IsFailing : Rule → Judged → Type 0
+IsFailing rule (judged.Fails r) = r ≡ rule
+IsFailing rule (judged.Waits w) = ⊥
+
+-- each stamp that fails one of the rules 1 to 9 is judged by the first, whatever the store answers
+abbrev pub AreJudgedUnasked : PolicyValue → List Question → List (Option Rule) → Type 0
+AreJudgedUnasked file [] [] = Unit {0}
+AreJudgedUnasked file (a ∷ asked) (v ∷ vs) =
+    ((rule : Rule) → IsFirstFailing (HoldsUnasked file a.account a.octets) rule → v ≡ Some rule)
+    × AreJudgedUnasked file asked vs
+AreJudgedUnasked file [] (v ∷ vs) = ⊥
+AreJudgedUnasked file (a ∷ asked) [] = ⊥
+
+-- The commit of all reservations was refused: the history with them, where it is there after all.
+pub record IsReservedInDoubt {B : Type 0} (g : Ghosts B) (s : Setting) (asked : List Question)
+    (vs : List (Option Rule)) (ws : List Waiting) (r : StampRefusal) (b : History) (left : g.Left) : Type 0 where
+  pub fault : StoreFault
+  pub by_commit : r ≡ refusal.Adding fault
+  pub refused : call_of fault ≡ Fine → ⊥
+  pub some : ws ≡ [] → ⊥
+  pub judged : AreJudged s asked vs ws b
+  pub holds : g.holds left (with_waiting ws b)
 
 -- the outcomes fit their stamps: the calls that they don't make are fine
 abbrev pub AreFit : List Question → List Outcome → Type 0
