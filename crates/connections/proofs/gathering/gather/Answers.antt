@@ -1,4 +1,4 @@
-use Rattle.std.proofs.Common.{◌≡◌, ◌∙◌, ◌+◌, ◌-◌, ◌≤◌, [], ◌∷◌, ◌++◌, map, ap, arith, refl, rules, subst, vec_capacity}
+use Rattle.std.proofs.Common.{◌≡◌, ◌∙◌, ◌+◌, ◌-◌, ◌≤◌, [], ◌∷◌, ◌++◌, map, ap, arith, refl, rules, subst, sym, vec_capacity}
 use Rattle.std.proofs.Common.{vec_len}
 use Rattle.connections.specs.Gathering.{AreGatheredBehind, handed_view, last_in}
 use Rattle.connections.specs.Heard.{AreGathered}
@@ -26,13 +26,25 @@ returns-in_err-last-clause-cut g c =
       c.push_reserved.ensures.len,
       all.ok.1,
     ) in
-    on_err c.from_residual.result _
+    on_err c.from_residual-in_err-last.result _
     (cut_first g.L.Hearing.hands g.L.Hearing.stays g.C.Clock.reads (handed_view one) c.args.hearing.now c.args.clock.now
     c.next.new.self c.read_for.new.clock
     (hand_over g.L.Hearing.hands g.L.Hearing.stays g.C.Clock.reads (handed_view one) c.in-Some.request c.in-Some.stream
     c.args.hearing.now c.next.new.self c.in_ok-first.ensures.request c.in_ok-first.ensures.stream c.in-Some.ensures)
     c.in_ok-first.ensures.given (vec_capacity all - vec_len all) c.args.most c.gather_behind.new.hearing
     c.gather_behind.new.clock within c.in_err-last.ensures.cut)
+
+pub returns-then-capacity-eq0-clause-gathered : goal.returns-then-capacity-eq0-clause-gathered
+returns-then-capacity-eq0-clause-gathered g c =
+    let one = c.in_ok-first.first in
+    subst (λ xs. AreGathered g.L.Hearing.hands g.L.Hearing.stays g.C.Clock.reads
+    (map handed_view xs ++ (handed_view one ∷ [])) c.args.hearing.now c.args.clock.now c.next.new.self
+    c.read_for.new.clock) (sym c.room_beside-stamps.ensures.empty)
+    (gathered_one g.L.Hearing.hands g.L.Hearing.stays g.C.Clock.reads (handed_view one) c.args.hearing.now
+    c.args.clock.now c.next.new.self c.read_for.new.clock
+    (hand_over g.L.Hearing.hands g.L.Hearing.stays g.C.Clock.reads (handed_view one) c.in-Some.request c.in-Some.stream
+    c.args.hearing.now c.next.new.self c.in_ok-first.ensures.request c.in_ok-first.ensures.stream c.in-Some.ensures)
+    c.in_ok-first.ensures.given)
 
 pub returns-clause-gathered : goal.returns-clause-gathered
 returns-clause-gathered g c =

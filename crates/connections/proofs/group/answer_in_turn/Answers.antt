@@ -7,14 +7,16 @@ use Rattle.connections.proofs.GroupLemmas.{none_answered, all_answered, none_lef
 use Rattle.connections.proofs.group.answer_in_turn.Goals as goal
 
 pub loop-one-init : goal.loop-one-init
-loop-one-init g c = (
-  [],
-  (
-    ap (map handed_view) (sym c.into_iter-one-iterator.ensures.into_iter_gives),
-    none_answered g.L.Hearing.takes_back g.L.Stream.Write.contents g.B.Standing g.G.Signer.signs
-        g.G.Signer.fault_count (hall c.args.hearing.now (tt {0}) c.args.desk.now c.args.signer.now),
-  ),
-)
+loop-one-init g c =
+    let is : into_iter_items c.into_iter-one-iterator.result ≡ c.args.ones.items =
+    c.into_iter-one-iterator.ensures.into_iter_gives.0 in (
+      [],
+      (
+        ap (map handed_view) (sym is),
+        none_answered g.L.Hearing.takes_back g.L.Stream.Write.contents g.B.Standing g.G.Signer.signs
+            g.G.Signer.fault_count (hall c.args.hearing.now (tt {0}) c.args.desk.now c.args.signer.now),
+      ),
+    )
 
 pub loop-one-preserved : goal.loop-one-preserved
 loop-one-preserved g c =
