@@ -1,10 +1,13 @@
 -- A calibration and a hold are steps of the machine.
 use Rattle.std.proofs.Common.{◌≡◌, ℕ, ◌⊎◌, cond, Bool, true, false, [], ◌∷◌, ◌++◌, Option, Some, None, Ok, Err, refl, sym}
-use Rattle.std.proofs.Common.{ap, ◌∙◌, subst, inl, inr}
+use Rattle.std.proofs.Common.{ap, ◌∙◌, subst, inl, inr, Result, IfErr, IsErr}
+use Rattle.std.specs.Prelude.{IfOk, MatchResult}
+use Rattle.std.specs.Result.{IsErrAnd}
 use Rattle.book.specs.declared.standing.Standing.{Ghosts}
 use Rattle.book.specs.History.{Entry, History}
 use Rattle.book.specs.Sound.{Fits}
 use Rattle.book.specs.Entries.{Appends}
+use Rattle.book.specs.Fault.{IsOfStorage, IsOfStorageOr}
 use Rattle.book.specs.Stands.{Stands, LeavesAsBefore}
 use Rattle.book.specs.declared.fault.StoreFault.{StoreFault}
 use Rattle.book.specs.declared.fault.StoreFault.TheVariants as store
@@ -14,10 +17,12 @@ use Rattle.desk.specs.Outcome.{faults_after, all_fine}
 use Rattle.desk.specs.Command.{Setting, Command, Numbered, Refused}
 use Rattle.desk.specs.Effects.{Effect, only, unless, fault_of, numbered}
 use Rattle.desk.specs.Calls.{store_cause}
-use Rattle.desk.specs.Obstacles.{hindered}
+use Rattle.desk.specs.Obstacles.{adding, hindered, outcome_with, told_with}
+use Rattle.desk.specs.Shown.{numbered_as}
 use Rattle.desk.specs.MachineStep.{HasEffect, IsMet}
 use Rattle.desk.specs.CallContract.{StepsBy, MayBeLeft, IsBlamed, IsExcused, IsOpened, no_signer, committed}
 use Rattle.desk.specs.declared.fault.Fault.TheVariants as fault
+use Rattle.desk.specs.declared.obstacle.Obstacle.{Obstacle}
 use Rattle.desk.specs.declared.obstacle.Obstacle.TheVariants as obstacle
 use Rattle.desk.proofs.Fits.{none_failed}
 use Rattle.desk.proofs.Seals.{one_in_doubt}
@@ -156,3 +161,44 @@ refuses_by g s c entry numbers turns old new store.NotOurs enters which a turned
     absurd (elim which [ inl e ↦ cc | inr e ↦ elim e [ inl k ↦ cc | inr k ↦ cc ] ])
 refuses_by g s c entry numbers turns old new store.Full enters which a turned excuses before =
     absurd (elim which [ inl e ↦ cc | inr e ↦ elim e [ inl k ↦ cc | inr k ↦ cc ] ])
+
+-- the store's answer, whichever it is
+pub entered_or_refused : {B : Type 0} (g : Ghosts B) (s : Setting) (c : Command) (entry : Entry)
+    (numbers : History → ℕ) (turns : History → Bool) (old new : B) (r : Result ℕ StoreFault)
+    → Enters s c entry numbers turns → Appends g (entry ∷ []) old new r → IfErr r (IsOfStorageOr store.Backwards)
+    → (g.honest new → (b : History) → Stands g b old → turns b ≡ true → IsErr r × LeavesAsBefore g old new)
+    → (g.honest new → (b : History) → Stands g b old → IfOk r (λ number. number ≡ numbers b))
+    → (g.honest new → (b : History) → Stands g b old → r ≡ Err store.Backwards → turns b ≡ true)
+    → (r ≡ Err store.Backwards → IsExcused g c old new)
+    → ((number : ℕ) → g.is_open new → IsOpened g c (Numbered number) new)
+    → StepsBy g no_signer s c (outcome_with (adding r)) old new (told_with numbered_as (adding r))
+entered_or_refused g s c entry numbers turns old new (Ok number) enters a which turned counts back excuses opens =
+    enters_as g s c entry numbers turns old new number enters a
+    (λ honest b stands e.
+    let none : false ≡ true = (turned honest b stands e).0 in
+    cc) counts (opens number)
+entered_or_refused g s c entry numbers turns old new (Err f) enters a which turned counts back excuses opens =
+    refuses_by g s c entry numbers turns old new f enters which a
+    (λ honest b stands e. back honest b stands (ap Err e)) (λ e. excuses (ap Err e))
+    (λ honest b stands e. (turned honest b stands e).1)
+
+pub storage_or : (other : StoreFault) (r : Result ℕ StoreFault) → IfErr r IsOfStorage
+    → IfErr r (IsOfStorageOr other)
+storage_or other (Ok number) h = tt
+storage_or other (Err f) h = elim h [ inl e ↦ inl e | inr e ↦ inr (inl e) ]
+
+-- what is refused for a cause of the store's own isn't turned back
+pub not_back : (r : Result ℕ StoreFault) → IfErr r IsOfStorage → r ≡ Err store.Backwards → ⊥
+not_back (Ok number) h e = cc
+not_back (Err store.Memory) h e = cc
+not_back (Err store.Database) h e = cc
+not_back (Err store.NotOurs) h e = cc
+not_back (Err store.Full) h e = cc
+not_back (Err store.Backwards) h e = elim h [ inl k ↦ cc | inr k ↦ cc ]
+
+-- a refusal of the store's as what stands in the way
+pub adding_is : (r : Result ℕ StoreFault) (told : Result ℕ Obstacle)
+    → MatchResult r (λ number. told ≡ Ok number) (λ f. IsErrAnd told (λ x. x ≡ obstacle.Adding f)) → told ≡ adding r
+adding_is (Ok number) told h = h
+adding_is (Err f) (Err x) h = ap Err h
+adding_is (Err f) (Ok number) h = absurd h

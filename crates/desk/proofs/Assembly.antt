@@ -1,4 +1,4 @@
--- Stamps that were judged, reserved and completed together are a batch of the machine, and so a run.
+-- Stamps that were judged, reserved and completed together are a batch of the machine.
 use Rattle.std.proofs.Common.{◌≡◌, ℕ, ◌<◌, ◌≤◌, List, [], ◌∷◌, ◌++◌, map, length, Option, Some, None, Result, Ok, Err}
 use Rattle.std.proofs.Common.{refl, sym, ap, ◌∙◌, subst, arith}
 use Rattle.std.specs.List.{AllByRecursion}
@@ -10,31 +10,24 @@ use Rattle.cms.specs.Signer.{count_after, count_after_each, SignsEach}
 use Rattle.cms.specs.declared.signer.SignerFault.{SignerFault}
 use Rattle.book.specs.History.{Reserved, History, ReservationValue, reservations}
 use Rattle.book.specs.History.{greatest_serial}
-use Rattle.book.specs.Shows.{ShowsSame}
 use Rattle.book.specs.Sound.{FitsReserved, IsSound}
-use Rattle.book.specs.Stands.{Stands}
-use Rattle.book.specs.declared.standing.Standing.{Ghosts}
-use Rattle.desk.specs.Batches.{Question, stamp_for, stamps_for, seals, with_reserved, with_sealed, HaveEffects}
-use Rattle.desk.specs.Batches.{all_reserved, all_sealed, MoveInTurn, batch_of, after_batch, faults_along}
-use Rattle.desk.specs.Command.{Setting, PendingValue, Answer, Rejected}
-use Rattle.desk.specs.Completions.{texts_of, completed, seals_of, AreWaiting, faults_sealing}
-use Rattle.desk.specs.Completions.{CompletesEach}
+use Rattle.desk.specs.Batches.{Question, stamp_for, seals, with_reserved, HaveEffects}
+use Rattle.desk.specs.Batches.{all_reserved, all_sealed, MoveInTurn, faults_along}
+use Rattle.desk.specs.Command.{Setting, PendingValue, Rejected}
+use Rattle.desk.specs.Completions.{texts_of, completed, AreWaiting, faults_sealing}
 use Rattle.desk.specs.Effects.{Effect, only, no_number, no_seal, next_reservation, stamping_of, stamp_effect, name_of}
 use Rattle.desk.specs.Findings.{Fails, Allowed}
 use Rattle.desk.specs.Fit.{IsUncounted, counting_for}
-use Rattle.desk.specs.Outcome.{Call, Fine, Outcome, Cause, counted, all_fine}
-use Rattle.desk.specs.MachineRuns.{Runs}
+use Rattle.desk.specs.Outcome.{Fine, Outcome, Cause, counted, all_fine}
 use Rattle.desk.specs.MachineStep.{HasEffect, IsWaiting, Moves}
 use Rattle.desk.specs.Texts.{pending_of}
-use Rattle.desk.specs.Together.{Awaits, AreJudged, AreSplit, AreFit, merged, IsAnsweredTogether}
+use Rattle.desk.specs.Together.{Awaits, AreJudged, AreSplit, AreFit, merged}
 use Rattle.desk.specs.WaitingStamps.{waiting_view, pending_in, pendings_in, with_waiting}
 use Rattle.desk.specs.Wholes.{joined, sealed_by, stamped}
 use Rattle.desk.specs.declared.waiting_stamp.Waiting.{Waiting}
-use Rattle.desk.proofs.Batches.{ShowLaws, batch_runs}
 use Rattle.desk.proofs.BatchJudgement.{waiting_fits}
 use Rattle.desk.proofs.Reserves.{left_number}
 use Rattle.desk.proofs.Stamps.{finds_joined, stamped_by}
-use Rattle.desk.proofs.Turns.{swapped_sealing}
 use Rattle.desk.proofs.Views.{unsealed_above, reservation_stays}
 
 -- the outcome and the effect of each stamp
@@ -357,7 +350,7 @@ all_wait s [] (v ∷ vs) ws b sound h = absurd h
 all_wait s (a ∷ asked) [] ws b sound h = absurd h
 
 -- as many were signed, and met something, as wait
-many_of : {S : Type 0} (signs : S → List ℕ → Result (List ℕ) SignerFault → S → Type 0) (s : Setting)
+pub many_of : {S : Type 0} (signs : S → List ℕ → Result (List ℕ) SignerFault → S → Type 0) (s : Setting)
     (ws : List Waiting) (signings : List (Result (List ℕ) SignerFault)) (os : List Outcome) (x y : S)
     → SignsEach signs x (texts_of (pendings_in s ws)) signings y → length os ≡ length (pendings_in s ws)
     → AreAsMany ws signings os
@@ -368,54 +361,3 @@ many_of signs s [] (signing ∷ signings) os x y h e = absurd h
 many_of signs s [] [] (o ∷ os) x y h e = absurd (omega arith)
 many_of signs s (w ∷ ws) [] os x y h e = absurd h
 many_of signs s (w ∷ ws) (signing ∷ signings) [] x y h e = absurd (omega arith)
-
--- judged, reserved and completed together, they are a run
-pub assembled : {B S : Type 0} (g : Ghosts B) (signs : S → List ℕ → Result (List ℕ) SignerFault → S → Type 0)
-    (count : S → ℕ) → ShowLaws → (s : Setting) (asked : List Question) (vs : List (Option Rule)) (ws : List Waiting)
-    (signings : List (Result (List ℕ) SignerFault)) (os : List Outcome) (sealing : Call)
-    (answers completions : List Answer) (old mid : B) (x : S) (new : B) (y : S)
-    → AreSplit asked vs ws → g.fault_count mid ≡ g.fault_count old → (g.honest new → g.honest mid)
-    → (g.honest mid → (b : History) → Stands g b old → AreJudged s asked vs ws b)
-    → (g.honest mid → (b : History) → Stands g b old → Stands g (with_waiting ws b) mid)
-    → CompletesEach g signs count (pendings_in s ws) signings os sealing mid x new y completions
-    → answers ≡ merged vs completions
-    → ((b d : History) → Stands g b new → IsSound d → ShowsSame b d → Stands g d new)
-    → IsAnsweredTogether g signs count s asked answers old x new y
-assembled g signs count laws s asked vs ws signings os sealing answers completions old mid x new y split counts before
-    judges reserves c says tell =
-    let many = many_of signs s ws signings os x y c.signed c.met in
-    let outcomes = outcomes_of vs signings os in
-    let es = effects_of s vs ws signings os in
-    let ps = pendings_in s ws in
-    record {
-      outcomes = outcomes;
-      fits = are_fit asked vs ws signings os many split c.grows;
-      reserving = Fine;
-      sealing = sealing;
-      counted = c.counted
-          ∙ (swapped_sealing os sealing (g.fault_count mid)
-          ∙ (ap (counted sealing) (sym (faults_counted asked vs ws signings os (g.fault_count mid) many split))
-          ∙ ap (λ n. counted sealing (faults_along outcomes n)) counts));
-      signer = c.signer ∙ signers_counted asked vs ws signings os (count x) many split;
-      run = λ honest b stands.
-          let judged = judges (before honest) b stands in
-          let have = have_effects s asked vs ws signings os b many judged in
-          let moves = move_in_turn signs s asked vs ws signings os b x y many judged c.signed in
-          let run = batch_runs signs laws s asked outcomes es b x y stands.sound have moves in
-          let d = with_waiting ws b in
-          let sealed = (c.seals honest d (reserves (before honest) b stands)
-          (all_wait s asked vs ws b stands.sound judged)).stands in
-          let left : after_batch (batch_of es) b ≡ seals_of ps signings os d =
-          ap (λ v. with_sealed v (with_reserved (all_reserved es) b))
-          (seals_all s asked vs ws signings os b many judged)
-          ∙ ap (λ rs. seals_of ps signings os (with_reserved rs b))
-          (reserves_all s asked vs ws signings os b many judged) in
-          let same : answers ≡ (batch_of es).says =
-          says ∙ (ap (merged vs) c.says ∙ sym (says_all s asked vs ws signings os b many judged)) in
-          record {
-            history = run.history;
-            runs = subst (λ a. Runs signs s (stamps_for asked) outcomes b x a run.history y) (sym same) run.runs;
-            stands = tell (seals_of ps signings os d) run.history sealed run.sound
-                (subst (λ e. ShowsSame e run.history) left run.same);
-          };
-    }

@@ -1,24 +1,35 @@
 -- Stamps of a batch are judged one after the other.
-use Rattle.std.proofs.Common.{◌≡◌, ℕ, ◌+◌, ◌<◌, List, [], ◌∷◌, ◌++◌, length, Option, Some, None, Ok}
-use Rattle.std.proofs.Common.{sym, ap, ◌∙◌, subst, take, get_or}
+use Rattle.std.proofs.Common.{◌≡◌, ◌⊎◌, ℕ, ◌+◌, ◌<◌, List, [], ◌∷◌, ◌++◌, length, map, Option, Some, None, Ok, Err}
+use Rattle.std.proofs.Common.{refl, sym, ap, ◌∙◌, subst, inl, inr, take, get_or}
 use Rattle.std.specs.List.{AllByRecursion}
 use Rattle.std.proofs.lemmas.List.{take_more, map-append}
+use Rattle.policy.specs.Record.{PolicyValue}
+use Rattle.tsp.specs.Rules.{IsFirstFailing}
 use Rattle.tsp.specs.declared.rule.Rule.{Rule}
 use Rattle.der.specs.ObjectIdentifier.{oid_content}
 use Rattle.cms.specs.SignedData.{attribute_text}
+use Rattle.book.specs.declared.fault.StoreFault.{StoreFault}
+use Rattle.book.specs.declared.standing.Standing.{Ghosts}
+use Rattle.book.specs.Entries.{Appends}
+use Rattle.book.specs.Fault.{IsOfStorage}
 use Rattle.book.specs.History.{Reserved, History, greatest_serial}
 use Rattle.book.specs.Sound.{FitsReserved, IsSound, greatest_number}
+use Rattle.book.specs.Stands.{Stands, OnlyLooks}
 use Rattle.desk.specs.Batches.{Question}
 use Rattle.desk.specs.Calls.{IsPrepared}
 use Rattle.desk.specs.Command.{Setting}
 use Rattle.desk.specs.Effects.{next_reservation, name_of}
-use Rattle.desk.specs.Findings.{StampPlan, Allowed, Finds}
+use Rattle.desk.specs.Findings.{StampPlan, HoldsUnasked, Allowed, Finds}
 use Rattle.desk.specs.Outcome.{all_fine}
-use Rattle.desk.specs.Together.{question_view, questions_view, Awaits, FailsAt, AreJudged, AreSplit}
+use Rattle.desk.specs.Together.{question_view, questions_view, Awaits, FailsAt, AreJudged, AreSplit, IsFailing}
+use Rattle.desk.specs.Together.{AreJudgedUnasked, IsReservedInDoubt}
 use Rattle.desk.specs.WaitingStamps.{waiting_view, with_waiting, HasText}
 use Rattle.desk.specs.declared.batch.Asked.{Asked}
+use Rattle.desk.specs.declared.batch_start.Judged.TheVariants as judged
+use Rattle.desk.specs.declared.refusal.StampRefusal.TheVariants as refusal
 use Rattle.desk.specs.declared.waiting_stamp.Waiting.{Waiting}
-use Rattle.desk.proofs.Batches.{next_fits}
+use Rattle.desk.proofs.Batches.{fit_each, next_fits}
+use Rattle.desk.proofs.Fits.{is_refused}
 use Rattle.desk.proofs.Reserves.{next_is, waits_for}
 
 -- what is prepared waits
@@ -164,3 +175,67 @@ split_waiting asked i item vs now ws then w within is more longer h =
 -- two variables keep a fact where they are as they were made
 pub both : {V W : Type 0} (P : V → W → Type 0) (v v' : V) (w w' : W) → v' ≡ v → w' ≡ w → P v w → P v' w'
 both P v v' w w' e f h = subst (λ x. P x w') (sym e) (subst (λ y. P v y) (sym f) h)
+
+-- by the rules 1 to 9
+unasked_next : (file : PolicyValue) (asked : List Question) (vs : List (Option Rule)) (a : Question) (v : Option Rule)
+    → AreJudgedUnasked file asked vs
+    → ((rule : Rule) → IsFirstFailing (HoldsUnasked file a.account a.octets) rule → v ≡ Some rule)
+    → AreJudgedUnasked file (asked ++ (a ∷ [])) (vs ++ (v ∷ []))
+unasked_next file [] [] a v h one = (one, tt)
+unasked_next file (q ∷ asked) (r ∷ vs) a v h one = (h.0, unasked_next file asked vs a v h.1 one)
+unasked_next file [] (r ∷ vs) a v h one = absurd h
+unasked_next file (q ∷ asked) [] a v h one = absurd h
+
+unasked_more : (file : PolicyValue) (asked : List Asked) (i : ℕ) (item : Asked) (vs now : List (Option Rule))
+    (v : Option Rule) → i < length asked → item ≡ get_or asked i item → now ≡ vs ++ (v ∷ [])
+    → AreJudgedUnasked file (questions_view (take i asked)) vs
+    → ((rule : Rule) → IsFirstFailing (HoldsUnasked file (question_view item).account (question_view item).octets) rule
+    → v ≡ Some rule)
+    → AreJudgedUnasked file (questions_view (take (i + 1) asked)) now
+unasked_more file asked i item vs now v within is more h one =
+    subst (λ qs. AreJudgedUnasked file qs now) (sym (asked_more asked i item within is))
+    (subst (AreJudgedUnasked file (questions_view (take i asked) ++ (question_view item ∷ []))) (sym more)
+    (unasked_next file (questions_view (take i asked)) vs (question_view item) v h one))
+
+pub unasked_failing : (file : PolicyValue) (asked : List Asked) (i : ℕ) (item : Asked) (vs now : List (Option Rule))
+    (fails : Rule) → i < length asked → item ≡ get_or asked i item → now ≡ vs ++ (Some fails ∷ [])
+    → AreJudgedUnasked file (questions_view (take i asked)) vs
+    → ((rule : Rule) → IsFirstFailing (HoldsUnasked file (question_view item).account (question_view item).octets) rule
+    → IsFailing rule (judged.Fails fails))
+    → AreJudgedUnasked file (questions_view (take (i + 1) asked)) now
+unasked_failing file asked i item vs now fails within is more h one =
+    unasked_more file asked i item vs now (Some fails) within is more h (λ rule first. ap Some (one rule first))
+
+pub unasked_waiting : (file : PolicyValue) (asked : List Asked) (i : ℕ) (item : Asked) (vs now : List (Option Rule))
+    (w : Waiting) → i < length asked → item ≡ get_or asked i item → now ≡ vs ++ (None ∷ [])
+    → AreJudgedUnasked file (questions_view (take i asked)) vs
+    → ((rule : Rule) → IsFirstFailing (HoldsUnasked file (question_view item).account (question_view item).octets) rule
+    → IsFailing rule (judged.Waits w))
+    → AreJudgedUnasked file (questions_view (take (i + 1) asked)) now
+unasked_waiting file asked i item vs now w within is more h one =
+    unasked_more file asked i item vs now None within is more h (λ rule first. absurd (one rule first))
+
+-- the commit of all reservations is refused
+pub reserved_in_doubt : {B : Type 0} (g : Ghosts B) (s : Setting) (asked : List Question) (vs : List (Option Rule))
+    (ws lent : List Waiting) (fault : StoreFault) (old mid new : B) (b : History) (left : g.Left) → lent ≡ ws
+    → (ws ≡ [] → ⊥) → IsOfStorage fault → OnlyLooks g old mid
+    → (g.honest mid → (d : History) → Stands g d old → AreJudged s asked vs ws d)
+    → Appends {A = Unit {0}} g (map Reserved (map waiting_view lent)) mid new (Err fault) → g.honest new
+    → Stands g b old → g.leaves new left
+    → g.leaves old left ⊎ IsReservedInDoubt g s asked vs ws (refusal.Adding fault) b left
+reserved_in_doubt g s asked vs ws lent fault old mid new b left same some storage looks judges appends honest stands r =
+    let before = appends.honest honest in
+    let are = judges before b stands in
+    let sound = subst (λ x. IsSound (with_waiting x b)) (sym same) (judged_sound s asked vs ws b are stands.sound) in
+    elim (appends.crash honest left r) [
+      | inl long_before ↦ inl (looks.leaves before left long_before)
+      | inr adds ↦ inr (record {
+        fault = fault;
+        by_commit = refl;
+        refused = is_refused fault storage;
+        some = some;
+        judged = are;
+        holds = subst (λ x. g.holds left (with_waiting x b)) same
+            (adds b (looks.stands b stands) (fit_each (map Reserved (map waiting_view lent)) b sound));
+      })
+    ]

@@ -9,20 +9,20 @@ use Rattle.cms.specs.SignedData.{attribute_text}
 use Rattle.cms.specs.declared.signer.SignerFault.{SignerFault}
 use Rattle.cms.specs.declared.signer.SignerFault.TheVariants as signer
 use Rattle.book.specs.Entries.{with_all, FitInTurn}
-use Rattle.book.specs.History.{Entry, Reserved, Sealed, History, ReservationValue, CalibrationValue, reservations}
+use Rattle.book.specs.History.{Entry, Reserved, Sealed, History, ReservationValue, reservations}
 use Rattle.book.specs.History.{calibrations, holds, greatest_serial, last_gen_time, latest_calibration, count_of_day}
 use Rattle.book.specs.History.{day_of, is_of_day}
 use Rattle.book.specs.Shows.{ShowsSame}
-use Rattle.book.specs.Sound.{FitsReserved, FitsSealed, Fits, IsSound, greatest_number}
+use Rattle.book.specs.Sound.{FitsReserved, FitsSealed, IsSound, greatest_number}
 use Rattle.desk.specs.Facts.{facts_of, is_held_at, now_in, count_in, gen_time_in, gen_time_of}
 use Rattle.desk.specs.Outcome.{Outcome, Cause}
 use Rattle.desk.specs.Findings.{StampPlan, IsAllowed, Finding, Fails, Unanswered, Allowed, Finds}
-use Rattle.desk.specs.Command.{Setting, PendingValue, Stamp, Answer}
+use Rattle.desk.specs.Command.{Setting, PendingValue, Answer}
 use Rattle.desk.specs.Texts.{pending_of, token_with}
 use Rattle.desk.specs.Effects.{Effect, no_number, no_seal, next_reservation, sealed_or_void, signed_or_void}
 use Rattle.desk.specs.Effects.{stamping_of, stamp_effect, stamp_found, name_of}
 use Rattle.desk.specs.MachineStep.{HasEffect, Moves}
-use Rattle.desk.specs.MachineRuns.{Runs, Told, after, cut}
+use Rattle.desk.specs.MachineRuns.{Runs, Told, after}
 use Rattle.desk.specs.Laws.{Continues}
 use Rattle.desk.specs.Wholes.{joined}
 use Rattle.desk.specs.Batches.{Question, stamp_for, stamps_for, SealValue, seals, seal_entry, with_reserved}
@@ -257,13 +257,15 @@ batch_sound laws r n t rs vs b sound =
     (seal_once_reserved n t rs (Reserved r ∷ b) (sound_below (map seal_entry vs) before sound))
 
 -- where the stamps' effects have come
-record Reaches {S : Type 0} (signs : S → List ℕ → Result (List ℕ) SignerFault → S → Type 0) (s : Setting)
+pub record Reaches {S : Type 0} (signs : S → List ℕ → Result (List ℕ) SignerFault → S → Type 0) (s : Setting)
     (asked : List Question) (os : List Outcome) (es : List Effect) (d : History) (x y : S) : Type 0 where
-  history : History
-  runs : Runs signs s (stamps_for asked) os d x (map (λ e. e.says) es) history y
-  sound : IsSound history
-  same : ShowsSame (with_sealed (all_sealed es) (with_reserved (all_reserved es) d)) history
-  batched : IsSound (with_sealed (all_sealed es) (with_reserved (all_reserved es) d))
+  pub history : History
+  pub runs : Runs signs s (stamps_for asked) os d x (map (λ e. e.says) es) history y
+  pub sound : IsSound history
+  pub same : ShowsSame (with_sealed (all_sealed es) (with_reserved (all_reserved es) d)) history
+  pub batched : IsSound (with_sealed (all_sealed es) (with_reserved (all_reserved es) d))
+  -- where nothing is reserved, nothing is added
+  pub still : all_reserved es ≡ [] → history ≡ d
 
 -- what the rest of a batch shows and leaves sound, from the history with all that a stamp adds, it does from the
 -- history with its reservation
@@ -314,8 +316,20 @@ judges_sealed r token b d same = record {
   held = same.held;
 }
 
+-- a stamp that reserves nothing adds nothing
+none_of_both : {X : Type 0} (xs ys : List X) → xs ++ ys ≡ [] → (xs ≡ []) × (ys ≡ [])
+none_of_both [] ys none = (refl, none)
+none_of_both (x ∷ xs) ys none = absurd (let e : x ∷ (xs ++ ys) ≡ [] = none in cc)
+
+adds_still : (s : Setting) (d : History) (e : Effect) → StampShape s d e → reservations e.adds ≡ [] → after e d ≡ d
+adds_still s d e (adds_nothing none unasked) nothing = ap (λ adds. adds ++ d) none
+adds_still s d e (stays_void r fits one asked) nothing =
+    absurd (let is : r ∷ [] ≡ [] = sym (ap reservations one) ∙ nothing in cc)
+adds_still s d e (is_sealed r token fits two asked) nothing =
+    absurd (let is : r ∷ [] ≡ [] = sym (ap reservations two) ∙ nothing in cc)
+
 -- the history after a stamp is sound, and the stamps after it are judged by it as by that with its reservation alone
-sound_adds : (s : Setting) (d : History) (e : Effect) → IsSound d → StampShape s d e → IsSound (after e d)
+pub sound_adds : (s : Setting) (d : History) (e : Effect) → IsSound d → StampShape s d e → IsSound (after e d)
 sound_adds s d e sound (adds_nothing none unasked) = subst (λ adds. IsSound (adds ++ d)) (sym none) sound
 sound_adds s d e sound (stays_void r fits one asked) = subst (λ adds. IsSound (adds ++ d)) (sym one) (fits, sound)
 sound_adds s d e sound (is_sealed r token fits two asked) =
@@ -331,7 +345,7 @@ judges_adds s b d e same (is_sealed r token fits two asked) =
     subst (λ adds. JudgesSame (with_reserved (reservations adds) b) (adds ++ d)) (sym two)
     (judges_sealed r token b d same)
 
-reaches : {S : Type 0} (signs : S → List ℕ → Result (List ℕ) SignerFault → S → Type 0) → ShowLaws → (s : Setting)
+pub reaches : {S : Type 0} (signs : S → List ℕ → Result (List ℕ) SignerFault → S → Type 0) → ShowLaws → (s : Setting)
     (asked : List Question) (os : List Outcome) (es : List Effect) (b d : History) (x y : S) → JudgesSame b d
     → IsSound d → HaveEffects s asked os b es → MoveInTurn signs es os x y → Reaches signs s asked os es d x y
 reaches signs laws s [] [] [] b d x y same sound have moves = record {
@@ -340,6 +354,7 @@ reaches signs laws s [] [] [] b d x y same sound have moves = record {
   sound = sound;
   same = shows_itself d;
   batched = sound;
+  still = λ nothing. refl;
 }
 reaches signs laws s (a ∷ asked) (o ∷ os) (e ∷ es) b d x y same sound have moves =
     let has = stamp_alike s a o b d e same have.0 in
@@ -352,6 +367,9 @@ reaches signs laws s (a ∷ asked) (o ∷ os) (e ∷ es) b d x y same sound have
       sound = rest.sound;
       same = shows_behind laws s (all_reserved es) (all_sealed es) d rest.history e shape rest.same;
       batched = sound_behind laws s (all_reserved es) (all_sealed es) d e shape rest.batched;
+      still = λ nothing.
+          let none = none_of_both (reservations e.adds) (all_reserved es) nothing in
+          rest.still none.1 ∙ adds_still s d e shape none.0;
     }
 reaches signs laws s [] [] (e ∷ es) b d x y same sound have moves = absurd have
 reaches signs laws s [] (o ∷ os) es b d x y same sound have moves = absurd have
@@ -573,6 +591,42 @@ cut_before s a asked (o ∷ os) (e ∷ es) b w have = record {
 cut_before s a asked [] es b w have = absurd have
 cut_before s a asked (o ∷ os) [] b w have = absurd have
 
+-- a stop in a batch is one in a run, under these outcomes
+pub record IsCutBy (s : Setting) (asked : List Question) (os : List Outcome) (b : History) (w : List Told)
+    (left : History) : Type 0 where
+  pub history : History
+  pub told : List Told
+  pub cut : Continues s (stamps_for asked) os b w history None told
+  pub sound : IsSound history
+  pub same : ShowsSame left history
+
+-- after its first commit, no stamp has its signature yet
+pub cut_once_reserved : ShowLaws → (s : Setting) (asked : List Question) (os : List Outcome) (es : List Effect)
+    (b : History) (w : List Told) → IsSound b → (asked ≡ [] → ⊥) → HaveEffects s asked os b es
+    → IsCutBy s asked (map unsigned os) b w (with_reserved (all_reserved es) b)
+cut_once_reserved laws s [] os es b w sound some have = absurd (some refl)
+cut_once_reserved laws s (a ∷ asked) os es b w sound some have =
+    let c = cut_reserved s a asked os es b w have in
+    let once = with_reserved (all_reserved es) b in
+    record {
+      history = once;
+      told = c.told;
+      cut = c.cut;
+      sound = (batch_stays_sound laws s (a ∷ asked) os es b sound have).0;
+      same = shows_itself once;
+    }
+
+-- after both it is whole
+pub cut_at_whole : ShowLaws → (s : Setting) (asked : List Question) (os : List Outcome) (es : List Effect)
+    (b : History) (w : List Told) → IsSound b → (asked ≡ [] → ⊥) → HaveEffects s asked os b es
+    → IsCutBy s asked os b w (after_batch (batch_of es) b)
+cut_at_whole laws s [] os es b w sound some have = absurd (some refl)
+cut_at_whole laws s (a ∷ asked) os es b w sound some have =
+    let run = batch_runs free laws s (a ∷ asked) os es b tt tt sound have
+    (free_in_turn s (a ∷ asked) os b es have) in
+    let c = cut_at_end free s a asked os b tt (batch_of es).says run.history tt w run.runs in
+    record { history = run.history; told = c.told; cut = c.cut; sound = run.sound; same = run.same }
+
 -- a stop in a batch leaves what a stop in a run leaves
 pub batch_stops : ShowLaws → (s : Setting) (asked : List Question) (os : List Outcome) (es : List Effect)
     (b left : History) (w : List Told) → IsSound b → (asked ≡ [] → ⊥) → HaveEffects s asked os b es
@@ -589,25 +643,22 @@ batch_stops laws s (a ∷ asked) os es b left w sound some have (inl none) =
       same = subst (λ d. ShowsSame d b) (sym none) (shows_itself b);
     }
 batch_stops laws s (a ∷ asked) os es b left w sound some have (inr (inl reserved)) =
-    let c = cut_reserved s a asked os es b w have in
-    let once = once_reserved (batch_of es) b in
+    let c = cut_once_reserved laws s (a ∷ asked) os es b w sound some have in
     record {
       outcomes = map unsigned os;
-      history = once;
+      history = c.history;
       told = c.told;
       cut = c.cut;
-      sound = (batch_stays_sound laws s (a ∷ asked) os es b sound have).0;
-      same = subst (λ d. ShowsSame d once) (sym reserved) (shows_itself once);
+      sound = c.sound;
+      same = subst (λ d. ShowsSame d c.history) (sym reserved) c.same;
     }
 batch_stops laws s (a ∷ asked) os es b left w sound some have (inr (inr sealed)) =
-    let run = batch_runs free laws s (a ∷ asked) os es b tt tt sound have
-    (free_in_turn s (a ∷ asked) os b es have) in
-    let c = cut_at_end free s a asked os b tt (batch_of es).says run.history tt w run.runs in
+    let c = cut_at_whole laws s (a ∷ asked) os es b w sound some have in
     record {
       outcomes = os;
-      history = run.history;
+      history = c.history;
       told = c.told;
       cut = c.cut;
-      sound = run.sound;
-      same = subst (λ d. ShowsSame d run.history) (sym sealed) run.same;
+      sound = c.sound;
+      same = subst (λ d. ShowsSame d c.history) (sym sealed) c.same;
     }

@@ -1,6 +1,6 @@
 -- Stamps of a batch from their reservations on: what is sealed of each, of several after one another, and of all in
 -- one commit.
-use Rattle.std.proofs.Common.{◌≡◌, ℕ, ◌<◌, List, [], ◌∷◌, ◌++◌, map, length, Option, Some, None, Result, Ok, Err}
+use Rattle.std.proofs.Common.{◌≡◌, ◌⊎◌, ℕ, ◌<◌, List, [], ◌∷◌, ◌++◌, map, length, Option, Some, None, Result, Ok, Err}
 use Rattle.std.proofs.Common.{refl, sym, ◌∙◌, ap, subst, inl, inr, arith, append_assoc, append-nil, length-append, ◌+◌}
 use Rattle.std.proofs.Common.{◌==◌}
 use Rattle.std.proofs.Common.{false, if◌then◌else◌, take, slice_index_or, ◌≤◌, IfOk, Vec, vec_len}
@@ -25,13 +25,13 @@ use Rattle.desk.specs.Batches.{SealValue, seal_entry, with_sealed, all_sealed, s
 use Rattle.desk.specs.Calls.{call_of, refused}
 use Rattle.desk.specs.Command.{Setting, PendingValue, Answer, Stamped, Rejected}
 use Rattle.desk.specs.Completions.{completed, seals_of, AreWaiting, faults_sealing, AreKept, HasSealed}
-use Rattle.desk.specs.Completions.{texts_of, CompletesEach, SealsEach, MayBeLeftSealed}
+use Rattle.desk.specs.Completions.{texts_of, CompletesEach, SealsEach, AreAllSealed, MayBeLeftSealed}
 use Rattle.desk.specs.Written.{unwritten, IsWritten}
 use Rattle.desk.specs.Answers.{reply_as}
 use Rattle.desk.specs.Written.{seal_view, AreWritten, AreWrittenMore, IsRefusedTogether}
 use Rattle.desk.specs.Effects.{Effect, no_seal}
 use Rattle.desk.specs.Fit.{IsUncounted}
-use Rattle.desk.specs.Outcome.{Call, Fine, Outcome, Cause, counted, all_fine}
+use Rattle.desk.specs.Outcome.{Call, Fine, OutOfMemory, Failed, Outcome, Cause, counted, all_fine}
 use Rattle.desk.specs.MachineStep.{IsWaiting}
 use Rattle.desk.specs.Texts.{token_with}
 use Rattle.desk.specs.WaitingStamps.{pendings_in, HasText}
@@ -41,6 +41,7 @@ use Rattle.desk.specs.declared.completion.Written.{Written}
 use Rattle.desk.specs.declared.reply.Reply.{Reply}
 use Rattle.desk.specs.declared.waiting_stamp.Waiting.{Waiting}
 use Rattle.desk.specs.declared.refusal.StampRefusal.TheVariants as refusal
+use Rattle.desk.proofs.Fits.{is_refused}
 use Rattle.desk.proofs.Seals.{waiting_fits}
 
 -- nothing is sealed of one that has no signature, or no memory for token and reply
@@ -52,6 +53,7 @@ seals_nothing g p (Ok signature) old = record {
   grows = (tt, tt);
   counted = refl;
   says = refl;
+  opened = λ honest fine. inl refl;
   seals = λ honest b stands waits. record { stands = stands; left = λ left r. inl (refl, r) };
 }
 seals_nothing g p (Err fault) old = record {
@@ -60,6 +62,7 @@ seals_nothing g p (Err fault) old = record {
   grows = (tt, tt);
   counted = refl;
   says = refl;
+  opened = λ honest fine. inl refl;
   seals = λ honest b stands waits. record { stands = stands; left = λ left r. inl (refl, r) };
 }
 
@@ -74,6 +77,7 @@ sealed_alone g p signature old new a = record {
   grows = (tt, tt);
   counted = a.faults;
   says = refl;
+  opened = λ honest fine. inr (a.opened honest).1;
   seals = λ honest b stands waits.
       let now = a.ok b stands (waiting_fits p b waits.0, tt) in
       record {
@@ -132,6 +136,7 @@ refused_alone g p signature store.Memory old new storage a = record {
   grows = (tt, tt);
   counted = a.faults;
   says = refl;
+  opened = λ honest fine. absurd (let e : OutOfMemory ≡ Fine = fine.0 in cc);
   seals = λ honest b stands waits. doubted_alone g p signature (refused (refusal.Sealing store.Memory)) store.Memory old
       new refl a honest b stands waits.0;
 }
@@ -141,6 +146,7 @@ refused_alone g p signature store.Database old new storage a = record {
   grows = (tt, tt);
   counted = a.faults;
   says = refl;
+  opened = λ honest fine. absurd (let e : Failed ≡ Fine = fine.0 in cc);
   seals = λ honest b stands waits. doubted_alone g p signature (refused (refusal.Sealing store.Database)) store.Database
       old new refl a honest b stands waits.0;
 }
@@ -166,7 +172,7 @@ sealed_both (e ∷ es) ds =
     ap (λ (vs : List SealValue). seals e.adds ++ vs) (sealed_both es ds)
     ∙ sym (append_assoc (seals e.adds) (all_sealed es) (all_sealed ds))
 
-with_both : (vs us : List SealValue) (b : History) → with_sealed (vs ++ us) b ≡ with_sealed us (with_sealed vs b)
+pub with_both : (vs us : List SealValue) (b : History) → with_sealed (vs ++ us) b ≡ with_sealed us (with_sealed vs b)
 with_both [] us b = refl
 with_both (v ∷ vs) us b = with_both vs us (seal_entry v ∷ b)
 
@@ -326,6 +332,20 @@ left_both g ps qs ss ts os us b old mid left signed met more first (inr second) 
   holds = subst (g.holds left) (sym (seals_both ps qs ss ts os second.outcomes b signed met)) second.holds;
 })
 
+-- where no commit of both was refused, none of either was
+opened_both : {B : Type 0} (g : Ghosts B) (os us : List Outcome) (old mid new : B)
+    → (g.honest mid → AreAllSealed os → (mid ≡ old) ⊎ g.is_open mid)
+    → (g.honest new → AreAllSealed us → (new ≡ mid) ⊎ g.is_open new) → g.honest mid → g.honest new
+    → AreAllSealed (os ++ us) → (new ≡ old) ⊎ g.is_open new
+opened_both g os us old mid new one other before honest fine =
+    elim (other honest (all_second (λ o. o.sealing ≡ Fine) os us fine)) [
+      | inr opened ↦ inr opened
+      | inl same ↦ elim (one before (all_first (λ o. o.sealing ≡ Fine) os us fine)) [
+        | inl long_same ↦ inl (same ∙ long_same)
+        | inr opened ↦ inr (subst g.is_open (sym same) opened)
+      ]
+    ]
+
 -- seals of some, and then of others, are those of both
 pub seals_then : {B : Type 0} (g : Ghosts B) (ps qs : List PendingValue) (ss ts : List (Result (List ℕ) SignerFault))
     (os us : List Outcome) (old mid new : B) (answers more : List Answer) → (g.honest new → g.honest mid)
@@ -342,6 +362,7 @@ seals_then g ps qs ss ts os us old mid new answers more honest one other = recor
       ∙ (ap (λ (told : List Answer). map (λ e. e.says) (completed ps ss os) ++ told) other.says
       ∙ (sym (says_both (completed ps ss os) (completed qs ts us))
       ∙ ap (map (λ e. e.says)) (sym (completed_both ps qs ss ts os us one.signed one.met))));
+  opened = λ was_honest fine. opened_both g os us old mid new one.opened other.opened (honest was_honest) was_honest fine;
   seals = λ was_honest b stands waits.
       let first = one.seals (honest was_honest) b stands (waits_first ps qs b waits) in
       let second = other.seals was_honest (seals_of ps ss os b) first.stands
@@ -443,6 +464,7 @@ completes g signs count ps signings os old x new y answers each counts all = rec
   signer = counts;
   counted = all.counted;
   says = all.says;
+  opened = λ honest fine sealed. all.opened honest sealed;
   seals = all.seals;
 }
 
@@ -458,6 +480,7 @@ seals_none g old = record {
   grows = tt;
   counted = refl;
   says = refl;
+  opened = λ honest fine. inl refl;
   seals = λ honest b stands waits. record { stands = stands; left = λ left r. inl (refl, r) };
 }
 
@@ -492,6 +515,7 @@ sealed_nothing g ps ss os vs old answers written none =
       grows = written.grows;
       counted = sym (written.uncounted (g.fault_count old));
       says = written.says;
+      opened = λ honest fine. inl refl;
       seals = λ honest b stands waits. record {
         stands = subst (λ us. Stands g (with_sealed us b) old) (sym nothing) stands;
         left = λ left r. inl (nothing, r);
@@ -513,6 +537,7 @@ sealed_together g ps ss os vs entries old new answers written are a =
       grows = written.grows;
       counted = appends.faults ∙ sym (written.uncounted (g.fault_count old));
       says = written.says;
+      opened = λ honest fine. inr (appends.opened honest).1;
       seals = λ honest b stands waits.
           let now = appends.ok b stands (seals_fit ps ss os b waits) in
           record {
@@ -544,6 +569,7 @@ refused_together g ps ss os vs entries fault old new answers written are storage
     let appends = subst (λ es. Appends {A = Unit {0}} g es old new (Err fault)) entries_are a in
     record {
       counted = appends.faults ∙ counted_as fault storage (g.fault_count old);
+      still = λ fine. absurd (is_refused fault storage fine);
       stands = appends.err;
       left = λ honest b stands waits left r. elim (appends.crash honest left r) [
         | inl before ↦ inl before
@@ -556,6 +582,7 @@ pub untried_together : {B : Type 0} (g : Ghosts B) (ps : List PendingValue) (ss 
     (old : B) → IsRefusedTogether g ps ss Fine old old
 untried_together g ps ss old = record {
   counted = refl;
+  still = λ fine. refl;
   stands = λ b stands. stands;
   left = λ honest b stands waits left r. inl r;
 }
@@ -600,6 +627,10 @@ completes_after g signs count ps ss os sealing old mid new x y answers each coun
   signer = counts;
   counted = all.counted ∙ ap (faults_sealing os) refused.counted;
   says = all.says;
+  opened = λ was_honest fine sealed. elim (all.opened was_honest sealed) [
+    | inl same ↦ inl (same ∙ refused.still fine)
+    | inr open_now ↦ inr open_now
+  ];
   seals = λ was_honest b stands waits.
       let sealed = all.seals was_honest b (refused.stands b stands) waits in
       record {

@@ -1,7 +1,11 @@
 -- Outcomes that fit, where they compute.
-use Rattle.desk.specs.Calls.{refused, IsOfBeginning}
+use Rattle.std.proofs.Common.{◌≡◌, inl, inr}
+use Rattle.book.specs.declared.fault.StoreFault.{StoreFault}
+use Rattle.book.specs.declared.fault.StoreFault.TheVariants as store
+use Rattle.book.specs.Fault.{IsOfStorage}
+use Rattle.desk.specs.Calls.{call_of, refused, IsOfBeginning}
 use Rattle.desk.specs.Fit.{IsUncounted, IsUnfailed, HasNoneFailed, AreGrowths}
-use Rattle.desk.specs.Outcome.{Outcome}
+use Rattle.desk.specs.Outcome.{Fine, Outcome}
 use Rattle.desk.specs.declared.refusal.StampRefusal.{StampRefusal}
 use Rattle.desk.specs.declared.refusal.StampRefusal.TheVariants as refusal
 
@@ -30,3 +34,11 @@ beginning_grows (refusal.Adding f) h = (tt, tt)
 beginning_grows (refusal.Signing f) h = (tt, tt)
 beginning_grows refusal.OutOfReplyMemory h = (tt, tt)
 beginning_grows (refusal.Sealing f) h = (tt, tt)
+
+-- what the store refuses is refused
+pub is_refused : (fault : StoreFault) → IsOfStorage fault → call_of fault ≡ Fine → ⊥
+is_refused store.Memory storage fine = cc
+is_refused store.Database storage fine = cc
+is_refused store.NotOurs storage fine = elim storage [ inl e ↦ cc | inr e ↦ cc ]
+is_refused store.Full storage fine = elim storage [ inl e ↦ cc | inr e ↦ cc ]
+is_refused store.Backwards storage fine = elim storage [ inl e ↦ cc | inr e ↦ cc ]

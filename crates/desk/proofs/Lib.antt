@@ -1,6 +1,7 @@
 pub mod Acknowledged
 pub mod Added
 pub mod Agreement
+pub mod Answered
 pub mod Among
 pub mod Assembly
 pub mod BatchRows
@@ -11,6 +12,7 @@ pub mod Clocks
 pub mod ClosedBooks
 pub mod CompletionLemmas
 pub mod Denied
+pub mod Doubted
 pub mod Entered
 pub mod FallingSerials
 pub mod FalseVariants

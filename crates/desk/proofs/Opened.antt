@@ -1,8 +1,10 @@
 -- What is proved of a desk's parts is said of the desk.
-use Rattle.std.proofs.Common.{◌≡◌, ◌∙◌, [], Ok, Err, refl, sym, ap, subst}
+use Rattle.std.proofs.Common.{◌≡◌, ◌∙◌, [], Result, Ok, Err, refl, sym, ap, subst}
+use Rattle.std.specs.Result.{IsErrAnd}
 use Rattle.book.specs.declared.standing.Standing.{Ghosts}
 use Rattle.book.specs.History.{History}
 use Rattle.book.specs.Sound.{IsSound}
+use Rattle.desk.specs.Answers.{answered}
 use Rattle.desk.specs.Command.{InForce, Setting, Command, Succeed, Answer, Done, Refused, setting_after}
 use Rattle.desk.specs.Obstacles.{fault_with, hindered}
 use Rattle.desk.specs.declared.fault.Fault.{Fault}
@@ -89,3 +91,9 @@ succession_refused g promises seen now k x f new same told step = record {
       (subst (λ d. StepsBy g no_signer d.setting (Succeed k) (hindered x) d.store new (Refused f)) same
       (subst (λ j. StepsBy g no_signer seen.setting (Succeed k) (hindered x) seen.store new (Refused j)) (sym told) step));
 }
+
+-- a refusal of the desk's is answered as the fault that it is
+pub refused_as : {A : Type 0} (as_answer : A → Answer) (r : Result A Fault) (fault : Fault)
+    → IsErrAnd r (λ f. f ≡ fault) → answered as_answer r ≡ Refused fault
+refused_as as_answer (Err f) fault h = ap Refused h
+refused_as as_answer (Ok a) fault h = absurd h

@@ -3,11 +3,11 @@ use Rattle.std.proofs.Common.{◌≡◌, ◌⊎◌, ℕ, zero, suc, ◌<◌, ◌
 use Rattle.std.proofs.Common.{Option, Some, None, option_map, refl, sym, ap, ◌∙◌, subst, inl, inr, arith}
 use Rattle.std.proofs.Math.Nat.{le-max_left, le-max_right}
 use Rattle.decide.specs.Clock.{Follows}
-use Rattle.book.specs.Continuation.{Floor, IsAboveIfAny, continued, last_reservation}
-use Rattle.book.specs.History.{Entry, Reserved, History, ReservationValue, first_of, greatest_of, greatest_serial}
+use Rattle.book.specs.Continuation.{Floor, IsAboveIfAny, continued}
+use Rattle.book.specs.History.{Entry, Reserved, History, ReservationValue, greatest_of, greatest_serial}
 use Rattle.book.specs.History.{last_gen_time, reservations}
 use Rattle.book.specs.Sound.{Along, IsSound}
-use Rattle.book.proofs.GoingOn.{floor_goes_on, greatest_goes_on, moment_goes_on}
+use Rattle.book.proofs.GoingOn.{floor_goes_on, moment_goes_on}
 use Rattle.desk.specs.MachineRuns.{IsRising}
 use Rattle.desk.proofs.FallingSerials.{greatest_goes_up, greatest_grows}
 

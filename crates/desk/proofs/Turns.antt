@@ -1,33 +1,32 @@
 -- Stamps of a batch that are answered one after the other, and how the replies of those that waited come in between.
 use Rattle.std.proofs.Common.{◌≡◌, ℕ, ◌+◌, ◌<◌, ◌≤◌, List, [], ◌∷◌, ◌++◌, map, length, drop, get_or, Option, Some, None}
-use Rattle.std.proofs.Common.{Result, refl, sym, ap, ◌∙◌, arith}
+use Rattle.std.proofs.Common.{Result, refl, sym, ap, ◌∙◌, subst, arith, take}
 use Rattle.std.specs.Prelude.{option_map}
 use Rattle.std.proofs.lemmas.List.{drop_more, map-append, append_assoc}
 use Rattle.std.proofs.lemmas.Simd.{map-map}
+use Rattle.policy.specs.Record.{PolicyValue}
+use Rattle.tsp.specs.Rules.{IsFirstFailing}
 use Rattle.tsp.specs.declared.rule.Rule.{Rule}
 use Rattle.tsp.specs.declared.rule.Rule.TheVariants.{System}
 use Rattle.book.specs.declared.standing.Standing.{Ghosts}
-use Rattle.book.specs.History.{History}
-use Rattle.book.specs.Stands.{Stands}
 use Rattle.cms.specs.Signer.{count_after_each}
 use Rattle.cms.specs.declared.signer.SignerFault.{SignerFault}
 use Rattle.desk.specs.Batches.{Question, stamp_for, stamps_for, faults_along}
+use Rattle.desk.specs.Answers.{reply_as}
 use Rattle.desk.specs.Calls.{refused, call_of}
 use Rattle.desk.specs.Command.{Setting, Answer, Rejected}
 use Rattle.desk.specs.Completions.{faults_sealing}
-use Rattle.desk.specs.Laws.{AreMet}
+use Rattle.desk.specs.Findings.{HoldsUnasked}
 use Rattle.desk.specs.Outcome.{Call, Fine, OutOfMemory, Failed, Outcome, counted, faults_after}
 use Rattle.desk.specs.RunContract.{AreSteps}
-use Rattle.desk.specs.MachineRuns.{IsProper, after}
 use Rattle.desk.specs.Together.{question_view, questions_view, merged, reply_for, AreFit, AreSplit}
-use Rattle.desk.specs.Together.{IsAnsweredTogether}
+use Rattle.desk.specs.Together.{AreRejectedUnasked}
 use Rattle.desk.specs.declared.batch.Asked.{Asked}
 use Rattle.desk.specs.declared.refusal.StampRefusal.{StampRefusal}
 use Rattle.desk.specs.declared.refusal.StampRefusal.TheVariants as refusal
 use Rattle.desk.specs.declared.reply.Reply.{Reply}
 use Rattle.desk.specs.declared.waiting_stamp.Waiting.{Waiting}
-use Rattle.desk.proofs.RunsOn.{steps_run}
-use Rattle.desk.proofs.Sound.{TextLaws}
+use Rattle.desk.proofs.BatchJudgement.{asked_more}
 
 -- one more reply
 pub merge_more : (f : Reply → Answer) (vs : List (Option Rule)) (i : ℕ) (v : Option Rule) (told now : List Reply)
@@ -108,7 +107,7 @@ refused_once refusal.OutOfReplyMemory n = refl
 refused_once (refusal.Sealing f) n = refl
 
 -- what stamps that were answered one after the other counted
-stepped_faults : {B X : Type 0} (g : Ghosts B) (signs : X → List ℕ → Result (List ℕ) SignerFault → X → Type 0)
+pub stepped_faults : {B X : Type 0} (g : Ghosts B) (signs : X → List ℕ → Result (List ℕ) SignerFault → X → Type 0)
     (count : X → ℕ) (s : Setting) (asked : List Question) (os : List Outcome) (answers : List Answer) (old : B)
     (x : X) (s' : Setting) (new : B) (y : X)
     → AreSteps g signs count s (stamps_for asked) os answers old x s' new y
@@ -122,7 +121,7 @@ stepped_faults g signs count s [] (o ∷ os) answers old x s' new y h = absurd h
 stepped_faults g signs count s (a ∷ asked) [] answers old x s' new y h = absurd h
 stepped_faults g signs count s (a ∷ asked) (o ∷ os) [] old x s' new y h = absurd h
 
-stepped_signer : {B X : Type 0} (g : Ghosts B) (signs : X → List ℕ → Result (List ℕ) SignerFault → X → Type 0)
+pub stepped_signer : {B X : Type 0} (g : Ghosts B) (signs : X → List ℕ → Result (List ℕ) SignerFault → X → Type 0)
     (count : X → ℕ) (s : Setting) (asked : List Question) (os : List Outcome) (answers : List Answer) (old : B)
     (x : X) (s' : Setting) (new : B) (y : X)
     → AreSteps g signs count s (stamps_for asked) os answers old x s' new y
@@ -136,7 +135,7 @@ stepped_signer g signs count s [] (o ∷ os) answers old x s' new y h = absurd h
 stepped_signer g signs count s (a ∷ asked) [] answers old x s' new y h = absurd h
 stepped_signer g signs count s (a ∷ asked) (o ∷ os) [] old x s' new y h = absurd h
 
-stepped_fit : {B X : Type 0} (g : Ghosts B) (signs : X → List ℕ → Result (List ℕ) SignerFault → X → Type 0)
+pub stepped_fit : {B X : Type 0} (g : Ghosts B) (signs : X → List ℕ → Result (List ℕ) SignerFault → X → Type 0)
     (count : X → ℕ) (s : Setting) (asked : List Question) (os : List Outcome) (answers : List Answer) (old : B)
     (x : X) (s' : Setting) (new : B) (y : X)
     → AreSteps g signs count s (stamps_for asked) os answers old x s' new y → AreFit asked os
@@ -147,35 +146,6 @@ stepped_fit g signs count s [] [] (answer ∷ answers) old x s' new y h = absurd
 stepped_fit g signs count s [] (o ∷ os) answers old x s' new y h = absurd h
 stepped_fit g signs count s (a ∷ asked) [] answers old x s' new y h = absurd h
 stepped_fit g signs count s (a ∷ asked) (o ∷ os) [] old x s' new y h = absurd h
-
--- stamps ask nothing of their caller
-stamps_met : (s : Setting) (asked : List Question) (os : List Outcome) (b : History) → AreMet s (stamps_for asked) os b
-stamps_met s [] os b = tt
-stamps_met s (a ∷ asked) (o ∷ os) b = (tt, λ e h. stamps_met s asked os (after e b))
-stamps_met s (a ∷ asked) [] b = tt
-
--- where the batch was given up, and nothing was done, they are answered one after the other
-pub turned : {B X : Type 0} (g : Ghosts B) (signs : X → List ℕ → Result (List ℕ) SignerFault → X → Type 0)
-    (count : X → ℕ) → TextLaws → (s : Setting) → IsProper s → (asked : List Question) (os : List Outcome)
-    (answers : List Answer) (old mid : B) (x : X) (new : B) (y : X) (r : StampRefusal)
-    → g.fault_count mid ≡ faults_after (refused r) (g.fault_count old)
-    → ((b : History) → Stands g b old → Stands g b mid)
-    → AreSteps g signs count s (stamps_for asked) os answers mid x s new y
-    → IsAnsweredTogether g signs count s asked answers old x new y
-turned g signs count laws s proper asked os answers old mid x new y r counts stays h = record {
-  outcomes = os;
-  fits = stepped_fit g signs count s asked os answers mid x s new y h;
-  reserving = refused_call r;
-  sealing = Fine;
-  counted = stepped_faults g signs count s asked os answers mid x s new y h
-      ∙ (ap (faults_along os) (counts ∙ refused_once r (g.fault_count old))
-      ∙ swapped_along os (refused_call r) (g.fault_count old));
-  signer = stepped_signer g signs count s asked os answers mid x s new y h;
-  run = λ honest b stands.
-      let run = (steps_run g signs count laws s proper (stamps_for asked) os answers mid x s new y h).run honest b
-      (stays b stands) (stamps_met s asked os b) in
-      record { history = run.history; runs = run.runs; stands = run.stands };
-}
 
 -- how many were split, by what they were judged
 pub split_few : (asked : List Question) (vs : List (Option Rule)) (ws : List Waiting) → AreSplit asked vs ws
@@ -238,3 +208,25 @@ merged_next f (Some rule) before after finished others h =
     merged_failing f (Some rule) rule before after finished others refl h
 merged_next f None before after (Some reply) others h = merged_finished f None before after reply others refl h
 merged_next f None before after None others h = merged_missing f None before after others refl h.0 h.1
+
+-- by the rules 1 to 9
+rejected_next : (file : PolicyValue) (asked : List Question) (answers : List Answer) (a : Question) (answer : Answer)
+    → AreRejectedUnasked file asked answers
+    → ((rule : Rule) → IsFirstFailing (HoldsUnasked file a.account a.octets) rule → answer ≡ Rejected rule)
+    → AreRejectedUnasked file (asked ++ (a ∷ [])) (answers ++ (answer ∷ []))
+rejected_next file [] [] a answer h one = (one, tt)
+rejected_next file (q ∷ asked) (told ∷ answers) a answer h one = (h.0, rejected_next file asked answers a answer h.1 one)
+rejected_next file [] (told ∷ answers) a answer h one = absurd h
+rejected_next file (q ∷ asked) [] a answer h one = absurd h
+
+pub rejected_more : (file : PolicyValue) (asked : List Asked) (i : ℕ) (item : Asked) (told now : List Reply)
+    (reply : Reply) → i < length asked → item ≡ get_or asked i item → now ≡ told ++ (reply ∷ [])
+    → AreRejectedUnasked file (questions_view (take i asked)) (map reply_as told)
+    → ((rule : Rule) → IsFirstFailing (HoldsUnasked file (question_view item).account (question_view item).octets) rule
+    → reply_as reply ≡ Rejected rule)
+    → AreRejectedUnasked file (questions_view (take (i + 1) asked)) (map reply_as now)
+rejected_more file asked i item told now reply within is more h one =
+    subst (λ qs. AreRejectedUnasked file qs (map reply_as now)) (sym (asked_more asked i item within is))
+    (subst (AreRejectedUnasked file (questions_view (take i asked) ++ (question_view item ∷ [])))
+    (sym (ap (map reply_as) more ∙ map-append reply_as told (reply ∷ [])))
+    (rejected_next file (questions_view (take i asked)) (map reply_as told) (question_view item) (reply_as reply) h one))

@@ -10,7 +10,7 @@ use Rattle.desk.specs.Batches.{SealValue, all_sealed}
 use Rattle.desk.specs.Command.{PendingValue, Answer}
 use Rattle.desk.specs.Completions.{completed, seals_of, AreWaiting, faults_sealing}
 use Rattle.desk.specs.Fit.{IsUncounted}
-use Rattle.desk.specs.Outcome.{Call, OutOfMemory, Outcome, counted, all_fine}
+use Rattle.desk.specs.Outcome.{Call, Fine, OutOfMemory, Outcome, counted, all_fine}
 use Rattle.desk.specs.Texts.{token_with}
 use Rattle.desk.specs.declared.completion.Seal.{Seal}
 use Rattle.desk.specs.declared.completion.Written.{Written}

@@ -33,10 +33,7 @@ fn add_calibration<B: Book + Drop>(
     ensures refusals { IfErr result (IsOfStorageOr StoreFault.Backwards) }
     ensures faults { CountsFaults result (B.fault_count store.old) (B.fault_count store.new) }
 {
-    match store.calibrate(calibration) {
-        Ok(number) => Ok(number),
-        Err(fault) => Err(fault),
-    }
+    store.calibrate(calibration)
 }
 
 /// Adds a hold, and tells why the store refuses it.
@@ -47,10 +44,7 @@ fn add_hold<B: Book + Drop>(store: &mut B, hold: &Hold) -> Result<u64, StoreFaul
     ensures refusals { IfErr result IsOfStorage }
     ensures faults { CountsFaults result (B.fault_count store.old) (B.fault_count store.new) }
 {
-    match store.hold(hold) {
-        Ok(number) => Ok(number),
-        Err(fault) => Err(fault),
-    }
+    store.hold(hold)
 }
 
 /// Adds a calibration of the clock.
@@ -62,10 +56,7 @@ pub(crate) fn calibrate_by<B: Book + Drop>(
     ensures step { (s : Setting) → StepsBy B.Standing no_signer s (Calibrate (calibration_view calibration.now))
         (outcome_with result) store.old store.new (told_with numbered_as result) }
 {
-    match add_calibration(store, calibration) {
-        Ok(number) => Ok(number),
-        Err(fault) => Err(Obstacle::Adding(fault)),
-    }
+    add_calibration(store, calibration).map_err(Obstacle::Adding)
 }
 
 /// Adds a hold.
@@ -74,10 +65,7 @@ pub(crate) fn hold_by<B: Book + Drop>(store: &mut B, hold: &Hold) -> Result<u64,
     ensures step { (s : Setting) → StepsBy B.Standing no_signer s (AddHold (hold_view hold.now)) (outcome_with result)
         store.old store.new (told_with numbered_as result) }
 {
-    match add_hold(store, hold) {
-        Ok(number) => Ok(number),
-        Err(fault) => Err(Obstacle::Adding(fault)),
-    }
+    add_hold(store, hold).map_err(Obstacle::Adding)
 }
 
 impl<'p, B: Book + Drop> Desk<'p, B> {

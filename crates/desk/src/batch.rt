@@ -100,10 +100,7 @@ fn room_for<T: Drop>(alloc: Global, count: usize) -> Result<Vec<T>, Fault>
     ensures room { IfOk result (λ room. count ≤ vec_capacity room) }
     ensures memory { IfErr result (λ fault. fault ≡ Fault.Memory) }
 {
-    match Vec::with_capacity(alloc, count) {
-        Ok(room) => Ok(room),
-        Err(_) => Err(Fault::Memory),
-    }
+    Vec::with_capacity(alloc, count).map_err(|_| Fault::Memory)
 }
 
 /// Answers stamps together, and each by itself where a call of the judging or the one commit of their reservations is

@@ -6,6 +6,7 @@ ghost use Rattle.tsp.specs.Rules.{IsFirstFailing};
 ghost use Rattle.tsp.specs.declared.rule.Rule.{Rule};
 ghost use Rattle.decide.specs.View.{account_asked};
 ghost use Rattle.book.specs.Entries.{entries_view, Appends};
+ghost use Rattle.book.specs.Fault.{IsOfStorage};
 ghost use Rattle.book.specs.History.{History, Reserved};
 ghost use Rattle.book.specs.Sound.{IsSound};
 ghost use Rattle.book.specs.Stands.{Stands, OnlyLooks, LeavesAsBefore};
@@ -137,6 +138,7 @@ fn reserve_each<B: Book + Drop>(
 ) -> Result<(), StoreFault>
     requires some { 0 < length waits.now }
     ensures appends { Appends B.Standing (map Reserved (map waiting_view waits.now)) store.old store.new result }
+    ensures refusals { IfErr result IsOfStorage }
 {
     let entries = entries_of(alloc, waits)?;
     store.append(&entries)
@@ -174,10 +176,7 @@ pub(crate) fn begin_each<'p, 'a, B: Book + Drop>(
         → B.leaves store.old left ⊎ IsReservedInDoubt B.Standing (settings_view settings.entry)
         (questions_view asked.now) verdicts.new.items waits.new.items refusal b left) }
 {
-    match judge_each(store, alloc, settings, asked, verdicts, waits) {
-        Ok(()) => {}
-        Err(refusal) => return Err(refusal),
-    }
+    judge_each(store, alloc, settings, asked, verdicts, waits)?;
     if waits.is_empty() {
         return Ok(());
     }

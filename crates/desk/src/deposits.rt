@@ -69,10 +69,7 @@ impl<'p, B: Book + Drop> Desk<'p, B> {
     {
         steps_keep_their_promises();
         let settings = self.settings;
-        match show_to(&mut self.store, settings, account, number) {
-            Ok(bytes) => Ok(bytes),
-            Err(obstacle) => Err(Fault::from(obstacle)),
-        }
+        Ok(show_to(&mut self.store, settings, account, number)?)
     }
 
     /// The granted reply (RFC 3161 2.4.2) with the token of a deposit that is visible to the account. Refused as `show`
@@ -85,10 +82,7 @@ impl<'p, B: Book + Drop> Desk<'p, B> {
     {
         steps_keep_their_promises();
         let settings = self.settings;
-        match token_to(&mut self.store, self.alloc, settings, account, number) {
-            Ok(reply) => Ok(reply),
-            Err(obstacle) => Err(Fault::from(obstacle)),
-        }
+        Ok(token_to(&mut self.store, self.alloc, settings, account, number)?)
     }
 
     /// The deposits that are visible to the account, by number: number, owner, reference and genTime in microseconds of
@@ -100,10 +94,7 @@ impl<'p, B: Book + Drop> Desk<'p, B> {
     {
         steps_keep_their_promises();
         let settings = self.settings;
-        match list_to(&mut self.store, settings, account) {
-            Ok(rows) => Ok(rows),
-            Err(obstacle) => Err(Fault::from(obstacle)),
-        }
+        Ok(list_to(&mut self.store, settings, account)?)
     }
 
     /// Lets the account of a name see a deposit, from now on; again is accepted, and changes nothing. It may be one
@@ -121,10 +112,8 @@ impl<'p, B: Book + Drop> Desk<'p, B> {
         steps_keep_their_promises();
         let settings = self.settings;
         let reader = Reader::Account(name);
-        match grant_by(&mut self.store, settings, account, number, reader) {
-            Ok(()) => Ok(()),
-            Err(obstacle) => Err(Fault::from(obstacle)),
-        }
+        grant_by(&mut self.store, settings, account, number, reader)?;
+        Ok(())
     }
 
     /// Takes that right away, from now on; one that wasn't granted may be taken too, which changes nothing. A member of
@@ -138,10 +127,8 @@ impl<'p, B: Book + Drop> Desk<'p, B> {
         steps_keep_their_promises();
         let settings = self.settings;
         let reader = Reader::Account(name);
-        match revoke_by(&mut self.store, settings, account, number, reader) {
-            Ok(()) => Ok(()),
-            Err(obstacle) => Err(Fault::from(obstacle)),
-        }
+        revoke_by(&mut self.store, settings, account, number, reader)?;
+        Ok(())
     }
     /// Lets the members of a group see a deposit, from now on, those that the policy file names at the time; again is
     /// accepted, and changes nothing. The owner may be among them.
@@ -158,10 +145,8 @@ impl<'p, B: Book + Drop> Desk<'p, B> {
         steps_keep_their_promises();
         let settings = self.settings;
         let group = Reader::Group(name);
-        match grant_by(&mut self.store, settings, account, number, group) {
-            Ok(()) => Ok(()),
-            Err(obstacle) => Err(Fault::from(obstacle)),
-        }
+        grant_by(&mut self.store, settings, account, number, group)?;
+        Ok(())
     }
 
     /// Takes that right away, from now on; a member who is a reader by its own name stays one. A right that wasn't
@@ -176,9 +161,7 @@ impl<'p, B: Book + Drop> Desk<'p, B> {
         steps_keep_their_promises();
         let settings = self.settings;
         let group = Reader::Group(name);
-        match revoke_by(&mut self.store, settings, account, number, group) {
-            Ok(()) => Ok(()),
-            Err(obstacle) => Err(Fault::from(obstacle)),
-        }
+        revoke_by(&mut self.store, settings, account, number, group)?;
+        Ok(())
     }
 }

@@ -145,17 +145,14 @@ impl<'p, B: Book + Drop> Desk<'p, B> {
     {
         steps_keep_their_promises();
         let settings = self.settings;
-        match begin_with(
+        Ok(begin_with(
             &mut self.store,
             self.alloc,
             settings,
             account,
             reading,
             query,
-        ) {
-            Ok(begun) => Ok(begun),
-            Err(refusal) => Err(Fault::from(refusal)),
-        }
+        )?)
     }
 
     /// Stores the token of a pending stamp over its signature of 1 to 4,096 octets, and answers the granted reply (RFC
@@ -170,10 +167,7 @@ impl<'p, B: Book + Drop> Desk<'p, B> {
         ensures step { IsStep B.Standing no_signer (Finish pending.entry signature.now) self.old self.new (answered reply_as result) }
     {
         steps_keep_their_promises();
-        match finish_with(&mut self.store, self.alloc, pending, signature) {
-            Ok(reply) => Ok(reply),
-            Err(refusal) => Err(Fault::from(refusal)),
-        }
+        Ok(finish_with(&mut self.store, self.alloc, pending, signature)?)
     }
 
     /// Leaves the reservation of a pending stamp void. The caller's condition is that of `finish`. Takes no memory.

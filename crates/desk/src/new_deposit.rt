@@ -122,10 +122,7 @@ fn reserve<'p, B: Book + Drop>(
     ensures refusals { IfErr result IsOfReserving }
 {
     requests_have_one_reading();
-    let octets = match octets_of(alloc, &planned) {
-        Ok(octets) => octets,
-        Err(refusal) => return Err(refusal),
-    };
+    let octets = octets_of(alloc, &planned)?;
     reserve_next(store, alloc, settings, account, planned, &octets)
 }
 
@@ -220,12 +217,7 @@ fn sign_and_seal<B: Book + Drop, X: Signer>(
         (told deposited_as result) }
 {
     match signer.sign(pending.text()) {
-        Ok(signature) => {
-            match seal(store, alloc, pending, &signature, owner, reference, bytes) {
-                Ok(deposited) => Ok(deposited),
-                Err(refusal) => Err(refusal),
-            }
-        }
+        Ok(signature) => seal(store, alloc, pending, &signature, owner, reference, bytes),
         Err(fault) => {
             pending.abandon();
             Err(StampRefusal::Signing(fault))

@@ -99,10 +99,7 @@ pub(crate) fn grant_by<B: Book + Drop>(
     ensures refusals { IfErr result (λ obstacle. refused.IsOfRight (reader_view reader.entry) (fault_with obstacle)) }
 {
     let policy = settings.policy;
-    match may_name(store, policy, account.name.as_str(), number, reader) {
-        Ok(()) => {}
-        Err(obstacle) => return Err(obstacle),
-    }
+    may_name(store, policy, account.name.as_str(), number, reader)?;
     match store.append(&[Entry::Granted { number, reader }]) {
         Ok(()) => Ok(()),
         Err(fault) => Err(Obstacle::Adding(fault)),
@@ -124,10 +121,7 @@ pub(crate) fn revoke_by<B: Book + Drop>(
     ensures refusals { IfErr result (λ obstacle. refused.IsOfRight (reader_view reader.entry) (fault_with obstacle)) }
 {
     let policy = settings.policy;
-    match may_name(store, policy, account.name.as_str(), number, reader) {
-        Ok(()) => {}
-        Err(obstacle) => return Err(obstacle),
-    }
+    may_name(store, policy, account.name.as_str(), number, reader)?;
     match store.append(&[Entry::Revoked { number, reader }]) {
         Ok(()) => Ok(()),
         Err(fault) => Err(Obstacle::Adding(fault)),

@@ -227,13 +227,9 @@ impl<'p, B: Book + Drop> Desk<'p, B> {
         requests_have_one_reading();
         let settings = self.settings;
         is_proper(settings);
-        match obey_each(&mut self.store, self.alloc, settings, commands, signer) {
-            Ok((answers, after)) => {
-                is_proper(after);
-                self.settings = after;
-                Ok(answers)
-            }
-            Err(fault) => Err(fault),
-        }
+        let (answers, after) = obey_each(&mut self.store, self.alloc, settings, commands, signer)?;
+        is_proper(after);
+        self.settings = after;
+        Ok(answers)
     }
 }

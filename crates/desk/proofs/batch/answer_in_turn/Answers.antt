@@ -1,6 +1,7 @@
 use Rattle.std.proofs.Common.{◌+◌, [], ◌∷◌, ◌++◌, ◌∙◌, refl, sym, ap, subst, arith, SFits, w64, to_z-of_z, rules}
 use Rattle.std.proofs.Common.{map}
 use Rattle.std.proofs.lemmas.List.{take_all}
+use Rattle.policy.specs.View.{policy_view}
 use Rattle.decide.specs.View.{account_asked}
 use Rattle.desk.specs.Answers.{reply_as}
 use Rattle.desk.specs.Batches.{stamp_for}
@@ -8,9 +9,9 @@ use Rattle.desk.specs.Calls.{settings_view}
 use Rattle.desk.specs.Command.{Stamp}
 use Rattle.desk.specs.RunContract.{AreSteps}
 use Rattle.desk.specs.CallContract.{IsBareStep, with_signer}
-use Rattle.desk.specs.Together.{question_view}
+use Rattle.desk.specs.Together.{question_view, questions_view, AreRejectedUnasked}
 use Rattle.desk.proofs.RunsOn.{steps_more}
-use Rattle.desk.proofs.Turns.{stamps_are}
+use Rattle.desk.proofs.Turns.{stamps_are, rejected_more}
 use Rattle.desk.proofs.batch.answer_in_turn.Goals as goal
 
 pub loop-question-init : goal.loop-question-init
@@ -23,6 +24,8 @@ loop-question-init g c = record {
         (map reply_as told) c.args.store.now c.args.signer.now (settings_view c.args.settings) c.args.store.now
         c.args.signer.now) (sym c.requires.empty) (refl, refl, refl),
   );
+  unasked = subst (λ told. AreRejectedUnasked (policy_view c.args.settings.policy.now) [] (map reply_as told))
+      (sym c.requires.empty) tt;
 }
 
 pub loop-question-preserved : goal.loop-question-preserved
@@ -47,6 +50,10 @@ loop-question-preserved g c =
             c.loop-question-test.true c.question-item.is c.push_reserved.ensures.items before.1
             c.answer_with.ensures.honest step.1 refl (λ honest. tt),
       );
+      unasked = rejected_more s.file c.args.asked.now c.loop-question.question-index q c.loop-question.replies.items
+          c.push_reserved.new.self.items c.answer_with.result c.loop-question-test.true c.question-item.is
+          c.push_reserved.ensures.items c.loop-question.invariant.unasked
+          (λ rule first. (c.answer_with.ensures.unasked rule first).0);
     }
 
 pub returns : goal.returns
@@ -64,4 +71,8 @@ returns g c =
             c.args.store.now c.args.signer.now s c.loop-question.store c.loop-question.signer)
             (take_all c.loop-question.question-index c.args.asked.now c.loop-question-test.false) steps.1),
       );
+      unasked = subst (λ asked. AreRejectedUnasked s.file (questions_view asked)
+          (map reply_as c.loop-question.replies.items))
+          (take_all c.loop-question.question-index c.args.asked.now c.loop-question-test.false)
+          c.loop-question.invariant.unasked;
     }

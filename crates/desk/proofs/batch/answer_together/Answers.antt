@@ -7,11 +7,11 @@ use Rattle.desk.specs.Calls.{settings_view}
 use Rattle.desk.specs.Completions.{CompletesEach}
 use Rattle.desk.specs.Together.{question_view, questions_view, merged, IsAnsweredTogether}
 use Rattle.desk.specs.WaitingStamps.{pendings_in}
-use Rattle.desk.proofs.Assembly.{assembled}
+use Rattle.desk.proofs.Answered.{assembled, turned}
 use Rattle.desk.proofs.Batches.{ShowLaws}
 use Rattle.desk.proofs.RunsOn.{honest_before}
 use Rattle.desk.proofs.Sound.{TextLaws}
-use Rattle.desk.proofs.Turns.{turned, split_few, split_many}
+use Rattle.desk.proofs.Turns.{split_few, split_many}
 use Rattle.desk.proofs.batch.answer_together.Goals.{in-Ok, in-Err}
 use Rattle.desk.proofs.batch.answer_together.Goals as goal
 
@@ -74,10 +74,11 @@ returns-clause-together g c =
           (map reply_as m.replies.items) c.args.store.now c.args.signer.now st x) (sym w.signer-is)
           (subst (λ x. IsAnsweredTogether g.B.Standing g.G.Signer.signs g.G.Signer.fault_count s asked
           (map reply_as x.items) c.args.store.now c.args.signer.now st sg) (sym w.replies-is)
-          (assembled g.B.Standing g.G.Signer.signs g.G.Signer.fault_count shows s asked vs ws all.0 all.1 all.2
+          (assembled g.B.Standing g.G.Signer.signs g.G.Signer.fault_count shows texts s asked vs ws all.0 all.1 all.2
           (map reply_as w.merge.new.replies.items) completions c.args.store.now c.begin_each.new.store
-          c.args.signer.now st sg w.in-Ok.ensures.split w.in-Ok.ensures.counted w.complete_each.ensures.honest
-          w.in-Ok.ensures.judged w.in-Ok.ensures.reserved completes says w.tell_the_same.ensures)))
+          c.args.signer.now st sg w.in-Ok.ensures.split w.in-Ok.ensures.unasked w.in-Ok.ensures.counted
+          w.complete_each.ensures.honest w.in-Ok.ensures.judged w.in-Ok.ensures.reserved w.in-Ok.ensures.opened
+          completes says w.tell_the_same.ensures)))
       | in-Err w ↦
           let steps = w.answer_in_turn.ensures.steps in
           let st = w.answer_in_turn.new.store in
@@ -88,7 +89,8 @@ returns-clause-together g c =
           (map reply_as m.replies.items) c.args.store.now c.args.signer.now st x) (sym w.signer-is)
           (subst (λ x. IsAnsweredTogether g.B.Standing g.G.Signer.signs g.G.Signer.fault_count s asked
           (map reply_as x.items) c.args.store.now c.args.signer.now st sg) (sym w.replies-is)
-          (turned g.B.Standing g.G.Signer.signs g.G.Signer.fault_count texts s c.is_proper.ensures asked steps.0
-          (map reply_as w.answer_in_turn.new.replies.items) c.args.store.now c.begin_each.new.store c.args.signer.now
-          st sg w.in-Err.field-0 w.in-Err.ensures.counted w.in-Err.ensures.refused steps.1)))
+          (turned g.B.Standing g.G.Signer.signs g.G.Signer.fault_count shows texts s c.is_proper.ensures asked vs ws
+          steps.0 (map reply_as w.answer_in_turn.new.replies.items) c.args.store.now c.begin_each.new.store
+          c.args.signer.now st sg w.in-Err.field-0 w.in-Err.ensures.counted w.in-Err.ensures.refused
+          w.in-Err.ensures.left w.answer_in_turn.ensures.unasked steps.1)))
     ]

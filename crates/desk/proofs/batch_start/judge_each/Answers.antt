@@ -4,10 +4,11 @@ use Rattle.std.specs.Prelude.{vec_capacity}
 use Rattle.book.specs.Sound.{IsSound}
 use Rattle.desk.specs.Calls.{settings_view}
 use Rattle.desk.specs.Together.{question_view, questions_view, IsJudgedAs, HasItsText, AreJudged, AreSplit}
+use Rattle.desk.specs.Together.{IsFailing, AreJudgedUnasked}
 use Rattle.desk.specs.WaitingStamps.{with_waiting, HasText}
 use Rattle.desk.proofs.Judgement.{looks_then}
 use Rattle.desk.proofs.BatchJudgement.{judged_sound, judged_failing, judged_waiting, split_failing, split_waiting}
-use Rattle.desk.proofs.BatchJudgement.{all_more, both}
+use Rattle.desk.proofs.BatchJudgement.{all_more, both, unasked_failing, unasked_waiting}
 use Rattle.desk.proofs.batch_start.judge_each.Goals.{in-Fails, in-Waits}
 use Rattle.desk.proofs.batch_start.judge_each.Goals as goal
 
@@ -57,6 +58,10 @@ loop-question-preserved g c =
             (split_failing asked i q l.verdicts.items w.push_reserved.new.self.items l.waits.items w.in-Fails.rule
             within is w.push_reserved.ensures.items inv.split);
         texts = subst (λ x. AllByRecursion (HasText s) x.items) (sym w.waits-is) inv.texts;
+        unasked = subst (λ x. AreJudgedUnasked s.file qs x.items) (sym w.verdicts-is)
+            (unasked_failing s.file asked i q l.verdicts.items w.push_reserved.new.self.items w.in-Fails.rule within is
+            w.push_reserved.ensures.items inv.unasked
+            (λ rule first. subst (IsFailing rule) w.in-Fails.is (ensures.unasked rule first)));
       }
       | in-Waits w ↦ record {
         judged_many = ap vec_len w.verdicts-is ∙ (w.push_reserved-in-Waits.ensures.len ∙ ap (λ n. n + 1) many);
@@ -91,5 +96,9 @@ loop-question-preserved g c =
             (all_more (HasText s) l.waits.items w.push_reserved-in-Waits-2.new.self.items w.in-Waits.waiting
             w.push_reserved-in-Waits-2.ensures.items inv.texts
             (subst (HasItsText s) w.in-Waits.is ensures.texts));
+        unasked = subst (λ x. AreJudgedUnasked s.file qs x.items) (sym w.verdicts-is)
+            (unasked_waiting s.file asked i q l.verdicts.items w.push_reserved-in-Waits.new.self.items
+            w.in-Waits.waiting within is w.push_reserved-in-Waits.ensures.items inv.unasked
+            (λ rule first. subst (IsFailing rule) w.in-Waits.is (ensures.unasked rule first)));
       }
     ]

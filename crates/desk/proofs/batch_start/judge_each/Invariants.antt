@@ -1,10 +1,11 @@
 use Rattle.std.proofs.Common.{◌≡◌, ◌≤◌, length, take, vec_len}
 use Rattle.std.specs.List.{AllByRecursion}
 use Rattle.std.specs.Prelude.{vec_capacity}
+use Rattle.policy.specs.View.{policy_view}
 use Rattle.book.specs.History.{History}
 use Rattle.book.specs.Stands.{Stands, OnlyLooks}
 use Rattle.desk.specs.Calls.{settings_view}
-use Rattle.desk.specs.Together.{questions_view, AreJudged, AreSplit}
+use Rattle.desk.specs.Together.{questions_view, AreJudged, AreSplit, AreJudgedUnasked}
 use Rattle.desk.specs.WaitingStamps.{HasText}
 use Rattle.desk.proofs.batch_start.judge_each.Given as goal
 
@@ -21,4 +22,6 @@ invariant-loop-question g l = record {
       l.waits.items b;
   split : AreSplit (questions_view (take l.question-index l.asked)) l.verdicts.items l.waits.items;
   texts : AllByRecursion (HasText (settings_view l.settings)) l.waits.items;
+  unasked : AreJudgedUnasked (policy_view l.settings.policy.now) (questions_view (take l.question-index l.asked))
+      l.verdicts.items;
 }

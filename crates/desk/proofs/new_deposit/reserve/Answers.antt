@@ -1,3 +1,4 @@
+use Rattle.std.proofs.lemmas.Result.{err_from_is_err_and}
 use Rattle.der.specs.Node.{encoding}
 use Rattle.tsp.specs.Request.{time_stamp_req, unstated}
 use Rattle.tsp.specs.View.{request_view}
@@ -11,7 +12,8 @@ octets_of-requires g c =
     c.requests_have_one_reading.ensures.unstated (encoding (time_stamp_req unstated r)) r c.requires.spelled
     c.requires.short
 
-pub returns-in-Err-clause-reserves : goal.returns-in-Err-clause-reserves
-returns-in-Err-clause-reserves g c honest b st e =
-    unwritten g.B.Standing (settings_view c.args.settings) c.args.account.now (plan_of c.args.planned) _ b
-    c.args.planned.last c.args.store.now c.in-Err.refusal c.in-Err.ensures.left e st
+pub returns-in_err-octets-clause-reserves : goal.returns-in_err-octets-clause-reserves
+returns-in_err-octets-clause-reserves g c honest b st e =
+    let told = err_from_is_err_and c.from_residual.result c.from_residual.ensures.1 in
+    rw (told.1, told.2) (unwritten g.B.Standing (settings_view c.args.settings) c.args.account.now (plan_of c.args.planned) _ b
+    c.args.planned.last c.args.store.now c.in_err-octets.field-0.0 c.in_err-octets.ensures.left e st)

@@ -1,26 +1,30 @@
-use Rattle.std.proofs.Common.{◌≡◌, ◌∙◌, refl, sym, ap}
+use Rattle.std.proofs.Common.{[], Ok, refl}
 use Rattle.policy.specs.View.{account_view}
 use Rattle.book.specs.Readers.{Group}
 use Rattle.desk.specs.Answers.{answered}
 use Rattle.desk.specs.Calls.{settings_view}
-use Rattle.desk.specs.Command.{Grant, Refused}
-use Rattle.desk.specs.Obstacles.{outcome_with, told_with}
+use Rattle.desk.specs.Command.{Grant, Done, Refused}
+use Rattle.desk.specs.Obstacles.{fault_with, hindered}
+use Rattle.desk.specs.Outcome.{all_fine}
 use Rattle.desk.specs.Shown.{done_as}
 use Rattle.desk.specs.CallContract.{no_signer}
-use Rattle.desk.proofs.Opened.{steps_opened}
+use Rattle.desk.proofs.Opened.{steps_opened, refused_as}
 use Rattle.desk.proofs.desk.Desk.grant_group.Goals as goal
-use Rattle.desk.proofs.desk.Desk.grant_group.Goals.{in-Ok, in-Err}
 
 pub returns-clause-step : goal.returns-clause-step
 returns-clause-step g c =
-    let same : answered done_as c.match-grant_by.result ≡ told_with done_as c.grant_by.result =
-    elim c.match-grant_by.branch [
-      | in-Ok w ↦ ap (answered done_as) w.result-is ∙ sym (ap (told_with done_as) w.in-Ok.is)
-      | in-Err w ↦ ap (answered done_as) w.result-is
-          ∙ (ap Refused w.from.ensures ∙ sym (ap (told_with done_as) w.in-Err.is))
-    ] in
-    let command = (Grant (account_view c.args.account.now) c.args.number (Group c.args.name.now)) in
+    let command = Grant (account_view c.args.account.now) c.args.number (Group c.args.name.now) in
     steps_opened g.B.Standing c.steps_keep_their_promises.ensures no_signer
     (record { setting = settings_view c.self.inside.settings; store = c.self.inside.store }) c.args.self.now
-    command command (outcome_with c.grant_by.result) c.grant_by.new.store (told_with done_as c.grant_by.result)
-    (answered done_as c.match-grant_by.result) (λ s a. refl) c.self.view_is refl same c.grant_by.ensures.step
+    command command (all_fine (Ok [])) c.grant_by.new.store Done Done (λ s a. refl)
+    c.self.view_is refl refl c.in_ok-grant_by.ensures.step
+
+pub returns-in_err-grant_by-clause-step : goal.returns-in_err-grant_by-clause-step
+returns-in_err-grant_by-clause-step g c =
+    let command = Grant (account_view c.args.account.now) c.args.number (Group c.args.name.now) in
+    let x = c.in_err-grant_by.field-0.0 in
+    steps_opened g.B.Standing c.steps_keep_their_promises.ensures no_signer
+    (record { setting = settings_view c.self.inside.settings; store = c.self.inside.store }) c.args.self.now
+    command command (hindered x) c.grant_by.new.store (Refused (fault_with x))
+    (answered done_as c.from_residual.result) (λ s a. refl) c.self.view_is refl
+    (refused_as done_as c.from_residual.result (fault_with x) c.from_residual.ensures.1) c.in_err-grant_by.ensures.step

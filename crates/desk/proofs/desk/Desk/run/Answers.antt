@@ -7,25 +7,25 @@ use Rattle.desk.proofs.Sound.{TextLaws}
 use Rattle.desk.proofs.RunsOn.{honest_before, steps_run}
 use Rattle.desk.proofs.desk.Desk.run.Goals as goal
 
-pub returns-in-Ok-clause-honest : goal.returns-in-Ok-clause-honest
-returns-in-Ok-clause-honest g c =
-    let steps = c.in-Ok.ensures.steps in
+pub returns-clause-honest : goal.returns-clause-honest
+returns-clause-honest g c =
+    let steps = c.in_ok-answers.ensures.steps in
     let new = c.obey_each.new.store in
     subst (λ d. g.B.Standing.honest new → g.B.Standing.honest d.store) c.self.view_is
     (honest_before g.B.Standing g.G.Signer.signs g.G.Signer.fault_count (settings_view c.self.inside.settings)
-    (commands_view c.args.commands.now) steps.0 (answers_view c.in-Ok.answers.items) c.self.inside.store
-    c.args.signer.now (settings_view c.in-Ok.after) new c.obey_each.new.signer steps.1)
+    (commands_view c.args.commands.now) steps.0 (answers_view c.in_ok-answers.answers.items) c.self.inside.store
+    c.args.signer.now (settings_view c.in_ok-answers.after) new c.obey_each.new.signer steps.1)
 
-pub returns-in-Ok-clause-run : goal.returns-in-Ok-clause-run
-returns-in-Ok-clause-run g c =
+pub returns-clause-run : goal.returns-clause-run
+returns-clause-run g c =
     let s = settings_view c.self.inside.settings in
     let law = c.requests_have_one_reading.ensures in
     let laws : TextLaws = record { one_request = law.one; lawful_answers = law.lawful } in
-    let steps = c.in-Ok.ensures.steps in
+    let steps = c.in_ok-answers.ensures.steps in
     let cs = commands_view c.args.commands.now in
-    let answers = answers_view c.in-Ok.answers.items in
+    let answers = answers_view c.in_ok-answers.answers.items in
     let x = c.args.signer.now in
-    let after = settings_view c.in-Ok.after in
+    let after = settings_view c.in_ok-answers.after in
     let new = c.obey_each.new.store in
     let y = c.obey_each.new.signer in
     subst
