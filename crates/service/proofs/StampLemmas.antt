@@ -1,12 +1,16 @@
 -- Octets that are a request for a stamp are nothing else.
-use Rattle.std.proofs.Common.{◌≡◌, ◌∙◌, ℕ, ℤ, List, [], ◌++◌, Option, Some, Result, Ok, Err, length, take}
+use Rattle.std.proofs.Common.{◌≡◌, ◌∙◌, ℕ, ℤ, true, false, List, [], ◌++◌, Option, Some, Result, Ok, Err, length, take}
 use Rattle.std.proofs.Common.{Bor, ap, append-nil, arith, refl, inl, inr, subst, sym}
 use Rattle.std.proofs.lemmas.List.{take_all}
+use Rattle.std.specs.Prelude.{MatchOption}
+use Rattle.std.specs.Result.{result_ok}
 use Rattle.httparse.specs.Grammar.{RequestHead, print_request}
 use Rattle.httparse.proofs.GrammarLemmas.{request_unique}
 use Rattle.desk.specs.Batches.{Question, stamp_for}
+use Rattle.desk.specs.Together.{question_view}
+use Rattle.desk.specs.declared.batch.Asked.{Asked as AskedStamp}
 use Rattle.policy.specs.Record.{PolicyValue}
-use Rattle.service.specs.Checks.{◌>>=◌, WantedValue, active_account, watcher_shown, wanted_by}
+use Rattle.service.specs.Checks.{◌>>=◌, WantedValue, active_account, is_stamp, watcher_shown, wanted_by}
 use Rattle.service.specs.Heads.{HeadValue, IsHead, BeginsWith, head_value}
 use Rattle.service.specs.Known.{IsAnswerable, IsDue, IsRefused, checked, malformed, out_of_memory, out_of_memory_for_body}
 use Rattle.service.specs.Received.{IsPartial, ReceivedValue, in_body, in_head}
@@ -14,7 +18,7 @@ use Rattle.service.specs.Requests.{Asked, IsRequest, Step, account_and_number, a
 use Rattle.service.specs.Requests.{asked_by, calibration_asked, hold_asked}
 use Rattle.service.specs.Requests.{cut_body, cut_head, headless, refused_head, whole}
 use Rattle.service.specs.Stamps.{AsksStamp}
-use Rattle.service.specs.Views.{head_view}
+use Rattle.service.specs.Views.{head_view, result_by}
 use Rattle.service.specs.declared.due.Due.{Due}
 use Rattle.service.specs.declared.due.Due.TheVariants as due
 use Rattle.service.specs.declared.head.Head.{Head}
@@ -22,6 +26,7 @@ use Rattle.service.specs.declared.refusal.Refusal.{Refusal}
 use Rattle.service.specs.declared.routes.Action.{Action}
 use Rattle.service.specs.declared.routes.Action.TheVariants as action
 use Rattle.service.proofs.KnownLemmas.{no_octets}
+use Rattle.service.proofs.ServingLemmas.{answerable}
 
 -- what comes behind a check isn't given where it never is
 bound : {A : Type 0} (m : Result A Refusal) (next : A → Result Asked Refusal) (asked : Asked)
@@ -111,6 +116,7 @@ module _ (file : PolicyValue) (reading : ℤ) (octets : List ℕ) (q : Question)
       request_unique octets is.read h is.body body (is.is_head.reads.0, is.split) (head.reads.0, split)
 
   same_wants : (h : RequestHead) → is.read ≡ h → (w : WantedValue) → wanted_by (head_value h) ≡ Ok w → is.wants ≡ w
+  unfolding wants_or
   same_wants h same w wanted =
       ap (wants_or w) (sym is.wanted ∙ ap (λ r. wanted_by (head_value r)) same ∙ wanted)
 
@@ -143,30 +149,71 @@ module _ (file : PolicyValue) (reading : ℤ) (octets : List ℕ) (q : Question)
       ∙ ap (λ v. asked_by file reading v body is.wants.action) (answerable.same ∙ ap head_value (sym both.0))
       ∙ ap (λ l. asked_by file reading (head_value is.read) l is.wants.action) (sym both.1) ∙ sym is.same
 
--- where a stamp is asked for, a whole request is due to an answer, and asks for that stamp
-pub stamp_due : (file : PolicyValue) (reading : ℤ) (r : ReceivedValue) (d : Due) → IsDue r d → (q : Question)
-    → AsksStamp file reading r q
-    → ((a : Action) (head : Head) (body : Bor (List ℕ)) → d ≡ due.Answer a head body
-    → asked_by file reading (head_view head) body.now a ≡ Ok (Step (stamp_for q)) → ⊥)
-    → ⊥
-stamp_due file reading r due.Nothing is q asks other =
-    let octets = take r.taken r.octets in
-    some file reading octets q (stamp_request file reading octets q (asks (Some octets) (Some []) (sym (append-nil octets))))
-    (ap (λ n. take n r.octets) is.2)
-stamp_due file reading r (due.Refusal f) (inl refused) q asks other =
-    let octets = take r.taken r.octets in
-    not_refused file reading octets q
-    (stamp_request file reading octets q (asks (Some octets) (Some []) (sym (append-nil octets)))) f refused
-stamp_due file reading r (due.Refusal f) (inr (cut, same)) q asks other =
-    let octets = take r.taken r.octets in
-    let all : octets ≡ r.octets =
-    ap (λ n. take n r.octets) cut.all ∙ take_all (length r.octets) r.octets (omega arith) in
-    let P : List ℕ → Type 0 = λ l. IsPartial l in
-    not_partial file reading octets q
-    (stamp_request file reading octets q (asks (Some octets) (Some []) (sym (append-nil octets))))
-    (subst P (sym all) cut.partial)
-stamp_due file reading r (due.Answer a head body) answerable q asks other =
-    let octets = take r.taken r.octets in
-    other a head body refl (answers_stamp file reading octets q
-    (stamp_request file reading octets q (asks (Some octets) (Some []) (sym (append-nil octets)))) a head body.now
-    answerable)
+module _ (file : PolicyValue) (reading : ℤ) (r : ReceivedValue) (q : Question) (asks : AsksStamp file reading r q) where
+  asked_in : IsStampRequest file reading (take r.taken r.octets) q
+  asked_in =
+      let octets = take r.taken r.octets in
+      stamp_request file reading octets q (asks (Some octets) (Some []) (sym (append-nil octets)))
+
+  -- where a stamp is asked for, that is answered
+  answer_due : (a : Action) (head : Head) (body : Bor (List ℕ)) → IsDue r (due.Answer a head body)
+      → asked_by file reading (head_view head) body.now a ≡ Ok (Step (stamp_for q))
+  answer_due a head body is = answers_stamp file reading (take r.taken r.octets) q asked_in a head body.now is
+
+  pub stamp_due : (d : Due) → IsDue r d
+      → ((a : Action) (head : Head) (body : Bor (List ℕ)) → d ≡ due.Answer a head body → ⊥) → ⊥
+  stamp_due due.Nothing is other =
+      some file reading (take r.taken r.octets) q asked_in (ap (λ n. take n r.octets) is.2)
+  stamp_due (due.Refusal f) (inl refused) other =
+      not_refused file reading (take r.taken r.octets) q asked_in f refused
+  stamp_due (due.Refusal f) (inr (cut, same)) other =
+      let octets = take r.taken r.octets in
+      let all : octets ≡ r.octets =
+      ap (λ n. take n r.octets) cut.all ∙ take_all (length r.octets) r.octets (omega arith) in
+      let P : List ℕ → Type 0 = λ l. IsPartial l in
+      not_partial file reading octets q asked_in (subst P (sym all) cut.partial)
+  stamp_due (due.Answer a head body) is other = other a head body refl
+
+stamp_is : (a : Action) → is_stamp a ≡ true → a ≡ action.Stamp
+stamp_is action.Stamp is = refl
+stamp_is action.Keep is = cc
+stamp_is action.List is = cc
+stamp_is action.Show is = cc
+stamp_is action.Token is = cc
+stamp_is action.Grant is = cc
+stamp_is action.Revoke is = cc
+stamp_is action.GrantGroup is = cc
+stamp_is action.RevokeGroup is = cc
+stamp_is action.Extract is = cc
+stamp_is action.Calibrate is = cc
+stamp_is action.Hold is = cc
+stamp_is action.Status is = cc
+
+module _ (file : PolicyValue) (reading : ℤ) (r : ReceivedValue) (a : Action) (head : Head) (body : Bor (List ℕ))
+    (is : IsDue r (due.Answer a head body)) where
+  -- an answer to another action is to no stamp
+  pub no_stamp : is_stamp a ≡ false → (q : Question) → AsksStamp file reading r q → ⊥
+  no_stamp other q asks =
+      only_stamp file reading (head_view head) body.now a q (answer_due file reading r q asks a head body is)
+      (λ same.
+      let both : true ≡ false = sym (ap is_stamp same) ∙ other in
+      cc)
+
+  -- the stamp that the checks find
+  pub found_stamp : is_stamp a ≡ true → (found : Result AskedStamp Refusal)
+      → result_by (λ asked. Step (stamp_for (question_view asked))) found
+      ≡ asked_by file reading (head_view head) body.now action.Stamp
+      → MatchOption (result_ok found) ((q : Question) → AsksStamp file reading r q → ⊥)
+      (λ asked. AsksStamp file reading r (question_view asked))
+  found_stamp stamp (Ok asked) same = λ before after read.
+      let P : Result Asked Refusal → Type 0 = λ result. IsRequest file reading before after result in
+      let Q : Action → Type 0 =
+      λ b. IsRequest file reading before after (asked_by file reading (head_view head) body.now b) in
+      subst P (sym same) (subst Q (stamp_is a stamp)
+      (answerable file reading before after (take r.taken r.octets) a head body.now is read))
+  found_stamp stamp (Err f) same = λ q asks.
+      let A : Action → Type 0 =
+      λ b. asked_by file reading (head_view head) body.now b ≡ Ok (Step (stamp_for q)) in
+      let both : Err f ≡ Ok (Step (stamp_for q)) =
+      same ∙ subst A (stamp_is a stamp) (answer_due file reading r q asks a head body is) in
+      cc

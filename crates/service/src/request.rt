@@ -147,12 +147,15 @@ impl Request {
         }
         let all = filled + count;
         self.filled = all;
-        if let Known::Open = self.known {
-            let octets = self.room.as_slice().split_at(all).0;
-            let known = known_of(routes, octets, filled, &mut self.headers);
-            self.known = with_room(known, &mut self.room, all);
+        match self.known {
+            Known::Open => {
+                let octets = self.room.as_slice().split_at(all).0;
+                let known = known_of(routes, octets, filled, &mut self.headers);
+                self.known = with_room(known, &mut self.room, all);
+                Ok(())
+            }
+            _ => Ok(()),
         }
-        Ok(())
     }
 
     /// Reads once where it is open, and asks for no octet behind it.
