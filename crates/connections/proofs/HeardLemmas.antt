@@ -1,107 +1,132 @@
--- Connections that are heard: one more, and what is left of them where nothing is told.
-use Rattle.std.proofs.Common.{◌≡◌, ◌∙◌, ℕ, ◌+◌, ℤ, List, [], ◌∷◌, ◌++◌, length, Option, None, Result, Ok, Err}
-use Rattle.std.proofs.Common.{OnErr, OnOk, arith, refl, ap, subst}
-use Rattle.std.proofs.lemmas.List.{length-append}
+-- Connections that are heard: more of them, and what is left of them where nothing is told.
+use Rattle.std.proofs.Common.{◌≡◌, ◌∙◌, ℕ, ◌+◌, ℤ, List, [], ◌∷◌, ◌++◌, length, map, Option, None, Result, Ok, Err}
+use Rattle.std.proofs.Common.{OnErr, OnOk, arith, refl, sym, ap, subst}
+use Rattle.std.proofs.lemmas.List.{length-append, length-map, map-append}
 use Rattle.book.specs.declared.standing.Standing.{Ghosts}
 use Rattle.cms.specs.declared.signer.SignerFault.{SignerFault}
 use Rattle.desk.specs.CallContract.{DeskValue}
 use Rattle.desk.specs.MachineRuns.{IsProper}
 use Rattle.service.specs.Received.{ReceivedValue}
-use Rattle.connections.specs.Heard.{Hall, IsAnswered, Comes, failed, answered, IsHeard, Follow, AreHeard, StopsHearing, hall}
+use Rattle.connections.specs.Heard.{Hall, IsServed, IsHeard, failed, answered, Follow, AreHeard, StopsHearing, hall}
+use Rattle.connections.specs.Heard.{counted_along}
+use Rattle.connections.specs.Parts.{handed_along, readings}
 use Rattle.connections.specs.Run.{ServesEach}
-use Rattle.connections.specs.Turns.{State, Does, nothing, one, IsTurn, Leads, IsServedBy}
+use Rattle.connections.specs.Turns.{State, untold, AreGiven, IsServedBy, StopsByClock}
 use Rattle.connections.specs.declared.clock.ClockFailed.{ClockFailed}
+use Rattle.connections.proofs.PartsLemmas.{given_then, handed_in_turn, done_then, done_setting, done_honest}
 use Rattle.connections.proofs.RunLemmas.{RunLaws, served_run, stopped_run}
-use Rattle.connections.proofs.TurnsLemmas.{served_setting, served_honest}
-use Rattle.connections.proofs.UntoldLemmas.{serves}
+use Rattle.connections.proofs.UntoldLemmas.{bare_part, bare_readings, as_many_bare, bare_done}
 
 -- what holds where there is an error
 pub on_err : {A E : Type 0} (result : Result A E) (P : Type 0) → P → OnErr result P
 on_err (Ok done) P is = tt
 on_err (Err fault) P is = is
 
-module _ {L S C B X : Type 0} (hands : L → ReceivedValue → S → L → Type 0) (fails : L → L → Type 0)
+counted_more : {A : Type 0} (after : List (ℕ × A)) (n : ℕ) (new : A)
+    → counted_along (after ++ ((n, new) ∷ [])) ≡ counted_along after + n
+counted_more [] n new = omega arith
+counted_more (next ∷ rest) n new = omega (arith, counted_more rest n new)
+
+module _ {L S C B X : Type 0} (hands : L → ReceivedValue → S → L → Type 0) (fails stays : L → L → Type 0)
     (takes_back : L → S → L → Type 0) (contents : S → Option (List ℕ)) (reads : C → Result ℤ ClockFailed → C → Type 0)
     (g : Ghosts B) (signs : X → List ℕ → Result (List ℕ) SignerFault → X → Type 0) (count : X → ℕ) where
-  abbrev One : Hall L C B X → Hall L C B X → Type 0
-  One = IsHeard hands fails takes_back contents reads g signs count
+  abbrev One : ℕ → Hall L C B X → Hall L C B X → Type 0
+  One = IsHeard hands fails stays takes_back contents reads g signs count
 
-  abbrev Many : Hall L C B X → List (Hall L C B X) → Hall L C B X → Type 0
-  Many = Follow hands fails takes_back contents reads g signs count
+  abbrev Many : Hall L C B X → List (ℕ × Hall L C B X) → Hall L C B X → Type 0
+  Many = Follow hands fails stays takes_back contents reads g signs count
 
   abbrev All : ℕ → Hall L C B X → Hall L C B X → Type 0
-  All = AreHeard hands fails takes_back contents reads g signs count
+  All = AreHeard hands fails stays takes_back contents reads g signs count
 
-  follow_more : (old : Hall L C B X) (after : List (Hall L C B X)) (mid new : Hall L C B X)
-      → Many old after mid → One mid new → Many old (after ++ (new ∷ [])) new
-  follow_more old [] mid new same heard = (subst (λ s. One s new) same heard, refl)
-  follow_more old (next ∷ rest) mid new follow heard = (follow.0, follow_more next rest mid new follow.1 heard)
+  follow_more : (old : Hall L C B X) (after : List (ℕ × Hall L C B X)) (mid : Hall L C B X) (n : ℕ)
+      (new : Hall L C B X) → Many old after mid → One n mid new → Many old (after ++ ((n, new) ∷ [])) new
+  follow_more old [] mid n new same heard = (subst (λ s. One n s new) same heard, refl)
+  follow_more old (next ∷ rest) mid n new follow heard =
+      (follow.0, follow_more next.1 rest mid n new follow.1 heard)
 
   -- none
   pub heard_none : (old : Hall L C B X) → All 0 old old
   heard_none old = record { after = []; counted = refl; follow = refl }
 
-  -- one more
-  pub heard_more : (n : ℕ) (old mid new : Hall L C B X) → All n old mid → One mid new → All (n + 1) old new
-  heard_more n old mid new heard next = record {
-    after = heard.after ++ (new ∷ []);
-    counted = length-append heard.after (new ∷ []) ∙ ap (λ k. k + 1) heard.counted;
-    follow = follow_more old heard.after mid new heard.follow next;
+  -- more
+  pub heard_more : (n m : ℕ) (old mid new : Hall L C B X) → All n old mid → One m mid new → All (n + m) old new
+  heard_more n m old mid new heard next = record {
+    after = heard.after ++ ((m, new) ∷ []);
+    counted = counted_more heard.after m new ∙ ap (λ k. k + m) heard.counted;
+    follow = follow_more old heard.after mid m new heard.follow next;
+  }
+
+  -- as many
+  pub heard_as : (n k : ℕ) (old new : Hall L C B X) → n ≡ k → All n old new → All k old new
+  heard_as n k old new is heard = record {
+    after = heard.after;
+    counted = heard.counted ∙ is;
+    follow = heard.follow;
   }
 
   -- what is told of no octets
-  does : (old new : Hall L C B X) → Comes hands fails takes_back contents reads g signs count old new
-      → Does reads g signs count old.others new.others
-  does old new (failed fell same) = nothing same
-  does old new (answered is) = one (record {
-    reading = is.reading;
-    given = is.given;
-    outcome = is.outcome;
-    serves = serves g signs count contents is.reading (record {
-      input = None;
-      input_after = None;
-      writer = is.stream;
-      writer_after = is.stream_after;
-      desk = old.others.desk;
-      desk_after = new.others.desk;
-      signer = old.others.signer;
-      signer_after = new.others.signer;
-    }) is.outcome (is.serves None None tt (λ ended taken. tt));
-  })
+  served_first : (n : ℕ) (old next : Hall L C B X) (rest : ℕ) (new : State C B X) → One n old next
+      → IsServedBy reads g signs count rest next.others new
+      → IsServedBy reads g signs count (n + rest) old.others new
+  served_first n old next rest new (failed one fell same) r =
+      let more : IsServedBy reads g signs count (n + rest) next.others new = record {
+        parts = r.parts;
+        failed = r.failed + 1;
+        counted = omega (arith, one, r.counted);
+        given = r.given;
+        done = r.done;
+      } in
+      subst (λ s. IsServedBy reads g signs count (n + rest) s new) same more
+  served_first n old next rest new (answered is) r =
+      let parts = is.answered.parts in
+      let bare = map bare_part parts in
+      let are : readings is.handed ≡ readings (handed_along bare) =
+      ap readings (sym is.answered.are) ∙ sym (bare_readings parts) in
+      let as_many : length (handed_along bare) ≡ n =
+      as_many_bare parts ∙ (ap length is.answered.are ∙ is.counted) in
+      let all = handed_in_turn bare r.parts in
+      let lengths = ap length all ∙ length-append (handed_along bare) (handed_along r.parts) in
+      let clocks : readings (handed_along (bare ++ r.parts))
+      ≡ readings (handed_along bare) ++ readings (handed_along r.parts) =
+      ap readings all ∙ map-append (λ h. h.reading) (handed_along bare) (handed_along r.parts) in
+      record {
+        parts = bare ++ r.parts;
+        failed = r.failed;
+        counted = omega (arith, as_many, lengths, r.counted);
+        given = subst (λ rs. AreGiven reads old.others.clock rs new.clock) (sym clocks)
+            (given_then reads old.others.clock (readings (handed_along bare)) next.others.clock
+            (readings (handed_along r.parts)) new.clock
+            (subst (λ rs. AreGiven reads old.others.clock rs next.others.clock) are is.gathered.given) r.given);
+        done = done_then untold g signs count bare old.others.desk old.others.signer next.others.desk
+            next.others.signer r.parts new.desk new.signer
+            (bare_done contents g signs count parts old.others.desk old.others.signer next.others.desk
+            next.others.signer is.answered.done) r.done;
+      }
 
-  abbrev others : List (Hall L C B X) → List (State C B X)
-  others [] = []
-  others (next ∷ rest) = next.others ∷ others rest
-
-  leads : (old : Hall L C B X) (after : List (Hall L C B X)) (new : Hall L C B X) → Many old after new
-      → Leads reads g signs count old.others (others after) new.others
-  leads old [] new same = ap (λ s. s.others) same
-  leads old (next ∷ rest) new follow = (
-    record {
-      setting = follow.0.setting;
-      honest = follow.0.honest;
-      does = does old next follow.0.comes;
-    },
-    leads next rest new follow.1,
-  )
-
-  as_many : (after : List (Hall L C B X)) → length (others after) ≡ length after
-  as_many [] = refl
-  as_many (next ∷ rest) = omega (arith, as_many rest)
+  served_along : (old : Hall L C B X) (after : List (ℕ × Hall L C B X)) (new : Hall L C B X) → Many old after new
+      → IsServedBy reads g signs count (counted_along after) old.others new.others
+  served_along old [] new same = record {
+    parts = [];
+    failed = 0;
+    counted = refl;
+    given = ap (λ s. s.others.clock) same;
+    done = (ap (λ s. s.others.desk) same, ap (λ s. s.others.signer) same);
+  }
+  served_along old (next ∷ rest) new follow =
+      served_first next.0 old next.1 (counted_along rest) new.others follow.0 (served_along next.1 rest new follow.1)
 
   pub served : (n : ℕ) (old new : Hall L C B X) → All n old new
       → IsServedBy reads g signs count n old.others new.others
-  served n old new heard = record {
-    after = others heard.after;
-    counted = as_many heard.after ∙ heard.counted;
-    leads = leads old heard.after new heard.follow;
-  }
+  served n old new heard =
+      subst (λ k. IsServedBy reads g signs count k old.others new.others) heard.counted
+      (served_along old heard.after new heard.follow)
 
   -- what each result tells
   abbrev Told : ℕ → Hall L C B X → Hall L C B X → {A : Type 0} → Result A ClockFailed → Type 0
   Told n old new result =
       OnOk result (All n old new)
-      × OnErr result (StopsHearing hands fails takes_back contents reads g signs count n old new)
+      × OnErr result (StopsHearing hands fails stays takes_back contents reads g signs count n old new)
 
   -- the same from a desk and a signer that are the same
   pub told_from : (n : ℕ) (hearing : L) (clock : C) (desk desk' : DeskValue B) (signer signer' : X) (new : Hall L C B X)
@@ -111,23 +136,33 @@ module _ {L S C B X : Type 0} (hands : L → ReceivedValue → S → L → Type 
       let P : DeskValue B → X → Type 0 = λ d x. Told n (hall hearing clock d x) new result in
       subst (λ x. P desk x) stays (subst (λ d. P d signer') same told)
 
+  served_setting : (n : ℕ) (old new : Hall L C B X) → All n old new
+      → new.others.desk.setting ≡ old.others.desk.setting
+  served_setting n old new heard =
+      let all = served n old new heard in
+      done_setting untold g signs count all.parts old.others.desk old.others.signer new.others.desk new.others.signer
+      all.done
+
+  served_honest : (n : ℕ) (old new : Hall L C B X) → All n old new
+      → g.honest new.others.desk.store → g.honest old.others.desk.store
+  served_honest n old new heard honest =
+      let all = served n old new heard in
+      done_honest untold g signs count all.parts old.others.desk old.others.signer new.others.desk new.others.signer
+      all.done honest
+
   pub told_setting : (n : ℕ) (old new : Hall L C B X) {A : Type 0} (result : Result A ClockFailed)
       → Told n old new result → new.others.desk.setting ≡ old.others.desk.setting
-  told_setting n old new (Ok done) told =
-      served_setting reads g signs count n old.others new.others (served n old new told.0)
+  told_setting n old new (Ok done) told = served_setting n old new told.0
   told_setting n old new (Err fault) told =
       let s = told.1 in
-      ap (λ d. d.setting) s.dropped.desk
-      ∙ served_setting reads g signs count s.heard old.others s.last.others (served s.heard old s.last s.before)
+      ap (λ d. d.setting) s.dropped.desk ∙ served_setting s.heard old s.last s.before
 
   pub told_honest : (n : ℕ) (old new : Hall L C B X) {A : Type 0} (result : Result A ClockFailed)
       → Told n old new result → g.honest new.others.desk.store → g.honest old.others.desk.store
-  told_honest n old new (Ok done) told honest =
-      served_honest reads g signs count n old.others new.others (served n old new told.0) honest
+  told_honest n old new (Ok done) told honest = served_honest n old new told.0 honest
   told_honest n old new (Err fault) told honest =
       let s = told.1 in
-      served_honest reads g signs count s.heard old.others s.last.others (served s.heard old s.last s.before)
-      (subst (λ d. g.honest d.store) s.dropped.desk honest)
+      served_honest s.heard old s.last s.before (subst (λ d. g.honest d.store) s.dropped.desk honest)
 
   -- it is a run
   pub told_run : RunLaws signs → (n : ℕ) (old new : Hall L C B X) {A : Type 0} (result : Result A ClockFailed)
@@ -137,6 +172,17 @@ module _ {L S C B X : Type 0} (hands : L → ReceivedValue → S → L → Type 
       served_run reads g signs count laws n old.others new.others (served n old new told.0) proper
   told_run laws n old new {A} (Err fault) proper told =
       let s = told.1 in
-      stopped_run reads g signs count laws {A = A} n s.heard old.others s.last.others new.others
-      (served s.heard old s.last s.before) proper s.fewer s.dropped.fault s.dropped.refused s.dropped.desk
-      s.dropped.signer (Err fault) refl
+      let cut = s.dropped.cut in
+      let stops : StopsByClock reads g signs count n old.others new.others = record {
+        served = s.heard;
+        last = s.last.others;
+        before = served s.heard old s.last s.before;
+        readings = readings cut.gathered;
+        clock = cut.asked;
+        given = cut.given;
+        failed = (cut.fault, cut.refused);
+        fewer = omega (arith, cut.fewer, s.counted, length-map cut.gathered (λ h. h.reading));
+        desk = s.dropped.desk;
+        signer = s.dropped.signer;
+      } in
+      stopped_run reads g signs count laws {A = A} n old.others new.others stops proper (Err fault) refl

@@ -1,6 +1,6 @@
 -- Connections are a run of the machine.
-use Rattle.std.proofs.Common.{◌≡◌, ◌∙◌, ℕ, ◌<◌, ℤ, List, [], ◌∷◌, ◌++◌, Option, Some, Result, Ok, Err, refl, ap, subst}
-use Rattle.std.proofs.Common.{sym, inl, inr, IsErr}
+use Rattle.std.proofs.Common.{◌≡◌, ◌∙◌, ℕ, ℤ, List, [], ◌∷◌, ◌++◌, map, Option, Some, None, Result, Ok, Err, refl, ap}
+use Rattle.std.proofs.Common.{subst, sym, inl, inr, IsErr}
 use Rattle.std.proofs.lemmas.Bool.{false≢true}
 use Rattle.book.specs.declared.standing.Standing.{Ghosts}
 use Rattle.book.specs.History.{History}
@@ -10,6 +10,7 @@ use Rattle.book.specs.Sound.{IsSound}
 use Rattle.book.specs.Stands.{Stands}
 use Rattle.cms.specs.declared.signer.SignerFault.{SignerFault}
 use Rattle.policy.specs.Record.{PolicyValue}
+use Rattle.desk.specs.Batches.{Question, stamp_for, stamps_for}
 use Rattle.desk.specs.Command.{Setting, Command, Stamp, Begin, Finish, Abandon, Deposit, Show, Token, ListAll, Grant}
 use Rattle.desk.specs.Command.{Revoke, Calibrate, Hold, Succeed, Answer, Listed, setting_after}
 use Rattle.desk.specs.Effects.{Effect}
@@ -22,20 +23,23 @@ use Rattle.desk.specs.Readers.{rights_along}
 use Rattle.desk.specs.MachineRuns.{Told, Runs, Journey, HasProperties, IsProper, after}
 use Rattle.desk.specs.Serials.{given_along, AreInOrder}
 use Rattle.desk.specs.MachineStep.{HasEffect, IsMet, Moves}
+use Rattle.desk.specs.Together.{MayBeLeftTogether, RunsTogether}
 use Rattle.desk.specs.Viewers.{viewer_in}
 use Rattle.desk.specs.CallContract.{DeskValue, IsStep, MayBeLeft, no_signer, with_signer}
 use Rattle.desk.proofs.Whole.{continued}
 use Rattle.service.specs.Answers.{AnswerValue}
 use Rattle.service.specs.Requests.{IsRequest, Step}
-use Rattle.service.specs.Served.{IsAnswer, refuses, replies, turned_back, turns_back, looks, wants_early, wants_list}
-use Rattle.service.specs.Served.{Serves, Steps}
+use Rattle.service.specs.Served.{Turn, IsAnswer, refuses, replies, turned_back, turns_back, looks, wants_early}
+use Rattle.service.specs.Served.{wants_list, Serves, Steps}
 use Rattle.service.specs.declared.served.Served.{Served}
 use Rattle.service.specs.declared.served.Served.TheVariants as served
-use Rattle.connections.specs.Run.{commands_of, answers_of, told, turn, told_for, told_in, told_by, told_along}
-use Rattle.connections.specs.Run.{IsRunAlong, ServesEach}
-use Rattle.connections.specs.Turns.{State, untold, Does, nothing, one, Leads, IsServedBy}
+use Rattle.connections.specs.Parts.{Part, alone, together, AreDone}
+use Rattle.connections.specs.Run.{Batch, Stretch, in_turn, at_once, commands_in, commands_of, answers_of, all_outcomes}
+use Rattle.connections.specs.Run.{Arrives, MayBeLeftAlong, told, turn, told_for, told_in, stretches_along, IsRunAlong}
+use Rattle.connections.specs.Run.{ServesEach}
+use Rattle.connections.specs.Turns.{State, untold, IsServedBy, StopsByClock}
 use Rattle.connections.specs.declared.clock.ClockFailed.{ClockFailed}
-use Rattle.connections.proofs.TurnsLemmas.{leads_honest}
+use Rattle.connections.proofs.PartsLemmas.{done_honest}
 
 -- what the caller of each command has to see to, whatever the history at its moment
 abbrev AreMetAnywhere : List Command → Type 0
@@ -115,28 +119,54 @@ module _ {B X : Type 0} (g : Ghosts B) (signs : X → List ℕ → Result (List 
   one_step (Succeed n) t met = unsigned (Succeed n) t.0 t.1 met
 
 -- what is left after the first command and the others
-left_after : {B : Type 0} (g : Ghosts B) (s : Setting) (c : Command) (cs : List Command) (o : Outcome)
-    (os : List Outcome) (e : Effect) (b last : History) (old mid : B) (left : g.Left) → HasEffect s c o b e
-    → (g.leaves mid left → MayBeLeft g s c o b old e left)
-    → ran.MayBeLeftBy g (setting_after s c e.says) cs os (after e b) mid last left
-    → ran.MayBeLeftBy g s (c ∷ cs) (o ∷ os) b old last left
-left_after g s c cs o os e b last old mid left has step (inl same) =
+left_after : {B : Type 0} (g : Ghosts B) (s : Setting) (c : Command) (reply : Answer) (later : List Stretch)
+    (o : Outcome) (oss : List (List Outcome)) (e : Effect) (b last : History) (old mid : B) (left : g.Left)
+    → HasEffect s c o b e → (g.leaves mid left → MayBeLeft g s c o b old e left)
+    → MayBeLeftAlong g s later oss (after e b) mid last left
+    → MayBeLeftAlong g s (in_turn (told c reply) ∷ later) ((o ∷ []) ∷ oss) b old last left
+left_after g s c reply later o oss e b last old mid left has step (inl same) =
     elim (step same.1) [
       | inl none ↦ inl (same.0 ∙ ap (λ added. added ++ b) none.0, none.1)
       | inr more ↦ elim more [
         | inl holds ↦ inr (inl (subst (λ y. g.holds left y) (sym same.0) holds))
-        | inr doubt ↦ inr (inr (e, (has, inl (same.0, doubt))))
+        | inr doubt ↦ inr (inr (after e b, ((e, (has, refl)), inl (same.0, (e, (has, inl (refl, doubt)))))))
       ]
     ]
-left_after g s c cs o os e b last old mid left has step (inr (inl holds)) = inr (inl holds)
-left_after g s c cs o os e b last old mid left has step (inr (inr doubt)) = inr (inr (e, (has, inr doubt)))
+left_after g s c reply later o oss e b last old mid left has step (inr (inl holds)) = inr (inl holds)
+left_after g s c reply later o oss e b last old mid left has step (inr (inr doubt)) =
+    inr (inr (after e b, ((e, (has, refl)), inr doubt)))
 
 -- what is left where a store leaves no more than another
-left_before : {B : Type 0} (g : Ghosts B) (s : Setting) (cs : List Command) (os : List Outcome) (b last : History)
-    (old mid : B) (left : g.Left) → (g.leaves mid left → g.leaves old left)
-    → ran.MayBeLeftBy g s cs os b mid last left → ran.MayBeLeftBy g s cs os b old last left
-left_before g s cs os b last old mid left before (inl same) = inl (same.0, before same.1)
-left_before g s cs os b last old mid left before (inr other) = inr other
+left_before : {B : Type 0} (g : Ghosts B) (s : Setting) (later : List Stretch) (oss : List (List Outcome))
+    (b last : History) (old mid : B) (left : g.Left) → (g.leaves mid left → g.leaves old left)
+    → MayBeLeftAlong g s later oss b mid last left
+    → MayBeLeftAlong g s (in_turn [] ∷ later) ([] ∷ oss) b old last left
+left_before g s later oss b last old mid left before (inl same) = inl (same.0, before same.1)
+left_before g s later oss b last old mid left before (inr (inl holds)) = inr (inl holds)
+left_before g s later oss b last old mid left before (inr (inr doubt)) = inr (inr (b, (refl, inr doubt)))
+
+-- what is left after stamps together and the others
+left_together : {B : Type 0} (g : Ghosts B) (s : Setting) (batch : Batch) (later : List Stretch)
+    (oss : List (List Outcome)) (b mid last : History) (old between : B) (left : g.Left)
+    → Arrives s (stamps_for batch.asked) batch.outcomes b mid
+    → (g.leaves between left
+    → MayBeLeftTogether g s batch.asked batch.outcomes batch.reserving batch.sealing b old mid left)
+    → MayBeLeftAlong g s later oss mid between last left
+    → MayBeLeftAlong g s (at_once batch ∷ later) (batch.outcomes ∷ oss) b old last left
+left_together g s batch later oss b mid last old between left arrives batch_leaves (inl same) =
+    elim (batch_leaves same.1) [
+      | inl thus ↦ elim thus [
+        | inl none ↦ inl (same.0 ∙ none.0, none.1)
+        | inr more ↦ elim more [
+          | inl holds ↦ inr (inl (subst (λ y. g.holds left y) (sym same.0) holds))
+          | inr doubt ↦ inr (inr (mid, (arrives, inl (same.0, inl doubt))))
+        ]
+      ]
+      | inr doubt ↦ inr (inr (mid, (arrives, inl (same.0, inr doubt))))
+    ]
+left_together g s batch later oss b mid last old between left arrives batch_leaves (inr (inl holds)) = inr (inl holds)
+left_together g s batch later oss b mid last old between left arrives batch_leaves (inr (inr doubt)) =
+    inr (inr (mid, (arrives, inr doubt)))
 
 -- what a command leaves of what an account may know, and what the others leave
 stays_on : (viewer : Viewer) (c : Command) (cs : List Command) (b mid last : History)
@@ -166,10 +196,117 @@ told_more s c cs o os b last x' w e answer answers has says rest =
           (ran.told_by cs answers (record { command = c; answer = a } ∷ w))) (sym says) (rest (first ∷ w))),
     )
 
+-- Under one outcome a command has one effect.
+abbrev OneEffect : Type 0
+OneEffect =
+    (s : Setting) (c : Command) (o : Outcome) (b : History) (e other : Effect) → HasEffect s c o b e
+    → HasEffect s c o b other → e ≡ other
+
+-- stamps that thus, and what runs behind them
+module _ {X : Type 0} (signs : X → List ℕ → Result (List ℕ) SignerFault → X → Type 0) (s : Setting) where
+  abbrev Ran : List Question → List Outcome → History → X → List Answer → History → X → Type 0
+  Ran asked os b x answers mid z = Runs signs s (stamps_for asked) os b x answers mid z
+
+  arrives : (asked : List Question) (os : List Outcome) (b : History) (x : X) (answers : List Answer) (mid : History)
+      (z : X) → Ran asked os b x answers mid z → Arrives s (stamps_for asked) os b mid
+  arrives [] [] b x [] mid z r = r.0
+  arrives [] [] b x (answer ∷ answers) mid z thus = absurd thus
+  arrives [] (o ∷ os) b x answers mid z thus = absurd thus
+  arrives (a ∷ asked) [] b x answers mid z thus = absurd thus
+  arrives (a ∷ asked) (o ∷ os) b x [] mid z thus = absurd thus
+  arrives (a ∷ asked) (o ∷ os) b x (answer ∷ answers) mid z thus =
+      (thus.0, (thus.2.0, arrives asked os (after thus.0 b) thus.1 answers mid z thus.2.3))
+
+  module _ (cs : List Command) (us : List Outcome) (more : List Answer) (last : History) where
+    runs_then : (asked : List Question) (os : List Outcome) (b : History) (x : X) (answers : List Answer)
+        (mid : History) (z y : X) → Ran asked os b x answers mid z → Runs signs s cs us mid z more last y
+        → Runs signs s (stamps_for asked ++ cs) (os ++ us) b x (answers ++ more) last y
+    runs_then [] [] b x [] mid z y thus rest =
+        subst (λ u. Runs signs s cs us b u more last y) thus.1
+        (subst (λ h. Runs signs s cs us h z more last y) thus.0 rest)
+    runs_then [] [] b x (answer ∷ answers) mid z y thus rest = absurd thus
+    runs_then [] (o ∷ os) b x answers mid z y thus rest = absurd thus
+    runs_then (a ∷ asked) [] b x answers mid z y thus rest = absurd thus
+    runs_then (a ∷ asked) (o ∷ os) b x [] mid z y thus rest = absurd thus
+    runs_then (a ∷ asked) (o ∷ os) b x (answer ∷ answers) mid z y thus rest = (
+      thus.0,
+      thus.1,
+      (
+        thus.2.0,
+        thus.2.1,
+        thus.2.2,
+        runs_then asked os (after thus.0 b) thus.1 answers mid z y thus.2.3 rest,
+      ),
+    )
+
+    ends_then : (x' : Option Setting) (asked : List Question) (os : List Outcome) (b : History) (x : X)
+        (answers : List Answer) (mid : History) (z : X) (w : List Told) → Ran asked os b x answers mid z
+        → ((w : List Told) → Continues s cs us mid w last x' (ran.told_by cs more w))
+        → Continues s (stamps_for asked ++ cs) (os ++ us) b w last x'
+        (ran.told_by (stamps_for asked ++ cs) (answers ++ more) w)
+    ends_then x' [] [] b x [] mid z w thus rest =
+        subst (λ h. Continues s cs us h w last x' (ran.told_by cs more w)) thus.0 (rest w)
+    ends_then x' [] [] b x (answer ∷ answers) mid z w thus rest = absurd thus
+    ends_then x' [] (o ∷ os) b x answers mid z w thus rest = absurd thus
+    ends_then x' (a ∷ asked) [] b x answers mid z w thus rest = absurd thus
+    ends_then x' (a ∷ asked) (o ∷ os) b x [] mid z w thus rest = absurd thus
+    ends_then x' (a ∷ asked) (o ∷ os) b x (answer ∷ answers) mid z w thus rest =
+        told_more s (stamp_for a) (stamps_for asked ++ cs) o (os ++ us) b last x' w thus.0 answer (answers ++ more)
+        thus.2.0 thus.2.2
+        (λ w. ends_then x' asked os (after thus.0 b) thus.1 answers mid z w thus.2.3 rest)
+
+    module _ (one : OneEffect) where
+      promises_then : (asked : List Question) (os : List Outcome) (b : History) (x : X) (answers : List Answer)
+          (mid : History) (z : X) → Ran asked os b x answers mid z
+          → ran.ArePromised s (stamps_for asked) os answers b → ran.ArePromised s cs us more mid
+          → ran.ArePromised s (stamps_for asked ++ cs) (os ++ us) (answers ++ more) b
+      promises_then [] [] b x [] mid z thus p rest = subst (λ h. ran.ArePromised s cs us more h) thus.0 rest
+      promises_then [] [] b x (answer ∷ answers) mid z thus p rest = absurd thus
+      promises_then [] (o ∷ os) b x answers mid z thus p rest = absurd thus
+      promises_then (a ∷ asked) [] b x answers mid z thus p rest = absurd thus
+      promises_then (a ∷ asked) (o ∷ os) b x [] mid z thus p rest = absurd thus
+      promises_then (a ∷ asked) (o ∷ os) b x (answer ∷ answers) mid z thus p rest =
+          let on = subst (λ e. Ran asked os (after e b) thus.1 answers mid z)
+          (one s (stamp_for a) o b thus.0 p.0 thus.2.0 p.1.0) thus.2.3 in (
+            p.0,
+            (
+              p.1.0,
+              p.1.1,
+              p.1.2,
+              promises_then asked os (after p.0 b) thus.1 answers mid z on p.1.3 rest,
+            ),
+          )
+
+      undisturbed_then : (account : List ℕ) (asked : List Question) (os : List Outcome) (b : History) (x : X)
+          (answers : List Answer) (mid : History) (z : X) → Ran asked os b x answers mid z
+          → ran.ArePromised s (stamps_for asked) os answers b
+          → (ran.AreCommandsOfOthers account cs
+          → StaysFor (viewer_in s.file account) (λ number. ran.OneConcerns number cs) mid last)
+          → ran.AreCommandsOfOthers account (stamps_for asked ++ cs)
+          → StaysFor (viewer_in s.file account) (λ number. ran.OneConcerns number (stamps_for asked ++ cs)) b last
+      undisturbed_then account [] [] b x [] mid z thus p rest others =
+          subst (λ h. StaysFor (viewer_in s.file account) (λ number. ran.OneConcerns number cs) h last) thus.0
+          (rest others)
+      undisturbed_then account [] [] b x (answer ∷ answers) mid z thus p rest others = absurd thus
+      undisturbed_then account [] (o ∷ os) b x answers mid z thus p rest others = absurd thus
+      undisturbed_then account (a ∷ asked) [] b x answers mid z thus p rest others = absurd thus
+      undisturbed_then account (a ∷ asked) (o ∷ os) b x [] mid z thus p rest others = absurd thus
+      undisturbed_then account (a ∷ asked) (o ∷ os) b x (answer ∷ answers) mid z thus p rest others =
+          let on = subst (λ e. Ran asked os (after e b) thus.1 answers mid z)
+          (one s (stamp_for a) o b thus.0 p.0 thus.2.0 p.1.0) thus.2.3 in
+          stays_on (viewer_in s.file account) (stamp_for a) (stamps_for asked ++ cs) b (after p.0 b) last
+          (p.1.2.undisturbed account others.0)
+          (undisturbed_then account asked os (after p.0 b) thus.1 answers mid z on p.1.3 rest others.1)
+
+met_stamps : (asked : List Question) (cs : List Command) → AreMetAnywhere cs → AreMetAnywhere (stamps_for asked ++ cs)
+met_stamps [] cs rest = rest
+met_stamps (a ∷ asked) cs rest = (λ b. tt, met_stamps asked cs rest)
+
 -- The laws of the machine that runs rest on.
 pub record RunLaws {X : Type 0} (signs : X → List ℕ → Result (List ℕ) SignerFault → X → Type 0) : Type 0 where
   pub met : (file : PolicyValue) (reading : ℤ) (before left : Option (List ℕ)) (c : Command)
       → IsRequest file reading before left (Ok (Step c)) → (b : History) → IsMet c b
+  pub one_effect : OneEffect
   pub properties : (b : History) (x : Option Setting) (w : List Told) → Journey b x w → HasProperties b w
   pub readers : (b : History) (x : Option Setting) (w : List Told) (j : Journey b x w) (number : ℕ) (reader : Reader)
       → is_reader number reader b ≡ is_reader number reader (rights_along j)
@@ -182,241 +319,290 @@ pub record RunLaws {X : Type 0} (signs : X → List ℕ → Result (List ℕ) Si
       → IsSound b → IsCommandOfOther account c → HasEffect s c o b e
       → StaysFor (viewer_in s.file account) (λ number. Concerns number c) b (after e b)
 
-module _ {C B X : Type 0} (reads : C → Result ℤ ClockFailed → C → Type 0) (g : Ghosts B)
-    (signs : X → List ℕ → Result (List ℕ) SignerFault → X → Type 0) (count : X → ℕ) where
-  -- what was told is met
-  module _ (law : (file : PolicyValue) (reading : ℤ) (before left : Option (List ℕ)) (c : Command)
-      → IsRequest file reading before left (Ok (Step c)) → (b : History) → IsMet c b) (later : List Told)
-      (rest : AreMetAnywhere (commands_of later)) where
-    met_for : (old new : State C B X) (reading : ℤ) (a : AnswerValue)
-        (is : IsAnswer g signs count reading (turn reads g signs count old new) a)
-        → AreMetAnywhere (commands_of (told_for reads g signs count is ++ later))
-    met_for old new reading a (refuses r read i is) = rest
-    met_for old new reading a (replies c read reply takes is) = (law _ _ _ _ c read, rest)
-    met_for old new reading a (turns_back c read takes behind is) = (law _ _ _ _ (Calibrate c) read, rest)
-    met_for old new reading a (looks r read l reports) = rest
-    met_for old new reading a (wants_early early i is) = rest
-    met_for old new reading a (wants_list account read rows some takes is) = (λ b. tt, rest)
+-- what others' commands leave for an account
+abbrev DisturbLittle : Type 0
+DisturbLittle =
+    (account : List ℕ) (s : Setting) (c : Command) (o : Outcome) (b : History) (e : Effect)
+    → IsSound b → IsCommandOfOther account c → HasEffect s c o b e
+    → StaysFor (viewer_in s.file account) (λ number. Concerns number c) b (after e b)
 
-    met_in : (old new : State C B X) (reading : ℤ) (outcome : Served)
-        (s : Serves g signs count untold reading (turn reads g signs count old new) outcome)
-        → AreMetAnywhere (commands_of (told_in reads g signs count reading (turn reads g signs count old new) outcome s
-        ++ later))
-    met_in old new reading served.Closed s = rest
-    met_in old new reading served.ReadFailed s = rest
-    met_in old new reading (served.Answered status) (inl w) = met_for old new reading w.answer w.is
-    met_in old new reading (served.Answered status) (inr e) = rest
-    met_in old new reading (served.WriteFailed status taken) (inl w) = met_for old new reading w.answer w.is
-    met_in old new reading (served.WriteFailed status taken) (inr e) = rest
+-- what a request asks for is met
+abbrev AsksForMet : Type 0
+AsksForMet =
+    (file : PolicyValue) (reading : ℤ) (before left : Option (List ℕ)) (c : Command)
+    → IsRequest file reading before left (Ok (Step c)) → (b : History) → IsMet c b
 
-    met_by : (old new : State C B X) (d : Does reads g signs count old new)
-        → AreMetAnywhere (commands_of (told_by reads g signs count d ++ later))
-    met_by old new (nothing same) = rest
-    met_by old new (one served) = met_in old new served.reading served.outcome served.serves
+module _ {B X : Type 0} (g : Ghosts B) (signs : X → List ℕ → Result (List ℕ) SignerFault → X → Type 0) (count : X → ℕ)
+  where
+    abbrev Done : List (Part (Unit {0})) → DeskValue B → X → DeskValue B → X → Type 0
+    Done = AreDone untold g signs count
 
-  met_along : ((file : PolicyValue) (reading : ℤ) (before left : Option (List ℕ)) (c : Command)
-      → IsRequest file reading before left (Ok (Step c)) → (b : History) → IsMet c b)
-      → (old : State C B X) (later : List (State C B X)) (new : State C B X)
-      (leads : Leads reads g signs count old later new)
-      → AreMetAnywhere (commands_of (told_along reads g signs count old later new leads))
-  met_along law old [] new same = tt
-  met_along law old (next ∷ rest) new leads =
-      met_by law (told_along reads g signs count next rest new leads.1) (met_along law next rest new leads.1) old next
-      leads.0.does
+    abbrev Along : (parts : List (Part (Unit {0}))) (old : DeskValue B) (x : X) (new : DeskValue B) (y : X)
+        → Done parts old x new y → List Stretch
+    Along = stretches_along g signs count
 
-  -- where what was told leads, from a history that the store stood for
-  record Reaches (s : Setting) (all : List Told) (b : History) (old : B) (x : X) (new : State C B X) : Type 0 where
-    outcomes : List Outcome
-    history : History
-    runs : Runs signs s (commands_of all) outcomes b x (answers_of all) history new.signer
-    stands : Stands g history new.desk.store
-    left : (left : g.Left) → g.leaves new.desk.store left
-        → ran.MayBeLeftBy g s (commands_of all) outcomes b old history left
-    ends : (w : List Told) → Continues s (commands_of all) outcomes b w history (Some new.desk.setting)
-        (ran.told_by (commands_of all) (answers_of all) w)
-    promises : ran.ArePromised s (commands_of all) outcomes (answers_of all) b
-    undisturbed : (account : List ℕ) → ran.AreCommandsOfOthers account (commands_of all)
-        → StaysFor (viewer_in s.file account) (λ number. ran.OneConcerns number (commands_of all)) b history
+    -- what was told is met
+    module _ (law : AsksForMet) (cs : List Command) (rest : AreMetAnywhere cs) where
+      met_for : (reading : ℤ) (t : Turn (Unit {0}) B X) (a : AnswerValue) (is : IsAnswer g signs count reading t a)
+          → AreMetAnywhere (commands_in (in_turn (told_for g signs count is)) ++ cs)
+      met_for reading t a (refuses r read i is) = rest
+      met_for reading t a (replies c read reply takes is) = (law _ _ _ _ c read, rest)
+      met_for reading t a (turns_back c read takes behind is) = (law _ _ _ _ (Calibrate c) read, rest)
+      met_for reading t a (looks r read l reports) = rest
+      met_for reading t a (wants_early early i is) = rest
+      met_for reading t a (wants_list account read rows some takes is) = (λ b. tt, rest)
 
-  -- what follows from where a connection led
-  abbrev Follows : List Told → State C B X → State C B X → Type 0
-  Follows later next new = (b : History) → Stands g b next.desk.store → AreMetAnywhere (commands_of later)
-      → Reaches next.desk.setting later b next.desk.store next.signer new
+      met_in : (reading : ℤ) (t : Turn (Unit {0}) B X) (outcome : Served)
+          (s : Serves g signs count untold reading t outcome)
+          → AreMetAnywhere (commands_in (in_turn (told_in g signs count reading t outcome s)) ++ cs)
+      met_in reading t served.Closed s = rest
+      met_in reading t served.ReadFailed s = rest
+      met_in reading t (served.Answered status) (inl w) = met_for reading t w.answer w.is
+      met_in reading t (served.Answered status) (inr e) = rest
+      met_in reading t (served.WriteFailed status taken) (inl w) = met_for reading t w.answer w.is
+      met_in reading t (served.WriteFailed status taken) (inr e) = rest
 
-  module _ (disturb : (account : List ℕ) (s : Setting) (c : Command) (o : Outcome) (b : History) (e : Effect)
-      → IsSound b → IsCommandOfOther account c → HasEffect s c o b e
-      → StaysFor (viewer_in s.file account) (λ number. Concerns number c) b (after e b)) (old next new : State C B X)
-      (setting : next.desk.setting ≡ old.desk.setting) (honest : g.honest next.desk.store) (later : List Told)
-      (follows : Follows later next new) (b : History) (stood : Stands g b old.desk.store) where
-    stays : Stands g b next.desk.store → next.signer ≡ old.signer
-        → ((left : g.Left) → g.leaves next.desk.store left → g.leaves old.desk.store left)
-        → AreMetAnywhere (commands_of later) → Reaches old.desk.setting later b old.desk.store old.signer new
-    stays stands same before met =
-        let P : X → Type 0 = λ x. Reaches next.desk.setting later b next.desk.store x new in
-        let Q : Setting → Type 0 = λ s. Reaches s later b next.desk.store old.signer new in
-        let r = subst Q setting (subst P same (follows b stands met)) in
-        record {
-          outcomes = r.outcomes;
-          history = r.history;
-          runs = r.runs;
-          stands = r.stands;
-          left = λ left k. left_before g old.desk.setting (commands_of later) r.outcomes b r.history old.desk.store
-              next.desk.store left (before left) (r.left left k);
-          ends = r.ends;
-          promises = r.promises;
-          undisturbed = r.undisturbed;
-        }
+    met_along : AsksForMet → (parts : List (Part (Unit {0}))) (old : DeskValue B) (x : X) (new : DeskValue B) (y : X)
+        (done : Done parts old x new y) → AreMetAnywhere (commands_of (Along parts old x new y done))
+    met_along law [] old x new y done = tt
+    met_along law (alone a ∷ parts) old x new y done =
+        met_in law (commands_of (Along parts done.0 done.1 new y done.2.1))
+        (met_along law parts done.0 done.1 new y done.2.1) a.handed.reading (turn g signs count old x done.0 done.1)
+        a.outcome (done.2.0.serves None None tt (λ ended taken. tt))
+    met_along law (together members ∷ parts) old x new y done =
+        met_stamps (map (λ m. m.question) members) (commands_of (Along parts done.0 done.1 new y done.2.1))
+        (met_along law parts done.0 done.1 new y done.2.1)
 
-    idles : next.desk ≡ old.desk → next.signer ≡ old.signer → AreMetAnywhere (commands_of later)
-        → Reaches old.desk.setting later b old.desk.store old.signer new
-    idles desk same met =
-        stays (subst (λ d. Stands g b d.store) (sym desk) stood) same
-        (λ left k. subst (λ d. g.leaves d.store left) desk k) met
+    -- where what was told leads, from a history that the store stood for
+    record Reaches (s : Setting) (all : List Stretch) (b : History) (old : B) (x : X) (new : DeskValue B) (y : X) : Type 0
+      where
+        outcomes : List (List Outcome)
+        history : History
+        runs : Runs signs s (commands_of all) (all_outcomes outcomes) b x (answers_of all) history y
+        stands : Stands g history new.store
+        left : (left : g.Left) → g.leaves new.store left → MayBeLeftAlong g s all outcomes b old history left
+        ends : (w : List Told) → Continues s (commands_of all) (all_outcomes outcomes) b w history (Some new.setting)
+            (ran.told_by (commands_of all) (answers_of all) w)
+        promises : ran.ArePromised s (commands_of all) (all_outcomes outcomes) (answers_of all) b
+        undisturbed : (account : List ℕ) → ran.AreCommandsOfOthers account (commands_of all)
+            → StaysFor (viewer_in s.file account) (λ number. ran.OneConcerns number (commands_of all)) b history
 
-    steps : (c : Command) (reply : Answer)
-        → Steps g signs count old.desk next.desk old.signer next.signer c reply
-        → AreMetAnywhere (commands_of (told c reply ++ later))
-        → Reaches old.desk.setting (told c reply ++ later) b old.desk.store old.signer new
-    steps c reply takes met =
-        let h = one_step g signs count old.desk next.desk old.signer next.signer b reply honest stood c takes
-        (met.0 b) in
-        let s = old.desk.setting in
-        let after_it : next.desk.setting ≡ setting_after s c h.effect.says = h.setting ∙ ap (setting_after s c) h.says in
-        let Q : Setting → Type 0 = λ s. Reaches s later (after h.effect b) next.desk.store next.signer new in
-        let r = subst Q after_it (follows (after h.effect b) h.stands met.1) in
-        record {
-          outcomes = h.outcome ∷ r.outcomes;
-          history = r.history;
-          runs = (h.effect, next.signer, (h.has, h.moves, h.says, r.runs));
-          stands = r.stands;
-          left = λ left k. left_after g s c (commands_of later) h.outcome r.outcomes h.effect b r.history
-              old.desk.store next.desk.store left h.has (h.left left) (r.left left k);
-          ends = λ w. told_more s c (commands_of later) h.outcome r.outcomes b r.history (Some new.desk.setting) w
-              h.effect reply (answers_of later) h.has h.says r.ends;
-          promises = (h.effect, (h.has, h.says, h.promises, r.promises));
-          undisturbed = λ account others. stays_on (viewer_in s.file account) c (commands_of later) b
-              (after h.effect b) r.history (disturb account s c h.outcome b h.effect stood.sound others.0 h.has)
-              (r.undisturbed account others.1);
-        }
-
-    answers : (reading : ℤ) (a : AnswerValue)
-        (is : IsAnswer g signs count reading (turn reads g signs count old next) a)
-        → AreMetAnywhere (commands_of (told_for reads g signs count is ++ later))
-        → Reaches old.desk.setting (told_for reads g signs count is ++ later) b old.desk.store old.signer new
-    answers reading a (refuses r reads i is) met = idles i.desk i.signer met
-    answers reading a (replies c reads reply takes is) met = steps c reply takes met
-    answers reading a (turns_back c reads takes behind is) met = steps (Calibrate c) turned_back takes met
-    answers reading a (looks r reads l reports) met =
-        stays (l.store.stands b stood) l.signer (λ left k. l.store.leaves honest left k) met
-    answers reading a (wants_early early i is) met = idles i.desk i.signer met
-    answers reading a (wants_list account reads rows some takes is) met = steps (ListAll account) (Listed rows) takes met
-
-    serves : (reading : ℤ) (outcome : Served)
-        (s : Serves g signs count untold reading (turn reads g signs count old next) outcome)
-        → AreMetAnywhere (commands_of (told_in reads g signs count reading (turn reads g signs count old next) outcome s
-        ++ later))
-        → Reaches old.desk.setting
-        (told_in reads g signs count reading (turn reads g signs count old next) outcome s ++ later) b old.desk.store
-        old.signer new
-    serves reading served.Closed s met = idles s.2.idle.desk s.2.idle.signer met
-    serves reading served.ReadFailed s met = idles s.1.idle.desk s.1.idle.signer met
-    serves reading (served.Answered status) (inl w) met = answers reading w.answer w.is met
-    serves reading (served.Answered status) (inr e) met =
-        stays (e.look.store.stands b stood) e.look.signer (λ left k. e.look.store.leaves honest left k) met
-    serves reading (served.WriteFailed status taken) (inl w) met = answers reading w.answer w.is met
-    serves reading (served.WriteFailed status taken) (inr e) met =
-        stays (e.look.store.stands b stood) e.look.signer (λ left k. e.look.store.leaves honest left k) met
-
-    does : (d : Does reads g signs count old next)
-        → AreMetAnywhere (commands_of (told_by reads g signs count d ++ later))
-        → Reaches old.desk.setting (told_by reads g signs count d ++ later) b old.desk.store old.signer new
-    does (nothing same) met = idles (ap (λ s. s.desk) same) (ap (λ s. s.signer) same) met
-    does (one served) met = serves served.reading served.outcome served.serves met
-
-  run_along : ((account : List ℕ) (s : Setting) (c : Command) (o : Outcome) (b : History) (e : Effect)
-      → IsSound b → IsCommandOfOther account c → HasEffect s c o b e
-      → StaysFor (viewer_in s.file account) (λ number. Concerns number c) b (after e b))
-      → (old : State C B X) (later : List (State C B X)) (new : State C B X)
-      (leads : Leads reads g signs count old later new) → g.honest new.desk.store → (b : History)
-      → Stands g b old.desk.store → AreMetAnywhere (commands_of (told_along reads g signs count old later new leads))
-      → Reaches old.desk.setting (told_along reads g signs count old later new leads) b old.desk.store old.signer new
-  run_along disturb old [] new same honest b stood met = record {
-    outcomes = [];
-    history = b;
-    runs = (refl, ap (λ s. s.signer) same);
-    stands = subst (λ s. Stands g b s.desk.store) (sym same) stood;
-    left = λ left k. inl (refl, subst (λ s. g.leaves s.desk.store left) same k);
-    ends = λ w. (refl, ap (λ s. Some s.desk.setting) same, refl);
-    promises = tt;
-    undisturbed = λ account others. record {
-      own_stamps = refl;
-      own_deposits = refl;
-      seen = λ number free. refl;
-      calibration = refl;
-      holding = refl;
-      identity = refl;
-    };
-  }
-  run_along disturb old (next ∷ rest) new leads honest b stood met =
-      does disturb old next new leads.0.setting (leads_honest reads g signs count next rest new leads.1 honest)
-      (told_along reads g signs count next rest new leads.1)
-      (run_along disturb next rest new leads.1 honest) b stood leads.0.does met
-
-  module _ (laws : RunLaws signs) where
-    is_run : (n : ℕ) (old new : State C B X) (served : IsServedBy reads g signs count n old new)
-        → IsProper old.desk.setting → IsRunAlong reads g signs count served
-    is_run n old new served proper honest b stood =
-        let all = told_along reads g signs count old served.after new served.leads in
-        let met = met_along laws.met old served.after new served.leads in
-        let r = run_along laws.undisturbed old served.after new served.leads honest b stood met in
-        let s = old.desk.setting in
-        let cs = commands_of all in
-        record {
-          outcomes = r.outcomes;
-          run = record {
+    module _ (disturb : DisturbLittle) (old next : DeskValue B) (x z : X) (new : DeskValue B) (y : X)
+        (setting : next.setting ≡ old.setting) (honest : g.honest next.store) (later : List Stretch)
+        (follows : (b : History) → Stands g b next.store → AreMetAnywhere (commands_of later)
+        → Reaches next.setting later b next.store z new y) (b : History) (stood : Stands g b old.store) where
+      stays : Stands g b next.store → z ≡ x → ((left : g.Left) → g.leaves next.store left → g.leaves old.store left)
+          → AreMetAnywhere (commands_of later) → Reaches old.setting (in_turn [] ∷ later) b old.store x new y
+      stays stands same before met =
+          let P : X → Type 0 = λ u. Reaches next.setting later b next.store u new y in
+          let Q : Setting → Type 0 = λ s. Reaches s later b next.store x new y in
+          let r = subst Q setting (subst P same (follows b stands met)) in
+          record {
+            outcomes = [] ∷ r.outcomes;
             history = r.history;
             runs = r.runs;
             stands = r.stands;
-            left = r.left;
-            journeys = λ w journey os b' x' w' sees_to on.
-                let whole = continued s cs os b w b' x' w' sees_to journey on in
-                record {
-                  journey = whole;
-                  properties = laws.properties b' x' w' whole;
-                  readers = laws.readers b' x' w';
-                  given = laws.given b' x' w';
-                };
+            left = λ left k. left_before g old.setting later r.outcomes b r.history old.store next.store left
+                (before left) (r.left left k);
             ends = r.ends;
             promises = r.promises;
-            isolated = λ account own c sound agree.
-                laws.isolated account s cs r.outcomes b c old.signer (answers_of all) r.history new.signer proper own
-                stood.sound sound agree r.runs;
             undisturbed = r.undisturbed;
-          };
-          met = λ os. met_anywhere s cs os b met;
-        }
+          }
 
-    pub served_run : (n : ℕ) (old new : State C B X) → IsServedBy reads g signs count n old new
-        → IsProper old.desk.setting
-        → (served : IsServedBy reads g signs count n old new) × IsRunAlong reads g signs count served
-    served_run n old new served proper = (served, is_run n old new served proper)
+      idles : next ≡ old → z ≡ x → AreMetAnywhere (commands_of later)
+          → Reaches old.setting (in_turn [] ∷ later) b old.store x new y
+      idles desk same met =
+          stays (subst (λ d. Stands g b d.store) (sym desk) stood) same
+          (λ left k. subst (λ d. g.leaves d.store left) desk k) met
 
-    pub stopped_run : {A : Type 0} (n served : ℕ) (old last new : State C B X)
-        → IsServedBy reads g signs count served old last → IsProper old.desk.setting → served < n
-        → (fault : ClockFailed) → reads last.clock (Err fault) new.clock → new.desk ≡ last.desk
-        → new.signer ≡ last.signer → (result : Result A ClockFailed) → IsErr result
-        → ServesEach reads g signs count n old new result
-    stopped_run n served old last new before proper fewer fault failed desk signer (Err stopped) is = (
+      steps : (c : Command) (reply : Answer) → Steps g signs count old next x z c reply
+          → AreMetAnywhere (c ∷ commands_of later)
+          → Reaches old.setting (in_turn (told c reply) ∷ later) b old.store x new y
+      steps c reply takes met =
+          let h = one_step g signs count old next x z b reply honest stood c takes (met.0 b) in
+          let s = old.setting in
+          let t = setting_after s c h.effect.says in
+          let after_it : s ≡ t = sym setting ∙ (h.setting ∙ ap (setting_after s c) h.says) in
+          let Q : Setting → Type 0 = λ s. Reaches s later (after h.effect b) next.store z new y in
+          let r = subst Q setting (follows (after h.effect b) h.stands met.1) in
+          let cs = commands_of later in
+          let os = all_outcomes r.outcomes in
+          let says = answers_of later in
+          record {
+            outcomes = (h.outcome ∷ []) ∷ r.outcomes;
+            history = r.history;
+            runs = (
+              h.effect,
+              z,
+              (
+                h.has,
+                h.moves,
+                h.says,
+                subst (λ s. Runs signs s cs os (after h.effect b) z says r.history y) after_it r.runs,
+              ),
+            );
+            stands = r.stands;
+            left = λ left k. left_after g s c reply later h.outcome r.outcomes h.effect b r.history old.store next.store
+                left h.has (h.left left) (r.left left k);
+            ends = λ w. told_more s c cs h.outcome os b r.history (Some new.setting) w h.effect reply says h.has h.says
+                (λ w. subst (λ s. Continues s cs os (after h.effect b) w r.history (Some new.setting)
+                (ran.told_by cs says w)) after_it (r.ends w));
+            promises = (
+              h.effect,
+              (
+                h.has,
+                h.says,
+                h.promises,
+                subst (λ s. ran.ArePromised s cs os says (after h.effect b)) after_it r.promises,
+              ),
+            );
+            undisturbed = λ account others. stays_on (viewer_in s.file account) c cs b (after h.effect b) r.history
+                (disturb account s c h.outcome b h.effect stood.sound others.0 h.has) (r.undisturbed account others.1);
+          }
+
+      batches : OneEffect → (batch : Batch)
+          → RunsTogether g signs old.setting batch.asked batch.outcomes batch.reserving batch.sealing batch.answers b
+          old.store x next.store z
+          → AreMetAnywhere (commands_of later) → Reaches old.setting (at_once batch ∷ later) b old.store x new y
+      batches one batch t met =
+          let s = old.setting in
+          let Q : Setting → Type 0 = λ s. Reaches s later t.history next.store z new y in
+          let r = subst Q setting (follows t.history t.stands met) in
+          let cs = commands_of later in
+          let us = all_outcomes r.outcomes in
+          let more = answers_of later in
+          record {
+            outcomes = batch.outcomes ∷ r.outcomes;
+            history = r.history;
+            runs = runs_then signs s cs us more r.history batch.asked batch.outcomes b x batch.answers t.history z y t.runs
+                r.runs;
+            stands = r.stands;
+            left = λ left k. left_together g s batch later r.outcomes b t.history r.history old.store next.store left
+                (arrives signs s batch.asked batch.outcomes b x batch.answers t.history z t.runs) (t.left left)
+                (r.left left k);
+            ends = λ w. ends_then signs s cs us more r.history (Some new.setting) batch.asked batch.outcomes b x
+                batch.answers t.history z w t.runs r.ends;
+            promises = promises_then signs s cs us more r.history one batch.asked batch.outcomes b x batch.answers
+                t.history z t.runs t.promises r.promises;
+            undisturbed = λ account others. undisturbed_then signs s cs us more r.history one account batch.asked
+                batch.outcomes b x batch.answers t.history z t.runs t.promises (r.undisturbed account) others;
+          }
+
+      answers : (reading : ℤ) (a : AnswerValue) (is : IsAnswer g signs count reading (turn g signs count old x next z) a)
+          → AreMetAnywhere (commands_in (in_turn (told_for g signs count is)) ++ commands_of later)
+          → Reaches old.setting (in_turn (told_for g signs count is) ∷ later) b old.store x new y
+      answers reading a (refuses r reads i is) met = idles i.desk i.signer met
+      answers reading a (replies c reads reply takes is) met = steps c reply takes met
+      answers reading a (turns_back c reads takes behind is) met = steps (Calibrate c) turned_back takes met
+      answers reading a (looks r reads l reports) met =
+          stays (l.store.stands b stood) l.signer (λ left k. l.store.leaves honest left k) met
+      answers reading a (wants_early early i is) met = idles i.desk i.signer met
+      answers reading a (wants_list account reads rows some takes is) met = steps (ListAll account) (Listed rows) takes met
+
+      serves : (reading : ℤ) (outcome : Served)
+          (s : Serves g signs count untold reading (turn g signs count old x next z) outcome)
+          → AreMetAnywhere (commands_in (in_turn (told_in g signs count reading (turn g signs count old x next z) outcome
+          s)) ++ commands_of later)
+          → Reaches old.setting
+          (in_turn (told_in g signs count reading (turn g signs count old x next z) outcome s) ∷ later) b old.store x new y
+      serves reading served.Closed s met = idles s.2.idle.desk s.2.idle.signer met
+      serves reading served.ReadFailed s met = idles s.1.idle.desk s.1.idle.signer met
+      serves reading (served.Answered status) (inl w) met = answers reading w.answer w.is met
+      serves reading (served.Answered status) (inr e) met =
+          stays (e.look.store.stands b stood) e.look.signer (λ left k. e.look.store.leaves honest left k) met
+      serves reading (served.WriteFailed status taken) (inl w) met = answers reading w.answer w.is met
+      serves reading (served.WriteFailed status taken) (inr e) met =
+          stays (e.look.store.stands b stood) e.look.signer (λ left k. e.look.store.leaves honest left k) met
+
+    -- the commands behind stamps are met where all are
+    met_behind : (asked : List Question) (cs : List Command) → AreMetAnywhere (stamps_for asked ++ cs) → AreMetAnywhere cs
+    met_behind [] cs met = met
+    met_behind (a ∷ asked) cs met = met_behind asked cs met.1
+
+    run_along : DisturbLittle → OneEffect → (parts : List (Part (Unit {0}))) (old : DeskValue B) (x : X)
+        (new : DeskValue B) (y : X) (done : Done parts old x new y) → g.honest new.store → (b : History)
+        → Stands g b old.store → AreMetAnywhere (commands_of (Along parts old x new y done))
+        → Reaches old.setting (Along parts old x new y done) b old.store x new y
+    run_along disturb one [] old x new y done honest b stood met = record {
+      outcomes = [];
+      history = b;
+      runs = (refl, done.1);
+      stands = subst (λ d. Stands g b d.store) (sym done.0) stood;
+      left = λ left k. inl (refl, subst (λ d. g.leaves d.store left) done.0 k);
+      ends = λ w. (refl, ap (λ d. Some d.setting) done.0, refl);
+      promises = tt;
+      undisturbed = λ account others. record {
+        own_stamps = refl;
+        own_deposits = refl;
+        seen = λ number free. refl;
+        calibration = refl;
+        holding = refl;
+        identity = refl;
+      };
+    }
+    run_along disturb one (alone a ∷ parts) old x new y done honest b stood met =
+        serves disturb old done.0 x done.1 new y done.2.0.setting
+        (done_honest untold g signs count parts done.0 done.1 new y done.2.1 honest)
+        (Along parts done.0 done.1 new y done.2.1)
+        (run_along disturb one parts done.0 done.1 new y done.2.1 honest) b stood a.handed.reading a.outcome
+        (done.2.0.serves None None tt (λ ended taken. tt)) met
+    run_along disturb one (together members ∷ parts) old x new y done honest b stood met =
+        let later = Along parts done.0 done.1 new y done.2.1 in
+        let before = done_honest untold g signs count parts done.0 done.1 new y done.2.1 honest in
+        let t = done.2.0.answered in
+        batches disturb old done.0 x done.1 new y done.2.0.setting before later
+        (run_along disturb one parts done.0 done.1 new y done.2.1 honest) b stood one (record {
+          asked = map (λ m. m.question) members;
+          answers = map (λ m. m.reply) members;
+          outcomes = t.outcomes;
+          reserving = t.reserving;
+          sealing = t.sealing;
+        }) (t.run before b stood) (met_behind (map (λ m. m.question) members) (commands_of later) met)
+
+module _ {C B X : Type 0} (reads : C → Result ℤ ClockFailed → C → Type 0) (g : Ghosts B)
+    (signs : X → List ℕ → Result (List ℕ) SignerFault → X → Type 0) (count : X → ℕ) (laws : RunLaws signs) where
+  is_run : (n : ℕ) (old new : State C B X) (served : IsServedBy reads g signs count n old new)
+      → IsProper old.desk.setting → IsRunAlong reads g signs count served
+  is_run n old new served proper honest b stood =
+      let all = stretches_along g signs count served.parts old.desk old.signer new.desk new.signer served.done in
+      let met = met_along g signs count laws.met served.parts old.desk old.signer new.desk new.signer served.done in
+      let r = run_along g signs count laws.undisturbed laws.one_effect served.parts old.desk old.signer new.desk
+      new.signer served.done honest b stood met in
+      let s = old.desk.setting in
+      let cs = commands_of all in
       record {
-        served = served;
-        fewer = fewer;
-        last = last;
-        before = before;
-        failed = (fault, failed);
-        desk = desk;
-        signer = signer;
-      },
-      is_run served old last before proper,
-    )
-    stopped_run n served old last new before proper fewer fault failed desk signer (Ok done) is =
-        absurd (false≢true is)
+        outcomes = r.outcomes;
+        run = record {
+          history = r.history;
+          runs = r.runs;
+          stands = r.stands;
+          left = r.left;
+          journeys = λ w journey os b' x' w' sees_to on.
+              let whole = continued s cs os b w b' x' w' sees_to journey on in
+              record {
+                journey = whole;
+                properties = laws.properties b' x' w' whole;
+                readers = laws.readers b' x' w';
+                given = laws.given b' x' w';
+              };
+          ends = r.ends;
+          promises = r.promises;
+          isolated = λ account own c sound agree.
+              laws.isolated account s cs (all_outcomes r.outcomes) b c old.signer (answers_of all) r.history new.signer
+              proper own stood.sound sound agree r.runs;
+          undisturbed = r.undisturbed;
+        };
+        met = λ os. met_anywhere s cs os b met;
+      }
+
+  pub served_run : (n : ℕ) (old new : State C B X) → IsServedBy reads g signs count n old new
+      → IsProper old.desk.setting
+      → (served : IsServedBy reads g signs count n old new) × IsRunAlong reads g signs count served
+  served_run n old new served proper = (served, is_run n old new served proper)
+
+  pub stopped_run : {A : Type 0} (n : ℕ) (old new : State C B X)
+      → StopsByClock reads g signs count n old new → IsProper old.desk.setting
+      → (result : Result A ClockFailed) → IsErr result → ServesEach reads g signs count n old new result
+  stopped_run n old new stops proper (Err stopped) is =
+      (stops, is_run stops.served old stops.last stops.before proper)
+  stopped_run n old new stops proper (Ok done) is = absurd (false≢true is)

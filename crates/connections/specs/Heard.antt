@@ -1,14 +1,12 @@
 -- Connections one after the other, as what they are heard on tells of them: each one that is handed out is served by the
 -- octets that came of it, and its answer goes to it.
-use Rattle.std.specs.Prelude.{◌≡◌, ℕ, ◌<◌, ℤ, true, List, [], ◌∷◌, length, take, Option, Result, Ok, Err}
-use Rattle.std.specs.Io.KnownBytes.{Consumes, IsAtEnd}
+use Rattle.std.specs.Prelude.{◌≡◌, ◌⊎◌, ℕ, ◌+◌, ◌<◌, ℤ, List, [], ◌∷◌, length, Option, Result, Ok, Err}
 use Rattle.book.specs.declared.standing.Standing.{Ghosts}
 use Rattle.cms.specs.declared.signer.SignerFault.{SignerFault}
 use Rattle.desk.specs.CallContract.{DeskValue}
 use Rattle.service.specs.Received.{ReceivedValue}
-use Rattle.service.specs.Served.{Serves}
-use Rattle.service.specs.declared.served.Served.{Served}
-use Rattle.connections.specs.Turns.{State}
+use Rattle.connections.specs.Parts.{Answered, HandedValue, Part, answered_along, handed_along, readings, AreDone}
+use Rattle.connections.specs.Turns.{State, AreGiven}
 use Rattle.connections.specs.declared.clock.ClockFailed.{ClockFailed}
 
 -- what connections are heard on, and the clock, the desk and the signer
@@ -22,73 +20,101 @@ hall hearing clock desk signer = record {
   others = record { clock = clock; desk = desk; signer = signer };
 }
 
-module _ {L S C B X : Type 0} (hands : L → ReceivedValue → S → L → Type 0) (fails : L → L → Type 0)
-    (takes_back : L → S → L → Type 0) (contents : S → Option (List ℕ)) (reads : C → Result ℤ ClockFailed → C → Type 0)
-    (g : Ghosts B) (signs : X → List ℕ → Result (List ℕ) SignerFault → X → Type 0) (count : X → ℕ) where
-  -- A connection is handed out, answered at a reading that the clock gave for it, and taken back. It is served as by
-  -- `serve_one` from a reader of just the octets that came of it; of these, those of its request are taken. What is
-  -- written goes to it.
-  pub record IsAnswered (old new : Hall L C B X) : Type 0 where
-    pub received : ReceivedValue
-    pub stream : S
+-- these were handed out, one after the other
+abbrev pub AreHanded : {L S : Type 0} → (L → ReceivedValue → S → L → Type 0) → L → List (HandedValue S) → L → Type 0
+AreHanded hands old [] new = new ≡ old
+AreHanded {L} hands old (one ∷ rest) new =
+    (next : L) × (hands old one.received one.stream next × AreHanded hands next rest new)
+
+-- these were taken back, one after the other
+abbrev pub AreTakenBack : {L S : Type 0} → (L → S → L → Type 0) → L → List (Answered S) → L → Type 0
+AreTakenBack takes_back old [] new = new ≡ old
+AreTakenBack {L} takes_back old (one ∷ rest) new =
+    (next : L) × (takes_back old one.stream_after next × AreTakenBack takes_back next rest new)
+
+-- how many all of them are
+abbrev pub counted_along : {A : Type 0} → List (ℕ × A) → ℕ
+counted_along [] = 0
+counted_along (next ∷ rest) = next.0 + counted_along rest
+
+module _ {L S C : Type 0} (hands : L → ReceivedValue → S → L → Type 0)
+    (reads : C → Result ℤ ClockFailed → C → Type 0) where
+  -- The clock was asked for a connection that was handed out, and failed, behind fewer others.
+  pub record IsCutShort (connections : ℕ) (old : L) (clock : C) (new : L) (clock' : C) : Type 0 where
+    pub gathered : List (HandedValue S)
+    pub fewer : length gathered < connections
     pub between : L
-    pub handed : hands old.hearing received stream between
-    pub reading : ℤ
-    pub given : reads old.others.clock (Ok reading) new.others.clock
-    pub stream_after : S
-    pub outcome : Served
-    pub serves : (before after : Option (List ℕ)) → Consumes before after (take received.taken received.octets)
-        → (received.is_ended ≡ true → received.taken ≡ length received.octets → IsAtEnd after)
-        → Serves g signs count contents reading (record {
-          input = before;
-          input_after = after;
-          writer = stream;
-          writer_after = stream_after;
-          desk = old.others.desk;
-          desk_after = new.others.desk;
-          signer = old.others.signer;
-          signer_after = new.others.signer;
-        }) outcome
-    pub back : takes_back between stream_after new.hearing
-
-  -- what comes of one connection
-  pub data Comes (old new : Hall L C B X) : Type 0 where
-    -- it fails, or is given up: nothing is done, and the clock isn't asked
-    failed : fails old.hearing new.hearing → new.others ≡ old.others → Comes old new
-    -- it is answered
-    answered : IsAnswered old new → Comes old new
-
-  -- One connection.
-  pub record IsHeard (old new : Hall L C B X) : Type 0 where
-    pub setting : new.others.desk.setting ≡ old.others.desk.setting
-    pub honest : g.honest new.others.desk.store → g.honest old.others.desk.store
-    pub comes : Comes old new
-
-  -- Each connection finds what the one before it left: all after each of them, in their order.
-  abbrev pub Follow : Hall L C B X → List (Hall L C B X) → Hall L C B X → Type 0
-  Follow old [] new = new ≡ old
-  Follow old (next ∷ rest) new = IsHeard old next × Follow next rest new
-
-  -- So many connections lead from the one to the other.
-  pub record AreHeard (connections : ℕ) (old new : Hall L C B X) : Type 0 where
-    pub after : List (Hall L C B X)
-    pub counted : length after ≡ connections
-    pub follow : Follow old after new
-
-  -- The clock was asked for a connection that was handed out, and failed: it is dropped, and no more is done.
-  pub record IsDropped (old new : Hall L C B X) : Type 0 where
+    pub handed : AreHanded hands old gathered between
+    pub asked : C
+    pub given : AreGiven reads clock (readings gathered) asked
     pub received : ReceivedValue
     pub stream : S
-    pub handed : hands old.hearing received stream new.hearing
+    pub last : hands between received stream new
     pub fault : ClockFailed
-    pub refused : reads old.others.clock (Err fault) new.others.clock
+    pub refused : reads asked (Err fault) clock'
+
+module _ {L S C : Type 0} (hands : L → ReceivedValue → S → L → Type 0) (stays : L → L → Type 0)
+    (reads : C → Result ℤ ClockFailed → C → Type 0) where
+  -- These were handed out, each at a reading that the clock gave for it; then there may have been none that was whole.
+  pub record AreGathered (ones : List (HandedValue S)) (old : L) (clock : C) (new : L) (clock' : C) : Type 0 where
+    pub last : L
+    pub handed : AreHanded hands old ones last
+    pub stayed : (new ≡ last) ⊎ stays last new
+    pub given : AreGiven reads clock (readings ones) clock'
+
+module _ {L S C B X : Type 0} (takes_back : L → S → L → Type 0) (contents : S → Option (List ℕ)) (g : Ghosts B)
+    (signs : X → List ℕ → Result (List ℕ) SignerFault → X → Type 0) (count : X → ℕ) where
+  -- These are answered in their order, and taken back.
+  pub record AreAnswered (ones : List (HandedValue S)) (old new : Hall L C B X) : Type 0 where
+    pub parts : List (Part S)
+    pub are : handed_along parts ≡ ones
+    pub done : AreDone contents g signs count parts old.others.desk old.others.signer new.others.desk new.others.signer
+    pub back : AreTakenBack takes_back old.hearing (answered_along parts) new.hearing
+
+module _ {L S C B X : Type 0} (hands : L → ReceivedValue → S → L → Type 0)
+    (reads : C → Result ℤ ClockFailed → C → Type 0) where
+  -- The clock was asked for a connection that was handed out, and failed: it is dropped, with those that were gathered
+  -- before it, and nothing is done for them.
+  pub record IsDropped (connections : ℕ) (old new : Hall L C B X) : Type 0 where
+    pub cut : IsCutShort hands reads connections old.hearing old.others.clock new.hearing new.others.clock
     pub desk : new.others.desk ≡ old.others.desk
     pub signer : new.others.signer ≡ old.others.signer
 
-  -- Fewer connections were heard, and for the next one the clock failed.
+module _ {L S C B X : Type 0} (hands : L → ReceivedValue → S → L → Type 0) (fails stays : L → L → Type 0)
+    (takes_back : L → S → L → Type 0) (contents : S → Option (List ℕ)) (reads : C → Result ℤ ClockFailed → C → Type 0)
+    (g : Ghosts B) (signs : X → List ℕ → Result (List ℕ) SignerFault → X → Type 0) (count : X → ℕ) where
+  -- So many are handed out, each at a reading that the clock gave for it, and then all are answered and taken back.
+  pub record IsServed (connections : ℕ) (old new : Hall L C B X) : Type 0 where
+    pub handed : List (HandedValue S)
+    pub counted : length handed ≡ connections
+    pub between : L
+    pub gathered : AreGathered hands stays reads handed old.hearing old.others.clock between new.others.clock
+    pub answered : AreAnswered takes_back contents g signs count handed
+        (hall between new.others.clock old.others.desk old.others.signer) new
+
+  -- what comes of one connection, or of several that were gathered
+  pub data IsHeard (connections : ℕ) (old new : Hall L C B X) : Type 0 where
+    -- one fails, or is given up: nothing is done, and the clock isn't asked
+    failed : connections ≡ 1 → fails old.hearing new.hearing → new.others ≡ old.others → IsHeard connections old new
+    -- they are answered
+    answered : IsServed connections old new → IsHeard connections old new
+
+  -- Each turn finds what the one before it left: how many connections each is, and all after it, in their order.
+  abbrev pub Follow : Hall L C B X → List (ℕ × Hall L C B X) → Hall L C B X → Type 0
+  Follow old [] new = new ≡ old
+  Follow old (next ∷ rest) new = IsHeard next.0 old next.1 × Follow next.1 rest new
+
+  -- So many connections lead from the one to the other.
+  pub record AreHeard (connections : ℕ) (old new : Hall L C B X) : Type 0 where
+    pub after : List (ℕ × Hall L C B X)
+    pub counted : counted_along after ≡ connections
+    pub follow : Follow old after new
+
+  -- Fewer connections were heard, and for one of the next the clock failed.
   pub record StopsHearing (connections : ℕ) (old new : Hall L C B X) : Type 0 where
     pub heard : ℕ
-    pub fewer : heard < connections
+    pub left : ℕ
+    pub counted : heard + left ≡ connections
     pub last : Hall L C B X
     pub before : AreHeard heard old last
-    pub dropped : IsDropped last new
+    pub dropped : IsDropped hands reads left last new

@@ -1,11 +1,10 @@
 -- Connections one after the other. Streams tell no octets, so what came in and what went out has no name here: there is
 -- a request, and its answer.
-use Rattle.std.specs.Prelude.{◌≡◌, ℕ, ◌<◌, ℤ, List, [], ◌∷◌, length, Option, None, Result, Ok, Err}
+use Rattle.std.specs.Prelude.{◌≡◌, ℕ, ◌+◌, ◌<◌, ℤ, List, [], ◌∷◌, length, Option, None, Result, Ok, Err}
 use Rattle.book.specs.declared.standing.Standing.{Ghosts}
 use Rattle.cms.specs.declared.signer.SignerFault.{SignerFault}
 use Rattle.desk.specs.CallContract.{DeskValue}
-use Rattle.service.specs.Served.{Serves}
-use Rattle.service.specs.declared.served.Served.{Served}
+use Rattle.connections.specs.Parts.{Part, handed_along, readings, AreDone}
 use Rattle.connections.specs.declared.clock.ClockFailed.{ClockFailed}
 
 -- the clock, the desk and the signer
@@ -18,54 +17,34 @@ pub record State (C B X : Type 0) : Type 0 where
 abbrev pub untold : Unit {0} → Option (List ℕ)
 untold stream = None
 
+-- the clock gave these readings, one after the other
+abbrev pub AreGiven : {C : Type 0} → (C → Result ℤ ClockFailed → C → Type 0) → C → List ℤ → C → Type 0
+AreGiven reads old [] new = new ≡ old
+AreGiven {C} reads old (reading ∷ rest) new =
+    (next : C) × (reads old (Ok reading) next × AreGiven reads next rest new)
+
 module _ {C B X : Type 0} (reads : C → Result ℤ ClockFailed → C → Type 0) (g : Ghosts B)
     (signs : X → List ℕ → Result (List ℕ) SignerFault → X → Type 0) (count : X → ℕ) where
-  -- One request is served, over a stream that tells no octets, at a reading that the clock gave for it.
-  pub record IsServed (old new : State C B X) : Type 0 where
-    pub reading : ℤ
-    pub given : reads old.clock (Ok reading) new.clock
-    pub outcome : Served
-    pub serves : Serves g signs count untold reading (record {
-      input = None;
-      input_after = None;
-      writer = tt;
-      writer_after = tt;
-      desk = old.desk;
-      desk_after = new.desk;
-      signer = old.signer;
-      signer_after = new.signer;
-    }) outcome
-
-  -- what a connection does
-  pub data Does (old new : State C B X) : Type 0 where
-    -- it fails, or nothing comes of it: nothing is done, and the clock isn't asked
-    nothing : new ≡ old → Does old new
-    -- its request is served
-    one : IsServed old new → Does old new
-
-  -- One connection.
-  pub record IsTurn (old new : State C B X) : Type 0 where
-    pub setting : new.desk.setting ≡ old.desk.setting
-    pub honest : g.honest new.desk.store → g.honest old.desk.store
-    pub does : Does old new
-
-  -- Each connection finds what the one before it left: the state after each of them, in their order.
-  abbrev pub Leads : State C B X → List (State C B X) → State C B X → Type 0
-  Leads old [] new = new ≡ old
-  Leads old (next ∷ rest) new = IsTurn old next × Leads next rest new
-
-  -- So many connections lead from the one state to the other.
+  -- So many connections lead from the one state to the other. Some failed, or nothing came of them: then nothing was
+  -- done, and the clock wasn't asked. The requests of the others were answered, in parts, over streams that tell no
+  -- octets, each at a reading that the clock gave for it.
   pub record IsServedBy (connections : ℕ) (old new : State C B X) : Type 0 where
-    pub after : List (State C B X)
-    pub counted : length after ≡ connections
-    pub leads : Leads old after new
+    pub parts : List (Part (Unit {0}))
+    pub failed : ℕ
+    pub counted : failed + length (handed_along parts) ≡ connections
+    pub given : AreGiven reads old.clock (readings (handed_along parts)) new.clock
+    pub done : AreDone untold g signs count parts old.desk old.signer new.desk new.signer
 
-  -- Fewer connections were served; for the next one the clock was asked, and failed, and no more was done.
+  -- Fewer connections were served; for the next one the clock was asked, or for it and some behind it, and failed for the
+  -- last of these, and no more was done.
   pub record StopsByClock (connections : ℕ) (old new : State C B X) : Type 0 where
     pub served : ℕ
-    pub fewer : served < connections
     pub last : State C B X
     pub before : IsServedBy served old last
-    pub failed : (fault : ClockFailed) × reads last.clock (Err fault) new.clock
+    pub readings : List ℤ
+    pub clock : C
+    pub given : AreGiven reads last.clock readings clock
+    pub failed : (fault : ClockFailed) × reads clock (Err fault) new.clock
+    pub fewer : served + length readings < connections
     pub desk : new.desk ≡ last.desk
     pub signer : new.signer ≡ last.signer

@@ -1,9 +1,15 @@
 //! Connections that are handed out one after the other, before the first of them is answered.
+ghost use Rattle.std.specs.Prelude.{◌≡◌, ◌+◌, ◌-◌, ◌<◌, ◌≤◌, [], length, map, Ok, Err, IfOk, IfSome, MatchOption, MatchResult};
+ghost use Rattle.std.specs.Prelude.{OnErr, vec_capacity, vec_len};
+ghost use Rattle.connections.specs.Gathering.{AreGatheredBehind, gathered_in, handed_view, last_in};
+ghost use Rattle.connections.specs.Heard.{AreGathered, IsCutShort};
+ghost use Rattle.connections.specs.Parts.{most_together};
 
 use crate::clock::{Clock, ClockFailed};
 use crate::hearing::Hearing;
 use policy::Policy;
 use service::Request;
+use std::alloc::Global;
 
 /// The most requests for tokens that are answered together.
 const MOST_TOGETHER: usize = 64;
@@ -30,7 +36,10 @@ pub(crate) struct Gathering<S> {
 
 impl<S> Gathering<S> {
     /// How many they are.
-    pub(crate) fn count(&self) -> usize {
+    pub(crate) fn count(&self) -> usize
+        requires few { length self.now.stamps.items ≤ most_together }
+        ensures { result ≡ length (gathered_in self.now) }
+    {
         match self.last {
             Some(_) => self.stamps.len() + 1,
             None => self.stamps.len(),
@@ -43,13 +52,39 @@ fn read_for<S: Drop, C: Clock>(
     request: Request,
     stream: S,
     clock: &mut C,
-) -> Result<Handed<S>, ClockFailed> {
+) -> Result<Handed<S>, ClockFailed>
+    ensures request { IfOk result (λ one. one.request ≡ request) }
+    ensures stream { IfOk result (λ one. one.stream ≡ stream) }
+    ensures given { MatchResult result (λ one. C.reads clock.old (Ok one.reading) clock.new)
+        (λ fault. C.reads clock.old (Err fault) clock.new) }
+{
     let reading = clock.reading()?;
     Ok(Handed {
         request,
         stream,
         reading,
     })
+}
+
+/// Room for it and those whose stamps can be answered with its own: for none where it asks for something else, or memory
+/// wants.
+fn room_beside<S: Drop>(
+    first: &Handed<S>,
+    most: usize,
+    policy: &Policy,
+    alloc: Global,
+) -> Vec<Handed<S>>
+    ensures empty { result.items ≡ [] }
+    ensures few { vec_capacity result ≤ most }
+    ensures together { vec_capacity result ≤ most_together }
+{
+    if first.request.stamp(policy, first.reading).is_none() {
+        return Vec::new(alloc);
+    }
+    match Vec::with_capacity(alloc, most.min(MOST_TOGETHER)) {
+        Ok(room) => room,
+        Err(_) => Vec::new(alloc),
+    }
 }
 
 /// Gathers those that are whole already, as long as they ask for stamps, and there is room; the one that asks for
@@ -59,8 +94,14 @@ fn gather_behind<L: Hearing, C: Clock>(
     clock: &mut C,
     policy: &Policy,
     stamps: &mut Vec<Handed<L::Stream>>,
-) -> Result<Option<Handed<L::Stream>>, ClockFailed> {
-    while stamps.len() < stamps.capacity() {
+) -> Result<Option<Handed<L::Stream>>, ClockFailed>
+    ensures gathered { IfOk result (λ last. AreGatheredBehind L.hands L.stays C.reads (map handed_view stamps.old.items)
+        (map handed_view stamps.new.items) (last_in last) hearing.old clock.old hearing.new clock.new) }
+    ensures few { IfOk result (λ last. length stamps.new.items + length (last_in last) ≤ vec_capacity stamps.old) }
+    ensures cut { OnErr result (IsCutShort L.hands C.reads (vec_capacity stamps.old - vec_len stamps.old) hearing.old
+        clock.old hearing.new clock.new) }
+{
+    'gathering: while stamps.len() < stamps.capacity() {
         let Some((request, stream)) = hearing.next_now() else {
             return Ok(None);
         };
@@ -80,25 +121,29 @@ pub(crate) fn gather<L: Hearing, C: Clock>(
     most: usize,
     clock: &mut C,
     policy: &Policy,
-) -> Result<Option<Gathering<L::Stream>>, ClockFailed> {
+) -> Result<Option<Gathering<L::Stream>>, ClockFailed>
+    requires some { 0 < most }
+    ensures gathered { IfOk result (λ gathering. MatchOption gathering
+        (L.fails hearing.old hearing.new × (clock.new ≡ clock.old))
+        (λ these. AreGathered L.hands L.stays C.reads (gathered_in these) hearing.old clock.old hearing.new clock.new)) }
+    ensures some { IfOk result (λ gathering. IfSome gathering (λ these. 0 < length (gathered_in these))) }
+    ensures few { IfOk result (λ gathering. IfSome gathering (λ these. length (gathered_in these) ≤ most)) }
+    ensures stamps { IfOk result (λ gathering. IfSome gathering
+        (λ these. length these.stamps.items ≤ most_together)) }
+    ensures cut { OnErr result (IsCutShort L.hands C.reads most hearing.old clock.old hearing.new clock.new) }
+{
     let Some((request, stream)) = hearing.next(most) else {
         return Ok(None);
     };
     let first = read_for(request, stream, clock)?;
-    let alloc = hearing.alloc();
-    let stamps = match first.request.stamp(policy, first.reading) {
-        Some(_) => Vec::with_capacity(alloc, most.min(MOST_TOGETHER)),
-        None => Ok(Vec::new(alloc)),
-    };
-    match stamps {
-        Ok(mut stamps) if stamps.capacity() > 0 => {
-            stamps.push_reserved(first);
-            let last = gather_behind(hearing, clock, policy, &mut stamps)?;
-            Ok(Some(Gathering { stamps, last }))
-        }
-        _ => Ok(Some(Gathering {
-            stamps: Vec::new(alloc),
+    let mut stamps = room_beside(&first, most, policy, hearing.alloc());
+    if stamps.capacity() == 0 {
+        return Ok(Some(Gathering {
+            stamps,
             last: Some(first),
-        })),
+        }));
     }
+    stamps.push_reserved(first);
+    let last = gather_behind(hearing, clock, policy, &mut stamps)?;
+    Ok(Some(Gathering { stamps, last }))
 }

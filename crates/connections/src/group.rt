@@ -1,4 +1,9 @@
 //! Connections that were handed out, and their answers.
+ghost use Rattle.std.specs.Prelude.{◌≡◌, ◌≤◌, [], ◌∷◌, length, map, MatchOption};
+ghost use Rattle.desk.specs.Answers.{reply_as};
+ghost use Rattle.connections.specs.Gathering.{AreReplied, AreWritten, gathered_in, handed_view};
+ghost use Rattle.connections.specs.Heard.{AreAnswered, hall};
+ghost use Rattle.connections.specs.Parts.{most_together};
 
 use crate::gathering::{Gathering, Handed};
 use crate::hearing::Hearing;
@@ -14,7 +19,10 @@ fn answer_one<L: Hearing, B: Book + Drop, G: Signer>(
     one: Handed<L::Stream>,
     desk: &mut Desk<'_, B>,
     signer: &mut G,
-) {
+)
+    ensures { AreAnswered L.takes_back L.Stream.contents B.Standing G.signs G.fault_count (handed_view one ∷ [])
+        (hall hearing.old (tt {0}) desk.old signer.old) (hall hearing.new (tt {0}) desk.new signer.new) }
+{
     let Handed {
         request,
         stream,
@@ -37,7 +45,10 @@ fn answer_in_turn<L: Hearing, B: Book + Drop, G: Signer>(
     ones: Vec<Handed<L::Stream>>,
     desk: &mut Desk<'_, B>,
     signer: &mut G,
-) {
+)
+    ensures { AreAnswered L.takes_back L.Stream.contents B.Standing G.signs G.fault_count (map handed_view ones.items)
+        (hall hearing.old (tt {0}) desk.old signer.old) (hall hearing.new (tt {0}) desk.new signer.new) }
+{
     for one in ones {
         answer_one(hearing, one, desk, signer);
     }
@@ -50,9 +61,15 @@ fn replies_to<S: Drop, B: Book + Drop, G: Signer>(
     alloc: Global,
     desk: &mut Desk<'_, B>,
     signer: &mut G,
-) -> Option<Vec<Reply>> {
+) -> Option<Vec<Reply>>
+    ensures { MatchOption result ((desk.new ≡ desk.old) × (signer.new ≡ signer.old))
+        (λ replies. AreReplied B.Standing G.signs G.fault_count (map handed_view stamps.now)
+        (map reply_as replies.items) desk.old signer.old desk.new signer.new) }
+{
     let policy = desk.policy();
-    let mut asked = Vec::with_capacity(alloc, stamps.len()).ok()?;
+    let Ok(mut asked) = Vec::with_capacity(alloc, stamps.len()) else {
+        return None;
+    };
     for one in stamps {
         asked.push_reserved(one.request.stamp(policy, one.reading)?);
     }
@@ -60,7 +77,11 @@ fn replies_to<S: Drop, B: Book + Drop, G: Signer>(
 }
 
 /// Writes to each its reply, and takes it back.
-fn write_each<L: Hearing>(hearing: &mut L, stamps: Vec<Handed<L::Stream>>, replies: &[Reply]) {
+fn write_each<L: Hearing>(hearing: &mut L, stamps: Vec<Handed<L::Stream>>, replies: &[Reply])
+    requires as_many { length replies.now ≡ length stamps.items }
+    ensures { AreWritten L.takes_back L.Stream.contents (map handed_view stamps.items) (map reply_as replies.now)
+        hearing.old hearing.new }
+{
     let mut rest = stamps.into_iter();
     for reply in replies {
         if let Some(one) = rest.next() {
@@ -82,7 +103,11 @@ fn answer_together<L: Hearing, B: Book + Drop, G: Signer>(
     stamps: Vec<Handed<L::Stream>>,
     desk: &mut Desk<'_, B>,
     signer: &mut G,
-) {
+)
+    requires few { length stamps.items ≤ most_together }
+    ensures { AreAnswered L.takes_back L.Stream.contents B.Standing G.signs G.fault_count (map handed_view stamps.items)
+        (hall hearing.old (tt {0}) desk.old signer.old) (hall hearing.new (tt {0}) desk.new signer.new) }
+{
     if stamps.len() > 1 {
         if let Some(replies) = replies_to(&stamps, hearing.alloc(), desk, signer) {
             write_each(hearing, stamps, &replies);
@@ -98,7 +123,11 @@ pub(crate) fn answer_gathered<L: Hearing, B: Book + Drop, G: Signer>(
     gathering: Gathering<L::Stream>,
     desk: &mut Desk<'_, B>,
     signer: &mut G,
-) {
+)
+    requires few { length gathering.stamps.items ≤ most_together }
+    ensures { AreAnswered L.takes_back L.Stream.contents B.Standing G.signs G.fault_count (gathered_in gathering)
+        (hall hearing.old (tt {0}) desk.old signer.old) (hall hearing.new (tt {0}) desk.new signer.new) }
+{
     let Gathering { stamps, last } = gathering;
     answer_together(hearing, stamps, desk, signer);
     if let Some(one) = last {

@@ -1,5 +1,5 @@
 //! Connections whose requests are whole, one after the other.
-ghost use Rattle.std.specs.Prelude.{◌≡◌, OnErr, OnOk};
+ghost use Rattle.std.specs.Prelude.{◌≡◌, ◌<◌, ◌≤◌, IfOk, OnErr, OnOk};
 ghost use Rattle.connections.specs.Heard.{AreHeard, IsDropped, IsHeard, StopsHearing, hall};
 ghost use Rattle.connections.specs.Run.{ServesEach};
 
@@ -11,20 +11,33 @@ use crate::laws::{desks_are_proper, requests_ask_for_what_is_met};
 use crate::listening::Listening;
 use book::Book;
 use cms::Signer;
-use desk::{Desk, accounts_are_isolated, accounts_disturb_little, journeys_keep_their_promises};
+use desk::{
+    Desk, accounts_are_isolated, accounts_disturb_little, commands_have_one_effect,
+    journeys_keep_their_promises,
+};
 
 /// The limit on a connection's time: so many seconds for its request, and so many for its answer.
 pub const CONNECTION_SECONDS: u64 = 20;
 
 /// Waits for the next connection whose request is whole, gathers those that can be answered with it, and answers them. At
-/// most so many are waited for. How many were answered or failed.
+/// most so many are waited for. How many they were; one where it failed.
 fn answer_next<L: Hearing, C: Clock, B: Book + Drop, G: Signer>(
     hearing: &mut L,
     most: usize,
     clock: &mut C,
     desk: &mut Desk<'_, B>,
     signer: &mut G,
-) -> Result<usize, ClockFailed> {
+) -> Result<usize, ClockFailed>
+    requires some { 0 < most }
+    ensures heard { IfOk result (λ count. IsHeard L.hands L.fails L.stays L.takes_back L.Stream.contents C.reads B.Standing
+        G.signs G.fault_count count
+        (hall hearing.old clock.old desk.old signer.old)
+        (hall hearing.new clock.new desk.new signer.new)) }
+    ensures some { IfOk result (λ count. 0 < count) }
+    ensures few { IfOk result (λ count. count ≤ most) }
+    ensures dropped { OnErr result (IsDropped L.hands C.reads most (hall hearing.old clock.old desk.old signer.old)
+        (hall hearing.new clock.new desk.new signer.new)) }
+{
     match gather(hearing, most, clock, desk.policy())? {
         Some(gathering) => {
             let count = gathering.count();
@@ -42,9 +55,18 @@ fn answer_all<L: Hearing, C: Clock, B: Book + Drop, G: Signer>(
     clock: &mut C,
     desk: &mut Desk<'_, B>,
     signer: &mut G,
-) -> Result<(), ClockFailed> {
+) -> Result<(), ClockFailed>
+    ensures heard { OnOk result (AreHeard L.hands L.fails L.stays L.takes_back L.Stream.contents C.reads B.Standing
+        G.signs G.fault_count count
+        (hall hearing.old clock.old desk.old signer.old)
+        (hall hearing.new clock.new desk.new signer.new)) }
+    ensures stopped { OnErr result (StopsHearing L.hands L.fails L.stays L.takes_back L.Stream.contents C.reads B.Standing
+        G.signs G.fault_count count
+        (hall hearing.old clock.old desk.old signer.old)
+        (hall hearing.new clock.new desk.new signer.new)) }
+{
     let mut left = count as usize;
-    while left > 0 {
+    'answering: while left > 0 {
         left -= answer_next(hearing, left, clock, desk, signer)?;
     }
     Ok(())
@@ -62,11 +84,13 @@ pub fn serve_each<L: Hearing, C: Clock, B: Book + Drop, G: Signer>(
     desk: &mut Desk<'_, B>,
     signer: &mut G,
 ) -> Result<(), ClockFailed>
-    ensures heard { OnOk result (AreHeard L.hands L.fails L.takes_back L.Stream.contents C.reads B.Standing G.signs
-        G.fault_count count (hall hearing.old clock.old desk.old signer.old)
+    ensures heard { OnOk result (AreHeard L.hands L.fails L.stays L.takes_back L.Stream.contents C.reads B.Standing
+        G.signs G.fault_count count
+        (hall hearing.old clock.old desk.old signer.old)
         (hall hearing.new clock.new desk.new signer.new)) }
-    ensures stopped { OnErr result (StopsHearing L.hands L.fails L.takes_back L.Stream.contents C.reads B.Standing
-        G.signs G.fault_count count (hall hearing.old clock.old desk.old signer.old)
+    ensures stopped { OnErr result (StopsHearing L.hands L.fails L.stays L.takes_back L.Stream.contents C.reads B.Standing
+        G.signs G.fault_count count
+        (hall hearing.old clock.old desk.old signer.old)
         (hall hearing.new clock.new desk.new signer.new)) }
     ensures setting { desk.new.setting ≡ desk.old.setting }
     ensures honest { B.honest desk.new.store → B.honest desk.old.store }
@@ -75,6 +99,7 @@ pub fn serve_each<L: Hearing, C: Clock, B: Book + Drop, G: Signer>(
         (record { clock = clock.new; desk = desk.new; signer = signer.new }) result }
 {
     requests_ask_for_what_is_met();
+    commands_have_one_effect();
     journeys_keep_their_promises();
     accounts_are_isolated::<G>();
     accounts_disturb_little();

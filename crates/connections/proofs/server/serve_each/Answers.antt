@@ -5,69 +5,70 @@ use Rattle.connections.proofs.server.serve_each.Goals as goal
 
 pub returns-clause-heard : goal.returns-clause-heard
 returns-clause-heard g c =
-    let told = told_from g.L.Hearing.hands g.L.Hearing.fails g.L.Hearing.takes_back g.L.Stream.Write.contents g.C.Clock.reads
+    let told = told_from g.L.Hearing.hands g.L.Hearing.fails g.L.Hearing.stays g.L.Hearing.takes_back g.L.Stream.Write.contents g.C.Clock.reads
     g.B.Standing g.G.Signer.signs g.G.Signer.fault_count
     c.args.count c.args.hearing.now c.args.clock.now c.args.desk.now c.desks_are_proper.new.desk c.args.signer.now
     c.desks_are_proper.new.signer
-    (hall c.answer_each.new.hearing c.answer_each.new.clock c.answer_each.new.desk c.answer_each.new.signer)
-    c.answer_each.result c.desks_are_proper.ensures.desk c.desks_are_proper.ensures.signer
-    (c.answer_each.ensures.heard, c.answer_each.ensures.stopped) in
+    (hall c.answer_all.new.hearing c.answer_all.new.clock c.answer_all.new.desk c.answer_all.new.signer)
+    c.answer_all.result c.desks_are_proper.ensures.desk c.desks_are_proper.ensures.signer
+    (c.answer_all.ensures.heard, c.answer_all.ensures.stopped) in
     told.0
 
 pub returns-clause-stopped : goal.returns-clause-stopped
 returns-clause-stopped g c =
-    let told = told_from g.L.Hearing.hands g.L.Hearing.fails g.L.Hearing.takes_back g.L.Stream.Write.contents g.C.Clock.reads
+    let told = told_from g.L.Hearing.hands g.L.Hearing.fails g.L.Hearing.stays g.L.Hearing.takes_back g.L.Stream.Write.contents g.C.Clock.reads
     g.B.Standing g.G.Signer.signs g.G.Signer.fault_count
     c.args.count c.args.hearing.now c.args.clock.now c.args.desk.now c.desks_are_proper.new.desk c.args.signer.now
     c.desks_are_proper.new.signer
-    (hall c.answer_each.new.hearing c.answer_each.new.clock c.answer_each.new.desk c.answer_each.new.signer)
-    c.answer_each.result c.desks_are_proper.ensures.desk c.desks_are_proper.ensures.signer
-    (c.answer_each.ensures.heard, c.answer_each.ensures.stopped) in
+    (hall c.answer_all.new.hearing c.answer_all.new.clock c.answer_all.new.desk c.answer_all.new.signer)
+    c.answer_all.result c.desks_are_proper.ensures.desk c.desks_are_proper.ensures.signer
+    (c.answer_all.ensures.heard, c.answer_all.ensures.stopped) in
     told.1
 
 pub returns-clause-setting : goal.returns-clause-setting
 returns-clause-setting g c =
-    let told = told_from g.L.Hearing.hands g.L.Hearing.fails g.L.Hearing.takes_back g.L.Stream.Write.contents g.C.Clock.reads
+    let told = told_from g.L.Hearing.hands g.L.Hearing.fails g.L.Hearing.stays g.L.Hearing.takes_back g.L.Stream.Write.contents g.C.Clock.reads
     g.B.Standing g.G.Signer.signs g.G.Signer.fault_count
     c.args.count c.args.hearing.now c.args.clock.now c.args.desk.now c.desks_are_proper.new.desk c.args.signer.now
     c.desks_are_proper.new.signer
-    (hall c.answer_each.new.hearing c.answer_each.new.clock c.answer_each.new.desk c.answer_each.new.signer)
-    c.answer_each.result c.desks_are_proper.ensures.desk c.desks_are_proper.ensures.signer
-    (c.answer_each.ensures.heard, c.answer_each.ensures.stopped) in
-    told_setting g.L.Hearing.hands g.L.Hearing.fails g.L.Hearing.takes_back g.L.Stream.Write.contents g.C.Clock.reads
+    (hall c.answer_all.new.hearing c.answer_all.new.clock c.answer_all.new.desk c.answer_all.new.signer)
+    c.answer_all.result c.desks_are_proper.ensures.desk c.desks_are_proper.ensures.signer
+    (c.answer_all.ensures.heard, c.answer_all.ensures.stopped) in
+    told_setting g.L.Hearing.hands g.L.Hearing.fails g.L.Hearing.stays g.L.Hearing.takes_back g.L.Stream.Write.contents g.C.Clock.reads
     g.B.Standing g.G.Signer.signs g.G.Signer.fault_count
-    c.args.count _ _ c.answer_each.result told
+    c.args.count _ _ c.answer_all.result told
 
 pub returns-clause-honest : goal.returns-clause-honest
 returns-clause-honest g c =
-    let told = told_from g.L.Hearing.hands g.L.Hearing.fails g.L.Hearing.takes_back g.L.Stream.Write.contents g.C.Clock.reads
+    let told = told_from g.L.Hearing.hands g.L.Hearing.fails g.L.Hearing.stays g.L.Hearing.takes_back g.L.Stream.Write.contents g.C.Clock.reads
     g.B.Standing g.G.Signer.signs g.G.Signer.fault_count
     c.args.count c.args.hearing.now c.args.clock.now c.args.desk.now c.desks_are_proper.new.desk c.args.signer.now
     c.desks_are_proper.new.signer
-    (hall c.answer_each.new.hearing c.answer_each.new.clock c.answer_each.new.desk c.answer_each.new.signer)
-    c.answer_each.result c.desks_are_proper.ensures.desk c.desks_are_proper.ensures.signer
-    (c.answer_each.ensures.heard, c.answer_each.ensures.stopped) in
-    told_honest g.L.Hearing.hands g.L.Hearing.fails g.L.Hearing.takes_back g.L.Stream.Write.contents g.C.Clock.reads
+    (hall c.answer_all.new.hearing c.answer_all.new.clock c.answer_all.new.desk c.answer_all.new.signer)
+    c.answer_all.result c.desks_are_proper.ensures.desk c.desks_are_proper.ensures.signer
+    (c.answer_all.ensures.heard, c.answer_all.ensures.stopped) in
+    told_honest g.L.Hearing.hands g.L.Hearing.fails g.L.Hearing.stays g.L.Hearing.takes_back g.L.Stream.Write.contents g.C.Clock.reads
     g.B.Standing g.G.Signer.signs g.G.Signer.fault_count
-    c.args.count _ _ c.answer_each.result told
+    c.args.count _ _ c.answer_all.result told
 
 pub returns-clause-served : goal.returns-clause-served
 returns-clause-served g c =
     let laws : RunLaws g.G.Signer.signs = record {
       met = c.requests_ask_for_what_is_met.ensures;
+      one_effect = c.commands_have_one_effect.ensures;
       properties = c.journeys_keep_their_promises.ensures.journey;
       readers = c.journeys_keep_their_promises.ensures.readers;
       given = c.journeys_keep_their_promises.ensures.given;
       isolated = c.accounts_are_isolated.ensures;
       undisturbed = c.accounts_disturb_little.ensures;
     } in
-    let told = told_from g.L.Hearing.hands g.L.Hearing.fails g.L.Hearing.takes_back g.L.Stream.Write.contents g.C.Clock.reads
+    let told = told_from g.L.Hearing.hands g.L.Hearing.fails g.L.Hearing.stays g.L.Hearing.takes_back g.L.Stream.Write.contents g.C.Clock.reads
     g.B.Standing g.G.Signer.signs g.G.Signer.fault_count
     c.args.count c.args.hearing.now c.args.clock.now c.args.desk.now c.desks_are_proper.new.desk c.args.signer.now
     c.desks_are_proper.new.signer
-    (hall c.answer_each.new.hearing c.answer_each.new.clock c.answer_each.new.desk c.answer_each.new.signer)
-    c.answer_each.result c.desks_are_proper.ensures.desk c.desks_are_proper.ensures.signer
-    (c.answer_each.ensures.heard, c.answer_each.ensures.stopped) in
-    told_run g.L.Hearing.hands g.L.Hearing.fails g.L.Hearing.takes_back g.L.Stream.Write.contents g.C.Clock.reads
+    (hall c.answer_all.new.hearing c.answer_all.new.clock c.answer_all.new.desk c.answer_all.new.signer)
+    c.answer_all.result c.desks_are_proper.ensures.desk c.desks_are_proper.ensures.signer
+    (c.answer_all.ensures.heard, c.answer_all.ensures.stopped) in
+    told_run g.L.Hearing.hands g.L.Hearing.fails g.L.Hearing.stays g.L.Hearing.takes_back g.L.Stream.Write.contents g.C.Clock.reads
     g.B.Standing g.G.Signer.signs g.G.Signer.fault_count
-    laws c.args.count _ _ c.answer_each.result c.desks_are_proper.ensures.proper told
+    laws c.args.count _ _ c.answer_all.result c.desks_are_proper.ensures.proper told

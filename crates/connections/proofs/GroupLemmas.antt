@@ -1,0 +1,234 @@
+-- Those that were handed out, answered: one behind the other, and together.
+use Rattle.std.proofs.Common.{◌≡◌, ◌∙◌, ℕ, ◌+◌, ◌<◌, ◌≤◌, List, [], ◌∷◌, ◌++◌, length, map, Option, Result, Ok, Err}
+use Rattle.std.proofs.Common.{arith, refl, sym, ap, subst, IfOk, OnErr, MatchOption}
+use Rattle.std.specs.Result.{result_ok}
+use Rattle.std.specs.List.{AllByRecursion}
+use Rattle.std.proofs.lemmas.List.{append-nil, append_assoc, length-append, length-map, map-append}
+use Rattle.policy.specs.Record.{PolicyValue}
+use Rattle.book.specs.declared.standing.Standing.{Ghosts}
+use Rattle.cms.specs.declared.signer.SignerFault.{SignerFault}
+use Rattle.desk.specs.Batches.{Question, stamp_for}
+use Rattle.desk.specs.CallContract.{DeskValue}
+use Rattle.desk.specs.Command.{Answer}
+use Rattle.desk.specs.Together.{AreRejectedUnasked, IsAnsweredTogether}
+use Rattle.service.specs.Answers.{answer_to}
+use Rattle.service.specs.Served.{Sends}
+use Rattle.service.specs.Stamps.{AsksStamp}
+use Rattle.connections.specs.Gathering.{AreAsked, AreReplied, AreSent, AreWritten}
+use Rattle.connections.specs.Heard.{Hall, AreAnswered, AreTakenBack, hall}
+use Rattle.connections.specs.Parts.{Answered, HandedValue, Member, alone, together, IsAlone, IsMember, most_together}
+use Rattle.connections.specs.Parts.{answered_along}
+use Rattle.connections.proofs.PartsLemmas.{answered_then, done_then, handed_in_turn, taken_then}
+
+-- as many replies as stamps
+pub as_many_judged : (file : PolicyValue) (asked : List Question) (answers : List Answer)
+    → AreRejectedUnasked file asked answers → length answers ≡ length asked
+as_many_judged file [] [] judged = refl
+as_many_judged file (a ∷ asked) (answer ∷ answers) judged =
+    omega (arith, as_many_judged file asked answers judged.1)
+as_many_judged file [] (answer ∷ answers) judged = absurd judged
+as_many_judged file (a ∷ asked) [] judged = absurd judged
+
+pub as_many_asked : {S : Type 0} (file : PolicyValue) (ones : List (HandedValue S)) (asked : List Question)
+    → AreAsked file ones asked → length asked ≡ length ones
+as_many_asked file [] [] each = refl
+as_many_asked file (one ∷ ones) (a ∷ asked) each = omega (arith, as_many_asked file ones asked each.1)
+as_many_asked file [] (a ∷ asked) each = absurd each
+as_many_asked file (one ∷ ones) [] each = absurd each
+
+pub as_many_sent : {S : Type 0} (contents : S → Option (List ℕ)) (written : List (Answered S)) (answers : List Answer)
+    → AreSent contents written answers → length written ≡ length answers
+as_many_sent contents [] [] sent = refl
+as_many_sent contents (a ∷ written) (answer ∷ answers) sent =
+    omega (arith, as_many_sent contents written answers sent.1)
+as_many_sent contents [] (answer ∷ answers) sent = absurd sent
+as_many_sent contents (a ∷ written) [] sent = absurd sent
+
+pub none_left : {A : Type 0} (xs : List A) → length xs ≡ 0 → xs ≡ []
+none_left [] none = refl
+none_left (x ∷ xs) none = absurd (omega (arith, none))
+
+-- one more that asks
+pub asked_more : {S : Type 0} (file : PolicyValue) (ones : List (HandedValue S)) (asked : List Question)
+    (one : HandedValue S) (question : Question) → AreAsked file ones asked
+    → AsksStamp file one.reading one.received question → AreAsked file (ones ++ (one ∷ [])) (asked ++ (question ∷ []))
+asked_more file [] [] one question each asks = (asks, tt)
+asked_more file (one ∷ ones) (a ∷ asked) last question each asks =
+    (each.0, asked_more file ones asked last question each.1 asks)
+asked_more file [] (a ∷ asked) one question each asks = absurd each
+asked_more file (one ∷ ones) [] last question each asks = absurd each
+
+sent_more : {S : Type 0} (contents : S → Option (List ℕ)) (written : List (Answered S)) (replies : List Answer)
+    (a : Answered S) (reply : Answer) → AreSent contents written replies
+    → ((asked : Question) → Sends contents a.handed.reading a.handed.stream a.stream_after
+    (answer_to (stamp_for asked) reply) a.outcome)
+    → AreSent contents (written ++ (a ∷ [])) (replies ++ (reply ∷ []))
+sent_more contents [] [] a reply sent sends = (sends, tt)
+sent_more contents (one ∷ written) (r ∷ replies) a reply sent sends =
+    (sent.0, sent_more contents written replies a reply sent.1 sends)
+sent_more contents [] (r ∷ replies) a reply sent sends = absurd sent
+sent_more contents (one ∷ written) [] a reply sent sends = absurd sent
+
+-- to these of all the replies are written, and the rest is left
+pub record Wrote {L S : Type 0} (takes_back : L → S → L → Type 0) (contents : S → Option (List ℕ))
+    (all rest : List (HandedValue S)) (replies : List Answer) (old new : L) : Type 0 where
+  pub written : List (Answered S)
+  pub are : all ≡ map (λ a. a.handed) written ++ rest
+  pub sent : AreSent contents written replies
+  pub back : AreTakenBack takes_back old written new
+
+module _ {L S : Type 0} (takes_back : L → S → L → Type 0) (contents : S → Option (List ℕ)) where
+  pub wrote_none : (all rest : List (HandedValue S)) (old : L) → all ≡ rest
+      → Wrote takes_back contents all rest [] old old
+  wrote_none all rest old is = record { written = []; are = is; sent = tt; back = refl }
+
+  pub wrote_more : (all rest : List (HandedValue S)) (replies : List Answer) (old mid : L)
+      → Wrote takes_back contents all rest replies old mid → (a : Answered S) (others : List (HandedValue S))
+      (reply : Answer) (new : L) → rest ≡ a.handed ∷ others
+      → ((asked : Question) → Sends contents a.handed.reading a.handed.stream a.stream_after
+      (answer_to (stamp_for asked) reply) a.outcome) → takes_back mid a.stream_after new
+      → Wrote takes_back contents all others (replies ++ (reply ∷ [])) old new
+  wrote_more all rest replies old mid wrote a others reply new is sends back =
+      let h = map (λ a. a.handed) wrote.written in
+      record {
+        written = wrote.written ++ (a ∷ []);
+        are = wrote.are
+            ∙ (ap (λ xs. h ++ xs) is
+            ∙ (sym (append_assoc h (a.handed ∷ []) others)
+            ∙ ap (λ xs. xs ++ others) (sym (map-append (λ a. a.handed) wrote.written (a ∷ [])))));
+        sent = sent_more contents wrote.written replies a reply wrote.sent sends;
+        back = taken_then takes_back old wrote.written mid (a ∷ []) new wrote.back (new, (back, refl));
+      }
+
+  -- as many as are left
+  pub left_to_write : (all rest : List (HandedValue S)) (replies : List Answer) (old new : L)
+      → Wrote takes_back contents all rest replies old new → length all ≡ length replies + length rest
+  left_to_write all rest replies old new wrote =
+      omega (
+        arith,
+        ap length wrote.are,
+        length-append (map (λ a. a.handed) wrote.written) rest,
+        length-map wrote.written (λ a. a.handed),
+        as_many_sent contents wrote.written replies wrote.sent,
+      )
+
+  pub wrote_all : (all rest : List (HandedValue S)) (replies : List Answer) (old new : L)
+      → length all ≡ length replies → Wrote takes_back contents all rest replies old new
+      → AreWritten takes_back contents all replies old new
+  wrote_all all [] replies old new as_many wrote = record {
+    written = wrote.written;
+    are = sym (wrote.are ∙ append-nil (map (λ a. a.handed) wrote.written));
+    sent = wrote.sent;
+    back = wrote.back;
+  }
+  wrote_all all (one ∷ rest) replies old new as_many wrote =
+      absurd (omega (arith, left_to_write all (one ∷ rest) replies old new wrote, as_many))
+
+-- what holds of what came of a call
+pub on_ok : {A E : Type 0} (r : Result A E) (o : Option A) (P : Type 0) (Q : A → Type 0) → o ≡ result_ok r → OnErr r P
+    → IfOk r Q → MatchOption o P Q
+on_ok (Ok a) o P Q is refused done = subst (λ o. MatchOption o P Q) (sym is) done
+on_ok (Err e) o P Q is refused done = subst (λ o. MatchOption o P Q) (sym is) refused
+
+pub if_ok : {A E : Type 0} (r : Result A E) (P Q : A → Type 0) → ((a : A) → P a → Q a) → IfOk r P → IfOk r Q
+if_ok (Ok a) P Q more is = more a is
+if_ok (Err e) P Q more is = is
+
+module _ {S B X : Type 0} (contents : S → Option (List ℕ)) (g : Ghosts B)
+    (signs : X → List ℕ → Result (List ℕ) SignerFault → X → Type 0) (count : X → ℕ) (file : PolicyValue) where
+  record Joined (written : List (Answered S)) (asked : List Question) (answers : List Answer) : Type 0 where
+    members : List (Member S)
+    are : map (λ m. m.answered) members ≡ written
+    questions : map (λ m. m.question) members ≡ asked
+    replies : map (λ m. m.reply) members ≡ answers
+    each : AllByRecursion (IsMember contents g signs count file) members
+
+  joined : (written : List (Answered S)) (asked : List Question) (answers : List Answer)
+      → AreAsked file (map (λ a. a.handed) written) asked → AreSent contents written answers
+      → Joined written asked answers
+  joined [] [] [] each sent = record { members = []; are = refl; questions = refl; replies = refl; each = tt }
+  joined (a ∷ written) (question ∷ asked) (reply ∷ answers) each sent =
+      let rest = joined written asked answers each.1 sent.1 in
+      record {
+        members = (record { answered = a; question = question; reply = reply }) ∷ rest.members;
+        are = ap (λ xs. a ∷ xs) rest.are;
+        questions = ap (λ xs. question ∷ xs) rest.questions;
+        replies = ap (λ xs. reply ∷ xs) rest.replies;
+        each = (record { asks = each.0; sent = sent.0 question }, rest.each);
+      }
+  joined [] [] (reply ∷ answers) each sent = absurd sent
+  joined [] (question ∷ asked) answers each sent = absurd each
+  joined (a ∷ written) [] answers each sent = absurd each
+  joined (a ∷ written) (question ∷ asked) [] each sent = absurd sent
+
+module _ {L S B X : Type 0} (takes_back : L → S → L → Type 0) (contents : S → Option (List ℕ)) (g : Ghosts B)
+    (signs : X → List ℕ → Result (List ℕ) SignerFault → X → Type 0) (count : X → ℕ) where
+  abbrev All : List (HandedValue S) → Hall L (Unit {0}) B X → Hall L (Unit {0}) B X → Type 0
+  All = AreAnswered takes_back contents g signs count
+
+  pub none_answered : (old : Hall L (Unit {0}) B X) → All [] old old
+  none_answered old = record { parts = []; are = refl; done = (refl, refl); back = refl }
+
+  pub one_answered : (a : Answered S) (old new : Hall L (Unit {0}) B X)
+      → IsAlone contents g signs count a old.others.desk old.others.signer new.others.desk new.others.signer
+      → takes_back old.hearing a.stream_after new.hearing → All (a.handed ∷ []) old new
+  one_answered a old new done back = record {
+    parts = alone a ∷ [];
+    are = refl;
+    done = (new.others.desk, new.others.signer, (done, (refl, refl)));
+    back = (new.hearing, (back, refl));
+  }
+
+  pub all_answered : (xs ys : List (HandedValue S)) (old mid new : Hall L (Unit {0}) B X) → All xs old mid
+      → All ys mid new → All (xs ++ ys) old new
+  all_answered xs ys old mid new first second = record {
+    parts = first.parts ++ second.parts;
+    are = handed_in_turn first.parts second.parts
+        ∙ (ap (λ zs. zs ++ map (λ a. a.handed) (answered_along second.parts)) first.are
+        ∙ ap (λ zs. xs ++ zs) second.are);
+    done = done_then contents g signs count first.parts old.others.desk old.others.signer mid.others.desk
+        mid.others.signer second.parts new.others.desk new.others.signer first.done second.done;
+    back = subst (λ zs. AreTakenBack takes_back old.hearing zs new.hearing)
+        (sym (answered_then first.parts second.parts))
+        (taken_then takes_back old.hearing (answered_along first.parts) mid.hearing (answered_along second.parts)
+        new.hearing first.back second.back);
+  }
+
+  pub together_answered : (ones : List (HandedValue S)) (answers : List Answer) (old new : L) (desk : DeskValue B)
+      (x : X) (desk' : DeskValue B) (y : X) → 1 < length ones → length ones ≤ most_together
+      → AreReplied g signs count ones answers desk x desk' y
+      → AreWritten takes_back contents ones answers old new
+      → All ones (hall old tt desk x) (hall new tt desk' y)
+  together_answered ones answers old new desk x desk' y several few replied wrote =
+      let file = desk.setting.file in
+      let j = joined contents g signs count file wrote.written replied.asked answers
+      (subst (λ xs. AreAsked file xs replied.asked) (sym wrote.are) replied.each) wrote.sent in
+      let are : map (λ a. a.handed) (map (λ m. m.answered) j.members) ≡ ones =
+      ap (map (λ a. a.handed)) j.are ∙ wrote.are in
+      let as_many = length-map (map (λ m. m.answered) j.members) (λ a. a.handed) in
+      let as_many_members = length-map j.members (λ m. m.answered) in
+      let lengths = ap length are in
+      record {
+        parts = together j.members ∷ [];
+        are = ap (map (λ a. a.handed)) (append-nil (map (λ m. m.answered) j.members)) ∙ are;
+        done = (
+          desk',
+          y,
+          (
+            record {
+              several = omega (arith, several, as_many, as_many_members, lengths);
+              few = omega (arith, few, as_many, as_many_members, lengths);
+              setting = replied.setting;
+              honest = replied.honest;
+              each = j.each;
+              answered = subst (λ asked. IsAnsweredTogether g signs count desk.setting asked
+                  (map (λ m. m.reply) j.members) desk.store x desk'.store y) (sym j.questions)
+                  (subst (λ says. IsAnsweredTogether g signs count desk.setting replied.asked says desk.store x desk'.store
+                  y) (sym j.replies) replied.answered);
+            },
+            (refl, refl),
+          ),
+        );
+        back = subst (λ zs. AreTakenBack takes_back old zs new)
+            (sym (append-nil (map (λ m. m.answered) j.members) ∙ j.are)) wrote.back;
+      }

@@ -1,0 +1,89 @@
+use Rattle.std.proofs.Common.{◌≡◌, ◌∙◌, ℤ, ◌+◌, [], ◌∷◌, ◌++◌, length, map, take, get_or, ap, arith, refl, rules, subst}
+use Rattle.std.proofs.Common.{sym, SFits, w64, to_z-of_z}
+use Rattle.std.proofs.lemmas.List.{length-map, length-take-le, map-append, take_all, take_more}
+use Rattle.std.specs.Vec.Iter.{into_iter_items}
+use Rattle.desk.specs.Answers.{reply_as}
+use Rattle.service.specs.Served.{Sends}
+use Rattle.service.specs.Views.{stamp_answer}
+use Rattle.connections.specs.Gathering.{handed_view}
+use Rattle.connections.proofs.GroupLemmas.{Wrote, left_to_write, wrote_none, wrote_more, wrote_all}
+use Rattle.connections.proofs.group.write_each.Goals.{in-Some, in_default}
+use Rattle.connections.proofs.group.write_each.Goals as goal
+
+pub loop-reply-init : goal.loop-reply-init
+loop-reply-init g c = record {
+  many = c.into_iter-rest.ensures.len ∙ (c.args.stamps.ok.0 ∙ ap length (sym c.into_iter-rest.ensures.rest));
+  wrote = wrote_none g.L.Hearing.takes_back g.L.Stream.Write.contents (map handed_view c.args.stamps.items)
+      (map handed_view (into_iter_items c.into_iter-rest.result)) c.args.hearing.now
+      (ap (map handed_view) (sym c.into_iter-rest.ensures.rest));
+}
+
+pub loop-reply-preserved : goal.loop-reply-preserved
+loop-reply-preserved g c =
+    let inv = c.loop-reply.invariant in
+    let i = c.loop-reply.reply-index in
+    let reply = c.reply-item.result in
+    let told = take i c.args.replies.now in
+    let all = map handed_view c.args.stamps.items in
+    let rest = map handed_view (into_iter_items c.loop-reply.rest) in
+    let replies : map reply_as (take (i + 1) c.args.replies.now) ≡ map reply_as told ++ (reply_as reply ∷ []) =
+    ap (map reply_as) (take_more c.args.replies.now i reply c.loop-reply-test.true)
+    ∙ (map-append reply_as told (get_or c.args.replies.now i reply ∷ [])
+    ∙ ap (λ v. map reply_as told ++ (reply_as v ∷ [])) (sym c.reply-item.is)) in
+    elim c.match-next.branch [
+      | in-Some w ↦
+          let one = w.in-Some.one in
+          let exchanged = w.write_stamped-exchanged in
+          let others = map handed_view (into_iter_items c.next.new.self) in
+          let fits : SFits w64 one.reading = search rules in
+          record {
+            many = omega (arith, inv.many, w.in-Some.ensures.cases.1, ap length w.in-Some.ensures.cases.0);
+            wrote = subst (λ h. Wrote g.L.Hearing.takes_back g.L.Stream.Write.contents all others
+                (map reply_as (take (i + 1) c.args.replies.now)) c.args.hearing.now h) (sym w.hearing-is)
+                (subst (λ rs. Wrote g.L.Hearing.takes_back g.L.Stream.Write.contents all others rs c.args.hearing.now
+                w.take_back.new.self) (sym replies)
+                (wrote_more g.L.Hearing.takes_back g.L.Stream.Write.contents all rest (map reply_as told)
+                c.args.hearing.now c.loop-reply.hearing inv.wrote
+                (record {
+                  handed = handed_view one;
+                  stream_after = exchanged.new.writer;
+                  outcome = exchanged.result.served;
+                }) others (reply_as reply) w.take_back.new.self
+                (ap (map handed_view) w.in-Some.ensures.cases.0)
+                (λ asked. subst (λ a. Sends g.L.Stream.Write.contents one.reading one.stream exchanged.new.writer a
+                exchanged.result.served) (exchanged.ensures.tells asked)
+                (subst (λ r. Sends g.L.Stream.Write.contents r one.stream exchanged.new.writer (stamp_answer reply)
+                exchanged.result.served) (to_z-of_z fits) exchanged.ensures.sent)) w.take_back.ensures));
+          }
+      | in_default w ↦
+          let left = left_to_write g.L.Hearing.takes_back g.L.Stream.Write.contents all rest (map reply_as told)
+          c.args.hearing.now c.loop-reply.hearing inv.wrote in
+          absurd (omega (
+            arith,
+            left,
+            inv.many,
+            w.in_default.ensures.cases.0,
+            c.requires.as_many,
+            c.loop-reply-test.true,
+            length-map told reply_as,
+            length-take-le i c.args.replies.now (omega (arith, c.loop-reply-test.true)),
+            length-map (into_iter_items c.loop-reply.rest) handed_view,
+            length-map c.args.stamps.items handed_view,
+          ))
+    ]
+
+pub returns : goal.returns
+returns g c =
+    let all = map handed_view c.args.stamps.items in
+    let replies = map reply_as c.args.replies.now in
+    let wrote = subst (λ rs. Wrote g.L.Hearing.takes_back g.L.Stream.Write.contents all
+    (map handed_view (into_iter_items c.loop-reply.rest)) (map reply_as rs) c.args.hearing.now c.loop-reply.hearing)
+    (take_all c.loop-reply.reply-index c.args.replies.now c.loop-reply-test.false) c.loop-reply.invariant.wrote in
+    wrote_all g.L.Hearing.takes_back g.L.Stream.Write.contents all
+    (map handed_view (into_iter_items c.loop-reply.rest)) replies c.args.hearing.now c.loop-reply.hearing
+    (omega (
+      arith,
+      c.requires.as_many,
+      length-map c.args.stamps.items handed_view,
+      length-map c.args.replies.now reply_as,
+    )) wrote
