@@ -112,6 +112,7 @@ fn take_words<I, O: Write, E: Write>(
         × Begins (E.contents process.old.errors) (E.contents process.new.errors) (fault_line (Fault.Input InputFault.Memory)) }
     ensures refused { IfErr words.entry (λ kind. kind ≢ ErrorKind.OutOfMemory → (result ≡ Err 2)
         × Begins (E.contents process.old.errors) (E.contents process.new.errors) no_text) }
+    ensures most { IfErr result (λ status. status ≤ 2) }
     ensures unread { process.new.input ≡ process.old.input }
     ensures unwritten { process.new.output ≡ process.old.output }
 {

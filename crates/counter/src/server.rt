@@ -1,5 +1,6 @@
 //! The word `serve`.
-ghost use Rattle.std.specs.Prelude.{◌≡◌, ◌⊎◌, Err, IfErr, OnOk, Ok};
+ghost use Rattle.std.specs.Prelude.{◌≡◌, ◌*◌, ◌⊎◌, Err, IfErr, OnOk, Ok};
+ghost use Rattle.std.specs.Duration.{as_nanos};
 ghost use Rattle.console.specs.Files.{source_of};
 ghost use Rattle.counter.specs.Fault.{IsServeFault};
 ghost use Rattle.counter.specs.Connections.{ServesAt, ServesConnections, state_after, state_before};
@@ -18,8 +19,7 @@ use connections::{CONNECTION_SECONDS, Clock, Listening, SystemClock, serve_conne
 use console::{Fault, FileSource, InputFault};
 use desk::Settings;
 use operations::{
-    DatabaseDesk, DeskOperation, Disk, FileFrom, HostSigner, OperationFault, Renewal, SignedDesk,
-    Start, perform_at_desk,
+    DeskOperation, Disk, FileFrom, HostSigner, OperationFault, SignedDesk, Start, perform_at_desk,
 };
 use sockets::Listener;
 use std::time::{Duration, Instant};
@@ -59,7 +59,7 @@ impl DeskOperation<(), ()> for Serving<'_> {
         _input: &mut (),
         _output: &mut (),
     ) -> Result<(), OperationFault> {
-        let limit = Duration::from_secs(CONNECTION_SECONDS);
+        let limit = connection_limit();
         let rt = self.rt;
         let mut clock = SystemClock::new(rt);
         match Listening::new(rt, rt, &listener, limit) {
@@ -80,6 +80,13 @@ impl DeskOperation<(), ()> for Serving<'_> {
             Err(_) => Err(OperationFault::Unheard),
         }
     }
+}
+
+/// How long a request may take to come, and its answer to go out.
+fn connection_limit() -> Duration
+    ensures { as_nanos result ≡ 20 * 1_000_000_000 }
+{
+    Duration::from_secs(CONNECTION_SECONDS)
 }
 
 /// Serves HTTP connections at an address; readings are the machine's clock's. Connections are read side by side, and
@@ -113,16 +120,12 @@ pub fn serve<F: Start + Drop, S: FileSource + AllocGlobal>(
         signing,
         algorithm,
     } = read_files(host.files, &words.desk)?;
-    let desk = DatabaseDesk {
-        database: host.database(words.desk.db),
-        settings: Settings {
-            policy: &policy,
-            identity: &identity,
-            algorithm: &algorithm,
-        },
-        signing,
-        renewal: Renewal::AfterLoss,
+    let settings = Settings {
+        policy: &policy,
+        identity: &identity,
+        algorithm: &algorithm,
     };
+    let desk = host.lasting_desk(&words.desk, settings, signing);
     let serving = Serving {
         rt,
         address: words.listen,

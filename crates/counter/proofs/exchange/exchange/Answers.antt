@@ -10,9 +10,14 @@ returns-in-Ok-clause-answered g c =
     let small : c.args.words.now.reading < 2 ^ 63 = search rules in
     let files = c.in_ok-policy.field-0 in
     let read = c.in_ok-policy.ensures.meant in
-    let answered = rw (to_z_pos w64 c.args.words.now.reading small) at c.in-Ok.ensures.answered in
-    let served = rw (to_z_pos w64 c.args.words.now.reading small, c.in_ok-policy.ensures.algorithm)
-    at c.in-Ok.ensures.moved
+    let answered = rw (c.desk.ensures.settings, to_z_pos w64 c.args.words.now.reading small) at c.in-Ok.ensures.answered
+    in
+    let served = rw (
+      c.desk.ensures.settings,
+      c.desk.ensures.signing,
+      to_z_pos w64 c.args.words.now.reading small,
+      c.in_ok-policy.ensures.algorithm,
+    ) at c.in-Ok.ensures.moved
     in
     on_ok_weaker c.finish.result
     (λ end. record {
@@ -40,9 +45,14 @@ returns-in-Ok-clause-kept g c =
     let small : c.args.words.now.reading < 2 ^ 63 = search rules in
     let files = c.in_ok-policy.field-0 in
     let read = c.in_ok-policy.ensures.meant in
-    let answered = rw (to_z_pos w64 c.args.words.now.reading small) at c.in-Ok.ensures.answered in
-    let served = rw (to_z_pos w64 c.args.words.now.reading small, c.in_ok-policy.ensures.algorithm)
-    at c.in-Ok.ensures.moved
+    let answered = rw (c.desk.ensures.settings, to_z_pos w64 c.args.words.now.reading small) at c.in-Ok.ensures.answered
+    in
+    let served = rw (
+      c.desk.ensures.settings,
+      c.desk.ensures.signing,
+      to_z_pos w64 c.args.words.now.reading small,
+      c.in_ok-policy.ensures.algorithm,
+    ) at c.in-Ok.ensures.moved
     in
     IfErr-weaker c.finish.result _ _
     (λ fault stop.
