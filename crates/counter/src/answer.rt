@@ -13,7 +13,7 @@ use command_line::AnswerWords;
 use connections::{Clock, SystemClock};
 use console::{Fault, FileSource, account_of, read_hexadecimal};
 use desk::{Reply, Settings};
-use operations::{Disk, FileFrom, HostSigner, Question, Start};
+use operations::{DatabaseDesk, Disk, FileFrom, HostSigner, Question, Renewal, Start};
 use std::io::Read;
 use std::rt::HostRuntime;
 
@@ -38,12 +38,16 @@ pub fn answer<F: Start + Drop, S: FileSource + AllocGlobal, I: Read>(
     } = read_files(host.files, &words.desk)?;
     let account = account_of(&policy, words.key)?;
     let query = read_hexadecimal(rt.alloc(), input)?;
-    let settings = Settings {
-        policy: &policy,
-        identity: &identity,
-        algorithm: &algorithm,
+    let desk = DatabaseDesk {
+        database: host.database(words.desk.db),
+        settings: Settings {
+            policy: &policy,
+            identity: &identity,
+            algorithm: &algorithm,
+        },
+        signing,
+        renewal: Renewal::Never,
     };
-    let desk = host.desk(&words.desk, settings, signing);
     let question = Question {
         account,
         reading: words.reading as i64,

@@ -15,7 +15,7 @@ use command_line::ExchangeWords;
 use connections::{Clock, SystemClock};
 use console::{Fault, FileSource, InputFault};
 use desk::Settings;
-use operations::{Disk, FileFrom, HostSigner, Start, perform_at_desk};
+use operations::{DatabaseDesk, Disk, FileFrom, HostSigner, Renewal, Start, perform_at_desk};
 use service::Served;
 use std::io::{Read, Write};
 use std::rt::HostRuntime;
@@ -51,12 +51,16 @@ pub fn exchange<F: Start + Drop, S: FileSource + AllocGlobal, I: Read, O: Write>
         signing,
         algorithm,
     } = read_files(host.files, &words.desk)?;
-    let settings = Settings {
-        policy: &policy,
-        identity: &identity,
-        algorithm: &algorithm,
+    let desk = DatabaseDesk {
+        database: host.database(words.desk.db),
+        settings: Settings {
+            policy: &policy,
+            identity: &identity,
+            algorithm: &algorithm,
+        },
+        signing,
+        renewal: Renewal::Never,
     };
-    let desk = host.desk(&words.desk, settings, signing);
     let asked = OneRequest {
         alloc: rt.alloc(),
         reading: words.reading as i64,

@@ -1,9 +1,7 @@
 //! The machine that the program runs on.
 ghost use Rattle.std.specs.Prelude.{◌≡◌};
 
-use command_line::DeskWords;
-use desk::Settings;
-use operations::{Database, DatabaseDesk, Renewal, Signing};
+use operations::Database;
 
 /// The machine that the program runs on.
 #[derive(Drop)]
@@ -26,42 +24,5 @@ impl<F, S> Host<'_, F, S> {
             path,
             start: self.start,
         }
-    }
-
-    /// The desk over the database that the words name, for one request.
-    pub fn desk<'p>(
-        self,
-        words: &DeskWords<'p>,
-        settings: Settings<'p>,
-        signing: Signing<'p>,
-    ) -> DatabaseDesk<'p, F>
-        ensures path { result.database.path.now ≡ words.now.db.now }
-        ensures settings { result.settings ≡ settings }
-        ensures signing { result.signing ≡ signing }
-        ensures renewal { result.renewal ≡ Renewal.Never }
-    {
-        DatabaseDesk {
-            database: self.database(words.db),
-            settings,
-            signing,
-            renewal: Renewal::Never,
-        }
-    }
-
-    /// The same for many requests: where a session with the key holder is lost, another is opened for the next signature.
-    pub fn lasting_desk<'p>(
-        self,
-        words: &DeskWords<'p>,
-        settings: Settings<'p>,
-        signing: Signing<'p>,
-    ) -> DatabaseDesk<'p, F>
-        ensures path { result.database.path.now ≡ words.now.db.now }
-        ensures settings { result.settings ≡ settings }
-        ensures signing { result.signing ≡ signing }
-        ensures renewal { result.renewal ≡ Renewal.AfterLoss }
-    {
-        let mut desk = self.desk(words, settings, signing);
-        desk.renewal = Renewal::AfterLoss;
-        desk
     }
 }

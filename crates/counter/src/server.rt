@@ -19,7 +19,8 @@ use connections::{CONNECTION_SECONDS, Clock, Listening, SystemClock, serve_conne
 use console::{Fault, FileSource, InputFault};
 use desk::Settings;
 use operations::{
-    DeskOperation, Disk, FileFrom, HostSigner, OperationFault, SignedDesk, Start, perform_at_desk,
+    DatabaseDesk, DeskOperation, Disk, FileFrom, HostSigner, OperationFault, Renewal, SignedDesk,
+    Start, perform_at_desk,
 };
 use sockets::Listener;
 use std::time::{Duration, Instant};
@@ -120,12 +121,16 @@ pub fn serve<F: Start + Drop, S: FileSource + AllocGlobal>(
         signing,
         algorithm,
     } = read_files(host.files, &words.desk)?;
-    let settings = Settings {
-        policy: &policy,
-        identity: &identity,
-        algorithm: &algorithm,
+    let desk = DatabaseDesk {
+        database: host.database(words.desk.db),
+        settings: Settings {
+            policy: &policy,
+            identity: &identity,
+            algorithm: &algorithm,
+        },
+        signing,
+        renewal: Renewal::AfterLoss,
     };
-    let desk = host.lasting_desk(&words.desk, settings, signing);
     let serving = Serving {
         rt,
         address: words.listen,

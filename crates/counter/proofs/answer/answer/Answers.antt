@@ -32,15 +32,8 @@ returns g c =
     let files = c.in_ok-policy.field-0 in
     let read = c.in_ok-policy.ensures.meant in
     let small : c.args.words.now.reading < 2 ^ 63 = search rules in
-    let judged = rw (
-      c.in_ok-account.ensures.found,
-      c.as_slice.ensures.value,
-      c.desk.ensures.settings,
-    ) at c.answer.ensures.judged
-    in
+    let judged = rw (c.in_ok-account.ensures.found, c.as_slice.ensures.value) at c.answer.ensures.judged in
     let stepped = rw (
-      c.desk.ensures.settings,
-      c.desk.ensures.signing,
       c.in_ok-account.ensures.found,
       c.as_slice.ensures.value,
       to_z_pos w64 c.args.words.now.reading small,
