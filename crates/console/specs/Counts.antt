@@ -3,6 +3,8 @@ use Rattle.std.specs.Prelude.{◌≡◌, ℕ, List, [], ◌∷◌, ◌++◌, len
 use Rattle.std.specs.Fmt.{decimal}
 use Rattle.policy.specs.Meaning.{meaning_of}
 use Rattle.policy.specs.Record.{PolicyValue}
+use Rattle.command_line.specs.declared.words.CheckWords.{CheckWords}
+use Rattle.console.specs.Files.{ReadsText, Source}
 
 -- a line of words, joined by spaces
 abbrev pub line_of_words : List (List ℕ) → List ℕ
@@ -20,9 +22,13 @@ counts_line policy =
     ∷ decimal (length policy.accounts)
     ∷ [])
 
--- What is written is the line of a policy that some text means. Which text a file holds, no contract says.
-pub record Counts (written : List ℕ) : Type 0 where
-  pub policy : PolicyValue
+-- The policy file that the words name is read, and what is written is the line of the policy that its text means.
+pub record Counts {S F : Type 0} (files : Source S F) (words : CheckWords) (written : List ℕ) : Type 0 where
+  -- the file's text
   pub text : List ℕ
+  pub read : ReadsText files words.rules.now (Ok text)
+  -- the policy that it means
+  pub policy : PolicyValue
   pub meant : meaning_of text ≡ Ok policy
+  -- how many algorithms, extensions, policies and accounts that has
   pub line : written ≡ counts_line policy

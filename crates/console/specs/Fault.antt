@@ -65,6 +65,10 @@ line_beginning (Input fault) = codes "counter: input "
 abbrev pub fault_line : Fault → List ℕ
 fault_line fault = line_beginning fault ++ (decimal (number_of_fault fault) ++ 0x0a ∷ [])
 
+-- the line that is told of words that aren't UTF-8
+abbrev pub no_text : List ℕ
+no_text = codes "error: the words are not UTF-8\n"
+
 -- why there are no words to do, where neither help nor a mistake could tell it
 abbrev pub IsExplained : WordsRefusal → InputFault → Type 0
 IsExplained (refusal.Help text) fault = fault ≡ Failed

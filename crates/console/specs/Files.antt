@@ -1,6 +1,6 @@
 -- Files that are read, as what opens them tells: which octets, in which order, and which fault.
 use Rattle.std.specs.Prelude.{◌≡◌, ◌≢◌, ◌⊎◌, ℕ, ◌+◌, ◌*◌, ◌≤◌, List, [], length, take, Option, Some, None, IfSome}
-use Rattle.std.specs.Prelude.{Result, Ok, Err, Vec}
+use Rattle.std.specs.Prelude.{Result, Ok, Err, String, Vec, string_bytes}
 use Rattle.std.specs.declared.io.ErrorKind.{ErrorKind}
 use Rattle.std.specs.declared.io.ErrorKind.TheVariants.{OutOfMemory}
 use Rattle.cms.specs.Certificate.{CertificateParts, IsAlgorithm, IsCertificate, identity_with}
@@ -9,8 +9,13 @@ use Rattle.cms.specs.Grammar.{joined}
 use Rattle.cms.specs.Identity.{IdentityValue}
 use Rattle.cms.specs.declared.fault.CmsFault.{CmsFault}
 use Rattle.cms.specs.declared.fault.CmsFault.TheVariants as cms
+use Rattle.policy.specs.Answers.{IsFirstFault as IsFirstPolicyFault}
+use Rattle.policy.specs.Meaning.{meaning_of}
+use Rattle.policy.specs.View.{policy_view}
+use Rattle.policy.specs.declared.fault.PolicyFault.{PolicyFault}
+use Rattle.policy.specs.declared.policy.Policy.{Policy as PolicyRead}
 use Rattle.console.specs.declared.fault.Fault.{Fault}
-use Rattle.console.specs.declared.fault.Fault.TheVariants.{Cms, Input}
+use Rattle.console.specs.declared.fault.Fault.TheVariants.{Cms, Input, Policy}
 use Rattle.console.specs.declared.fault.InputFault.{InputFault}
 use Rattle.console.specs.declared.fault.InputFault.TheVariants.{File, Memory}
 
@@ -25,10 +30,18 @@ most_of_chain = 2 * 16_384 + 5 + 16_777_215 + 1
 abbrev pub most_of_algorithm : ℕ
 most_of_algorithm = 256 + 1
 
+abbrev pub most_of_key : ℕ
+most_of_key = 256 + 1
+
 -- the octets that were read, or the fault
 abbrev pub octets_of : {A E : Type 0} → Result (Vec ℕ A) E → Result (List ℕ) E
 octets_of (Ok octets) = Ok octets.items
 octets_of (Err fault) = Err fault
+
+-- the octets of a text, or the fault
+abbrev pub text_of : {A E : Type 0} → Result (String A) E → Result (List ℕ) E
+text_of (Ok text) = Ok (string_bytes text)
+text_of (Err fault) = Err fault
 
 -- what an error of that kind is to the program
 pub record IsFaultOf (kind : ErrorKind) (fault : InputFault) : Type 0 where
@@ -49,15 +62,57 @@ IsAlgorithmOf octets (Ok algorithm) = (algorithm ≡ octets) × (length algorith
 IsAlgorithmOf octets (Err fault) = (refusal : CmsFault) × ((fault ≡ Cms refusal)
     × (IsAlgorithm octets → length octets ≤ 256 → refusal ≡ cms.Memory))
 
-module _ {S F : Type 0} (opens : S → List ℕ → F → Type 0) (refuses : S → List ℕ → ErrorKind → Type 0)
-    (remaining : F → Option (List ℕ)) (source : S) where
+-- a signing key of these octets, or why they are none
+abbrev pub IsKeyOf : List ℕ → Result (List ℕ) Fault → Type 0
+IsKeyOf octets (Ok key) = (key ≡ octets) × (1 ≤ length key) × (length key ≤ 256)
+IsKeyOf octets (Err fault) = ((fault ≡ Input File) × (1 ≤ length octets → length octets ≤ 256 → ⊥))
+    ⊎ (fault ≡ Cms cms.Memory)
+
+-- the policy that a text means, or its first fault
+abbrev pub IsPolicyOf : List ℕ → Result PolicyRead Fault → Type 0
+IsPolicyOf text (Ok policy) = meaning_of text ≡ Ok (policy_view policy)
+IsPolicyOf text (Err fault) = (first : PolicyFault) × ((fault ≡ Policy first)
+    × IsFirstPolicyFault first (meaning_of text))
+
+-- What is known of files that are opened at paths: at which path which file is, by which error none is, and what octets
+-- a file has, where that is told.
+pub record Source (S F : Type 0) : Type 1 where
+  pub opens : S → List ℕ → F → Type 0
+  pub refuses : S → List ℕ → ErrorKind → Type 0
+  pub remaining : F → Option (List ℕ)
+  pub source : S
+
+abbrev pub source_of : {S F : Type 0} → (S → List ℕ → F → Type 0) → (S → List ℕ → ErrorKind → Type 0)
+    → (F → Option (List ℕ)) → S → Source S F
+source_of opens refuses remaining source = record {
+  opens = opens;
+  refuses = refuses;
+  remaining = remaining;
+  source = source;
+}
+
+module _ {S F : Type 0} (files : Source S F) where
   -- What reading at most so many octets of the file at a path gives: all that it has where these are fewer. It fails
   -- where the file can't be opened, or not read to there.
   abbrev pub Reads : List ℕ → ℕ → Result (List ℕ) InputFault → Type 0
   Reads path most (Ok octets) =
-      (file : F) × (opens source path file × IfSome (remaining file) (λ all. octets ≡ take most all))
-  Reads path most (Err fault) = ((kind : ErrorKind) × (refuses source path kind × IsFaultOf kind fault))
-      ⊎ ((file : F) × (opens source path file × ((fault ≡ File) ⊎ (fault ≡ Memory))))
+      (file : F) × (files.opens files.source path file
+      × IfSome (files.remaining file) (λ all. octets ≡ take most all))
+  Reads path most (Err fault) = ((kind : ErrorKind) × (files.refuses files.source path kind × IsFaultOf kind fault))
+      ⊎ ((file : F) × (files.opens files.source path file × ((fault ≡ File) ⊎ (fault ≡ Memory))))
+
+  -- The same of a whole file, as text.
+  abbrev pub ReadsText : List ℕ → Result (List ℕ) InputFault → Type 0
+  ReadsText path (Ok text) =
+      (file : F) × (files.opens files.source path file × IfSome (files.remaining file) (λ all. text ≡ all))
+  ReadsText path (Err fault) = ((kind : ErrorKind) × (files.refuses files.source path kind × IsFaultOf kind fault))
+      ⊎ ((file : F) × (files.opens files.source path file × ((fault ≡ File) ⊎ (fault ≡ Memory))))
+
+  -- A policy file is read, and what it means follows from its text.
+  pub data ReadsPolicy (path : List ℕ) (result : Result PolicyRead Fault) : Type 0 where
+    text_not_read : (fault : InputFault) → ReadsText path (Err fault) → result ≡ Err (Input fault)
+        → ReadsPolicy path result
+    text_read : (text : List ℕ) → ReadsText path (Ok text) → IsPolicyOf text result → ReadsPolicy path result
 
   -- A file is read, and what it is follows from its octets.
   pub data ReadsAs {A : Type 0} (path : List ℕ) (most : ℕ) (is : List ℕ → Result A Fault → Type 0)

@@ -7,34 +7,37 @@ ghost use Rattle.policy.specs.Meaning.{meaning_of};
 ghost use Rattle.policy.specs.View.{policy_view};
 ghost use Rattle.policy.specs.declared.fault.PolicyFault.{PolicyFault};
 ghost use Rattle.console.specs.Counts.{Counts, counts_line, line_of_words};
+ghost use Rattle.console.specs.Files.{ReadsPolicy, ReadsText, source_of, text_of};
 ghost use Rattle.console.specs.Writes.{Begins};
 
 use crate::fault::{Fault, InputFault};
 use crate::output::write_text;
+use crate::source::FileSource;
 use command_line::CheckWords;
 use policy::Policy;
 use std::alloc::{AllocError, Global};
+use std::io;
 use std::io::Write;
-use std::rt::HostRuntime;
-use std::{fs, io};
 
 /// Does what the word `check` asks for: reads a policy file, and writes how many algorithms, extensions, policies and
 /// accounts it has, as one line of four decimal numbers with a space between them and LF at its end.
 ///
 /// Refused as `read_policy`, before anything is written; then as `input` 7 where memory runs out over the line, before
 /// anything is written too, and as `input` 5 where the output fails: a beginning of the line may stand there then.
-pub fn check_policy<O: Write>(
-    rt: &HostRuntime,
+pub fn check_policy<F: FileSource + AllocGlobal, O: Write>(
+    rt: &F,
     words: &CheckWords<'_>,
     output: &mut O,
 ) -> Result<(), Fault>
-    ensures counted { OnOk result ((written : List ℕ) × Counts written
+    ensures counted { OnOk result ((written : List ℕ)
+        × Counts (source_of F.opens F.refuses F.File.remaining rt.now) words.now written
         × Appends (O.contents output.old) (O.contents output.new) written) }
 
     // Before a fault nothing is written, but where there are counts and writing them fails.
     ensures kept { IfErr result (λ fault. (O.contents output.new ≡ O.contents output.old)
         ⊎ ((fault ≡ Fault.Input InputFault.Failed)
-        × ((written : List ℕ) × Counts written × Begins (O.contents output.old) (O.contents output.new) written))) }
+        × ((written : List ℕ) × Counts (source_of F.opens F.refuses F.File.remaining rt.now) words.now written
+        × Begins (O.contents output.old) (O.contents output.new) written))) }
     ensures faults { IfErr result (λ fault. (fault ≡ Fault.Input InputFault.Failed)
         ⊎ ((fault ≡ Fault.Input InputFault.File)
         ⊎ ((fault ≡ Fault.Input InputFault.Memory)
@@ -49,10 +52,14 @@ pub fn check_policy<O: Write>(
 /// Reads a policy file. One that can't be read or isn't UTF-8 is `input` 2, and one that is no policy file `policy`
 /// with the number of its first fault. Where memory runs out it is `input` 7 over the file, and `policy` 7 over what
 /// the file says.
-pub fn read_policy(rt: &HostRuntime, path: &str) -> Result<Policy, Fault>
-    // No contract says what a file holds. So the policy is the meaning of some text, and a fault the first of some
-    // text.
-    ensures meant { IfOk result (λ policy. (text : List ℕ) × (meaning_of text ≡ Ok (policy_view policy))) }
+pub fn read_policy<F: FileSource + AllocGlobal>(rt: &F, path: &str) -> Result<Policy, Fault>
+    ensures reads { ReadsPolicy (source_of F.opens F.refuses F.File.remaining rt.now) path.now result }
+
+    // No contract says what a file of the machine holds. There the policy is the meaning of some text, and a fault the
+    // first of some text.
+    ensures meant { IfOk result (λ policy. (text : List ℕ)
+        × ReadsText (source_of F.opens F.refuses F.File.remaining rt.now) path.now (Ok text)
+        × (meaning_of text ≡ Ok (policy_view policy))) }
     ensures faults { IfErr result (λ fault. (fault ≡ Fault.Input InputFault.File)
         ⊎ ((fault ≡ Fault.Input InputFault.Memory)
         ⊎ ((text : List ℕ) × ((first : PolicyFault) × (fault ≡ Fault.Policy first)
@@ -62,13 +69,14 @@ pub fn read_policy(rt: &HostRuntime, path: &str) -> Result<Policy, Fault>
     Ok(Policy::from_text(rt.alloc(), text.as_str())?)
 }
 
-fn read_text(rt: &HostRuntime, path: &str) -> Result<String, InputFault>
-    ensures { IfErr result (λ fault. (fault ≡ InputFault.File) ⊎ (fault ≡ InputFault.Memory)) }
+fn read_text<F: FileSource + AllocGlobal>(rt: &F, path: &str) -> Result<String, InputFault>
+    ensures reads { ReadsText (source_of F.opens F.refuses F.File.remaining rt.now) path.now (text_of result) }
+    ensures faults { IfErr result (λ fault. (fault ≡ InputFault.File) ⊎ (fault ≡ InputFault.Memory)) }
 {
-    match fs::read_to_string(rt, path) {
+    let file = rt.open(path)?;
+    match io::read_to_string(rt.alloc(), file) {
         Ok(text) => Ok(text),
-        Err(error) if error.kind() == io::ErrorKind::OutOfMemory => Err(InputFault::Memory),
-        Err(_) => Err(InputFault::File),
+        Err(error) => Err(InputFault::from(error.kind())),
     }
 }
 

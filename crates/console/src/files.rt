@@ -2,13 +2,14 @@
 ghost use Rattle.std.specs.Prelude.{◌≡◌, ◌⊎◌, ◌≤◌, [], length, None, IfOk, IfErr, option_map};
 ghost use Rattle.cms.specs.Certificate.{IsAlgorithm};
 ghost use Rattle.console.specs.Fault.{IsFileFault};
-ghost use Rattle.console.specs.Files.{IsAlgorithmOf, Reads, ReadsAs, ReadsChain, ReadsIdentity};
-ghost use Rattle.console.specs.Files.{most_of_algorithm, octets_of};
+ghost use Rattle.console.specs.Files.{IsAlgorithmOf, IsKeyOf, Reads, ReadsAs, ReadsChain, ReadsIdentity};
+ghost use Rattle.console.specs.Files.{most_of_algorithm, most_of_key, octets_of, source_of};
 ghost use Rattle.console.specs.Identity.{IsIdentity};
 
 use crate::fault::{Fault, InputFault};
 use crate::source::FileSource;
 use cms::{Algorithm, Identity, KeyedHash};
+use std::alloc::Global;
 use std::io::Read;
 
 /// One octet more than a certificate may have.
@@ -33,7 +34,7 @@ pub fn read_identity<F: FileSource + AllocGlobal>(
     path: &str,
     chain: Option<&str>,
 ) -> Result<Identity, Fault>
-    ensures reads { ReadsIdentity F.opens F.refuses F.File.remaining rt.now path.now
+    ensures reads { ReadsIdentity (source_of F.opens F.refuses F.File.remaining rt.now) path.now
         (option_map (λ path. path.now) chain.entry) result }
 
     // No contract says what a file of the machine holds. So the identity is that of some certificate and some chain.
@@ -53,7 +54,7 @@ fn read_chain<F: FileSource + AllocGlobal>(
     certificate: &[u8],
     path: Option<&str>,
 ) -> Result<Vec<u8>, Fault>
-    ensures reads { ReadsChain F.opens F.refuses F.File.remaining rt.now certificate.now
+    ensures reads { ReadsChain (source_of F.opens F.refuses F.File.remaining rt.now) certificate.now
         (option_map (λ path. path.now) path.entry) (octets_of result) }
     ensures none { path.entry ≡ None → IfOk result (λ octets. octets.items ≡ []) }
     ensures faults { IfErr result IsFileFault }
@@ -68,22 +69,33 @@ fn read_chain<F: FileSource + AllocGlobal>(
 /// Reads the key of the stand-in signer. A file that can't be read, or hasn't 1 to 256 octets, is `input` 2. Where
 /// memory runs out it is `input` 7 over the file, and `cms` 3 over the signer.
 pub fn read_signer<F: FileSource + AllocGlobal>(rt: &F, path: &str) -> Result<KeyedHash, Fault>
+    ensures reads { ReadsAs (source_of F.opens F.refuses F.File.remaining rt.now) path.now most_of_key IsKeyOf result }
     ensures some { IfOk result (λ signer. 1 ≤ length signer) }
     ensures few { IfOk result (λ signer. length signer ≤ 256) }
     ensures faults { IfErr result IsFileFault }
 {
-    let key = read_beginning(rt, path, MOST_OF_A_KEY as u64 + 1)?;
-    if key.is_empty() || key.len() > MOST_OF_A_KEY {
+    let octets = read_beginning(rt, path, MOST_OF_A_KEY as u64 + 1)?;
+    key_of(rt.alloc(), octets.as_slice())
+}
+
+/// The stand-in signer with that key. One that hasn't 1 to 256 octets is `File`.
+fn key_of(alloc: Global, octets: &[u8]) -> Result<KeyedHash, Fault>
+    ensures is { IsKeyOf octets.now result }
+    ensures some { IfOk result (λ signer. 1 ≤ length signer) }
+    ensures few { IfOk result (λ signer. length signer ≤ 256) }
+    ensures faults { IfErr result IsFileFault }
+{
+    if octets.is_empty() || octets.len() > MOST_OF_A_KEY {
         return Err(Fault::Input(InputFault::File));
     }
-    Ok(KeyedHash::new(rt.alloc(), key.as_slice())?)
+    Ok(KeyedHash::new(alloc, octets)?)
 }
 
 /// Reads an algorithm. A file that can't be read is `input` 2, and one that is no AlgorithmIdentifier, or one of more
 /// than 256 octets, `cms` with the number of its refusal. Where memory runs out it is `input` 7 over the file, and
 /// `cms` 3 over the algorithm.
 pub fn read_algorithm<F: FileSource + AllocGlobal>(rt: &F, path: &str) -> Result<Algorithm, Fault>
-    ensures reads { ReadsAs F.opens F.refuses F.File.remaining rt.now path.now most_of_algorithm IsAlgorithmOf result }
+    ensures reads { ReadsAs (source_of F.opens F.refuses F.File.remaining rt.now) path.now most_of_algorithm IsAlgorithmOf result }
 
     // No contract says what a file of the machine holds. So it is some algorithm.
     ensures found { IfOk result (λ algorithm. (length algorithm ≤ 256) × IsAlgorithm algorithm) }
@@ -99,7 +111,7 @@ fn read_beginning<F: FileSource + AllocGlobal>(
     path: &str,
     most: u64,
 ) -> Result<Vec<u8>, InputFault>
-    ensures reads { Reads F.opens F.refuses F.File.remaining rt.now path.now most (octets_of result) }
+    ensures reads { Reads (source_of F.opens F.refuses F.File.remaining rt.now) path.now most (octets_of result) }
     ensures faults { IfErr result (λ fault. (fault ≡ InputFault.File) ⊎ (fault ≡ InputFault.Memory)) }
 {
     let file = rt.open(path)?;

@@ -4,12 +4,12 @@ ghost use Rattle.std.specs.Io.KnownBytes.{Appends};
 ghost use Rattle.std.specs.declared.alloc.Global.{Global};
 ghost use Rattle.command_line.specs.declared.refusal.WordsRefusal.TheVariants.{Help, Mistake};
 ghost use Rattle.audit.specs.Failures.{HasFailed};
-ghost use Rattle.console.specs.Fault.{IsExplained, fault_line};
+ghost use Rattle.console.specs.Fault.{IsExplained, fault_line, no_text};
 ghost use Rattle.console.specs.Writes.{Begins, IsWhole};
 
 use crate::fault::{Fault, InputFault};
 use crate::output::write_text;
-use audit::Output;
+use audit::{Output, write_octets};
 use command_line::WordsRefusal;
 
 /// What the words ask for is done; a rejection and help are done too.
@@ -30,6 +30,16 @@ pub fn report<E: Output>(fault: Fault, errors: &mut E) -> u8
 {
     fault.write_line(errors);
     FAULT
+}
+
+/// Writes that the words are no text, or a beginning of that where `errors` fails, and answers the status 2.
+pub fn refuse_octets<E: Output>(errors: &mut E) -> u8
+    ensures status { result ≡ 2 }
+    ensures told { Begins (E.contents errors.old) (E.contents errors.new) no_text }
+{
+    // Where standard error fails, the status alone tells.
+    let _ = write_octets(errors, "error: the words are not UTF-8\n".as_bytes());
+    WORDS_REFUSED
 }
 
 /// Writes why there are no words to do: help to `output`, with status 0, a mistake to `errors`, with status 2, and else

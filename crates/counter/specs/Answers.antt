@@ -1,61 +1,50 @@
--- What the words write for the text that they read.
-use Rattle.std.specs.Prelude.{◌≡◌, ℕ, ◌<◌, pos, List, [], Option, IfSome, Ok}
-use Rattle.console.specs.Accounts.{IsKnown, account_shown}
-use Rattle.counter.specs.Additions.{AddsCalibration, AddsHold, floor_of}
-use Rattle.counter.specs.Audits.{Audits}
-use Rattle.console.specs.Counts.{Counts}
-use Rattle.counter.specs.Exchange.{Exchanges}
-use Rattle.counter.specs.Desks.{IsSettingOf, ServesConnections}
-use Rattle.console.specs.Hexadecimal.{IsHexadecimal, line}
+-- What the words do, and what they write.
+use Rattle.std.specs.Prelude.{◌≡◌, ℕ, List, [], true, IfSome, Ok}
+use Rattle.sqlite_disk.specs.declared.Disk.{Ghosts}
 use Rattle.connections.specs.Clock.{Reading}
-use Rattle.operations.specs.Machine.{Machine}
-use Rattle.counter.specs.Replies.{IsJudgedReply, IsReplyOf}
+use Rattle.console.specs.Counts.{Counts}
+use Rattle.console.specs.Files.{Source}
 use Rattle.console.specs.Tst.{Answers}
-use Rattle.desk.specs.Command.{Answer as DeskAnswer, Setting}
-use Rattle.operations.specs.OverFiles.{IsAnsweredOver, IsMigratedOver}
-use Rattle.operations.specs.Signing.{algorithm_of}
-use Rattle.operations.specs.declared.void_stamp.Floor.{Floor}
-use Rattle.command_line.specs.declared.words.AnswerWords.{AnswerWords}
+use Rattle.counter.specs.Calibration.{Calibrates}
+use Rattle.counter.specs.Connections.{ServesConnections}
+use Rattle.counter.specs.Continuation.{floor_of}
+use Rattle.counter.specs.Exchange.{Exchanges}
+use Rattle.counter.specs.Extract.{Extracts}
+use Rattle.counter.specs.Hold.{Holds}
+use Rattle.counter.specs.Reply.{Replies}
+use Rattle.counter.specs.Streams.{Streams}
+use Rattle.operations.specs.Machine.{Machine}
+use Rattle.operations.specs.OverFiles.{IsContinuedOver, IsMigratedOver}
+use Rattle.command_line.specs.declared.words.AuditWords.{AuditWords}
 use Rattle.command_line.specs.declared.words.Word.{Word}
 use Rattle.command_line.specs.declared.words.Word.TheVariants.{Tst, Check, Init, Migrate, Continue, Calibrate, Hold}
 use Rattle.command_line.specs.declared.words.Word.TheVariants.{Answer, Exchange, Serve, Audit}
 
--- The text spells a request's octets, the desk is set as the words tell, and where a key is shown an account of its
--- policy has that key. The reply is what the machine's step answers, over the store of the words' database: by the first
--- rule of 1 to 9 that fails of the octets, that rule's rejection, whatever the database holds.
-pub record RepliesTo {D X C : Type 0} (m : Machine D X C Reading) (words : AnswerWords) (text reply : List ℕ) : Type 0 where
-  pub setting : Setting
-  pub set : IsSettingOf words.desk setting
-  pub known : IsKnown setting.file words.key
-  pub query : List ℕ
-  pub spelled : IsHexadecimal text query
-  pub judged : IsJudgedReply setting.file (account_shown setting.file words.key) query reply
-  pub answer : DeskAnswer
-  pub says : IsReplyOf answer reply
-  pub stepped : IsAnsweredOver m.disk m.held m.signs setting (algorithm_of set.signing)
-      (account_shown setting.file words.key) (pos words.reading) query answer
-
--- What is written is what was asked for: nothing by the words that change the database or serve connections. The
--- input is left as `old`, and then as `new`: it is none where a reader doesn't tell its octets. The output is `out`
--- before.
-abbrev pub Does : {D X C O : Type 0} → Machine D X C Reading → (O → Option (List ℕ)) → O → Word → (old new : Option (List ℕ))
+-- Each word has a definition of what it does. But for `tst`, `answer` and `exchange` the input isn't read, and where no
+-- text is said nothing is written. The files that the words name are `files`, the database's what the machine holds, and
+-- a new database is made on a disk that is `other`.
+abbrev pub Does : {D X C E S F O : Type 0} → Machine D X C Reading → Ghosts E → Source S F → Streams O → Word
     → (List ℕ → Type 0) → Type 0
-Does m contents out (Tst words) old new IsWritten =
-    IfSome old (λ text. (written : List ℕ) × Answers words text written × IsWritten written)
-Does m contents out (Check words) old new IsWritten = (new ≡ old) × ((written : List ℕ) × Counts written × IsWritten written)
-Does m contents out (Init words) old new IsWritten = (new ≡ old) × IsWritten []
-Does m contents out (Migrate words) old new IsWritten = (new ≡ old) × IsMigratedOver m.disk m.held × IsWritten []
-Does m contents out (Continue words) old new IsWritten = (new ≡ old) × IsWritten []
-Does m contents out (Calibrate words) old new IsWritten = (new ≡ old) × AddsCalibration m words × IsWritten []
-Does m contents out (Hold words) old new IsWritten = (new ≡ old) × (words.from < words.to) × AddsHold m words × IsWritten []
-Does m contents out (Answer words) old new IsWritten =
-    IfSome old (λ text. (reply : List ℕ) × RepliesTo m words text reply × IsWritten (line reply))
-Does m contents out (Exchange words) old new IsWritten = Exchanges m contents out words old new IsWritten
-Does m contents out (Serve words) old new IsWritten = (new ≡ old) × ServesConnections m words (Ok tt) × IsWritten []
-Does m contents out (Audit words) old new IsWritten =
-    (new ≡ old) × ((text : List ℕ) × Audits words text × IsWritten text)
+Does m other files s (Tst words) IsWritten =
+    IfSome s.input (λ text. (written : List ℕ) × Answers words text written × IsWritten written)
+Does m other files s (Check words) IsWritten =
+    (s.input_after ≡ s.input) × ((written : List ℕ) × Counts files words written × IsWritten written)
+Does m other files s (Init words) IsWritten = (s.input_after ≡ s.input) × IsWritten []
+Does m other files s (Migrate words) IsWritten =
+    (s.input_after ≡ s.input) × IsMigratedOver m.disk m.held × IsWritten []
+Does m other files s (Continue words) IsWritten =
+    (s.input_after ≡ s.input) × IsContinuedOver m.disk m.held other (floor_of words) × IsWritten []
+Does m other files s (Calibrate words) IsWritten = (s.input_after ≡ s.input) × Calibrates m words × IsWritten []
+Does m other files s (Hold words) IsWritten = (s.input_after ≡ s.input) × Holds m words × IsWritten []
+Does m other files s (Answer words) IsWritten =
+    IfSome s.input (λ text. (written : List ℕ) × Replies m files words text written × IsWritten written)
+Does m other files s (Exchange words) IsWritten =
+    Exchanges m files words s.contents s.output s.input s.input_after IsWritten
+Does m other files s (Serve words) IsWritten =
+    (s.input_after ≡ s.input) × ServesConnections m files words (Ok tt) × IsWritten []
+Does m other files s (Audit words) IsWritten =
+    (s.input_after ≡ s.input)
+    × Extracts m files words (s.contents s.output) (s.contents s.output_after) s.errors s.errors_after true IsWritten
 
--- what is said of both databases, where the words carry a history on, above what they state
-abbrev pub GoesOn : Word → (Option Floor → Type 0) → Type 0
-GoesOn (Continue words) IsContinued = IsContinued (floor_of words)
-GoesOn _ IsContinued = Unit {0}
+abbrev pub IsNoAudit : Word → Type 0
+IsNoAudit word = (words : AuditWords) → word ≡ Audit words → ⊥

@@ -1,20 +1,26 @@
--- What `exchange` writes.
-use Rattle.std.specs.Prelude.{◌≡◌, ◌⊎◌, pos, ℤ, ℕ, List, [], Option}
+-- What `exchange` does: one HTTP request is answered (RFC 9110).
+use Rattle.std.specs.Prelude.{◌≡◌, ◌⊎◌, pos, ℤ, ℕ, List, [], Option, None, Ok}
 use Rattle.std.specs.Io.KnownBytes.{Consumes, IsAtEnd, Keeps}
+use Rattle.cms.specs.Identity.{IdentityValue}
+use Rattle.policy.specs.Meaning.{meaning_of}
 use Rattle.policy.specs.Record.{PolicyValue}
-use Rattle.desk.specs.Command.{Setting}
+use Rattle.desk.specs.Calls.{in_force_of}
 use Rattle.service.specs.Answers.{AnswerValue, answer_text}
 use Rattle.service.specs.declared.served.Served.{Served}
 use Rattle.service.specs.declared.served.Served.TheVariants.{Closed, Answered, ReadFailed, WriteFailed}
 use Rattle.connections.specs.Clock.{Reading}
 use Rattle.operations.specs.Signing.{algorithm_of}
 use Rattle.command_line.specs.declared.words.ExchangeWords.{ExchangeWords}
+use Rattle.console.specs.Files.{ReadsIdentity, ReadsText, Source}
 use Rattle.console.specs.declared.fault.Fault.{Fault}
 use Rattle.console.specs.declared.fault.Fault.TheVariants.{Input}
 use Rattle.console.specs.declared.fault.InputFault.TheVariants.{Failed}
-use Rattle.counter.specs.Desks.{IsSettingOf}
-use Rattle.counter.specs.HttpRequest.{AsksExtract, IsAnswerFor, IsServedOver}
 use Rattle.operations.specs.Machine.{Machine}
+use Rattle.operations.specs.OverFiles.{IsVisitedAsAny}
+use Rattle.operations.specs.declared.signing.Signing.{Signing}
+use Rattle.service.specs.Served.{Serves}
+use Rattle.counter.specs.Files.{SignsAs, path_of}
+use Rattle.counter.specs.HttpRequest.{AsksExtract, IsAnswerFor}
 
 -- The input is at its end, and nothing is written; or it is a request, and what is written is an answer's text; or it
 -- asks for an extract that may be given, of which the database alone tells what is written.
@@ -24,18 +30,39 @@ WritesAnswer policy reading old new IsWritten =
     ⊎ (((answer : AnswerValue) × IsAnswerFor policy reading old new answer × IsWritten (answer_text reading answer))
     ⊎ (AsksExtract policy reading old new × ((octets : List ℕ) × IsWritten octets)))
 
--- The desk is set as the words tell, and by its policy the input, which is left as `old` and then as `new`, is answered
--- at the reading that the words state. The output was `out`: until it is flushed, the request is served as by the
--- machine, over the store of the words' database.
-pub record Exchanges {D X C O : Type 0} (m : Machine D X C Reading) (contents : O → Option (List ℕ)) (out : O)
-    (words : ExchangeWords) (old new : Option (List ℕ)) (IsWritten : List ℕ → Type 0) : Type 0 where
-  pub setting : Setting
-  pub set : IsSettingOf words.desk setting
-  pub writes : WritesAnswer setting.file (pos words.reading) old new IsWritten
-  pub written : O
+pub record Exchanges {D X C S F O : Type 0} (m : Machine D X C Reading) (files : Source S F) (words : ExchangeWords)
+    (contents : O → Option (List ℕ)) (output : O) (input input' : Option (List ℕ)) (IsWritten : List ℕ → Type 0)
+    : Type 0 where
+  -- the policy file is read first; its text means this policy
+  pub rules : List ℕ
+  pub rules_read : ReadsText files words.desk.rules.now (Ok rules)
+  pub policy : PolicyValue
+  pub meant : meaning_of rules ≡ Ok policy
+  -- then the certificate that tokens name (ESSCertIDv2, RFC 5816) and its chain, which is empty where no file is named
+  pub identity : IdentityValue
+  pub identity_read : ReadsIdentity files words.desk.certificate.now (path_of words.desk.chain) (Ok identity)
+  pub alone : words.desk.chain ≡ None → identity.chain ≡ []
+  -- then the file of who signs, whose AlgorithmIdentifier tokens state (RFC 5652 5.3)
+  pub signing : Signing
+  pub signs : SignsAs files words.desk.signer signing
+  -- by that policy, at the reading that the words state, the input is answered, or is at its end
+  pub writes : WritesAnswer policy (pos words.reading) input input' IsWritten
+  -- over the store of the database, at a desk of these, the request is served; the output is then flushed
+  pub unflushed : O
   pub outcome : Served
-  pub served : IsServedOver m setting (algorithm_of set.signing) contents (pos words.reading) old
-      new out written outcome
+  pub served : IsVisitedAsAny m.disk m.held m.signs
+      (record { file = policy; in_force = in_force_of identity (algorithm_of signing) }) (algorithm_of signing)
+      (λ _ g desk desk' signer signer'.
+      Serves g m.signs.signs m.signs.fault_count contents (pos words.reading) (record {
+        input = input;
+        input_after = input';
+        writer = output;
+        writer_after = unflushed;
+        desk = desk;
+        desk_after = desk';
+        signer = signer;
+        signer_after = signer';
+      }) outcome)
 
 -- how an exchange ends: nothing was asked, or the answer was sent
 abbrev pub HasEnded : Served → (mid after : Option (List ℕ)) → Type 0

@@ -1,17 +1,15 @@
--- What answering one HTTP request does to a reader and a writer, where nothing is known of what the database holds; and
--- over which store it is served.
+-- What answering one HTTP request does to a reader and a writer, where nothing is known of what the database holds.
 use Rattle.std.specs.Prelude.{◌≡◌, ◌⊎◌, ℕ, ℤ, List, [], length, take, Option, Ok, Err}
 use Rattle.std.specs.Io.KnownBytes.{Appends, Consumes, IsAtEnd}
 use Rattle.policy.specs.Record.{AccountValue, PolicyValue}
 use Rattle.audit.specs.Auditor.{IsAllowed, ComesWhere}
 use Rattle.audit.specs.declared.fault.ExtractFault.{ExtractFault}
 use Rattle.book.specs.History.{CalibrationValue}
-use Rattle.connections.specs.Clock.{Reading}
-use Rattle.desk.specs.Command.{Command, Stamp, ListAll, Calibrate, Answer, Setting}
+use Rattle.desk.specs.Command.{Command, Stamp, ListAll, Calibrate, Answer}
 use Rattle.service.specs.Answers.{AnswerValue, answer_text, answer_to, refusal_answer, success}
 use Rattle.service.specs.Refusals.{refusal_of_extract}
 use Rattle.service.specs.Requests.{Step, Look, Extract, Status, IsRequest, IsPart, IsEarly}
-use Rattle.service.specs.Served.{Serves, Turn, unavailable}
+use Rattle.service.specs.Served.{Turn, unavailable}
 use Rattle.service.specs.declared.answer.Media.TheVariants as media
 use Rattle.service.specs.declared.answer.Media.TheVariants.{Csv}
 use Rattle.service.specs.declared.refusal.Refusal.{Refusal}
@@ -19,8 +17,6 @@ use Rattle.service.specs.declared.refusal.Refusal.TheVariants as refusal
 use Rattle.service.specs.declared.served.Served.{Served}
 use Rattle.service.specs.declared.served.Served.TheVariants as served
 use Rattle.operations.specs.Judged.{IsJudgedReply}
-use Rattle.operations.specs.Machine.{Machine}
-use Rattle.operations.specs.OverFiles.{IsVisitedAsAny}
 use Rattle.operations.specs.Visits.{Visit}
 
 -- what of the reply to a time-stamp request is certain
@@ -99,20 +95,3 @@ turn_of remaining visit = record {
   signer = visit.signer;
   signer_after = visit.signer_after;
 }
-
--- An HTTP request was served at a desk over the store that was opened over what the files held, of an input that was
--- left as `old` and then as `new`.
-abbrev pub IsServedOver : {D X C W : Type 0} → Machine D X C Reading → Setting → (algorithm : List ℕ)
-    → (W → Option (List ℕ)) → ℤ → (old new : Option (List ℕ)) → W → W → Served → Type 0
-IsServedOver m setting algorithm contents reading old new writer writer' served =
-    IsVisitedAsAny m.disk m.held m.signs setting algorithm (λ _ g desk desk' signer signer'.
-    Serves g m.signs.signs m.signs.fault_count contents reading (record {
-      input = old;
-      input_after = new;
-      writer = writer;
-      writer_after = writer';
-      desk = desk;
-      desk_after = desk';
-      signer = signer;
-      signer_after = signer';
-    }) served)

@@ -1,8 +1,9 @@
 //! The word `answer`.
 ghost use Rattle.std.specs.Prelude.{◌≡◌, IfOk, IfSome};
 ghost use Rattle.operations.specs.Machine.{machine_of};
-ghost use Rattle.counter.specs.Answers.{RepliesTo};
-ghost use Rattle.counter.specs.Replies.{octets_of};
+ghost use Rattle.console.specs.Files.{source_of};
+ghost use Rattle.console.specs.Hexadecimal.{line};
+ghost use Rattle.counter.specs.Reply.{Replies, octets_of};
 
 use crate::fault::answer_of;
 use crate::files::{Files, read_files};
@@ -10,7 +11,7 @@ use crate::host::Host;
 use cms::Signer;
 use command_line::AnswerWords;
 use connections::{Clock, SystemClock};
-use console::{Fault, account_of, read_hexadecimal};
+use console::{Fault, FileSource, account_of, read_hexadecimal};
 use desk::{Reply, Settings};
 use operations::{DatabaseDesk, Disk, FileFrom, HostSigner, Question, Renewal, Start};
 use std::io::Read;
@@ -18,14 +19,15 @@ use std::rt::HostRuntime;
 
 /// Reads a request, and answers it by a token that is stored, or by a rejection. The files are read first, then the
 /// request, and the database last.
-pub fn answer<F: Start + Drop, I: Read>(
-    host: Host<'_, F>,
+pub fn answer<F: Start + Drop, S: FileSource + AllocGlobal, I: Read>(
+    host: Host<'_, F, S>,
     words: &AnswerWords<'_>,
     input: &mut I,
 ) -> Result<Reply, Fault>
-    ensures { IfOk result (λ reply. IfSome (I.remaining input.old) (λ text. RepliesTo
+    ensures { IfOk result (λ reply. IfSome (I.remaining input.old) (λ text. Replies
         (machine_of ⟦<FileFrom<F> as Disk>⟧ F.Start ⟦<HostSigner<'static> as Signer>⟧
-        ⟦<SystemClock<'static, HostRuntime> as Clock>⟧.reads) words.now text (octets_of reply))) }
+        ⟦<SystemClock<'static, HostRuntime> as Clock>⟧.reads)
+        (source_of S.opens S.refuses S.File.remaining host.entry.files.now) words.now text (line (octets_of reply)))) }
 {
     let rt = host.rt;
     let Files {
@@ -33,7 +35,7 @@ pub fn answer<F: Start + Drop, I: Read>(
         identity,
         signing,
         algorithm,
-    } = read_files(rt, &words.desk)?;
+    } = read_files(host.files, &words.desk)?;
     let account = account_of(&policy, words.key)?;
     let query = read_hexadecimal(rt.alloc(), input)?;
     let desk = DatabaseDesk {

@@ -1,6 +1,7 @@
 //! The word `exchange`.
 ghost use Rattle.std.specs.Prelude.{◌≡◌, ◌⊎◌, OnOk, IfErr};
 ghost use Rattle.std.specs.Io.KnownBytes.{Appends, Keeps};
+ghost use Rattle.console.specs.Files.{source_of};
 ghost use Rattle.counter.specs.Exchange.{Exchanges, HasEnded, HasStopped};
 ghost use Rattle.operations.specs.Machine.{machine_of};
 ghost use Rattle.console.specs.Writes.{Begins};
@@ -12,7 +13,7 @@ use crate::http_request::OneRequest;
 use cms::Signer;
 use command_line::ExchangeWords;
 use connections::{Clock, SystemClock};
-use console::{Fault, InputFault};
+use console::{Fault, FileSource, InputFault};
 use desk::Settings;
 use operations::{DatabaseDesk, Disk, FileFrom, HostSigner, Renewal, Start, perform_at_desk};
 use service::Served;
@@ -22,21 +23,25 @@ use std::rt::HostRuntime;
 /// Reads one HTTP request and writes its answer; nothing where the input ends before any octet. The files are read
 /// first, then the database is opened, the key holder reached, and the request read last. `input` 5 where a read or a
 /// write fails, or the database or memory in the middle of an extract.
-pub fn exchange<F: Start + Drop, I: Read, O: Write>(
-    host: Host<'_, F>,
+pub fn exchange<F: Start + Drop, S: FileSource + AllocGlobal, I: Read, O: Write>(
+    host: Host<'_, F, S>,
     words: &ExchangeWords<'_>,
     input: &mut I,
     output: &mut O,
 ) -> Result<(), Fault>
-    ensures answered { OnOk result (Exchanges (machine_of ⟦<FileFrom<F> as Disk>⟧ F.Start ⟦<HostSigner<'static> as Signer>⟧
-        ⟦<SystemClock<'static, HostRuntime> as Clock>⟧.reads) O.contents output.old words.now (I.remaining input.old) (I.remaining input.new)
+    ensures answered { OnOk result (Exchanges (machine_of ⟦<FileFrom<F> as Disk>⟧ F.Start
+        ⟦<HostSigner<'static> as Signer>⟧ ⟦<SystemClock<'static, HostRuntime> as Clock>⟧.reads)
+        (source_of S.opens S.refuses S.File.remaining host.entry.files.now) words.now O.contents output.old
+        (I.remaining input.old) (I.remaining input.new)
         (Appends (O.contents output.old) (O.contents output.new))) }
 
     // Before a fault nothing is written, but where there is an answer and writing it fails.
     ensures kept { IfErr result (λ fault. (O.contents output.new ≡ O.contents output.old)
         ⊎ ((fault ≡ Fault.Input InputFault.Failed)
-        × Exchanges (machine_of ⟦<FileFrom<F> as Disk>⟧ F.Start ⟦<HostSigner<'static> as Signer>⟧
-        ⟦<SystemClock<'static, HostRuntime> as Clock>⟧.reads) O.contents output.old words.now (I.remaining input.old) (I.remaining input.new)
+        × Exchanges (machine_of ⟦<FileFrom<F> as Disk>⟧ F.Start
+        ⟦<HostSigner<'static> as Signer>⟧ ⟦<SystemClock<'static, HostRuntime> as Clock>⟧.reads)
+        (source_of S.opens S.refuses S.File.remaining host.entry.files.now) words.now O.contents output.old
+        (I.remaining input.old) (I.remaining input.new)
         (Begins (O.contents output.old) (O.contents output.new)))) }
 {
     let rt = host.rt;
@@ -45,7 +50,7 @@ pub fn exchange<F: Start + Drop, I: Read, O: Write>(
         identity,
         signing,
         algorithm,
-    } = read_files(rt, &words.desk)?;
+    } = read_files(host.files, &words.desk)?;
     let desk = DatabaseDesk {
         database: host.database(words.desk.db),
         settings: Settings {

@@ -1,35 +1,43 @@
 //! The word `audit`.
-ghost use Rattle.std.specs.Prelude.{◌≡◌, List, ℕ, true, false, IfOk, IfErr, OnOk};
+ghost use Rattle.std.specs.Prelude.{◌≡◌, true, false, IfOk, IfErr};
 ghost use Rattle.std.specs.Io.KnownBytes.{Appends};
+ghost use Rattle.console.specs.Files.{source_of};
 ghost use Rattle.operations.specs.Audits.{TellsSome};
-ghost use Rattle.counter.specs.Audits.{Audits, LeavesCut};
+ghost use Rattle.operations.specs.Machine.{machine_of};
+ghost use Rattle.counter.specs.Extract.{Extracts, LeavesAudit};
 
 use crate::fault::agreement_of;
 use crate::host::Host;
+use cms::Signer;
 use command_line::AuditWords;
-use console::{Fault, account_named, read_policy};
-use operations::{Inquiry, Start};
+use connections::{Clock, SystemClock};
+use console::{Fault, FileSource, account_named, read_policy};
+use operations::{Disk, FileFrom, HostSigner, Inquiry, Start};
 use std::io::Write;
+use std::rt::HostRuntime;
 
 /// Writes the extract that the words ask for, and checks its stamps where they ask for that, with a line for each that
 /// fails: whether there is none. The policy file is read first, then the account looked for, and the database opened
 /// last.
-pub fn audit<F: Start + Drop, O: Write, E: Write>(
-    host: Host<'_, F>,
+pub fn audit<F: Start + Drop, S: FileSource + AllocGlobal, O: Write, E: Write>(
+    host: Host<'_, F, S>,
     words: &AuditWords<'_>,
     output: &mut O,
     errors: &mut E,
 ) -> Result<bool, Fault>
-    ensures extracted { OnOk result ((text : List ℕ) × Audits words.now text
-        × Appends (O.contents output.old) (O.contents output.new) text) }
+    ensures extracted { IfOk result (λ agree. Extracts (machine_of ⟦<FileFrom<F> as Disk>⟧ F.Start
+        ⟦<HostSigner<'static> as Signer>⟧ ⟦<SystemClock<'static, HostRuntime> as Clock>⟧.reads)
+        (source_of S.opens S.refuses S.File.remaining host.entry.files.now) words.now (O.contents output.old)
+        (O.contents output.new) (E.contents errors.old) (E.contents errors.new) agree
+        (Appends (O.contents output.old) (O.contents output.new))) }
     ensures agreed { IfOk result (λ agree. agree ≡ true → E.contents errors.new ≡ E.contents errors.old) }
     ensures failed { IfOk result (λ agree. agree ≡ false
         → (words.now.check ≡ true) × TellsSome (E.contents errors.old) (E.contents errors.new)) }
-    ensures refused { IfErr result (LeavesCut words.now (O.contents output.old) (O.contents output.new)
-        (E.contents errors.old) (E.contents errors.new)) }
+    ensures refused { IfErr result (LeavesAudit (source_of S.opens S.refuses S.File.remaining host.entry.files.now)
+        words.now (O.contents output.old) (O.contents output.new) (E.contents errors.old) (E.contents errors.new)) }
 {
     let rt = host.rt;
-    let policy = read_policy(rt, words.rules)?;
+    let policy = read_policy(host.files, words.rules)?;
     let account = account_named(&policy, words.account)?;
     let inquiry = Inquiry {
         policy: &policy,

@@ -3,16 +3,15 @@ ghost use Rattle.std.specs.Prelude.{◌≡◌, List, ℕ, [], Ok, None, IfOk, If
 ghost use Rattle.policy.specs.Meaning.{meaning_of};
 ghost use Rattle.policy.specs.View.{policy_view};
 ghost use Rattle.console.specs.Fault.{IsFileFault, IsSettingFault};
-ghost use Rattle.console.specs.Identity.{IsIdentity};
+ghost use Rattle.console.specs.Files.{ReadsIdentity, ReadsText, source_of};
 ghost use Rattle.operations.specs.Signing.{algorithm_of};
-ghost use Rattle.counter.specs.Signers.{SignsAs};
+ghost use Rattle.counter.specs.Files.{RefusesFiles, RefusesSigner, SignsAs, path_of};
 
 use cms::{Algorithm, Identity};
 use command_line::{DeskWords, SignerWords};
-use console::{Fault, read_algorithm, read_identity, read_policy, read_signer};
+use console::{Fault, FileSource, read_algorithm, read_identity, read_policy, read_signer};
 use operations::Signing;
 use policy::Policy;
-use std::rt::HostRuntime;
 
 /// What the files say.
 #[derive(Drop)]
@@ -29,13 +28,22 @@ pub struct Files<'a> {
 
 /// Reads the policy file, the certificate, its chain and the signer's file, in this order. Refused as `read_policy`,
 /// `read_identity` and `read_signing`.
-pub fn read_files<'a>(rt: &HostRuntime, words: &DeskWords<'a>) -> Result<Files<'a>, Fault>
-    // No contract says what a file holds. So the policy is the meaning of some text.
-    ensures meant { IfOk result (λ files. (text : List ℕ) × (meaning_of text ≡ Ok (policy_view files.policy))) }
-    ensures identity { IfOk result (λ files. IsIdentity files.identity) }
+pub fn read_files<'a, S: FileSource + AllocGlobal>(
+    rt: &S,
+    words: &DeskWords<'a>,
+) -> Result<Files<'a>, Fault>
+    ensures meant { IfOk result (λ files. (text : List ℕ)
+        × ReadsText (source_of S.opens S.refuses S.File.remaining rt.now) words.now.rules.now (Ok text)
+        × (meaning_of text ≡ Ok (policy_view files.policy))) }
+    ensures identity { IfOk result (λ files. ReadsIdentity (source_of S.opens S.refuses S.File.remaining rt.now)
+        words.now.certificate.now (path_of words.now.chain) (Ok files.identity)) }
     ensures alone { words.now.chain ≡ None → IfOk result (λ files. files.identity.chain ≡ []) }
-    ensures signs { IfOk result (λ files. SignsAs words.now.signer files.signing) }
+    ensures signs { IfOk result (λ files. SignsAs (source_of S.opens S.refuses S.File.remaining rt.now)
+        words.now.signer files.signing) }
     ensures algorithm { IfOk result (λ files. files.algorithm ≡ algorithm_of files.signing) }
+
+    // The first fault of these files, in the order in which they are read.
+    ensures first { IfErr result (RefusesFiles (source_of S.opens S.refuses S.File.remaining rt.now) words.now) }
     ensures faults { IfErr result IsSettingFault }
 {
     let policy = read_policy(rt, words.rules)?;
@@ -52,8 +60,12 @@ pub fn read_files<'a>(rt: &HostRuntime, words: &DeskWords<'a>) -> Result<Files<'
 
 /// Reads who signs: the key of the stand-in signer, or the algorithm of a key holder at an address. Refused as
 /// `read_signer` and `read_algorithm`.
-fn read_signing<'a>(rt: &HostRuntime, words: SignerWords<'a>) -> Result<Signing<'a>, Fault>
-    ensures found { IfOk result (SignsAs words.entry) }
+fn read_signing<'a, S: FileSource + AllocGlobal>(
+    rt: &S,
+    words: SignerWords<'a>,
+) -> Result<Signing<'a>, Fault>
+    ensures found { IfOk result (SignsAs (source_of S.opens S.refuses S.File.remaining rt.now) words.entry) }
+    ensures refused { IfErr result (RefusesSigner (source_of S.opens S.refuses S.File.remaining rt.now) words.entry) }
     ensures faults { IfErr result IsFileFault }
 {
     match words {

@@ -3,7 +3,9 @@ ghost use Rattle.std.specs.Prelude.{◌≡◌, ◌<◌, ◌≤◌, Err, IfOk, If
 ghost use Rattle.book.specs.Values.{calibration_view, hold_view};
 ghost use Rattle.operations.specs.Machine.{image_at};
 ghost use Rattle.operations.specs.OverFiles.{IsContinuedOver, IsMigratedOver, IsRefusedOver};
-ghost use Rattle.counter.specs.Additions.{AddsCalibration, AddsHold, calibration_of, floor_of, hold_of};
+ghost use Rattle.counter.specs.Calibration.{Calibrates, calibration_of};
+ghost use Rattle.counter.specs.Continuation.{floor_of};
+ghost use Rattle.counter.specs.Hold.{Holds, hold_of};
 ghost use Rattle.counter.specs.Fault.{fault_of_continuation};
 ghost use Rattle.console.specs.Fault.{IsStoreFault};
 ghost use Rattle.operations.specs.Machine.{machine_of};
@@ -20,14 +22,17 @@ use operations::{
 };
 
 /// Makes the tables of a new database.
-pub fn init<F: Start + Drop>(host: Host<'_, F>, words: &InitWords<'_>) -> Result<(), Fault>
+pub fn init<F: Start + Drop, S>(host: Host<'_, F, S>, words: &InitWords<'_>) -> Result<(), Fault>
     ensures { IfErr result IsStoreFault }
 {
     Ok(operations::init(host.rt, host.database(words.db))?)
 }
 
 /// Takes a database of an older schema over.
-pub fn migrate<F: Start + Drop>(host: Host<'_, F>, words: &MigrateWords<'_>) -> Result<(), Fault>
+pub fn migrate<F: Start + Drop, S>(
+    host: Host<'_, F, S>,
+    words: &MigrateWords<'_>,
+) -> Result<(), Fault>
     ensures migrated { IfOk result (λ _. IsMigratedOver ⟦<FileFrom<F> as Disk>⟧ (image_at F.Start)) }
     ensures faults { IfErr result IsStoreFault }
 {
@@ -36,8 +41,8 @@ pub fn migrate<F: Start + Drop>(host: Host<'_, F>, words: &MigrateWords<'_>) -> 
 
 /// Closes a database for tokens, and has its history go on in a new one, above what the words state. It is `input` 9
 /// where that doesn't come after the last stamp, or there is none.
-pub fn continue_in<F: Start + Drop>(
-    host: Host<'_, F>,
+pub fn continue_in<F: Start + Drop, S>(
+    host: Host<'_, F, S>,
     words: &ContinueWords<'_>,
 ) -> Result<(), Fault>
     ensures continued { OnOk result (IsContinuedOver ⟦<FileFrom<F> as Disk>⟧ (image_at F.Start)
@@ -70,11 +75,11 @@ fn floor_of(words: &ContinueWords<'_>) -> Option<Floor>
 }
 
 /// Adds the calibration that the words state.
-pub fn calibrate<F: Start + Drop>(
-    host: Host<'_, F>,
+pub fn calibrate<F: Start + Drop, S>(
+    host: Host<'_, F, S>,
     words: &CalibrateWords<'_>,
 ) -> Result<(), Fault>
-    ensures added { IfOk result (λ _. AddsCalibration (machine_of ⟦<FileFrom<F> as Disk>⟧ F.Start ⟦<HostSigner<'static> as Signer>⟧
+    ensures added { IfOk result (λ _. Calibrates (machine_of ⟦<FileFrom<F> as Disk>⟧ F.Start ⟦<HostSigner<'static> as Signer>⟧
         ⟦<SystemClock<'static, HostRuntime> as Clock>⟧.reads) words.now) }
     ensures faults { IfErr result IsStoreFault }
 {
@@ -85,8 +90,8 @@ pub fn calibrate<F: Start + Drop>(
 
 /// Adds the hold that the words state. One that doesn't begin before it ends is `input` 3, before the database is
 /// looked at.
-pub fn hold<F: Start + Drop>(host: Host<'_, F>, words: &HoldWords<'_>) -> Result<(), Fault>
-    ensures added { IfOk result (λ _. AddsHold (machine_of ⟦<FileFrom<F> as Disk>⟧ F.Start ⟦<HostSigner<'static> as Signer>⟧
+pub fn hold<F: Start + Drop, S>(host: Host<'_, F, S>, words: &HoldWords<'_>) -> Result<(), Fault>
+    ensures added { IfOk result (λ _. Holds (machine_of ⟦<FileFrom<F> as Disk>⟧ F.Start ⟦<HostSigner<'static> as Signer>⟧
         ⟦<SystemClock<'static, HostRuntime> as Clock>⟧.reads) words.now) }
     ensures some { IfOk result (λ _. words.now.from < words.now.to) }
     ensures none { words.now.to ≤ words.now.from → result ≡ Err (Fault.Input InputFault.Hold) }

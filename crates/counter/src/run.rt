@@ -1,13 +1,16 @@
-ghost use Rattle.std.specs.Prelude.{◌≡◌, ◌≢◌, ◌≤◌, ◌⊎◌, List, ℕ, OnOk, IfSome, IfErr, IfOk};
+ghost use Rattle.std.specs.Prelude.{◌≡◌, ◌≢◌, ◌≤◌, ◌⊎◌, List, ℕ, true, false, Ok, Err, OnOk, IfSome, IfErr, IfOk};
 ghost use Rattle.std.specs.Io.KnownBytes.{Appends};
 ghost use Rattle.command_line.specs.Words.{AreRefused, AreTaken, Asks, AsksHelp, texts_of};
-ghost use Rattle.counter.specs.Answers.{Does, GoesOn, RepliesTo};
-ghost use Rattle.counter.specs.Audits.{FailsStamps, IsNoAudit, LeavesCut, LeavesExtract, Tells};
-ghost use Rattle.console.specs.Fault.{fault_line};
-ghost use Rattle.console.specs.Hexadecimal.{line};
-ghost use Rattle.operations.specs.Machine.{image_at, machine_of};
-ghost use Rattle.operations.specs.OverFiles.{IsContinuedOver};
+ghost use Rattle.console.specs.Fault.{fault_line, no_text};
+ghost use Rattle.console.specs.Files.{source_of};
 ghost use Rattle.console.specs.Writes.{Begins};
+ghost use Rattle.counter.specs.Answers.{Does, IsNoAudit};
+ghost use Rattle.counter.specs.Extract.{Extracts, LeavesAudit};
+ghost use Rattle.counter.specs.Reply.{Replies};
+ghost use Rattle.counter.specs.Stops.{Stops};
+ghost use Rattle.counter.specs.Streams.{streams_of};
+ghost use Rattle.operations.specs.Audits.{TellsSome};
+ghost use Rattle.operations.specs.Machine.{machine_of};
 
 use crate::answer::{answer, octets_of};
 use crate::exchange::exchange;
@@ -19,13 +22,13 @@ use cms::Signer;
 use command_line::{AnswerWords, AuditWords, Word};
 use connections::{Clock, SystemClock};
 use console::{
-    DONE, FAULT, Fault, InputFault, WORDS_REFUSED, answer_tst, check_policy, explain, report,
-    write_hexadecimal,
+    DONE, FAULT, Fault, FileSource, InputFault, answer_tst, check_policy, explain, refuse_octets,
+    report, write_hexadecimal,
 };
 use operations::{Disk, FileFrom, HostSigner, Start, Unknown};
-use std::io::{Read, Write};
+use std::env;
+use std::io::{ErrorKind, Read, Stderr, Stdin, Stdout, Write};
 use std::rt::HostRuntime;
-use std::{env, io};
 
 /// What was done.
 #[derive(Clone, Copy)]
@@ -61,36 +64,66 @@ impl Outcome {
     }
 }
 
-/// The program with the process's own words and streams. It answers the exit status as `run_words` does. Words that
-/// aren't UTF-8 are refused, with status 2; where memory runs out over them it is `input` 7, with status 1.
+/// The streams of a process. Those of the machine are of three types, so that none is taken for another.
+#[derive(Drop)]
+pub struct Process<I, O, E> {
+    /// What it reads.
+    pub input: I,
+    /// Where answers go.
+    pub output: O,
+    /// Where faults are told.
+    pub errors: E,
+}
+
+/// The program with the process's own words and streams. It answers the exit status as `run_words` and `take_words` do.
 pub fn run(rt: &HostRuntime) -> u8
     ensures { result ≤ 2 }
 {
-    match process_words(rt) {
-        Ok(words) => {
-            let host = Host { rt, start: Unknown };
-            let (mut input, mut output) = (rt.stdin(), rt.stdout());
-            run_words(
-                host,
-                words.as_slice(),
-                &mut input,
-                &mut output,
-                &mut rt.stderr(),
-            )
-        }
-        Err(error) if error.kind() == io::ErrorKind::OutOfMemory => {
-            report(Fault::Input(InputFault::Memory), &mut rt.stderr())
-        }
-        Err(_) => {
-            // Where standard error fails, the status alone tells.
-            let _ = rt.stderr().write_all(b"error: the words are not UTF-8\n");
-            WORDS_REFUSED
-        }
+    let host = Host {
+        rt,
+        files: rt,
+        start: Unknown,
+    };
+    let mut process: Process<Stdin, Stdout, Stderr> = Process {
+        input: rt.stdin(),
+        output: rt.stdout(),
+        errors: rt.stderr(),
+    };
+    match take_words(process_words(rt), &mut process) {
+        Ok(words) => run_words(host, words.as_slice(), &mut process),
+        Err(status) => status,
     }
 }
 
-fn process_words(rt: &HostRuntime) -> io::Result<Vec<String>> {
-    Ok(env::args(rt)?.collect(rt.alloc())?)
+fn process_words(rt: &HostRuntime) -> Result<Vec<String>, ErrorKind> {
+    let words = env::args(rt).map_err(|error| error.kind())?;
+    words.collect(rt.alloc()).or(Err(ErrorKind::OutOfMemory))
+}
+
+/// The words of the process; or the exit status, where there are none. Words that aren't UTF-8 are refused, with status
+/// 2; where memory runs out over them it is `input` 7, with status 1. Why is written to `errors`, and to it alone.
+fn take_words<I, O: Write, E: Write>(
+    words: Result<Vec<String>, ErrorKind>,
+    process: &mut Process<I, O, E>,
+) -> Result<Vec<String>, u8>
+    ensures taken { IfOk words.entry (λ given. (result ≡ Ok given)
+        × (E.contents process.new.errors ≡ E.contents process.old.errors)) }
+    ensures memory { words.entry ≡ Err ErrorKind.OutOfMemory → (result ≡ Err 1)
+        × Begins (E.contents process.old.errors) (E.contents process.new.errors) (fault_line (Fault.Input InputFault.Memory)) }
+    ensures refused { IfErr words.entry (λ kind. kind ≢ ErrorKind.OutOfMemory → (result ≡ Err 2)
+        × Begins (E.contents process.old.errors) (E.contents process.new.errors) no_text) }
+    ensures most { IfErr result (λ status. status ≤ 2) }
+    ensures unread { process.new.input ≡ process.old.input }
+    ensures unwritten { process.new.output ≡ process.old.output }
+{
+    match words {
+        Ok(words) => Ok(words),
+        Err(ErrorKind::OutOfMemory) => Err(report(
+            Fault::Input(InputFault::Memory),
+            &mut process.errors,
+        )),
+        Err(_) => Err(refuse_octets(&mut process.errors)),
+    }
 }
 
 /// The whole program: does what the words ask for, of which the first is the program's name, and answers the exit
@@ -109,51 +142,46 @@ fn process_words(rt: &HostRuntime) -> io::Result<Vec<String>> {
 /// Where the status isn't 0 nothing is written to `output`, but where writing an answer or help fails, or an extract is
 /// refused on the way: then a beginning of it stands there; and where a check fails or is stopped: then the whole
 /// extract.
-pub fn run_words<F: Start + Drop, I: Read, O: Write, E: Write>(
-    host: Host<'_, F>,
+pub fn run_words<F: Start + Drop, S: FileSource + AllocGlobal, I: Read, O: Write, E: Write>(
+    host: Host<'_, F, S>,
     words: &[String],
-    input: &mut I,
-    output: &mut O,
-    errors: &mut E,
+    process: &mut Process<I, O, E>,
 ) -> u8
     ensures status { result ≤ 2 }
 
     // Where all is done, what the words ask for is written, or they ask for help.
     ensures done { result ≡ 0 → ((word : Word) × Asks (texts_of words.now) word
-        × Does (machine_of ⟦<FileFrom<F> as Disk>⟧ F.Start ⟦<HostSigner<'static> as Signer>⟧
-        ⟦<SystemClock<'static, HostRuntime> as Clock>⟧.reads) O.contents output.old word (I.remaining input.old) (I.remaining input.new)
-        (Appends (O.contents output.old) (O.contents output.new))
-        × GoesOn word (IsContinuedOver ⟦<FileFrom<F> as Disk>⟧ (image_at F.Start) ⟦<FileFrom<Unknown> as Disk>⟧))
+        × Does (machine_of ⟦<FileFrom<F> as Disk>⟧ F.Start
+        ⟦<HostSigner<'static> as Signer>⟧ ⟦<SystemClock<'static, HostRuntime> as Clock>⟧.reads)
+        ⟦<FileFrom<Unknown> as Disk>⟧ (source_of S.opens S.refuses S.File.remaining host.entry.files.now)
+        (streams_of (I.remaining process.old.input) (I.remaining process.new.input) O.contents process.old.output
+        process.new.output (E.contents process.old.errors) (E.contents process.new.errors)) word
+        (Appends (O.contents process.old.output) (O.contents process.new.output)))
         ⊎ AsksHelp (texts_of words.now) }
 
     // Where all is done, no fault is written.
-    ensures silent { result ≡ 0 → E.contents errors.new ≡ E.contents errors.old }
+    ensures silent { result ≡ 0 → E.contents process.new.errors ≡ E.contents process.old.errors }
 
     // Only words that aren't understood are refused, and they write to `errors` alone.
     ensures refused { result ≡ 2 → AreRefused (texts_of words.now) }
-    ensures unwritten { result ≡ 2 → O.contents output.new ≡ O.contents output.old }
+    ensures unwritten { result ≡ 2 → O.contents process.new.output ≡ O.contents process.old.output }
 
     // Words that aren't taken read nothing, whatever the status.
     ensures unread { (result ≡ 2) ⊎ (AreTaken (texts_of words.now) → ⊥)
-        → I.remaining input.new ≡ I.remaining input.old }
+        → I.remaining process.new.input ≡ I.remaining process.old.input }
 
-    // Where a fault stopped it, its line or a beginning of it is written; where stamps fail their check, a line for
-    // each of those that fail is written before it or in its place.
-    ensures told { result ≡ 1 → Tells (texts_of words.now) (E.contents errors.old) (E.contents errors.new) }
-
-    // Nothing but help, a beginning of an answer, an extract or a beginning of one is written to the output then; an
-    // answer's only where the fault is `input` 5, an extract's where it is refused, and all of it where its check is.
-    ensures kept { result ≡ 1 → (O.contents output.new ≡ O.contents output.old)
-        ⊎ (AsksHelp (texts_of words.now)
-        ⊎ (((word : Word) × Asks (texts_of words.now) word
-        × Does (machine_of ⟦<FileFrom<F> as Disk>⟧ F.Start ⟦<HostSigner<'static> as Signer>⟧
-        ⟦<SystemClock<'static, HostRuntime> as Clock>⟧.reads) O.contents output.old word (I.remaining input.old) (I.remaining input.new)
-        (Begins (O.contents output.old) (O.contents output.new))
-        × Begins (E.contents errors.old) (E.contents errors.new) (fault_line (Fault.Input InputFault.Failed)))
-        ⊎ ((audited : AuditWords) × Asks (texts_of words.now) (Word.Audit audited)
-        × LeavesExtract audited (O.contents output.old) (O.contents output.new) (E.contents errors.old)
-        (E.contents errors.new)))) }
+    // Where a fault stopped it, or stamps fail their check: what is told, and what is written to the output.
+    ensures stopped { result ≡ 1 → Stops (machine_of ⟦<FileFrom<F> as Disk>⟧ F.Start
+        ⟦<HostSigner<'static> as Signer>⟧ ⟦<SystemClock<'static, HostRuntime> as Clock>⟧.reads)
+        ⟦<FileFrom<Unknown> as Disk>⟧ (source_of S.opens S.refuses S.File.remaining host.entry.files.now) (texts_of words.now)
+        (streams_of (I.remaining process.old.input) (I.remaining process.new.input) O.contents process.old.output
+        process.new.output (E.contents process.old.errors) (E.contents process.new.errors)) }
 {
+    let Process {
+        input,
+        output,
+        errors,
+    } = process;
     match Word::parse(host.rt.alloc(), words) {
         Ok(word) => match run_word(host, &word, input, output, errors) {
             Ok(outcome) => outcome.status(),
@@ -164,40 +192,48 @@ pub fn run_words<F: Start + Drop, I: Read, O: Write, E: Write>(
 }
 
 /// Does what a word asks for.
-fn run_word<F: Start + Drop, I: Read, O: Write, E: Write>(
-    host: Host<'_, F>,
+fn run_word<F: Start + Drop, S: FileSource + AllocGlobal, I: Read, O: Write, E: Write>(
+    host: Host<'_, F, S>,
     word: &Word<'_>,
     input: &mut I,
     output: &mut O,
     errors: &mut E,
 ) -> Result<Outcome, Fault>
     ensures done { IfOk result (λ outcome. outcome ≢ Outcome.Failing
-        → Does (machine_of ⟦<FileFrom<F> as Disk>⟧ F.Start ⟦<HostSigner<'static> as Signer>⟧
-        ⟦<SystemClock<'static, HostRuntime> as Clock>⟧.reads) O.contents output.old word.now (I.remaining input.old) (I.remaining input.new)
+        → Does (machine_of ⟦<FileFrom<F> as Disk>⟧ F.Start
+        ⟦<HostSigner<'static> as Signer>⟧ ⟦<SystemClock<'static, HostRuntime> as Clock>⟧.reads)
+        ⟦<FileFrom<Unknown> as Disk>⟧ (source_of S.opens S.refuses S.File.remaining host.entry.files.now)
+        (streams_of (I.remaining input.old) (I.remaining input.new) O.contents output.old output.new
+        (E.contents errors.old) (E.contents errors.new)) word.now
         (Appends (O.contents output.old) (O.contents output.new))) }
     ensures silent { IfOk result (λ outcome. outcome ≢ Outcome.Failing
         → E.contents errors.new ≡ E.contents errors.old) }
 
-    // Where a history is carried on, the old database is closed and the new one made.
-    ensures continued { OnOk result (GoesOn word.now (IsContinuedOver ⟦<FileFrom<F> as Disk>⟧ (image_at F.Start)
-        ⟦<FileFrom<Unknown> as Disk>⟧)) }
-
     // Only where stamps are checked some may fail.
-    ensures failing { IfOk result (λ outcome. outcome ≡ Outcome.Failing
-        → FailsStamps word.now (O.contents output.old) (O.contents output.new) (E.contents errors.old)
-        (E.contents errors.new)) }
+    ensures failing { IfOk result (λ outcome. outcome ≡ Outcome.Failing → (words : AuditWords)
+        × (word.now ≡ Word.Audit words) × (words.check ≡ true)
+        × Extracts (machine_of ⟦<FileFrom<F> as Disk>⟧ F.Start ⟦<HostSigner<'static> as Signer>⟧
+        ⟦<SystemClock<'static, HostRuntime> as Clock>⟧.reads)
+        (source_of S.opens S.refuses S.File.remaining host.entry.files.now) words (O.contents output.old)
+        (O.contents output.new) (E.contents errors.old) (E.contents errors.new) false
+        (Appends (O.contents output.old) (O.contents output.new))
+        × TellsSome (E.contents errors.old) (E.contents errors.new)) }
 
     // Before a fault nothing is written, but where there is an answer and writing it fails.
     ensures kept { IsNoAudit word.now → IfErr result (λ fault. (O.contents output.new ≡ O.contents output.old)
         ⊎ ((fault ≡ Fault.Input InputFault.Failed)
-        × Does (machine_of ⟦<FileFrom<F> as Disk>⟧ F.Start ⟦<HostSigner<'static> as Signer>⟧
-        ⟦<SystemClock<'static, HostRuntime> as Clock>⟧.reads) O.contents output.old word.now (I.remaining input.old) (I.remaining input.new)
+        × Does (machine_of ⟦<FileFrom<F> as Disk>⟧ F.Start
+        ⟦<HostSigner<'static> as Signer>⟧ ⟦<SystemClock<'static, HostRuntime> as Clock>⟧.reads)
+        ⟦<FileFrom<Unknown> as Disk>⟧ (source_of S.opens S.refuses S.File.remaining host.entry.files.now)
+        (streams_of (I.remaining input.old) (I.remaining input.new) O.contents output.old output.new
+        (E.contents errors.old) (E.contents errors.new)) word.now
         (Begins (O.contents output.old) (O.contents output.new)))) }
     ensures untold { IsNoAudit word.now → IfErr result (λ _. E.contents errors.new ≡ E.contents errors.old) }
 
     // A refused extract may have been begun, and one whose check is refused is whole.
-    ensures cut { (words : AuditWords) → word.now ≡ Word.Audit words → IfErr result (LeavesCut words
-        (O.contents output.old) (O.contents output.new) (E.contents errors.old) (E.contents errors.new)) }
+    ensures cut { (words : AuditWords) → word.now ≡ Word.Audit words → IfErr result (LeavesAudit
+        (source_of S.opens S.refuses S.File.remaining host.entry.files.now) words (O.contents output.old)
+        (O.contents output.new) (E.contents errors.old) (E.contents errors.new)) }
 {
     match word {
         Word::Tst(words) => {
@@ -205,7 +241,7 @@ fn run_word<F: Start + Drop, I: Read, O: Write, E: Write>(
             Ok(Outcome::Replied)
         }
         Word::Check(words) => {
-            check_policy(host.rt, words, output)?;
+            check_policy(host.files, words, output)?;
             Ok(Outcome::Counted)
         }
         Word::Init(words) => {
@@ -251,23 +287,25 @@ fn run_word<F: Start + Drop, I: Read, O: Write, E: Write>(
 }
 
 /// Reads a request, answers it over the database, and writes the reply.
-fn answer_request<F: Start + Drop, I: Read, O: Write>(
-    host: Host<'_, F>,
+fn answer_request<F: Start + Drop, S: FileSource + AllocGlobal, I: Read, O: Write>(
+    host: Host<'_, F, S>,
     words: &AnswerWords<'_>,
     input: &mut I,
     output: &mut O,
 ) -> Result<(), Fault>
     ensures answered { OnOk result (IfSome (I.remaining input.old) (λ text.
-        (reply : List ℕ) × RepliesTo (machine_of ⟦<FileFrom<F> as Disk>⟧ F.Start ⟦<HostSigner<'static> as Signer>⟧
-        ⟦<SystemClock<'static, HostRuntime> as Clock>⟧.reads) words.now text reply
-        × Appends (O.contents output.old) (O.contents output.new) (line reply))) }
+        (written : List ℕ) × Replies (machine_of ⟦<FileFrom<F> as Disk>⟧ F.Start ⟦<HostSigner<'static> as Signer>⟧
+        ⟦<SystemClock<'static, HostRuntime> as Clock>⟧.reads)
+        (source_of S.opens S.refuses S.File.remaining host.entry.files.now) words.now text written
+        × Appends (O.contents output.old) (O.contents output.new) written)) }
 
     // Before a fault nothing is written, but where there is a reply and writing it fails.
     ensures kept { IfErr result (λ fault. (O.contents output.new ≡ O.contents output.old)
         ⊎ ((fault ≡ Fault.Input InputFault.Failed) × IfSome (I.remaining input.old) (λ text.
-        (reply : List ℕ) × RepliesTo (machine_of ⟦<FileFrom<F> as Disk>⟧ F.Start ⟦<HostSigner<'static> as Signer>⟧
-        ⟦<SystemClock<'static, HostRuntime> as Clock>⟧.reads) words.now text reply
-        × Begins (O.contents output.old) (O.contents output.new) (line reply)))) }
+        (written : List ℕ) × Replies (machine_of ⟦<FileFrom<F> as Disk>⟧ F.Start ⟦<HostSigner<'static> as Signer>⟧
+        ⟦<SystemClock<'static, HostRuntime> as Clock>⟧.reads)
+        (source_of S.opens S.refuses S.File.remaining host.entry.files.now) words.now text written
+        × Begins (O.contents output.old) (O.contents output.new) written))) }
 {
     let alloc = host.rt.alloc();
     let reply = answer(host, words, input)?;

@@ -1,8 +1,9 @@
 //! The word `serve`.
-ghost use Rattle.std.specs.Prelude.{◌≡◌, ◌⊎◌, Err, IfErr, OnOk, Ok};
-ghost use Rattle.counter.specs.Desks.{ServesConnections};
+ghost use Rattle.std.specs.Prelude.{◌≡◌, ◌*◌, ◌⊎◌, Err, IfErr, OnOk, Ok};
+ghost use Rattle.std.specs.Duration.{as_nanos};
+ghost use Rattle.console.specs.Files.{source_of};
 ghost use Rattle.counter.specs.Fault.{IsServeFault};
-ghost use Rattle.counter.specs.Server.{ServesAt, state_after, state_before};
+ghost use Rattle.counter.specs.Connections.{ServesAt, ServesConnections, state_after, state_before};
 ghost use Rattle.operations.specs.DatabaseFaults.{IsServingFault, IsUnheard};
 ghost use Rattle.operations.specs.Machine.{machine_of};
 ghost use Rattle.operations.specs.declared.fault.OperationFault.TheVariants as operation;
@@ -15,7 +16,7 @@ use book::Book;
 use cms::Signer;
 use command_line::ServeWords;
 use connections::{CONNECTION_SECONDS, Clock, Listening, SystemClock, serve_connections};
-use console::{Fault, InputFault};
+use console::{Fault, FileSource, InputFault};
 use desk::Settings;
 use operations::{
     DatabaseDesk, DeskOperation, Disk, FileFrom, HostSigner, OperationFault, Renewal, SignedDesk,
@@ -59,7 +60,7 @@ impl DeskOperation<(), ()> for Serving<'_> {
         _input: &mut (),
         _output: &mut (),
     ) -> Result<(), OperationFault> {
-        let limit = Duration::from_secs(CONNECTION_SECONDS);
+        let limit = connection_limit();
         let rt = self.rt;
         let mut clock = SystemClock::new(rt);
         match Listening::new(rt, rt, &listener, limit, None) {
@@ -82,6 +83,13 @@ impl DeskOperation<(), ()> for Serving<'_> {
     }
 }
 
+/// How long a request may take to come, and its answer to go out.
+fn connection_limit() -> Duration
+    ensures { as_nanos result ≡ 20 * 1_000_000_000 }
+{
+    Duration::from_secs(CONNECTION_SECONDS)
+}
+
 /// Serves HTTP connections at an address; readings are the machine's clock's. Connections are read side by side, and
 /// requests answered one at a time; one that fails counts too. The files are read first, then the database is opened,
 /// the key holder reached, and the address listened on. Of the process's streams it writes standard error alone, where
@@ -90,15 +98,20 @@ impl DeskOperation<(), ()> for Serving<'_> {
 /// Refused as `read_files` and `perform_at_desk`, with `input` 6 where the address can't be listened on or the system
 /// can't wait for several connections at once, and with `input` 5 where the clock fails; those that were served before
 /// stand.
-pub fn serve<F: Start + Drop>(host: Host<'_, F>, words: &ServeWords<'_>) -> Result<(), Fault>
+pub fn serve<F: Start + Drop, S: FileSource + AllocGlobal>(
+    host: Host<'_, F, S>,
+    words: &ServeWords<'_>,
+) -> Result<(), Fault>
     // Whatever the files hold: the connections are served at a desk over the store that was opened over them.
     ensures served { OnOk result (ServesConnections (machine_of ⟦<FileFrom<F> as Disk>⟧ F.Start
-        ⟦<HostSigner<'static> as Signer>⟧ ⟦<SystemClock<'static, HostRuntime> as Clock>⟧.reads) words.now (Ok tt)) }
+        ⟦<HostSigner<'static> as Signer>⟧ ⟦<SystemClock<'static, HostRuntime> as Clock>⟧.reads)
+        (source_of S.opens S.refuses S.File.remaining host.entry.files.now) words.now (Ok tt)) }
 
     // So are those before the clock failed.
     ensures stopped { result ≡ Err (Fault.Input InputFault.Failed) → ServesConnections (machine_of
         ⟦<FileFrom<F> as Disk>⟧ F.Start ⟦<HostSigner<'static> as Signer>⟧
-        ⟦<SystemClock<'static, HostRuntime> as Clock>⟧.reads) words.now (Err operation.Clock) }
+        ⟦<SystemClock<'static, HostRuntime> as Clock>⟧.reads)
+        (source_of S.opens S.refuses S.File.remaining host.entry.files.now) words.now (Err operation.Clock) }
     ensures faults { IfErr result IsServeFault }
 {
     let rt = host.rt;
@@ -107,7 +120,7 @@ pub fn serve<F: Start + Drop>(host: Host<'_, F>, words: &ServeWords<'_>) -> Resu
         identity,
         signing,
         algorithm,
-    } = read_files(rt, &words.desk)?;
+    } = read_files(host.files, &words.desk)?;
     let desk = DatabaseDesk {
         database: host.database(words.desk.db),
         settings: Settings {

@@ -11,10 +11,11 @@ returns-in_err-write_counts-clause-kept g c =
     c.from_residual-in_err-write_counts.ensures.1 in
     let meant = c.in_ok-policy.ensures.meant in
     let value = policy_view c.in_ok-policy.policy in
-    let counts : Counts (counts_line value) = record {
-      policy = value;
+    let counts : Counts _ c.args.words.now (counts_line value) = record {
       text = meant.0;
-      meant = meant.1;
+      read = meant.1;
+      policy = value;
+      meant = meant.2;
       line = refl;
     } in
     rw failing.1

@@ -4,16 +4,14 @@ use Rattle.std.proofs.lemmas.Option.{IfSome_then}
 use Rattle.std.proofs.lemmas.Result.{IfOk-weaker}
 use Rattle.der.specs.Node.{encoding}
 use Rattle.desk.specs.Answers.{reply_as}
-use Rattle.desk.specs.Calls.{setting_of}
 use Rattle.desk.specs.Command as answer
-use Rattle.desk.specs.Command.{Setting}
 use Rattle.desk.specs.declared.reply.Reply.{Reply}
 use Rattle.desk.specs.declared.reply.Reply.TheVariants.{Granted, Rejected}
+use Rattle.policy.specs.View.{policy_view}
 use Rattle.tsp.specs.Rejection.{rejection}
 use Rattle.tsp.specs.declared.rule.Rule.{Rule}
-use Rattle.counter.specs.Desks.{IsSettingOf}
 use Rattle.counter.specs.Fault.{fault_of_operation}
-use Rattle.counter.specs.Replies.{IsReplyOf, octets_of}
+use Rattle.counter.specs.Reply.{IsReplyOf, octets_of}
 use Rattle.counter.proofs.Operations.{both, told}
 use Rattle.counter.proofs.answer.answer.Goals as goal
 
@@ -32,23 +30,14 @@ reply_octets (Rejected rejected) = refl
 pub returns : goal.returns
 returns g c =
     let files = c.in_ok-policy.field-0 in
-    let meant = c.in_ok-policy.ensures.meant in
-    let setting : Setting = setting_of files.policy files.identity files.algorithm in
-    let set : IsSettingOf c.args.words.now.desk setting = record {
-      rules = meant.0;
-      meant = meant.1;
-      identity = c.in_ok-policy.ensures.identity;
-      alone = c.in_ok-policy.ensures.alone;
-      signing = files.signing;
-      signs = c.in_ok-policy.ensures.signs;
-      algorithm = c.in_ok-policy.ensures.algorithm;
-    } in
+    let read = c.in_ok-policy.ensures.meant in
     let small : c.args.words.now.reading < 2 ^ 63 = search rules in
     let judged = rw (c.in_ok-account.ensures.found, c.as_slice.ensures.value) at c.answer.ensures.judged in
     let stepped = rw (
       c.in_ok-account.ensures.found,
       c.as_slice.ensures.value,
       to_z_pos w64 c.args.words.now.reading small,
+      c.in_ok-policy.ensures.algorithm,
     ) at c.answer.ensures.stepped
     in
     let known = told fault_of_operation c.answer.result c.answer_of.result _ c.answer_of.ensures
@@ -56,14 +45,23 @@ returns g c =
     IfOk-weaker c.answer_of.result _ _
     (λ reply it. IfSome_then (g.I.Read.remaining c.args.input.now) c.in_ok-query.ensures.found
     (λ text spelled. record {
-      setting = setting;
-      set = set;
+      rules = read.0;
+      rules_read = read.1;
+      policy = policy_view files.policy;
+      meant = read.2;
+      identity = files.identity;
+      identity_read = c.in_ok-policy.ensures.identity;
+      alone = c.in_ok-policy.ensures.alone;
+      signing = files.signing;
+      signs = c.in_ok-policy.ensures.signs;
       known = c.in_ok-account.ensures.known;
       query = c.in_ok-query.query.items;
       spelled = spelled;
-      judged = λ rule first. rejected_octets reply rule (it.0 rule first);
       answer = reply_as reply;
-      says = reply_octets reply;
       stepped = it.1;
+      reply = octets_of reply;
+      says = reply_octets reply;
+      judged = λ rule first. rejected_octets reply rule (it.0 rule first);
+      digits = refl;
     }))
     known

@@ -1,10 +1,7 @@
 use Rattle.std.proofs.Common.{rules, ◌<◌, ◌^◌, inl, inr, pos, w64}
 use Rattle.std.proofs.lemmas.Int.{to_z_pos}
 use Rattle.std.proofs.lemmas.Result.{IfErr-weaker, on_ok_weaker}
-use Rattle.desk.specs.Calls.{setting_of}
-use Rattle.desk.specs.Command.{Setting}
 use Rattle.policy.specs.View.{policy_view}
-use Rattle.counter.specs.Desks.{IsSettingOf}
 use Rattle.counter.proofs.Exchanged.{ended, stopped}
 use Rattle.counter.proofs.exchange.exchange.Goals as goal
 
@@ -12,28 +9,29 @@ pub returns-in-Ok-clause-answered : goal.returns-in-Ok-clause-answered
 returns-in-Ok-clause-answered g c =
     let small : c.args.words.now.reading < 2 ^ 63 = search rules in
     let files = c.in_ok-policy.field-0 in
-    let meant = c.in_ok-policy.ensures.meant in
-    let setting : Setting = setting_of files.policy files.identity files.algorithm in
-    let set : IsSettingOf c.args.words.now.desk setting = record {
-      rules = meant.0;
-      meant = meant.1;
-      identity = c.in_ok-policy.ensures.identity;
+    let read = c.in_ok-policy.ensures.meant in
+    let answered = rw (to_z_pos w64 c.args.words.now.reading small) at c.in-Ok.ensures.answered in
+    let served = rw (
+      to_z_pos w64 c.args.words.now.reading small,
+      c.in_ok-policy.ensures.algorithm,
+    ) at c.in-Ok.ensures.moved
+    in
+    on_ok_weaker c.finish.result
+    (λ end. record {
+      rules = read.0;
+      rules_read = read.1;
+      policy = policy_view files.policy;
+      meant = read.2;
+      identity = files.identity;
+      identity_read = c.in_ok-policy.ensures.identity;
       alone = c.in_ok-policy.ensures.alone;
       signing = files.signing;
       signs = c.in_ok-policy.ensures.signs;
-      algorithm = c.in_ok-policy.ensures.algorithm;
-    } in
-    let answered = rw (to_z_pos w64 c.args.words.now.reading small) at c.in-Ok.ensures.answered in
-    let served = rw (to_z_pos w64 c.args.words.now.reading small) at c.in-Ok.ensures.moved in
-    on_ok_weaker c.finish.result
-    (λ end. record {
-      setting = setting;
-      set = set;
       writes = ended (policy_view files.policy) (pos c.args.words.now.reading)
           (g.I.Read.remaining c.args.input.now) (g.I.Read.remaining c.perform_at_desk.new.input)
           (g.O.Write.contents c.args.output.now) (g.O.Write.contents c.perform_at_desk.new.output)
           (g.O.Write.contents c.finish.new.output) c.in-Ok.served answered end;
-      written = c.perform_at_desk.new.output;
+      unflushed = c.perform_at_desk.new.output;
       outcome = c.in-Ok.served;
       served = served;
     })
@@ -43,19 +41,13 @@ pub returns-in-Ok-clause-kept : goal.returns-in-Ok-clause-kept
 returns-in-Ok-clause-kept g c =
     let small : c.args.words.now.reading < 2 ^ 63 = search rules in
     let files = c.in_ok-policy.field-0 in
-    let meant = c.in_ok-policy.ensures.meant in
-    let setting : Setting = setting_of files.policy files.identity files.algorithm in
-    let set : IsSettingOf c.args.words.now.desk setting = record {
-      rules = meant.0;
-      meant = meant.1;
-      identity = c.in_ok-policy.ensures.identity;
-      alone = c.in_ok-policy.ensures.alone;
-      signing = files.signing;
-      signs = c.in_ok-policy.ensures.signs;
-      algorithm = c.in_ok-policy.ensures.algorithm;
-    } in
+    let read = c.in_ok-policy.ensures.meant in
     let answered = rw (to_z_pos w64 c.args.words.now.reading small) at c.in-Ok.ensures.answered in
-    let served = rw (to_z_pos w64 c.args.words.now.reading small) at c.in-Ok.ensures.moved in
+    let served = rw (
+      to_z_pos w64 c.args.words.now.reading small,
+      c.in_ok-policy.ensures.algorithm,
+    ) at c.in-Ok.ensures.moved
+    in
     IfErr-weaker c.finish.result _ _
     (λ fault stop.
     elim (stopped (policy_view files.policy) (pos c.args.words.now.reading) (g.I.Read.remaining c.args.input.now)
@@ -67,10 +59,17 @@ returns-in-Ok-clause-kept g c =
           inr (
             known.0,
             record {
-              setting = setting;
-              set = set;
+              rules = read.0;
+              rules_read = read.1;
+              policy = policy_view files.policy;
+              meant = read.2;
+              identity = files.identity;
+              identity_read = c.in_ok-policy.ensures.identity;
+              alone = c.in_ok-policy.ensures.alone;
+              signing = files.signing;
+              signs = c.in_ok-policy.ensures.signs;
               writes = known.1;
-              written = c.perform_at_desk.new.output;
+              unflushed = c.perform_at_desk.new.output;
               outcome = c.in-Ok.served;
               served = served;
             },

@@ -1,21 +1,33 @@
+use Rattle.std.proofs.Common.{refl}
 use Rattle.std.proofs.lemmas.Result.{IfErr-weaker, IfOk-weaker}
 use Rattle.policy.specs.View.{account_view, policy_view}
 use Rattle.counter.specs.Fault.{fault_of_audit}
-use Rattle.counter.proofs.Audits.{audits, leaves}
-use Rattle.counter.proofs.Operations.{both, told, told_refusal}
+use Rattle.counter.proofs.Extracts.{leaves}
+use Rattle.counter.proofs.Operations.{as_answered, both, told, told_refusal}
 use Rattle.counter.proofs.extract.audit.Goals as goal
 
 pub returns-clause-extracted : goal.returns-clause-extracted
 returns-clause-extracted g c =
+    let read = c.in_ok-policy.ensures.meant in
     let known = told fault_of_audit c.audit.result c.agreement_of.result _ c.agreement_of.ensures
-    (both c.audit.result _ _ c.audit.ensures.allowed c.audit.ensures.extracted) in
+    (both c.audit.result _ _
+    (both c.audit.result _ _ c.audit.ensures.allowed c.audit.ensures.extracted)
+    (as_answered c.audit.result _ c.audit.ensures.audited)) in
     IfOk-weaker c.agreement_of.result _ _
-    (λ _ it. (
-      _,
-      audits c.args.words.now (policy_view c.in_ok-policy.policy) (account_view c.in_ok-account.account.now) it.1.0
-          c.in_ok-policy.ensures.meant c.in_ok-account.ensures.found it.0,
-      it.1.1,
-    ))
+    (λ agree it. record {
+      rules = read.0;
+      rules_read = read.1;
+      inquiry = _;
+      meant = read.2;
+      named = c.in_ok-account.ensures.found;
+      first = refl;
+      last = refl;
+      check = refl;
+      allowed = it.0.0;
+      audited = rw it.1.1 at it.1.0;
+      stamps = it.0.1.0;
+      written = it.0.1.1;
+    })
     known
 
 pub returns-clause-agreed : goal.returns-clause-agreed
@@ -33,8 +45,8 @@ returns-clause-refused g c =
     IfErr-weaker c.agreement_of.result _ _
     (λ fault it.
     rw it.2
-    (leaves c.args.words.now (policy_view c.in_ok-policy.policy) (account_view c.in_ok-account.account.now)
+    (leaves _ c.args.words.now (policy_view c.in_ok-policy.policy) (account_view c.in_ok-account.account.now)
+    c.in_ok-policy.ensures.meant c.in_ok-account.ensures.found
     (g.O.Write.contents c.args.output.now) (g.O.Write.contents c.audit.new.output)
-    (g.E.Write.contents c.args.errors.now) (g.E.Write.contents c.audit.new.errors) it.0
-    c.in_ok-policy.ensures.meant c.in_ok-account.ensures.found it.1))
+    (g.E.Write.contents c.args.errors.now) (g.E.Write.contents c.audit.new.errors) it.0 it.1))
     known

@@ -1,7 +1,8 @@
 use Rattle.std.proofs.Common.{◌∙◌, Err, ap, inl, inr}
 use Rattle.std.proofs.lemmas.Option.{IfSome_then}
 use Rattle.std.proofs.lemmas.Result.{err_from_is_err_and}
-use Rattle.counter.specs.Replies.{octets_of}
+use Rattle.console.specs.Hexadecimal.{line}
+use Rattle.counter.specs.Reply.{octets_of}
 use Rattle.console.specs.declared.fault.Fault.TheVariants.{Input}
 use Rattle.counter.proofs.run.answer_request.Goals as goal
 
@@ -9,13 +10,13 @@ pub returns-clause-answered : goal.returns-clause-answered
 returns-clause-answered g c =
     let written = rw c.octets_of.ensures at c.in_ok-write_hexadecimal.ensures.written in
     IfSome_then (g.I.Read.remaining c.args.input.now) c.in_ok-reply.ensures
-    (λ text replies. (octets_of c.in_ok-reply.reply, replies, written))
+    (λ text replies. (line (octets_of c.in_ok-reply.reply), replies, written))
 
 pub returns-in_err-write_hexadecimal-clause-kept : goal.returns-in_err-write_hexadecimal-clause-kept
 returns-in_err-write_hexadecimal-clause-kept g c =
     let failing = err_from_is_err_and c.from_residual-in_err-write_hexadecimal.result
     c.from_residual-in_err-write_hexadecimal.ensures.1 in
-    let reply = octets_of c.in_ok-reply.reply in
+    let reply = line (octets_of c.in_ok-reply.reply) in
     rw failing.1
     (elim c.in_err-write_hexadecimal.ensures.faults [
       | inl failed ↦

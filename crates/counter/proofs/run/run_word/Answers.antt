@@ -12,7 +12,11 @@ returns-in_ok-migrate-in-Migrate-clause-done g c = λ _.
 
 pub returns-in_ok-continue_in-in-Continue-clause-done : goal.returns-in_ok-continue_in-in-Continue-clause-done
 returns-in_ok-continue_in-in-Continue-clause-done g c = λ _.
-    rw c.in-Continue.is (refl, appends_nothing (g.O.Write.contents c.args.output.now))
+    rw c.in-Continue.is (
+      refl,
+      c.in_ok-continue_in-in-Continue.ensures.continued,
+      appends_nothing (g.O.Write.contents c.args.output.now),
+    )
 
 pub returns-in_ok-calibrate-in-Calibrate-clause-done : goal.returns-in_ok-calibrate-in-Calibrate-clause-done
 returns-in_ok-calibrate-in-Calibrate-clause-done g c = λ _.
@@ -26,7 +30,6 @@ pub returns-in_ok-hold-in-Hold-clause-done : goal.returns-in_ok-hold-in-Hold-cla
 returns-in_ok-hold-in-Hold-clause-done g c = λ _.
     rw c.in-Hold.is (
       refl,
-      c.in_ok-hold-in-Hold.ensures.some,
       c.in_ok-hold-in-Hold.ensures.added,
       appends_nothing (g.O.Write.contents c.args.output.now),
     )

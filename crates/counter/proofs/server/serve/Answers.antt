@@ -1,8 +1,6 @@
 use Rattle.std.proofs.Common.{◌∙◌, Err, ap, inr, sym}
 use Rattle.std.proofs.lemmas.Result.{IfErr-weaker, err_from_is_err_and, on_ok_weaker}
-use Rattle.desk.specs.Calls.{setting_of}
-use Rattle.desk.specs.Command.{Setting}
-use Rattle.counter.specs.Desks.{IsSettingOf}
+use Rattle.policy.specs.View.{policy_view}
 use Rattle.counter.specs.Fault.{fault_of_operation}
 use Rattle.counter.proofs.Operations.{told_refusal}
 use Rattle.counter.proofs.Starts.{file_not_failed, start_is_serving, start_not_failed, told_done}
@@ -12,38 +10,40 @@ use Rattle.counter.proofs.server.serve.Goals as goal
 pub returns-in-Ok-clause-served : goal.returns-in-Ok-clause-served
 returns-in-Ok-clause-served g c =
     let files = c.in_ok-policy.field-0 in
-    let meant = c.in_ok-policy.ensures.meant in
-    let setting : Setting = setting_of files.policy files.identity files.algorithm in
-    let set : IsSettingOf c.args.words.now.desk setting = record {
-      rules = meant.0;
-      meant = meant.1;
-      identity = c.in_ok-policy.ensures.identity;
+    let read = c.in_ok-policy.ensures.meant in
+    on_ok_weaker c.answer_of.result
+    (λ done. record {
+      rules = read.0;
+      rules_read = read.1;
+      policy = policy_view files.policy;
+      meant = read.2;
+      identity = files.identity;
+      identity_read = c.in_ok-policy.ensures.identity;
       alone = c.in_ok-policy.ensures.alone;
       signing = files.signing;
       signs = c.in_ok-policy.ensures.signs;
-      algorithm = c.in_ok-policy.ensures.algorithm;
-    } in
-    on_ok_weaker c.answer_of.result
-    (λ done. record { setting = setting; set = set; served = rw done at c.in-Ok.ensures.moved })
+      served = rw (done, c.in_ok-policy.ensures.algorithm) at c.in-Ok.ensures.moved;
+    })
     (told_done c.in-Ok.done c.answer_of.result c.answer_of.ensures)
 
 pub returns-in-Ok-clause-stopped : goal.returns-in-Ok-clause-stopped
 returns-in-Ok-clause-stopped g c =
     let files = c.in_ok-policy.field-0 in
-    let meant = c.in_ok-policy.ensures.meant in
-    let setting : Setting = setting_of files.policy files.identity files.algorithm in
-    let set : IsSettingOf c.args.words.now.desk setting = record {
-      rules = meant.0;
-      meant = meant.1;
-      identity = c.in_ok-policy.ensures.identity;
+    let read = c.in_ok-policy.ensures.meant in
+    λ failed.
+    let stopped = told_failed c.in-Ok.done c.answer_of.result c.answer_of.ensures failed in
+    record {
+      rules = read.0;
+      rules_read = read.1;
+      policy = policy_view files.policy;
+      meant = read.2;
+      identity = files.identity;
+      identity_read = c.in_ok-policy.ensures.identity;
       alone = c.in_ok-policy.ensures.alone;
       signing = files.signing;
       signs = c.in_ok-policy.ensures.signs;
-      algorithm = c.in_ok-policy.ensures.algorithm;
-    } in
-    λ failed.
-    let stopped = told_failed c.in-Ok.done c.answer_of.result c.answer_of.ensures failed in
-    record { setting = setting; set = set; served = rw stopped at c.in-Ok.ensures.moved }
+      served = rw (stopped, c.in_ok-policy.ensures.algorithm) at c.in-Ok.ensures.moved;
+    }
 
 pub returns-in-Ok-clause-faults : goal.returns-in-Ok-clause-faults
 returns-in-Ok-clause-faults g c =

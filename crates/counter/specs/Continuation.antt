@@ -1,0 +1,12 @@
+-- Above what `continue` has a history go on.
+use Rattle.std.specs.Prelude.{Option, option_map}
+use Rattle.command_line.specs.declared.words.ContinueWords.{ContinueWords}
+use Rattle.command_line.specs.declared.words.FloorWords.{FloorWords}
+use Rattle.operations.specs.declared.void_stamp.Floor.{Floor}
+
+abbrev pub floor_in : FloorWords → Floor
+floor_in words = record { serial = words.above; gen_time = words.moment }
+
+-- the serial number and the moment that later stamps come after, where the words state them
+abbrev pub floor_of : ContinueWords → Option Floor
+floor_of words = option_map floor_in words.floor

@@ -1,0 +1,53 @@
+-- The files that say by what requests are answered, and who signs.
+use Rattle.std.specs.Prelude.{◌≡◌, ◌≤◌, ℕ, List, Option, option_map, length, Ok, Err}
+use Rattle.std.proofs.Common.{Bor}
+use Rattle.cms.specs.Certificate.{IsAlgorithm}
+use Rattle.cms.specs.Identity.{IdentityValue}
+use Rattle.cms.specs.declared.fault.CmsFault.{CmsFault}
+use Rattle.command_line.specs.declared.words.DeskWords.{DeskWords}
+use Rattle.command_line.specs.declared.words.SignerWords.{SignerWords}
+use Rattle.command_line.specs.declared.words.SignerWords.TheVariants as words
+use Rattle.console.specs.Files.{IsAlgorithmOf, IsKeyOf, ReadsAs, ReadsIdentity, ReadsPolicy, Source}
+use Rattle.console.specs.Files.{most_of_algorithm, most_of_key}
+use Rattle.console.specs.declared.fault.Fault.{Fault}
+use Rattle.console.specs.declared.fault.Fault.TheVariants.{Cms}
+use Rattle.operations.specs.declared.signing.Signing.{Signing}
+use Rattle.operations.specs.declared.signing.Signing.TheVariants as signing
+use Rattle.policy.specs.declared.policy.Policy.{Policy}
+
+-- the path of a file, where one is named
+abbrev pub path_of : Option (Bor (List ℕ)) → Option (List ℕ)
+path_of path = option_map (λ path. path.now) path
+
+module _ {S F : Type 0} (files : Source S F) where
+  -- The stand-in signs by a key of 1 to 256 octets, which the file holds. A key holder is asked at the address that the
+  -- words tell, and its AlgorithmIdentifier, of at most 256 octets, is the file's.
+  abbrev pub SignsAs : SignerWords → Signing → Type 0
+  SignsAs (words.Key path) (signing.Keyed signer) =
+      ReadsAs files path.now most_of_key IsKeyOf (Ok signer) × (1 ≤ length signer) × (length signer ≤ 256)
+  SignsAs (words.Key path) (signing.Session at algorithm) = ⊥
+  SignsAs (words.Session address path) (signing.Keyed signer) = ⊥
+  SignsAs (words.Session address path) (signing.Session at algorithm) =
+      (at.now ≡ address.now)
+      × ReadsAs files path.now most_of_algorithm IsAlgorithmOf (Ok algorithm)
+      × (length algorithm ≤ 256)
+      × IsAlgorithm algorithm
+
+  -- how the file of who signs is refused
+  abbrev pub RefusesSigner : SignerWords → Fault → Type 0
+  RefusesSigner (words.Key path) fault = ReadsAs files path.now most_of_key IsKeyOf (Err fault)
+  RefusesSigner (words.Session address path) fault =
+      ReadsAs files path.now most_of_algorithm IsAlgorithmOf (Err fault)
+
+  -- The first fault of these files: the policy file is read first, then the certificate and its chain, and then the file
+  -- of who signs. Last its algorithm is kept for the tokens.
+  pub data RefusesFiles (words : DeskWords) (fault : Fault) : Type 0 where
+    of_policy : ReadsPolicy files words.rules.now (Err fault) → RefusesFiles words fault
+    of_identity : (policy : Policy) → ReadsPolicy files words.rules.now (Ok policy)
+        → ReadsIdentity files words.certificate.now (path_of words.chain) (Err fault) → RefusesFiles words fault
+    of_signer : (policy : Policy) → ReadsPolicy files words.rules.now (Ok policy) → (identity : IdentityValue)
+        → ReadsIdentity files words.certificate.now (path_of words.chain) (Ok identity)
+        → RefusesSigner words.signer fault → RefusesFiles words fault
+    of_algorithm : (policy : Policy) → ReadsPolicy files words.rules.now (Ok policy) → (identity : IdentityValue)
+        → ReadsIdentity files words.certificate.now (path_of words.chain) (Ok identity) → (signing : Signing)
+        → SignsAs words.signer signing → (refusal : CmsFault) → fault ≡ Cms refusal → RefusesFiles words fault
