@@ -6,6 +6,7 @@ ghost use Rattle.counter.specs.Exchange.{Exchanges, HasEnded, HasStopped};
 ghost use Rattle.operations.specs.Machine.{machine_of};
 ghost use Rattle.console.specs.Writes.{Begins};
 
+use crate::events::octets_at;
 use crate::fault::fault_of;
 use crate::files::{Files, read_files};
 use crate::host::Host;
@@ -64,6 +65,7 @@ pub fn exchange<F: Start + Drop, S: FileSource + AllocGlobal, I: Read, O: Write>
     let asked = OneRequest {
         alloc: rt.alloc(),
         reading: words.reading as i64,
+        octets: octets_at(rt, words.desk.db),
     };
     match perform_at_desk(rt, desk, asked, input, output) {
         Ok(served) => finish(served, output),

@@ -5,7 +5,7 @@ ghost use Rattle.counter.specs.HttpRequest.{IsExchanged, turn_of};
 use book::Book;
 use cms::Signer;
 use operations::{DeskOperation, OperationFault, SignedDesk};
-use service::{Served, serve_one};
+use service::{Served, Surroundings, serve_over};
 use std::alloc::Global;
 use std::io::{Read, Write};
 use std::rt::HostRuntime;
@@ -17,6 +17,8 @@ pub struct OneRequest {
     pub alloc: Global,
     /// The clock's reading, in microseconds since 1970-01-01T00:00:00Z.
     pub reading: i64,
+    /// The octets of the database when it was opened, if they are known.
+    pub octets: Option<u64>,
 }
 
 impl<R: Read, W: Write> DeskOperation<R, W> for OneRequest {
@@ -44,6 +46,11 @@ impl<R: Read, W: Write> DeskOperation<R, W> for OneRequest {
         writer: &mut W,
     ) -> Served {
         let SignedDesk { desk, signer } = signed;
-        serve_one(self.alloc, reader, writer, desk, self.reading, signer)
+        let surroundings = Surroundings {
+            alloc: self.alloc,
+            reading: self.reading,
+            octets: self.octets,
+        };
+        serve_over(surroundings, reader, writer, desk, signer)
     }
 }

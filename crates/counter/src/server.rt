@@ -8,7 +8,7 @@ ghost use Rattle.operations.specs.DatabaseFaults.{IsServingFault, IsUnheard};
 ghost use Rattle.operations.specs.Machine.{machine_of};
 ghost use Rattle.operations.specs.declared.fault.OperationFault.TheVariants as operation;
 
-use crate::events::{tell_listening, tell_opening};
+use crate::events::{octets_at, tell_listening, tell_opening};
 use crate::fault::{answer_of, fault_of};
 use crate::files::{Files, read_files};
 use crate::host::Host;
@@ -31,6 +31,8 @@ struct Serving<'a> {
     rt: &'a HostRuntime,
     address: &'a str,
     connections: u32,
+    /// The octets of the database when it was opened, if they are known.
+    octets: Option<u64>,
     /// When that began, if the clock tells.
     begun: Option<Instant>,
 }
@@ -63,7 +65,7 @@ impl DeskOperation<(), ()> for Serving<'_> {
         let limit = connection_limit();
         let rt = self.rt;
         let mut clock = SystemClock::new(rt);
-        match Listening::new(rt, rt, &listener, limit, None) {
+        match Listening::new(rt, rt, &listener, limit, self.octets) {
             Ok(mut listening) => {
                 tell_listening(rt, &listener, self.address, self.begun);
                 let SignedDesk { desk, signer } = signed;
@@ -131,13 +133,15 @@ pub fn serve<F: Start + Drop, S: FileSource + AllocGlobal>(
         signing,
         renewal: Renewal::AfterLoss,
     };
+    let octets = octets_at(rt, words.desk.db);
     let serving = Serving {
         rt,
         address: words.listen,
         connections: words.connections,
+        octets,
         begun: Instant::now(rt).ok(),
     };
-    tell_opening(rt, words.desk.db);
+    tell_opening(rt, octets);
     match perform_at_desk(rt, desk, serving, &mut (), &mut ()) {
         Ok(done) => answer_of(done),
         Err(fault) => Err(fault_of(fault)),
