@@ -4,7 +4,8 @@ use Rattle.std.proofs.Common.{sym, ap, ◌∙◌, subst, String, string_bytes}
 use Rattle.std.specs.declared.alloc.Global.{Global}
 use Rattle.tables.specs.Found.{IsFoundAs}
 use Rattle.tables.specs.Tables.{DepositRow, is_stamp, is_deposit}
-use Rattle.tables.specs.Queries.{ShowsStamp, ShowsDeposit, ShowsReference, ShowsOrigin, stamp_view, deposit_view, is_owned}
+use Rattle.tables.specs.Queries.{ShowsStamp, ShowsDeposit, ShowsReference, ShowsOrigin, stamp_view, deposit_view}
+use Rattle.tables.specs.Queries.{is_owned}
 use Rattle.book.specs.declared.rows.Stamp.{Stamp}
 use Rattle.book.specs.declared.rows.Deposit.{Deposit}
 use Rattle.tables.specs.declared.rows.Origin.{Origin}

@@ -10,7 +10,8 @@ use Rattle.std.proofs.lemmas.Bool.Decides.{eqb_tells}
 use Rattle.std.proofs.lemmas.Slice.Eq.{bytes_eq-Decides}
 use Rattle.tables.specs.Found.{IsFoundAs}
 use Rattle.tables.specs.Tables.{StampRow, DepositRow, is_stamp, is_deposit, is_deposit_of}
-use Rattle.tables.specs.Queries.{ShowsStamp, ShowsDeposit, ShowsReference, ShowsOrigin, stamp_view, deposit_view, is_owned}
+use Rattle.tables.specs.Queries.{ShowsStamp, ShowsDeposit, ShowsReference, ShowsOrigin, stamp_view, deposit_view}
+use Rattle.tables.specs.Queries.{is_owned}
 use Rattle.book.specs.declared.rows.Stamp.{Stamp}
 use Rattle.book.specs.declared.rows.Deposit.{Deposit}
 use Rattle.std.specs.declared.alloc.Global.{Global}

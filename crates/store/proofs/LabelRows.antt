@@ -38,7 +38,8 @@ member_image f (x ∷ xs) y m =
       | inr later ↦ (let found = member_image f xs y later in (found.0, member_after x found.0 xs found.1, found.2))
     ]
 
-filter_member : {X : Type 0} (p : X → Bool) (xs : List X) (y : X) → Contains xs y → p y ≡ true → Contains (filter p xs) y
+filter_member : {X : Type 0} (p : X → Bool) (xs : List X) (y : X) → Contains xs y → p y ≡ true
+    → Contains (filter p xs) y
 filter_member p [] y m t = absurd (no_member y m)
 filter_member {X} p (x ∷ xs) y m t =
     elim (member_cases x y xs m) [
@@ -48,6 +49,7 @@ filter_member {X} p (x ∷ xs) y m t =
       here : (v : Bool) → v ≡ true → Contains (cond v (x ∷ filter p xs) (filter p xs)) x
       here true e = member_here x (filter p xs)
       here false e = absurd cc
+
       beside : (v : Bool) → Contains (filter p xs) y → Contains (cond v (x ∷ filter p xs) (filter p xs)) y
       beside true k = member_after x y (filter p xs) k
       beside false k = k
@@ -67,7 +69,8 @@ member_filter {X} p (x ∷ xs) y m = go (p x) refl (λ later. member_filter p xs
 
 -- nobody is known at first
 pub none_owned : (b : History) (known : List Owned) → known ≡ [] → AreOwned b known
-none_owned b known none k d within = let empty : length known ≡ 0 = ap length none in absurd (omega (arith, within, empty))
+none_owned b known none k d within =
+    let empty : length known ≡ 0 = ap length none in absurd (omega (arith, within, empty))
 
 module _ (owner : List ℕ) (rows : List DepositRow) (labels : List Label) (are : AreLabels owner rows labels) where
   -- each label is of a row

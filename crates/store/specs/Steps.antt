@@ -1,6 +1,7 @@
 -- What the calls make of a look-up's answer: stepping stones, no definitions.
 use Rattle.std.specs.Prelude.{◌≡◌, ℕ, ◌<◌, ◌&&◌, min, nat_lt, nat_le, if◌then◌else◌, Bool, true, false}
-use Rattle.std.specs.Prelude.{List, [], ◌∷◌, length, map, get_or, IfSome, Option, Some, None, option_map, option_and_then}
+use Rattle.std.specs.Prelude.{List, [], ◌∷◌, length, map, get_or, IfSome, Option, Some, None, option_map}
+use Rattle.std.specs.Prelude.{option_and_then}
 use Rattle.std.specs.Prelude.{string_bytes}
 use Rattle.std.specs.Option.{unwrap_or}
 use Rattle.tables.specs.Found.{AreFoundAs}

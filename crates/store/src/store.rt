@@ -119,9 +119,7 @@ impl<S: Alter + Drop> Book for Store<S> {
         let mut known = Vec::new(self.alloc);
         self.look_up(account, &mut known)?;
         let mut last = 0;
-        while let Some(number) =
-            self.next_seen(account, groups, last, &mut cursors, &mut known)?
-        {
+        while let Some(number) = self.next_seen(account, groups, last, &mut cursors, &mut known)? {
             let row = self.listing(number, &mut known)?;
             add_listed(&mut rows, row)?;
             last = number;

@@ -1,5 +1,6 @@
 -- What a look-up tells of the tables, in the words of what is read of the first row of an answer.
-use Rattle.std.proofs.Common.{◌≡◌, ◌∙◌, ℕ, Bool, true, false, ◌||◌, List, [], ◌∷◌, ◌++◌, map, Option, None, Some, Result, refl}
+use Rattle.std.proofs.Common.{◌≡◌, ◌∙◌, ℕ, Bool, true, false, ◌||◌, List, [], ◌∷◌, ◌++◌, map, Option, None, Some}
+use Rattle.std.proofs.Common.{Result, refl}
 use Rattle.std.proofs.Common.{sym, ap, subst, inl, inr, Contains}
 use Rattle.std.specs.List.{list_any}
 use Rattle.std.specs.Option.{is_some}
@@ -101,8 +102,8 @@ pub all_looks : {S X Y Z : Type 0} (g : Ghosts S) {sql : List ℕ} {params : Row
     (l : LooksUp g (λ t found. TellsAllAs (λ row y. view y ≡ read row) sql given t (items found)) old new r)
     → FindsAll sql params rows image shown number read test
     → LooksUp g (λ t found. AreFoundAs shown number test (rows t) (map view (items found))) old new r
-all_looks g {sql = sql} {rows = rows} {shown = shown} {number = number} {read = read} {test = test} given same old new items view r l
-    finds =
+all_looks g {sql = sql} {rows = rows} {shown = shown} {number = number} {read = read} {test = test} given same old new
+    items view r l finds =
     retold g _ _ old new r
     (λ t found (told, (db, h, tells), are). subst (AreFoundAs shown number test (rows t))
     (sym (all_read view read told (items found) are))

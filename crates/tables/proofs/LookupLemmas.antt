@@ -1,6 +1,8 @@
 -- What a query tells of one table: a row that passes its tests, or of these the first in the order of a key.
-use Rattle.std.proofs.Common.{◌≡◌, ◌≢◌, ◌⊎◌, ℕ, pos, ◌<◌, ◌≤◌, ◌&&◌, Bool, true, false, List, [], ◌∷◌, map, filter, Option}
-use Rattle.std.proofs.Common.{None, Some, length, get_or, refl, sym, ap, ap₂, ◌∙◌, subst, subst₂, inl, inr, arith, Contains}
+use Rattle.std.proofs.Common.{◌≡◌, ◌≢◌, ◌⊎◌, ℕ, pos, ◌<◌, ◌≤◌, ◌&&◌, Bool, true, false, List, [], ◌∷◌, map, filter}
+use Rattle.std.proofs.Common.{Option}
+use Rattle.std.proofs.Common.{None, Some, length, get_or, refl, sym, ap, ap₂, ◌∙◌, subst, subst₂, inl, inr, arith}
+use Rattle.std.proofs.Common.{Contains}
 use Rattle.std.proofs.Common.{IsPermutation, is_lt, int_cmp, Less, Equal, Greater, Ordering}
 use Rattle.std.specs.Ordering.{ordering_then}
 use Rattle.std.specs.List.{slice_get}
@@ -228,7 +230,8 @@ module _ (n : Name) (params : Row) (tests project : List Term) (test : RowOf n �
 
         -- all that pass, as something else that their rows show
         module _ {Y : Type 0} (shown : RowOf n → Y) (number : Y → ℕ) (read : Row → Y)
-            (reads : (x : RowOf n) → read (image x) ≡ shown x) (numbers : (x : RowOf n) → number (shown x) ≡ key x) where
+            (reads : (x : RowOf n) → read (image x) ≡ shown x)
+            (numbers : (x : RowOf n) → number (shown x) ≡ key x) where
           abbrev whole_query : Query
           whole_query = query_of (tree_of n) tests project ((place, rising) ∷ []) no_limit
 
