@@ -12,7 +12,8 @@ use Rattle.desk.specs.declared.batch.Asked.{Asked as AskedStamp}
 use Rattle.policy.specs.Record.{PolicyValue}
 use Rattle.service.specs.Checks.{◌>>=◌, WantedValue, active_account, is_stamp, watcher_shown, wanted_by}
 use Rattle.service.specs.Heads.{HeadValue, IsHead, BeginsWith, head_value}
-use Rattle.service.specs.Known.{IsAnswerable, IsDue, IsRefused, checked, malformed, out_of_memory, out_of_memory_for_body}
+use Rattle.service.specs.Known.{IsAnswerable, IsDue, IsRefused, checked, malformed, out_of_memory}
+use Rattle.service.specs.Known.{out_of_memory_for_body}
 use Rattle.service.specs.Received.{IsPartial, ReceivedValue, in_body, in_head}
 use Rattle.service.specs.Requests.{Asked, IsRequest, Step, account_and_number, account_and_range, account_and_reference}
 use Rattle.service.specs.Requests.{asked_by, calibration_asked, hold_asked}

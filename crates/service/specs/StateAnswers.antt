@@ -13,7 +13,8 @@ use Rattle.service.specs.declared.served.Served.{Served}
 
 module _ {B W : Type 0} (g : Ghosts B) (contents : W → Option (List ℕ)) (reading : ℤ) (w w' : W) (old new : B) where
   -- the state is told, with these octets of the database
-  pub record TellsStatus (counter : CounterValue) (signer_faults : ℕ) (octets : Option ℕ) (outcome : Served) : Type 0 where
+  pub record TellsStatus (counter : CounterValue) (signer_faults : ℕ) (octets : Option ℕ) (outcome : Served)
+      : Type 0 where
     pub body : List ℕ
     pub is : g.honest new → (b : History) → Stands g b old
         → IsStateOver counter (looked_at reading b) (g.fault_count new) signer_faults octets body

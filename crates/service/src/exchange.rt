@@ -116,8 +116,8 @@ impl Request {
         }
     }
 
-    /// The stamp that it asks for, as `Desk::answer_each` takes it, where that is what is due to it: it is whole, and no
-    /// check fails. None where something else is due. The reading is the clock's, in microseconds.
+    /// The stamp that it asks for, as `Desk::answer_each` takes it, where that is what is due to it: it is whole, and
+    /// no check fails. None where something else is due. The reading is the clock's, in microseconds.
     pub fn stamp<'r>(&'r self, policy: &'r Policy, reading: i64) -> Option<Asked<'r>>
         ensures { MatchOption result
             ((asked : Question) → AsksStamp (policy_view policy.now) reading self.now asked → ⊥)
