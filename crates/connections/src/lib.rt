@@ -1,4 +1,4 @@
-//! The counter over sockets: connections, read side by side and served one after the other.
+//! The counter over sockets: connections, read side by side, and served one after the other or together.
 #![tactic(auto)]
 
 mod clock;

@@ -72,11 +72,12 @@ fn answer_all<L: Hearing, C: Clock, B: Book + Drop, G: Signer>(
     Ok(())
 }
 
-/// Answers so many connections, one after the other, as they are handed out: one request of each, as
-/// `service::serve_one` answers it. Those that fail count too. The clock is asked once for each request.
+/// Answers so many connections in the order in which they are handed out: one request of each, as `service::serve_one`
+/// answers it, or, where several in a row ask for stamps, up to 64 of these together. Those that fail count too. The
+/// clock is asked once for each request.
 ///
-/// `ClockFailed` where the clock fails: the connection that was handed out is dropped then without an answer, and no
-/// further one asked for.
+/// `ClockFailed` where the clock fails: the connection that was handed out is dropped then without an answer, with those
+/// that were to be answered with it, and no further one asked for.
 pub fn serve_each<L: Hearing, C: Clock, B: Book + Drop, G: Signer>(
     hearing: &mut L,
     count: u32,
@@ -108,7 +109,8 @@ pub fn serve_each<L: Hearing, C: Clock, B: Book + Drop, G: Signer>(
 }
 
 /// Serves so many connections of a listener, as `serve_each`. They are served one after the other, and the next is one
-/// whose request is whole; until then up to 256 are read side by side, so that none holds up another. One that fails
+/// whose request is whole; until then up to 256 are read side by side, so that none holds up another. Requests for stamps
+/// that are whole at the same time are answered together, and none waits for others to come. One that fails
 /// counts too, also where it was given up: by its client before it could be taken, or for another, where it has waited
 /// longest, for two seconds at least. Where the system has no descriptor for one, it is tried again after 50
 /// milliseconds.
@@ -118,7 +120,8 @@ pub fn serve_each<L: Hearing, C: Clock, B: Book + Drop, G: Signer>(
 /// Where a client may still send behind the answer, that is read and dropped for a while, so that the answer isn't lost;
 /// the call ends once the last of these is closed.
 ///
-/// `ClockFailed` where the clock fails: the connection is closed then without an answer, and no further one served.
+/// `ClockFailed` where the clock fails: the connection is closed then without an answer, with those that were to be
+/// answered with it, and no further one served.
 pub fn serve_connections<R: AllocGlobal + std::time::Clock, C: Clock, B: Book + Drop, G: Signer>(
     listening: &mut Listening<'_, R>,
     count: u32,
