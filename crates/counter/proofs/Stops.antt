@@ -1,7 +1,6 @@
 -- What is left where the exit status is 1, out of what a word leaves and the line that is then told.
 use Rattle.std.proofs.Common.{◌≡◌, ◌≢◌, ◌⊎◌, ℕ, true, false, List, Option, refl, subst, inl, inr}
 use Rattle.std.specs.Io.KnownBytes.{Appends}
-use Rattle.sqlite_disk.specs.declared.Disk.{Ghosts}
 use Rattle.clap.specs.Words.{Text}
 use Rattle.command_line.specs.Words.{Asks}
 use Rattle.command_line.specs.declared.words.AuditWords.{AuditWords}
@@ -18,6 +17,7 @@ use Rattle.console.specs.declared.fault.InputFault.TheVariants.{Failed}
 use Rattle.console.proofs.Writes.{begins_after}
 use Rattle.operations.specs.Audits.{TellsSome, failing_lines}
 use Rattle.operations.specs.Machine.{Machine}
+use Rattle.operations.specs.declared.void_stamp.Floor.{Floor}
 use Rattle.counter.specs.Answers.{Does, IsNoAudit}
 use Rattle.counter.specs.Extract.{Extracts, LeavesAudit}
 use Rattle.counter.specs.Extract as left
@@ -50,13 +50,13 @@ failing_or_not Exchanged = inr (λ e. cc e)
 failing_or_not Served = inr (λ e. cc e)
 failing_or_not Extracted = inr (λ e. cc e)
 
-module _ {D X C E S F O : Type 0} (m : Machine D X C Reading) (other : Ghosts E) (files : Source S F)
+module _ {D X C S F O : Type 0} (m : Machine D X C Reading) (IsContinued : Option Floor → Type 0) (files : Source S F)
     (texts : List Text) (input input' : Option (List ℕ)) (contents : O → Option (List ℕ)) (out out' : O)
     (old : Option (List ℕ)) where
   -- another word doesn't speak of standard error
   still_does : (mid new : Option (List ℕ)) (IsWritten : List ℕ → Type 0) (word : Word) → IsNoAudit word
-      → Does m other files (streams_of input input' contents out out' old mid) word IsWritten
-      → Does m other files (streams_of input input' contents out out' old new) word IsWritten
+      → Does m IsContinued files (streams_of input input' contents out out' old mid) word IsWritten
+      → Does m IsContinued files (streams_of input input' contents out out' old new) word IsWritten
   still_does mid new IsWritten (Audit words) none it = absurd (none words refl)
   still_does mid new IsWritten (Tst words) none it = it
   still_does mid new IsWritten (Check words) none it = it
@@ -78,7 +78,7 @@ module _ {D X C E S F O : Type 0} (m : Machine D X C Reading) (other : Ghosts E)
         → ((words : AuditWords) × (word ≡ Audit words) × (words.check ≡ true)
         × Extracts m files words (contents out) (contents out') old new false (Appends (contents out) (contents out'))
         × TellsSome old new)
-        → Stops m other files texts (streams_of input input' contents out out' old new)
+        → Stops m IsContinued files texts (streams_of input input' contents out out' old new)
     failing_stops new fails = failing fails.0 (asks_audit fails.0 fails.1) fails.2 fails.3 fails.4
 
     module _ (mid new : Option (List ℕ)) (fault : Fault) (line : Begins mid new (fault_line fault)) where
@@ -88,7 +88,7 @@ module _ {D X C E S F O : Type 0} (m : Machine D X C Reading) (other : Ghosts E)
       -- an audit is refused, and its fault's line is told
       pub cut_stops : (words : AuditWords) → word ≡ Audit words
           → LeavesAudit files words (contents out) (contents out') old mid fault
-          → Stops m other files texts (streams_of input input' contents out out' old new)
+          → Stops m IsContinued files texts (streams_of input input' contents out out' old new)
       cut_stops words is (left.nothing same silent) = at_fault fault same (untold silent)
       cut_stops words is (left.in_extract cut refusal met tells silent) =
           in_extract words (asks_audit words is) cut refusal met
@@ -100,9 +100,9 @@ module _ {D X C E S F O : Type 0} (m : Machine D X C Reading) (other : Ghosts E)
       -- another word is, or a stream failed while its answer was written
       pub other_stops : IsNoAudit word → mid ≡ old
           → ((contents out' ≡ contents out)
-          ⊎ ((fault ≡ Input Failed) × Does m other files (streams_of input input' contents out out' old mid) word
+          ⊎ ((fault ≡ Input Failed) × Does m IsContinued files (streams_of input input' contents out out' old mid) word
           (Begins (contents out) (contents out'))))
-          → Stops m other files texts (streams_of input input' contents out out' old new)
+          → Stops m IsContinued files texts (streams_of input input' contents out out' old new)
       other_stops none silent (inl same) = at_fault fault same (untold silent)
       other_stops none silent (inr failed) =
           in_answer word asks (still_does mid new (Begins (contents out) (contents out')) word none failed.1)

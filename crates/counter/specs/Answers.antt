@@ -1,6 +1,5 @@
 -- What the words do, and what they write.
-use Rattle.std.specs.Prelude.{◌≡◌, ℕ, List, [], true, IfSome, Ok}
-use Rattle.sqlite_disk.specs.declared.Disk.{Ghosts}
+use Rattle.std.specs.Prelude.{◌≡◌, ℕ, List, [], Option, true, IfSome, Ok}
 use Rattle.connections.specs.Clock.{Reading}
 use Rattle.console.specs.Counts.{Counts}
 use Rattle.console.specs.Files.{Source}
@@ -14,35 +13,36 @@ use Rattle.counter.specs.Hold.{Holds}
 use Rattle.counter.specs.Reply.{Replies}
 use Rattle.counter.specs.Streams.{Streams}
 use Rattle.operations.specs.Machine.{Machine}
-use Rattle.operations.specs.OverFiles.{IsContinuedOver, IsMigratedOver}
+use Rattle.operations.specs.OverFiles.{IsMigratedOver}
+use Rattle.operations.specs.declared.void_stamp.Floor.{Floor}
 use Rattle.command_line.specs.declared.words.AuditWords.{AuditWords}
 use Rattle.command_line.specs.declared.words.Word.{Word}
 use Rattle.command_line.specs.declared.words.Word.TheVariants.{Tst, Check, Init, Migrate, Continue, Calibrate, Hold}
 use Rattle.command_line.specs.declared.words.Word.TheVariants.{Answer, Exchange, Serve, Audit}
 
 -- Each word has a definition of what it does. But for `tst`, `answer` and `exchange` the input isn't read, and where no
--- text is said nothing is written. The files that the words name are `files`, the database's what the machine holds, and
--- a new database is made on a disk that is `other`.
-abbrev pub Does : {D X C E S F O : Type 0} → Machine D X C Reading → Ghosts E → Source S F → Streams O → Word
+-- text is said nothing is written. The files that the words name are `files`, the database's what the machine holds;
+-- what is said of a history that goes on above a floor is `IsContinued`.
+abbrev pub Does : {D X C S F O : Type 0} → Machine D X C Reading → (Option Floor → Type 0) → Source S F → Streams O → Word
     → (List ℕ → Type 0) → Type 0
-Does m other files s (Tst words) IsWritten =
+Does m IsContinued files s (Tst words) IsWritten =
     IfSome s.input (λ text. (written : List ℕ) × Answers words text written × IsWritten written)
-Does m other files s (Check words) IsWritten =
+Does m IsContinued files s (Check words) IsWritten =
     (s.input_after ≡ s.input) × ((written : List ℕ) × Counts files words written × IsWritten written)
-Does m other files s (Init words) IsWritten = (s.input_after ≡ s.input) × IsWritten []
-Does m other files s (Migrate words) IsWritten =
+Does m IsContinued files s (Init words) IsWritten = (s.input_after ≡ s.input) × IsWritten []
+Does m IsContinued files s (Migrate words) IsWritten =
     (s.input_after ≡ s.input) × IsMigratedOver m.disk m.held × IsWritten []
-Does m other files s (Continue words) IsWritten =
-    (s.input_after ≡ s.input) × IsContinuedOver m.disk m.held other (floor_of words) × IsWritten []
-Does m other files s (Calibrate words) IsWritten = (s.input_after ≡ s.input) × Calibrates m words × IsWritten []
-Does m other files s (Hold words) IsWritten = (s.input_after ≡ s.input) × Holds m words × IsWritten []
-Does m other files s (Answer words) IsWritten =
+Does m IsContinued files s (Continue words) IsWritten =
+    (s.input_after ≡ s.input) × IsContinued (floor_of words) × IsWritten []
+Does m IsContinued files s (Calibrate words) IsWritten = (s.input_after ≡ s.input) × Calibrates m words × IsWritten []
+Does m IsContinued files s (Hold words) IsWritten = (s.input_after ≡ s.input) × Holds m words × IsWritten []
+Does m IsContinued files s (Answer words) IsWritten =
     IfSome s.input (λ text. (written : List ℕ) × Replies m files words text written × IsWritten written)
-Does m other files s (Exchange words) IsWritten =
+Does m IsContinued files s (Exchange words) IsWritten =
     Exchanges m files words s.contents s.output s.input s.input_after IsWritten
-Does m other files s (Serve words) IsWritten =
+Does m IsContinued files s (Serve words) IsWritten =
     (s.input_after ≡ s.input) × ServesConnections m files words (Ok tt) × IsWritten []
-Does m other files s (Audit words) IsWritten =
+Does m IsContinued files s (Audit words) IsWritten =
     (s.input_after ≡ s.input)
     × Extracts m files words (s.contents s.output) (s.contents s.output_after) s.errors s.errors_after true IsWritten
 

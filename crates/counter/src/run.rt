@@ -10,7 +10,8 @@ ghost use Rattle.counter.specs.Reply.{Replies};
 ghost use Rattle.counter.specs.Stops.{Stops};
 ghost use Rattle.counter.specs.Streams.{streams_of};
 ghost use Rattle.operations.specs.Audits.{TellsSome};
-ghost use Rattle.operations.specs.Machine.{machine_of};
+ghost use Rattle.operations.specs.Machine.{image_at, machine_of};
+ghost use Rattle.operations.specs.OverFiles.{IsContinuedOver};
 
 use crate::answer::{answer, octets_of};
 use crate::exchange::exchange;
@@ -153,7 +154,8 @@ pub fn run_words<F: Start + Drop, S: FileSource + AllocGlobal, I: Read, O: Write
     ensures done { result ≡ 0 → ((word : Word) × Asks (texts_of words.now) word
         × Does (machine_of ⟦<FileFrom<F> as Disk>⟧ F.Start
         ⟦<HostSigner<'static> as Signer>⟧ ⟦<SystemClock<'static, HostRuntime> as Clock>⟧.reads)
-        ⟦<FileFrom<Unknown> as Disk>⟧ (source_of S.opens S.refuses S.File.remaining host.entry.files.now)
+        (IsContinuedOver ⟦<FileFrom<F> as Disk>⟧ (image_at F.Start) ⟦<FileFrom<Unknown> as Disk>⟧)
+        (source_of S.opens S.refuses S.File.remaining host.entry.files.now)
         (streams_of (I.remaining process.old.input) (I.remaining process.new.input) O.contents process.old.output
         process.new.output (E.contents process.old.errors) (E.contents process.new.errors)) word
         (Appends (O.contents process.old.output) (O.contents process.new.output)))
@@ -173,7 +175,8 @@ pub fn run_words<F: Start + Drop, S: FileSource + AllocGlobal, I: Read, O: Write
     // Where a fault stopped it, or stamps fail their check: what is told, and what is written to the output.
     ensures stopped { result ≡ 1 → Stops (machine_of ⟦<FileFrom<F> as Disk>⟧ F.Start
         ⟦<HostSigner<'static> as Signer>⟧ ⟦<SystemClock<'static, HostRuntime> as Clock>⟧.reads)
-        ⟦<FileFrom<Unknown> as Disk>⟧ (source_of S.opens S.refuses S.File.remaining host.entry.files.now) (texts_of words.now)
+        (IsContinuedOver ⟦<FileFrom<F> as Disk>⟧ (image_at F.Start) ⟦<FileFrom<Unknown> as Disk>⟧)
+        (source_of S.opens S.refuses S.File.remaining host.entry.files.now) (texts_of words.now)
         (streams_of (I.remaining process.old.input) (I.remaining process.new.input) O.contents process.old.output
         process.new.output (E.contents process.old.errors) (E.contents process.new.errors)) }
 {
@@ -202,7 +205,8 @@ fn run_word<F: Start + Drop, S: FileSource + AllocGlobal, I: Read, O: Write, E: 
     ensures done { IfOk result (λ outcome. outcome ≢ Outcome.Failing
         → Does (machine_of ⟦<FileFrom<F> as Disk>⟧ F.Start
         ⟦<HostSigner<'static> as Signer>⟧ ⟦<SystemClock<'static, HostRuntime> as Clock>⟧.reads)
-        ⟦<FileFrom<Unknown> as Disk>⟧ (source_of S.opens S.refuses S.File.remaining host.entry.files.now)
+        (IsContinuedOver ⟦<FileFrom<F> as Disk>⟧ (image_at F.Start) ⟦<FileFrom<Unknown> as Disk>⟧)
+        (source_of S.opens S.refuses S.File.remaining host.entry.files.now)
         (streams_of (I.remaining input.old) (I.remaining input.new) O.contents output.old output.new
         (E.contents errors.old) (E.contents errors.new)) word.now
         (Appends (O.contents output.old) (O.contents output.new))) }
@@ -224,7 +228,8 @@ fn run_word<F: Start + Drop, S: FileSource + AllocGlobal, I: Read, O: Write, E: 
         ⊎ ((fault ≡ Fault.Input InputFault.Failed)
         × Does (machine_of ⟦<FileFrom<F> as Disk>⟧ F.Start
         ⟦<HostSigner<'static> as Signer>⟧ ⟦<SystemClock<'static, HostRuntime> as Clock>⟧.reads)
-        ⟦<FileFrom<Unknown> as Disk>⟧ (source_of S.opens S.refuses S.File.remaining host.entry.files.now)
+        (IsContinuedOver ⟦<FileFrom<F> as Disk>⟧ (image_at F.Start) ⟦<FileFrom<Unknown> as Disk>⟧)
+        (source_of S.opens S.refuses S.File.remaining host.entry.files.now)
         (streams_of (I.remaining input.old) (I.remaining input.new) O.contents output.old output.new
         (E.contents errors.old) (E.contents errors.new)) word.now
         (Begins (O.contents output.old) (O.contents output.new)))) }
