@@ -1,5 +1,5 @@
 -- Connections that are heard: more of them, and what is left of them where nothing is told.
-use Rattle.std.proofs.Common.{◌≡◌, ◌∙◌, ℕ, ◌+◌, ℤ, List, [], ◌∷◌, ◌++◌, length, map, Option, None, Result, Ok, Err}
+use Rattle.std.proofs.Common.{◌≡◌, ◌∙◌, ℕ, ◌+◌, ℤ, List, [], ◌∷◌, ◌++◌, length, map, Option, Result, Ok, Err}
 use Rattle.std.proofs.Common.{OnErr, OnOk, arith, refl, sym, ap, subst}
 use Rattle.std.proofs.lemmas.List.{length-append, length-map, map-append}
 use Rattle.book.specs.declared.standing.Standing.{Ghosts}
@@ -7,7 +7,7 @@ use Rattle.cms.specs.declared.signer.SignerFault.{SignerFault}
 use Rattle.desk.specs.CallContract.{DeskValue}
 use Rattle.desk.specs.MachineRuns.{IsProper}
 use Rattle.service.specs.Received.{ReceivedValue}
-use Rattle.connections.specs.Heard.{Hall, IsServed, IsHeard, failed, answered, Follow, AreHeard, StopsHearing, hall}
+use Rattle.connections.specs.Heard.{Hall, IsHeard, failed, answered, Follow, AreHeard, StopsHearing, hall}
 use Rattle.connections.specs.Heard.{counted_along}
 use Rattle.connections.specs.Parts.{handed_along, readings}
 use Rattle.connections.specs.Run.{ServesEach}

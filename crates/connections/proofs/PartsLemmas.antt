@@ -1,14 +1,14 @@
 -- Chains of what was handed out, read, answered and taken back: one more, and one behind the other.
-use Rattle.std.proofs.Common.{◌≡◌, ◌∙◌, ℕ, ◌+◌, ◌<◌, ℤ, List, [], ◌∷◌, ◌++◌, length, map, Option, None, Result, Ok, Err}
-use Rattle.std.proofs.Common.{arith, refl, sym, ap, subst}
-use Rattle.std.proofs.lemmas.List.{append_assoc, length-append, length-map, map-append}
+use Rattle.std.proofs.Common.{◌≡◌, ◌∙◌, ℕ, ℤ, List, [], ◌∷◌, ◌++◌, map, Option, Result}
+use Rattle.std.proofs.Common.{refl, sym, ap, subst}
+use Rattle.std.proofs.lemmas.List.{append_assoc, map-append}
 use Rattle.book.specs.declared.standing.Standing.{Ghosts}
 use Rattle.cms.specs.declared.signer.SignerFault.{SignerFault}
 use Rattle.desk.specs.CallContract.{DeskValue}
 use Rattle.service.specs.Received.{ReceivedValue}
 use Rattle.connections.specs.Heard.{AreHanded, AreTakenBack}
-use Rattle.connections.specs.Parts.{Answered, HandedValue, Member, Part, alone, together, answered_in, answered_along}
-use Rattle.connections.specs.Parts.{handed_along, readings, AreTogether, IsAlone, IsDone, IsMember, AreDone}
+use Rattle.connections.specs.Parts.{Answered, HandedValue, Part, alone, together, answered_in, answered_along}
+use Rattle.connections.specs.Parts.{handed_along, AreDone}
 use Rattle.connections.specs.Turns.{AreGiven}
 use Rattle.connections.specs.declared.clock.ClockFailed.{ClockFailed}
 

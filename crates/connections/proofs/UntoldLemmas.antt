@@ -1,5 +1,5 @@
 -- What is served over a stream, where nothing of that is told.
-use Rattle.std.proofs.Common.{◌≡◌, ◌∙◌, ℕ, ℤ, List, [], ◌∷◌, ◌++◌, length, map, Option, None, Result, arith, refl, sym}
+use Rattle.std.proofs.Common.{◌≡◌, ◌∙◌, ℕ, ℤ, List, [], ◌∷◌, ◌++◌, length, map, Option, Result, arith, refl, sym}
 use Rattle.std.proofs.Common.{ap, subst, inl, inr}
 use Rattle.std.proofs.lemmas.List.{length-map, map-append}
 use Rattle.std.specs.List.{AllByRecursion}
@@ -15,7 +15,7 @@ use Rattle.service.specs.Served.{wants_early, wants_list, Sends, SendsOctets, Wr
 use Rattle.service.specs.declared.served.Served.{Served}
 use Rattle.service.specs.declared.served.Served.TheVariants as served
 use Rattle.connections.specs.Parts.{Answered, HandedValue, Member, Part, alone, together, answered_in, answered_along}
-use Rattle.connections.specs.Parts.{handed_along, readings, AreTogether, IsAlone, IsDone, IsMember, AreDone}
+use Rattle.connections.specs.Parts.{handed_along, readings, IsDone, IsMember, AreDone}
 use Rattle.connections.specs.Turns.{untold}
 
 abbrev pub without : {W B X : Type 0} → Turn W B X → Turn (Unit {0}) B X

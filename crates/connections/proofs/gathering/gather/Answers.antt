@@ -1,4 +1,4 @@
-use Rattle.std.proofs.Common.{◌≡◌, ◌∙◌, ◌+◌, ◌-◌, ◌≤◌, [], ◌∷◌, ◌++◌, map, ap, arith, refl, rules, subst, sym, vec_capacity}
+use Rattle.std.proofs.Common.{◌≡◌, ◌∙◌, ◌+◌, ◌-◌, ◌≤◌, [], ◌∷◌, ◌++◌, map, ap, arith, subst, sym, vec_capacity}
 use Rattle.std.proofs.Common.{vec_len}
 use Rattle.connections.specs.Gathering.{AreGatheredBehind, handed_view, last_in}
 use Rattle.connections.specs.Heard.{AreGathered}

@@ -1,4 +1,4 @@
-use Rattle.std.proofs.Common.{◌≡◌, ◌∙◌, ◌+◌, ◌-◌, ◌<◌, [], ◌∷◌, length, map, ap, arith, refl, rules, vec_capacity, vec_len}
+use Rattle.std.proofs.Common.{◌∙◌, ◌-◌, ◌<◌, [], ◌∷◌, length, map, ap, arith, refl, vec_capacity, vec_len}
 use Rattle.std.proofs.lemmas.List.{length-map, map-append}
 use Rattle.connections.specs.Gathering.{handed_view}
 use Rattle.connections.proofs.GatheringLemmas.{none_behind, one_behind, gathered_all, gathered_most, gathered_last}

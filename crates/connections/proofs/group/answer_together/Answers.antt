@@ -1,4 +1,4 @@
-use Rattle.std.proofs.Common.{◌≡◌, ◌<◌, ◌≤◌, length, map, ap, arith, rules, subst}
+use Rattle.std.proofs.Common.{length, map, ap, arith, subst}
 use Rattle.std.proofs.lemmas.List.{length-map}
 use Rattle.desk.specs.Answers.{reply_as}
 use Rattle.connections.specs.Gathering.{AreReplied, AreWritten, handed_view}

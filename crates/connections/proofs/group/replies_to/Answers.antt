@@ -1,11 +1,11 @@
-use Rattle.std.proofs.Common.{◌≡◌, ◌∙◌, ℤ, ◌+◌, [], ◌∷◌, ◌++◌, map, take, get_or, ap, arith, refl, rules, subst, sym}
+use Rattle.std.proofs.Common.{◌≡◌, ◌∙◌, ◌+◌, [], ◌∷◌, ◌++◌, map, take, get_or, ap, arith, rules, subst, sym}
 use Rattle.std.proofs.Common.{SFits, w64, to_z-of_z}
 use Rattle.std.proofs.lemmas.List.{map-append, take_all, take_more}
 use Rattle.policy.specs.View.{policy_view}
 use Rattle.desk.specs.Answers.{reply_as}
 use Rattle.desk.specs.Together.{question_view, questions_view, IsAnsweredTogether}
 use Rattle.service.specs.Stamps.{AsksStamp}
-use Rattle.connections.specs.Gathering.{AreAsked, AreReplied, handed_view}
+use Rattle.connections.specs.Gathering.{AreAsked, handed_view}
 use Rattle.connections.proofs.GroupLemmas.{asked_more, if_ok, on_ok}
 use Rattle.connections.proofs.group.replies_to.Goals as goal
 

@@ -1,4 +1,4 @@
-use Rattle.std.proofs.Common.{◌≡◌, ◌∙◌, ℤ, ◌+◌, [], ◌∷◌, ◌++◌, length, map, take, get_or, ap, arith, refl, rules, subst}
+use Rattle.std.proofs.Common.{◌≡◌, ◌∙◌, ◌+◌, [], ◌∷◌, ◌++◌, length, map, take, get_or, ap, arith, rules, subst}
 use Rattle.std.proofs.Common.{sym, SFits, w64, to_z-of_z}
 use Rattle.std.proofs.lemmas.List.{length-map, length-take-le, map-append, take_all, take_more}
 use Rattle.std.specs.Vec.Iter.{into_iter_items}

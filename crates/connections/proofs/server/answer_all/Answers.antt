@@ -1,4 +1,4 @@
-use Rattle.std.proofs.Common.{◌+◌, ◌-◌, ◌≡◌, arith, rules}
+use Rattle.std.proofs.Common.{◌+◌, ◌-◌, arith, rules}
 use Rattle.connections.specs.Heard.{StopsHearing, hall}
 use Rattle.connections.proofs.HeardLemmas.{heard_as, heard_none, heard_more, on_err}
 use Rattle.connections.proofs.server.answer_all.Goals as goal
