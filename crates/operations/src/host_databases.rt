@@ -1,7 +1,11 @@
 //! The databases of this machine.
-ghost use Rattle.std.specs.Prelude.{◌≡◌, [], map, reverse, IfErr, IfOk, OnOk};
+ghost use Rattle.std.specs.Prelude.{◌≡◌, map, reverse, IfErr, IfOk};
 ghost use Rattle.sqlite.specs.Files.{over_files};
-ghost use Rattle.book.specs.Entries.{FitInTurn, entries_view, with_all};
+ghost use Rattle.tables.specs.Base.{IsHonest};
+ghost use Rattle.book.specs.Fault.{IsOfStorage};
+ghost use Rattle.book.specs.History.{History, holds};
+ghost use Rattle.book.specs.Stands.{OnlyLooks, Stands};
+ghost use Rattle.book.specs.Values.{hold_view};
 ghost use Rattle.store.specs.Files.{image_at};
 ghost use Rattle.store.specs.Stands.{over_tables};
 ghost use Rattle.operations.specs.DatabaseFaults.{IsOpeningFault};
@@ -62,7 +66,12 @@ impl<F: Start + Drop> Databases for HostDatabases<'_, F> {
         Store::migrate_at(self.rt, path, self.start)
     }
 
-    fn holds(kept: &mut Store<FileStore<FileFrom<F>>>) -> Result<Vec<Hold>, StoreFault> {
+    fn holds(kept: &mut Store<FileStore<FileFrom<F>>>) -> Result<Vec<Hold>, StoreFault>
+        ensures looks { OnlyLooks (over_tables over_files) kept.old kept.new }
+        ensures value { IsHonest over_files kept.new → (b : History) → Stands (over_tables over_files) b kept.old
+            → IfOk result (λ found. map hold_view found.items ≡ reverse (holds b)) }
+        ensures refusals { IfErr result IsOfStorage }
+    {
         kept.holds()
     }
 

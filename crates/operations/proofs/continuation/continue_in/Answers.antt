@@ -1,3 +1,4 @@
+use Rattle.operations.proofs.InDatabases.{held_by}
 use Rattle.operations.proofs.GoingOn.{continued_in, unfinished_in}
 use Rattle.operations.proofs.continuation.continue_in.Goals as goal
 
@@ -19,3 +20,9 @@ returns-in-Ok-clause-continued g c =
 pub returns-clause-refused : goal.returns-clause-refused
 returns-clause-refused g c =
     unfinished_in _ _ _ _ _ c.in_ok-carried.carried c.in-Err.fault c.in-Err.ensures.refusals c.in_ok-carried.ensures.closed
+
+pub returns-in-Ok-clause-room : goal.returns-in-Ok-clause-room
+returns-in-Ok-clause-room g c = held_by _ _ c.may_make-room.ensures.room c.in_ok-carried.ensures.room
+
+pub returns-clause-room : goal.returns-clause-room
+returns-clause-room g c = λ _. held_by _ _ c.may_make-room.ensures.room c.in_ok-carried.ensures.room
