@@ -2,12 +2,13 @@
 ghost use Rattle.std.specs.Prelude.{◌≡◌, reverse, map, option_map, Err, IfOk, IfErr, IsOk, MatchResult, OnOk};
 ghost use Rattle.std.specs.List.{list_any};
 ghost use Rattle.book.specs.Continuation.{holds_all};
+ghost use Rattle.book.specs.Entries.{entries_view};
 ghost use Rattle.book.specs.Fault.{IsOfStorage};
 ghost use Rattle.book.specs.History.{History, holds};
 ghost use Rattle.book.specs.Stands.{OnlyLooks, Stands};
 ghost use Rattle.book.specs.Values.{hold_view, stamp_view};
-ghost use Rattle.operations.specs.Continuation.{Carries, ClosesKnown, HasBegun, IsAskedFor, IsBelow, IsCarried, IsLookFault};
-ghost use Rattle.operations.specs.Continuation.{entries_of, last_stamp_of};
+ghost use Rattle.operations.specs.Continuation.{Carries, ClosesKnown, HasBegun, IsAskedFor, IsBelow, IsCarried};
+ghost use Rattle.operations.specs.Continuation.{IsLookFault, entries_of, last_stamp_of};
 ghost use Rattle.operations.specs.DatabaseFaults.{IsOpeningFault};
 ghost use Rattle.operations.specs.InDatabases.{IsClosedIn, IsContinuedIn, IsMadeIn, IsRefusedIn};
 
@@ -216,8 +217,19 @@ fn make_from<N: Databases>(
         (entries_of carried.now)) }
     ensures refusals { IfErr result IsOpeningFault }
 {
-    let entries = carried.entries(alloc).or(Err(StoreFault::Memory))?;
-    let made = new.databases.make(new.path, entries.as_slice())?;
+    match carried.entries(alloc) {
+        Ok(entries) => make_with(new, entries.as_slice()),
+        Err(_) => Err(StoreFault::Memory),
+    }
+}
+
+/// Makes the new database, with these entries, and closes it.
+fn make_with<N: Databases>(new: Database<'_, N>, entries: &[Entry<'_>]) -> Result<(), StoreFault>
+    ensures made { OnOk result (IsMadeIn N.Kept.Standing (N.makes new.entry.databases new.entry.path.now) N.closes
+        (entries_view entries.now)) }
+    ensures refusals { IfErr result IsOpeningFault }
+{
+    let made = new.databases.make(new.path, entries)?;
     N::close(made);
     Ok(())
 }

@@ -19,7 +19,8 @@ returns-in-Ok-clause-continued g c =
 
 pub returns-clause-refused : goal.returns-clause-refused
 returns-clause-refused g c =
-    unfinished_in _ _ _ _ _ c.in_ok-carried.carried c.in-Err.fault c.in-Err.ensures.refusals c.in_ok-carried.ensures.closed
+    unfinished_in _ _ _ (g.D.Databases.refuses c.args.old.databases c.args.old.path.now) _ c.in_ok-carried.carried
+    c.in-Err.fault c.in-Err.ensures.refusals c.in_ok-carried.ensures.closed
 
 pub returns-in-Ok-clause-room : goal.returns-in-Ok-clause-room
 returns-in-Ok-clause-room g c = held_by _ _ c.may_make-room.ensures.room c.in_ok-carried.ensures.room

@@ -1,11 +1,9 @@
-use Rattle.std.proofs.Common.{◌∙◌, ap, subst}
+use Rattle.std.proofs.Common.{◌∙◌, ap}
 use Rattle.book.specs.Entries.{entries_view}
-use Rattle.operations.specs.InDatabases.{IsMadeIn}
+use Rattle.operations.proofs.GoingOn.{made_same}
 use Rattle.operations.proofs.continuation.make_from.Goals as goal
 
-pub returns-clause-made : goal.returns-clause-made
-returns-clause-made g c =
-    let same = ap entries_view c.as_slice.ensures.value ∙ c.in_ok-entries.ensures in
-    subst (λ entries. IsMadeIn g.N.Kept.Standing (g.N.Databases.makes c.args.new.databases c.args.new.path.now)
-    g.N.Databases.closes entries) same
-    (c.in_ok-made.made, c.in_ok-made.ensures.made, c.in_ok-made.ensures.stands, c.close.ensures)
+pub returns-in-Ok-clause-made : goal.returns-in-Ok-clause-made
+returns-in-Ok-clause-made g c =
+    made_same _ _ _ _ _ c.make_with.result (ap entries_view c.as_slice.ensures.value ∙ c.in-Ok.ensures)
+    c.make_with.ensures.made
