@@ -577,9 +577,3 @@ continued_in g Opens Closes h Makes ClosesOther floor c laws (opened, found, (le
     closed,
   ),
 )
-
--- a history was made with the same entries
-pub made_same : {B : Type 0} (g : Ghosts B) (Makes : List Entry → B → Type 0) (Closes : B → Type 0)
-    (entries same : List Entry) (done : Result (Unit {0}) StoreFault) → entries ≡ same
-    → OnOk done (IsMadeIn g Makes Closes entries) → OnOk done (IsMadeIn g Makes Closes same)
-made_same g Makes Closes entries same done is made = subst (λ es. OnOk done (IsMadeIn g Makes Closes es)) is made

@@ -1,6 +1,6 @@
 -- What is done in a database that is opened and closed again, and at a desk over it, where it is answered, and where it is
 -- refused.
-use Rattle.std.proofs.Common.{◌≡◌, ◌⊎◌, Result, Ok, Err, IfOk, IfErr, inl, inr, refl, subst, sym}
+use Rattle.std.proofs.Common.{◌≡◌, ◌⊎◌, Result, Ok, Err, IfOk, IfErr, inl, inr, subst, sym}
 use Rattle.std.specs.Prelude.{OnErr, OnOk, IsOk}
 use Rattle.book.specs.declared.fault.StoreFault.{StoreFault}
 use Rattle.book.specs.declared.fault.StoreFault.TheVariants.{Backwards}

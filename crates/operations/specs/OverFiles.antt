@@ -1,6 +1,6 @@
 -- What is done over the files at a path of this machine, whatever they held: what is known there of what is opened,
 -- closed, reached and left.
-use Rattle.std.specs.Prelude.{◌≡◌, ℕ, ℤ, Bool, List, [], Option, Result}
+use Rattle.std.specs.Prelude.{◌≡◌, ℕ, ℤ, Bool, List, Option, Result}
 use Rattle.sqlite_disk.specs.declared.Disk.{Ghosts}
 use Rattle.sqlite_store.specs.declared.store.FileStore.{FileStore}
 use Rattle.sqlite_wal.specs.Recovery.{Image}
@@ -31,7 +31,7 @@ use Rattle.operations.specs.declared.void_stamp.Floor.{Floor}
 abbrev pub IsAny : {X : Type 0} → X → Type 0
 IsAny _ = Unit {0}
 
--- a signer of that algorithm was reached, of which nobody has asked anything that failed yet
+-- a signer of that algorithm was reached, which has counted no fault yet
 pub record IsReached {X : Type 0} (signs : Signs X) (algorithm : List ℕ) (signer : X) : Type 0 where
   pub signs_so : signs.algorithm_octets signer ≡ algorithm
   pub unused : signs.fault_count signer ≡ 0

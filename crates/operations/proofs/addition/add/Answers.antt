@@ -1,4 +1,4 @@
-use Rattle.std.proofs.Common.{ℕ, inl, subst, sym}
+use Rattle.std.proofs.Common.{ℕ, inl}
 use Rattle.std.proofs.lemmas.Result.{err_from_is_err_and}
 use Rattle.operations.proofs.InDatabases.{anyway, not_backwards}
 use Rattle.operations.proofs.addition.add.Goals as goal
