@@ -543,37 +543,37 @@ pub continued_in : {B C : Type 0} (g : Ghosts B) (Opens Closes : B → Type 0) (
     → IsContinuedIn g Opens Closes h Makes ClosesOther floor
 continued_in g Opens Closes h Makes ClosesOther floor c laws (opened, found, (left, closes, closed))
     (made, makes, stands, other) = (
-  opened,
-  found,
-  (
-    left,
-    (
-      made,
-      (entries_of c, makes),
-      record {
-        honest = closes.0.honest;
-        closes = λ o b s. closes.0.closes o b s tt;
-        crash = λ o l leaves. elim (closes.0.crash o l leaves) [
-          | inl before ↦ inl before
-          | inr adds ↦ inr (λ b s. adds b s tt)
-        ];
-        void = void_in c;
-        goes_on = λ o b s.
-            let carried = closes.2 o b s tt in
-            let same = entries_are c b s.sound laws.tells carried in
-            let above = above_from floor (option_map stamp_view c.stamp) (void_in c) b s.sound carried.stamp closes.1 in
-            record {
-              stands = subst (λ entries. Stands h (with_all entries []) made) same
-                  (stands (rw same (laws.fit (void_in c) b s.sound above)));
-              reaches = reaches_from laws floor (option_map stamp_view c.stamp) (void_in c) b s.sound closes.1 above;
-              whole = λ whole.
-                  let stated = stated_from floor (option_map stamp_view c.stamp) (void_in c) b laws.states whole
-                  carried.stamp closes.1 in
-                  (laws.whole (void_in c) b whole above stated, laws.rising (void_in c) b whole stated);
-            };
-      },
-      other,
-    ),
-    closed,
-  ),
-)
+      opened,
+      found,
+      (
+        left,
+        (
+          made,
+          (entries_of c, makes),
+          record {
+            honest = closes.0.honest;
+            closes = λ o b s. closes.0.closes o b s tt;
+            crash = λ o l leaves. elim (closes.0.crash o l leaves) [
+              | inl before ↦ inl before
+              | inr adds ↦ inr (λ b s. adds b s tt)
+            ];
+            void = void_in c;
+            goes_on = λ o b s.
+                let carried = closes.2 o b s tt in
+                let same = entries_are c b s.sound laws.tells carried in
+                let above = above_from floor (option_map stamp_view c.stamp) (void_in c) b s.sound carried.stamp closes.1 in
+                record {
+                  stands = subst (λ entries. Stands h (with_all entries []) made) same
+                      (stands (rw same (laws.fit (void_in c) b s.sound above)));
+                  reaches = reaches_from laws floor (option_map stamp_view c.stamp) (void_in c) b s.sound closes.1 above;
+                  whole = λ whole.
+                      let stated = stated_from floor (option_map stamp_view c.stamp) (void_in c) b laws.states whole
+                      carried.stamp closes.1 in
+                      (laws.whole (void_in c) b whole above stated, laws.rising (void_in c) b whole stated);
+                };
+          },
+          other,
+        ),
+        closed,
+      ),
+    )

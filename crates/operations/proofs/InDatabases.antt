@@ -1,5 +1,5 @@
--- What is done in a database that is opened and closed again, and at a desk over it, where it is answered, and where it is
--- refused.
+-- What is done in a database that is opened and closed again, and at a desk over it, where it is answered, and where it
+-- is refused.
 use Rattle.std.proofs.Common.{◌≡◌, ◌⊎◌, Result, Ok, Err, IfOk, IfErr, inl, inr, subst, sym}
 use Rattle.std.specs.Prelude.{OnErr, OnOk, IsOk}
 use Rattle.book.specs.declared.fault.StoreFault.{StoreFault}
@@ -48,28 +48,28 @@ not_backwards fault (inr (inl database)) is = cc (database, is)
 not_backwards fault (inr (inr foreign)) is = cc (foreign, is)
 
 module _ {B X : Type 0} (g : Ghosts B) (setting : Setting) (Reaches Leaves : X → Type 0) (old new : B) (before after : X)
-    where
-  -- what was done with this signer was done with one that was reached so
-  pub visited_as : {A E : Type 0} (r : Result A E)
-      (Does : A → (desk desk' : DeskValue B) (signer signer' : X) → Type 0) → Reaches before → Leaves after
-      → IfOk r (λ a. IsVisited g setting (λ signer. signer ≡ before) (λ signer. signer ≡ after) old new (Does a))
-      → IfOk r (λ a. IsVisited g setting Reaches Leaves old new (Does a))
-  visited_as (Ok a) Does reached left visited = record {
-    desk = visited.desk;
-    opens = visited.opens;
-    signer = visited.signer;
-    reached = subst Reaches (sym visited.reached) reached;
-    signer_after = visited.signer_after;
-    signer_left = subst Leaves (sym visited.signer_left) left;
-    desk_after = visited.desk_after;
-    left = visited.left;
-    done = visited.done;
-  }
-  visited_as (Err e) Does reached left visited = tt
+  where
+    -- what was done with this signer was done with one that was reached so
+    pub visited_as : {A E : Type 0} (r : Result A E)
+        (Does : A → (desk desk' : DeskValue B) (signer signer' : X) → Type 0) → Reaches before → Leaves after
+        → IfOk r (λ a. IsVisited g setting (λ signer. signer ≡ before) (λ signer. signer ≡ after) old new (Does a))
+        → IfOk r (λ a. IsVisited g setting Reaches Leaves old new (Does a))
+    visited_as (Ok a) Does reached left visited = record {
+      desk = visited.desk;
+      opens = visited.opens;
+      signer = visited.signer;
+      reached = subst Reaches (sym visited.reached) reached;
+      signer_after = visited.signer_after;
+      signer_left = subst Leaves (sym visited.signer_left) left;
+      desk_after = visited.desk_after;
+      left = visited.left;
+      done = visited.done;
+    }
+    visited_as (Err e) Does reached left visited = tt
 
-  -- and where nothing was done
-  pub unvisited_as : {A : Type 0} (r : Result A OperationFault) → Reaches before → Leaves after
-      → OnErr r (after ≡ before) → IfErr r (IsUnopened g setting old new)
-      → IfErr r (IsUnvisited g setting Reaches Leaves old new)
-  unvisited_as (Ok a) reached left same unopened = tt
-  unvisited_as (Err fault) reached left same unopened = inr ((before, reached, subst Leaves same left), unopened)
+    -- and where nothing was done
+    pub unvisited_as : {A : Type 0} (r : Result A OperationFault) → Reaches before → Leaves after
+        → OnErr r (after ≡ before) → IfErr r (IsUnopened g setting old new)
+        → IfErr r (IsUnvisited g setting Reaches Leaves old new)
+    unvisited_as (Ok a) reached left same unopened = tt
+    unvisited_as (Err fault) reached left same unopened = inr ((before, reached, subst Leaves same left), unopened)

@@ -93,8 +93,8 @@ module _ {D : Type 0} (disk : Ghosts D) (held : Image) where
     -- nothing was done there, by the refusal
     abbrev pub IsUnvisitedOver : OperationFault → Type 0
     IsUnvisitedOver fault =
-        IsUnvisitedIn (over_tables over_files) IsOpenedOver IsAny IsOpeningFault (IsReached signs algorithm) IsAny setting
-        fault
+        IsUnvisitedIn (over_tables over_files) IsOpenedOver IsAny IsOpeningFault (IsReached signs algorithm) IsAny
+        setting fault
 
     -- a time-stamp request was answered by the machine's step
     abbrev pub IsAnsweredOver : Option AccountValue → ℤ → List ℕ → Answer → Type 0

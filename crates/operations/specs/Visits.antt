@@ -39,8 +39,8 @@ pub record Opens {B : Type 0} (g : Ghosts B) (setting : Setting) (old : B) (desk
   pub in_force : g.honest desk.store → (b : History) → Stands g b old
       → StandsInForce g desk.setting.in_force b desk.store
 
--- A desk was opened so, a signer was reached, this was done there with it, and the book and the signer that are left are
--- those that it left.
+-- A desk was opened so, a signer was reached, this was done there with it, and the book and the signer that are left
+-- are those that it left.
 pub record IsVisited {B X : Type 0} (g : Ghosts B) (setting : Setting) (Reaches Leaves : X → Type 0) (old new : B)
     (Does : (desk desk' : DeskValue B) (signer signer' : X) → Type 0) : Type 0 where
   pub desk : DeskValue B

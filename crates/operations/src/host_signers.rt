@@ -40,6 +40,5 @@ impl<'a> Signers for HostSigners<'a> {
 
     fn leave(_reached: HostSigner<'a>)
         ensures { Unit {0} }
-    {
-    }
+    {}
 }
