@@ -1,7 +1,7 @@
 //! The machine that the program runs on.
 ghost use Rattle.std.specs.Prelude.{◌≡◌};
 
-use operations::Database;
+use operations::{Database, HostDatabases};
 
 /// The machine that the program runs on.
 #[derive(Drop)]
@@ -14,15 +14,18 @@ pub struct Host<'a, F, S> {
     pub start: F,
 }
 
-impl<F, S> Host<'_, F, S> {
+impl<'a, F, S> Host<'a, F, S> {
     /// The database at a path of it.
-    pub fn database<'p>(self, path: &'p str) -> Database<'p, F>
+    pub fn database<'p>(self, path: &'p str) -> Database<'p, HostDatabases<'a, F>>
         ensures path { result.path.now ≡ path.now }
-        ensures start { result.start ≡ self.entry.start }
+        ensures start { result.databases.start ≡ self.entry.start }
     {
         Database {
             path,
-            start: self.start,
+            databases: HostDatabases {
+                rt: self.rt,
+                start: self.start,
+            },
         }
     }
 }
