@@ -153,7 +153,7 @@ pub record IsDoubtedTogether {B : Type 0} (g : Ghosts B) (s : Setting) (asked : 
   pub signed : (w : List Told) → AreSignedAlike os (cut w).outcomes
   pub holds : g.holds left history
 
--- What a stop after the stamps may leave: what one after a run over them may, or what is in doubt of the commits of all.
+-- What a stop after the stamps may leave: what one after a run over them may, or what a refused commit left in doubt.
 abbrev pub MayBeLeftTogether : {B : Type 0} → (g : Ghosts B) → Setting → List Question → List Outcome → Call → Call
     → History → B → History → g.Left → Type 0
 MayBeLeftTogether g s asked os reserving sealing b old last left =

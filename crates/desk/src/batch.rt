@@ -52,15 +52,7 @@ fn answer_in_turn<B: Book + Drop, G: Signer>(
         (map reply_as replies.new.items) }
 {
     for question in asked {
-        replies.push_reserved(answer_with(
-            store,
-            alloc,
-            settings,
-            question.account,
-            question.reading,
-            question.query,
-            signer,
-        ));
+        replies.push_reserved(answer_with(store, alloc, settings, *question, signer));
     }
 }
 

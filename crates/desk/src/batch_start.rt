@@ -54,14 +54,7 @@ fn judge_one<'p, 'a, B: Book + Drop>(
     ensures unasked { (rule : Rule) → IsFirstFailing (HoldsUnasked (policy_view settings.entry.policy.now)
         (account_asked asked.entry.account) asked.entry.query.now) rule → IfOk result (IsFailing rule) }
 {
-    match find_among(
-        store,
-        waits,
-        settings.policy,
-        asked.account,
-        asked.reading,
-        asked.query,
-    ) {
+    match find_among(store, waits, settings.policy, asked) {
         Err(refusal) => Err(refusal),
         Ok(Judgement::Fails(rule)) => Ok(Judged::Fails(rule)),
         Ok(Judgement::Allows(planned)) => {

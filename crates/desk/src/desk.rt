@@ -17,6 +17,7 @@ ghost use Rattle.desk.specs.MachineRuns.{IsProper};
 ghost use Rattle.desk.specs.Replies.{IsGranted, IsRejected};
 ghost use Rattle.desk.specs.contracts.desk.Desk.{the_row as desk_row};
 
+use crate::batch::Asked;
 use crate::fault::Fault;
 use crate::laws::steps_keep_their_promises;
 use crate::pending::Pending;
@@ -145,14 +146,12 @@ impl<'p, B: Book + Drop> Desk<'p, B> {
     {
         steps_keep_their_promises();
         let settings = self.settings;
-        Ok(begin_with(
-            &mut self.store,
-            self.alloc,
-            settings,
+        let asked = Asked {
             account,
             reading,
             query,
-        )?)
+        };
+        Ok(begin_with(&mut self.store, self.alloc, settings, asked)?)
     }
 
     /// Stores the token of a pending stamp over its signature of 1 to 4,096 octets, and answers the granted reply (RFC
@@ -208,14 +207,11 @@ impl<'p, B: Book + Drop> Desk<'p, B> {
     {
         steps_keep_their_promises();
         let settings = self.settings;
-        answer_with(
-            &mut self.store,
-            self.alloc,
-            settings,
+        let asked = Asked {
             account,
             reading,
             query,
-            signer,
-        )
+        };
+        answer_with(&mut self.store, self.alloc, settings, asked, signer)
     }
 }

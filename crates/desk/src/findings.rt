@@ -18,6 +18,7 @@ ghost use Rattle.desk.specs.Calls.{outcome_of, finding_of, count_for, IsOfLooks,
 ghost use Rattle.desk.specs.Calls.{HasLast};
 ghost use Rattle.desk.specs.WaitingStamps.{with_waiting};
 
+use crate::batch::Asked;
 use crate::clock_facts::{Looked, look_among};
 use crate::refusal::StampRefusal;
 use crate::waiting_stamp::{Waiting, count_waiting};
@@ -190,30 +191,28 @@ pub(crate) fn find_among<'p, 'a, B: Book + Drop>(
     store: &mut B,
     waits: &[Waiting<'_, '_>],
     policy: &'p Policy,
-    account: Option<&Account>,
-    reading: i64,
-    query: &'a [u8],
+    asked: Asked<'a>,
 ) -> Result<Judgement<'p, 'a>, StampRefusal>
     ensures looks { OnlyLooks B.Standing store.old store.new }
     ensures counted { B.fault_count store.new ≡ faults_after (outcome_of result) (B.fault_count store.old) }
     ensures finds { B.honest store.new → (b : History) → Stands B.Standing b store.old
         → IsSound (with_waiting waits.now b)
-        → Finds (policy_view policy.now) (account_asked account.entry) reading query.now (outcome_of result)
-        (with_waiting waits.now b) (finding_of result) }
-    ensures read { IfOk result (IsReadFrom query.now) }
+        → Finds (policy_view policy.now) (account_asked asked.entry.account) asked.entry.reading asked.entry.query.now
+        (outcome_of result) (with_waiting waits.now b) (finding_of result) }
+    ensures read { IfOk result (IsReadFrom asked.entry.query.now) }
     ensures last { B.honest store.new → (b : History) → Stands B.Standing b store.old
         → IsSound (with_waiting waits.now b) → IfOk result (HasLast (greatest_serial (with_waiting waits.now b))) }
     ensures unasked { (rule : Rule)
-        → IsFirstFailing (HoldsUnasked (policy_view policy.now) (account_asked account.entry)
-        query.now) rule → (finding_of result ≡ Fails rule) × (store.new ≡ store.old) }
-    ensures somebody { IfErr result (IsSomebodys (account_asked account.entry)) }
+        → IsFirstFailing (HoldsUnasked (policy_view policy.now) (account_asked asked.entry.account)
+        asked.entry.query.now) rule → (finding_of result ≡ Fails rule) × (store.new ≡ store.old) }
+    ensures somebody { IfErr result (IsSomebodys (account_asked asked.entry.account)) }
     ensures refusals { IfErr result IsOfLooks }
 {
-    let request = match read_request(query) {
+    let request = match read_request(asked.query) {
         Ok(request) => request,
         Err(_) => return Ok(Judgement::Fails(Rule::Spelling)),
     };
-    judge_among(store, waits, policy, account, reading, request)
+    judge_among(store, waits, policy, asked.account, asked.reading, request)
 }
 
 /// Judges the rules 1 to 11 in their order. A request that fails one of the rules 1 to 9 is answered without a call of
@@ -221,23 +220,21 @@ pub(crate) fn find_among<'p, 'a, B: Book + Drop>(
 pub(crate) fn find<'p, 'a, B: Book + Drop>(
     store: &mut B,
     policy: &'p Policy,
-    account: Option<&Account>,
-    reading: i64,
-    query: &'a [u8],
+    asked: Asked<'a>,
 ) -> Result<Judgement<'p, 'a>, StampRefusal>
     ensures looks { OnlyLooks B.Standing store.old store.new }
     ensures counted { B.fault_count store.new ≡ faults_after (outcome_of result) (B.fault_count store.old) }
     ensures finds { B.honest store.new → (b : History) → Stands B.Standing b store.old
-        → Finds (policy_view policy.now) (account_asked account.entry) reading query.now (outcome_of result) b
-        (finding_of result) }
-    ensures read { IfOk result (IsReadFrom query.now) }
+        → Finds (policy_view policy.now) (account_asked asked.entry.account) asked.entry.reading asked.entry.query.now
+        (outcome_of result) b (finding_of result) }
+    ensures read { IfOk result (IsReadFrom asked.entry.query.now) }
     ensures last { B.honest store.new → (b : History) → Stands B.Standing b store.old
         → IfOk result (HasLast (greatest_serial b)) }
     ensures unasked { (rule : Rule)
-        → IsFirstFailing (HoldsUnasked (policy_view policy.now) (account_asked account.entry)
-        query.now) rule → (finding_of result ≡ Fails rule) × (store.new ≡ store.old) }
-    ensures somebody { IfErr result (IsSomebodys (account_asked account.entry)) }
+        → IsFirstFailing (HoldsUnasked (policy_view policy.now) (account_asked asked.entry.account)
+        asked.entry.query.now) rule → (finding_of result ≡ Fails rule) × (store.new ≡ store.old) }
+    ensures somebody { IfErr result (IsSomebodys (account_asked asked.entry.account)) }
     ensures refusals { IfErr result IsOfLooks }
 {
-    find_among(store, &[], policy, account, reading, query)
+    find_among(store, &[], policy, asked)
 }

@@ -10,6 +10,7 @@ ghost use Rattle.desk.specs.Shown.{deposited_as, shown_as, listed_as, done_as, n
 ghost use Rattle.desk.specs.MachineRuns.{IsProper};
 
 use crate::additions::{calibrate_by, hold_by};
+use crate::batch::Asked;
 use crate::commands::{Answer, Command};
 use crate::desk::Desk;
 use crate::fault::Fault;
@@ -103,10 +104,13 @@ pub(crate) fn obey<'p, B: Book + Drop, G: Signer>(
             reading,
             query,
         } => {
+            let asked = Asked {
+                account,
+                reading,
+                query,
+            };
             (
-                Answer::Stamped(answer_with(
-                    store, alloc, settings, account, reading, query, signer,
-                )),
+                Answer::Stamped(answer_with(store, alloc, settings, asked, signer)),
                 settings,
             )
         }

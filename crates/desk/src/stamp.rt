@@ -10,13 +10,13 @@ ghost use Rattle.desk.specs.Calls.{settings_view};
 ghost use Rattle.desk.specs.Command.{Stamp, Rejected};
 ghost use Rattle.desk.specs.Findings.{HoldsUnasked};
 
+use crate::batch::Asked;
 use crate::reply::{Begun, Reply};
 use crate::settings::Settings;
 use crate::stamp_end::{complete, no_answer};
 use crate::stamp_start::begin_with;
 use book::Book;
 use cms::Signer;
-use policy::Account;
 use std::alloc::Global;
 
 /// Answers a request: the granted reply, the rejection by the first rule that fails, or the rejection by rule 12.
@@ -24,20 +24,19 @@ pub(crate) fn answer_with<B: Book + Drop, G: Signer>(
     store: &mut B,
     alloc: Global,
     settings: Settings<'_>,
-    account: Option<&Account>,
-    reading: i64,
-    query: &[u8],
+    asked: Asked<'_>,
     signer: &mut G,
 ) -> Reply
     ensures honest { B.honest store.new → B.honest store.old }
     ensures unasked { (rule : Rule) → IsFirstFailing (HoldsUnasked (policy_view settings.entry.policy.now)
-        (account_asked account.entry) query.now) rule
+        (account_asked asked.entry.account) asked.entry.query.now) rule
         → (reply_as result ≡ Rejected rule) × (store.new ≡ store.old) × (signer.new ≡ signer.old) }
     ensures step { IsBareStep B.Standing (with_signer G.signs G.fault_count signer.old signer.new)
         (settings_view settings.entry)
-        (Stamp (account_asked account.entry) reading query.now) store.old store.new (reply_as result) }
+        (Stamp (account_asked asked.entry.account) asked.entry.reading asked.entry.query.now) store.old store.new
+        (reply_as result) }
 {
-    match begin_with(store, alloc, settings, account, reading, query) {
+    match begin_with(store, alloc, settings, asked) {
         Ok(Begun::Pending(pending)) => complete(store, alloc, pending, signer),
         Ok(Begun::Rejected(rejection)) => Reply::Rejected(rejection),
         Err(_) => no_answer(),

@@ -11,6 +11,7 @@ ghost use Rattle.desk.specs.Calls.{outcome_of, settings_view, IsOfBeginning};
 ghost use Rattle.desk.specs.Command.{Begin, Rejected};
 ghost use Rattle.desk.specs.Findings.{HoldsUnasked};
 
+use crate::batch::Asked;
 use crate::findings::{Judgement, find};
 use crate::refusal::StampRefusal;
 use crate::reply::Begun;
@@ -37,25 +38,30 @@ pub(crate) fn begin_with<'p, B: Book + Drop>(
     store: &mut B,
     alloc: Global,
     settings: Settings<'p>,
-    account: Option<&Account>,
-    reading: i64,
-    query: &[u8],
+    asked: Asked<'_>,
 ) -> Result<Begun<'p>, StampRefusal>
     ensures honest { B.honest store.new → B.honest store.old }
     ensures step { StepsBy B.Standing no_signer (settings_view settings.entry)
-        (Begin (account_asked account.entry) reading query.now) (outcome_of result) store.old store.new
-        (told begun_as result) }
+        (Begin (account_asked asked.entry.account) asked.entry.reading asked.entry.query.now) (outcome_of result)
+        store.old store.new (told begun_as result) }
     ensures unasked { (rule : Rule) → IsFirstFailing (HoldsUnasked (policy_view settings.entry.policy.now)
-        (account_asked account.entry) query.now) rule
+        (account_asked asked.entry.account) asked.entry.query.now) rule
         → (told begun_as result ≡ Rejected rule) × (store.new ≡ store.old) }
     ensures refusals { IfErr result IsOfBeginning }
 {
     let policy = settings.policy;
-    match find(store, policy, account, reading, query) {
+    match find(store, policy, asked) {
         Err(refusal) => Err(refusal),
         Ok(Judgement::Fails(rule)) => Ok(Begun::Rejected(Rejection::of(rule))),
         Ok(Judgement::Allows(planned)) => {
-            match reserve_next(store, alloc, settings, name_of(account), planned, query) {
+            match reserve_next(
+                store,
+                alloc,
+                settings,
+                name_of(asked.account),
+                planned,
+                asked.query,
+            ) {
                 Ok(pending) => Ok(Begun::Pending(pending)),
                 Err(refusal) => Err(refusal),
             }

@@ -1,14 +1,11 @@
-use Rattle.std.proofs.Common.{◌+◌, [], ◌∷◌, ◌++◌, ◌∙◌, refl, sym, ap, subst, arith, SFits, w64, to_z-of_z, rules}
+use Rattle.std.proofs.Common.{◌+◌, [], ◌∷◌, ◌++◌, ◌∙◌, refl, sym, ap, subst, arith, rules}
 use Rattle.std.proofs.Common.{map}
 use Rattle.std.proofs.lemmas.List.{take_all}
 use Rattle.policy.specs.View.{policy_view}
-use Rattle.decide.specs.View.{account_asked}
 use Rattle.desk.specs.Answers.{reply_as}
 use Rattle.desk.specs.Batches.{stamp_for}
 use Rattle.desk.specs.Calls.{settings_view}
-use Rattle.desk.specs.Command.{Stamp}
 use Rattle.desk.specs.RunContract.{AreSteps}
-use Rattle.desk.specs.CallContract.{IsBareStep, with_signer}
 use Rattle.desk.specs.Together.{question_view, questions_view, AreRejectedUnasked}
 use Rattle.desk.proofs.RunsOn.{steps_more}
 use Rattle.desk.proofs.Turns.{stamps_are, rejected_more}
@@ -32,12 +29,8 @@ pub loop-question-preserved : goal.loop-question-preserved
 loop-question-preserved g c =
     let before = c.loop-question.invariant.steps in
     let q = c.question-item.result in
-    let reading : SFits w64 q.reading = search rules in
     let s = settings_view c.args.settings in
-    let step = subst (λ x. IsBareStep g.B.Standing (with_signer g.G.Signer.signs g.G.Signer.fault_count
-    c.loop-question.signer c.answer_with.new.signer) s (Stamp (account_asked q.account) x q.query.now)
-    c.loop-question.store c.answer_with.new.store (reply_as c.answer_with.result)) (to_z-of_z reading)
-    c.answer_with.ensures.step in
+    let step = c.answer_with.ensures.step in
     record {
       counted = c.push_reserved.ensures.len ∙ ap (λ n. n + 1) c.loop-question.invariant.counted;
       room = omega (arith, c.loop-question.invariant.room, c.push_reserved.ensures.capacity);

@@ -1,4 +1,4 @@
-use Rattle.std.proofs.Common.{[], Ok, refl, sym, subst, SFits, w64, to_z-of_z, arith, rules}
+use Rattle.std.proofs.Common.{[], Ok, refl, sym, subst, arith}
 use Rattle.decide.specs.View.{account_asked}
 use Rattle.book.specs.History.{greatest_serial}
 use Rattle.desk.specs.Calls.{settings_view, plan_of, finding_of, HasLast}
@@ -12,19 +12,16 @@ use Rattle.desk.proofs.batch_start.judge_one.Goals as goal
 
 pub returns-in-Ok-Fails-clause-judges : goal.returns-in-Ok-Fails-clause-judges
 returns-in-Ok-Fails-clause-judges g c honest b st sound =
-    let reading : SFits w64 c.args.asked.reading = search rules in
     let s = settings_view c.args.settings in
     let account = account_asked c.args.asked.account in
     let octets = c.args.asked.query.now in
     let d = with_waiting c.args.waits.now b in
     subst (λ (f : Judgement). Finds s.file account c.args.asked.reading octets (all_fine (Ok [])) d (finding_of (Ok f)))
     c.in-Ok-Fails.field-0-is
-    (subst (λ x. Finds s.file account x octets (all_fine (Ok [])) d (finding_of (Ok c.in-Ok-Fails.field-0)))
-    (to_z-of_z reading) (c.in-Ok-Fails.ensures.finds honest b st sound))
+    (c.in-Ok-Fails.ensures.finds honest b st sound)
 
 pub returns-in-Ok-clause-judges : goal.returns-in-Ok-clause-judges
 returns-in-Ok-clause-judges g c honest b st sound =
-    let reading : SFits w64 c.args.asked.reading = search rules in
     let s = settings_view c.args.settings in
     let account = account_asked c.args.asked.account in
     let octets = c.args.asked.query.now in
@@ -34,8 +31,7 @@ returns-in-Ok-clause-judges g c honest b st sound =
     (record { account = c.name_of.result; query = c.args.asked.query; prepared = c.in-Ok.prepared })
     (subst (λ (f : Judgement). Finds s.file account c.args.asked.reading octets (all_fine (Ok [])) d
     (finding_of (Ok f))) c.in-Ok-Allows.field-0-is
-    (subst (λ x. Finds s.file account x octets (all_fine (Ok [])) d (finding_of (Ok c.in-Ok-Allows.field-0)))
-    (to_z-of_z reading) (c.in-Ok-Allows.ensures.finds honest b st sound)))
+    (c.in-Ok-Allows.ensures.finds honest b st sound))
     (sym (subst (HasLast (greatest_serial d)) c.in-Ok-Allows.field-0-is
     (c.in-Ok-Allows.ensures.last honest b st sound)))
     (omega arith) c.in-Ok.ensures.prepared c.name_of.ensures refl
