@@ -1,5 +1,5 @@
 -- What was looked up of an owner's deposits, by number: the next of them, and the reference of one.
-use Rattle.std.proofs.Common.{◌≡◌, ℕ, zero, suc, ◌<◌, ◌≤◌, ◌==◌, ◌&&◌, nat_lt, Bool, true, false, cond, List, [], ◌∷◌}
+use Rattle.std.proofs.Common.{◌≡◌, ℕ, zero, suc, ◌<◌, ◌≤◌, ◌==◌, nat_lt, Bool, true, false, cond, List, [], ◌∷◌}
 use Rattle.std.proofs.Common.{◌++◌, map, filter, length, get_or, Option, Some, None, refl, sym, ap, ◌∙◌, subst, subst₂}
 use Rattle.std.proofs.Common.{inl, inr, arith, Contains, HoldsAt, String, string_bytes, leb, ltb}
 use Rattle.std.specs.declared.alloc.Global.{Global}

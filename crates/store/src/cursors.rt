@@ -2,7 +2,7 @@
 //! the account owns, those that it reads by its own name, and those that it reads in each of its groups.
 ghost use Rattle.std.specs.Prelude.{◌≡◌, ◌<◌, ◌^◌, length, map, replicate, Some, IfOk, IfErr, IfSome, OnOk};
 ghost use Rattle.std.specs.Prelude.{IsTrue};
-ghost use Rattle.tables.specs.Base.{IsHonest, IsOpen};
+ghost use Rattle.tables.specs.Base.{IsHonest};
 ghost use Rattle.book.specs.History.{History};
 ghost use Rattle.book.specs.Fault.{CountsFaults, IsOfStorage};
 ghost use Rattle.book.specs.Entries.{reader_view};
