@@ -16,9 +16,7 @@ use command_line::ExchangeWords;
 use connections::{Clock, SystemClock};
 use console::{Fault, FileSource, InputFault};
 use desk::Settings;
-use operations::{
-    DatabaseDesk, Disk, FileFrom, HostSigner, HostSigners, Renewal, Start, perform_at_desk,
-};
+use operations::{DatabaseDesk, Disk, FileFrom, HostSigner, Renewal, Start, perform_at_desk};
 use service::Served;
 use std::io::{Read, Write};
 use std::rt::HostRuntime;
@@ -61,18 +59,15 @@ pub fn exchange<F: Start + Drop, S: FileSource + AllocGlobal, I: Read, O: Write>
             identity: &identity,
             algorithm: &algorithm,
         },
-        signers: HostSigners {
-            rt,
-            signing,
-            renewal: Renewal::Never,
-        },
+        signing,
+        renewal: Renewal::Never,
     };
     let asked = OneRequest {
         alloc: rt.alloc(),
         reading: words.reading as i64,
         octets: octets_at(rt, words.desk.db),
     };
-    match perform_at_desk(rt.alloc(), desk, asked, input, output) {
+    match perform_at_desk(rt, desk, asked, input, output) {
         Ok(served) => finish(served, output),
         Err(fault) => Err(fault_of(fault)),
     }

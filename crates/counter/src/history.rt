@@ -18,15 +18,14 @@ use command_line::{CalibrateWords, ContinueWords, HoldWords, InitWords, MigrateW
 use connections::{Clock, SystemClock};
 use console::{Fault, InputFault};
 use operations::{
-    Addition, ContinuationFault, Database, Disk, FileFrom, Floor, HostDatabases, HostSigner, Start,
-    Unknown,
+    Addition, Continuation, ContinuationFault, Disk, FileFrom, Floor, HostSigner, Start, Unknown,
 };
 
 /// Makes the tables of a new database.
 pub fn init<F: Start + Drop, S>(host: Host<'_, F, S>, words: &InitWords<'_>) -> Result<(), Fault>
     ensures { IfErr result IsStoreFault }
 {
-    Ok(operations::init(host.database(words.db))?)
+    Ok(operations::init(host.rt, host.database(words.db))?)
 }
 
 /// Takes a database of an older schema over.
@@ -37,7 +36,7 @@ pub fn migrate<F: Start + Drop, S>(
     ensures migrated { IfOk result (λ _. IsMigratedOver ⟦<FileFrom<F> as Disk>⟧ (image_at F.Start)) }
     ensures faults { IfErr result IsStoreFault }
 {
-    Ok(operations::migrate(host.database(words.db))?)
+    Ok(operations::migrate(host.rt, host.database(words.db))?)
 }
 
 /// Closes a database for tokens, and has its history go on in a new one, above what the words state. It is `input` 9
@@ -53,13 +52,12 @@ pub fn continue_in<F: Start + Drop, S>(
     ensures refused { IfErr result (λ fault. (refusal : ContinuationFault) × (fault ≡ fault_of_continuation refusal)
         × IsRefusedOver ⟦<FileFrom<F> as Disk>⟧ (image_at F.Start) (floor_of words.now) refusal) }
 {
-    let rt = host.rt;
-    let new = Database {
-        path: words.db,
-        databases: HostDatabases { rt, start: Unknown },
+    let continuation = Continuation {
+        from: words.from,
+        db: words.db,
+        floor: floor_of(words),
     };
-    let floor = floor_of(words);
-    match operations::continue_in(rt.alloc(), host.database(words.from), new, floor) {
+    match operations::continue_in(host.rt, &continuation, host.start, Unknown) {
         Ok(()) => Ok(()),
         Err(refusal) => Err(fault_of_continuation(refusal)),
     }
@@ -86,7 +84,7 @@ pub fn calibrate<F: Start + Drop, S>(
     ensures faults { IfErr result IsStoreFault }
 {
     let addition = Addition::Calibration(calibration_of(words));
-    operations::add(host.rt.alloc(), host.database(words.db), &addition)?;
+    operations::add(host.rt, host.database(words.db), &addition)?;
     Ok(())
 }
 
@@ -100,7 +98,7 @@ pub fn hold<F: Start + Drop, S>(host: Host<'_, F, S>, words: &HoldWords<'_>) -> 
     ensures faults { words.now.from < words.now.to → IfErr result IsStoreFault }
 {
     let addition = Addition::Hold(hold_of(words)?);
-    operations::add(host.rt.alloc(), host.database(words.db), &addition)?;
+    operations::add(host.rt, host.database(words.db), &addition)?;
     Ok(())
 }
 

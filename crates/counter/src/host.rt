@@ -1,7 +1,7 @@
 //! The machine that the program runs on.
 ghost use Rattle.std.specs.Prelude.{◌≡◌};
 
-use operations::{Database, HostDatabases};
+use operations::Database;
 
 /// The machine that the program runs on.
 #[derive(Drop)]
@@ -14,18 +14,15 @@ pub struct Host<'a, F, S> {
     pub start: F,
 }
 
-impl<'a, F, S> Host<'a, F, S> {
+impl<F, S> Host<'_, F, S> {
     /// The database at a path of it.
-    pub fn database<'p>(self, path: &'p str) -> Database<'p, HostDatabases<'a, F>>
+    pub fn database<'p>(self, path: &'p str) -> Database<'p, F>
         ensures path { result.path.now ≡ path.now }
-        ensures start { result.databases.start ≡ self.entry.start }
+        ensures start { result.start ≡ self.entry.start }
     {
         Database {
             path,
-            databases: HostDatabases {
-                rt: self.rt,
-                start: self.start,
-            },
+            start: self.start,
         }
     }
 }
