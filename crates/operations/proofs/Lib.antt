@@ -1,5 +1,4 @@
 pub mod CheckedStamps
-pub mod FileStores
 pub mod GoingOn
-pub mod InDatabases
+pub mod OverFiles
 pub mod ReachedSigners

@@ -2,9 +2,9 @@
 
 /// The database at a path, before it is opened.
 #[derive(Drop)]
-pub struct Database<'a, D> {
+pub struct Database<'a, F> {
     /// Where it lies.
     pub path: &'a str,
-    /// What opens it.
-    pub databases: D,
+    /// What is supposed of its files.
+    pub start: F,
 }
