@@ -6,7 +6,7 @@ use std::rt::HostRuntime;
 use std::time::Instant;
 
 /// How many octets a database and its log have; none where no file stands at the path, or memory runs out.
-fn octets_at(rt: &HostRuntime, path: &str) -> Option<u64> {
+pub fn octets_at(rt: &HostRuntime, path: &str) -> Option<u64> {
     let octets = fs::metadata(rt, path).ok()?.len();
     let log = format!(in rt.alloc(); "{path}-wal").ok()?;
     match fs::metadata(rt, log.as_str()) {
@@ -15,9 +15,9 @@ fn octets_at(rt: &HostRuntime, path: &str) -> Option<u64> {
     }
 }
 
-/// Tells that the database at the path is opened next, and how many octets it has.
-pub fn tell_opening(rt: &HostRuntime, path: &str) {
-    if let Some(octets) = octets_at(rt, path) {
+/// Tells that the database is opened next, and how many octets it has, where that is known.
+pub fn tell_opening(rt: &HostRuntime, octets: Option<u64>) {
+    if let Some(octets) = octets {
         // Where standard error fails, nobody can be told.
         let _ = writeln!(rt.stderr(), "event=opening octets={octets}");
     }

@@ -6,6 +6,7 @@ ghost use Rattle.counter.specs.Exchange.{Exchanges, HasEnded, HasStopped};
 ghost use Rattle.operations.specs.Machine.{machine_of};
 ghost use Rattle.console.specs.Writes.{Begins};
 
+use crate::events::octets_at;
 use crate::fault::fault_of;
 use crate::files::{Files, read_files};
 use crate::host::Host;
@@ -16,7 +17,7 @@ use connections::{Clock, SystemClock};
 use console::{Fault, FileSource, InputFault};
 use desk::Settings;
 use operations::{Disk, FileFrom, HostSigner, Start, perform_at_desk};
-use service::Served;
+use service::{Served, Surroundings};
 use std::io::{Read, Write};
 use std::rt::HostRuntime;
 
@@ -57,10 +58,12 @@ pub fn exchange<F: Start + Drop, S: FileSource + AllocGlobal, I: Read, O: Write>
         algorithm: &algorithm,
     };
     let desk = host.desk(&words.desk, settings, signing);
-    let asked = OneRequest {
+    let surroundings = Surroundings {
         alloc: rt.alloc(),
         reading: words.reading as i64,
+        octets: octets_at(rt, words.desk.db),
     };
+    let asked = OneRequest { surroundings };
     match perform_at_desk(rt, desk, asked, input, output) {
         Ok(served) => finish(served, output),
         Err(fault) => Err(fault_of(fault)),

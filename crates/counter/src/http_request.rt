@@ -5,18 +5,15 @@ ghost use Rattle.counter.specs.HttpRequest.{IsExchanged, turn_of};
 use book::Book;
 use cms::Signer;
 use operations::{DeskOperation, OperationFault, SignedDesk};
-use service::{Served, serve_one};
-use std::alloc::Global;
+use service::{Served, Surroundings, serve_over};
 use std::io::{Read, Write};
 use std::rt::HostRuntime;
 
 /// One HTTP request, which is read and answered.
 #[derive(Drop)]
 pub struct OneRequest {
-    /// For what is read and written.
-    pub alloc: Global,
-    /// The clock's reading, in microseconds since 1970-01-01T00:00:00Z.
-    pub reading: i64,
+    /// By what it is read and answered.
+    pub surroundings: Surroundings,
 }
 
 impl<R: Read, W: Write> DeskOperation<R, W> for OneRequest {
@@ -26,11 +23,11 @@ impl<R: Read, W: Write> DeskOperation<R, W> for OneRequest {
 
     ghost lacks = { λ _. ⊥ };
 
-    ghost answers = { λ exchange file reader reader' writer writer' served. IsExchanged file exchange.reading
+    ghost answers = { λ exchange file reader reader' writer writer' served. IsExchanged file exchange.surroundings.reading
         (R.remaining reader) (R.remaining reader') (W.contents writer) (W.contents writer') served };
 
     ghost moves = { λ _ _ g signs exchange visit served. Serves g signs.signs signs.fault_count W.contents
-        exchange.reading (turn_of R.remaining visit) served };
+        exchange.surroundings.reading (turn_of R.remaining visit) served };
 
     fn prepare(&self, _rt: &HostRuntime) -> Result<(), OperationFault> {
         Ok(())
@@ -44,6 +41,6 @@ impl<R: Read, W: Write> DeskOperation<R, W> for OneRequest {
         writer: &mut W,
     ) -> Served {
         let SignedDesk { desk, signer } = signed;
-        serve_one(self.alloc, reader, writer, desk, self.reading, signer)
+        serve_over(self.surroundings, reader, writer, desk, signer)
     }
 }

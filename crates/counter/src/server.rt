@@ -8,7 +8,7 @@ ghost use Rattle.operations.specs.DatabaseFaults.{IsServingFault, IsUnheard};
 ghost use Rattle.operations.specs.Machine.{machine_of};
 ghost use Rattle.operations.specs.declared.fault.OperationFault.TheVariants as operation;
 
-use crate::events::{tell_listening, tell_opening};
+use crate::events::{octets_at, tell_listening, tell_opening};
 use crate::fault::{answer_of, fault_of};
 use crate::files::{Files, read_files};
 use crate::host::Host;
@@ -32,6 +32,8 @@ struct Serving<'a> {
     connections: u32,
     /// When that began, if the clock tells.
     begun: Option<Instant>,
+    /// The octets of the database's files before it is opened, if they are known.
+    octets: Option<u64>,
 }
 
 impl DeskOperation<(), ()> for Serving<'_> {
@@ -62,7 +64,7 @@ impl DeskOperation<(), ()> for Serving<'_> {
         let limit = connection_limit();
         let rt = self.rt;
         let mut clock = SystemClock::new(rt);
-        match Listening::new(rt, rt, &listener, limit) {
+        match Listening::new(rt, rt, &listener, limit, self.octets) {
             Ok(mut listening) => {
                 tell_listening(rt, &listener, self.address, self.begun);
                 let SignedDesk { desk, signer } = signed;
@@ -126,13 +128,15 @@ pub fn serve<F: Start + Drop, S: FileSource + AllocGlobal>(
         algorithm: &algorithm,
     };
     let desk = host.lasting_desk(&words.desk, settings, signing);
+    let octets = octets_at(rt, words.desk.db);
     let serving = Serving {
         rt,
         address: words.listen,
         connections: words.connections,
         begun: Instant::now(rt).ok(),
+        octets,
     };
-    tell_opening(rt, words.desk.db);
+    tell_opening(rt, octets);
     match perform_at_desk(rt, desk, serving, &mut (), &mut ()) {
         Ok(done) => answer_of(done),
         Err(fault) => Err(fault_of(fault)),

@@ -8,18 +8,18 @@ returns-clause-answered g c =
     let turn : Turn g.row.W.Denot g.row.B.Denot g.row.G.Denot =
     record {
       input = g.R.Read.remaining c.args.reader.now;
-      input_after = g.R.Read.remaining c.serve_one.new.reader;
+      input_after = g.R.Read.remaining c.serve_over.new.reader;
       writer = c.args.writer.now;
-      writer_after = c.serve_one.new.writer;
+      writer_after = c.serve_over.new.writer;
       desk = c.args.signed.now.desk;
-      desk_after = c.serve_one.new.desk;
+      desk_after = c.serve_over.new.desk;
       signer = c.args.signed.now.signer;
-      signer_after = c.serve_one.new.signer;
+      signer_after = c.serve_over.new.signer;
     }
     in
-    let fits : SFits w64 c.args.self.reading = search rules in
+    let fits : SFits w64 c.args.self.surroundings.reading = search rules in
     let at : ℤ → Type 0 =
-    λ n. Serves g.B.Standing g.G.Signer.signs g.G.Signer.fault_count g.W.Write.contents n turn c.serve_one.result
+    λ n. Serves g.B.Standing g.G.Signer.signs g.G.Signer.fault_count g.W.Write.contents n turn c.serve_over.result
     in
-    exchanged g.B.Standing g.G.Signer.signs g.G.Signer.fault_count g.W.Write.contents c.args.self.reading turn
-    c.serve_one.result (subst at (to_z-of_z fits) c.serve_one.ensures.served)
+    exchanged g.B.Standing g.G.Signer.signs g.G.Signer.fault_count g.W.Write.contents c.args.self.surroundings.reading turn
+    c.serve_over.result (subst at (to_z-of_z fits) c.serve_over.ensures.served)
