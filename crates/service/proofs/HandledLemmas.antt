@@ -79,16 +79,18 @@ module _ {W B X : Type 0} (g : Ghosts B) (signs : X → List ℕ → Result (Lis
       reporting g signs count contents r.reading (turn before after w w' d d' x x') report a outcome
       (subst P asks request) (record { store = looks; signer = signer }) is sent
 
-  pub status_told : Asks (Ok (Look Status)) → OnlyLooks g d.store d'.store → x' ≡ x
-      → ServesStatus g contents r.reading w w' d.store d'.store d.setting.file.counter (count x') outcome → Handled
-  status_told asks looks signer (inl tells) =
+  pub status_told : Asks (Ok (Look Status)) → OnlyLooks g d.store d'.store → x' ≡ x → (octets : Option ℕ)
+      → ServesStatus g contents r.reading w w' d.store d'.store d.setting.file.counter (count x') octets outcome
+      → Handled
+  status_told asks looks signer octets (inl tells) =
       elim tells.sent [
         | inl sent ↦
             reported Status (success 200 media.Text tells.body) asks looks signer
-            (tells_status tells.body tells.is refl) sent
+            (tells_status tells.body
+            (λ honest b stands. record { octets = octets; is = tells.is honest b stands }) refl) sent
         | inr sent ↦ reported Status unavailable asks looks signer (wants_status refl) sent
       ]
-  status_told asks looks signer (inr sent) = reported Status unavailable asks looks signer (wants_status refl) sent
+  status_told asks looks signer octets (inr sent) = reported Status unavailable asks looks signer (wants_status refl) sent
 
 -- the check that comes first fails, or gives what comes next
 pub checks : {A B : Type 0} (next : A → Result B Refusal) (m n : Result A Refusal) → n ≡ m → (m >>= next) ≡ (n >>= next)

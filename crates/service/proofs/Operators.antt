@@ -19,7 +19,7 @@ use Rattle.desk.specs.Command.{Calibrate, Hold}
 use Rattle.service.specs.Answers.{AnswerValue, success}
 use Rattle.service.specs.Forms.{field_of}
 use Rattle.service.specs.Served.{Tells, plainly, backwards, SendsOrWants}
-use Rattle.service.specs.Status.{IsStatusText}
+use Rattle.service.specs.Status.{IsStateOver}
 use Rattle.service.specs.StateAnswers.{ServesStatus}
 use Rattle.service.specs.declared.answer.Media.TheVariants as media
 use Rattle.service.specs.declared.served.Served.{Served}
@@ -36,18 +36,19 @@ found_later name field fields is = rw is
 
 -- the state of the clock as it was looked at, and the store's count of faults since
 pub status_told : {B W : Type 0} (g : Ghosts B) (contents : W → Option (List ℕ)) (reading : ℤ) (w w' : W) (old new : B)
-    (counter file_counter : CounterValue) (asked : ℤ) (looked : Looked) (store signer : ℕ) (body : List ℕ)
-    (outcome : Served) → IsStatusText counter looked store signer body → counter ≡ file_counter → asked ≡ reading
+    (counter file_counter : CounterValue) (asked : ℤ) (looked : Looked) (store signer : ℕ) (octets : Option ℕ)
+    (body : List ℕ) (outcome : Served) → IsStateOver counter looked store signer octets body → counter ≡ file_counter
+    → asked ≡ reading
     → (g.honest new → (b : History) → Stands g b old → looked ≡ looked_at asked b) → store ≡ g.fault_count new
     → SendsOrWants contents reading w w' (success 200 media.Text body) outcome
-    → ServesStatus g contents reading w w' old new file_counter signer outcome
-status_told g contents reading w w' old new counter file_counter asked looked store signer body outcome text of at finds
-    counted sent = inl (record {
+    → ServesStatus g contents reading w w' old new file_counter signer octets outcome
+status_told g contents reading w w' old new counter file_counter asked looked store signer octets body outcome text of at
+    finds counted sent = inl (record {
       body = body;
       is = λ honest b stands.
-          let C : CounterValue → Type 0 = λ x. IsStatusText x looked store signer body in
-          let L : Looked → Type 0 = λ x. IsStatusText file_counter x store signer body in
-          let S : ℕ → Type 0 = λ x. IsStatusText file_counter (looked_at reading b) x signer body in
+          let C : CounterValue → Type 0 = λ x. IsStateOver x looked store signer octets body in
+          let L : Looked → Type 0 = λ x. IsStateOver file_counter x store signer octets body in
+          let S : ℕ → Type 0 = λ x. IsStateOver file_counter (looked_at reading b) x signer octets body in
           subst S counted (subst L (finds honest b stands ∙ ap (λ x. looked_at x b) at) (subst C of text));
       sent = sent;
     })

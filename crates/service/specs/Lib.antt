@@ -12,6 +12,7 @@ pub mod Refusals
 pub mod Requests
 pub mod Routes
 pub mod Served
+pub mod Stamps
 pub mod StateAnswers
 pub mod Status
 pub mod Views

@@ -72,17 +72,28 @@ clock_lines counter clock gives =
 abbrev pub fault_lines : ℕ → ℕ → List ℕ
 fault_lines store signer = named (codes "store-faults") (decimal store) ++ named (codes "signer-faults") (decimal signer)
 
-abbrev pub status_text : CounterValue → Looked → Bool → ℕ → ℕ → List ℕ
-status_text counter looked gives store signer =
+-- how many octets the database had when it was opened, if that is known
+abbrev pub size_line : Option ℕ → List ℕ
+size_line octets = named (codes "database-octets") (or_none decimal octets)
+
+abbrev pub status_text : CounterValue → Looked → Bool → ℕ → ℕ → Option ℕ → List ℕ
+status_text counter looked gives store signer octets =
     named (codes "serial") (decimal looked.serial) ++ clock_lines counter looked.clock gives ++ fault_lines store signer
+    ++ size_line octets
 
 -- whether the clock lets a token be given
 abbrev pub Gives : CounterValue → ClockFacts → Bool → Type 0
 Gives counter clock true = IsGood counter clock
 Gives counter clock false = IsGood counter clock → ⊥
 
--- the text is the state that was looked at
-pub record IsStatusText (counter : CounterValue) (looked : Looked) (store signer : ℕ) (text : List ℕ) : Type 0 where
+-- the text is the state that was looked at, with these octets of the database
+pub record IsStateOver (counter : CounterValue) (looked : Looked) (store signer : ℕ) (octets : Option ℕ) (text : List ℕ)
+    : Type 0 where
   pub gives : Bool
   pub given : Gives counter looked.clock gives
-  pub lines : text ≡ status_text counter looked gives store signer
+  pub lines : text ≡ status_text counter looked gives store signer octets
+
+-- the text is the state that was looked at
+pub record IsStatusText (counter : CounterValue) (looked : Looked) (store signer : ℕ) (text : List ℕ) : Type 0 where
+  pub octets : Option ℕ
+  pub is : IsStateOver counter looked store signer octets text

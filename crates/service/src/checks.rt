@@ -3,12 +3,16 @@ ghost use Rattle.std.specs.Prelude.{◌≡◌, IfOk};
 ghost use Rattle.book.specs.Values.{calibration_view, hold_view};
 ghost use Rattle.policy.specs.View.{account_view, policy_view};
 ghost use Rattle.decide.specs.View.{account_asked};
+ghost use Rattle.desk.specs.Batches.{stamp_for};
+ghost use Rattle.desk.specs.Together.{question_view};
 ghost use Rattle.service.specs.Checks.{account_shown, active, active_account, number_stated, range_stated};
 ghost use Rattle.service.specs.Checks.{reference_stated, operator_shown, watcher_shown};
 ghost use Rattle.service.specs.Requests.{account_and_reference, account_and_number, account_and_range};
-ghost use Rattle.service.specs.Requests.{calibration_asked, hold_asked};
+ghost use Rattle.service.specs.Requests.{Step, asked_by, calibration_asked, hold_asked};
 ghost use Rattle.service.specs.Views.{head_view, IsInPlace, octets_given, result_by, account_given, account_found};
+ghost use Rattle.service.specs.declared.routes.Action.TheVariants.{Stamp};
 
+use crate::answer::Occasion;
 use crate::context::Context;
 use crate::fields::{Occurrence, stated};
 use crate::form::{calibration_stated, hold_stated};
@@ -19,6 +23,7 @@ use crate::routes::Routes;
 use crate::wanted::once;
 use audit::Inquiry;
 use book::{Calibration, Hold};
+use desk::Asked;
 use policy::{Account, Policy};
 use std::str;
 
@@ -26,30 +31,22 @@ use std::str;
 fn number_stated(routes: &Routes, head: Head<'_>) -> Result<u64, Refusal>
     ensures { result ≡ number_stated (head_view head.entry) }
 {
-    match number_in(routes.parameter(head.target, "number").as_bytes()) {
-        Some(number) => Ok(number),
-        None => Err(Refusal::NotHere),
-    }
+    number_in(routes.parameter(head.target, "number").as_bytes()).ok_or(Refusal::NotHere)
 }
 
 /// The two serial numbers in a target.
 fn range_stated(routes: &Routes, head: Head<'_>) -> Result<(u64, u64), Refusal>
     ensures { result ≡ range_stated (head_view head.entry) }
 {
-    let Some(from) = number_in(routes.parameter(head.target, "from").as_bytes()) else {
-        return Err(Refusal::BadRange);
-    };
-    match number_in(routes.parameter(head.target, "to").as_bytes()) {
-        Some(to) => Ok((from, to)),
-        None => Err(Refusal::BadRange),
-    }
+    let from = number_in(routes.parameter(head.target, "from").as_bytes());
+    let from = from.ok_or(Refusal::BadRange)?;
+    let to = number_in(routes.parameter(head.target, "to").as_bytes());
+    let to = to.ok_or(Refusal::BadRange)?;
+    Ok((from, to))
 }
 
 /// The account whose key is shown, or the anonymous one, or none.
-pub(crate) fn account_shown<'a>(
-    policy: &'a Policy,
-    head: Head<'_>,
-) -> Result<Option<&'a Account>, Refusal>
+fn account_shown<'a>(policy: &'a Policy, head: Head<'_>) -> Result<Option<&'a Account>, Refusal>
     requires { IsInPlace head }
     ensures { account_found result ≡ account_shown (policy_view policy.now) (head_view head.entry) }
 {
@@ -58,6 +55,25 @@ pub(crate) fn account_shown<'a>(
         Occurrence::Once(key) => Ok(policy.account_of_key(key)),
         Occurrence::Twice => Err(Refusal::BadRequest),
     }
+}
+
+/// The stamp that a head and its body ask for, at that moment.
+pub(crate) fn stamp_asked<'a>(
+    policy: &'a Policy,
+    at: Occasion,
+    head: Head<'_>,
+    body: &'a [u8],
+) -> Result<Asked<'a>, Refusal>
+    requires { IsInPlace head }
+    ensures { result_by (λ asked. Step (stamp_for (question_view asked))) result
+        ≡ asked_by (policy_view policy.now) at.reading (head_view head.entry) body.now Stamp }
+{
+    let account = account_shown(policy, head)?;
+    Ok(Asked {
+        account,
+        reading: at.reading,
+        query: body,
+    })
 }
 
 /// There is an account, and it is active.
@@ -114,10 +130,7 @@ fn reference_stated<'b>(head: Head<'b>) -> Result<&'b str, Refusal>
     if !is_reference(reference) {
         return Err(Refusal::BadReference);
     }
-    match str::from_utf8(reference) {
-        Ok(text) => Ok(text),
-        Err(_) => Err(Refusal::BadReference),
-    }
+    str::from_utf8(reference).map_err(|_| Refusal::BadReference)
 }
 
 /// An active account, and the reference of its deposit.

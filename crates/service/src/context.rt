@@ -4,6 +4,17 @@ use crate::head::Head;
 use crate::routes::Routes;
 use std::alloc::Global;
 
+/// What one request is read and answered by, beside the desk and the signer.
+#[derive(Clone, Copy)]
+pub struct Surroundings {
+    /// What gives memory for the request and its answer.
+    pub alloc: Global,
+    /// The clock's reading, in microseconds.
+    pub reading: i64,
+    /// The octets of the database's files when it was opened, if they are known.
+    pub octets: Option<u64>,
+}
+
 /// What requests are answered by, beside the desk and the signer.
 #[derive(Clone, Copy)]
 pub struct Environment<'r> {
@@ -13,6 +24,8 @@ pub struct Environment<'r> {
     pub routes: &'r Routes,
     /// The clock's reading, in microseconds.
     pub reading: i64,
+    /// The octets of the database's files when it was opened, if they are known.
+    pub octets: Option<u64>,
 }
 
 /// A whole request, and what it is answered by.
@@ -20,6 +33,7 @@ pub struct Environment<'r> {
 pub(crate) struct Context<'r> {
     pub(crate) alloc: Global,
     pub(crate) routes: &'r Routes,
+    pub(crate) octets: Option<u64>,
     pub(crate) at: Occasion,
     pub(crate) head: Head<'r>,
     pub(crate) body: &'r [u8],

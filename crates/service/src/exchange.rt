@@ -1,21 +1,30 @@
 //! A request and its answer.
-ghost use Rattle.std.specs.Prelude.{◌≡◌, length, take, List, Option, ℕ, true};
+ghost use Rattle.std.specs.Prelude.{◌≡◌, length, take, List, Option, ℕ, true, IfSome};
 ghost use Rattle.std.specs.Io.KnownBytes.{Consumes, IsAtEnd};
+ghost use Rattle.policy.specs.View.{policy_view};
+ghost use Rattle.desk.specs.Answers.{reply_as};
+ghost use Rattle.desk.specs.Batches.{Question, stamp_for};
+ghost use Rattle.desk.specs.Together.{question_view};
+ghost use Rattle.service.specs.Answers.{answer_to};
 ghost use Rattle.service.specs.Known.{IsDue, IsDueAtEnd, IsDueInPlace};
 ghost use Rattle.service.specs.Received.{ReceivedValue, IsAll};
-ghost use Rattle.service.specs.Served.{Serves, TellsCut};
+ghost use Rattle.service.specs.Served.{Sends, Serves, TellsCut};
+ghost use Rattle.service.specs.Stamps.{AsksStamp};
+ghost use Rattle.service.specs.Views.{stamp_answer};
 
 use crate::answer::Occasion;
-use crate::context::{Context, Environment};
+use crate::checks::stamp_asked;
+use crate::context::{Context, Environment, Surroundings};
 use crate::due::Due;
 use crate::handlers::handle;
 use crate::request::Request;
-use crate::responses::{out_of_memory, refuse};
-use crate::routes::Routes;
+use crate::responses::{out_of_memory, refuse, write_reply};
+use crate::routes::{Action, Routes};
 use crate::served::Served;
 use book::Book;
 use cms::Signer;
-use desk::Desk;
+use desk::{Asked, Desk, Reply};
+use policy::Policy;
 use std::alloc::Global;
 use std::io::{Read, Write};
 
@@ -64,6 +73,7 @@ fn give<W: Write, B: Book + Drop, G: Signer>(
             let context = Context {
                 alloc: environment.alloc,
                 routes: environment.routes,
+                octets: environment.octets,
                 at,
                 head,
                 body,
@@ -105,10 +115,35 @@ impl Request {
             is_all: self.is_all(),
         }
     }
+
+    /// The stamp that it asks for, as `Desk::answer_each` takes it, where that is what is due to it: it is whole, and no
+    /// check fails. None where something else is due. The reading is the clock's, in microseconds.
+    pub fn stamp<'r>(&'r self, policy: &'r Policy, reading: i64) -> Option<Asked<'r>>
+        ensures { IfSome result (λ asked. AsksStamp (policy_view policy.now) reading self.now (question_view asked)) }
+    {
+        match self.due() {
+            Due::Answer(Action::Stamp, head, body) => {
+                let at = Occasion { reading };
+                stamp_asked(policy, at, head, body).ok()
+            }
+            _ => None,
+        }
+    }
+
+    /// Writes the reply to the stamp that it asks for, given at that reading.
+    pub fn write_stamped<W: Write>(&self, reading: i64, reply: &Reply, writer: &mut W) -> Exchanged
+        ensures sent { Sends W.contents reading writer.old writer.new (stamp_answer reply.now) result.served }
+        ensures tells { (asked : Question) → stamp_answer reply.now ≡ answer_to (stamp_for asked) (reply_as reply.now) }
+        ensures all { result.is_all ≡ true → IsAll self.now.octets }
+    {
+        Exchanged {
+            served: write_reply(writer, Occasion { reading }, reply),
+            is_all: self.is_all(),
+        }
+    }
 }
 
 /// Reads one request, has the desk take the one step that it asks for, and writes one answer (RFC 9112, RFC 3161 3.4).
-/// The reading is the clock's, in microseconds.
 ///
 /// It asks the reader for no octet behind the request, and for none once it is refused. `Closed` where the input ends
 /// before any octet, and `ReadFailed` where a read fails; nothing is written then, and nothing done. `WriteFailed`
@@ -116,6 +151,51 @@ impl Request {
 /// desk that wants memory, or whose store or signer fails, is told by the reply's rule 12 on `/tsp`, and by 503
 /// elsewhere. An auditor's extract is written row by row, and no row is kept: it is `WriteFailed` too where the store
 /// or memory fails once the answer is begun.
+pub fn serve_over<R: Read, W: Write, B: Book + Drop, G: Signer>(
+    surroundings: Surroundings,
+    reader: &mut R,
+    writer: &mut W,
+    desk: &mut Desk<'_, B>,
+    signer: &mut G,
+) -> Served
+    ensures setting { desk.new.setting ≡ desk.old.setting }
+    ensures honest { B.honest desk.new.store → B.honest desk.old.store }
+    ensures served { Serves B.Standing G.signs G.fault_count W.contents surroundings.reading (record {
+      input = R.remaining reader.old;
+      input_after = R.remaining reader.new;
+      writer = writer.old;
+      writer_after = writer.new;
+      desk = desk.old;
+      desk_after = desk.new;
+      signer = signer.old;
+      signer_after = signer.new;
+    }) result }
+{
+    let alloc = surroundings.alloc;
+    let Ok(routes) = Routes::new(alloc) else {
+        let at = Occasion {
+            reading: surroundings.reading,
+        };
+        return out_of_memory(writer, at);
+    };
+    let mut request = Request::new(alloc);
+    'reading: while request.is_open() {
+        match request.read(&routes, reader) {
+            Ok(()) => {}
+            Err(_) => return Served::ReadFailed,
+        }
+    }
+    let environment = Environment {
+        alloc,
+        routes: &routes,
+        reading: surroundings.reading,
+        octets: surroundings.octets,
+    };
+    request.serve(environment, desk, signer, writer).served
+}
+
+/// Serves one request as `serve_over` does, of a database whose octets aren't known. The reading is the clock's, in
+/// microseconds.
 pub fn serve_one<R: Read, W: Write, B: Book + Drop, G: Signer>(
     alloc: Global,
     reader: &mut R,
@@ -137,20 +217,10 @@ pub fn serve_one<R: Read, W: Write, B: Book + Drop, G: Signer>(
       signer_after = signer.new;
     }) result }
 {
-    let Ok(routes) = Routes::new(alloc) else {
-        return out_of_memory(writer, Occasion { reading });
-    };
-    let mut request = Request::new(alloc);
-    'reading: while request.is_open() {
-        match request.read(&routes, reader) {
-            Ok(()) => {}
-            Err(_) => return Served::ReadFailed,
-        }
-    }
-    let environment = Environment {
+    let surroundings = Surroundings {
         alloc,
-        routes: &routes,
         reading,
+        octets: None,
     };
-    request.serve(environment, desk, signer, writer).served
+    serve_over(surroundings, reader, writer, desk, signer)
 }

@@ -55,26 +55,16 @@ fn micros(form: &[u8], name: &str) -> Result<u64, Refusal>
     ensures value { result ≡ field_stated micros_in name.now form.now }
     ensures few { IfOk result (λ n. n ≤ greatest_number) }
 {
-    let Some(value) = field_of(form, name) else {
-        return Err(Refusal::BadField);
-    };
-    match micros_in(value) {
-        Some(number) => Ok(number),
-        None => Err(Refusal::BadField),
-    }
+    let value = field_of(form, name).ok_or(Refusal::BadField)?;
+    micros_in(value).ok_or(Refusal::BadField)
 }
 
 /// The number of microseconds that a field states, or minus such a number.
 fn signed(form: &[u8], name: &str) -> Result<i64, Refusal>
     ensures { result ≡ field_stated signed_in name.now form.now }
 {
-    let Some(value) = field_of(form, name) else {
-        return Err(Refusal::BadField);
-    };
-    match signed_in(value) {
-        Some(number) => Ok(number),
-        None => Err(Refusal::BadField),
-    }
+    let value = field_of(form, name).ok_or(Refusal::BadField)?;
+    signed_in(value).ok_or(Refusal::BadField)
 }
 
 /// The calibration that a form states.

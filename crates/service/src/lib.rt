@@ -24,8 +24,8 @@ mod wanted;
 mod writes;
 
 pub use answer::Media;
-pub use context::Environment;
-pub use exchange::{Exchanged, serve_one};
+pub use context::{Environment, Surroundings};
+pub use exchange::{Exchanged, serve_one, serve_over};
 pub use known::MOST_OCTETS;
 pub use refusal::Refusal;
 pub use request::Request;

@@ -90,14 +90,8 @@ pub(crate) fn signed_in(octets: &[u8]) -> Option<i64>
 {
     match octets.split_first() {
         None => None,
-        Some((b'-', digits)) => match micros_in(digits) {
-            Some(number) => Some(-(number as i64)),
-            None => None,
-        },
-        Some(_) => match micros_in(octets) {
-            Some(number) => Some(number as i64),
-            None => None,
-        },
+        Some((b'-', digits)) => Some(-(micros_in(digits)? as i64)),
+        Some(_) => Some(micros_in(octets)? as i64),
     }
 }
 

@@ -56,10 +56,9 @@ fn read_behind<R: Read>(
     ensures failed { OnErr result (Consumes (R.remaining reader.old) (R.remaining reader.new) []) }
 {
     let end = room.len().min(filled.saturating_add(most));
-    match reader.read(&mut room[filled..end]) {
-        Ok(count) => Ok(count),
-        Err(error) => Err(error.kind()),
-    }
+    reader
+        .read(&mut room[filled..end])
+        .map_err(|error| error.kind())
 }
 
 /// Why a request is refused to which octets are wanting: its input has ended, or there is no memory for them.
@@ -140,26 +139,19 @@ impl Request {
         }
         let filled = self.filled;
         let most = self.known.most(most);
-        match read_behind(reader, self.room.as_mut_slice(), filled, most) {
-            Ok(0) => {
-                self.is_ended = true;
-                Ok(())
-            }
-            Ok(count) => {
-                let all = filled + count;
-                self.filled = all;
-                match self.known {
-                    Known::Open => {
-                        let octets = self.room.as_slice().split_at(all).0;
-                        let known = known_of(routes, octets, filled, &mut self.headers);
-                        self.known = with_room(known, &mut self.room, all);
-                        Ok(())
-                    }
-                    _ => Ok(()),
-                }
-            }
-            Err(kind) => Err(kind),
+        let count = read_behind(reader, self.room.as_mut_slice(), filled, most)?;
+        if count == 0 {
+            self.is_ended = true;
+            return Ok(());
         }
+        let all = filled + count;
+        self.filled = all;
+        if let Known::Open = self.known {
+            let octets = self.room.as_slice().split_at(all).0;
+            let known = known_of(routes, octets, filled, &mut self.headers);
+            self.known = with_room(known, &mut self.room, all);
+        }
+        Ok(())
     }
 
     /// Reads once where it is open, and asks for no octet behind it.

@@ -142,20 +142,15 @@ pub struct Routes {
 impl Routes {
     /// All routes. An error where memory runs out.
     pub fn new(alloc: Global) -> Result<Routes, AllocError> {
-        match all_routes(alloc) {
-            Ok(router) => Ok(Routes { router }),
-            Err(_) => Err(AllocError),
-        }
+        let router = all_routes(alloc).map_err(|_| AllocError)?;
+        Ok(Routes { router })
     }
 
     /// What the methods do at a target, as it was sent. None where no route has it.
     pub(crate) fn methods_at(&self, target: &str) -> Option<Methods>
         ensures { result ≡ methods_at target.now }
     {
-        match self.router.at(target) {
-            Ok(found) => Some(*found.value),
-            Err(_) => None,
-        }
+        Some(*self.router.at(target).ok()?.value)
     }
 
     /// What a name in its route's text took of a target, as it was sent. It is empty where no route has the target, or

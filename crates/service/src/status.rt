@@ -5,7 +5,7 @@ ghost use Rattle.gentime.specs.GenTime.{text_of};
 ghost use Rattle.policy.specs.View.{counter_view};
 ghost use Rattle.book.specs.Stands.{OnlyLooks};
 ghost use Rattle.service.specs.Status.{drifting, greatest_age, age, age_left, or_none, yes_or_no, named};
-ghost use Rattle.service.specs.Status.{calibration_lines, giving_lines, clock_lines, fault_lines, Gives, IsStatusText};
+ghost use Rattle.service.specs.Status.{calibration_lines, giving_lines, clock_lines, fault_lines, size_line, Gives, IsStateOver};
 ghost use Rattle.service.specs.StateAnswers.{ServesStatus};
 
 use crate::answer::Media;
@@ -19,6 +19,13 @@ use gentime::GenTime;
 use policy::Counter;
 use std::alloc::{AllocError, Global};
 use std::io::Write;
+
+/// How often store and signer failed since the start.
+#[derive(Clone, Copy)]
+struct Faults {
+    store: u64,
+    signer: u64,
+}
 
 /// How long ago the calibration was, in microseconds; negative where its reading is still to come.
 fn age(reading: i64, calibration: &Calibration) -> i128
@@ -74,20 +81,14 @@ fn age_left(counter: &Counter, reading: i64, calibration: &Calibration) -> u64
 fn latest_age(clock: &ClockFacts) -> Option<i128>
     ensures { result ≡ option_map (age clock.now.reading) clock.now.calibration }
 {
-    match clock.calibration {
-        Some(calibration) => Some(age(clock.reading, &calibration)),
-        None => None,
-    }
+    Some(age(clock.reading, &clock.calibration?))
 }
 
 /// How long it lasts yet.
 fn latest_left(counter: &Counter, clock: &ClockFacts) -> Option<u64>
     ensures { result ≡ option_map (age_left (counter_view counter.now) clock.now.reading) clock.now.calibration }
 {
-    match clock.calibration {
-        Some(calibration) => Some(age_left(counter, clock.reading, &calibration)),
-        None => None,
-    }
+    Some(age_left(counter, clock.reading, &clock.calibration?))
 }
 
 /// Whether the clock lets a token be given.
@@ -205,28 +206,37 @@ fn append_clock(
 }
 
 /// Appends the lines on faults of store and signer.
-fn append_faults(alloc: Global, lines: &mut Vec<u8>, store: u64, signer: u64) -> Option<()>
-    ensures { OnSome result (lines.new.items ≡ lines.old.items ++ fault_lines store signer) }
+fn append_faults(alloc: Global, lines: &mut Vec<u8>, faults: Faults) -> Option<()>
+    ensures { OnSome result (lines.new.items ≡ lines.old.items ++ fault_lines faults.store faults.signer) }
 {
-    append_number(alloc, lines, "store-faults", Some(store))?;
-    append_number(alloc, lines, "signer-faults", Some(signer))
+    append_number(alloc, lines, "store-faults", Some(faults.store))?;
+    append_number(alloc, lines, "signer-faults", Some(faults.signer))
 }
 
-/// The state that was looked at; the last two numbers are the faults of store and signer. None where memory runs out.
+/// Appends the line on the database's octets.
+fn append_size(alloc: Global, lines: &mut Vec<u8>, octets: Option<u64>) -> Option<()>
+    ensures { OnSome result (lines.new.items ≡ lines.old.items ++ size_line octets) }
+{
+    append_number(alloc, lines, "database-octets", octets)
+}
+
+/// The state that was looked at, with the database's octets, if they are known. None where memory runs out.
 fn status_text(
     alloc: Global,
     counter: &Counter,
     looked: Looked,
-    store: u64,
-    signer: u64,
+    faults: Faults,
+    octets: Option<u64>,
 ) -> Option<Vec<u8>>
-    ensures { IfSome result (λ text. IsStatusText (counter_view counter.now) looked store signer text.items) }
+    ensures { IfSome result (λ text. IsStateOver (counter_view counter.now) looked faults.store faults.signer octets
+        text.items) }
 {
     let gives = gives(counter, &looked.clock);
     let mut lines = Vec::new(alloc);
     append_number(alloc, &mut lines, "serial", Some(looked.serial))?;
     append_clock(alloc, &mut lines, counter, &looked.clock, gives)?;
-    append_faults(alloc, &mut lines, store, signer)?;
+    append_faults(alloc, &mut lines, faults)?;
+    append_size(alloc, &mut lines, octets)?;
     Some(lines)
 }
 
@@ -248,14 +258,17 @@ pub(crate) fn serve_status<W: Write, B: Book + Drop>(
     ensures setting { desk.new.setting ≡ desk.old.setting }
     ensures looks { OnlyLooks B.Standing desk.old.store desk.new.store }
     ensures served { ServesStatus B.Standing W.contents context.now.at.reading writer.old writer.new desk.old.store
-        desk.new.store desk.old.setting.file.counter signer_faults result }
+        desk.new.store desk.old.setting.file.counter signer_faults context.now.octets result }
 {
     let Ok(looked) = desk.look(context.at.reading) else {
         return out_of_memory(writer, context.at);
     };
-    let store = store_faults(desk);
-    let policy = desk.policy();
-    match status_text(context.alloc, &policy.counter, looked, store, signer_faults) {
+    let faults = Faults {
+        store: store_faults(desk),
+        signer: signer_faults,
+    };
+    let counter = &desk.policy().counter;
+    match status_text(context.alloc, counter, looked, faults, context.octets) {
         Some(text) => succeed(writer, context.at, Media::Text, &text),
         None => out_of_memory(writer, context.at),
     }

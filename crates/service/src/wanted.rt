@@ -56,11 +56,11 @@ fn stated_length(head: Head<'_>) -> Result<u64, Refusal>
 {
     let found = stated(head.octets, head.headers, b"content-length");
     let digits = once(Refusal::Length, Refusal::BadLength, found)?;
-    match length_in(digits) {
-        None => Err(Refusal::BadLength),
-        Some(count) if count <= MOST_BODY => Ok(count),
-        Some(_) => Err(Refusal::TooLarge),
+    let count = length_in(digits).ok_or(Refusal::BadLength)?;
+    if count > MOST_BODY {
+        return Err(Refusal::TooLarge);
     }
+    Ok(count)
 }
 
 /// Whether a body comes with a method.

@@ -4,7 +4,7 @@ ghost use Rattle.service.specs.Handlers.{Handles};
 ghost use Rattle.service.specs.Views.{request_view, IsInPlace};
 ghost use Rattle.service.specs.declared.routes.Action.TheVariants.{Stamp};
 
-use crate::checks::account_shown;
+use crate::checks::stamp_asked;
 use crate::context::Context;
 use crate::responses::{refuse, write_reply};
 use crate::served::Served;
@@ -26,10 +26,10 @@ pub(crate) fn stamp<W: Write, B: Book + Drop, G: Signer>(
     ensures served { Handles B.Standing G.signs G.fault_count W.contents (request_view context.now) Stamp
         writer.old writer.new desk.old desk.new signer.old signer.new result }
 {
-    let account = match account_shown(desk.policy(), context.head) {
+    let asked = match stamp_asked(desk.policy(), context.at, context.head, context.body) {
         Ok(asked) => asked,
         Err(refusal) => return refuse(writer, context.at, refusal),
     };
-    let reply = desk.answer(account, context.at.reading, context.body, signer);
+    let reply = desk.answer(asked.account, asked.reading, asked.query, signer);
     write_reply(writer, context.at, &reply)
 }

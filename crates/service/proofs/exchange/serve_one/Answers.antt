@@ -1,53 +1,13 @@
-use Rattle.std.proofs.Common.{◌≡◌, ◌∙◌, ℤ, List, ℕ, ap, arith, length, refl, rules, subst, sym, take, true, false}
-use Rattle.std.proofs.Common.{SFits, w64, to_z-of_z}
-use Rattle.std.proofs.KnownBytes.{Consumes-nil, Consumes-trans}
-use Rattle.std.proofs.lemmas.List.{take_all}
-use Rattle.std.specs.Io.KnownBytes.{Consumes}
-use Rattle.service.specs.Received.{is_open}
-use Rattle.service.specs.Requests.{nothing}
-use Rattle.service.specs.Served.{Sends, Serves, unavailable}
-use Rattle.service.proofs.RequestLemmas.{open_parts}
-use Rattle.service.proofs.ServingLemmas.{turn, wanting_early}
+use Rattle.std.proofs.Common.{ℤ, SFits, rules, subst, to_z-of_z, w64}
+use Rattle.service.specs.Served.{Serves}
+use Rattle.service.proofs.ServingLemmas.{turn}
 use Rattle.service.proofs.exchange.serve_one.Goals as goal
-
-pub returns-in_default-clause-served : goal.returns-in_default-clause-served
-returns-in_default-clause-served g c =
-    let fits : SFits w64 c.args.reading = search rules in
-    let P : ℤ → Type 0 = λ at. Sends g.W.Write.contents at c.args.writer.now c.out_of_memory.new.writer unavailable
-    c.out_of_memory.result in
-    wanting_early g.B.Standing g.G.Signer.signs g.G.Signer.fault_count g.W.Write.contents c.args.reading
-    (turn (g.R.Read.remaining c.args.reader.now) (g.R.Read.remaining c.args.reader.now) c.args.writer.now
-    c.out_of_memory.new.writer
-    c.args.desk.now c.args.desk.now c.args.signer.now c.args.signer.now)
-    c.out_of_memory.result (nothing (Consumes-nil _)) (record { desk = refl; signer = refl })
-    (subst P (to_z-of_z fits) c.out_of_memory.ensures)
-
-pub reading-preserved : goal.reading-preserved
-reading-preserved g c =
-    let before = c.reading.invariant in
-    let read = c.in-Ok-read.ensures.receives in
-    let opened : is_open c.reading.request ≡ true = sym c.is_open.ensures ∙ c.reading-test.true in
-    let P : List ℕ → Type 0 =
-    λ l. Consumes (g.R.Read.remaining c.args.reader.now) (g.R.Read.remaining c.read.new.reader) l in
-    record {
-      consumed = subst P (sym read.octets) (Consumes-trans _ _ _ _ _ before.consumed read.consumed);
-      ended = read.ended (open_parts c.reading.request.is_wanting c.reading.request.is_ended opened).1;
-      exact = c.in-Ok-read.ensures.exact opened;
-    }
 
 pub returns-clause-served : goal.returns-clause-served
 returns-clause-served g c =
-    let r = c.reading.request in
-    let before = g.R.Read.remaining c.args.reader.now in
-    let after = g.R.Read.remaining c.reading.reader in
-    let closed : is_open r ≡ false = sym c.is_open.ensures ∙ c.reading-test.false in
-    let all : take r.taken r.octets ≡ r.octets =
-    ap (λ n. take n r.octets) (c.reading.invariant.exact closed) ∙ take_all (length r.octets) r.octets (omega arith) in
-    let C : List ℕ → Type 0 = λ l. Consumes before after l in
     let fits : SFits w64 c.args.reading = search rules in
     let P : ℤ → Type 0 = λ at. Serves g.B.Standing g.G.Signer.signs g.G.Signer.fault_count g.W.Write.contents at
-    (turn before after c.args.writer.now c.serve.new.writer c.args.desk.now c.serve.new.desk c.args.signer.now
-    c.serve.new.signer) c.serve.result.served in
-    subst P (to_z-of_z fits)
-    (c.serve.ensures.served before after (subst C (sym all) c.reading.invariant.consumed)
-    (λ ended some. c.reading.invariant.ended ended))
+    (turn (g.R.Read.remaining c.args.reader.now) (g.R.Read.remaining c.serve_over.new.reader) c.args.writer.now
+    c.serve_over.new.writer c.args.desk.now c.serve_over.new.desk c.args.signer.now c.serve_over.new.signer)
+    c.serve_over.result in
+    subst P (to_z-of_z fits) c.serve_over.ensures.served

@@ -1,6 +1,6 @@
 use Rattle.std.proofs.Common.{◌∙◌, ℕ, List, inl, SFits, w64, to_z-of_z, to_z, of_z, rules, sym, ap, subst}
 use Rattle.policy.specs.View.{counter_view}
-use Rattle.service.specs.Status.{IsStatusText}
+use Rattle.service.specs.Status.{IsStateOver}
 use Rattle.service.proofs.Operators.{status_told}
 use Rattle.service.proofs.status.serve_status.Goals as goal
 
@@ -9,11 +9,12 @@ returns-in-Some-clause-served g c =
     let fits : SFits w64 c.args.context.now.at.reading = search rules in
     let same = c.store_faults-store.ensures.same in
     let counter = counter_view c.policy-policy.result.now.counter in
-    let T : List ℕ → Type 0 = λ l. IsStatusText counter c.in-Ok.looked c.store_faults-store.result c.args.signer_faults l in
+    let T : List ℕ → Type 0 = λ l. IsStateOver counter c.in-Ok.looked c.store_faults-store.result c.args.signer_faults
+    c.args.context.now.octets l in
     status_told g.B.Standing g.W.Write.contents c.args.context.now.at.reading c.args.writer.now c.succeed.new.writer c.args.desk.now.store
     c.store_faults-store.new.desk.store counter
     c.args.desk.now.setting.file.counter (to_z w64 (of_z w64 c.args.context.now.at.reading)) c.in-Ok.looked
-    c.store_faults-store.result c.args.signer_faults c.deref.result.now c.succeed.result
+    c.store_faults-store.result c.args.signer_faults c.args.context.now.octets c.deref.result.now c.succeed.result
     (subst T (sym c.deref.ensures.value) c.in-Some.ensures)
     (ap (λ p. p.counter) c.policy-policy.ensures ∙ ap (λ d. d.setting.file.counter) same
     ∙ ap (λ s. s.file.counter) c.look.ensures.setting)

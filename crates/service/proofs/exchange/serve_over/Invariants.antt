@@ -2,7 +2,7 @@
 use Rattle.std.proofs.Common.{◌≡◌, true, false, length}
 use Rattle.std.specs.Io.KnownBytes.{Consumes, IsAtEnd}
 use Rattle.service.specs.Received.{is_open, reads_left}
-use Rattle.service.proofs.exchange.serve_one.Given as goal
+use Rattle.service.proofs.exchange.serve_over.Given as goal
 
 abbrev pub invariant-reading : goal.invariant-reading
 invariant-reading g l = record {
