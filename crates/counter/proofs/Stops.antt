@@ -1,14 +1,12 @@
 -- What is left where the exit status is 1, out of what a word leaves and the line that is then told.
 use Rattle.std.proofs.Common.{◌≡◌, ◌≢◌, ◌⊎◌, ℕ, true, false, List, Option, refl, subst, inl, inr}
 use Rattle.std.specs.Io.KnownBytes.{Appends}
-use Rattle.sqlite_disk.specs.declared.Disk.{Ghosts}
 use Rattle.clap.specs.Words.{Text}
 use Rattle.command_line.specs.Words.{Asks}
 use Rattle.command_line.specs.declared.words.AuditWords.{AuditWords}
 use Rattle.command_line.specs.declared.words.Word.{Word}
 use Rattle.command_line.specs.declared.words.Word.TheVariants.{Tst, Check, Init, Migrate, Continue, Calibrate, Hold}
 use Rattle.command_line.specs.declared.words.Word.TheVariants.{Answer, Exchange, Serve, Audit}
-use Rattle.connections.specs.Clock.{Reading}
 use Rattle.console.specs.Fault.{fault_line}
 use Rattle.console.specs.Files.{Source}
 use Rattle.console.specs.Writes.{Begins}
@@ -17,12 +15,12 @@ use Rattle.console.specs.declared.fault.Fault.TheVariants.{Input}
 use Rattle.console.specs.declared.fault.InputFault.TheVariants.{Failed}
 use Rattle.console.proofs.Writes.{begins_after}
 use Rattle.operations.specs.Audits.{TellsSome, failing_lines}
-use Rattle.operations.specs.Machine.{Machine}
 use Rattle.counter.specs.Answers.{Does, IsNoAudit}
 use Rattle.counter.specs.Extract.{Extracts, LeavesAudit}
 use Rattle.counter.specs.Extract as left
 use Rattle.counter.specs.Stops.{Stops, at_fault, in_answer, in_extract, in_check, failing}
 use Rattle.counter.specs.Streams.{Streams, streams_of}
+use Rattle.counter.specs.Platform.{Platform}
 use Rattle.counter.specs.declared.run.Outcome.{Outcome}
 use Rattle.counter.specs.declared.run.Outcome.TheVariants.{Replied, Counted, Changed, Exchanged, Served, Extracted}
 use Rattle.counter.specs.declared.run.Outcome.TheVariants.{Failing}
@@ -50,13 +48,13 @@ failing_or_not Exchanged = inr (λ e. cc e)
 failing_or_not Served = inr (λ e. cc e)
 failing_or_not Extracted = inr (λ e. cc e)
 
-module _ {D X C E S F O : Type 0} (m : Machine D X C Reading) (other : Ghosts E) (files : Source S F)
+module _ {B X C S F O : Type 0} (p : Platform B X C) (files : Source S F)
     (texts : List Text) (input input' : Option (List ℕ)) (contents : O → Option (List ℕ)) (out out' : O)
     (old : Option (List ℕ)) where
   -- another word doesn't speak of standard error
   still_does : (mid new : Option (List ℕ)) (IsWritten : List ℕ → Type 0) (word : Word) → IsNoAudit word
-      → Does m other files (streams_of input input' contents out out' old mid) word IsWritten
-      → Does m other files (streams_of input input' contents out out' old new) word IsWritten
+      → Does p files (streams_of input input' contents out out' old mid) word IsWritten
+      → Does p files (streams_of input input' contents out out' old new) word IsWritten
   still_does mid new IsWritten (Audit words) none it = absurd (none words refl)
   still_does mid new IsWritten (Tst words) none it = it
   still_does mid new IsWritten (Check words) none it = it
@@ -76,9 +74,9 @@ module _ {D X C E S F O : Type 0} (m : Machine D X C Reading) (other : Ghosts E)
     -- stamps fail, and no fault stopped the check
     pub failing_stops : (new : Option (List ℕ))
         → ((words : AuditWords) × (word ≡ Audit words) × (words.check ≡ true)
-        × Extracts m files words (contents out) (contents out') old new false (Appends (contents out) (contents out'))
+        × Extracts p files words (contents out) (contents out') old new false (Appends (contents out) (contents out'))
         × TellsSome old new)
-        → Stops m other files texts (streams_of input input' contents out out' old new)
+        → Stops p files texts (streams_of input input' contents out out' old new)
     failing_stops new fails = failing fails.0 (asks_audit fails.0 fails.1) fails.2 fails.3 fails.4
 
     module _ (mid new : Option (List ℕ)) (fault : Fault) (line : Begins mid new (fault_line fault)) where
@@ -88,7 +86,7 @@ module _ {D X C E S F O : Type 0} (m : Machine D X C Reading) (other : Ghosts E)
       -- an audit is refused, and its fault's line is told
       pub cut_stops : (words : AuditWords) → word ≡ Audit words
           → LeavesAudit files words (contents out) (contents out') old mid fault
-          → Stops m other files texts (streams_of input input' contents out out' old new)
+          → Stops p files texts (streams_of input input' contents out out' old new)
       cut_stops words is (left.nothing same silent) = at_fault fault same (untold silent)
       cut_stops words is (left.in_extract cut refusal met tells silent) =
           in_extract words (asks_audit words is) cut refusal met
@@ -100,9 +98,9 @@ module _ {D X C E S F O : Type 0} (m : Machine D X C Reading) (other : Ghosts E)
       -- another word is, or a stream failed while its answer was written
       pub other_stops : IsNoAudit word → mid ≡ old
           → ((contents out' ≡ contents out)
-          ⊎ ((fault ≡ Input Failed) × Does m other files (streams_of input input' contents out out' old mid) word
+          ⊎ ((fault ≡ Input Failed) × Does p files (streams_of input input' contents out out' old mid) word
           (Begins (contents out) (contents out'))))
-          → Stops m other files texts (streams_of input input' contents out out' old new)
+          → Stops p files texts (streams_of input input' contents out out' old new)
       other_stops none silent (inl same) = at_fault fault same (untold silent)
       other_stops none silent (inr failed) =
           in_answer word asks (still_does mid new (Begins (contents out) (contents out')) word none failed.1)

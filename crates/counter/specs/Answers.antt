@@ -1,7 +1,5 @@
 -- What the words do, and what they write.
 use Rattle.std.specs.Prelude.{◌≡◌, ℕ, List, [], true, IfSome, Ok}
-use Rattle.sqlite_disk.specs.declared.Disk.{Ghosts}
-use Rattle.connections.specs.Clock.{Reading}
 use Rattle.console.specs.Counts.{Counts}
 use Rattle.console.specs.Files.{Source}
 use Rattle.console.specs.Tst.{Answers}
@@ -13,38 +11,41 @@ use Rattle.counter.specs.Extract.{Extracts}
 use Rattle.counter.specs.Hold.{Holds}
 use Rattle.counter.specs.Reply.{Replies}
 use Rattle.counter.specs.Streams.{Streams}
-use Rattle.operations.specs.Machine.{Machine}
-use Rattle.operations.specs.OverFiles.{IsContinuedOver, IsMigratedOver}
+use Rattle.counter.specs.Platform.{Platform}
+use Rattle.operations.specs.InDatabases.{IsContinuedIn, IsMadeIn}
 use Rattle.command_line.specs.declared.words.AuditWords.{AuditWords}
 use Rattle.command_line.specs.declared.words.Word.{Word}
 use Rattle.command_line.specs.declared.words.Word.TheVariants.{Tst, Check, Init, Migrate, Continue, Calibrate, Hold}
 use Rattle.command_line.specs.declared.words.Word.TheVariants.{Answer, Exchange, Serve, Audit}
 
 -- Each word has a definition of what it does. But for `tst`, `answer` and `exchange` the input isn't read, and where no
--- text is said nothing is written. The files that the words name are `files`, the database's what the machine holds, and
--- a new database is made on a disk that is `other`.
-abbrev pub Does : {D X C E S F O : Type 0} → Machine D X C Reading → Ghosts E → Source S F → Streams O → Word
+-- text is said nothing is written.
+abbrev pub Does : {B X C S F O : Type 0} → Platform B X C → Source S F → Streams O → Word
     → (List ℕ → Type 0) → Type 0
-Does m other files s (Tst words) IsWritten =
+Does p files s (Tst words) IsWritten =
     IfSome s.input (λ text. (written : List ℕ) × Answers words text written × IsWritten written)
-Does m other files s (Check words) IsWritten =
+Does p files s (Check words) IsWritten =
     (s.input_after ≡ s.input) × ((written : List ℕ) × Counts files words written × IsWritten written)
-Does m other files s (Init words) IsWritten = (s.input_after ≡ s.input) × IsWritten []
-Does m other files s (Migrate words) IsWritten =
-    (s.input_after ≡ s.input) × IsMigratedOver m.disk m.held × IsWritten []
-Does m other files s (Continue words) IsWritten =
-    (s.input_after ≡ s.input) × IsContinuedOver m.disk m.held other (floor_of words) × IsWritten []
-Does m other files s (Calibrate words) IsWritten = (s.input_after ≡ s.input) × Calibrates m words × IsWritten []
-Does m other files s (Hold words) IsWritten = (s.input_after ≡ s.input) × Holds m words × IsWritten []
-Does m other files s (Answer words) IsWritten =
-    IfSome s.input (λ text. (written : List ℕ) × Replies m files words text written × IsWritten written)
-Does m other files s (Exchange words) IsWritten =
-    Exchanges m files words s.contents s.output s.input s.input_after IsWritten
-Does m other files s (Serve words) IsWritten =
-    (s.input_after ≡ s.input) × ServesConnections m files words (Ok tt) × IsWritten []
-Does m other files s (Audit words) IsWritten =
+Does p files s (Init words) IsWritten =
+    (s.input_after ≡ s.input) × IsMadeIn p.history (p.makes words.db.now) p.closes [] × IsWritten []
+Does p files s (Migrate words) IsWritten =
+    (s.input_after ≡ s.input) × p.migrates words.db.now × IsWritten []
+Does p files s (Continue words) IsWritten =
     (s.input_after ≡ s.input)
-    × Extracts m files words (s.contents s.output) (s.contents s.output_after) s.errors s.errors_after true IsWritten
+    × IsContinuedIn p.history (p.opens words.from.now) p.closes p.history (p.makes_new words.db.now) p.closes
+    (floor_of words)
+    × IsWritten []
+Does p files s (Calibrate words) IsWritten = (s.input_after ≡ s.input) × Calibrates p words × IsWritten []
+Does p files s (Hold words) IsWritten = (s.input_after ≡ s.input) × Holds p words × IsWritten []
+Does p files s (Answer words) IsWritten =
+    IfSome s.input (λ text. (written : List ℕ) × Replies p files words text written × IsWritten written)
+Does p files s (Exchange words) IsWritten =
+    Exchanges p files words s.contents s.output s.input s.input_after IsWritten
+Does p files s (Serve words) IsWritten =
+    (s.input_after ≡ s.input) × ServesConnections p files words (Ok tt) × IsWritten []
+Does p files s (Audit words) IsWritten =
+    (s.input_after ≡ s.input)
+    × Extracts p files words (s.contents s.output) (s.contents s.output_after) s.errors s.errors_after true IsWritten
 
 abbrev pub IsNoAudit : Word → Type 0
 IsNoAudit word = (words : AuditWords) → word ≡ Audit words → ⊥

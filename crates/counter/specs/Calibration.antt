@@ -4,10 +4,9 @@ use Rattle.book.specs.History.{CalibrationValue}
 use Rattle.book.specs.Values.{calibration_view}
 use Rattle.book.specs.declared.values.Calibration.{Calibration}
 use Rattle.command_line.specs.declared.words.CalibrateWords.{CalibrateWords}
-use Rattle.connections.specs.Clock.{Reading}
-use Rattle.operations.specs.Machine.{Machine}
-use Rattle.operations.specs.OverFiles.{IsAddedOver}
+use Rattle.operations.specs.InDatabases.{IsAddedIn}
 use Rattle.operations.specs.declared.addition.Addition.TheVariants as addition
+use Rattle.counter.specs.Platform.{Platform}
 
 -- a number of microseconds, or minus that number
 abbrev pub offset_of : Bool → ℕ → ℤ
@@ -21,10 +20,10 @@ calibration_of words = record {
   uncertainty = words.uncertainty;
 }
 
-pub record Calibrates {D X C : Type 0} (m : Machine D X C Reading) (words : CalibrateWords) : Type 0 where
+pub record Calibrates {B X C : Type 0} (p : Platform B X C) (words : CalibrateWords) : Type 0 where
   -- the reading, the offset and the uncertainty that the words state, in microseconds
   pub calibration : Calibration
   pub stated : calibration_view calibration ≡ calibration_of words
-  -- it is added to the store of the database, in one commit, and has this number there
+  -- it is added to the history that is opened at the path, in one commit, and has this number there
   pub number : ℕ
-  pub added : IsAddedOver m.disk m.held (addition.Calibration calibration) (Ok number)
+  pub added : IsAddedIn p.history (p.opens words.db.now) p.closes (addition.Calibration calibration) (Ok number)

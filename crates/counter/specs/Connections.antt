@@ -12,14 +12,15 @@ use Rattle.policy.specs.Meaning.{meaning_of}
 use Rattle.policy.specs.Record.{PolicyValue}
 use Rattle.command_line.specs.declared.words.ServeWords.{ServeWords}
 use Rattle.console.specs.Files.{ReadsIdentity, ReadsText, Source}
-use Rattle.operations.specs.Machine.{Machine}
-use Rattle.operations.specs.OverFiles.{IsVisitedAsAny}
+use Rattle.operations.specs.InDatabases.{IsVisitedIn}
+use Rattle.operations.specs.OverFiles.{IsAny, IsReached}
 use Rattle.operations.specs.Signing.{algorithm_of}
 use Rattle.operations.specs.Visits.{Visit}
 use Rattle.operations.specs.declared.fault.OperationFault.{OperationFault}
 use Rattle.operations.specs.declared.fault.OperationFault.TheVariants as operation
 use Rattle.operations.specs.declared.signing.Signing.{Signing}
 use Rattle.counter.specs.Files.{SignsAs, path_of}
+use Rattle.counter.specs.Platform.{Platform}
 
 -- the clock, and desk and signer, before what is done and after it
 abbrev pub state_before : {I O C B X : Type 0} → C → Visit I O B X → State C B X
@@ -42,7 +43,7 @@ module _ {C B X : Type 0} (reads : C → Reading → C → Type 0) (g : Ghosts B
   ServesAt connections old new (Err (operation.Desk fault)) = ⊥
 
 -- all connections that the words ask for, or fewer where that is told
-pub record ServesConnections {D X C S F : Type 0} (m : Machine D X C Reading) (files : Source S F) (words : ServeWords)
+pub record ServesConnections {B X C S F : Type 0} (p : Platform B X C) (files : Source S F) (words : ServeWords)
     (done : Result (Unit {0}) OperationFault) : Type 0 where
   -- the policy file is read first; its text means this policy
   pub rules : List ℕ
@@ -56,11 +57,12 @@ pub record ServesConnections {D X C S F : Type 0} (m : Machine D X C Reading) (f
   -- then the file of who signs, whose AlgorithmIdentifier tokens state (RFC 5652 5.3)
   pub signing : Signing
   pub signs : SignsAs files words.desk.signer signing
-  -- over the store of the database, at a desk of these, the connections are a run of the machine, at the readings of a
-  -- clock
-  pub served : IsVisitedAsAny m.disk m.held m.signs
-      (record { file = policy; in_force = in_force_of identity (algorithm_of signing) }) (algorithm_of signing)
-      (λ _ g desk desk' signer signer'. (clock clock' : C)
-      × ServesAt m.reads g m.signs.signs m.signs.fault_count words.connections
+  -- at a desk over the history that is opened at the database's path, with a signer of that algorithm that is unused, the
+  -- connections are a run of the machine, at the readings of a clock
+  pub served : IsVisitedIn p.history (p.opens words.desk.db.now) p.closes
+      (IsReached p.signs (algorithm_of signing)) IsAny
+      (record { file = policy; in_force = in_force_of identity (algorithm_of signing) })
+      (λ desk desk' signer signer'. (clock clock' : C)
+      × ServesAt p.reads p.history p.signs.signs p.signs.fault_count words.connections
       (record { clock = clock; desk = desk; signer = signer })
       (record { clock = clock'; desk = desk'; signer = signer' }) done)

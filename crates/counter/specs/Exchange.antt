@@ -8,19 +8,19 @@ use Rattle.desk.specs.Calls.{in_force_of}
 use Rattle.service.specs.Answers.{AnswerValue, answer_text}
 use Rattle.service.specs.declared.served.Served.{Served}
 use Rattle.service.specs.declared.served.Served.TheVariants.{Closed, Answered, ReadFailed, WriteFailed}
-use Rattle.connections.specs.Clock.{Reading}
 use Rattle.operations.specs.Signing.{algorithm_of}
 use Rattle.command_line.specs.declared.words.ExchangeWords.{ExchangeWords}
 use Rattle.console.specs.Files.{ReadsIdentity, ReadsText, Source}
 use Rattle.console.specs.declared.fault.Fault.{Fault}
 use Rattle.console.specs.declared.fault.Fault.TheVariants.{Input}
 use Rattle.console.specs.declared.fault.InputFault.TheVariants.{Failed}
-use Rattle.operations.specs.Machine.{Machine}
-use Rattle.operations.specs.OverFiles.{IsVisitedAsAny}
+use Rattle.operations.specs.InDatabases.{IsVisitedIn}
+use Rattle.operations.specs.OverFiles.{IsAny, IsReached}
 use Rattle.operations.specs.declared.signing.Signing.{Signing}
 use Rattle.service.specs.Served.{Serves}
 use Rattle.counter.specs.Files.{SignsAs, path_of}
 use Rattle.counter.specs.HttpRequest.{AsksExtract, IsAnswerFor}
+use Rattle.counter.specs.Platform.{Platform}
 
 -- The input is at its end, and nothing is written; or it is a request, and what is written is an answer's text; or it
 -- asks for an extract that may be given, of which the database alone tells what is written.
@@ -30,7 +30,7 @@ WritesAnswer policy reading old new IsWritten =
     ⊎ (((answer : AnswerValue) × IsAnswerFor policy reading old new answer × IsWritten (answer_text reading answer))
     ⊎ (AsksExtract policy reading old new × ((octets : List ℕ) × IsWritten octets)))
 
-pub record Exchanges {D X C S F O : Type 0} (m : Machine D X C Reading) (files : Source S F) (words : ExchangeWords)
+pub record Exchanges {B X C S F O : Type 0} (p : Platform B X C) (files : Source S F) (words : ExchangeWords)
     (contents : O → Option (List ℕ)) (output : O) (input input' : Option (List ℕ)) (IsWritten : List ℕ → Type 0)
     : Type 0 where
   -- the policy file is read first; its text means this policy
@@ -47,13 +47,15 @@ pub record Exchanges {D X C S F O : Type 0} (m : Machine D X C Reading) (files :
   pub signs : SignsAs files words.desk.signer signing
   -- by that policy, at the reading that the words state, the input is answered, or is at its end
   pub writes : WritesAnswer policy (pos words.reading) input input' IsWritten
-  -- over the store of the database, at a desk of these, the request is served; the output is then flushed
+  -- at a desk over the history that is opened at the database's path, with a signer of that algorithm that is unused, the
+  -- request is served; the output is then flushed
   pub unflushed : O
   pub outcome : Served
-  pub served : IsVisitedAsAny m.disk m.held m.signs
-      (record { file = policy; in_force = in_force_of identity (algorithm_of signing) }) (algorithm_of signing)
-      (λ _ g desk desk' signer signer'.
-      Serves g m.signs.signs m.signs.fault_count contents (pos words.reading) (record {
+  pub served : IsVisitedIn p.history (p.opens words.desk.db.now) p.closes
+      (IsReached p.signs (algorithm_of signing)) IsAny
+      (record { file = policy; in_force = in_force_of identity (algorithm_of signing) })
+      (λ desk desk' signer signer'.
+      Serves p.history p.signs.signs p.signs.fault_count contents (pos words.reading) (record {
         input = input;
         input_after = input';
         writer = output;

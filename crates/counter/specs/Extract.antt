@@ -7,26 +7,25 @@ use Rattle.audit.specs.declared.fault.ExtractFault.TheVariants as extract
 use Rattle.book.specs.Rows.{StampRow}
 use Rattle.book.specs.declared.fault.StoreFault.TheVariants as store
 use Rattle.command_line.specs.declared.words.AuditWords.{AuditWords}
-use Rattle.connections.specs.Clock.{Reading}
 use Rattle.console.specs.Files.{ReadsText, Source}
 use Rattle.console.specs.Writes.{Begins}
 use Rattle.console.specs.declared.fault.Fault.{Fault}
 use Rattle.console.specs.declared.fault.Fault.TheVariants as program
 use Rattle.operations.specs.Audits.{extract_of, failing_lines}
-use Rattle.operations.specs.Machine.{Machine}
-use Rattle.operations.specs.OverFiles.{IsAuditedOver}
+use Rattle.operations.specs.InDatabases.{IsAuditedIn}
 use Rattle.operations.specs.declared.audits.Inquiry.{Inquiry}
 use Rattle.policy.specs.LookUp.{account_named}
 use Rattle.policy.specs.Meaning.{meaning_of}
 use Rattle.policy.specs.Record.{AccountValue, PolicyValue}
 use Rattle.policy.specs.View.{account_view, policy_view}
+use Rattle.counter.specs.Platform.{Platform}
 
 -- want of memory, or the database's refusal, stops a check
 abbrev pub StopsCheck : Fault → Type 0
 StopsCheck stop = (stop ≡ program.Audit extract.Memory) ⊎ (stop ≡ program.Store store.Database)
 
 -- An extract, and whether all of its stamps agree, where these are checked.
-pub record Extracts {D X C S F : Type 0} (m : Machine D X C Reading) (files : Source S F) (words : AuditWords)
+pub record Extracts {B X C S F : Type 0} (p : Platform B X C) (files : Source S F) (words : AuditWords)
     (out out' err err' : Option (List ℕ)) (agree : Bool) (IsWritten : List ℕ → Type 0) : Type 0 where
   -- the policy file is read first
   pub rules : List ℕ
@@ -41,8 +40,9 @@ pub record Extracts {D X C S F : Type 0} (m : Machine D X C Reading) (files : So
   pub check : inquiry.check ≡ words.check
   -- the account is an auditor's, and asks for a range
   pub allowed : IsAllowed (policy_view inquiry.policy.now) (account_view inquiry.account.now) words.from words.to
-  -- the store of the database is only looked at; the stamps of that range are extracted, and checked where that is asked
-  pub audited : IsAuditedOver m.disk m.held inquiry out out' err err' (Ok agree)
+  -- the history that is opened at the database's path is only looked at; its stamps of that range are extracted, and
+  -- checked where that is asked
+  pub audited : IsAuditedIn p.history (p.opens words.db.now) p.closes inquiry out out' err err' (Ok agree)
   -- what is written is the extract of stamps
   pub stamps : List StampRow
   pub written : IsWritten (extract_of stamps)

@@ -1,5 +1,6 @@
 pub mod Answers
 pub mod Streams
+pub mod Platform
 pub mod Files
 pub mod Reply
 pub mod Exchange

@@ -17,12 +17,12 @@ use Rattle.command_line.specs.declared.words.AnswerWords.{AnswerWords}
 use Rattle.console.specs.Accounts.{IsKnown, account_shown}
 use Rattle.console.specs.Files.{ReadsIdentity, ReadsText, Source}
 use Rattle.console.specs.Hexadecimal.{IsHexadecimal, line}
-use Rattle.connections.specs.Clock.{Reading}
-use Rattle.operations.specs.Machine.{Machine}
-use Rattle.operations.specs.OverFiles.{IsAnsweredOver}
+use Rattle.operations.specs.InDatabases.{IsAnsweredIn}
+use Rattle.operations.specs.OverFiles.{IsAny, IsReached}
 use Rattle.operations.specs.Signing.{algorithm_of}
 use Rattle.operations.specs.declared.signing.Signing.{Signing}
 use Rattle.counter.specs.Files.{SignsAs, path_of}
+use Rattle.counter.specs.Platform.{Platform}
 
 -- the octets of a reply
 abbrev pub octets_of : Reply → List ℕ
@@ -35,7 +35,7 @@ IsReplyOf (desk.Stamped serial octets) reply = reply ≡ octets
 IsReplyOf (desk.Rejected rule) reply = reply ≡ encoding (rejection rule)
 IsReplyOf _ reply = ⊥
 
-pub record Replies {D X C S F : Type 0} (m : Machine D X C Reading) (files : Source S F) (words : AnswerWords)
+pub record Replies {B X C S F : Type 0} (p : Platform B X C) (files : Source S F) (words : AnswerWords)
     (text written : List ℕ) : Type 0 where
   -- the policy file is read first; its text means this policy
   pub rules : List ℕ
@@ -54,12 +54,12 @@ pub record Replies {D X C S F : Type 0} (m : Machine D X C Reading) (files : Sou
   -- the input is hexadecimal digits of the request's octets
   pub query : List ℕ
   pub spelled : IsHexadecimal text query
-  -- over the store of the database, the machine answers by one step, for that account and at the reading that the words
-  -- state
+  -- at a desk over the history that is opened at the database's path, with a signer of that algorithm that is unused, the
+  -- machine answers by one step, for that account and at the reading that the words state
   pub answer : Answer
-  pub stepped : IsAnsweredOver m.disk m.held m.signs
-      (record { file = policy; in_force = in_force_of identity (algorithm_of signing) }) (algorithm_of signing)
-      (account_shown policy words.key) (pos words.reading) query answer
+  pub stepped : IsAnsweredIn p.history (p.opens words.desk.db.now) p.closes p.signs
+      (IsReached p.signs (algorithm_of signing)) IsAny
+      (record { file = policy; in_force = in_force_of identity (algorithm_of signing) }) (account_shown policy words.key) (pos words.reading) query answer
   -- the reply is its token or its rejection (TimeStampResp, RFC 3161 2.4.2)
   pub reply : List ℕ
   pub says : IsReplyOf answer reply

@@ -1,7 +1,6 @@
 -- What is left where the program's exit status is 1.
 use Rattle.std.specs.Prelude.{◌≡◌, true, false, ℕ, List, ◌++◌}
 use Rattle.std.specs.Io.KnownBytes.{Appends}
-use Rattle.sqlite_disk.specs.declared.Disk.{Ghosts}
 use Rattle.clap.specs.Words.{Text}
 use Rattle.audit.specs.Auditor.{IsMet}
 use Rattle.audit.specs.declared.fault.ExtractFault.{ExtractFault}
@@ -9,7 +8,6 @@ use Rattle.command_line.specs.Words.{Asks, AsksHelp}
 use Rattle.command_line.specs.declared.words.AuditWords.{AuditWords}
 use Rattle.command_line.specs.declared.words.Word.{Word}
 use Rattle.command_line.specs.declared.words.Word.TheVariants.{Audit}
-use Rattle.connections.specs.Clock.{Reading}
 use Rattle.console.specs.Fault.{fault_line}
 use Rattle.console.specs.Files.{Source}
 use Rattle.console.specs.Writes.{Begins}
@@ -19,34 +17,34 @@ use Rattle.console.specs.declared.fault.InputFault.TheVariants.{Failed}
 use Rattle.counter.specs.Answers.{Does}
 use Rattle.counter.specs.Extract.{CutsExtract, Extracts, StopsCheck}
 use Rattle.counter.specs.Streams.{Streams}
+use Rattle.counter.specs.Platform.{Platform}
 use Rattle.operations.specs.Audits.{TellsSome, failing_lines}
-use Rattle.operations.specs.Machine.{Machine}
 
 -- A fault stopped it, whose line is told on standard error, or a beginning of that line; or stamps fail their check.
-pub data Stops {D X C E S F O : Type 0} (m : Machine D X C Reading) (other : Ghosts E) (files : Source S F)
+pub data Stops {B X C S F O : Type 0} (p : Platform B X C) (files : Source S F)
     (texts : List Text) (s : Streams O) : Type 0 where
   -- nothing is written to the output
   at_fault : (fault : Fault) → s.contents s.output_after ≡ s.contents s.output
-      → Begins s.errors s.errors_after (fault_line fault) → Stops m other files texts s
+      → Begins s.errors s.errors_after (fault_line fault) → Stops p files texts s
   -- help is asked for, and couldn't be written whole
   in_help : AsksHelp texts → (fault : Fault) → Begins s.errors s.errors_after (fault_line fault)
-      → Stops m other files texts s
+      → Stops p files texts s
   -- a beginning of what the words ask for is written, and then a stream fails: `input` 5
   in_answer : (word : Word) → Asks texts word
-      → Does m other files s word (Begins (s.contents s.output) (s.contents s.output_after))
-      → Begins s.errors s.errors_after (fault_line (program.Input Failed)) → Stops m other files texts s
+      → Does p files s word (Begins (s.contents s.output) (s.contents s.output_after))
+      → Begins s.errors s.errors_after (fault_line (program.Input Failed)) → Stops p files texts s
   -- a beginning of an extract is written, which is then refused as the database, memory or the output fail
   in_extract : (words : AuditWords) → Asks texts (Audit words)
       → CutsExtract files words (Begins (s.contents s.output) (s.contents s.output_after))
       → (refusal : ExtractFault) → IsMet refusal
-      → Begins s.errors s.errors_after (fault_line (program.Audit refusal)) → Stops m other files texts s
+      → Begins s.errors s.errors_after (fault_line (program.Audit refusal)) → Stops p files texts s
   -- the extract is written, and lines of stamps that fail, if any; then its check is refused
   in_check : (words : AuditWords) → Asks texts (Audit words) → words.check ≡ true
       → CutsExtract files words (Appends (s.contents s.output) (s.contents s.output_after))
       → (serials : List ℕ) → (fault : Fault) → StopsCheck fault
-      → Begins s.errors s.errors_after (failing_lines serials ++ fault_line fault) → Stops m other files texts s
+      → Begins s.errors s.errors_after (failing_lines serials ++ fault_line fault) → Stops p files texts s
   -- the extract is written, and lines of the stamps that fail its check, of which there is one
   failing : (words : AuditWords) → Asks texts (Audit words) → words.check ≡ true
-      → Extracts m files words (s.contents s.output) (s.contents s.output_after) s.errors s.errors_after false
+      → Extracts p files words (s.contents s.output) (s.contents s.output_after) s.errors s.errors_after false
       (Appends (s.contents s.output) (s.contents s.output_after))
-      → TellsSome s.errors s.errors_after → Stops m other files texts s
+      → TellsSome s.errors s.errors_after → Stops p files texts s

@@ -1,6 +1,6 @@
 //! The word `answer`.
 ghost use Rattle.std.specs.Prelude.{◌≡◌, IfOk, IfSome};
-ghost use Rattle.operations.specs.Machine.{machine_of};
+ghost use Rattle.counter.specs.Platform.{platform_of};
 ghost use Rattle.console.specs.Files.{source_of};
 ghost use Rattle.console.specs.Hexadecimal.{line};
 ghost use Rattle.counter.specs.Reply.{Replies, octets_of};
@@ -13,20 +13,21 @@ use command_line::AnswerWords;
 use connections::{Clock, SystemClock};
 use console::{Fault, FileSource, account_of, read_hexadecimal};
 use desk::{Reply, Settings};
-use operations::{Disk, FileFrom, HostSigner, Question, Start};
+use operations::{Databases, HostSigner, Question};
 use std::io::Read;
 use std::rt::HostRuntime;
 
 /// Reads a request, and answers it by a token that is stored, or by a rejection. The files are read first, then the
 /// request, and the database last.
-pub fn answer<F: Start + Drop, S: FileSource + AllocGlobal, I: Read>(
-    host: Host<'_, F, S>,
+pub fn answer<D: Databases, S: FileSource + AllocGlobal, I: Read>(
+    host: Host<'_, D, S>,
     words: &AnswerWords<'_>,
     input: &mut I,
 ) -> Result<Reply, Fault>
     ensures { IfOk result (λ reply. IfSome (I.remaining input.old) (λ text. Replies
-        (machine_of ⟦<FileFrom<F> as Disk>⟧ F.Start ⟦<HostSigner<'static> as Signer>⟧
-        ⟦<SystemClock<'static, HostRuntime> as Clock>⟧.reads)
+        (platform_of D.Kept.Standing (D.opens host.entry.databases)
+        (D.makes host.entry.databases) (D.migrates host.entry.databases) (D.makes host.entry.new_databases) D.closes
+        ⟦<HostSigner<'static> as Signer>⟧ ⟦<SystemClock<'static, HostRuntime> as Clock>⟧.reads)
         (source_of S.opens S.refuses S.File.remaining host.entry.files.now) words.now text (line (octets_of reply)))) }
 {
     let rt = host.rt;
@@ -49,7 +50,7 @@ pub fn answer<F: Start + Drop, S: FileSource + AllocGlobal, I: Read>(
         reading: words.reading as i64,
         query: query.as_slice(),
     };
-    answer_of(operations::answer(rt, desk, &question))
+    answer_of(operations::answer(rt.alloc(), desk, &question))
 }
 
 /// The reply's octets.

@@ -3,7 +3,7 @@ ghost use Rattle.std.specs.Prelude.{◌≡◌, ◌⊎◌, OnOk, IfErr};
 ghost use Rattle.std.specs.Io.KnownBytes.{Appends, Keeps};
 ghost use Rattle.console.specs.Files.{source_of};
 ghost use Rattle.counter.specs.Exchange.{Exchanges, HasEnded, HasStopped};
-ghost use Rattle.operations.specs.Machine.{machine_of};
+ghost use Rattle.counter.specs.Platform.{platform_of};
 ghost use Rattle.console.specs.Writes.{Begins};
 
 use crate::events::octets_at;
@@ -16,7 +16,7 @@ use command_line::ExchangeWords;
 use connections::{Clock, SystemClock};
 use console::{Fault, FileSource, InputFault};
 use desk::Settings;
-use operations::{Disk, FileFrom, HostSigner, Start, perform_at_desk};
+use operations::{Databases, HostSigner, perform_at_desk};
 use service::{Served, Surroundings};
 use std::io::{Read, Write};
 use std::rt::HostRuntime;
@@ -24,13 +24,14 @@ use std::rt::HostRuntime;
 /// Reads one HTTP request and writes its answer; nothing where the input ends before any octet. The files are read
 /// first, then the database is opened, the key holder reached, and the request read last. `input` 5 where a read or a
 /// write fails, or the database or memory in the middle of an extract.
-pub fn exchange<F: Start + Drop, S: FileSource + AllocGlobal, I: Read, O: Write>(
-    host: Host<'_, F, S>,
+pub fn exchange<D: Databases, S: FileSource + AllocGlobal, I: Read, O: Write>(
+    host: Host<'_, D, S>,
     words: &ExchangeWords<'_>,
     input: &mut I,
     output: &mut O,
 ) -> Result<(), Fault>
-    ensures answered { OnOk result (Exchanges (machine_of ⟦<FileFrom<F> as Disk>⟧ F.Start
+    ensures answered { OnOk result (Exchanges (platform_of D.Kept.Standing (D.opens host.entry.databases)
+        (D.makes host.entry.databases) (D.migrates host.entry.databases) (D.makes host.entry.new_databases) D.closes
         ⟦<HostSigner<'static> as Signer>⟧ ⟦<SystemClock<'static, HostRuntime> as Clock>⟧.reads)
         (source_of S.opens S.refuses S.File.remaining host.entry.files.now) words.now O.contents output.old
         (I.remaining input.old) (I.remaining input.new)
@@ -39,7 +40,8 @@ pub fn exchange<F: Start + Drop, S: FileSource + AllocGlobal, I: Read, O: Write>
     // Before a fault nothing is written, but where there is an answer and writing it fails.
     ensures kept { IfErr result (λ fault. (O.contents output.new ≡ O.contents output.old)
         ⊎ ((fault ≡ Fault.Input InputFault.Failed)
-        × Exchanges (machine_of ⟦<FileFrom<F> as Disk>⟧ F.Start
+        × Exchanges (platform_of D.Kept.Standing (D.opens host.entry.databases)
+        (D.makes host.entry.databases) (D.migrates host.entry.databases) (D.makes host.entry.new_databases) D.closes
         ⟦<HostSigner<'static> as Signer>⟧ ⟦<SystemClock<'static, HostRuntime> as Clock>⟧.reads)
         (source_of S.opens S.refuses S.File.remaining host.entry.files.now) words.now O.contents output.old
         (I.remaining input.old) (I.remaining input.new)
@@ -64,7 +66,7 @@ pub fn exchange<F: Start + Drop, S: FileSource + AllocGlobal, I: Read, O: Write>
         octets: octets_at(rt, words.desk.db),
     };
     let asked = OneRequest { surroundings };
-    match perform_at_desk(rt, desk, asked, input, output) {
+    match perform_at_desk(rt.alloc(), desk, asked, input, output) {
         Ok(served) => finish(served, output),
         Err(fault) => Err(fault_of(fault)),
     }

@@ -3,7 +3,7 @@ ghost use Rattle.std.specs.Prelude.{◌≡◌, true, false, IfOk, IfErr};
 ghost use Rattle.std.specs.Io.KnownBytes.{Appends};
 ghost use Rattle.console.specs.Files.{source_of};
 ghost use Rattle.operations.specs.Audits.{TellsSome};
-ghost use Rattle.operations.specs.Machine.{machine_of};
+ghost use Rattle.counter.specs.Platform.{platform_of};
 ghost use Rattle.counter.specs.Extract.{Extracts, LeavesAudit};
 
 use crate::fault::agreement_of;
@@ -12,20 +12,21 @@ use cms::Signer;
 use command_line::AuditWords;
 use connections::{Clock, SystemClock};
 use console::{Fault, FileSource, account_named, read_policy};
-use operations::{Disk, FileFrom, HostSigner, Inquiry, Start};
+use operations::{Databases, HostSigner, Inquiry};
 use std::io::Write;
 use std::rt::HostRuntime;
 
 /// Writes the extract that the words ask for, and checks its stamps where they ask for that, with a line for each that
 /// fails: whether there is none. The policy file is read first, then the account looked for, and the database opened
 /// last.
-pub fn audit<F: Start + Drop, S: FileSource + AllocGlobal, O: Write, E: Write>(
-    host: Host<'_, F, S>,
+pub fn audit<D: Databases, S: FileSource + AllocGlobal, O: Write, E: Write>(
+    host: Host<'_, D, S>,
     words: &AuditWords<'_>,
     output: &mut O,
     errors: &mut E,
 ) -> Result<bool, Fault>
-    ensures extracted { IfOk result (λ agree. Extracts (machine_of ⟦<FileFrom<F> as Disk>⟧ F.Start
+    ensures extracted { IfOk result (λ agree. Extracts (platform_of D.Kept.Standing (D.opens host.entry.databases)
+        (D.makes host.entry.databases) (D.migrates host.entry.databases) (D.makes host.entry.new_databases) D.closes
         ⟦<HostSigner<'static> as Signer>⟧ ⟦<SystemClock<'static, HostRuntime> as Clock>⟧.reads)
         (source_of S.opens S.refuses S.File.remaining host.entry.files.now) words.now (O.contents output.old)
         (O.contents output.new) (E.contents errors.old) (E.contents errors.new) agree
@@ -47,5 +48,5 @@ pub fn audit<F: Start + Drop, S: FileSource + AllocGlobal, O: Write, E: Write>(
         check: words.check,
     };
     let database = host.database(words.db);
-    agreement_of(operations::audit(rt, database, &inquiry, output, errors))
+    agreement_of(operations::audit(rt.alloc(), database, &inquiry, output, errors))
 }

@@ -10,7 +10,7 @@ ghost use Rattle.counter.specs.Reply.{Replies};
 ghost use Rattle.counter.specs.Stops.{Stops};
 ghost use Rattle.counter.specs.Streams.{streams_of};
 ghost use Rattle.operations.specs.Audits.{TellsSome};
-ghost use Rattle.operations.specs.Machine.{machine_of};
+ghost use Rattle.counter.specs.Platform.{platform_of};
 
 use crate::answer::{answer, octets_of};
 use crate::exchange::exchange;
@@ -25,7 +25,7 @@ use console::{
     DONE, FAULT, Fault, FileSource, InputFault, answer_tst, check_policy, explain, refuse_octets,
     report, write_hexadecimal,
 };
-use operations::{Disk, FileFrom, HostSigner, Start, Unknown};
+use operations::{Databases, HostDatabases, HostSigner, Unknown};
 use std::env;
 use std::io::{ErrorKind, Read, Stderr, Stdin, Stdout, Write};
 use std::rt::HostRuntime;
@@ -81,8 +81,9 @@ pub fn run(rt: &HostRuntime) -> u8
 {
     let host = Host {
         rt,
+        databases: HostDatabases { rt, start: Unknown },
+        new_databases: HostDatabases { rt, start: Unknown },
         files: rt,
-        start: Unknown,
     };
     let mut process: Process<Stdin, Stdout, Stderr> = Process {
         input: rt.stdin(),
@@ -142,8 +143,8 @@ fn take_words<I, O: Write, E: Write>(
 /// Where the status isn't 0 nothing is written to `output`, but where writing an answer or help fails, or an extract is
 /// refused on the way: then a beginning of it stands there; and where a check fails or is stopped: then the whole
 /// extract.
-pub fn run_words<F: Start + Drop, S: FileSource + AllocGlobal, I: Read, O: Write, E: Write>(
-    host: Host<'_, F, S>,
+pub fn run_words<D: Databases, S: FileSource + AllocGlobal, I: Read, O: Write, E: Write>(
+    host: Host<'_, D, S>,
     words: &[String],
     process: &mut Process<I, O, E>,
 ) -> u8
@@ -151,9 +152,9 @@ pub fn run_words<F: Start + Drop, S: FileSource + AllocGlobal, I: Read, O: Write
 
     // Where all is done, what the words ask for is written, or they ask for help.
     ensures done { result ≡ 0 → ((word : Word) × Asks (texts_of words.now) word
-        × Does (machine_of ⟦<FileFrom<F> as Disk>⟧ F.Start
-        ⟦<HostSigner<'static> as Signer>⟧ ⟦<SystemClock<'static, HostRuntime> as Clock>⟧.reads)
-        ⟦<FileFrom<Unknown> as Disk>⟧ (source_of S.opens S.refuses S.File.remaining host.entry.files.now)
+        × Does (platform_of D.Kept.Standing (D.opens host.entry.databases)
+        (D.makes host.entry.databases) (D.migrates host.entry.databases) (D.makes host.entry.new_databases) D.closes
+        ⟦<HostSigner<'static> as Signer>⟧ ⟦<SystemClock<'static, HostRuntime> as Clock>⟧.reads) (source_of S.opens S.refuses S.File.remaining host.entry.files.now)
         (streams_of (I.remaining process.old.input) (I.remaining process.new.input) O.contents process.old.output
         process.new.output (E.contents process.old.errors) (E.contents process.new.errors)) word
         (Appends (O.contents process.old.output) (O.contents process.new.output)))
@@ -171,9 +172,9 @@ pub fn run_words<F: Start + Drop, S: FileSource + AllocGlobal, I: Read, O: Write
         → I.remaining process.new.input ≡ I.remaining process.old.input }
 
     // Where a fault stopped it, or stamps fail their check: what is told, and what is written to the output.
-    ensures stopped { result ≡ 1 → Stops (machine_of ⟦<FileFrom<F> as Disk>⟧ F.Start
-        ⟦<HostSigner<'static> as Signer>⟧ ⟦<SystemClock<'static, HostRuntime> as Clock>⟧.reads)
-        ⟦<FileFrom<Unknown> as Disk>⟧ (source_of S.opens S.refuses S.File.remaining host.entry.files.now) (texts_of words.now)
+    ensures stopped { result ≡ 1 → Stops (platform_of D.Kept.Standing (D.opens host.entry.databases)
+        (D.makes host.entry.databases) (D.migrates host.entry.databases) (D.makes host.entry.new_databases) D.closes
+        ⟦<HostSigner<'static> as Signer>⟧ ⟦<SystemClock<'static, HostRuntime> as Clock>⟧.reads) (source_of S.opens S.refuses S.File.remaining host.entry.files.now) (texts_of words.now)
         (streams_of (I.remaining process.old.input) (I.remaining process.new.input) O.contents process.old.output
         process.new.output (E.contents process.old.errors) (E.contents process.new.errors)) }
 {
@@ -192,17 +193,17 @@ pub fn run_words<F: Start + Drop, S: FileSource + AllocGlobal, I: Read, O: Write
 }
 
 /// Does what a word asks for.
-fn run_word<F: Start + Drop, S: FileSource + AllocGlobal, I: Read, O: Write, E: Write>(
-    host: Host<'_, F, S>,
+fn run_word<D: Databases, S: FileSource + AllocGlobal, I: Read, O: Write, E: Write>(
+    host: Host<'_, D, S>,
     word: &Word<'_>,
     input: &mut I,
     output: &mut O,
     errors: &mut E,
 ) -> Result<Outcome, Fault>
     ensures done { IfOk result (λ outcome. outcome ≢ Outcome.Failing
-        → Does (machine_of ⟦<FileFrom<F> as Disk>⟧ F.Start
-        ⟦<HostSigner<'static> as Signer>⟧ ⟦<SystemClock<'static, HostRuntime> as Clock>⟧.reads)
-        ⟦<FileFrom<Unknown> as Disk>⟧ (source_of S.opens S.refuses S.File.remaining host.entry.files.now)
+        → Does (platform_of D.Kept.Standing (D.opens host.entry.databases)
+        (D.makes host.entry.databases) (D.migrates host.entry.databases) (D.makes host.entry.new_databases) D.closes
+        ⟦<HostSigner<'static> as Signer>⟧ ⟦<SystemClock<'static, HostRuntime> as Clock>⟧.reads) (source_of S.opens S.refuses S.File.remaining host.entry.files.now)
         (streams_of (I.remaining input.old) (I.remaining input.new) O.contents output.old output.new
         (E.contents errors.old) (E.contents errors.new)) word.now
         (Appends (O.contents output.old) (O.contents output.new))) }
@@ -212,8 +213,9 @@ fn run_word<F: Start + Drop, S: FileSource + AllocGlobal, I: Read, O: Write, E: 
     // Only where stamps are checked some may fail.
     ensures failing { IfOk result (λ outcome. outcome ≡ Outcome.Failing → (words : AuditWords)
         × (word.now ≡ Word.Audit words) × (words.check ≡ true)
-        × Extracts (machine_of ⟦<FileFrom<F> as Disk>⟧ F.Start ⟦<HostSigner<'static> as Signer>⟧
-        ⟦<SystemClock<'static, HostRuntime> as Clock>⟧.reads)
+        × Extracts (platform_of D.Kept.Standing (D.opens host.entry.databases)
+        (D.makes host.entry.databases) (D.migrates host.entry.databases) (D.makes host.entry.new_databases) D.closes
+        ⟦<HostSigner<'static> as Signer>⟧ ⟦<SystemClock<'static, HostRuntime> as Clock>⟧.reads)
         (source_of S.opens S.refuses S.File.remaining host.entry.files.now) words (O.contents output.old)
         (O.contents output.new) (E.contents errors.old) (E.contents errors.new) false
         (Appends (O.contents output.old) (O.contents output.new))
@@ -222,9 +224,9 @@ fn run_word<F: Start + Drop, S: FileSource + AllocGlobal, I: Read, O: Write, E: 
     // Before a fault nothing is written, but where there is an answer and writing it fails.
     ensures kept { IsNoAudit word.now → IfErr result (λ fault. (O.contents output.new ≡ O.contents output.old)
         ⊎ ((fault ≡ Fault.Input InputFault.Failed)
-        × Does (machine_of ⟦<FileFrom<F> as Disk>⟧ F.Start
-        ⟦<HostSigner<'static> as Signer>⟧ ⟦<SystemClock<'static, HostRuntime> as Clock>⟧.reads)
-        ⟦<FileFrom<Unknown> as Disk>⟧ (source_of S.opens S.refuses S.File.remaining host.entry.files.now)
+        × Does (platform_of D.Kept.Standing (D.opens host.entry.databases)
+        (D.makes host.entry.databases) (D.migrates host.entry.databases) (D.makes host.entry.new_databases) D.closes
+        ⟦<HostSigner<'static> as Signer>⟧ ⟦<SystemClock<'static, HostRuntime> as Clock>⟧.reads) (source_of S.opens S.refuses S.File.remaining host.entry.files.now)
         (streams_of (I.remaining input.old) (I.remaining input.new) O.contents output.old output.new
         (E.contents errors.old) (E.contents errors.new)) word.now
         (Begins (O.contents output.old) (O.contents output.new)))) }
@@ -287,23 +289,25 @@ fn run_word<F: Start + Drop, S: FileSource + AllocGlobal, I: Read, O: Write, E: 
 }
 
 /// Reads a request, answers it over the database, and writes the reply.
-fn answer_request<F: Start + Drop, S: FileSource + AllocGlobal, I: Read, O: Write>(
-    host: Host<'_, F, S>,
+fn answer_request<D: Databases, S: FileSource + AllocGlobal, I: Read, O: Write>(
+    host: Host<'_, D, S>,
     words: &AnswerWords<'_>,
     input: &mut I,
     output: &mut O,
 ) -> Result<(), Fault>
     ensures answered { OnOk result (IfSome (I.remaining input.old) (λ text.
-        (written : List ℕ) × Replies (machine_of ⟦<FileFrom<F> as Disk>⟧ F.Start ⟦<HostSigner<'static> as Signer>⟧
-        ⟦<SystemClock<'static, HostRuntime> as Clock>⟧.reads)
+        (written : List ℕ) × Replies (platform_of D.Kept.Standing (D.opens host.entry.databases)
+        (D.makes host.entry.databases) (D.migrates host.entry.databases) (D.makes host.entry.new_databases) D.closes
+        ⟦<HostSigner<'static> as Signer>⟧ ⟦<SystemClock<'static, HostRuntime> as Clock>⟧.reads)
         (source_of S.opens S.refuses S.File.remaining host.entry.files.now) words.now text written
         × Appends (O.contents output.old) (O.contents output.new) written)) }
 
     // Before a fault nothing is written, but where there is a reply and writing it fails.
     ensures kept { IfErr result (λ fault. (O.contents output.new ≡ O.contents output.old)
         ⊎ ((fault ≡ Fault.Input InputFault.Failed) × IfSome (I.remaining input.old) (λ text.
-        (written : List ℕ) × Replies (machine_of ⟦<FileFrom<F> as Disk>⟧ F.Start ⟦<HostSigner<'static> as Signer>⟧
-        ⟦<SystemClock<'static, HostRuntime> as Clock>⟧.reads)
+        (written : List ℕ) × Replies (platform_of D.Kept.Standing (D.opens host.entry.databases)
+        (D.makes host.entry.databases) (D.migrates host.entry.databases) (D.makes host.entry.new_databases) D.closes
+        ⟦<HostSigner<'static> as Signer>⟧ ⟦<SystemClock<'static, HostRuntime> as Clock>⟧.reads)
         (source_of S.opens S.refuses S.File.remaining host.entry.files.now) words.now text written
         × Begins (O.contents output.old) (O.contents output.new) written))) }
 {

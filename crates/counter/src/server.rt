@@ -5,7 +5,7 @@ ghost use Rattle.console.specs.Files.{source_of};
 ghost use Rattle.counter.specs.Fault.{IsServeFault};
 ghost use Rattle.counter.specs.Connections.{ServesAt, ServesConnections, state_after, state_before};
 ghost use Rattle.operations.specs.DatabaseFaults.{IsServingFault, IsUnheard};
-ghost use Rattle.operations.specs.Machine.{machine_of};
+ghost use Rattle.counter.specs.Platform.{platform_of};
 ghost use Rattle.operations.specs.declared.fault.OperationFault.TheVariants as operation;
 
 use crate::events::{octets_at, tell_listening, tell_opening};
@@ -19,7 +19,7 @@ use connections::{CONNECTION_SECONDS, Clock, Listening, SystemClock, serve_conne
 use console::{Fault, FileSource, InputFault};
 use desk::Settings;
 use operations::{
-    DeskOperation, Disk, FileFrom, HostSigner, OperationFault, SignedDesk, Start, perform_at_desk,
+    Databases, DeskOperation, HostSigner, OperationFault, SignedDesk, perform_at_desk,
 };
 use sockets::Listener;
 use std::time::{Duration, Instant};
@@ -99,19 +99,20 @@ fn connection_limit() -> Duration
 /// Refused as `read_files` and `perform_at_desk`, with `input` 6 where the address can't be listened on or the system
 /// can't wait for several connections at once, and with `input` 5 where the clock fails; those that were served before
 /// stand.
-pub fn serve<F: Start + Drop, S: FileSource + AllocGlobal>(
-    host: Host<'_, F, S>,
+pub fn serve<D: Databases, S: FileSource + AllocGlobal>(
+    host: Host<'_, D, S>,
     words: &ServeWords<'_>,
 ) -> Result<(), Fault>
     // Whatever the files hold: the connections are served at a desk over the store that was opened over them.
-    ensures served { OnOk result (ServesConnections (machine_of ⟦<FileFrom<F> as Disk>⟧ F.Start
+    ensures served { OnOk result (ServesConnections (platform_of D.Kept.Standing (D.opens host.entry.databases)
+        (D.makes host.entry.databases) (D.migrates host.entry.databases) (D.makes host.entry.new_databases) D.closes
         ⟦<HostSigner<'static> as Signer>⟧ ⟦<SystemClock<'static, HostRuntime> as Clock>⟧.reads)
         (source_of S.opens S.refuses S.File.remaining host.entry.files.now) words.now (Ok tt)) }
 
     // So are those before the clock failed.
-    ensures stopped { result ≡ Err (Fault.Input InputFault.Failed) → ServesConnections (machine_of
-        ⟦<FileFrom<F> as Disk>⟧ F.Start ⟦<HostSigner<'static> as Signer>⟧
-        ⟦<SystemClock<'static, HostRuntime> as Clock>⟧.reads)
+    ensures stopped { result ≡ Err (Fault.Input InputFault.Failed) → ServesConnections (platform_of D.Kept.Standing (D.opens host.entry.databases)
+        (D.makes host.entry.databases) (D.migrates host.entry.databases) (D.makes host.entry.new_databases) D.closes
+        ⟦<HostSigner<'static> as Signer>⟧ ⟦<SystemClock<'static, HostRuntime> as Clock>⟧.reads)
         (source_of S.opens S.refuses S.File.remaining host.entry.files.now) words.now (Err operation.Clock) }
     ensures faults { IfErr result IsServeFault }
 {
@@ -137,7 +138,7 @@ pub fn serve<F: Start + Drop, S: FileSource + AllocGlobal>(
         octets,
     };
     tell_opening(rt, octets);
-    match perform_at_desk(rt, desk, serving, &mut (), &mut ()) {
+    match perform_at_desk(rt.alloc(), desk, serving, &mut (), &mut ()) {
         Ok(done) => answer_of(done),
         Err(fault) => Err(fault_of(fault)),
     }

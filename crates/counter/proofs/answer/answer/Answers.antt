@@ -39,6 +39,8 @@ returns g c =
     ) at c.answer.ensures.judged
     in
     let stepped = rw (
+      c.desk.ensures.path,
+      c.desk.ensures.databases,
       c.desk.ensures.settings,
       c.desk.ensures.signing,
       c.in_ok-account.ensures.found,

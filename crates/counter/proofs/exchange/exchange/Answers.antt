@@ -13,6 +13,8 @@ returns-in-Ok-clause-answered g c =
     let answered = rw (c.desk.ensures.settings, to_z_pos w64 c.args.words.now.reading small) at c.in-Ok.ensures.answered
     in
     let served = rw (
+      c.desk.ensures.path,
+      c.desk.ensures.databases,
       c.desk.ensures.settings,
       c.desk.ensures.signing,
       to_z_pos w64 c.args.words.now.reading small,
@@ -48,6 +50,8 @@ returns-in-Ok-clause-kept g c =
     let answered = rw (c.desk.ensures.settings, to_z_pos w64 c.args.words.now.reading small) at c.in-Ok.ensures.answered
     in
     let served = rw (
+      c.desk.ensures.path,
+      c.desk.ensures.databases,
       c.desk.ensures.settings,
       c.desk.ensures.signing,
       to_z_pos w64 c.args.words.now.reading small,

@@ -12,7 +12,7 @@ returns-clause-extracted g c =
     let known = told fault_of_audit c.audit.result c.agreement_of.result _ c.agreement_of.ensures
     (both c.audit.result _ _
     (both c.audit.result _ _ c.audit.ensures.allowed c.audit.ensures.extracted)
-    (as_answered c.audit.result _ c.audit.ensures.audited)) in
+    (as_answered c.audit.result _ (rw (c.database.ensures.path, c.database.ensures.databases) at c.audit.ensures.audited))) in
     IfOk-weaker c.agreement_of.result _ _
     (λ agree it. record {
       rules = read.0;

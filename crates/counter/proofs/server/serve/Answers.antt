@@ -22,7 +22,14 @@ returns-in-Ok-clause-served g c =
       alone = c.in_ok-policy.ensures.alone;
       signing = files.signing;
       signs = c.in_ok-policy.ensures.signs;
-      served = rw (c.lasting_desk.ensures.settings, c.lasting_desk.ensures.signing, done, c.in_ok-policy.ensures.algorithm) at c.in-Ok.ensures.moved;
+      served = rw (
+        c.lasting_desk.ensures.path,
+        c.lasting_desk.ensures.databases,
+        c.lasting_desk.ensures.settings,
+        c.lasting_desk.ensures.signing,
+        done,
+        c.in_ok-policy.ensures.algorithm,
+      ) at c.in-Ok.ensures.moved;
     })
     (told_done c.in-Ok.done c.answer_of.result c.answer_of.ensures)
 
@@ -42,7 +49,14 @@ returns-in-Ok-clause-stopped g c =
       alone = c.in_ok-policy.ensures.alone;
       signing = files.signing;
       signs = c.in_ok-policy.ensures.signs;
-      served = rw (c.lasting_desk.ensures.settings, c.lasting_desk.ensures.signing, stopped, c.in_ok-policy.ensures.algorithm) at c.in-Ok.ensures.moved;
+      served = rw (
+        c.lasting_desk.ensures.path,
+        c.lasting_desk.ensures.databases,
+        c.lasting_desk.ensures.settings,
+        c.lasting_desk.ensures.signing,
+        stopped,
+        c.in_ok-policy.ensures.algorithm,
+      ) at c.in-Ok.ensures.moved;
     }
 
 pub returns-in-Ok-clause-faults : goal.returns-in-Ok-clause-faults
