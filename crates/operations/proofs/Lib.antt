@@ -1,4 +1,4 @@
 pub mod CheckedStamps
 pub mod GoingOn
-pub mod OverFiles
+pub mod InDatabases
 pub mod ReachedSigners

@@ -128,6 +128,13 @@ IsLookFault (Unclosed fault) = IsOpeningFault fault
 IsLookFault NotAfter = Unit {0}
 IsLookFault (Unfinished fault) = ⊥
 
+-- it is refused from the closing on
+abbrev pub HasBegun : ContinuationFault → Type 0
+HasBegun (Unopened fault) = ⊥
+HasBegun (Unclosed fault) = ⊥
+HasBegun NotAfter = ⊥
+HasBegun (Unfinished fault) = Unit {0}
+
 module _ {X : Type 0} (g : Ghosts X) (Knows : History → Type 0) (floor : Option Floor) (old new : X) where
   -- a book that was opened isn't closed, by the refusal
   abbrev pub IsRefused : ContinuationFault → Type 0

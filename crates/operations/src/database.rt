@@ -2,9 +2,9 @@
 
 /// The database at a path, before it is opened.
 #[derive(Drop)]
-pub struct Database<'a, F> {
+pub struct Database<'a, D> {
     /// Where it lies.
     pub path: &'a str,
-    /// What is supposed of its files.
-    pub start: F,
+    /// What opens it.
+    pub databases: D,
 }

@@ -1,6 +1,6 @@
 use Rattle.std.proofs.Common.{ℕ}
 use Rattle.std.proofs.lemmas.Result.{err_from_is_err_and}
-use Rattle.operations.proofs.OverFiles.{not_backwards}
+use Rattle.operations.proofs.InDatabases.{not_backwards}
 use Rattle.operations.proofs.addition.add.Goals as goal
 
 pub returns-in_err-perform_at-clause-backwards : goal.returns-in_err-perform_at-clause-backwards

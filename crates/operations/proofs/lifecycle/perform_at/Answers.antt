@@ -1,4 +1,0 @@
-use Rattle.operations.proofs.lifecycle.perform_at.Goals as goal
-
-pub returns-in-Ok-clause-moved : goal.returns-in-Ok-clause-moved
-returns-in-Ok-clause-moved g c = (c.in-Ok.store, c.in-Ok.ensures.found, c.perform_and_close.ensures.moved)
