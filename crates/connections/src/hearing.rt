@@ -18,6 +18,9 @@ pub trait Hearing {
     // one failed, or was given up for another
     ghost fails: { Self → Self → Type 0 } = { λ _ _. Unit {0} };
 
+    // it was asked for one whose request is whole already, and there is none
+    ghost stays: { Self → Self → Type 0 } = { λ _ _. Unit {0} };
+
     // one is taken back
     ghost takes_back: { Self → Self.Stream → Self → Type 0 } = { λ _ _ _. Unit {0} };
 
@@ -27,9 +30,18 @@ pub trait Hearing {
     /// What requests may ask for.
     fn routes(&self) -> &Routes;
 
+    /// The octets of the database's files when it was opened, if they are known.
+    fn octets(&self) -> Option<u64>;
+
     /// Waits for the next connection whose request is whole; none for one that failed. At most so many are waited for.
     fn next(&mut self, most: usize) -> Option<(Request, Self::Stream)>
         ensures { MatchOption result (fails self.old self.new)
+            (λ whole. hands self.old whole.0 whole.1 self.new) };
+
+    /// Another connection whose request is whole already, without waiting, of those that `next` may still give; none
+    /// where there is none. One that failed is left to `next`.
+    fn next_now(&mut self) -> Option<(Request, Self::Stream)>
+        ensures { MatchOption result (stays self.old self.new)
             (λ whole. hands self.old whole.0 whole.1 self.new) };
 
     /// Takes back a connection whose answer was written.

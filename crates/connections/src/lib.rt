@@ -3,6 +3,8 @@
 
 mod clock;
 mod closing;
+mod gathering;
+mod group;
 mod hearing;
 mod laws;
 mod limited;

@@ -53,6 +53,8 @@ pub struct Listening<'l, R> {
     rt: &'l R,
     /// So much time a request has to come, and so much its answer to go out.
     pub limit: Duration,
+    /// The octets of the database's files when it was opened, if they are known.
+    pub octets: Option<u64>,
     listener: &'l Listener,
     poll: Poll,
     events: Events,
@@ -90,6 +92,16 @@ fn first_done(
         match one.progress(routes, registry, now) {
             Progress::Came | Progress::Waits => {}
             done => return Some((place, done)),
+        }
+    }
+    None
+}
+
+/// Reads what is there of each in turn: where the first stands whose request is whole. One that failed keeps its place.
+fn first_whole(waiting: &mut [Waiting], routes: &Routes, registry: &Registry) -> Option<usize> {
+    for (place, one) in waiting.iter_mut().enumerate() {
+        if let Progress::Whole = one.progress_now(routes, registry) {
+            return Some(place);
         }
     }
     None
@@ -157,15 +169,17 @@ fn lesser(least: Option<Duration>, left: Duration) -> Option<Duration> {
 
 impl<'l, R: AllocGlobal + Clock> Listening<'l, R> {
     /// A listener, of whose connections none is taken yet. From now on it doesn't wait for one. A request has so much
-    /// time to come, and its answer so much to go out. An error where the system can't wait for several, or memory runs
+    /// time to come, and its answer so much to go out; so many octets the database's files had. An error where the system can't wait for several, or memory runs
     /// out.
     pub fn new<N: Net>(
         net: &N,
         rt: &'l R,
         listener: &'l Listener,
         limit: Duration,
+        octets: Option<u64>,
     ) -> io::Result<Listening<'l, R>>
-        ensures { IfOk result (λ listening. listening.limit ≡ limit) }
+        ensures limit { IfOk result (λ listening. listening.limit ≡ limit) }
+        ensures octets { IfOk result (λ listening. listening.octets ≡ octets) }
     {
         let alloc = rt.alloc();
         let poll = poll_of(net, listener)?;
@@ -173,6 +187,7 @@ impl<'l, R: AllocGlobal + Clock> Listening<'l, R> {
         Ok(Listening {
             rt,
             limit,
+            octets,
             listener,
             poll,
             events: Events::with_capacity(alloc, MOST_EVENTS)?,
@@ -206,6 +221,18 @@ impl<'l, R: AllocGlobal + Clock> Listening<'l, R> {
             }
         }
         None
+    }
+
+    /// Another connection whose request is whole already, without waiting: first of those that were heard of, and then of
+    /// those of which the system tells.
+    fn another_whole(&mut self) -> Option<Waiting> {
+        if let Some(place) = first_whole(&mut self.waiting, &self.routes, self.poll.registry()) {
+            return self.removed(place);
+        }
+        self.poll.poll(&mut self.events, Some(Duration::ZERO)).ok()?;
+        self.hear_all();
+        let place = first_whole(&mut self.waiting, &self.routes, self.poll.registry())?;
+        self.removed(place)
     }
 
     /// Takes out the first connection that is done with: itself where its request is whole, and else none.
@@ -302,6 +329,7 @@ impl<'l, R: AllocGlobal + Clock> Listening<'l, R> {
             peer: Peer::new(stream, Token(self.token), end)?,
             request: Request::new(self.rt.alloc()),
             keeps_place_until,
+            has_failed: false,
         })?;
         Ok(())
     }
@@ -398,8 +426,17 @@ impl<'l, R: AllocGlobal + Clock> Hearing for Listening<'l, R> {
         &self.routes
     }
 
+    fn octets(&self) -> Option<u64> {
+        self.octets
+    }
+
     fn next(&mut self, most: usize) -> Option<(Request, Limited<'l, R, Stream>)> {
         let Waiting { peer, request, .. } = self.next_whole(most)?;
+        Some((request, Limited::new(self.rt, peer, self.limit)))
+    }
+
+    fn next_now(&mut self) -> Option<(Request, Limited<'l, R, Stream>)> {
+        let Waiting { peer, request, .. } = self.another_whole()?;
         Some((request, Limited::new(self.rt, peer, self.limit)))
     }
 

@@ -4,65 +4,48 @@ ghost use Rattle.connections.specs.Heard.{AreHeard, IsDropped, IsHeard, StopsHea
 ghost use Rattle.connections.specs.Run.{ServesEach};
 
 use crate::clock::{Clock, ClockFailed};
+use crate::gathering::gather;
+use crate::group::answer_gathered;
 use crate::hearing::Hearing;
 use crate::laws::{desks_are_proper, requests_ask_for_what_is_met};
 use crate::listening::Listening;
 use book::Book;
 use cms::Signer;
 use desk::{Desk, accounts_are_isolated, accounts_disturb_little, journeys_keep_their_promises};
-use service::Environment;
 
 /// The limit on a connection's time: so many seconds for its request, and so many for its answer.
 pub const CONNECTION_SECONDS: u64 = 20;
 
-/// Waits for the next connection whose request is whole, and answers it. At most so many are waited for.
+/// Waits for the next connection whose request is whole, gathers those that can be answered with it, and answers them. At
+/// most so many are waited for. How many were answered or failed.
 fn answer_next<L: Hearing, C: Clock, B: Book + Drop, G: Signer>(
     hearing: &mut L,
     most: usize,
     clock: &mut C,
     desk: &mut Desk<'_, B>,
     signer: &mut G,
-) -> Result<(), ClockFailed>
-    ensures heard { OnOk result (IsHeard L.hands L.fails L.takes_back L.Stream.contents C.reads B.Standing G.signs
-        G.fault_count (hall hearing.old clock.old desk.old signer.old)
-        (hall hearing.new clock.new desk.new signer.new)) }
-    ensures dropped { OnErr result (IsDropped L.hands L.fails L.takes_back L.Stream.contents C.reads B.Standing G.signs
-        G.fault_count (hall hearing.old clock.old desk.old signer.old)
-        (hall hearing.new clock.new desk.new signer.new)) }
-{
-    let Some((request, stream)) = hearing.next(most) else {
-        return Ok(());
-    };
-    let reading = clock.reading()?;
-    let environment = Environment {
-        alloc: hearing.alloc(),
-        routes: hearing.routes(),
-        reading,
-    };
-    let mut stream = stream;
-    let exchanged = request.serve(environment, desk, signer, &mut stream);
-    hearing.take_back(stream, exchanged);
-    Ok(())
+) -> Result<usize, ClockFailed> {
+    match gather(hearing, most, clock, desk.policy())? {
+        Some(gathering) => {
+            let count = gathering.count();
+            answer_gathered(hearing, gathering, desk, signer);
+            Ok(count)
+        }
+        None => Ok(1),
+    }
 }
 
-/// Answers so many connections, one after the other.
-fn answer_each<L: Hearing, C: Clock, B: Book + Drop, G: Signer>(
+/// Answers so many connections.
+fn answer_all<L: Hearing, C: Clock, B: Book + Drop, G: Signer>(
     hearing: &mut L,
     count: u32,
     clock: &mut C,
     desk: &mut Desk<'_, B>,
     signer: &mut G,
-) -> Result<(), ClockFailed>
-    ensures heard { OnOk result (AreHeard L.hands L.fails L.takes_back L.Stream.contents C.reads B.Standing G.signs
-        G.fault_count count (hall hearing.old clock.old desk.old signer.old)
-        (hall hearing.new clock.new desk.new signer.new)) }
-    ensures stopped { OnErr result (StopsHearing L.hands L.fails L.takes_back L.Stream.contents C.reads B.Standing
-        G.signs G.fault_count count (hall hearing.old clock.old desk.old signer.old)
-        (hall hearing.new clock.new desk.new signer.new)) }
-{
-    for done in 0..count {
-        let most = (count - done) as usize;
-        answer_next(hearing, most, clock, desk, signer)?;
+) -> Result<(), ClockFailed> {
+    let mut left = count as usize;
+    while left > 0 {
+        left -= answer_next(hearing, left, clock, desk, signer)?;
     }
     Ok(())
 }
@@ -96,7 +79,7 @@ pub fn serve_each<L: Hearing, C: Clock, B: Book + Drop, G: Signer>(
     accounts_are_isolated::<G>();
     accounts_disturb_little();
     desks_are_proper(desk, signer);
-    answer_each(hearing, count, clock, desk, signer)
+    answer_all(hearing, count, clock, desk, signer)
 }
 
 /// Serves so many connections of a listener, as `serve_each`. They are served one after the other, and the next is one

@@ -43,6 +43,8 @@ pub(crate) struct Waiting {
     pub(crate) request: Request,
     /// Until when it isn't given up for another.
     pub(crate) keeps_place_until: Instant,
+    /// It has failed, and is still to be told.
+    pub(crate) has_failed: bool,
 }
 
 impl Waiting {
@@ -62,6 +64,22 @@ impl Waiting {
         Progress::Came
     }
 
+    /// How far its request has come by what is there, whatever the time.
+    pub(crate) fn progress_now(&mut self, routes: &Routes, registry: &Registry) -> Progress {
+        if self.has_failed {
+            return Progress::Failed;
+        }
+        let progress = if self.peer.is_ready {
+            self.read(routes, registry)
+        } else {
+            Progress::Waits
+        };
+        if let Progress::Failed = progress {
+            self.has_failed = true;
+        }
+        progress
+    }
+
     /// How far its request has come. It has failed where it isn't whole and its time is up.
     pub(crate) fn progress(
         &mut self,
@@ -69,12 +87,7 @@ impl Waiting {
         registry: &Registry,
         now: Instant,
     ) -> Progress {
-        let progress = if self.peer.is_ready {
-            self.read(routes, registry)
-        } else {
-            Progress::Waits
-        };
-        match progress {
+        match self.progress_now(routes, registry) {
             Progress::Came | Progress::Waits if self.peer.end <= now => Progress::Failed,
             progress => progress,
         }

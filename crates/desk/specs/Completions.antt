@@ -13,7 +13,7 @@ use Rattle.desk.specs.Command.{PendingValue, Answer}
 use Rattle.desk.specs.Effects.{Effect}
 use Rattle.desk.specs.Fit.{IsUncounted}
 use Rattle.desk.specs.MachineStep.{IsWaiting}
-use Rattle.desk.specs.Outcome.{Call, Outcome, counted}
+use Rattle.desk.specs.Outcome.{Call, Fine, Outcome, counted}
 use Rattle.desk.specs.Wholes.{stamped}
 
 -- the texts that are signed
@@ -71,6 +71,10 @@ pub record HasSealed {B : Type 0} (g : Ghosts B) (ps : List PendingValue)
   pub stands : Stands g (seals_of ps signings os b) new
   pub left : (left : g.Left) → g.leaves new left → MayBeLeftSealed g ps signings os b old left
 
+-- no commit of a seal was refused
+abbrev pub AreAllSealed : List Outcome → Type 0
+AreAllSealed os = AllByRecursion (λ o. o.sealing ≡ Fine) os
+
 -- What was signed is sealed: a reply for each, the seals of exactly those that are granted, in their order, and the
 -- store's faults. One whose signer, memory or commit refused is rejected by rule 12, and stays void.
 pub record SealsEach {B : Type 0} (g : Ghosts B) (ps : List PendingValue)
@@ -81,6 +85,8 @@ pub record SealsEach {B : Type 0} (g : Ghosts B) (ps : List PendingValue)
   pub grows : AllByRecursion (λ o. IsUncounted o.wrapping) os
   pub counted : g.fault_count new ≡ faults_sealing os (g.fault_count old)
   pub says : answers ≡ map (λ e. e.says) (completed ps signings os)
+  -- where none is refused, nothing was added, or the store is open
+  pub opened : g.honest new → AreAllSealed os → (new ≡ old) ⊎ g.is_open new
   pub seals : g.honest new → (b : History) → Stands g b old → AreWaiting ps b → HasSealed g ps signings os b old new
 
 -- The same with the signatures: each text is signed, in their order. The commit of all the seals, where it is refused,
@@ -94,4 +100,5 @@ pub record CompletesEach {B X : Type 0} (g : Ghosts B) (signs : X → List ℕ �
   pub signer : count y ≡ count_after_each signings (count x)
   pub counted : g.fault_count new ≡ faults_sealing os (counted sealing (g.fault_count old))
   pub says : answers ≡ map (λ e. e.says) (completed ps signings os)
+  pub opened : g.honest new → sealing ≡ Fine → AreAllSealed os → (new ≡ old) ⊎ g.is_open new
   pub seals : g.honest new → (b : History) → Stands g b old → AreWaiting ps b → HasSealed g ps signings os b old new

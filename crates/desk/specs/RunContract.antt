@@ -124,16 +124,17 @@ ArePromised s [] os answers b = Unit {0}
 ArePromised s (c ∷ cs) [] answers b = Unit {0}
 ArePromised s (c ∷ cs) (o ∷ os) [] b = Unit {0}
 
--- What holds after a run from a setting to another, where the store stood for the history b.
+-- What holds after a run from a setting to another, where the store stood for the history b, and where a stop may leave
+-- this beside the history after it.
 pub record HasRun {B X : Type 0} (g : Ghosts B) (signs : X → List ℕ → Result (List ℕ) SignerFault → X → Type 0)
-    (s : Setting) (cs : List Command) (os : List Outcome) (answers : List Answer) (b : History) (old : B)
-    (x : X) (s' : Setting) (new : B) (y : X) : Type 0 where
+    (s : Setting) (cs : List Command) (os : List Outcome) (answers : List Answer) (b : History)
+    (May : History → g.Left → Type 0) (x : X) (s' : Setting) (new : B) (y : X) : Type 0 where
   pub history : History
   -- The answers, the history that follows and the signer are a run of the machine,
   pub runs : Runs signs s cs os b x answers history y
   -- and the store stands for that history.
   pub stands : Stands g history new
-  pub left : (left : g.Left) → g.leaves new left → MayBeLeftBy g s cs os b old history left
+  pub left : (left : g.Left) → g.leaves new left → May history left
   -- Each journey that ends in b with this setting goes on by these commands, whatever the outcomes, to their end or to a
   -- stop in one of them, and keeps its promises there.
   pub journeys : (w : List Told) → Journey b (Some s) w → (outcomes : List Outcome) (b' : History)
@@ -160,7 +161,7 @@ pub record RunsBy {B X : Type 0} (g : Ghosts B) (signs : X → List ℕ → Resu
     (x : X) (s' : Setting) (new : B) (y : X) : Type 0 where
   pub steps : AreSteps g signs count s cs os answers old x s' new y
   pub run : g.honest new → (b : History) → Stands g b old → AreMet s cs os b
-      → HasRun g signs s cs os answers b old x s' new y
+      → HasRun g signs s cs os answers b (MayBeLeftBy g s cs os b old) x s' new y
 
 -- the same under some outcomes
 abbrev pub IsRun : {B X : Type 0} → Ghosts B → (X → List ℕ → Result (List ℕ) SignerFault → X → Type 0) → (X → ℕ)

@@ -1,24 +1,35 @@
--- Stamps that are answered together, by the program's types: what is asked, what waits, and how each is judged.
-use Rattle.std.specs.Prelude.{◌≡◌, ℕ, ◌<◌, List, [], ◌∷◌, map, Option, Some, None, Result, Ok}
+-- Stamps that are answered together, by the program's types: what is asked, what waits, how each is judged, and what a
+-- stop after them may leave.
+use Rattle.std.specs.Prelude.{◌≡◌, ℕ, ◌<◌, ◌⊎◌, List, [], ◌∷◌, ◌++◌, map, Option, Some, None, Result, Ok, Err}
+use Rattle.std.specs.List.{AllByRecursion}
+use Rattle.policy.specs.Record.{PolicyValue}
+use Rattle.tsp.specs.Rules.{IsFirstFailing}
 use Rattle.tsp.specs.declared.rule.Rule.{Rule}
 use Rattle.tsp.specs.declared.rule.Rule.TheVariants.{System}
 use Rattle.cms.specs.Signer.{count_after_each}
 use Rattle.cms.specs.declared.signer.SignerFault.{SignerFault}
+use Rattle.cms.specs.declared.signer.SignerFault.TheVariants as signer
 use Rattle.decide.specs.View.{account_asked}
+use Rattle.book.specs.declared.fault.StoreFault.{StoreFault}
 use Rattle.book.specs.declared.standing.Standing.{Ghosts}
-use Rattle.book.specs.History.{Reserved, History, greatest_serial}
+use Rattle.book.specs.History.{Entry, Reserved, History, greatest_serial}
+use Rattle.book.specs.Shows.{ShowsSame}
 use Rattle.book.specs.Sound.{greatest_number}
 use Rattle.book.specs.Stands.{Stands}
-use Rattle.desk.specs.Outcome.{Call, Outcome, all_fine}
-use Rattle.desk.specs.MachineRuns.{Runs}
-use Rattle.desk.specs.Findings.{StampPlan, Fails, Allowed, Finds}
+use Rattle.desk.specs.Outcome.{Call, Fine, Outcome, all_fine}
+use Rattle.desk.specs.MachineRuns.{Runs, Told}
+use Rattle.desk.specs.RunContract.{MayBeLeftBy, ArePromised}
+use Rattle.desk.specs.Findings.{StampPlan, HoldsUnasked, Fails, Allowed, Finds}
+use Rattle.desk.specs.Calls.{call_of}
 use Rattle.desk.specs.Command.{Setting, Answer, Rejected}
 use Rattle.desk.specs.Texts.{pending_of}
 use Rattle.desk.specs.Effects.{next_reservation, name_of}
-use Rattle.desk.specs.Batches.{Question, stamp_for, stamps_for, faults_together}
+use Rattle.desk.specs.Batches.{Question, stamp_for, stamps_for, IsCutTogether, faults_together}
 use Rattle.desk.specs.Fit.{IsFit}
-use Rattle.desk.specs.WaitingStamps.{waiting_view, pending_in, HasText}
+use Rattle.desk.specs.WaitingStamps.{waiting_view, with_waiting, pending_in, HasText}
 use Rattle.desk.specs.declared.batch.Asked.{Asked}
+use Rattle.desk.specs.declared.refusal.StampRefusal.{StampRefusal}
+use Rattle.desk.specs.declared.refusal.StampRefusal.TheVariants as refusal
 use Rattle.desk.specs.declared.waiting_stamp.Waiting.{Waiting}
 use Rattle.desk.specs.declared.batch_start.Judged.{Judged}
 use Rattle.desk.specs.declared.batch_start.Judged.TheVariants as judged
@@ -75,6 +86,30 @@ reply_for (Some rule) completion = Rejected rule
 reply_for None (Some answer) = answer
 reply_for None None = Rejected System
 
+-- it fails this rule
+abbrev pub IsFailing : Rule → Judged → Type 0
+IsFailing rule (judged.Fails r) = r ≡ rule
+IsFailing rule (judged.Waits w) = ⊥
+
+-- each stamp that fails one of the rules 1 to 9 is judged by the first, whatever the store answers
+abbrev pub AreJudgedUnasked : PolicyValue → List Question → List (Option Rule) → Type 0
+AreJudgedUnasked file [] [] = Unit {0}
+AreJudgedUnasked file (a ∷ asked) (v ∷ vs) =
+    ((rule : Rule) → IsFirstFailing (HoldsUnasked file a.account a.octets) rule → v ≡ Some rule)
+    × AreJudgedUnasked file asked vs
+AreJudgedUnasked file [] (v ∷ vs) = ⊥
+AreJudgedUnasked file (a ∷ asked) [] = ⊥
+
+-- The commit of all reservations was refused: the history with them, where it is there after all.
+pub record IsReservedInDoubt {B : Type 0} (g : Ghosts B) (s : Setting) (asked : List Question)
+    (vs : List (Option Rule)) (ws : List Waiting) (r : StampRefusal) (b : History) (left : g.Left) : Type 0 where
+  pub fault : StoreFault
+  pub by_commit : r ≡ refusal.Adding fault
+  pub refused : call_of fault ≡ Fine → ⊥
+  pub some : ws ≡ [] → ⊥
+  pub judged : AreJudged s asked vs ws b
+  pub holds : g.holds left (with_waiting ws b)
+
 -- the outcomes fit their stamps: the calls that they don't make are fine
 abbrev pub AreFit : List Question → List Outcome → Type 0
 AreFit [] [] = Unit {0}
@@ -92,18 +127,66 @@ AreSplit [] [] (w ∷ ws) = ⊥
 AreSplit [] (v ∷ vs) ws = ⊥
 AreSplit (a ∷ asked) [] ws = ⊥
 
+-- no commit of a stamp of its own was refused
+abbrev pub AreCommitted : List Outcome → Type 0
+AreCommitted os = AllByRecursion (λ o. (o.adding ≡ Fine) × (o.sealing ≡ Fine)) os
+
+-- the signer answers each the same, or its answer never comes
+abbrev pub AreSignedAlike : List Outcome → List Outcome → Type 0
+AreSignedAlike [] [] = Unit {0}
+AreSignedAlike (o ∷ os) (other ∷ others) =
+    ((other.signing ≡ o.signing) ⊎ (other.signing ≡ Err signer.Memory)) × AreSignedAlike os others
+AreSignedAlike [] (other ∷ others) = ⊥
+AreSignedAlike (o ∷ os) [] = ⊥
+
+-- A commit was refused, of all the stamps or of one by itself, and nothing was added after it: where it is there after
+-- all, a history that shows what the last one shows, with what was in doubt.
+pub record IsDoubtedTogether {B : Type 0} (g : Ghosts B) (s : Setting) (asked : List Question) (os : List Outcome)
+    (reserving sealing : Call) (b last : History) (left : g.Left) : Type 0 where
+  pub refused : reserving ≡ Fine → sealing ≡ Fine → AreCommitted os → ⊥
+  pub history : History
+  pub doubted : List Entry
+  pub same : ShowsSame history (doubted ++ last)
+  -- It is what a stop in a run over the stamps leaves,
+  pub cut : (w : List Told) → IsCutTogether s asked b w history
+  -- in which nothing is signed otherwise.
+  pub signed : (w : List Told) → AreSignedAlike os (cut w).outcomes
+  pub holds : g.holds left history
+
+-- What a stop after the stamps may leave: what one after a run over them may, or what is in doubt of the commits of all.
+abbrev pub MayBeLeftTogether : {B : Type 0} → (g : Ghosts B) → Setting → List Question → List Outcome → Call → Call
+    → History → B → History → g.Left → Type 0
+MayBeLeftTogether g s asked os reserving sealing b old last left =
+    MayBeLeftBy g s (stamps_for asked) os b old last left
+    ⊎ IsDoubtedTogether g s asked os reserving sealing b last left
+
 -- From a history that the store stood for: the answers, the history that follows and the signer are a run of the
--- machine over the stamps, one after the other, in their order, and the store stands for that history.
+-- machine over the stamps, one after the other, in their order; the store stands for that history, and so does what a
+-- stop leaves.
 pub record RunsTogether {B S : Type 0} (g : Ghosts B) (signs : S → List ℕ → Result (List ℕ) SignerFault → S → Type 0)
-    (s : Setting) (asked : List Question) (os : List Outcome) (answers : List Answer) (b : History) (x : S) (new : B)
-    (y : S) : Type 0 where
+    (s : Setting) (asked : List Question) (os : List Outcome) (reserving sealing : Call) (answers : List Answer)
+    (b : History) (old : B) (x : S) (new : B) (y : S) : Type 0 where
   pub history : History
   pub runs : Runs signs s (stamps_for asked) os b x answers history y
   pub stands : Stands g history new
+  pub left : (left : g.Left) → g.leaves new left
+      → MayBeLeftTogether g s asked os reserving sealing b old history left
+  -- Of each stamp: what it has signed, grants, and tells of others.
+  pub promises : ArePromised s (stamps_for asked) os answers b
+
+-- each stamp that fails one of the rules 1 to 9 is rejected by the first
+abbrev pub AreRejectedUnasked : PolicyValue → List Question → List Answer → Type 0
+AreRejectedUnasked file [] [] = Unit {0}
+AreRejectedUnasked file (a ∷ asked) (answer ∷ answers) =
+    ((rule : Rule) → IsFirstFailing (HoldsUnasked file a.account a.octets) rule → answer ≡ Rejected rule)
+    × AreRejectedUnasked file asked answers
+AreRejectedUnasked file [] (answer ∷ answers) = ⊥
+AreRejectedUnasked file (a ∷ asked) [] = ⊥
 
 -- Stamps that are answered together are a run, under outcomes that fit them. The store counts what these outcomes
 -- count, and besides at most two calls of the batch: the one by which its first half was given up, a look-up or the
--- commit of all reservations; and the commit of all seals. After each of the two the stamps go on one by one.
+-- commit of all reservations; and the commit of all seals. After each of the two the stamps go on one by one. By the
+-- rules 1 to 9 each is judged whatever store and signer do.
 pub record IsAnsweredTogether {B S : Type 0} (g : Ghosts B)
     (signs : S → List ℕ → Result (List ℕ) SignerFault → S → Type 0) (count : S → ℕ) (s : Setting)
     (asked : List Question) (answers : List Answer) (old : B) (x : S) (new : B) (y : S) : Type 0 where
@@ -113,4 +196,6 @@ pub record IsAnsweredTogether {B S : Type 0} (g : Ghosts B)
   pub sealing : Call
   pub counted : g.fault_count new ≡ faults_together reserving sealing outcomes (g.fault_count old)
   pub signer : count y ≡ count_after_each (map (λ o. o.signing) outcomes) (count x)
-  pub run : g.honest new → (b : History) → Stands g b old → RunsTogether g signs s asked outcomes answers b x new y
+  pub judged : AreRejectedUnasked s.file asked answers
+  pub run : g.honest new → (b : History) → Stands g b old
+      → RunsTogether g signs s asked outcomes reserving sealing answers b old x new y

@@ -52,11 +52,12 @@ pub record AreWrittenMore (p : PendingValue) (signing : Result (List ℕ) Signer
   pub seals_are : more_seals ≡ seals ++ seal
   pub answers_are : more_answers ≡ answers ++ (answer ∷ [])
 
--- The commit of all the seals was refused, or not tried: the store stands for what it stood for, and a stop leaves what
--- it could leave before, or the history with all of them.
+-- The commit of all the seals was refused, or not tried, and then nothing changed: the store stands for what it stood
+-- for, and a stop leaves what it could leave before, or the history with all of them.
 pub record IsRefusedTogether {B : Type 0} (g : Ghosts B) (ps : List PendingValue)
     (signings : List (Result (List ℕ) SignerFault)) (sealing : Call) (old new : B) : Type 0 where
   pub counted : g.fault_count new ≡ counted sealing (g.fault_count old)
+  pub still : sealing ≡ Fine → new ≡ old
   pub stands : (b : History) → Stands g b old → Stands g b new
   pub left : g.honest new → (b : History) → Stands g b old → AreWaiting ps b → (left : g.Left) → g.leaves new left
       → g.leaves old left

@@ -1,12 +1,13 @@
 //! Stamps that are answered together.
 ghost use Rattle.std.specs.Prelude.{◌≡◌, ◌≤◌, List, [], map, length, IfOk, IfErr, OnErr, vec_capacity};
 ghost use Rattle.std.specs.Prelude.{option_map};
+ghost use Rattle.policy.specs.View.{policy_view};
 ghost use Rattle.desk.specs.Answers.{reply_as};
 ghost use Rattle.desk.specs.Batches.{stamps_for};
 ghost use Rattle.desk.specs.Calls.{settings_view};
 ghost use Rattle.desk.specs.Outcome.{Outcome};
 ghost use Rattle.desk.specs.RunContract.{AreSteps};
-ghost use Rattle.desk.specs.Together.{questions_view, merged, reply_for, IsAnsweredTogether};
+ghost use Rattle.desk.specs.Together.{questions_view, merged, reply_for, AreRejectedUnasked, IsAnsweredTogether};
 
 use crate::batch_start::begin_each;
 use crate::completion::complete_each;
@@ -47,6 +48,8 @@ fn answer_in_turn<B: Book + Drop, G: Signer>(
     ensures steps { (os : List Outcome) × AreSteps B.Standing G.signs G.fault_count (settings_view settings.entry)
         (stamps_for (questions_view asked.now)) os (map reply_as replies.new.items) store.old signer.old
         (settings_view settings.entry) store.new signer.new }
+    ensures unasked { AreRejectedUnasked (policy_view settings.entry.policy.now) (questions_view asked.now)
+        (map reply_as replies.new.items) }
 {
     for question in asked {
         replies.push_reserved(answer_with(

@@ -1,14 +1,19 @@
 //! Stamps that are answered together, up to the one commit of their reservations.
-ghost use Rattle.std.specs.Prelude.{◌≡◌, ◌≤◌, ◌<◌, [], map, length, IfOk, IfErr, OnErr, vec_capacity};
+ghost use Rattle.std.specs.Prelude.{◌≡◌, ◌≤◌, ◌<◌, ◌⊎◌, [], map, length, IfOk, IfErr, OnErr, vec_capacity};
 ghost use Rattle.std.specs.List.{AllByRecursion};
+ghost use Rattle.policy.specs.View.{policy_view};
+ghost use Rattle.tsp.specs.Rules.{IsFirstFailing};
+ghost use Rattle.tsp.specs.declared.rule.Rule.{Rule};
+ghost use Rattle.decide.specs.View.{account_asked};
 ghost use Rattle.book.specs.Entries.{entries_view, Appends};
 ghost use Rattle.book.specs.History.{History, Reserved};
 ghost use Rattle.book.specs.Sound.{IsSound};
-ghost use Rattle.book.specs.Stands.{Stands, OnlyLooks};
+ghost use Rattle.book.specs.Stands.{Stands, OnlyLooks, LeavesAsBefore};
 ghost use Rattle.desk.specs.Calls.{outcome_of, settings_view};
+ghost use Rattle.desk.specs.Findings.{HoldsUnasked};
 ghost use Rattle.desk.specs.Outcome.{faults_after};
 ghost use Rattle.desk.specs.Together.{question_view, questions_view, IsJudgedAs, HasItsText, AreJudged};
-ghost use Rattle.desk.specs.Together.{AreSplit};
+ghost use Rattle.desk.specs.Together.{AreSplit, IsFailing, AreJudgedUnasked, IsReservedInDoubt};
 ghost use Rattle.desk.specs.WaitingStamps.{waiting_view, with_waiting, HasText};
 
 use crate::batch::Asked;
@@ -45,6 +50,8 @@ fn judge_one<'p, 'a, B: Book + Drop>(
         → IsSound (with_waiting waits.now b)
         → IfOk result (IsJudgedAs (settings_view settings.entry) (question_view asked.entry) (with_waiting waits.now b)) }
     ensures texts { IfOk result (HasItsText (settings_view settings.entry)) }
+    ensures unasked { (rule : Rule) → IsFirstFailing (HoldsUnasked (policy_view settings.entry.policy.now)
+        (account_asked asked.entry.account) asked.entry.query.now) rule → IfOk result (IsFailing rule) }
 {
     match find_among(
         store,
@@ -92,6 +99,8 @@ fn judge_each<'p, 'a, B: Book + Drop>(
         → AreJudged (settings_view settings.entry) (questions_view asked.now) verdicts.new.items waits.new.items b) }
     ensures split { IfOk result (λ _. AreSplit (questions_view asked.now) verdicts.new.items waits.new.items) }
     ensures texts { IfOk result (λ _. AllByRecursion (HasText (settings_view settings.entry)) waits.new.items) }
+    ensures unasked { IfOk result (λ _. AreJudgedUnasked (policy_view settings.entry.policy.now)
+        (questions_view asked.now) verdicts.new.items) }
 {
     for question in asked {
         match judge_one(store, alloc, settings, waits, *question)? {
@@ -151,11 +160,19 @@ pub(crate) fn begin_each<'p, 'a, B: Book + Drop>(
     ensures counted { B.fault_count store.new ≡ faults_after (outcome_of result) (B.fault_count store.old) }
     ensures split { IfOk result (λ _. AreSplit (questions_view asked.now) verdicts.new.items waits.new.items) }
     ensures texts { IfOk result (λ _. AllByRecursion (HasText (settings_view settings.entry)) waits.new.items) }
+    ensures unasked { IfOk result (λ _. AreJudgedUnasked (policy_view settings.entry.policy.now)
+        (questions_view asked.now) verdicts.new.items) }
     ensures judged { IfOk result (λ _. B.honest store.new → (b : History) → Stands B.Standing b store.old
         → AreJudged (settings_view settings.entry) (questions_view asked.now) verdicts.new.items waits.new.items b) }
     ensures reserved { IfOk result (λ _. B.honest store.new → (b : History) → Stands B.Standing b store.old
         → Stands B.Standing (with_waiting waits.new.items b) store.new) }
+    ensures opened { IfOk result (λ _. B.honest store.new
+        → ((waits.new.items ≡ []) × LeavesAsBefore B.Standing store.old store.new) ⊎ B.is_open store.new) }
     ensures refused { OnErr result ((b : History) → Stands B.Standing b store.old → Stands B.Standing b store.new) }
+    ensures left { IfErr result (λ refusal. B.honest store.new → (b : History) → Stands B.Standing b store.old
+        → (left : B.Left) → B.leaves store.new left
+        → B.leaves store.old left ⊎ IsReservedInDoubt B.Standing (settings_view settings.entry)
+        (questions_view asked.now) verdicts.new.items waits.new.items refusal b left) }
 {
     match judge_each(store, alloc, settings, asked, verdicts, waits) {
         Ok(()) => {}

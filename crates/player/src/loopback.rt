@@ -25,7 +25,7 @@ impl AtDesk for Serving<'_> {
         let rt = self.rt;
         let mut clock = SystemClock::new(rt);
         let limit = Duration::from_secs(CONNECTION_SECONDS);
-        let mut listening = Listening::new(rt, rt, self.listener, limit)?;
+        let mut listening = Listening::new(rt, rt, self.listener, limit, None)?;
         serve_connections(&mut listening, self.count, &mut clock, desk, signer)?;
         Ok(())
     }

@@ -6,4 +6,5 @@ pub mod Operators
 pub mod RequestLemmas
 pub mod Rows
 pub mod ServingLemmas
+pub mod StampLemmas
 pub mod TargetLemmas

@@ -1,5 +1,5 @@
 //! A request and its answer.
-ghost use Rattle.std.specs.Prelude.{◌≡◌, length, take, List, Option, ℕ, true, IfSome};
+ghost use Rattle.std.specs.Prelude.{◌≡◌, length, take, List, Option, ℕ, true, MatchOption};
 ghost use Rattle.std.specs.Io.KnownBytes.{Consumes, IsAtEnd};
 ghost use Rattle.policy.specs.View.{policy_view};
 ghost use Rattle.desk.specs.Answers.{reply_as};
@@ -19,7 +19,7 @@ use crate::due::Due;
 use crate::handlers::handle;
 use crate::request::Request;
 use crate::responses::{out_of_memory, refuse, write_reply};
-use crate::routes::{Action, Routes};
+use crate::routes::Routes;
 use crate::served::Served;
 use book::Book;
 use cms::Signer;
@@ -119,15 +119,17 @@ impl Request {
     /// The stamp that it asks for, as `Desk::answer_each` takes it, where that is what is due to it: it is whole, and no
     /// check fails. None where something else is due. The reading is the clock's, in microseconds.
     pub fn stamp<'r>(&'r self, policy: &'r Policy, reading: i64) -> Option<Asked<'r>>
-        ensures { IfSome result (λ asked. AsksStamp (policy_view policy.now) reading self.now (question_view asked)) }
+        ensures { MatchOption result
+            ((asked : Question) → AsksStamp (policy_view policy.now) reading self.now asked → ⊥)
+            (λ asked. AsksStamp (policy_view policy.now) reading self.now (question_view asked)) }
     {
-        match self.due() {
-            Due::Answer(Action::Stamp, head, body) => {
-                let at = Occasion { reading };
-                stamp_asked(policy, at, head, body).ok()
-            }
-            _ => None,
+        let Due::Answer(action, head, body) = self.due() else {
+            return None;
+        };
+        if !action.is_stamp() {
+            return None;
         }
+        stamp_asked(policy, Occasion { reading }, head, body).ok()
     }
 
     /// Writes the reply to the stamp that it asks for, given at that reading.

@@ -107,6 +107,7 @@ impl Request {
     pub fn is_closed(&self) -> bool
         ensures octets { result ≡ true → self.now.octets ≡ [] }
         ensures ended { result ≡ true → self.now.is_ended ≡ true }
+        ensures closed { self.now.octets ≡ [] → self.now.is_ended ≡ true → result ≡ true }
     {
         self.is_ended && self.filled == 0
     }

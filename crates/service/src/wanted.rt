@@ -72,7 +72,7 @@ pub(crate) fn has_body(method: &[u8]) -> bool
 
 impl Action {
     /// Whether it answers a time-stamp request.
-    fn is_stamp(self) -> bool
+    pub(crate) fn is_stamp(self) -> bool
         ensures { result ≡ is_stamp self }
     {
         matches!(self, Action::Stamp)

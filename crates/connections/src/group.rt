@@ -1,0 +1,107 @@
+//! Connections that were handed out, and their answers.
+
+use crate::gathering::{Gathering, Handed};
+use crate::hearing::Hearing;
+use book::Book;
+use cms::Signer;
+use desk::{Desk, Reply};
+use service::Environment;
+use std::alloc::Global;
+
+/// Answers one by itself.
+fn answer_one<L: Hearing, B: Book + Drop, G: Signer>(
+    hearing: &mut L,
+    one: Handed<L::Stream>,
+    desk: &mut Desk<'_, B>,
+    signer: &mut G,
+) {
+    let Handed {
+        request,
+        stream,
+        reading,
+    } = one;
+    let environment = Environment {
+        alloc: hearing.alloc(),
+        routes: hearing.routes(),
+        reading,
+        octets: hearing.octets(),
+    };
+    let mut stream = stream;
+    let exchanged = request.serve(environment, desk, signer, &mut stream);
+    hearing.take_back(stream, exchanged);
+}
+
+/// Answers each by itself, one after the other.
+fn answer_in_turn<L: Hearing, B: Book + Drop, G: Signer>(
+    hearing: &mut L,
+    ones: Vec<Handed<L::Stream>>,
+    desk: &mut Desk<'_, B>,
+    signer: &mut G,
+) {
+    for one in ones {
+        answer_one(hearing, one, desk, signer);
+    }
+}
+
+/// The desk's replies to the stamps that they ask for, answered together. None where memory wants, or one asks for
+/// something else; nothing is done then.
+fn replies_to<S: Drop, B: Book + Drop, G: Signer>(
+    stamps: &[Handed<S>],
+    alloc: Global,
+    desk: &mut Desk<'_, B>,
+    signer: &mut G,
+) -> Option<Vec<Reply>> {
+    let policy = desk.policy();
+    let mut asked = Vec::with_capacity(alloc, stamps.len()).ok()?;
+    for one in stamps {
+        asked.push_reserved(one.request.stamp(policy, one.reading)?);
+    }
+    desk.answer_each(&asked, signer).ok()
+}
+
+/// Writes to each its reply, and takes it back.
+fn write_each<L: Hearing>(hearing: &mut L, stamps: Vec<Handed<L::Stream>>, replies: &[Reply]) {
+    let mut rest = stamps.into_iter();
+    for reply in replies {
+        if let Some(one) = rest.next() {
+            let Handed {
+                request,
+                stream,
+                reading,
+            } = one;
+            let mut stream = stream;
+            let exchanged = request.write_stamped(reading, reply, &mut stream);
+            hearing.take_back(stream, exchanged);
+        }
+    }
+}
+
+/// Answers them together where they are several, and else by themselves.
+fn answer_together<L: Hearing, B: Book + Drop, G: Signer>(
+    hearing: &mut L,
+    stamps: Vec<Handed<L::Stream>>,
+    desk: &mut Desk<'_, B>,
+    signer: &mut G,
+) {
+    if stamps.len() > 1 {
+        if let Some(replies) = replies_to(&stamps, hearing.alloc(), desk, signer) {
+            write_each(hearing, stamps, &replies);
+            return;
+        }
+    }
+    answer_in_turn(hearing, stamps, desk, signer);
+}
+
+/// Answers those that were gathered, and then the one behind them. How many they were.
+pub(crate) fn answer_gathered<L: Hearing, B: Book + Drop, G: Signer>(
+    hearing: &mut L,
+    gathering: Gathering<L::Stream>,
+    desk: &mut Desk<'_, B>,
+    signer: &mut G,
+) {
+    let Gathering { stamps, last } = gathering;
+    answer_together(hearing, stamps, desk, signer);
+    if let Some(one) = last {
+        answer_one(hearing, one, desk, signer);
+    }
+}

@@ -1,0 +1,172 @@
+-- Octets that are a request for a stamp are nothing else.
+use Rattle.std.proofs.Common.{◌≡◌, ◌∙◌, ℕ, ℤ, List, [], ◌++◌, Option, Some, Result, Ok, Err, length, take}
+use Rattle.std.proofs.Common.{Bor, ap, append-nil, arith, refl, inl, inr, subst, sym}
+use Rattle.std.proofs.lemmas.List.{take_all}
+use Rattle.httparse.specs.Grammar.{RequestHead, print_request}
+use Rattle.httparse.proofs.GrammarLemmas.{request_unique}
+use Rattle.desk.specs.Batches.{Question, stamp_for}
+use Rattle.policy.specs.Record.{PolicyValue}
+use Rattle.service.specs.Checks.{◌>>=◌, WantedValue, active_account, watcher_shown, wanted_by}
+use Rattle.service.specs.Heads.{HeadValue, IsHead, BeginsWith, head_value}
+use Rattle.service.specs.Known.{IsAnswerable, IsDue, IsRefused, checked, malformed, out_of_memory, out_of_memory_for_body}
+use Rattle.service.specs.Received.{IsPartial, ReceivedValue, in_body, in_head}
+use Rattle.service.specs.Requests.{Asked, IsRequest, Step, account_and_number, account_and_range, account_and_reference}
+use Rattle.service.specs.Requests.{asked_by, calibration_asked, hold_asked}
+use Rattle.service.specs.Requests.{cut_body, cut_head, headless, refused_head, whole}
+use Rattle.service.specs.Stamps.{AsksStamp}
+use Rattle.service.specs.Views.{head_view}
+use Rattle.service.specs.declared.due.Due.{Due}
+use Rattle.service.specs.declared.due.Due.TheVariants as due
+use Rattle.service.specs.declared.head.Head.{Head}
+use Rattle.service.specs.declared.refusal.Refusal.{Refusal}
+use Rattle.service.specs.declared.routes.Action.{Action}
+use Rattle.service.specs.declared.routes.Action.TheVariants as action
+use Rattle.service.proofs.KnownLemmas.{no_octets}
+
+-- what comes behind a check isn't given where it never is
+bound : {A : Type 0} (m : Result A Refusal) (next : A → Result Asked Refusal) (asked : Asked)
+    → ((a : A) → next a ≡ Ok asked → ⊥) → (m >>= next) ≡ Ok asked → ⊥
+bound (Ok a) next asked never is = never a is
+bound (Err f) next asked never is = cc
+
+-- a request for something else asks for no stamp
+pub only_stamp : (file : PolicyValue) (reading : ℤ) (h : HeadValue) (body : List ℕ) (a : Action) (q : Question)
+    → asked_by file reading h body a ≡ Ok (Step (stamp_for q)) → (a ≡ action.Stamp → ⊥) → ⊥
+only_stamp file reading h body action.Stamp q is other = other refl
+only_stamp file reading h body action.Keep q is other =
+    bound (account_and_reference file h) _ (Step (stamp_for q)) (λ a same. cc) is
+only_stamp file reading h body action.List q is other =
+    bound (active_account file h) _ (Step (stamp_for q)) (λ a same. cc) is
+only_stamp file reading h body action.Show q is other =
+    bound (account_and_number file h) _ (Step (stamp_for q)) (λ a same. cc) is
+only_stamp file reading h body action.Token q is other =
+    bound (account_and_number file h) _ (Step (stamp_for q)) (λ a same. cc) is
+only_stamp file reading h body action.Grant q is other =
+    bound (account_and_number file h) _ (Step (stamp_for q)) (λ a same. cc) is
+only_stamp file reading h body action.Revoke q is other =
+    bound (account_and_number file h) _ (Step (stamp_for q)) (λ a same. cc) is
+only_stamp file reading h body action.GrantGroup q is other =
+    bound (account_and_number file h) _ (Step (stamp_for q)) (λ a same. cc) is
+only_stamp file reading h body action.RevokeGroup q is other =
+    bound (account_and_number file h) _ (Step (stamp_for q)) (λ a same. cc) is
+only_stamp file reading h body action.Extract q is other =
+    bound (account_and_range file h) _ (Step (stamp_for q)) (λ a same. cc) is
+only_stamp file reading h body action.Calibrate q is other =
+    bound (calibration_asked file h body) _ (Step (stamp_for q)) (λ a same. cc) is
+only_stamp file reading h body action.Hold q is other =
+    bound (hold_asked file h body) _ (Step (stamp_for q)) (λ a same. cc) is
+only_stamp file reading h body action.Status q is other =
+    bound (watcher_shown file h) _ (Step (stamp_for q)) (λ a same. cc) is
+
+-- octets are a head and its body, which ask for a stamp
+pub record IsStampRequest (file : PolicyValue) (reading : ℤ) (octets : List ℕ) (q : Question) : Type 0 where
+  pub read : RequestHead
+  pub is_head : IsHead (print_request read) read
+  pub wants : WantedValue
+  pub wanted : wanted_by (head_value read) ≡ Ok wants
+  pub body : List ℕ
+  pub count : length body ≡ wants.count
+  pub split : octets ≡ print_request read ++ body
+  pub same : Ok (Step (stamp_for q)) ≡ asked_by file reading (head_value read) body wants.action
+
+-- which they are if a reader of just these has it read
+stamp_request : (file : PolicyValue) (reading : ℤ) (octets : List ℕ) (q : Question)
+    → IsRequest file reading (Some octets) (Some []) (Ok (Step (stamp_for q))) → IsStampRequest file reading octets q
+stamp_request file reading octets q (headless front is read same) = cc
+stamp_request file reading octets q (cut_head front some begun read ended same) = cc
+stamp_request file reading octets q (refused_head h is read f refused same) = cc
+stamp_request file reading octets q (cut_body h is w wanted part short read ended same) = cc
+stamp_request file reading octets q (whole h is w wanted body count read same) = record {
+  read = h;
+  is_head = is;
+  wants = w;
+  wanted = wanted;
+  body = body;
+  count = count;
+  split = read ∙ append-nil (print_request h ++ body);
+  same = same;
+}
+
+-- what a head wants, where it isn't refused
+wants_or : WantedValue → Result WantedValue Refusal → WantedValue
+wants_or w (Ok wants) = wants
+wants_or w (Err f) = w
+
+module _ (file : PolicyValue) (reading : ℤ) (octets : List ℕ) (q : Question)
+    (is : IsStampRequest file reading octets q) where
+  starts : BeginsWith octets is.read is.body
+  starts = record {
+    reads = (is.is_head.reads.0, is.split);
+    octet_limit = is.is_head.octet_limit;
+    field_limit = is.is_head.field_limit;
+  }
+
+  some : octets ≡ [] → ⊥
+  some none = no_octets is.read is.body (is.is_head.reads.0, sym none ∙ is.split)
+
+  -- they are read in one way
+  same_request : (h : RequestHead) → IsHead (print_request h) h → (body : List ℕ) → octets ≡ print_request h ++ body
+      → (is.read ≡ h) × (is.body ≡ body)
+  same_request h head body split =
+      request_unique octets is.read h is.body body (is.is_head.reads.0, is.split) (head.reads.0, split)
+
+  same_wants : (h : RequestHead) → is.read ≡ h → (w : WantedValue) → wanted_by (head_value h) ≡ Ok w → is.wants ≡ w
+  same_wants h same w wanted =
+      ap (wants_or w) (sym is.wanted ∙ ap (λ r. wanted_by (head_value r)) same ∙ wanted)
+
+  not_refused : (f : Refusal) → IsRefused octets f → ⊥
+  not_refused f (malformed never same) =
+      let P : List ℕ → Type 0 = λ l. BeginsWith l is.read is.body in
+      never.never [] is.read is.body (subst P (sym (append-nil octets)) starts)
+  not_refused f (checked h head refused split) =
+      let same = (same_request h head [] (split ∙ sym (append-nil (print_request h)))).0 in
+      let both : Ok is.wants ≡ Err f = sym is.wanted ∙ ap (λ r. wanted_by (head_value r)) same ∙ refused in
+      cc
+  not_refused f (out_of_memory none same) = some none
+  not_refused f (out_of_memory_for_body h head w wanted more split same) =
+      let both = same_request h head [] (split ∙ sym (append-nil (print_request h))) in
+      omega (arith, more, is.count, ap length both.1, ap (λ v. v.count) (same_wants h both.0 w wanted))
+
+  not_partial : IsPartial octets → ⊥
+  not_partial (in_head begun) = begun.none is.read is.body starts
+  not_partial (in_body h head w wanted part short split) =
+      let both = same_request h head part split in
+      omega (arith, short, is.count, ap length both.1, ap (λ v. v.count) (same_wants h both.0 w wanted))
+
+  -- what is answered is that stamp
+  answers_stamp : (a : Action) (head : Head) (body : List ℕ) → IsAnswerable octets a head body
+      → asked_by file reading (head_view head) body a ≡ Ok (Step (stamp_for q))
+  answers_stamp a head body answerable =
+      let both = same_request answerable.read answerable.is_head body answerable.split in
+      let wants = same_wants answerable.read both.0 answerable.asked answerable.wanted in
+      ap (asked_by file reading (head_view head) body) (answerable.action_is ∙ ap (λ w. w.action) (sym wants))
+      ∙ ap (λ v. asked_by file reading v body is.wants.action) (answerable.same ∙ ap head_value (sym both.0))
+      ∙ ap (λ l. asked_by file reading (head_value is.read) l is.wants.action) (sym both.1) ∙ sym is.same
+
+-- where a stamp is asked for, a whole request is due to an answer, and asks for that stamp
+pub stamp_due : (file : PolicyValue) (reading : ℤ) (r : ReceivedValue) (d : Due) → IsDue r d → (q : Question)
+    → AsksStamp file reading r q
+    → ((a : Action) (head : Head) (body : Bor (List ℕ)) → d ≡ due.Answer a head body
+    → asked_by file reading (head_view head) body.now a ≡ Ok (Step (stamp_for q)) → ⊥)
+    → ⊥
+stamp_due file reading r due.Nothing is q asks other =
+    let octets = take r.taken r.octets in
+    some file reading octets q (stamp_request file reading octets q (asks (Some octets) (Some []) (sym (append-nil octets))))
+    (ap (λ n. take n r.octets) is.2)
+stamp_due file reading r (due.Refusal f) (inl refused) q asks other =
+    let octets = take r.taken r.octets in
+    not_refused file reading octets q
+    (stamp_request file reading octets q (asks (Some octets) (Some []) (sym (append-nil octets)))) f refused
+stamp_due file reading r (due.Refusal f) (inr (cut, same)) q asks other =
+    let octets = take r.taken r.octets in
+    let all : octets ≡ r.octets =
+    ap (λ n. take n r.octets) cut.all ∙ take_all (length r.octets) r.octets (omega arith) in
+    let P : List ℕ → Type 0 = λ l. IsPartial l in
+    not_partial file reading octets q
+    (stamp_request file reading octets q (asks (Some octets) (Some []) (sym (append-nil octets))))
+    (subst P (sym all) cut.partial)
+stamp_due file reading r (due.Answer a head body) answerable q asks other =
+    let octets = take r.taken r.octets in
+    other a head body refl (answers_stamp file reading octets q
+    (stamp_request file reading octets q (asks (Some octets) (Some []) (sym (append-nil octets)))) a head body.now
+    answerable)
