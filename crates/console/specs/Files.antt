@@ -1,5 +1,5 @@
 -- Files that are read, as what opens them tells: which octets, in which order, and which fault.
-use Rattle.std.specs.Prelude.{◌≡◌, ◌≢◌, ◌⊎◌, ℕ, ◌+◌, ◌*◌, ◌<◌, ◌≤◌, List, [], length, take, Option, Some, None, IfSome}
+use Rattle.std.specs.Prelude.{◌≡◌, ◌≢◌, ◌⊎◌, ℕ, ◌+◌, ◌*◌, ◌≤◌, List, [], length, take, Option, Some, None, IfSome}
 use Rattle.std.specs.Prelude.{Result, Ok, Err, String, Vec, string_bytes}
 use Rattle.std.specs.declared.io.ErrorKind.{ErrorKind}
 use Rattle.std.specs.declared.io.ErrorKind.TheVariants.{OutOfMemory}
@@ -65,7 +65,7 @@ IsAlgorithmOf octets (Err fault) = (refusal : CmsFault) × ((fault ≡ Cms refus
 -- a signing key of these octets, or why they are none
 abbrev pub IsKeyOf : List ℕ → Result (List ℕ) Fault → Type 0
 IsKeyOf octets (Ok key) = (key ≡ octets) × (1 ≤ length key) × (length key ≤ 256)
-IsKeyOf octets (Err fault) = ((fault ≡ Input File) × ((octets ≡ []) ⊎ (256 < length octets)))
+IsKeyOf octets (Err fault) = ((fault ≡ Input File) × (1 ≤ length octets → length octets ≤ 256 → ⊥))
     ⊎ (fault ≡ Cms cms.Memory)
 
 -- the policy that a text means, or its first fault

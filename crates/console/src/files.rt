@@ -9,6 +9,7 @@ ghost use Rattle.console.specs.Identity.{IsIdentity};
 use crate::fault::{Fault, InputFault};
 use crate::source::FileSource;
 use cms::{Algorithm, Identity, KeyedHash};
+use std::alloc::Global;
 use std::io::Read;
 
 /// One octet more than a certificate may have.
@@ -73,11 +74,21 @@ pub fn read_signer<F: FileSource + AllocGlobal>(rt: &F, path: &str) -> Result<Ke
     ensures few { IfOk result (λ signer. length signer ≤ 256) }
     ensures faults { IfErr result IsFileFault }
 {
-    let key = read_beginning(rt, path, MOST_OF_A_KEY as u64 + 1)?;
-    if key.is_empty() || key.len() > MOST_OF_A_KEY {
+    let octets = read_beginning(rt, path, MOST_OF_A_KEY as u64 + 1)?;
+    key_of(rt.alloc(), octets.as_slice())
+}
+
+/// The stand-in signer with that key. One that hasn't 1 to 256 octets is `File`.
+fn key_of(alloc: Global, octets: &[u8]) -> Result<KeyedHash, Fault>
+    ensures is { IsKeyOf octets.now result }
+    ensures some { IfOk result (λ signer. 1 ≤ length signer) }
+    ensures few { IfOk result (λ signer. length signer ≤ 256) }
+    ensures faults { IfErr result IsFileFault }
+{
+    if octets.is_empty() || octets.len() > MOST_OF_A_KEY {
         return Err(Fault::Input(InputFault::File));
     }
-    Ok(KeyedHash::new(rt.alloc(), key.as_slice())?)
+    Ok(KeyedHash::new(alloc, octets)?)
 }
 
 /// Reads an algorithm. A file that can't be read is `input` 2, and one that is no AlgorithmIdentifier, or one of more
