@@ -13,7 +13,7 @@ use command_line::AnswerWords;
 use connections::{Clock, SystemClock};
 use console::{Fault, FileSource, account_of, read_hexadecimal};
 use desk::{Reply, Settings};
-use operations::{Databases, HostSigner, Question};
+use operations::{DatabaseDesk, Databases, HostSigner, HostSigners, Question, Renewal};
 use std::io::Read;
 use std::rt::HostRuntime;
 
@@ -39,12 +39,20 @@ pub fn answer<D: Databases, S: FileSource + AllocGlobal, I: Read>(
     } = read_files(host.files, &words.desk)?;
     let account = account_of(&policy, words.key)?;
     let query = read_hexadecimal(rt.alloc(), input)?;
-    let settings = Settings {
-        policy: &policy,
-        identity: &identity,
-        algorithm: &algorithm,
+    let signers = HostSigners {
+        rt,
+        signing,
+        renewal: Renewal::Never,
     };
-    let desk = host.desk(&words.desk, settings, signing);
+    let desk = DatabaseDesk {
+        database: host.database(words.desk.db),
+        settings: Settings {
+            policy: &policy,
+            identity: &identity,
+            algorithm: &algorithm,
+        },
+        signers,
+    };
     let question = Question {
         account,
         reading: words.reading as i64,

@@ -16,7 +16,7 @@ use command_line::ExchangeWords;
 use connections::{Clock, SystemClock};
 use console::{Fault, FileSource, InputFault};
 use desk::Settings;
-use operations::{Databases, HostSigner, perform_at_desk};
+use operations::{DatabaseDesk, Databases, HostSigner, HostSigners, Renewal, perform_at_desk};
 use service::{Served, Surroundings};
 use std::io::{Read, Write};
 use std::rt::HostRuntime;
@@ -54,12 +54,20 @@ pub fn exchange<D: Databases, S: FileSource + AllocGlobal, I: Read, O: Write>(
         signing,
         algorithm,
     } = read_files(host.files, &words.desk)?;
-    let settings = Settings {
-        policy: &policy,
-        identity: &identity,
-        algorithm: &algorithm,
+    let signers = HostSigners {
+        rt,
+        signing,
+        renewal: Renewal::Never,
     };
-    let desk = host.desk(&words.desk, settings, signing);
+    let desk = DatabaseDesk {
+        database: host.database(words.desk.db),
+        settings: Settings {
+            policy: &policy,
+            identity: &identity,
+            algorithm: &algorithm,
+        },
+        signers,
+    };
     let surroundings = Surroundings {
         alloc: rt.alloc(),
         reading: words.reading as i64,

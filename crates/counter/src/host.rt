@@ -1,9 +1,7 @@
 //! The machine that the program runs on.
 ghost use Rattle.std.specs.Prelude.{◌≡◌};
 
-use command_line::DeskWords;
-use desk::Settings;
-use operations::{Database, DatabaseDesk, HostSigners, Renewal, Signing};
+use operations::Database;
 
 /// The machine that the program runs on.
 #[derive(Drop)]
@@ -18,7 +16,7 @@ pub struct Host<'a, D, S> {
     pub files: &'a S,
 }
 
-impl<'a, D, S> Host<'a, D, S> {
+impl<D, S> Host<'_, D, S> {
     /// The database at a path of it.
     pub fn database<'p>(self, path: &'p str) -> Database<'p, D>
         ensures path { result.path.now ≡ path.now }
@@ -28,48 +26,5 @@ impl<'a, D, S> Host<'a, D, S> {
             path,
             databases: self.databases,
         }
-    }
-
-    /// The desk over the database that the words name, for one request.
-    pub fn desk(
-        self,
-        words: &DeskWords<'a>,
-        settings: Settings<'a>,
-        signing: Signing<'a>,
-    ) -> DatabaseDesk<'a, D, HostSigners<'a>>
-        ensures path { result.database.path.now ≡ words.now.db.now }
-        ensures databases { result.database.databases ≡ self.entry.databases }
-        ensures settings { result.settings ≡ settings }
-        ensures signing { result.signers.signing ≡ signing }
-        ensures renewal { result.signers.renewal ≡ Renewal.Never }
-    {
-        let signers = HostSigners {
-            rt: self.rt,
-            signing,
-            renewal: Renewal::Never,
-        };
-        DatabaseDesk {
-            database: self.database(words.db),
-            settings,
-            signers,
-        }
-    }
-
-    /// The same for many requests: where a session with the key holder is lost, another is opened for the next signature.
-    pub fn lasting_desk(
-        self,
-        words: &DeskWords<'a>,
-        settings: Settings<'a>,
-        signing: Signing<'a>,
-    ) -> DatabaseDesk<'a, D, HostSigners<'a>>
-        ensures path { result.database.path.now ≡ words.now.db.now }
-        ensures databases { result.database.databases ≡ self.entry.databases }
-        ensures settings { result.settings ≡ settings }
-        ensures signing { result.signers.signing ≡ signing }
-        ensures renewal { result.signers.renewal ≡ Renewal.AfterLoss }
-    {
-        let mut desk = self.desk(words, settings, signing);
-        desk.signers.renewal = Renewal::AfterLoss;
-        desk
     }
 }

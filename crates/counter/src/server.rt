@@ -19,7 +19,8 @@ use connections::{CONNECTION_SECONDS, Clock, Listening, SystemClock, serve_conne
 use console::{Fault, FileSource, InputFault};
 use desk::Settings;
 use operations::{
-    Databases, DeskOperation, HostSigner, OperationFault, SignedDesk, perform_at_desk,
+    DatabaseDesk, Databases, DeskOperation, HostSigner, HostSigners, OperationFault, Renewal,
+    SignedDesk, perform_at_desk,
 };
 use sockets::Listener;
 use std::time::{Duration, Instant};
@@ -123,12 +124,20 @@ pub fn serve<D: Databases, S: FileSource + AllocGlobal>(
         signing,
         algorithm,
     } = read_files(host.files, &words.desk)?;
-    let settings = Settings {
-        policy: &policy,
-        identity: &identity,
-        algorithm: &algorithm,
+    let signers = HostSigners {
+        rt,
+        signing,
+        renewal: Renewal::AfterLoss,
     };
-    let desk = host.lasting_desk(&words.desk, settings, signing);
+    let desk = DatabaseDesk {
+        database: host.database(words.desk.db),
+        settings: Settings {
+            policy: &policy,
+            identity: &identity,
+            algorithm: &algorithm,
+        },
+        signers,
+    };
     let octets = octets_at(rt, words.desk.db);
     let serving = Serving {
         rt,

@@ -35,14 +35,11 @@ returns g c =
     let judged = rw (
       c.in_ok-account.ensures.found,
       c.as_slice.ensures.value,
-      c.desk.ensures.settings,
     ) at c.answer.ensures.judged
     in
     let stepped = rw (
-      c.desk.ensures.path,
-      c.desk.ensures.databases,
-      c.desk.ensures.settings,
-      c.desk.ensures.signing,
+      c.database.ensures.path,
+      c.database.ensures.databases,
       c.in_ok-account.ensures.found,
       c.as_slice.ensures.value,
       to_z_pos w64 c.args.words.now.reading small,

@@ -10,13 +10,11 @@ returns-in-Ok-clause-answered g c =
     let small : c.args.words.now.reading < 2 ^ 63 = search rules in
     let files = c.in_ok-policy.field-0 in
     let read = c.in_ok-policy.ensures.meant in
-    let answered = rw (c.desk.ensures.settings, to_z_pos w64 c.args.words.now.reading small) at c.in-Ok.ensures.answered
+    let answered = rw (to_z_pos w64 c.args.words.now.reading small) at c.in-Ok.ensures.answered
     in
     let served = rw (
-      c.desk.ensures.path,
-      c.desk.ensures.databases,
-      c.desk.ensures.settings,
-      c.desk.ensures.signing,
+      c.database.ensures.path,
+      c.database.ensures.databases,
       to_z_pos w64 c.args.words.now.reading small,
       c.in_ok-policy.ensures.algorithm,
     ) at c.in-Ok.ensures.moved
@@ -47,13 +45,11 @@ returns-in-Ok-clause-kept g c =
     let small : c.args.words.now.reading < 2 ^ 63 = search rules in
     let files = c.in_ok-policy.field-0 in
     let read = c.in_ok-policy.ensures.meant in
-    let answered = rw (c.desk.ensures.settings, to_z_pos w64 c.args.words.now.reading small) at c.in-Ok.ensures.answered
+    let answered = rw (to_z_pos w64 c.args.words.now.reading small) at c.in-Ok.ensures.answered
     in
     let served = rw (
-      c.desk.ensures.path,
-      c.desk.ensures.databases,
-      c.desk.ensures.settings,
-      c.desk.ensures.signing,
+      c.database.ensures.path,
+      c.database.ensures.databases,
       to_z_pos w64 c.args.words.now.reading small,
       c.in_ok-policy.ensures.algorithm,
     ) at c.in-Ok.ensures.moved

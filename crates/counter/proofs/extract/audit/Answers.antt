@@ -2,7 +2,7 @@ use Rattle.std.proofs.Common.{refl}
 use Rattle.std.proofs.lemmas.Result.{IfErr-weaker, IfOk-weaker}
 use Rattle.policy.specs.View.{account_view, policy_view}
 use Rattle.counter.specs.Fault.{fault_of_audit}
-use Rattle.counter.proofs.Extract.{leaves}
+use Rattle.counter.proofs.Extracts.{leaves}
 use Rattle.counter.proofs.Operations.{as_answered, both, told, told_refusal}
 use Rattle.counter.proofs.extract.audit.Goals as goal
 

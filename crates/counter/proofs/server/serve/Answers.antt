@@ -23,10 +23,8 @@ returns-in-Ok-clause-served g c =
       signing = files.signing;
       signs = c.in_ok-policy.ensures.signs;
       served = rw (
-        c.lasting_desk.ensures.path,
-        c.lasting_desk.ensures.databases,
-        c.lasting_desk.ensures.settings,
-        c.lasting_desk.ensures.signing,
+        c.database.ensures.path,
+        c.database.ensures.databases,
         done,
         c.in_ok-policy.ensures.algorithm,
       ) at c.in-Ok.ensures.moved;
@@ -50,10 +48,8 @@ returns-in-Ok-clause-stopped g c =
       signing = files.signing;
       signs = c.in_ok-policy.ensures.signs;
       served = rw (
-        c.lasting_desk.ensures.path,
-        c.lasting_desk.ensures.databases,
-        c.lasting_desk.ensures.settings,
-        c.lasting_desk.ensures.signing,
+        c.database.ensures.path,
+        c.database.ensures.databases,
         stopped,
         c.in_ok-policy.ensures.algorithm,
       ) at c.in-Ok.ensures.moved;
