@@ -11,6 +11,12 @@ pub returns-in-Ok-clause-served : goal.returns-in-Ok-clause-served
 returns-in-Ok-clause-served g c =
     let files = c.in_ok-policy.field-0 in
     let read = c.in_ok-policy.ensures.meant in
+    let moved = rw (
+      c.database.ensures.path,
+      c.database.ensures.databases,
+      c.in_ok-policy.ensures.algorithm,
+    ) at c.in-Ok.ensures.moved
+    in
     on_ok_weaker c.answer_of.result
     (λ done. record {
       rules = read.0;
@@ -22,12 +28,7 @@ returns-in-Ok-clause-served g c =
       alone = c.in_ok-policy.ensures.alone;
       signing = files.signing;
       signs = c.in_ok-policy.ensures.signs;
-      served = rw (
-        c.database.ensures.path,
-        c.database.ensures.databases,
-        done,
-        c.in_ok-policy.ensures.algorithm,
-      ) at c.in-Ok.ensures.moved;
+      served = rw done at moved;
     })
     (told_done c.in-Ok.done c.answer_of.result c.answer_of.ensures)
 
