@@ -107,11 +107,11 @@ fn take_words<I, O: Write, E: Write>(
     words: Result<Vec<String>, ErrorKind>,
     process: &mut Process<I, O, E>,
 ) -> Result<Vec<String>, u8>
-    ensures taken { IfOk words.entry (λ given. (result ≡ Ok given)
+    ensures taken { IfOk words (λ given. (result ≡ Ok given)
         × (E.contents process.new.errors ≡ E.contents process.old.errors)) }
-    ensures memory { words.entry ≡ Err ErrorKind.OutOfMemory → (result ≡ Err 1)
+    ensures memory { words ≡ Err ErrorKind.OutOfMemory → (result ≡ Err 1)
         × Begins (E.contents process.old.errors) (E.contents process.new.errors) (fault_line (Fault.Input InputFault.Memory)) }
-    ensures refused { IfErr words.entry (λ kind. kind ≢ ErrorKind.OutOfMemory → (result ≡ Err 2)
+    ensures refused { IfErr words (λ kind. kind ≢ ErrorKind.OutOfMemory → (result ≡ Err 2)
         × Begins (E.contents process.old.errors) (E.contents process.new.errors) no_text) }
     ensures most { IfErr result (λ status. status ≤ 2) }
     ensures unread { process.new.input ≡ process.old.input }

@@ -42,8 +42,13 @@ returns-in_ok-serve-in-Serve-clause-done g c = λ _.
       appends_nothing (g.O.Write.contents c.args.output.now),
     )
 
+pub returns-then-branch-clause-done : goal.returns-then-branch-clause-done
+returns-then-branch-clause-done g c = λ _.
+    rw c.in-Audit.is (refl, rw c.if-branch.true at c.in_ok-audit-in-Audit.ensures.extracted)
+
 pub returns-else-branch-clause-failing : goal.returns-else-branch-clause-failing
 returns-else-branch-clause-failing g c =
     λ _.
     let failed = c.in_ok-audit-in-Audit.ensures.failed c.if-branch.false in
-    (c.in-Audit.words, c.in-Audit.is, failed.0, c.in_ok-audit-in-Audit.ensures.extracted, failed.1)
+    let extracted = rw c.if-branch.false at c.in_ok-audit-in-Audit.ensures.extracted in
+    (c.in-Audit.words, c.in-Audit.is, failed.0, extracted, failed.1)

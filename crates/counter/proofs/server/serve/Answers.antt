@@ -1,4 +1,4 @@
-use Rattle.std.proofs.Common.{◌∙◌, Err, ap, inr, sym}
+use Rattle.std.proofs.Common.{◌∙◌, Err, ap, inl, inr, sym}
 use Rattle.std.proofs.lemmas.Result.{IfErr-weaker, err_from_is_err_and, on_ok_weaker}
 use Rattle.policy.specs.View.{policy_view}
 use Rattle.counter.specs.Fault.{fault_of_operation}
@@ -75,3 +75,8 @@ returns-in_err-policy-clause-stopped g c =
     λ is.
     absurd (file_not_failed {A = Unit {0}} c.in_err-policy.field-0.0 c.in_err-policy.ensures.faults
     (cc (failing.1, failing.2, is)))
+
+pub returns-in_err-policy-clause-faults : goal.returns-in_err-policy-clause-faults
+returns-in_err-policy-clause-faults g c =
+    let failing = err_from_is_err_and c.from_residual.result c.from_residual.ensures.1 in
+    rw (failing.1, failing.2) (inl c.in_err-policy.ensures.faults)
