@@ -1,6 +1,7 @@
 //! The book: a list of entries is added in one commit, each look-up answers a view of the history.
 ghost use Rattle.std.specs.Prelude.{◌≡◌, ◌↔◌, [], ◌∷◌, ◌+◌, ◌<◌, ◌≤◌, ◌^◌, true, false, map, length, None, option_map};
 ghost use Rattle.std.specs.Prelude.{Ok, Err, IfOk, IfErr, IfSome, IsErr, OnOk, IsTrue};
+ghost use Rattle.std.specs.Io.KnownBytes.{Keeps};
 ghost use Rattle.book.specs.Entries.{entries_view, Appends};
 ghost use Rattle.book.specs.History.{History, Reserved, Sealed, Deposited, Calibrated, Held, Granted, Revoked};
 ghost use Rattle.book.specs.History.{Installed, count_of_day, calibrations, holds, latest_calibration, is_held};
@@ -23,6 +24,7 @@ use crate::limits::GREATEST_NUMBER;
 use crate::rows::{Deposit, IdentityRow, Stamp};
 use crate::standing::Standing;
 use crate::values::{Calibration, Hold, Last, Listed, Reservation, StampedDeposit};
+use std::io::Write;
 
 /// The history of what the counter accepted, to which `append` alone adds.
 ///
@@ -102,12 +104,21 @@ pub trait Book: Standing {
 
     /// The deposits that an account sees, as their owner, or as a reader, by its own name or in one of the groups that
     /// are named; by number, each once. No deposit's bytes are read.
-    fn list(&mut self, account: &str, groups: &[&str]) -> Result<Vec<Listed>, StoreFault>
+    ///
+    /// Before a row is looked up, the output may be flushed, and nothing is written to it. Where that fails, as where
+    /// the output's time is up, the list is given up, and refused with `Memory`.
+    fn list<W: Write>(
+        &mut self,
+        account: &str,
+        groups: &[&str],
+        output: &mut W,
+    ) -> Result<Vec<Listed>, StoreFault>
         ensures looks { OnlyLooks Self.Standing self.old self.new }
         ensures opened { Self.honest self.new → OnOk result (Self.is_open self.old) }
         ensures value { Self.honest self.new → (b : History) → Stands Self.Standing b self.old
             → IfOk result (λ rows. map listed_view rows.items
             ≡ listed (viewer_of account.now (map (λ name. name.now) groups.now)) b) }
+        ensures unwritten { Keeps (W.contents output.old) (W.contents output.new) }
         ensures refusals { IfErr result IsOfStorage }
         ensures faults { CountsFaults result (Self.fault_count self.old) (Self.fault_count self.new) };
 

@@ -17,6 +17,7 @@ use book::{
     StampedDeposit, Standing, StoreFault,
 };
 use std::alloc::Global;
+use std::io::Write;
 
 /// A history in memory. It refuses a call with `Database` where the call is chosen, and with `Memory` where a growth is
 /// refused; a call so refused changes nothing else. A look-up of a number above 2^63 - 1 is no such call.
@@ -111,8 +112,16 @@ impl Book for MemoryBook {
         by_reference(self.alloc, self.entries.as_slice(), owner, reference)
     }
 
-    fn list(&mut self, account: &str, groups: &[&str]) -> Result<Vec<Listed>, StoreFault> {
+    fn list<W: Write>(
+        &mut self,
+        account: &str,
+        groups: &[&str],
+        output: &mut W,
+    ) -> Result<Vec<Listed>, StoreFault> {
         self.calls.begin()?;
+        if output.flush().is_err() {
+            return Err(StoreFault::Memory);
+        }
         listed(self.alloc, self.entries.as_slice(), account, groups)
     }
 

@@ -15,6 +15,7 @@ use book::{
 };
 use sqlite::{Alter, Connection};
 use std::alloc::Global;
+use std::io::Write;
 use std::marker::Model;
 use tables::{Base, ColumnNumber, LastStamp, LatestCalibration};
 
@@ -113,13 +114,21 @@ impl<S: Alter + Drop> Book for Store<S> {
         Ok(found)
     }
 
-    fn list(&mut self, account: &str, groups: &[&str]) -> Result<Vec<Listed>, StoreFault> {
+    fn list<W: Write>(
+        &mut self,
+        account: &str,
+        groups: &[&str],
+        output: &mut W,
+    ) -> Result<Vec<Listed>, StoreFault> {
         let mut rows = Vec::new(self.alloc);
         let mut cursors = Cursors::new(self.alloc, groups.len())?;
         let mut known = Vec::new(self.alloc);
         self.look_up(account, &mut known)?;
         let mut last = 0;
         while let Some(number) = self.next_seen(account, groups, last, &mut cursors, &mut known)? {
+            if output.flush().is_err() {
+                return Err(StoreFault::Memory);
+            }
             let row = self.listing(number, &mut known)?;
             add_listed(&mut rows, row)?;
             last = number;

@@ -9,7 +9,7 @@ use Rattle.memory_book.proofs.SameViews.{same_listed}
 use Rattle.memory_book.proofs.memory_book.MemoryBookBook.list.Goals as goal
 
 pub returns-clause-value : goal.returns-clause-value
-returns-clause-value c honest b s =
+returns-clause-value g c honest b s =
     let viewer = viewer_of c.args.account.now (map (λ name. name.now) c.args.groups.now) in
     if_ok _ _ _ c.listed.result c.listed.ensures
     (λ rows is. is
