@@ -16,7 +16,7 @@ use crate::auditor::allow;
 use crate::fault::ExtractFault;
 use crate::line::{header, line_of};
 use crate::output::Output;
-use crate::writes::write_line;
+use crate::writes::{Meter, write_line};
 use book::{Book, StampsBetween};
 use policy::{Account, Policy};
 use std::alloc::Global;
@@ -119,9 +119,12 @@ pub fn write_extract<B: Book + Drop, W: Output>(
             outcome: Err(fault),
         };
     }
-    let mut octets = 0;
-    let outcome = write_stamps(alloc, store, inquiry, limit, out, &mut octets);
-    Extracted { octets, outcome }
+    let mut meter = Meter { octets: 0, limit };
+    let outcome = write_stamps(alloc, store, inquiry, out, &mut meter);
+    Extracted {
+        octets: meter.octets,
+        outcome,
+    }
 }
 
 /// How many octets the extract has: what `write_extract` writes of the same range as long as nobody adds to the store.
@@ -157,29 +160,28 @@ fn write_stamps<B: Book + Drop, W: Output>(
     alloc: Global,
     store: &mut B,
     inquiry: &Inquiry<'_>,
-    limit: u64,
     out: &mut W,
-    octets: &mut u64,
+    meter: &mut Meter,
 ) -> Result<(), ExtractFault>
-    requires { octets.old ≡ 0 }
+    requires { meter.old.octets ≡ 0 }
     ensures looks { OnlyLooks B.Standing store.old store.new }
     ensures written { Writes B.Standing store.old store.new (W.contents out.old) (W.contents out.new)
-        inquiry.now.from inquiry.now.to octets.new result }
-    ensures within { octets.new ≤ limit }
+        inquiry.now.from inquiry.now.to meter.new.octets result }
+    ensures within { meter.new.octets ≤ meter.old.limit }
     ensures refusals { IfErr result IsMet }
     ensures faults { MatchResult result (λ _. B.fault_count store.new ≡ B.fault_count store.old)
         (λ e. B.fault_count store.new ≡ count_after e (B.fault_count store.old)) }
     ensures stopped { B.honest store.new → (b : History) → Stands B.Standing b store.old
         → result ≡ Err ExtractFault.Write
-        → StopsFor limit (length (extract_text inquiry.now.from inquiry.now.to b)) (W.failures out.old)
+        → StopsFor meter.old.limit (length (extract_text inquiry.now.from inquiry.now.to b)) (W.failures out.old)
         (W.failures out.new) }
     ensures kept { MatchResult result (λ _. W.failures out.new ≡ W.failures out.old)
         (λ e. e ≢ ExtractFault.Write → W.failures out.new ≡ W.failures out.old) }
 {
-    write_line(out, header(), limit, octets)?;
+    write_line(out, header(), meter)?;
     let mut walk = StampsBetween::of(store, inquiry.from, inquiry.to);
     while let Some(line) = next_line(alloc, &mut walk)? {
-        write_line(out, &line, limit, octets)?;
+        write_line(out, &line, meter)?;
     }
     Ok(())
 }

@@ -28,27 +28,35 @@ pub fn write_octets<W: Output>(out: &mut W, octets: &[u8]) -> usize
     taken
 }
 
+/// How many octets of an extract are written, and how many may be in all.
+#[derive(Drop)]
+pub(crate) struct Meter {
+    pub(crate) octets: u64,
+    pub(crate) limit: u64,
+}
+
 /// Writes a line, and counts its octets that were written. Refused with `Write` where a write fails or takes none, and
 /// where there would be more octets than the limit in all; none of the line is written then.
 pub(crate) fn write_line<W: Output>(
     out: &mut W,
     line: &[u8],
-    limit: u64,
-    octets: &mut u64,
+    meter: &mut Meter,
 ) -> Result<(), ExtractFault>
     requires some { 0 < length line.now }
-    requires within { octets.old ≤ limit }
-    ensures written { WritesLine (W.contents out.old) (W.contents out.new) line.now octets.old octets.new result }
-    ensures within { octets.new ≤ limit }
-    ensures stopped { IfErr result (λ _. StopsFor limit (octets.old + length line.now) (W.failures out.old)
-        (W.failures out.new)) }
+    requires within { meter.old.octets ≤ meter.old.limit }
+    ensures written { WritesLine (W.contents out.old) (W.contents out.new) line.now meter.old.octets meter.new.octets
+        result }
+    ensures within { meter.new.octets ≤ meter.old.limit }
+    ensures limit { meter.new.limit ≡ meter.old.limit }
+    ensures stopped { IfErr result (λ _. StopsFor meter.old.limit (meter.old.octets + length line.now)
+        (W.failures out.old) (W.failures out.new)) }
     ensures kept { OnOk result (W.failures out.new ≡ W.failures out.old) }
 {
-    if line.len() as u64 > limit - *octets {
+    if line.len() as u64 > meter.limit - meter.octets {
         return Err(ExtractFault::Write);
     }
     let taken = write_octets(out, line);
-    *octets += taken as u64;
+    meter.octets += taken as u64;
     if taken < line.len() {
         return Err(ExtractFault::Write);
     }

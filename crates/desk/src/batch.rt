@@ -10,7 +10,7 @@ ghost use Rattle.desk.specs.RunContract.{AreSteps};
 ghost use Rattle.desk.specs.Together.{questions_view, merged, reply_for, AreRejectedUnasked, IsAnsweredTogether};
 
 use crate::batch_start::begin_each;
-use crate::completion::complete_each;
+use crate::completion::{WaitingBatch, complete_each};
 use crate::desk::Desk;
 use crate::fault::Fault;
 use crate::reply::Reply;
@@ -34,23 +34,31 @@ pub struct Asked<'a> {
     pub query: &'a [u8],
 }
 
+/// Stamps that are asked for together, and by what they are answered.
+#[derive(Clone, Copy)]
+pub(crate) struct AskedBatch<'b, 'p, 'a> {
+    pub(crate) settings: Settings<'p>,
+    pub(crate) asked: &'b [Asked<'a>],
+}
+
 /// Answers each stamp by itself, one after the other. The caller has taken the room for the replies.
 fn answer_in_turn<B: Book + Drop, G: Signer>(
     store: &mut B,
     alloc: Global,
-    settings: Settings<'_>,
-    asked: &[Asked<'_>],
+    batch: AskedBatch<'_, '_, '_>,
     signer: &mut G,
     replies: &mut Vec<Reply>,
 )
     requires empty { replies.old.items ≡ [] }
-    requires room { length asked.now ≤ vec_capacity replies.old }
-    ensures steps { (os : List Outcome) × AreSteps B.Standing G.signs G.fault_count (settings_view settings.entry)
-        (stamps_for (questions_view asked.now)) os (map reply_as replies.new.items) store.old signer.old
-        (settings_view settings.entry) store.new signer.new }
-    ensures unasked { AreRejectedUnasked (policy_view settings.entry.policy.now) (questions_view asked.now)
-        (map reply_as replies.new.items) }
+    requires room { length batch.asked.now ≤ vec_capacity replies.old }
+    ensures steps { (os : List Outcome) × AreSteps B.Standing G.signs G.fault_count
+        (settings_view batch.entry.settings) (stamps_for (questions_view batch.entry.asked.now)) os
+        (map reply_as replies.new.items) store.old signer.old (settings_view batch.entry.settings) store.new
+        signer.new }
+    ensures unasked { AreRejectedUnasked (policy_view batch.entry.settings.policy.now)
+        (questions_view batch.entry.asked.now) (map reply_as replies.new.items) }
 {
+    let AskedBatch { settings, asked } = batch;
     for question in asked {
         replies.push_reserved(answer_with(store, alloc, settings, *question, signer));
     }
@@ -118,13 +126,18 @@ fn answer_together<B: Book + Drop, G: Signer>(
     let mut waits = room_for(alloc, asked.len())?;
     let mut completed = room_for(alloc, asked.len())?;
     let mut replies = room_for(alloc, asked.len())?;
-    match begin_each(store, alloc, settings, asked, &mut verdicts, &mut waits) {
+    let batch = AskedBatch { settings, asked };
+    match begin_each(store, alloc, batch, &mut verdicts, &mut waits) {
         Ok(()) => {
-            complete_each(store, alloc, settings, &waits, signer, &mut completed);
+            let waiting = WaitingBatch {
+                settings,
+                waits: &waits,
+            };
+            complete_each(store, alloc, waiting, signer, &mut completed);
             merge(&verdicts, completed, &mut replies);
             store.tell_the_same();
         }
-        Err(_) => answer_in_turn(store, alloc, settings, asked, signer, &mut replies),
+        Err(_) => answer_in_turn(store, alloc, batch, signer, &mut replies),
     }
     Ok(replies)
 }

@@ -17,7 +17,7 @@ ghost use Rattle.desk.specs.Together.{question_view, questions_view, IsJudgedAs,
 ghost use Rattle.desk.specs.Together.{AreSplit, IsFailing, AreJudgedUnasked, IsReservedInDoubt};
 ghost use Rattle.desk.specs.WaitingStamps.{waiting_view, with_waiting, HasText};
 
-use crate::batch::Asked;
+use crate::batch::{Asked, AskedBatch};
 use crate::findings::{Judgement, find_among};
 use crate::refusal::StampRefusal;
 use crate::reservation::prepare;
@@ -78,24 +78,26 @@ fn judge_one<'p, 'a, B: Book + Drop>(
 fn judge_each<'p, 'a, B: Book + Drop>(
     store: &mut B,
     alloc: Global,
-    settings: Settings<'p>,
-    asked: &[Asked<'a>],
+    batch: AskedBatch<'_, 'p, 'a>,
     verdicts: &mut Vec<Option<Rule>>,
     waits: &mut Vec<Waiting<'p, 'a>>,
 ) -> Result<(), StampRefusal>
     requires none_judged { verdicts.old.items ≡ [] }
     requires none_waits { waits.old.items ≡ [] }
-    requires verdicts_room { length asked.now ≤ vec_capacity verdicts.old }
-    requires waits_room { length asked.now ≤ vec_capacity waits.old }
+    requires verdicts_room { length batch.asked.now ≤ vec_capacity verdicts.old }
+    requires waits_room { length batch.asked.now ≤ vec_capacity waits.old }
     ensures looks { OnlyLooks B.Standing store.old store.new }
     ensures counted { B.fault_count store.new ≡ faults_after (outcome_of result) (B.fault_count store.old) }
     ensures judges { IfOk result (λ _. B.honest store.new → (b : History) → Stands B.Standing b store.old
-        → AreJudged (settings_view settings.entry) (questions_view asked.now) verdicts.new.items waits.new.items b) }
-    ensures split { IfOk result (λ _. AreSplit (questions_view asked.now) verdicts.new.items waits.new.items) }
-    ensures texts { IfOk result (λ _. AllByRecursion (HasText (settings_view settings.entry)) waits.new.items) }
-    ensures unasked { IfOk result (λ _. AreJudgedUnasked (policy_view settings.entry.policy.now)
-        (questions_view asked.now) verdicts.new.items) }
+        → AreJudged (settings_view batch.entry.settings) (questions_view batch.entry.asked.now) verdicts.new.items
+        waits.new.items b) }
+    ensures split { IfOk result (λ _. AreSplit (questions_view batch.entry.asked.now) verdicts.new.items
+        waits.new.items) }
+    ensures texts { IfOk result (λ _. AllByRecursion (HasText (settings_view batch.entry.settings)) waits.new.items) }
+    ensures unasked { IfOk result (λ _. AreJudgedUnasked (policy_view batch.entry.settings.policy.now)
+        (questions_view batch.entry.asked.now) verdicts.new.items) }
 {
+    let AskedBatch { settings, asked } = batch;
     for question in asked {
         match judge_one(store, alloc, settings, waits, *question)? {
             Judged::Fails(rule) => verdicts.push_reserved(Some(rule)),
@@ -142,23 +144,24 @@ fn reserve_each<B: Book + Drop>(
 pub(crate) fn begin_each<'p, 'a, B: Book + Drop>(
     store: &mut B,
     alloc: Global,
-    settings: Settings<'p>,
-    asked: &[Asked<'a>],
+    batch: AskedBatch<'_, 'p, 'a>,
     verdicts: &mut Vec<Option<Rule>>,
     waits: &mut Vec<Waiting<'p, 'a>>,
 ) -> Result<(), StampRefusal>
     requires none_judged { verdicts.old.items ≡ [] }
     requires none_waits { waits.old.items ≡ [] }
-    requires verdicts_room { length asked.now ≤ vec_capacity verdicts.old }
-    requires waits_room { length asked.now ≤ vec_capacity waits.old }
+    requires verdicts_room { length batch.asked.now ≤ vec_capacity verdicts.old }
+    requires waits_room { length batch.asked.now ≤ vec_capacity waits.old }
     ensures honest { B.honest store.new → B.honest store.old }
     ensures counted { B.fault_count store.new ≡ faults_after (outcome_of result) (B.fault_count store.old) }
-    ensures split { IfOk result (λ _. AreSplit (questions_view asked.now) verdicts.new.items waits.new.items) }
-    ensures texts { IfOk result (λ _. AllByRecursion (HasText (settings_view settings.entry)) waits.new.items) }
-    ensures unasked { IfOk result (λ _. AreJudgedUnasked (policy_view settings.entry.policy.now)
-        (questions_view asked.now) verdicts.new.items) }
+    ensures split { IfOk result (λ _. AreSplit (questions_view batch.entry.asked.now) verdicts.new.items
+        waits.new.items) }
+    ensures texts { IfOk result (λ _. AllByRecursion (HasText (settings_view batch.entry.settings)) waits.new.items) }
+    ensures unasked { IfOk result (λ _. AreJudgedUnasked (policy_view batch.entry.settings.policy.now)
+        (questions_view batch.entry.asked.now) verdicts.new.items) }
     ensures judged { IfOk result (λ _. B.honest store.new → (b : History) → Stands B.Standing b store.old
-        → AreJudged (settings_view settings.entry) (questions_view asked.now) verdicts.new.items waits.new.items b) }
+        → AreJudged (settings_view batch.entry.settings) (questions_view batch.entry.asked.now) verdicts.new.items
+        waits.new.items b) }
     ensures reserved { IfOk result (λ _. B.honest store.new → (b : History) → Stands B.Standing b store.old
         → Stands B.Standing (with_waiting waits.new.items b) store.new) }
     ensures opened { IfOk result (λ _. B.honest store.new
@@ -166,10 +169,10 @@ pub(crate) fn begin_each<'p, 'a, B: Book + Drop>(
     ensures refused { OnErr result ((b : History) → Stands B.Standing b store.old → Stands B.Standing b store.new) }
     ensures left { IfErr result (λ refusal. B.honest store.new → (b : History) → Stands B.Standing b store.old
         → (left : B.Left) → B.leaves store.new left
-        → B.leaves store.old left ⊎ IsReservedInDoubt B.Standing (settings_view settings.entry)
-        (questions_view asked.now) verdicts.new.items waits.new.items refusal b left) }
+        → B.leaves store.old left ⊎ IsReservedInDoubt B.Standing (settings_view batch.entry.settings)
+        (questions_view batch.entry.asked.now) verdicts.new.items waits.new.items refusal b left) }
 {
-    judge_each(store, alloc, settings, asked, verdicts, waits)?;
+    judge_each(store, alloc, batch, verdicts, waits)?;
     if waits.is_empty() {
         return Ok(());
     }

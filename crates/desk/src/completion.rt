@@ -23,6 +23,13 @@ use cms::{Signer, SignerFault, token};
 use std::alloc::{AllocError, Global};
 use tsp::write_granted;
 
+/// The stamps of a batch that wait, and by what they are signed and sealed.
+#[derive(Clone, Copy)]
+pub(crate) struct WaitingBatch<'w, 'p, 'a> {
+    pub(crate) settings: Settings<'p>,
+    pub(crate) waits: &'w [Waiting<'p, 'a>],
+}
+
 /// A token, and the granted reply with it.
 #[derive(Drop)]
 struct Written {
@@ -132,27 +139,27 @@ fn put(
 /// Writes the tokens of all stamps that were signed, and a reply for each stamp: none where there is no room for them.
 fn write_each(
     alloc: Global,
-    settings: Settings<'_>,
-    waits: &[Waiting<'_, '_>],
+    batch: WaitingBatch<'_, '_, '_>,
     answers: &[Result<Vec<u8>, SignerFault>],
 ) -> Option<WrittenBatch>
-    requires as_many { length answers.now ≡ length waits.now }
+    requires as_many { length answers.now ≡ length batch.waits.now }
     requires sized { AllByRecursion IsSized answers.now }
-    ensures { IfSome result (λ batch. (os : List Outcome) × AreWritten (pendings_in (settings_view settings.entry)
-        waits.now) (map signed_by answers.now) os (map seal_view batch.seals.items)
-        (map reply_as batch.replies.items)) }
+    ensures { IfSome result (λ written. (os : List Outcome)
+        × AreWritten (pendings_in (settings_view batch.entry.settings) batch.entry.waits.now) (map signed_by answers.now)
+        os (map seal_view written.seals.items) (map reply_as written.replies.items)) }
 {
+    let WaitingBatch { settings, waits } = batch;
     let Ok(seals) = Vec::with_capacity(alloc, waits.len()) else {
         return None;
     };
     let Ok(replies) = Vec::with_capacity(alloc, waits.len()) else {
         return None;
     };
-    let mut batch = WrittenBatch { seals, replies };
+    let mut written = WrittenBatch { seals, replies };
     for (index, waiting) in waits.iter().enumerate() {
-        put(alloc, settings, waiting, &answers[index], &mut batch);
+        put(alloc, settings, waiting, &answers[index], &mut written);
     }
-    Some(batch)
+    Some(written)
 }
 
 /// The entries of these seals.
@@ -175,20 +182,20 @@ fn entries_of<'w>(alloc: Global, seals: &'w [Seal]) -> Result<Vec<Entry<'w>>, Al
 fn seal_together<B: Book + Drop>(
     store: &mut B,
     alloc: Global,
-    settings: Settings<'_>,
-    waits: &[Waiting<'_, '_>],
+    batch: WaitingBatch<'_, '_, '_>,
     answers: &[Result<Vec<u8>, SignerFault>],
 ) -> Option<Vec<Reply>>
-    requires as_many { length answers.now ≡ length waits.now }
+    requires as_many { length answers.now ≡ length batch.waits.now }
     requires sized { AllByRecursion IsSized answers.now }
     ensures honest { B.honest store.new → B.honest store.old }
     ensures sealed { IfSome result (λ replies. (os : List Outcome) × SealsEach B.Standing
-        (pendings_in (settings_view settings.entry) waits.now) (map signed_by answers.now) os store.old store.new
-        (map reply_as replies.items)) }
+        (pendings_in (settings_view batch.entry.settings) batch.entry.waits.now) (map signed_by answers.now) os
+        store.old store.new (map reply_as replies.items)) }
     ensures refused { IfNone result ((sealing : Call) × IsRefusedTogether B.Standing
-        (pendings_in (settings_view settings.entry) waits.now) (map signed_by answers.now) sealing store.old store.new) }
+        (pendings_in (settings_view batch.entry.settings) batch.entry.waits.now) (map signed_by answers.now) sealing
+        store.old store.new) }
 {
-    let WrittenBatch { seals, replies } = write_each(alloc, settings, waits, answers)?;
+    let WrittenBatch { seals, replies } = write_each(alloc, batch, answers)?;
     if seals.is_empty() {
         return Some(replies);
     }
@@ -205,19 +212,20 @@ fn seal_together<B: Book + Drop>(
 fn finish_each<B: Book + Drop>(
     store: &mut B,
     alloc: Global,
-    settings: Settings<'_>,
-    waits: &[Waiting<'_, '_>],
+    batch: WaitingBatch<'_, '_, '_>,
     answers: &[Result<Vec<u8>, SignerFault>],
     replies: &mut Vec<Reply>,
 )
-    requires as_many { length answers.now ≡ length waits.now }
+    requires as_many { length answers.now ≡ length batch.waits.now }
     requires sized { AllByRecursion IsSized answers.now }
     requires empty { replies.old.items ≡ [] }
-    requires room { length waits.now ≤ vec_capacity replies.old }
+    requires room { length batch.waits.now ≤ vec_capacity replies.old }
     ensures honest { B.honest store.new → B.honest store.old }
-    ensures seals { (os : List Outcome) × SealsEach B.Standing (pendings_in (settings_view settings.entry) waits.now)
-        (map signed_by answers.now) os store.old store.new (map reply_as replies.new.items) }
+    ensures seals { (os : List Outcome) × SealsEach B.Standing
+        (pendings_in (settings_view batch.entry.settings) batch.entry.waits.now) (map signed_by answers.now) os
+        store.old store.new (map reply_as replies.new.items) }
 {
+    let WaitingBatch { settings, waits } = batch;
     for (index, waiting) in waits.iter().enumerate() {
         replies.push_reserved(finish(store, alloc, settings, waiting, &answers[index]));
     }
@@ -227,19 +235,20 @@ fn finish_each<B: Book + Drop>(
 fn complete_singly<B: Book + Drop, X: Signer>(
     store: &mut B,
     alloc: Global,
-    settings: Settings<'_>,
-    waits: &[Waiting<'_, '_>],
+    batch: WaitingBatch<'_, '_, '_>,
     signer: &mut X,
     replies: &mut Vec<Reply>,
 )
-    requires texts { AllByRecursion (HasText (settings_view settings)) waits.now }
+    requires texts { AllByRecursion (HasText (settings_view batch.settings)) batch.waits.now }
     requires empty { replies.old.items ≡ [] }
-    requires room { length waits.now ≤ vec_capacity replies.old }
+    requires room { length batch.waits.now ≤ vec_capacity replies.old }
     ensures honest { B.honest store.new → B.honest store.old }
     ensures completes { (signings : List (Result (List ℕ) SpecFault)) × (os : List Outcome)
-        × CompletesEach B.Standing X.signs X.fault_count (pendings_in (settings_view settings.entry) waits.now) signings
-        os Fine store.old signer.old store.new signer.new (map reply_as replies.new.items) }
+        × CompletesEach B.Standing X.signs X.fault_count
+        (pendings_in (settings_view batch.entry.settings) batch.entry.waits.now) signings os Fine store.old signer.old
+        store.new signer.new (map reply_as replies.new.items) }
 {
+    let WaitingBatch { settings, waits } = batch;
     for waiting in waits {
         let answer = signer.sign(&waiting.prepared.text);
         replies.push_reserved(finish(store, alloc, settings, waiting, &answer));
@@ -290,25 +299,25 @@ fn sign_all<X: Signer>(
 pub(crate) fn complete_each<B: Book + Drop, X: Signer>(
     store: &mut B,
     alloc: Global,
-    settings: Settings<'_>,
-    waits: &[Waiting<'_, '_>],
+    batch: WaitingBatch<'_, '_, '_>,
     signer: &mut X,
     replies: &mut Vec<Reply>,
 )
-    requires texts { AllByRecursion (HasText (settings_view settings)) waits.now }
+    requires texts { AllByRecursion (HasText (settings_view batch.settings)) batch.waits.now }
     requires empty { replies.old.items ≡ [] }
-    requires room { length waits.now ≤ vec_capacity replies.old }
+    requires room { length batch.waits.now ≤ vec_capacity replies.old }
     ensures honest { B.honest store.new → B.honest store.old }
     ensures completes { (signings : List (Result (List ℕ) SpecFault)) × (os : List Outcome) × (sealing : Call)
-        × CompletesEach B.Standing X.signs X.fault_count (pendings_in (settings_view settings.entry) waits.now) signings
-        os sealing store.old signer.old store.new signer.new (map reply_as replies.new.items) }
+        × CompletesEach B.Standing X.signs X.fault_count
+        (pendings_in (settings_view batch.entry.settings) batch.entry.waits.now) signings os sealing store.old
+        signer.old store.new signer.new (map reply_as replies.new.items) }
 {
-    let Some(answers) = sign_all(alloc, waits, signer) else {
-        complete_singly(store, alloc, settings, waits, signer, replies);
+    let Some(answers) = sign_all(alloc, batch.waits, signer) else {
+        complete_singly(store, alloc, batch, signer, replies);
         return;
     };
-    match seal_together(store, alloc, settings, waits, &answers) {
+    match seal_together(store, alloc, batch, &answers) {
         Some(sealed) => *replies = sealed,
-        None => finish_each(store, alloc, settings, waits, &answers, replies),
+        None => finish_each(store, alloc, batch, &answers, replies),
     }
 }

@@ -1,5 +1,6 @@
 //! The calls of the counter on deposits and the rights to them.
 ghost use Rattle.std.specs.Prelude.{◌≡◌, ◌⊎◌, ◌<◌, length, Err, IfErr};
+ghost use Rattle.std.specs.Io.KnownBytes.{Keeps};
 ghost use Rattle.policy.specs.View.{account_view};
 ghost use Rattle.book.specs.Readers.{Account as Named, Group};
 ghost use Rattle.desk.specs.Answers.{answered};
@@ -11,13 +12,15 @@ ghost use Rattle.desk.specs.Shown.{deposited_as, shown_as, listed_as, done_as};
 use crate::desk::Desk;
 use crate::fault::Fault;
 use crate::laws::steps_keep_their_promises;
-use crate::new_deposit::deposit_with;
+use crate::new_deposit::{Submission, deposit_with};
 use crate::reply::Deposited;
 use crate::rights::{grant_by, revoke_by};
 use crate::sight::{list_to, show_to, token_to};
 use book::{Book, Listed, Reader};
 use cms::Signer;
 use policy::Account;
+use std::io;
+use std::io::Write;
 
 impl<'p, B: Book + Drop> Desk<'p, B> {
     /// Stamps octets for the account (RFC 3161 2.4.1, with SHA-256), and keeps them with their token under the owner's
@@ -46,16 +49,13 @@ impl<'p, B: Book + Drop> Desk<'p, B> {
     {
         steps_keep_their_promises();
         let settings = self.settings;
-        deposit_with(
-            &mut self.store,
-            self.alloc,
-            settings,
+        let submission = Submission {
             account,
             reading,
             reference,
             bytes,
-            signer,
-        )
+        };
+        deposit_with(&mut self.store, self.alloc, settings, submission, signer)
     }
 
     /// The octets of a deposit that is visible to the account: it is its owner, or a reader, by its own name or in a
@@ -92,9 +92,24 @@ impl<'p, B: Book + Drop> Desk<'p, B> {
         ensures refusals { IfErr result (λ fault. (fault ≡ Fault.Memory) ⊎ (fault ≡ Fault.Store)) }
         ensures step { IsStep B.Standing no_signer (ListAll (account_view account.now)) self.old self.new (answered listed_as result) }
     {
+        self.list_within(account, &mut io::sink())
+    }
+
+    /// What `list` answers, as long as an output has time: it may be flushed before each row is looked up, and nothing
+    /// is written to it. Where that fails, the list is given up, and refused with `Memory`. Refused as `list` else.
+    pub fn list_within<W: Write>(
+        &mut self,
+        account: &Account,
+        output: &mut W,
+    ) -> Result<Vec<Listed>, Fault>
+        ensures honest { B.honest self.new.store → B.honest self.old.store }
+        ensures unwritten { Keeps (W.contents output.old) (W.contents output.new) }
+        ensures refusals { IfErr result (λ fault. (fault ≡ Fault.Memory) ⊎ (fault ≡ Fault.Store)) }
+        ensures step { IsStep B.Standing no_signer (ListAll (account_view account.now)) self.old self.new (answered listed_as result) }
+    {
         steps_keep_their_promises();
         let settings = self.settings;
-        Ok(list_to(&mut self.store, settings, account)?)
+        Ok(list_to(&mut self.store, settings, account, output)?)
     }
 
     /// Lets the account of a name see a deposit, from now on; again is accepted, and changes nothing. It may be one

@@ -38,6 +38,14 @@ pub(crate) struct Planned<'p, 'a> {
     pub(crate) last: u64,
 }
 
+/// A request that was read: for whom, when by the clock in microseconds, and what it asks for.
+#[derive(Drop)]
+pub(crate) struct Requested<'q, 'a> {
+    pub(crate) account: Option<&'q Account>,
+    pub(crate) reading: i64,
+    pub(crate) request: Request<'a>,
+}
+
 /// What is found, where each call was answered.
 #[derive(Drop)]
 pub(crate) enum Judgement<'p, 'a> {
@@ -79,27 +87,31 @@ fn ask<'p, 'a, B: Book + Drop>(
     store: &mut B,
     waits: &[Waiting<'_, '_>],
     policy: &'p Policy,
-    account: Option<&Account>,
-    reading: i64,
-    request: Request<'a>,
+    requested: Requested<'_, 'a>,
 ) -> Result<Judgement<'p, 'a>, StampRefusal>
     ensures looks { OnlyLooks B.Standing store.old store.new }
     ensures counted { B.fault_count store.new ≡ faults_after (outcome_of result) (B.fault_count store.old) }
     ensures finds { B.honest store.new → (b : History) → Stands B.Standing b store.old
         → IsSound (with_waiting waits.now b) → (octets : List ℕ)
-        → Spells octets (request_view request.entry) → length octets ≤ 65536
-        → IsJudged (policy_view policy.now) (account_asked account.entry) (request_view request.entry) None
-        → Finds (policy_view policy.now) (account_asked account.entry) reading octets (outcome_of result)
-        (with_waiting waits.now b) (finding_of result) }
-    ensures same { IfOk result (HasRequest (request_view request.entry)) }
-    ensures late { HasVersionOne (request_view request.entry) → IfOk result FailsLate }
+        → Spells octets (request_view requested.entry.request) → length octets ≤ 65536
+        → IsJudged (policy_view policy.now) (account_asked requested.entry.account)
+        (request_view requested.entry.request) None
+        → Finds (policy_view policy.now) (account_asked requested.entry.account) requested.entry.reading octets
+        (outcome_of result) (with_waiting waits.now b) (finding_of result) }
+    ensures same { IfOk result (HasRequest (request_view requested.entry.request)) }
+    ensures late { HasVersionOne (request_view requested.entry.request) → IfOk result FailsLate }
     ensures last { B.honest store.new → (b : History) → Stands B.Standing b store.old
         → IsSound (with_waiting waits.now b) → IfOk result (HasLast (greatest_serial (with_waiting waits.now b))) }
-    ensures somebody { IfErr result (IsSomebodys (account_asked account.entry)) }
+    ensures somebody { IfErr result (IsSomebodys (account_asked requested.entry.account)) }
     ensures refusals { IfErr result IsOfLooks }
 {
     requests_have_one_reading();
     verdicts_are_one();
+    let Requested {
+        account,
+        reading,
+        request,
+    } = requested;
     let Looked { clock, serial } = match look_among(store, waits, reading) {
         Ok(looked) => looked,
         Err(fault) => return Err(StampRefusal::Looking(fault)),
@@ -127,33 +139,31 @@ fn judge_among<'p, 'a, B: Book + Drop>(
     store: &mut B,
     waits: &[Waiting<'_, '_>],
     policy: &'p Policy,
-    account: Option<&Account>,
-    reading: i64,
-    request: Request<'a>,
+    requested: Requested<'_, 'a>,
 ) -> Result<Judgement<'p, 'a>, StampRefusal>
     ensures looks { OnlyLooks B.Standing store.old store.new }
     ensures counted { B.fault_count store.new ≡ faults_after (outcome_of result) (B.fault_count store.old) }
     ensures finds { B.honest store.new → (b : History) → Stands B.Standing b store.old
         → IsSound (with_waiting waits.now b) → (octets : List ℕ)
-        → Spells octets (request_view request.entry) → length octets ≤ 65536
-        → Finds (policy_view policy.now) (account_asked account.entry) reading octets (outcome_of result)
-        (with_waiting waits.now b) (finding_of result) }
-    ensures same { IfOk result (HasRequest (request_view request.entry)) }
-    ensures late { HasVersionOne (request_view request.entry) → IfOk result FailsLate }
+        → Spells octets (request_view requested.entry.request) → length octets ≤ 65536
+        → Finds (policy_view policy.now) (account_asked requested.entry.account) requested.entry.reading octets
+        (outcome_of result) (with_waiting waits.now b) (finding_of result) }
+    ensures same { IfOk result (HasRequest (request_view requested.entry.request)) }
+    ensures late { HasVersionOne (request_view requested.entry.request) → IfOk result FailsLate }
     ensures last { B.honest store.new → (b : History) → Stands B.Standing b store.old
         → IsSound (with_waiting waits.now b) → IfOk result (HasLast (greatest_serial (with_waiting waits.now b))) }
-    ensures unasked { (octets : List ℕ) → Spells octets (request_view request.entry) → length octets ≤ 65536
-        → (rule : Rule) → IsFirstFailing (HoldsUnasked (policy_view policy.now) (account_asked account.entry) octets)
-        rule
+    ensures unasked { (octets : List ℕ) → Spells octets (request_view requested.entry.request) → length octets ≤ 65536
+        → (rule : Rule) → IsFirstFailing (HoldsUnasked (policy_view policy.now)
+        (account_asked requested.entry.account) octets) rule
         → (finding_of result ≡ Fails rule) × (store.new ≡ store.old) }
-    ensures somebody { IfErr result (IsSomebodys (account_asked account.entry)) }
+    ensures somebody { IfErr result (IsSomebodys (account_asked requested.entry.account)) }
     ensures refusals { IfErr result IsOfLooks }
 {
     requests_have_one_reading();
     verdicts_are_one();
-    match judge_request(policy, account, &request) {
+    match judge_request(policy, requested.account, &requested.request) {
         Some(rule) => Ok(Judgement::Fails(rule)),
-        None => ask(store, waits, policy, account, reading, request),
+        None => ask(store, waits, policy, requested),
     }
 }
 
@@ -161,28 +171,26 @@ fn judge_among<'p, 'a, B: Book + Drop>(
 pub(crate) fn judge<'p, 'a, B: Book + Drop>(
     store: &mut B,
     policy: &'p Policy,
-    account: Option<&Account>,
-    reading: i64,
-    request: Request<'a>,
+    requested: Requested<'_, 'a>,
 ) -> Result<Judgement<'p, 'a>, StampRefusal>
     ensures looks { OnlyLooks B.Standing store.old store.new }
     ensures counted { B.fault_count store.new ≡ faults_after (outcome_of result) (B.fault_count store.old) }
     ensures finds { B.honest store.new → (b : History) → Stands B.Standing b store.old → (octets : List ℕ)
-        → Spells octets (request_view request.entry) → length octets ≤ 65536
-        → Finds (policy_view policy.now) (account_asked account.entry) reading octets (outcome_of result) b
-        (finding_of result) }
-    ensures same { IfOk result (HasRequest (request_view request.entry)) }
-    ensures late { HasVersionOne (request_view request.entry) → IfOk result FailsLate }
+        → Spells octets (request_view requested.entry.request) → length octets ≤ 65536
+        → Finds (policy_view policy.now) (account_asked requested.entry.account) requested.entry.reading octets
+        (outcome_of result) b (finding_of result) }
+    ensures same { IfOk result (HasRequest (request_view requested.entry.request)) }
+    ensures late { HasVersionOne (request_view requested.entry.request) → IfOk result FailsLate }
     ensures last { B.honest store.new → (b : History) → Stands B.Standing b store.old
         → IfOk result (HasLast (greatest_serial b)) }
-    ensures unasked { (octets : List ℕ) → Spells octets (request_view request.entry) → length octets ≤ 65536
-        → (rule : Rule) → IsFirstFailing (HoldsUnasked (policy_view policy.now) (account_asked account.entry) octets)
-        rule
+    ensures unasked { (octets : List ℕ) → Spells octets (request_view requested.entry.request) → length octets ≤ 65536
+        → (rule : Rule) → IsFirstFailing (HoldsUnasked (policy_view policy.now)
+        (account_asked requested.entry.account) octets) rule
         → (finding_of result ≡ Fails rule) × (store.new ≡ store.old) }
-    ensures somebody { IfErr result (IsSomebodys (account_asked account.entry)) }
+    ensures somebody { IfErr result (IsSomebodys (account_asked requested.entry.account)) }
     ensures refusals { IfErr result IsOfLooks }
 {
-    judge_among(store, &[], policy, account, reading, request)
+    judge_among(store, &[], policy, requested)
 }
 
 /// Judges the rules 1 to 11 in their order, once all that waits is reserved: `find` among stamps that are answered
@@ -212,7 +220,12 @@ pub(crate) fn find_among<'p, 'a, B: Book + Drop>(
         Ok(request) => request,
         Err(_) => return Ok(Judgement::Fails(Rule::Spelling)),
     };
-    judge_among(store, waits, policy, asked.account, asked.reading, request)
+    let requested = Requested {
+        account: asked.account,
+        reading: asked.reading,
+        request,
+    };
+    judge_among(store, waits, policy, requested)
 }
 
 /// Judges the rules 1 to 11 in their order. A request that fails one of the rules 1 to 9 is answered without a call of

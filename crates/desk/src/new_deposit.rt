@@ -22,12 +22,12 @@ ghost use Rattle.desk.specs.Shown.{deposited_as};
 ghost use Rattle.desk.specs.Texts.{gives_certificate, octets_for, request_for};
 
 use crate::fault::Fault;
-use crate::findings::{Judgement, Planned, judge};
+use crate::findings::{Judgement, Planned, Requested, judge};
 use crate::obstacle::Obstacle;
 use crate::pending::Pending;
 use crate::refusal::StampRefusal;
 use crate::reply::{Begun, Deposited};
-use crate::reservation::reserve_next;
+use crate::reservation::{NextStamp, reserve_next};
 use crate::settings::Settings;
 use book::{Book, GREATEST_NUMBER, StoreFault};
 use cms::{Signer, token};
@@ -38,6 +38,15 @@ use tsp::{Rejection, Request, requests_have_one_reading, write_request};
 
 /// The most octets of a deposit.
 const MOST: usize = 1_048_576;
+
+/// Octets that an account submits to be deposited: under which reference, and when by the clock, in microseconds.
+#[derive(Clone, Copy)]
+pub(crate) struct Submission<'a> {
+    pub(crate) account: &'a Account,
+    pub(crate) reading: i64,
+    pub(crate) reference: &'a str,
+    pub(crate) bytes: &'a [u8],
+}
 
 /// What stands under a reference.
 #[derive(Clone, Copy)]
@@ -123,7 +132,12 @@ fn reserve<'p, B: Book + Drop>(
 {
     requests_have_one_reading();
     let octets = octets_of(alloc, &planned)?;
-    reserve_next(store, alloc, settings, account, planned, &octets)
+    let next = NextStamp {
+        account,
+        query: &octets,
+        planned,
+    };
+    reserve_next(store, alloc, settings, next)
 }
 
 /// Judges the request as which a deposit is stamped, and reserves the next serial number where no rule fails. The
@@ -132,24 +146,31 @@ fn begin<'p, B: Book + Drop>(
     store: &mut B,
     alloc: Global,
     settings: Settings<'p>,
-    account: &Account,
-    reading: i64,
-    bytes: &[u8],
+    submission: Submission<'_>,
 ) -> Result<Begun<'p>, StampRefusal>
     ensures honest { B.honest store.new → B.honest store.old }
     ensures step { StepsBy B.Standing no_signer (settings_view settings.entry)
-        (Begin (Some (account_view account.now)) reading
-        (octets_for (policy_view settings.entry.policy.now) (account_view account.now) bytes.now))
+        (Begin (Some (account_view submission.entry.account.now)) submission.entry.reading
+        (octets_for (policy_view settings.entry.policy.now) (account_view submission.entry.account.now)
+        submission.entry.bytes.now))
         (outcome_of result) store.old store.new (told begun_as result) }
-    ensures spelled { Spells (octets_for (policy_view settings.entry.policy.now) (account_view account.now) bytes.now)
-        (request_for (policy_view settings.entry.policy.now) (account_view account.now) bytes.now) }
+    ensures spelled { Spells (octets_for (policy_view settings.entry.policy.now)
+        (account_view submission.entry.account.now) submission.entry.bytes.now)
+        (request_for (policy_view settings.entry.policy.now) (account_view submission.entry.account.now)
+        submission.entry.bytes.now) }
     ensures late { IfOk result IsRejectedLate }
     ensures refusals { IfErr result IsOfBeginning }
 {
     let policy = settings.policy;
-    let digest = Sha256::digest(bytes);
+    let account = submission.account;
+    let digest = Sha256::digest(submission.bytes);
     let request = Request::of_sha256(&digest, gives_certificate(policy, account));
-    match judge(store, policy, Some(account), reading, request) {
+    let requested = Requested {
+        account: Some(account),
+        reading: submission.reading,
+        request,
+    };
+    match judge(store, policy, requested) {
         Err(refusal) => Err(refusal),
         Ok(Judgement::Fails(rule)) => Ok(Begun::Rejected(Rejection::of(rule))),
         Ok(Judgement::Allows(planned)) => {
@@ -167,15 +188,14 @@ fn seal<B: Book + Drop>(
     alloc: Global,
     pending: Pending<'_>,
     signature: &[u8],
-    owner: &str,
-    reference: &str,
-    bytes: &[u8],
+    submission: Submission<'_>,
 ) -> Result<Deposited, StampRefusal>
     requires some { 1 ≤ length signature.now }
     requires few { length signature.now ≤ 4096 }
     ensures honest { B.honest store.new → B.honest store.old }
     ensures keeps { KeepsBy B.Standing pending.entry
-        (deposit_of pending.entry.serial owner.now reference.now bytes.now) (Ok signature.now) (outcome_of result)
+        (deposit_of pending.entry.serial (account_view submission.entry.account.now).name
+        submission.entry.reference.now submission.entry.bytes.now) (Ok signature.now) (outcome_of result)
         store.old store.new (told deposited_as result) }
 {
     let Pending {
@@ -190,7 +210,14 @@ fn seal<B: Book + Drop>(
         Ok(token) => token,
         Err(_) => return Err(StampRefusal::OutOfReplyMemory),
     };
-    match store.seal_deposit(serial, &token, owner, reference, bytes) {
+    let owner = submission.account.name.as_str();
+    match store.seal_deposit(
+        serial,
+        &token,
+        owner,
+        submission.reference,
+        submission.bytes,
+    ) {
         Ok(()) => Ok(Deposited {
             number: serial,
             is_new: true,
@@ -205,19 +232,18 @@ fn sign_and_seal<B: Book + Drop, X: Signer>(
     store: &mut B,
     alloc: Global,
     pending: Pending<'_>,
-    owner: &str,
-    reference: &str,
-    bytes: &[u8],
+    submission: Submission<'_>,
     signer: &mut X,
 ) -> Result<Deposited, StampRefusal>
     ensures honest { B.honest store.new → B.honest store.old }
     ensures keeps { (signing : Result (List ℕ) SpecFault) × (o : Outcome)
         × SignsAndKeeps B.Standing (with_signer X.signs X.fault_count signer.old signer.new) pending.entry
-        (deposit_of pending.entry.serial owner.now reference.now bytes.now) signing o store.old store.new
+        (deposit_of pending.entry.serial (account_view submission.entry.account.now).name
+        submission.entry.reference.now submission.entry.bytes.now) signing o store.old store.new
         (told deposited_as result) }
 {
     match signer.sign(pending.text()) {
-        Ok(signature) => seal(store, alloc, pending, &signature, owner, reference, bytes),
+        Ok(signature) => seal(store, alloc, pending, &signature, submission),
         Err(fault) => {
             pending.abandon();
             Err(StampRefusal::Signing(fault))
@@ -230,25 +256,23 @@ fn deposit_new<B: Book + Drop, X: Signer>(
     store: &mut B,
     alloc: Global,
     settings: Settings<'_>,
-    account: &Account,
-    reading: i64,
-    reference: &str,
-    bytes: &[u8],
+    submission: Submission<'_>,
     signer: &mut X,
 ) -> Result<Deposited, Fault>
-    requires few { length bytes.now ≤ 1048576 }
+    requires few { length submission.bytes.now ≤ 1048576 }
     ensures honest { B.honest store.new → B.honest store.old }
     ensures refusals { IfErr result IsOfDeposit }
     ensures step { (o : Outcome) × StepsWhere B.Standing (with_signer X.signs X.fault_count signer.old signer.new)
-        (settings_view settings.entry) (Deposit (account_view account.now) reading reference.now bytes.now)
-        (IsUnused (account_view account.now) reference.now) o store.old store.new (answered deposited_as result) }
+        (settings_view settings.entry) (Deposit (account_view submission.entry.account.now) submission.entry.reading
+        submission.entry.reference.now submission.entry.bytes.now)
+        (IsUnused (account_view submission.entry.account.now) submission.entry.reference.now) o store.old store.new
+        (answered deposited_as result) }
 {
-    let owner = account.name.as_str();
-    match begin(store, alloc, settings, account, reading, bytes) {
+    match begin(store, alloc, settings, submission) {
         Err(refusal) => Err(Fault::from(refusal)),
         Ok(Begun::Rejected(rejection)) => Err(Fault::Rejected(rejection.rule)),
         Ok(Begun::Pending(pending)) => {
-            match sign_and_seal(store, alloc, pending, owner, reference, bytes, signer) {
+            match sign_and_seal(store, alloc, pending, submission, signer) {
                 Ok(deposited) => Ok(deposited),
                 Err(refusal) => Err(Fault::from(refusal)),
             }
@@ -261,21 +285,24 @@ pub(crate) fn deposit_with<B: Book + Drop, X: Signer>(
     store: &mut B,
     alloc: Global,
     settings: Settings<'_>,
-    account: &Account,
-    reading: i64,
-    reference: &str,
-    bytes: &[u8],
+    submission: Submission<'_>,
     signer: &mut X,
 ) -> Result<Deposited, Fault>
     ensures honest { B.honest store.new → B.honest store.old }
-    ensures large { 1048576 < length bytes.now
+    ensures large { 1048576 < length submission.entry.bytes.now
         → (result ≡ Err Fault.TooLarge) × (store.new ≡ store.old) × (signer.new ≡ signer.old) }
     ensures refusals { IfErr result IsOfDeposit }
     ensures step { IsBareStep B.Standing (with_signer X.signs X.fault_count signer.old signer.new)
         (settings_view settings.entry)
-        (Deposit (account_view account.now) reading reference.now bytes.now) store.old store.new
-        (answered deposited_as result) }
+        (Deposit (account_view submission.entry.account.now) submission.entry.reading submission.entry.reference.now
+        submission.entry.bytes.now) store.old store.new (answered deposited_as result) }
 {
+    let Submission {
+        account,
+        reading: _,
+        reference,
+        bytes,
+    } = submission;
     if bytes.len() > MOST {
         return Err(Fault::TooLarge);
     }
@@ -286,8 +313,6 @@ pub(crate) fn deposit_with<B: Book + Drop, X: Signer>(
             is_new: false,
         }),
         Ok(Known::Other) => Err(Fault::Conflict),
-        Ok(Known::Nothing) => deposit_new(
-            store, alloc, settings, account, reading, reference, bytes, signer,
-        ),
+        Ok(Known::Nothing) => deposit_new(store, alloc, settings, submission, signer),
     }
 }

@@ -118,6 +118,14 @@ pub(crate) fn prepare<'p, 'a>(
     })
 }
 
+/// The stamp that is reserved next, which no rule refuses: for whom, the octets of its request, and its plan.
+#[derive(Drop)]
+pub(crate) struct NextStamp<'n, 'p, 'a> {
+    pub(crate) account: &'n str,
+    pub(crate) query: &'a [u8],
+    pub(crate) planned: Planned<'p, 'a>,
+}
+
 /// Adds the reservation of a serial number above the greatest, which is known to be left.
 fn add<B: Book + Drop>(store: &mut B, reservation: &Reservation<'_>) -> Result<(), StoreFault>
     ensures appends { Appends B.Standing (Reserved (reservation_view reservation.now) ∷ []) store.old store.new result }
@@ -127,25 +135,28 @@ fn add<B: Book + Drop>(store: &mut B, reservation: &Reservation<'_>) -> Result<(
 }
 
 /// Reserves the next serial number for a stamp that no rule refuses. Once the reservation is committed it succeeds.
-pub(crate) fn reserve_next<'p, 'a, B: Book + Drop>(
+pub(crate) fn reserve_next<'p, B: Book + Drop>(
     store: &mut B,
     alloc: Global,
     settings: Settings<'p>,
-    account: &str,
-    planned: Planned<'p, 'a>,
-    query: &'a [u8],
+    next: NextStamp<'_, 'p, '_>,
 ) -> Result<Pending<'p>, StampRefusal>
-    requires spelled { Spells query.now (request_view planned.request) }
-    requires short { length query.now ≤ 65536 }
+    requires spelled { Spells next.query.now (request_view next.planned.request) }
+    requires short { length next.query.now ≤ 65536 }
     ensures honest { B.honest store.new → B.honest store.old }
     ensures opened { B.honest store.new → OnOk result (B.is_open store.new) }
     ensures counted { B.fault_count store.new ≡ faults_after (outcome_of result) (B.fault_count store.old) }
     ensures reserves { B.honest store.new → (b : History) → Stands B.Standing b store.old
-        → greatest_serial b ≡ planned.entry.last
-        → Reserves B.Standing (settings_view settings.entry) account.now (plan_of planned.entry) query.now b store.old
-        store.new result }
+        → greatest_serial b ≡ next.entry.planned.last
+        → Reserves B.Standing (settings_view settings.entry) next.entry.account.now (plan_of next.entry.planned)
+        next.entry.query.now b store.old store.new result }
     ensures refusals { IfErr result IsOfReserving }
 {
+    let NextStamp {
+        account,
+        query,
+        planned,
+    } = next;
     if planned.last >= GREATEST_NUMBER {
         return Err(StampRefusal::Exhausted);
     }

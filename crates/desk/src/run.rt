@@ -14,7 +14,7 @@ use crate::batch::Asked;
 use crate::commands::{Answer, Command};
 use crate::desk::Desk;
 use crate::fault::Fault;
-use crate::new_deposit::deposit_with;
+use crate::new_deposit::{Submission, deposit_with};
 use crate::obstacle::Obstacle;
 use crate::reply::Deposited;
 use crate::rights::{grant_by, revoke_by};
@@ -25,6 +25,7 @@ use crate::succession::succeed_by;
 use book::{Book, Listed, Reader};
 use cms::Signer;
 use std::alloc::Global;
+use std::io;
 use tsp::requests_have_one_reading;
 
 fn kept(deposited: Result<Deposited, Fault>) -> Answer
@@ -120,10 +121,14 @@ pub(crate) fn obey<'p, B: Book + Drop, G: Signer>(
             reference,
             bytes,
         } => {
+            let submission = Submission {
+                account,
+                reading,
+                reference,
+                bytes,
+            };
             (
-                kept(deposit_with(
-                    store, alloc, settings, account, reading, reference, bytes, signer,
-                )),
+                kept(deposit_with(store, alloc, settings, submission, signer)),
                 settings,
             )
         }
@@ -137,7 +142,10 @@ pub(crate) fn obey<'p, B: Book + Drop, G: Signer>(
                 settings,
             )
         }
-        Command::List { account } => (listed(list_to(store, settings, account)), settings),
+        Command::List { account } => (
+            listed(list_to(store, settings, account, &mut io::sink())),
+            settings,
+        ),
         Command::Grant {
             account,
             number,

@@ -1,5 +1,6 @@
 //! What an account sees.
 ghost use Rattle.std.specs.Prelude.{◌≡◌, ◌⊎◌, map, IfOk, IfErr, MatchResult};
+ghost use Rattle.std.specs.Io.KnownBytes.{Keeps};
 ghost use Rattle.policy.specs.View.{account_view, policy_view};
 ghost use Rattle.book.specs.Fault.{CountsFaults, IsOfStorage};
 ghost use Rattle.book.specs.History.{History};
@@ -21,6 +22,7 @@ use crate::settings::Settings;
 use book::{Book, Listed, StampedDeposit, StoreFault};
 use policy::{Account, Policy};
 use std::alloc::Global;
+use std::io::Write;
 use tsp::write_granted;
 
 /// Whether an account, which the policy file knows with its groups, sees the deposit with a number.
@@ -40,21 +42,23 @@ fn is_seen<B: Book + Drop>(
     store.visible(number, account, groups.as_slice())
 }
 
-/// All that such an account sees, by number.
-fn all_seen<B: Book + Drop>(
+/// All that such an account sees, by number, as long as the output can be flushed.
+fn all_seen<B: Book + Drop, W: Write>(
     store: &mut B,
     policy: &Policy,
     account: &str,
+    output: &mut W,
 ) -> Result<Vec<Listed>, StoreFault>
     ensures looks { OnlyLooks B.Standing store.old store.new }
     ensures value { B.honest store.new → (b : History) → Stands B.Standing b store.old
         → IfOk result (λ rows. map listed_view rows.items
         ≡ listed (viewer_in (policy_view policy.now) account.now) b) }
+    ensures unwritten { Keeps (W.contents output.old) (W.contents output.new) }
     ensures refusals { IfErr result IsOfStorage }
     ensures faults { CountsFaults result (B.fault_count store.old) (B.fault_count store.new) }
 {
     let groups = policy.groups_of(account);
-    store.list(account, groups.as_slice())
+    store.list(account, groups.as_slice(), output)
 }
 
 /// The deposit with a number, and its stamp, where the account sees it. It is read only then.
@@ -98,10 +102,8 @@ pub(crate) fn show_to<B: Book + Drop>(
     ensures refusals { IfErr result (λ obstacle. sight.IsOfSight (fault_with obstacle)) }
 {
     let policy = settings.policy;
-    match see(store, policy, account.name.as_str(), number) {
-        Ok(found) => Ok(found.deposit.bytes),
-        Err(obstacle) => Err(obstacle),
-    }
+    let found = see(store, policy, account.name.as_str(), number)?;
+    Ok(found.deposit.bytes)
 }
 
 /// The granted reply with the token of a deposit that the account sees.
@@ -118,13 +120,9 @@ pub(crate) fn token_to<B: Book + Drop>(
     ensures refusals { IfErr result (λ obstacle. sight.IsOfSight (fault_with obstacle)) }
 {
     let policy = settings.policy;
-    let token = match see(store, policy, account.name.as_str(), number) {
-        Ok(found) => {
-            let stamp = found.stamp;
-            stamp.token
-        }
-        Err(obstacle) => return Err(obstacle),
-    };
+    let found = see(store, policy, account.name.as_str(), number)?;
+    let stamp = found.stamp;
+    let token = stamp.token;
     let Some(token) = token else {
         return Err(Obstacle::NotHere);
     };
@@ -134,20 +132,22 @@ pub(crate) fn token_to<B: Book + Drop>(
     }
 }
 
-/// All that the account sees, by number.
-pub(crate) fn list_to<B: Book + Drop>(
+/// All that the account sees, by number, as long as the output can be flushed.
+pub(crate) fn list_to<B: Book + Drop, W: Write>(
     store: &mut B,
     settings: Settings<'_>,
     account: &Account,
+    output: &mut W,
 ) -> Result<Vec<Listed>, Obstacle>
     ensures looks { OnlyLooks B.Standing store.old store.new }
     ensures step { StepsBy B.Standing no_signer (settings_view settings.entry) (ListAll (account_view account.now))
         (outcome_with result) store.old store.new (told_with listed_as result) }
+    ensures unwritten { Keeps (W.contents output.old) (W.contents output.new) }
     ensures refusals { IfErr result (λ obstacle. (fault_with obstacle ≡ Fault.Memory)
         ⊎ (fault_with obstacle ≡ Fault.Store)) }
 {
     let policy = settings.policy;
-    match all_seen(store, policy, account.name.as_str()) {
+    match all_seen(store, policy, account.name.as_str(), output) {
         Ok(rows) => Ok(rows),
         Err(fault) => Err(Obstacle::Looking(fault)),
     }

@@ -15,7 +15,7 @@ use crate::batch::Asked;
 use crate::findings::{Judgement, find};
 use crate::refusal::StampRefusal;
 use crate::reply::Begun;
-use crate::reservation::reserve_next;
+use crate::reservation::{NextStamp, reserve_next};
 use crate::settings::Settings;
 use book::Book;
 use policy::Account;
@@ -54,14 +54,12 @@ pub(crate) fn begin_with<'p, B: Book + Drop>(
         Err(refusal) => Err(refusal),
         Ok(Judgement::Fails(rule)) => Ok(Begun::Rejected(Rejection::of(rule))),
         Ok(Judgement::Allows(planned)) => {
-            match reserve_next(
-                store,
-                alloc,
-                settings,
-                name_of(asked.account),
+            let next = NextStamp {
+                account: name_of(asked.account),
+                query: asked.query,
                 planned,
-                asked.query,
-            ) {
+            };
+            match reserve_next(store, alloc, settings, next) {
                 Ok(pending) => Ok(Begun::Pending(pending)),
                 Err(refusal) => Err(refusal),
             }

@@ -104,14 +104,12 @@ pub(crate) fn succeed_by<'p, B: Book + Drop>(
     ensures refusals { IfErr result (λ obstacle. (fault_with obstacle ≡ Fault.Memory)
         ⊎ (fault_with obstacle ≡ Fault.Store)) }
 {
-    match install(store, identity) {
-        Ok(()) => Ok(Settings {
-            identity,
-            algorithm,
-            ..settings
-        }),
-        Err(obstacle) => Err(obstacle),
-    }
+    install(store, identity)?;
+    Ok(Settings {
+        identity,
+        algorithm,
+        ..settings
+    })
 }
 
 impl<'p, B: Book + Drop> Desk<'p, B> {

@@ -1,5 +1,6 @@
-use Rattle.std.proofs.Common.{Err, ap, refl, rules, ◌≡◌, IfSome, subst, sym, ◌∙◌}
+use Rattle.std.proofs.Common.{Err, ap, arith, length, refl, rules, ◌≡◌, ◌+◌, IfSome, subst, sym, ◌∙◌}
 use Rattle.std.proofs.lemmas.Result.{err_from_is_err_and}
+use Rattle.audit.specs.Failures.{StopsFor}
 use Rattle.audit.specs.Steps.{IsLine}
 use Rattle.audit.specs.Writes.{Writes}
 use Rattle.audit.proofs.Lines.{added, begun, cut_first, cut_later, first_stops, later_stops, next_left}
@@ -20,9 +21,10 @@ loop-line-init g c =
     let walk = c.of-walk.ensures in
     rw (walk.begun, walk.from, walk.to) (
       begun g.B.Standing _ _ _ _ _ _ _ _ c.requires c.header.ensures c.in_ok-write_line.ensures.written,
-      c.in_ok-write_line.ensures.within,
+      omega (arith, c.in_ok-write_line.ensures.within, c.in_ok-write_line.ensures.limit),
       refl,
       c.in_ok-write_line.ensures.kept,
+      c.in_ok-write_line.ensures.limit,
     )
 
 pub write_line-requires-in-Some-clause-some : goal.write_line-requires-in-Some-clause-some
@@ -38,9 +40,10 @@ loop-line-preserved g c =
           c.in_ok-line.ensures.looks c.in_ok-line.ensures.faults (c.deref.ensures.value ∙ line.1)
           (λ h b s. next_left _ _ _ _ _ c.in-Some.is c.deref.ensures.value (c.in_ok-line.ensures.value h b s))
           c.in_ok-write_line-2.ensures.written,
-      c.in_ok-write_line-2.ensures.within,
+      omega (arith, c.in_ok-write_line-2.ensures.within, c.in_ok-write_line-2.ensures.limit),
       c.in_ok-line.ensures.same_reference ∙ c.loop-line.invariant.2,
       c.in_ok-write_line-2.ensures.kept ∙ c.loop-line.invariant.3,
+      c.in_ok-write_line-2.ensures.limit ∙ c.loop-line.invariant.4,
     )
 
 pub returns-in_err-write_line-2-clause-written : goal.returns-in_err-write_line-2-clause-written
@@ -52,7 +55,7 @@ returns-in_err-write_line-2-clause-written g c =
     let same : c.next_line.new.walk.book.now ≡ store = search rules in
     subst (λ s. Writes g.B.Standing c.args.store.now s (g.W.Write.contents c.args.out.now)
     (g.W.Write.contents c.write_line-in-Some.new.out) c.args.inquiry.now.from c.args.inquiry.now.to
-    c.write_line-in-Some.new.octets
+    c.write_line-in-Some.new.meter.octets
     c.from_residual-in_err-write_line-2.result) same
     (cut_later g.B.Standing _ _ _ _ _ _ _ _ _ _ _ _ _ _ c.deref.result.now line.0 _ _ (failing.1 ∙ ap Err failing.2)
     c.loop-line.invariant.0 c.in_ok-line.ensures.looks (c.deref.ensures.value ∙ line.1)
@@ -73,9 +76,11 @@ returns-in_err-write_line-2-clause-stopped g c =
     let store = c.in_err-write_line-2.store-in-Break-branch-4-1-own.given.0 in
     let same : c.next_line.new.walk.book.now ≡ store = search rules in
     let all = later_stops g.B.Standing c.args.store.now c.loop-line.walk.book.now c.next_line.new.walk.book.now _ _ _ _
-    _ _ _ _ _ c.args.limit c.deref.result.now _ _ _ c.loop-line.invariant.0 c.in_ok-line.ensures.looks
+    _ _ _ _ _ c.args.meter.now.limit c.deref.result.now _ _ _ c.loop-line.invariant.0 c.in_ok-line.ensures.looks
     (λ h b s. next_left _ _ _ _ _ c.in-Some.is c.deref.ensures.value (c.in_ok-line.ensures.value h b s))
-    c.loop-line.invariant.3 c.in_err-write_line-2.ensures.stopped in
+    c.loop-line.invariant.3
+    (subst (λ n. StopsFor n (c.loop-line.meter.octets + length c.deref.result.now) (g.W.Output.failures c.loop-line.out)
+    (g.W.Output.failures c.write_line-in-Some.new.out)) c.loop-line.invariant.4 c.in_err-write_line-2.ensures.stopped) in
     λ h b s e. all (subst g.B.Standing.honest (sym same) h) b s
 
 pub returns-in_err-write_line-2-clause-kept : goal.returns-in_err-write_line-2-clause-kept

@@ -15,7 +15,7 @@ returns-in-Ok-clause-reserved g c honest b st =
     let appends = c.in-Ok.ensures.appends in
     let ws = c.judge_each.new.waits.items in
     let judged = c.in_ok-judge_each.ensures.judges (appends.honest honest) b st in
-    let sound = judged_sound (settings_view c.args.settings) (questions_view c.args.asked.now)
+    let sound = judged_sound (settings_view c.args.batch.settings) (questions_view c.args.batch.asked.now)
     c.judge_each.new.verdicts.items ws b judged st.sound in
     let lent = c.deref.result.now in
     subst (λ x. Stands g.B.Standing (with_waiting x b) c.reserve_each.new.store) c.deref.ensures.value
@@ -30,7 +30,7 @@ returns-in-Err-clause-left g c honest b st left r =
     let zero = c.judge_each.new.waits.ok.0 ∙ ap length none in
     cc (sym (eq-eqb (vec_len c.judge_each.new.waits) 0 zero) ∙ (sym c.is_empty.ensures ∙ c.if-is_empty.false)) in
     let refused = c.in-Err.ensures in
-    reserved_in_doubt g.B.Standing (settings_view c.args.settings) (questions_view c.args.asked.now)
+    reserved_in_doubt g.B.Standing (settings_view c.args.batch.settings) (questions_view c.args.batch.asked.now)
     c.judge_each.new.verdicts.items ws c.deref.result.now c.in-Err.fault c.args.store.now
     c.judge_each.new.store c.reserve_each.new.store b left c.deref.ensures.value some refused.refusals
     c.in_ok-judge_each.ensures.looks c.in_ok-judge_each.ensures.judges refused.appends honest st r

@@ -14,9 +14,9 @@ use Rattle.desk.proofs.batch_start.judge_each.Goals as goal
 
 pub loop-question-preserved : goal.loop-question-preserved
 loop-question-preserved g c =
-    let s = settings_view c.args.settings in
+    let s = settings_view c.args.batch.settings in
     let l = c.loop-question in
-    let asked = c.args.asked.now in
+    let asked = c.args.batch.asked.now in
     let i = l.question-index in
     let q = c.question-item.result in
     let qs = questions_view (take (i + 1) asked) in

@@ -12,12 +12,12 @@ use Rattle.desk.proofs.completion.complete_each.Goals as goal
 
 pub returns-in-Some-seal_together-clause-completes : goal.returns-in-Some-seal_together-clause-completes
 returns-in-Some-seal_together-clause-completes g c =
-    let s = settings_view c.args.settings in
-    let ps = pendings_in s c.args.waits.now in
+    let s = settings_view c.args.batch.settings in
+    let ps = pendings_in s c.args.batch.waits.now in
     let answers = c.in-Some.answers.items in
     let sealed = c.in-Some-seal_together.ensures.sealed in
     let each = subst (λ (texts : List (List ℕ)). SignsEach g.X.Signer.signs c.args.signer.now texts
-    (map signed_by answers) c.sign_all.new.signer) (texts_written s c.args.waits.now c.requires.texts)
+    (map signed_by answers) c.sign_all.new.signer) (texts_written s c.args.batch.waits.now c.requires.texts)
     c.in-Some.ensures.signed in (
       map signed_by answers,
       sealed.0,
@@ -33,13 +33,13 @@ returns-in-Some-seal_together-clause-completes g c =
 
 pub returns-clause-completes : goal.returns-clause-completes
 returns-clause-completes g c =
-    let s = settings_view c.args.settings in
-    let ps = pendings_in s c.args.waits.now in
+    let s = settings_view c.args.batch.settings in
+    let ps = pendings_in s c.args.batch.waits.now in
     let answers = c.in-Some.answers.items in
     let refused = c.in-None.ensures.refused in
     let sealed = c.finish_each.ensures.seals in
     let each = subst (λ (texts : List (List ℕ)). SignsEach g.X.Signer.signs c.args.signer.now texts
-    (map signed_by answers) c.sign_all.new.signer) (texts_written s c.args.waits.now c.requires.texts)
+    (map signed_by answers) c.sign_all.new.signer) (texts_written s c.args.batch.waits.now c.requires.texts)
     c.in-Some.ensures.signed in (
       map signed_by answers,
       sealed.0,

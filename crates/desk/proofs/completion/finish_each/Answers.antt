@@ -16,7 +16,8 @@ loop-index-preserved g c =
       honest = λ honest. before.honest (c.finish.ensures.honest honest);
       seals = (
         before.seals.0 ++ (step.0 ∷ []),
-        seals_next g.B.Standing (pending_in (settings_view c.args.settings)) signed_by reply_as c.args.waits.now
+        seals_next g.B.Standing (pending_in (settings_view c.args.batch.settings)) signed_by reply_as
+            c.args.batch.waits.now
             c.args.answers.now c.loop-index.index c.index-waits-index.result c.index-answers-index.result
             c.loop-index.replies.items c.push_reserved.new.self.items c.finish.result before.seals.0 step.0
             c.args.store.now c.loop-index.store c.finish.new.store c.loop-index-test.true

@@ -19,7 +19,7 @@ returns-in-Ok-append-clause-sealed g c =
     ∙ (ap (map (λ (s : Seal). Sealed s.serial s.token.items)) c.deref.ensures.value
     ∙ entries_of_seals batch.seals.items)) in (
       written.0,
-      sealed_together g.B.Standing (pendings_in (settings_view c.args.settings) c.args.waits.now)
+      sealed_together g.B.Standing (pendings_in (settings_view c.args.batch.settings) c.args.batch.waits.now)
           (map signed_by c.args.answers.now) written.0 (map seal_view batch.seals.items)
           (entries_view c.deref-2.result.now) c.args.store.now c.append.new.self (map reply_as batch.replies.items)
           written.1 are c.in-Ok-append.ensures.appends,
@@ -35,7 +35,7 @@ returns-clause-refused g c =
     ∙ (ap (map (λ (s : Seal). Sealed s.serial s.token.items)) c.deref.ensures.value
     ∙ entries_of_seals batch.seals.items)) in (
       call_of fault,
-      refused_together g.B.Standing (pendings_in (settings_view c.args.settings) c.args.waits.now)
+      refused_together g.B.Standing (pendings_in (settings_view c.args.batch.settings) c.args.batch.waits.now)
           (map signed_by c.args.answers.now) written.0 (map seal_view batch.seals.items)
           (entries_view c.deref-2.result.now) fault c.args.store.now c.append.new.self
           (map reply_as batch.replies.items) written.1 are c.in-Err.ensures.refusals c.in-Err.ensures.appends,

@@ -10,11 +10,11 @@ use Rattle.desk.proofs.completion.write_each.Given as goal
 
 abbrev pub invariant-loop-index : goal.invariant-loop-index
 invariant-loop-index l = record {
-  few_seals : vec_len l.batch.seals ≤ l.index;
-  many_replies : vec_len l.batch.replies ≡ l.index;
-  room_for_seals : length l.waits ≤ vec_capacity l.batch.seals;
-  room_for_replies : length l.waits ≤ vec_capacity l.batch.replies;
+  few_seals : vec_len l.written.seals ≤ l.index;
+  many_replies : vec_len l.written.replies ≡ l.index;
+  room_for_seals : length l.waits ≤ vec_capacity l.written.seals;
+  room_for_replies : length l.waits ≤ vec_capacity l.written.replies;
   written : (os : List Outcome) × AreWritten (pendings_in (settings_view l.settings) (take l.index l.waits))
-      (map signed_by (take l.index l.answers)) os (map seal_view l.batch.seals.items)
-      (map reply_as l.batch.replies.items);
+      (map signed_by (take l.index l.answers)) os (map seal_view l.written.seals.items)
+      (map reply_as l.written.replies.items);
 }

@@ -23,17 +23,17 @@ octets_of r = encoding (time_stamp_req unstated r)
 
 pub returns-in-Err-clause-step : goal.returns-in-Err-clause-step
 returns-in-Err-clause-step g c =
-    let reading : SFits w64 c.args.reading = search rules in
+    let reading : SFits w64 c.args.submission.reading = search rules in
     let s = settings_view c.args.settings in
-    let a = account_view c.args.account.now in
+    let a = account_view c.args.submission.account.now in
     let made = c.of_sha256-request.ensures in
     let r = request_view c.of_sha256-request.result in
     let o = refused c.in-Err.refusal in
-    subst (λ x. StepsBy g.B.Standing no_signer s (Begin (Some a) c.args.reading (octets_of x)) o c.args.store.now
-    c.judge.new.store (Refused (fault_of (cause_with c.in-Err.refusal))))
-    (request_is s.file a c.args.bytes.now c.digest-digest.result c.gives_certificate.result r made.made
+    subst (λ x. StepsBy g.B.Standing no_signer s (Begin (Some a) c.args.submission.reading (octets_of x)) o
+    c.args.store.now c.judge.new.store (Refused (fault_of (cause_with c.in-Err.refusal))))
+    (request_is s.file a c.args.submission.bytes.now c.digest-digest.result c.gives_certificate.result r made.made
     c.digest-digest.ensures c.gives_certificate.ensures)
-    (leaves_open g.B.Standing s (Some a) c.args.reading (octets_of r) c.args.store.now c.judge.new.store
+    (leaves_open g.B.Standing s (Some a) c.args.submission.reading (octets_of r) c.args.store.now c.judge.new.store
     c.in-Err.refusal c.in-Err.ensures.refusals c.in-Err.ensures.somebody c.in-Err.ensures.looks
     c.in-Err.ensures.counted
     (λ honest b st. subst (λ x. Finds s.file (Some a) x (octets_of r) o b (finding_of (Err c.in-Err.refusal)))
@@ -41,42 +41,42 @@ returns-in-Err-clause-step g c =
 
 pub returns-in-Ok-Fails-clause-step : goal.returns-in-Ok-Fails-clause-step
 returns-in-Ok-Fails-clause-step g c =
-    let reading : SFits w64 c.args.reading = search rules in
+    let reading : SFits w64 c.args.submission.reading = search rules in
     let s = settings_view c.args.settings in
-    let a = account_view c.args.account.now in
+    let a = account_view c.args.submission.account.now in
     let made = c.of_sha256-request.ensures in
     let r = request_view c.of_sha256-request.result in
-    subst (λ x. StepsBy g.B.Standing no_signer s (Begin (Some a) c.args.reading (octets_of x)) (all_fine (Ok []))
-    c.args.store.now c.judge.new.store (Rejected c.of.result.rule))
-    (request_is s.file a c.args.bytes.now c.digest-digest.result c.gives_certificate.result r made.made
+    subst (λ x. StepsBy g.B.Standing no_signer s (Begin (Some a) c.args.submission.reading (octets_of x))
+    (all_fine (Ok [])) c.args.store.now c.judge.new.store (Rejected c.of.result.rule))
+    (request_is s.file a c.args.submission.bytes.now c.digest-digest.result c.gives_certificate.result r made.made
     c.digest-digest.ensures c.gives_certificate.ensures)
-    (subst (λ x. StepsBy g.B.Standing no_signer s (Begin (Some a) c.args.reading (octets_of r)) (all_fine (Ok []))
-    c.args.store.now c.judge.new.store (Rejected x)) (sym c.of.ensures)
-    (rejects g.B.Standing s (Some a) c.args.reading (octets_of r) (all_fine (Ok [])) c.args.store.now c.judge.new.store
-    c.in-Ok-Fails.rule (refl, (tt, tt)) c.in-Ok-Fails.ensures.looks c.in-Ok-Fails.ensures.counted
-    (λ honest b st. subst (λ (f : Judgement). Finds s.file (Some a) c.args.reading (octets_of r) (all_fine (Ok [])) b
-    (finding_of (Ok f))) c.in-Ok-Fails.field-0-is
+    (subst (λ x. StepsBy g.B.Standing no_signer s (Begin (Some a) c.args.submission.reading (octets_of r))
+    (all_fine (Ok [])) c.args.store.now c.judge.new.store (Rejected x)) (sym c.of.ensures)
+    (rejects g.B.Standing s (Some a) c.args.submission.reading (octets_of r) (all_fine (Ok [])) c.args.store.now
+    c.judge.new.store c.in-Ok-Fails.rule (refl, (tt, tt)) c.in-Ok-Fails.ensures.looks c.in-Ok-Fails.ensures.counted
+    (λ honest b st. subst (λ (f : Judgement). Finds s.file (Some a) c.args.submission.reading (octets_of r)
+    (all_fine (Ok [])) b (finding_of (Ok f))) c.in-Ok-Fails.field-0-is
     (subst (λ x. Finds s.file (Some a) x (octets_of r) (all_fine (Ok [])) b (finding_of (Ok c.in-Ok-Fails.field-0)))
     (to_z-of_z reading) (c.in-Ok-Fails.ensures.finds honest b st (octets_of r) made.spelled made.short)))))
 
 pub returns-in-Ok-clause-step : goal.returns-in-Ok-clause-step
 returns-in-Ok-clause-step g c =
-    let reading : SFits w64 c.args.reading = search rules in
+    let reading : SFits w64 c.args.submission.reading = search rules in
     let s = settings_view c.args.settings in
-    let a = account_view c.args.account.now in
+    let a = account_view c.args.submission.account.now in
     let made = c.of_sha256-request.ensures in
     let r = request_view c.of_sha256-request.result in
     let plan = plan_of c.in-Ok-Allows.planned in
     let same : plan.request ≡ r = subst (HasRequest r) c.in-Ok-Allows.field-0-is c.in-Ok-Allows.ensures.same in
-    subst (λ x. StepsBy g.B.Standing no_signer s (Begin (Some a) c.args.reading (octets_of x)) (all_fine (Ok []))
-    c.args.store.now c.reserve.new.store (Begun c.in-Ok.pending))
-    (request_is s.file a c.args.bytes.now c.digest-digest.result c.gives_certificate.result r made.made
+    subst (λ x. StepsBy g.B.Standing no_signer s (Begin (Some a) c.args.submission.reading (octets_of x))
+    (all_fine (Ok [])) c.args.store.now c.reserve.new.store (Begun c.in-Ok.pending))
+    (request_is s.file a c.args.submission.bytes.now c.digest-digest.result c.gives_certificate.result r made.made
     c.digest-digest.ensures c.gives_certificate.ensures)
-    (reserves_after g.B.Standing s (Some a) c.args.reading (octets_of r) c.args.store.now c.judge.new.store
+    (reserves_after g.B.Standing s (Some a) c.args.submission.reading (octets_of r) c.args.store.now c.judge.new.store
     c.reserve.new.store plan c.in-Ok-Allows.planned.last c.as_str.result.now (Ok c.in-Ok.pending)
     c.as_str.ensures.value tt c.in-Ok-Allows.ensures.looks c.in-Ok-Allows.ensures.counted
-    (λ honest b st. subst (λ (f : Judgement). Finds s.file (Some a) c.args.reading (octets_of r) (all_fine (Ok [])) b
-    (finding_of (Ok f))) c.in-Ok-Allows.field-0-is
+    (λ honest b st. subst (λ (f : Judgement). Finds s.file (Some a) c.args.submission.reading (octets_of r)
+    (all_fine (Ok [])) b (finding_of (Ok f))) c.in-Ok-Allows.field-0-is
     (subst (λ x. Finds s.file (Some a) x (octets_of r) (all_fine (Ok [])) b (finding_of (Ok c.in-Ok-Allows.field-0)))
     (to_z-of_z reading) (c.in-Ok-Allows.ensures.finds honest b st (octets_of r) made.spelled made.short)))
     (λ honest b st. subst (HasLast (greatest_serial b)) c.in-Ok-Allows.field-0-is
@@ -91,24 +91,24 @@ returns-in-Ok-clause-step g c =
 
 pub returns-in-Err-reserve-clause-step : goal.returns-in-Err-reserve-clause-step
 returns-in-Err-reserve-clause-step g c =
-    let reading : SFits w64 c.args.reading = search rules in
+    let reading : SFits w64 c.args.submission.reading = search rules in
     let s = settings_view c.args.settings in
-    let a = account_view c.args.account.now in
+    let a = account_view c.args.submission.account.now in
     let made = c.of_sha256-request.ensures in
     let r = request_view c.of_sha256-request.result in
     let plan = plan_of c.in-Ok-Allows.planned in
     let refusal = c.in-Err-reserve.refusal in
     let same : plan.request ≡ r = subst (HasRequest r) c.in-Ok-Allows.field-0-is c.in-Ok-Allows.ensures.same in
-    subst (λ x. StepsBy g.B.Standing no_signer s (Begin (Some a) c.args.reading (octets_of x)) (refused refusal)
-    c.args.store.now c.reserve.new.store (Refused (fault_of (cause_with refusal))))
-    (request_is s.file a c.args.bytes.now c.digest-digest.result c.gives_certificate.result r made.made
+    subst (λ x. StepsBy g.B.Standing no_signer s (Begin (Some a) c.args.submission.reading (octets_of x))
+    (refused refusal) c.args.store.now c.reserve.new.store (Refused (fault_of (cause_with refusal))))
+    (request_is s.file a c.args.submission.bytes.now c.digest-digest.result c.gives_certificate.result r made.made
     c.digest-digest.ensures c.gives_certificate.ensures)
-    (reserves_after g.B.Standing s (Some a) c.args.reading (octets_of r) c.args.store.now c.judge.new.store
+    (reserves_after g.B.Standing s (Some a) c.args.submission.reading (octets_of r) c.args.store.now c.judge.new.store
     c.reserve.new.store plan c.in-Ok-Allows.planned.last c.as_str.result.now (Err refusal)
     c.as_str.ensures.value c.in-Err-reserve.ensures.refusals c.in-Ok-Allows.ensures.looks
     c.in-Ok-Allows.ensures.counted
-    (λ honest b st. subst (λ (f : Judgement). Finds s.file (Some a) c.args.reading (octets_of r) (all_fine (Ok [])) b
-    (finding_of (Ok f))) c.in-Ok-Allows.field-0-is
+    (λ honest b st. subst (λ (f : Judgement). Finds s.file (Some a) c.args.submission.reading (octets_of r)
+    (all_fine (Ok [])) b (finding_of (Ok f))) c.in-Ok-Allows.field-0-is
     (subst (λ x. Finds s.file (Some a) x (octets_of r) (all_fine (Ok [])) b (finding_of (Ok c.in-Ok-Allows.field-0)))
     (to_z-of_z reading) (c.in-Ok-Allows.ensures.finds honest b st (octets_of r) made.spelled made.short)))
     (λ honest b st. subst (HasLast (greatest_serial b)) c.in-Ok-Allows.field-0-is

@@ -1,4 +1,5 @@
 use Rattle.std.proofs.Common.{ℕ, List, [], Ok, Err, sym, ◌∙◌, subst}
+use Rattle.policy.specs.View.{account_view}
 use Rattle.book.specs.Values.{deposit_of}
 use Rattle.desk.specs.Outcome.{all_fine}
 use Rattle.desk.specs.Calls.{outcome_of}
@@ -28,7 +29,8 @@ returns-in-Err-clause-keeps g c =
         signer = c.in-Err.ensures.counted ∙ signer_counted ⊥ fault (g.X.Signer.fault_count c.args.signer.now);
         moves = signed;
         keeps = unsigned g.B.Standing c.args.pending
-            (deposit_of c.args.pending.serial c.args.owner.now c.args.reference.now c.args.bytes.now) fault
+            (deposit_of c.args.pending.serial (account_view c.args.submission.account.now).name
+            c.args.submission.reference.now c.args.submission.bytes.now) fault
             c.args.store.now;
       },
     )

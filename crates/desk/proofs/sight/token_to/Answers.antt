@@ -1,4 +1,5 @@
 use Rattle.std.proofs.Common.{[], Ok, refl, ◌∙◌, ap, subst}
+use Rattle.std.proofs.lemmas.Result.{err_from_is_err_and}
 use Rattle.std.specs.Option.{option_map}
 use Rattle.policy.specs.View.{account_view}
 use Rattle.tsp.specs.Granted.{granted_octets}
@@ -15,19 +16,25 @@ use Rattle.desk.proofs.Denied.{ungrown}
 use Rattle.desk.proofs.Fits.{none_failed}
 use Rattle.desk.proofs.sight.token_to.Goals as goal
 
-pub returns-in-Err-clause-step : goal.returns-in-Err-clause-step
-returns-in-Err-clause-step g c =
+pub returns-in_err-found-clause-step : goal.returns-in_err-found-clause-step
+returns-in_err-found-clause-step g c =
     let s = settings_view c.args.settings in
     let a = account_view c.args.account.now in
     let n = c.args.number in
-    let x = c.in-Err.obstacle in
-    denied (Account a.name) g.B.Standing s (Token a n) c.args.store.now c.see.new.store x (λ searching looking. (refl, (tt, tt)))
-    (λ f. tt) (sight_is_right (Account a.name) x c.in-Err.ensures.refusals) c.in-Err.ensures.looks c.in-Err.ensures.counted
-    (λ honest b st. untold (viewer_in s.file a.name) n b x c.in-Err.ensures.refusals
-    (subst (λ k. IsUnseen (viewer_in s.file k) n b x) c.as_str.ensures.value (c.in-Err.ensures.sees honest b st)))
+    let x = c.in_err-found.field-0.0 in
+    let same = err_from_is_err_and c.from_residual.result c.from_residual.ensures.1 in
+    rw (same.1, same.2) (denied (Account a.name) g.B.Standing s (Token a n) c.args.store.now c.see.new.store x
+    (λ searching looking. (refl, (tt, tt))) (λ f. tt)
+    (sight_is_right (Account a.name) x c.in_err-found.ensures.refusals) c.in_err-found.ensures.looks
+    c.in_err-found.ensures.counted
+    (λ honest b st. untold (viewer_in s.file a.name) n b x c.in_err-found.ensures.refusals
+    (subst (λ k. IsUnseen (viewer_in s.file k) n b x) c.as_str.ensures.value
+    (c.in_err-found.ensures.sees honest b st))))
 
-pub returns-in-Err-clause-refusals : goal.returns-in-Err-clause-refusals
-returns-in-Err-clause-refusals g c = sight_told c.in-Err.obstacle c.in-Err.ensures.refusals
+pub returns-in_err-found-clause-refusals : goal.returns-in_err-found-clause-refusals
+returns-in_err-found-clause-refusals g c =
+    let same = err_from_is_err_and c.from_residual.result c.from_residual.ensures.1 in
+    rw (same.1, same.2) (sight_told c.in_err-found.field-0.0 c.in_err-found.ensures.refusals)
 
 pub returns-in_default-clause-step : goal.returns-in_default-clause-step
 returns-in_default-clause-step g c =
@@ -35,27 +42,27 @@ returns-in_default-clause-step g c =
     let a = account_view c.args.account.now in
     let n = c.args.number in
     looks_as g.B.Standing s (Token a n) c.args.store.now c.see.new.store (all_fine (Ok [])) (Refused fault.NotHere)
-    (refl, (tt, tt)) c.in-Ok.ensures.counted tt tt c.in-Ok.ensures.looks
+    (refl, (tt, tt)) c.in_ok-found.ensures.counted tt tt c.in_ok-found.ensures.looks
     (λ honest b st.
-    let sees = subst (λ k. Sees (viewer_in s.file k) n b c.in-Ok.found) c.as_str.ensures.value
-    (c.in-Ok.ensures.sees honest b st) in
-    untokened (viewer_in s.file a.name) n b (deposit_view c.in-Ok.found.deposit) sees.seen
+    let sees = subst (λ k. Sees (viewer_in s.file k) n b c.in_ok-found.found) c.as_str.ensures.value
+    (c.in_ok-found.ensures.sees honest b st) in
+    untokened (viewer_in s.file a.name) n b (deposit_view c.in_ok-found.found.deposit) sees.seen
     (sees.token ∙ ap (option_map (λ t. t.items)) c.in_default.is))
 
-pub returns-in-Ok-write_granted-clause-step : goal.returns-in-Ok-write_granted-clause-step
-returns-in-Ok-write_granted-clause-step g c =
+pub returns-in-Ok-clause-step : goal.returns-in-Ok-clause-step
+returns-in-Ok-clause-step g c =
     let s = settings_view c.args.settings in
     let a = account_view c.args.account.now in
     let n = c.args.number in
-    let reply = c.in-Ok-write_granted.reply.items in
+    let reply = c.in-Ok.reply.items in
     looks_as g.B.Standing s (Token a n) c.args.store.now c.see.new.store (all_fine (Ok [])) (Shown reply)
-    (refl, (tt, tt)) c.in-Ok.ensures.counted tt tt c.in-Ok.ensures.looks
+    (refl, (tt, tt)) c.in_ok-found.ensures.counted tt tt c.in_ok-found.ensures.looks
     (λ honest b st.
-    let sees = subst (λ k. Sees (viewer_in s.file k) n b c.in-Ok.found) c.as_str.ensures.value
-    (c.in-Ok.ensures.sees honest b st) in
-    told (viewer_in s.file a.name) n b (deposit_view c.in-Ok.found.deposit) c.in-Some.token.items reply sees.seen
+    let sees = subst (λ k. Sees (viewer_in s.file k) n b c.in_ok-found.found) c.as_str.ensures.value
+    (c.in_ok-found.ensures.sees honest b st) in
+    told (viewer_in s.file a.name) n b (deposit_view c.in_ok-found.found.deposit) c.in-Some.token.items reply sees.seen
     (sees.token ∙ ap (option_map (λ t. t.items)) c.in-Some.is)
-    (c.in-Ok-write_granted.ensures.text ∙ ap granted_octets c.deref.ensures.value))
+    (c.in-Ok.ensures.text ∙ ap granted_octets c.deref.ensures.value))
 
 pub returns-clause-step : goal.returns-clause-step
 returns-clause-step g c =
@@ -64,8 +71,8 @@ returns-clause-step g c =
     let n = c.args.number in
     let o = record (all_fine (Ok [])) { growing = OutOfMemory } in
     looks_as g.B.Standing s (Token a n) c.args.store.now c.see.new.store o (Refused fault.Memory) (refl, (tt, tt))
-    c.in-Ok.ensures.counted (none_failed o tt tt tt tt tt tt tt tt) tt c.in-Ok.ensures.looks
+    c.in_ok-found.ensures.counted (none_failed o tt tt tt tt tt tt tt tt) tt c.in_ok-found.ensures.looks
     (λ honest b st.
-    let sees = subst (λ k. Sees (viewer_in s.file k) n b c.in-Ok.found) c.as_str.ensures.value
-    (c.in-Ok.ensures.sees honest b st) in
-    ungrown (viewer_in s.file a.name) n b (deposit_view c.in-Ok.found.deposit) sees.seen)
+    let sees = subst (λ k. Sees (viewer_in s.file k) n b c.in_ok-found.found) c.as_str.ensures.value
+    (c.in_ok-found.ensures.sees honest b st) in
+    ungrown (viewer_in s.file a.name) n b (deposit_view c.in_ok-found.found.deposit) sees.seen)

@@ -8,7 +8,7 @@ use Rattle.desk.specs.Outcome.{all_fine}
 use Rattle.desk.specs.Shown.{listed_as}
 use Rattle.desk.specs.CallContract.{no_signer}
 use Rattle.desk.proofs.Opened.{steps_opened, refused_as}
-use Rattle.desk.proofs.desk.Desk.list.Goals as goal
+use Rattle.desk.proofs.desk.Desk.list_within.Goals as goal
 
 pub returns-clause-step : goal.returns-clause-step
 returns-clause-step g c =
