@@ -39,7 +39,7 @@ pub(crate) fn keep<W: Write, B: Book + Drop, G: Signer>(
     }
 }
 
-/// Lists deposits. Their lines take memory.
+/// Lists deposits, as long as the writer has time. Their lines take memory.
 pub(crate) fn list<W: Write, B: Book + Drop, G: Signer>(
     context: &Context<'_>,
     desk: &mut Desk<'_, B>,
@@ -56,7 +56,7 @@ pub(crate) fn list<W: Write, B: Book + Drop, G: Signer>(
         Ok(asked) => asked,
         Err(refusal) => return refuse(writer, context.at, refusal),
     };
-    let rows = match desk.list(account) {
+    let rows = match desk.list_within(account, writer) {
         Ok(rows) => rows,
         Err(fault) => return refuse(writer, context.at, Refusal::from(fault)),
     };
