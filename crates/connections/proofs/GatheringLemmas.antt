@@ -1,30 +1,35 @@
 -- Connections that are gathered: one behind the other.
-use Rattle.std.proofs.Common.{◌≡◌, ◌∙◌, ℕ, ◌+◌, ◌<◌, ◌≤◌, ℤ, List, [], ◌∷◌, ◌++◌, length, Result, Ok, Err, arith}
-use Rattle.std.proofs.Common.{refl, sym, ap, subst, inl, inr}
+use Rattle.std.proofs.Common.{◌≡◌, ◌∙◌, ℕ, ◌+◌, ◌<◌, ◌≤◌, ℤ, List, [], ◌∷◌, ◌++◌, length, Option, Some, None}
+use Rattle.std.proofs.Common.{Result, Ok, Err, arith, refl, sym, ap, subst, inl, inr}
 use Rattle.std.proofs.lemmas.List.{append-nil, append_assoc, length-append, map-append}
 use Rattle.service.specs.Received.{ReceivedValue}
 use Rattle.connections.specs.Gathering.{AreGatheredBehind}
-use Rattle.connections.specs.Heard.{AreHanded, AreGathered, IsCutShort}
+use Rattle.connections.specs.Heard.{AreHanded, AreGathered, IsCutShort, waits_behind}
 use Rattle.connections.specs.Parts.{HandedValue, readings}
 use Rattle.connections.specs.Turns.{AreGiven}
 use Rattle.connections.specs.declared.clock.ClockFailed.{ClockFailed}
 use Rattle.connections.proofs.PartsLemmas.{given_then, handed_then}
 
-module _ {L S C : Type 0} (hands : L → ReceivedValue → S → L → Type 0) (stays : L → L → Type 0)
+module _ {L S C : Type 0} (hands : L → Option ℕ → ReceivedValue → S → L → Type 0) (stays : L → L → Type 0)
     (reads : C → Result ℤ ClockFailed → C → Type 0) where
   -- these were handed out behind those before
   pub record AreBehind (before after : List (HandedValue S)) (old : L) (clock : C) (new : L) (clock' : C) : Type 0 where
     pub more : List (HandedValue S)
     pub behind : after ≡ before ++ more
-    pub handed : AreHanded hands old more new
+    pub handed : AreHanded hands None old more new
     pub given : AreGiven reads clock (readings more) clock'
 
   -- what was handed out is its
-  pub hand_over : (one : HandedValue S) (received : ReceivedValue) (stream : S) (mid new : L)
-      → one.received ≡ received → one.stream ≡ stream → hands mid received stream new
-      → hands mid one.received one.stream new
-  hand_over one received stream mid new is goes hand =
-      subst (λ r. hands mid r one.stream new) (sym is) (subst (λ s. hands mid received s new) (sym goes) hand)
+  pub hand_over : (waits : Option ℕ) (one : HandedValue S) (received : ReceivedValue) (stream : S) (mid new : L)
+      → one.received ≡ received → one.stream ≡ stream → hands mid waits received stream new
+      → hands mid waits one.received one.stream new
+  hand_over waits one received stream mid new is goes hand =
+      subst (λ r. hands mid waits r one.stream new) (sym is)
+      (subst (λ s. hands mid waits received s new) (sym goes) hand)
+
+  none_waits : {A : Type 0} (more : List A) → None ≡ waits_behind None more
+  none_waits [] = refl
+  none_waits (one ∷ more) = refl
 
   pub none_behind : (before : List (HandedValue S)) (old : L) (clock : C) → AreBehind before before old clock old clock
   none_behind before old clock = record {
@@ -41,7 +46,7 @@ module _ {L S C : Type 0} (hands : L → ReceivedValue → S → L → Type 0) (
   module _ (before after : List (HandedValue S)) (old : L) (clock : C) (mid : L) (clock' : C)
       (these : AreBehind before after old clock mid clock') where
     pub one_behind : (all : List (HandedValue S)) (one : HandedValue S) (new : L) (clock'' : C)
-        → all ≡ after ++ (one ∷ []) → hands mid one.received one.stream new → reads clock' (Ok one.reading) clock''
+        → all ≡ after ++ (one ∷ []) → hands mid None one.received one.stream new → reads clock' (Ok one.reading) clock''
         → AreBehind before all old clock new clock''
     one_behind all one new clock'' is hand read = record {
       more = these.more ++ (one ∷ []);
@@ -58,7 +63,7 @@ module _ {L S C : Type 0} (hands : L → ReceivedValue → S → L → Type 0) (
     gathered_all new stay = record {
       more = these.more;
       behind = these.behind;
-      gathered = subst (λ xs. AreGathered hands stays reads xs old clock new clock') (sym (append-nil these.more))
+      gathered = subst (λ xs. AreGathered hands stays reads None xs old clock new clock') (sym (append-nil these.more))
           (record { last = mid; handed = these.handed; stayed = inr stay; given = these.given });
     }
 
@@ -67,12 +72,12 @@ module _ {L S C : Type 0} (hands : L → ReceivedValue → S → L → Type 0) (
     gathered_most = record {
       more = these.more;
       behind = these.behind;
-      gathered = subst (λ xs. AreGathered hands stays reads xs old clock mid clock') (sym (append-nil these.more))
+      gathered = subst (λ xs. AreGathered hands stays reads None xs old clock mid clock') (sym (append-nil these.more))
           (record { last = mid; handed = these.handed; stayed = inl refl; given = these.given });
     }
 
     -- as one asks for something else
-    pub gathered_last : (one : HandedValue S) (new : L) (clock'' : C) → hands mid one.received one.stream new
+    pub gathered_last : (one : HandedValue S) (new : L) (clock'' : C) → hands mid None one.received one.stream new
         → reads clock' (Ok one.reading) clock''
         → AreGatheredBehind hands stays reads before after (one ∷ []) old clock new clock''
     gathered_last one new clock'' hand read = record {
@@ -93,8 +98,8 @@ module _ {L S C : Type 0} (hands : L → ReceivedValue → S → L → Type 0) (
 
     -- the clock fails
     pub cut_behind : (left : ℕ) → length these.more < left → (received : ReceivedValue) (stream : S) (new : L)
-        → hands mid received stream new → (fault : ClockFailed) (clock'' : C) → reads clock' (Err fault) clock''
-        → IsCutShort hands reads left old clock new clock''
+        → hands mid None received stream new → (fault : ClockFailed) (clock'' : C) → reads clock' (Err fault) clock''
+        → IsCutShort hands reads None left old clock new clock''
     cut_behind left few received stream new hand fault clock'' refused = record {
       gathered = these.more;
       fewer = few;
@@ -104,15 +109,15 @@ module _ {L S C : Type 0} (hands : L → ReceivedValue → S → L → Type 0) (
       given = these.given;
       received = received;
       stream = stream;
-      last = hand;
+      last = subst (λ waits. hands mid waits received stream new) (none_waits these.more) hand;
       fault = fault;
       refused = refused;
     }
 
-  module _ (one : HandedValue S) (old : L) (clock : C) (mid : L) (clock' : C)
-      (hand : hands old one.received one.stream mid) (read : reads clock (Ok one.reading) clock') where
+  module _ (waits : Option ℕ) (one : HandedValue S) (old : L) (clock : C) (mid : L) (clock' : C)
+      (hand : hands old waits one.received one.stream mid) (read : reads clock (Ok one.reading) clock') where
     -- it alone
-    pub gathered_one : AreGathered hands stays reads (one ∷ []) old clock mid clock'
+    pub gathered_one : AreGathered hands stays reads waits (one ∷ []) old clock mid clock'
     gathered_one = record {
       last = mid;
       handed = (mid, (hand, refl));
@@ -123,9 +128,9 @@ module _ {L S C : Type 0} (hands : L → ReceivedValue → S → L → Type 0) (
     -- it, and those behind it
     pub gathered_first : (after last : List (HandedValue S)) (new : L) (clock'' : C)
         → AreGatheredBehind hands stays reads (one ∷ []) after last mid clock' new clock''
-        → AreGathered hands stays reads (after ++ last) old clock new clock''
+        → AreGathered hands stays reads waits (after ++ last) old clock new clock''
     gathered_first after last new clock'' behind =
-        subst (λ xs. AreGathered hands stays reads xs old clock new clock'') (ap (λ xs. xs ++ last) (sym behind.behind))
+        subst (λ xs. AreGathered hands stays reads waits xs old clock new clock'') (ap (λ xs. xs ++ last) (sym behind.behind))
         (record {
           last = behind.gathered.last;
           handed = (mid, (hand, behind.gathered.handed));
@@ -134,7 +139,7 @@ module _ {L S C : Type 0} (hands : L → ReceivedValue → S → L → Type 0) (
         })
 
     pub cut_first : (few most : ℕ) (new : L) (clock'' : C) → few + 1 ≤ most
-        → IsCutShort hands reads few mid clock' new clock'' → IsCutShort hands reads most old clock new clock''
+        → IsCutShort hands reads None few mid clock' new clock'' → IsCutShort hands reads waits most old clock new clock''
     cut_first few most new clock'' within cut = record {
       gathered = one ∷ cut.gathered;
       fewer = omega (arith, within, cut.fewer);
@@ -144,15 +149,15 @@ module _ {L S C : Type 0} (hands : L → ReceivedValue → S → L → Type 0) (
       given = (clock', (read, cut.given));
       received = cut.received;
       stream = cut.stream;
-      last = cut.last;
+      last = subst (λ w. hands cut.between w cut.received cut.stream new) (sym (none_waits cut.gathered)) cut.last;
       fault = cut.fault;
       refused = cut.refused;
     }
 
   -- the first
   pub cut_alone : (received : ReceivedValue) (stream : S) (old : L) (clock : C) (new : L) (fault : ClockFailed)
-      (clock' : C) (most : ℕ) → 0 < most → hands old received stream new → reads clock (Err fault) clock'
-      → IsCutShort hands reads most old clock new clock'
+      (clock' : C) (most : ℕ) → 0 < most → hands old (Some most) received stream new → reads clock (Err fault) clock'
+      → IsCutShort hands reads (Some most) most old clock new clock'
   cut_alone received stream old clock new fault clock' most some hand refused = record {
     gathered = [];
     fewer = some;

@@ -7,14 +7,13 @@ use Rattle.std.proofs.lemmas.List.{append-nil, append_assoc, length-append, leng
 use Rattle.policy.specs.Record.{PolicyValue}
 use Rattle.book.specs.declared.standing.Standing.{Ghosts}
 use Rattle.cms.specs.declared.signer.SignerFault.{SignerFault}
-use Rattle.desk.specs.Batches.{Question, stamp_for}
+use Rattle.desk.specs.Batches.{Question}
 use Rattle.desk.specs.CallContract.{DeskValue}
 use Rattle.desk.specs.Command.{Answer}
 use Rattle.desk.specs.Together.{AreRejectedUnasked, IsAnsweredTogether}
-use Rattle.service.specs.Answers.{answer_to}
-use Rattle.service.specs.Served.{Sends}
 use Rattle.service.specs.Stamps.{AsksStamp}
-use Rattle.connections.specs.Gathering.{AreAsked, AreReplied, AreSent, AreWritten}
+use Rattle.service.specs.declared.exchange.Exchanged.{Exchanged}
+use Rattle.connections.specs.Gathering.{AreAsked, AreReplied, AreSent, AreWritten, IsSent}
 use Rattle.connections.specs.Heard.{Hall, AreAnswered, AreTakenBack, hall}
 use Rattle.connections.specs.Parts.{Answered, HandedValue, Member, alone, together, IsAlone, IsMember, most_together}
 use Rattle.connections.specs.Parts.{answered_along}
@@ -59,9 +58,7 @@ asked_more file [] (a ∷ asked) one question each asks = absurd each
 asked_more file (one ∷ ones) [] last question each asks = absurd each
 
 sent_more : {S : Type 0} (contents : S → Option (List ℕ)) (written : List (Answered S)) (replies : List Answer)
-    (a : Answered S) (reply : Answer) → AreSent contents written replies
-    → ((asked : Question) → Sends contents a.handed.reading a.handed.stream a.stream_after
-    (answer_to (stamp_for asked) reply) a.outcome)
+    (a : Answered S) (reply : Answer) → AreSent contents written replies → IsSent contents a reply
     → AreSent contents (written ++ (a ∷ [])) (replies ++ (reply ∷ []))
 sent_more contents [] [] a reply sent sends = (sends, tt)
 sent_more contents (one ∷ written) (r ∷ replies) a reply sent sends =
@@ -70,23 +67,22 @@ sent_more contents [] (r ∷ replies) a reply sent sends = absurd sent
 sent_more contents (one ∷ written) [] a reply sent sends = absurd sent
 
 -- to these of all the replies are written, and the rest is left
-pub record Wrote {L S : Type 0} (takes_back : L → S → L → Type 0) (contents : S → Option (List ℕ))
+pub record Wrote {L S : Type 0} (takes_back : L → S → Exchanged → L → Type 0) (contents : S → Option (List ℕ))
     (all rest : List (HandedValue S)) (replies : List Answer) (old new : L) : Type 0 where
   pub written : List (Answered S)
   pub are : all ≡ map (λ a. a.handed) written ++ rest
   pub sent : AreSent contents written replies
   pub back : AreTakenBack takes_back old written new
 
-module _ {L S : Type 0} (takes_back : L → S → L → Type 0) (contents : S → Option (List ℕ)) where
+module _ {L S : Type 0} (takes_back : L → S → Exchanged → L → Type 0) (contents : S → Option (List ℕ)) where
   pub wrote_none : (all rest : List (HandedValue S)) (old : L) → all ≡ rest
       → Wrote takes_back contents all rest [] old old
   wrote_none all rest old is = record { written = []; are = is; sent = tt; back = refl }
 
   pub wrote_more : (all rest : List (HandedValue S)) (replies : List Answer) (old mid : L)
       → Wrote takes_back contents all rest replies old mid → (a : Answered S) (others : List (HandedValue S))
-      (reply : Answer) (new : L) → rest ≡ a.handed ∷ others
-      → ((asked : Question) → Sends contents a.handed.reading a.handed.stream a.stream_after
-      (answer_to (stamp_for asked) reply) a.outcome) → takes_back mid a.stream_after new
+      (reply : Answer) (new : L) → rest ≡ a.handed ∷ others → IsSent contents a reply
+      → takes_back mid a.stream_after a.exchanged new
       → Wrote takes_back contents all others (replies ++ (reply ∷ [])) old new
   wrote_more all rest replies old mid wrote a others reply new is sends back =
       let h = map (λ a. a.handed) wrote.written in
@@ -154,15 +150,15 @@ module _ {S B X : Type 0} (contents : S → Option (List ℕ)) (g : Ghosts B)
         are = ap (λ xs. a ∷ xs) rest.are;
         questions = ap (λ xs. question ∷ xs) rest.questions;
         replies = ap (λ xs. reply ∷ xs) rest.replies;
-        each = (record { asks = each.0; sent = sent.0 question }, rest.each);
+        each = (record { asks = each.0; sent = sent.0.sent question; all = sent.0.all }, rest.each);
       }
   joined [] [] (reply ∷ answers) each sent = absurd sent
   joined [] (question ∷ asked) answers each sent = absurd each
   joined (a ∷ written) [] answers each sent = absurd each
   joined (a ∷ written) (question ∷ asked) [] each sent = absurd sent
 
-module _ {L S B X : Type 0} (takes_back : L → S → L → Type 0) (contents : S → Option (List ℕ)) (g : Ghosts B)
-    (signs : X → List ℕ → Result (List ℕ) SignerFault → X → Type 0) (count : X → ℕ) where
+module _ {L S B X : Type 0} (takes_back : L → S → Exchanged → L → Type 0) (contents : S → Option (List ℕ))
+    (g : Ghosts B) (signs : X → List ℕ → Result (List ℕ) SignerFault → X → Type 0) (count : X → ℕ) where
   abbrev All : List (HandedValue S) → Hall L (Unit {0}) B X → Hall L (Unit {0}) B X → Type 0
   All = AreAnswered takes_back contents g signs count
 
@@ -171,7 +167,7 @@ module _ {L S B X : Type 0} (takes_back : L → S → L → Type 0) (contents : 
 
   pub one_answered : (a : Answered S) (old new : Hall L (Unit {0}) B X)
       → IsAlone contents g signs count a old.others.desk old.others.signer new.others.desk new.others.signer
-      → takes_back old.hearing a.stream_after new.hearing → All (a.handed ∷ []) old new
+      → takes_back old.hearing a.stream_after a.exchanged new.hearing → All (a.handed ∷ []) old new
   one_answered a old new done back = record {
     parts = alone a ∷ [];
     are = refl;

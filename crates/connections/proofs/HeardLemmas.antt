@@ -1,12 +1,13 @@
 -- Connections that are heard: more of them, and what is left of them where nothing is told.
-use Rattle.std.proofs.Common.{◌≡◌, ◌∙◌, ℕ, ◌+◌, ℤ, List, [], ◌∷◌, ◌++◌, length, map, Option, Result, Ok, Err}
-use Rattle.std.proofs.Common.{OnErr, OnOk, arith, refl, sym, ap, subst}
+use Rattle.std.proofs.Common.{◌≡◌, ◌∙◌, ℕ, ◌+◌, ◌-◌, ℤ, List, [], ◌∷◌, ◌++◌, length, map, Option, Result, Ok}
+use Rattle.std.proofs.Common.{Err, OnErr, OnOk, arith, refl, sym, ap, subst}
 use Rattle.std.proofs.lemmas.List.{length-append, length-map, map-append}
 use Rattle.book.specs.declared.standing.Standing.{Ghosts}
 use Rattle.cms.specs.declared.signer.SignerFault.{SignerFault}
 use Rattle.desk.specs.CallContract.{DeskValue}
 use Rattle.desk.specs.MachineRuns.{IsProper}
 use Rattle.service.specs.Received.{ReceivedValue}
+use Rattle.service.specs.declared.exchange.Exchanged.{Exchanged}
 use Rattle.connections.specs.Heard.{Hall, IsHeard, failed, answered, Follow, AreHeard, StopsHearing, hall}
 use Rattle.connections.specs.Heard.{counted_along}
 use Rattle.connections.specs.Parts.{handed_along, readings}
@@ -27,49 +28,58 @@ counted_more : {A : Type 0} (after : List (ℕ × A)) (n : ℕ) (new : A)
 counted_more [] n new = omega arith
 counted_more (next ∷ rest) n new = omega (arith, counted_more rest n new)
 
-module _ {L S C B X : Type 0} (hands : L → ReceivedValue → S → L → Type 0) (fails stays : L → L → Type 0)
-    (takes_back : L → S → L → Type 0) (contents : S → Option (List ℕ)) (reads : C → Result ℤ ClockFailed → C → Type 0)
-    (g : Ghosts B) (signs : X → List ℕ → Result (List ℕ) SignerFault → X → Type 0) (count : X → ℕ) where
-  abbrev One : ℕ → Hall L C B X → Hall L C B X → Type 0
+module _ {L S C B X : Type 0} (hands : L → Option ℕ → ReceivedValue → S → L → Type 0) (fails : L → ℕ → L → Type 0)
+    (stays : L → L → Type 0) (takes_back : L → S → Exchanged → L → Type 0) (contents : S → Option (List ℕ))
+    (reads : C → Result ℤ ClockFailed → C → Type 0) (g : Ghosts B)
+    (signs : X → List ℕ → Result (List ℕ) SignerFault → X → Type 0) (count : X → ℕ) where
+  abbrev One : ℕ → ℕ → Hall L C B X → Hall L C B X → Type 0
   One = IsHeard hands fails stays takes_back contents reads g signs count
 
-  abbrev Many : Hall L C B X → List (ℕ × Hall L C B X) → Hall L C B X → Type 0
+  abbrev Many : ℕ → Hall L C B X → List (ℕ × Hall L C B X) → Hall L C B X → Type 0
   Many = Follow hands fails stays takes_back contents reads g signs count
 
-  abbrev All : ℕ → Hall L C B X → Hall L C B X → Type 0
+  abbrev All : ℕ → ℕ → Hall L C B X → Hall L C B X → Type 0
   All = AreHeard hands fails stays takes_back contents reads g signs count
 
-  follow_more : (old : Hall L C B X) (after : List (ℕ × Hall L C B X)) (mid : Hall L C B X) (n : ℕ)
-      (new : Hall L C B X) → Many old after mid → One n mid new → Many old (after ++ ((n, new) ∷ [])) new
-  follow_more old [] mid n new same heard = (subst (λ s. One n s new) same heard, refl)
-  follow_more old (next ∷ rest) mid n new follow heard =
-      (follow.0, follow_more next.1 rest mid n new follow.1 heard)
+  follow_more : (most : ℕ) (old : Hall L C B X) (after : List (ℕ × Hall L C B X)) (mid : Hall L C B X) (n : ℕ)
+      (new : Hall L C B X) → Many most old after mid → One (most - counted_along after) n mid new
+      → Many most old (after ++ ((n, new) ∷ [])) new
+  follow_more most old [] mid n new same heard =
+      let all : most - 0 ≡ most = omega arith in
+      (subst (λ s. One most n s new) same (subst (λ k. One k n mid new) all heard), refl)
+  follow_more most old (next ∷ rest) mid n new follow heard =
+      let left : most - (next.0 + counted_along rest) ≡ (most - next.0) - counted_along rest = omega arith in (
+        follow.0,
+        follow_more (most - next.0) next.1 rest mid n new follow.1 (subst (λ k. One k n mid new) left heard),
+      )
 
   -- none
-  pub heard_none : (old : Hall L C B X) → All 0 old old
-  heard_none old = record { after = []; counted = refl; follow = refl }
+  pub heard_none : (most : ℕ) (old : Hall L C B X) → All most 0 old old
+  heard_none most old = record { after = []; counted = refl; follow = refl }
 
   -- more
-  pub heard_more : (n m : ℕ) (old mid new : Hall L C B X) → All n old mid → One m mid new → All (n + m) old new
-  heard_more n m old mid new heard next = record {
+  pub heard_more : (most n m : ℕ) (old mid new : Hall L C B X) → All most n old mid → One (most - n) m mid new
+      → All most (n + m) old new
+  heard_more most n m old mid new heard next = record {
     after = heard.after ++ ((m, new) ∷ []);
     counted = counted_more heard.after m new ∙ ap (λ k. k + m) heard.counted;
-    follow = follow_more old heard.after mid m new heard.follow next;
+    follow = follow_more most old heard.after mid m new heard.follow
+        (subst (λ k. One (most - k) m mid new) (sym heard.counted) next);
   }
 
   -- as many
-  pub heard_as : (n k : ℕ) (old new : Hall L C B X) → n ≡ k → All n old new → All k old new
-  heard_as n k old new is heard = record {
+  pub heard_as : (most n k : ℕ) (old new : Hall L C B X) → n ≡ k → All most n old new → All most k old new
+  heard_as most n k old new is heard = record {
     after = heard.after;
     counted = heard.counted ∙ is;
     follow = heard.follow;
   }
 
   -- what is told of no octets
-  served_first : (n : ℕ) (old next : Hall L C B X) (rest : ℕ) (new : State C B X) → One n old next
+  served_first : (most n : ℕ) (old next : Hall L C B X) (rest : ℕ) (new : State C B X) → One most n old next
       → IsServedBy reads g signs count rest next.others new
       → IsServedBy reads g signs count (n + rest) old.others new
-  served_first n old next rest new (failed one fell same) r =
+  served_first most n old next rest new (failed one fell same) r =
       let more : IsServedBy reads g signs count (n + rest) next.others new = record {
         parts = r.parts;
         failed = r.failed + 1;
@@ -78,7 +88,7 @@ module _ {L S C B X : Type 0} (hands : L → ReceivedValue → S → L → Type 
         done = r.done;
       } in
       subst (λ s. IsServedBy reads g signs count (n + rest) s new) same more
-  served_first n old next rest new (answered is) r =
+  served_first most n old next rest new (answered is) r =
       let parts = is.answered.parts in
       let bare = map bare_part parts in
       let are : readings is.handed ≡ readings (handed_along bare) =
@@ -104,28 +114,29 @@ module _ {L S C B X : Type 0} (hands : L → ReceivedValue → S → L → Type 
             next.others.signer is.answered.done) r.done;
       }
 
-  served_along : (old : Hall L C B X) (after : List (ℕ × Hall L C B X)) (new : Hall L C B X) → Many old after new
-      → IsServedBy reads g signs count (counted_along after) old.others new.others
-  served_along old [] new same = record {
+  served_along : (most : ℕ) (old : Hall L C B X) (after : List (ℕ × Hall L C B X)) (new : Hall L C B X)
+      → Many most old after new → IsServedBy reads g signs count (counted_along after) old.others new.others
+  served_along most old [] new same = record {
     parts = [];
     failed = 0;
     counted = refl;
     given = ap (λ s. s.others.clock) same;
     done = (ap (λ s. s.others.desk) same, ap (λ s. s.others.signer) same);
   }
-  served_along old (next ∷ rest) new follow =
-      served_first next.0 old next.1 (counted_along rest) new.others follow.0 (served_along next.1 rest new follow.1)
+  served_along most old (next ∷ rest) new follow =
+      served_first most next.0 old next.1 (counted_along rest) new.others follow.0
+      (served_along (most - next.0) next.1 rest new follow.1)
 
-  pub served : (n : ℕ) (old new : Hall L C B X) → All n old new
+  pub served : (most n : ℕ) (old new : Hall L C B X) → All most n old new
       → IsServedBy reads g signs count n old.others new.others
-  served n old new heard =
+  served most n old new heard =
       subst (λ k. IsServedBy reads g signs count k old.others new.others) heard.counted
-      (served_along old heard.after new heard.follow)
+      (served_along most old heard.after new heard.follow)
 
   -- what each result tells
   abbrev Told : ℕ → Hall L C B X → Hall L C B X → {A : Type 0} → Result A ClockFailed → Type 0
   Told n old new result =
-      OnOk result (All n old new)
+      OnOk result (All n n old new)
       × OnErr result (StopsHearing hands fails stays takes_back contents reads g signs count n old new)
 
   -- the same from a desk and a signer that are the same
@@ -136,47 +147,47 @@ module _ {L S C B X : Type 0} (hands : L → ReceivedValue → S → L → Type 
       let P : DeskValue B → X → Type 0 = λ d x. Told n (hall hearing clock d x) new result in
       subst (λ x. P desk x) stays (subst (λ d. P d signer') same told)
 
-  served_setting : (n : ℕ) (old new : Hall L C B X) → All n old new
+  served_setting : (most n : ℕ) (old new : Hall L C B X) → All most n old new
       → new.others.desk.setting ≡ old.others.desk.setting
-  served_setting n old new heard =
-      let all = served n old new heard in
+  served_setting most n old new heard =
+      let all = served most n old new heard in
       done_setting untold g signs count all.parts old.others.desk old.others.signer new.others.desk new.others.signer
       all.done
 
-  served_honest : (n : ℕ) (old new : Hall L C B X) → All n old new
+  served_honest : (most n : ℕ) (old new : Hall L C B X) → All most n old new
       → g.honest new.others.desk.store → g.honest old.others.desk.store
-  served_honest n old new heard honest =
-      let all = served n old new heard in
+  served_honest most n old new heard honest =
+      let all = served most n old new heard in
       done_honest untold g signs count all.parts old.others.desk old.others.signer new.others.desk new.others.signer
       all.done honest
 
   pub told_setting : (n : ℕ) (old new : Hall L C B X) {A : Type 0} (result : Result A ClockFailed)
       → Told n old new result → new.others.desk.setting ≡ old.others.desk.setting
-  told_setting n old new (Ok done) told = served_setting n old new told.0
+  told_setting n old new (Ok done) told = served_setting n n old new told.0
   told_setting n old new (Err fault) told =
       let s = told.1 in
-      ap (λ d. d.setting) s.dropped.desk ∙ served_setting s.heard old s.last s.before
+      ap (λ d. d.setting) s.dropped.desk ∙ served_setting n s.heard old s.last s.before
 
   pub told_honest : (n : ℕ) (old new : Hall L C B X) {A : Type 0} (result : Result A ClockFailed)
       → Told n old new result → g.honest new.others.desk.store → g.honest old.others.desk.store
-  told_honest n old new (Ok done) told honest = served_honest n old new told.0 honest
+  told_honest n old new (Ok done) told honest = served_honest n n old new told.0 honest
   told_honest n old new (Err fault) told honest =
       let s = told.1 in
-      served_honest s.heard old s.last s.before (subst (λ d. g.honest d.store) s.dropped.desk honest)
+      served_honest n s.heard old s.last s.before (subst (λ d. g.honest d.store) s.dropped.desk honest)
 
   -- it is a run
   pub told_run : RunLaws signs → (n : ℕ) (old new : Hall L C B X) {A : Type 0} (result : Result A ClockFailed)
       → IsProper old.others.desk.setting → Told n old new result
       → ServesEach reads g signs count n old.others new.others result
   told_run laws n old new (Ok done) proper told =
-      served_run reads g signs count laws n old.others new.others (served n old new told.0) proper
+      served_run reads g signs count laws n old.others new.others (served n n old new told.0) proper
   told_run laws n old new {A} (Err fault) proper told =
       let s = told.1 in
       let cut = s.dropped.cut in
       let stops : StopsByClock reads g signs count n old.others new.others = record {
         served = s.heard;
         last = s.last.others;
-        before = served s.heard old s.last s.before;
+        before = served n s.heard old s.last s.before;
         readings = readings cut.gathered;
         clock = cut.asked;
         given = cut.given;

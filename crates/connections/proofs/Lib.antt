@@ -1,8 +1,10 @@
+pub mod ClosingLemmas
 pub mod GatheringLemmas
 pub mod GroupLemmas
 pub mod HeardLemmas
 pub mod MetLemmas
 pub mod PartsLemmas
+pub mod PlacesLemmas
 pub mod ProperLemmas
 pub mod RunLemmas
 pub mod UntoldLemmas

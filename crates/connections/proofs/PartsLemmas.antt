@@ -1,11 +1,12 @@
 -- Chains of what was handed out, read, answered and taken back: one more, and one behind the other.
-use Rattle.std.proofs.Common.{◌≡◌, ◌∙◌, ℕ, ℤ, List, [], ◌∷◌, ◌++◌, map, Option, Result}
+use Rattle.std.proofs.Common.{◌≡◌, ◌∙◌, ℕ, ℤ, List, [], ◌∷◌, ◌++◌, map, Option, None, Result}
 use Rattle.std.proofs.Common.{refl, sym, ap, subst}
 use Rattle.std.proofs.lemmas.List.{append_assoc, map-append}
 use Rattle.book.specs.declared.standing.Standing.{Ghosts}
 use Rattle.cms.specs.declared.signer.SignerFault.{SignerFault}
 use Rattle.desk.specs.CallContract.{DeskValue}
 use Rattle.service.specs.Received.{ReceivedValue}
+use Rattle.service.specs.declared.exchange.Exchanged.{Exchanged}
 use Rattle.connections.specs.Heard.{AreHanded, AreTakenBack}
 use Rattle.connections.specs.Parts.{Answered, HandedValue, Part, alone, together, answered_in, answered_along}
 use Rattle.connections.specs.Parts.{handed_along, AreDone}
@@ -19,14 +20,14 @@ given_then reads old [] mid more new same given = subst (λ c. AreGiven reads c 
 given_then reads old (r ∷ rs) mid more new first given =
     (first.0, (first.1.0, given_then reads first.0 rs mid more new first.1.1 given))
 
-pub handed_then : {L S : Type 0} (hands : L → ReceivedValue → S → L → Type 0) (old : L) (ones : List (HandedValue S))
-    (mid : L) (more : List (HandedValue S)) (new : L) → AreHanded hands old ones mid → AreHanded hands mid more new
-    → AreHanded hands old (ones ++ more) new
-handed_then hands old [] mid more new same handed = subst (λ l. AreHanded hands l more new) same handed
+pub handed_then : {L S : Type 0} (hands : L → Option ℕ → ReceivedValue → S → L → Type 0) (old : L)
+    (ones : List (HandedValue S)) (mid : L) (more : List (HandedValue S)) (new : L) → AreHanded hands None old ones mid
+    → AreHanded hands None mid more new → AreHanded hands None old (ones ++ more) new
+handed_then hands old [] mid more new same handed = subst (λ l. AreHanded hands None l more new) same handed
 handed_then hands old (one ∷ ones) mid more new first handed =
     (first.0, (first.1.0, handed_then hands first.0 ones mid more new first.1.1 handed))
 
-pub taken_then : {L S : Type 0} (takes_back : L → S → L → Type 0) (old : L) (ones : List (Answered S)) (mid : L)
+pub taken_then : {L S : Type 0} (takes_back : L → S → Exchanged → L → Type 0) (old : L) (ones : List (Answered S)) (mid : L)
     (more : List (Answered S)) (new : L) → AreTakenBack takes_back old ones mid → AreTakenBack takes_back mid more new
     → AreTakenBack takes_back old (ones ++ more) new
 taken_then takes_back old [] mid more new same taken = subst (λ l. AreTakenBack takes_back l more new) same taken

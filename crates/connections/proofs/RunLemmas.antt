@@ -368,7 +368,7 @@ module _ {B X : Type 0} (g : Ghosts B) (signs : X → List ℕ → Result (List 
     met_along law (alone a ∷ parts) old x new y done =
         met_in law (commands_of (Along parts done.0 done.1 new y done.2.1))
         (met_along law parts done.0 done.1 new y done.2.1) a.handed.reading (turn g signs count old x done.0 done.1)
-        a.outcome (done.2.0.serves None None tt (λ ended taken. tt))
+        a.exchanged.served (done.2.0.serves None None tt (λ ended taken. tt))
     met_along law (together members ∷ parts) old x new y done =
         met_stamps (map (λ m. m.question) members) (commands_of (Along parts done.0 done.1 new y done.2.1))
         (met_along law parts done.0 done.1 new y done.2.1)
@@ -544,7 +544,7 @@ module _ {B X : Type 0} (g : Ghosts B) (signs : X → List ℕ → Result (List 
         serves disturb old done.0 x done.1 new y done.2.0.setting
         (done_honest untold g signs count parts done.0 done.1 new y done.2.1 honest)
         (Along parts done.0 done.1 new y done.2.1)
-        (run_along disturb one parts done.0 done.1 new y done.2.1 honest) b stood a.handed.reading a.outcome
+        (run_along disturb one parts done.0 done.1 new y done.2.1 honest) b stood a.handed.reading a.exchanged.served
         (done.2.0.serves None None tt (λ ended taken. tt)) met
     run_along disturb one (together members ∷ parts) old x new y done honest b stood met =
         let later = Along parts done.0 done.1 new y done.2.1 in

@@ -98,7 +98,7 @@ abbrev pub bare : {S : Type 0} → HandedValue S → HandedValue (Unit {0})
 bare h = record { received = h.received; stream = tt; reading = h.reading }
 
 abbrev pub bare_answered : {S : Type 0} → Answered S → Answered (Unit {0})
-bare_answered a = record { handed = bare a.handed; stream_after = tt; outcome = a.outcome }
+bare_answered a = record { handed = bare a.handed; stream_after = tt; exchanged = a.exchanged }
 
 abbrev pub bare_member : {S : Type 0} → Member S → Member (Unit {0})
 bare_member m = record { answered = bare_answered m.answered; question = m.question; reply = m.reply }
@@ -161,7 +161,8 @@ module _ {S B X : Type 0} (contents : S → Option (List ℕ)) (g : Ghosts B)
     record {
       asks = each.0.asks;
       sent = sends contents m.answered.handed.reading m.answered.handed.stream m.answered.stream_after
-          (answer_to (stamp_for m.question) m.reply) m.answered.outcome each.0.sent;
+          (answer_to (stamp_for m.question) m.reply) m.answered.exchanged.served each.0.sent;
+      all = each.0.all;
     },
     bare_each file members each.1,
   )
@@ -180,7 +181,8 @@ module _ {S B X : Type 0} (contents : S → Option (List ℕ)) (g : Ghosts B)
       desk_after = new;
       signer = x;
       signer_after = y;
-    }) a.outcome (done.serves before after consumed ended);
+    }) a.exchanged.served (done.serves before after consumed ended);
+    all = done.all;
   }
   bare_part_done (together members) old x new y done =
       let as_many = length-map members bare_member in

@@ -1,7 +1,10 @@
 pub mod Clock
+pub mod Closing
 pub mod Gathering
 pub mod Heard
 pub mod Look
 pub mod Parts
+pub mod Places
 pub mod Run
 pub mod Turns
+pub mod Waiting

@@ -11,10 +11,10 @@ use Rattle.desk.specs.CallContract.{DeskValue}
 use Rattle.desk.specs.Command.{Answer}
 use Rattle.desk.specs.Together.{IsAnsweredTogether}
 use Rattle.service.specs.Answers.{answer_to}
-use Rattle.service.specs.Received.{ReceivedValue}
+use Rattle.service.specs.Received.{ReceivedValue, IsAll}
 use Rattle.service.specs.Served.{Sends, Serves}
 use Rattle.service.specs.Stamps.{AsksStamp}
-use Rattle.service.specs.declared.served.Served.{Served}
+use Rattle.service.specs.declared.exchange.Exchanged.{Exchanged}
 
 -- a connection that was handed out: what came of its request, what its answer goes to, and the reading that the clock
 -- gave for it
@@ -26,11 +26,15 @@ pub record HandedValue (S : Type 0) : Type 0 where
 abbrev pub readings : {S : Type 0} → List (HandedValue S) → List ℤ
 readings handed = map (λ h. h.reading) handed
 
--- and its answer: what that went to, and what became of it
+-- and its answer: what that went to, what became of it, and whether nothing follows the request
 pub record Answered (S : Type 0) : Type 0 where
   pub handed : HandedValue S
   pub stream_after : S
-  pub outcome : Served
+  pub exchanged : Exchanged
+
+-- Where it is said that nothing follows the request, the octets that came are a request of which nothing follows.
+abbrev pub TellsAll : {S : Type 0} → Answered S → Type 0
+TellsAll a = a.exchanged.is_all ≡ true → IsAll a.handed.received.octets
 
 -- One of those whose stamps are answered together: the stamp that it asks for, and the desk's reply.
 pub record Member (S : Type 0) : Type 0 where
@@ -80,14 +84,16 @@ module _ {S B X : Type 0} (contents : S → Option (List ℕ)) (g : Ghosts B)
           desk_after = new;
           signer = x;
           signer_after = y;
-        }) a.outcome
+        }) a.exchanged.served
+    pub all : TellsAll a
 
   -- By the octets that came of it, it asks for its stamp at its reading, and what is written to it is the answer with its
   -- reply.
   pub record IsMember (file : PolicyValue) (m : Member S) : Type 0 where
     pub asks : AsksStamp file m.answered.handed.reading m.answered.handed.received m.question
     pub sent : Sends contents m.answered.handed.reading m.answered.handed.stream m.answered.stream_after
-        (answer_to (stamp_for m.question) m.reply) m.answered.outcome
+        (answer_to (stamp_for m.question) m.reply) m.answered.exchanged.served
+    pub all : TellsAll m.answered
 
   -- The desk answers the stamps of all of them together.
   pub record AreTogether (members : List (Member S)) (old : DeskValue B) (x : X) (new : DeskValue B) (y : X) : Type 0

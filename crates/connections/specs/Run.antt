@@ -136,7 +136,7 @@ module _ {B X : Type 0} (g : Ghosts B) (signs : X → List ℕ → Result (List 
     abbrev pub stretch_of : (part : Part (Unit {0})) (old : DeskValue B) (x : X) (new : DeskValue B) (y : X)
         → IsDone untold g signs count part old x new y → Stretch
     stretch_of (alone a) old x new y done =
-        in_turn (told_in a.handed.reading (turn old x new y) a.outcome (done.serves None None tt (λ ended taken. tt)))
+        in_turn (told_in a.handed.reading (turn old x new y) a.exchanged.served (done.serves None None tt (λ ended taken. tt)))
     stretch_of (together members) old x new y done = at_once record {
       asked = map (λ m. m.question) members;
       answers = map (λ m. m.reply) members;

@@ -1,10 +1,12 @@
 //! A connection that was answered, and whose client may still send.
-ghost use Rattle.std.specs.Prelude.{◌<◌};
+ghost use Rattle.std.specs.Prelude.{◌≡◌, ◌<◌, IfSome};
+ghost use Rattle.connections.specs.Closing.{IsCounted};
 
 use crate::peer::Peer;
 use mio::Registry;
-use sockets::Stream;
+use sockets::Duplex;
 use std::io::{ErrorKind, Read};
+use std::os::fd::AsRawFd;
 use std::time::{Duration, Instant};
 
 /// The most octets that are dropped behind an answer.
@@ -20,9 +22,9 @@ const MOST_READS: u32 = 64;
 /// sends nothing for some time, its time is up, or 16 MiB are dropped, at most a buffer more. A stream that is closed
 /// with octets in it that weren't read would be reset, and the peer might lose what was written.
 #[derive(Drop)]
-pub(crate) struct Closing {
+pub(crate) struct Closing<S> {
     /// The connection.
-    pub(crate) peer: Peer<Stream>,
+    pub(crate) peer: Peer<S>,
     /// When the next octet has to have come.
     until: Instant,
     dropped: usize,
@@ -34,42 +36,69 @@ fn until(now: Instant) -> Option<Instant> {
     now.checked_add(Duration::from_secs(DROP_SECONDS))
 }
 
-impl Closing {
+impl<S: Drop> Closing<S> {
     /// Nothing is dropped yet. None where there is no such moment.
-    pub(crate) fn new(peer: Peer<Stream>, now: Instant) -> Option<Closing> {
+    pub(crate) fn new(peer: Peer<S>, now: Instant) -> Option<Closing<S>>
+        ensures peer { IfSome result (λ closing. closing.peer ≡ peer) }
+        ensures none { IfSome result (λ closing. closing.dropped ≡ 0) }
+    {
         Some(Closing {
             peer,
             until: until(now)?,
             dropped: 0,
         })
     }
+}
 
+impl<S> Closing<S> {
     /// The time that is left.
     pub(crate) fn left(&self, now: Instant) -> Duration {
         self.peer.left(now).min(self.until.duration_since(now))
     }
+}
 
+impl<S: Duplex + AsRawFd> Closing<S> {
     /// Drops what is there, and tells whether it can be closed.
-    pub(crate) fn is_done(&mut self, registry: &Registry, now: Instant) -> bool {
+    pub(crate) fn is_done(&mut self, registry: &Registry, now: Instant) -> bool
+        ensures counted { IsCounted (S.remaining self.old.peer.stream) (S.remaining self.new.peer.stream)
+            self.old.dropped self.new.dropped }
+    {
         if self.peer.is_ready && self.drop_some(registry, now) {
             return true;
         }
         self.peer.end <= now || self.until <= now
     }
 
+    /// Reads once and drops what came: how many octets.
+    fn drop_once(&mut self) -> Result<usize, ErrorKind>
+        requires { self.old.dropped < 16_777_216 }
+        ensures counted { IsCounted (S.remaining self.old.peer.stream) (S.remaining self.new.peer.stream)
+            self.old.dropped self.new.dropped }
+    {
+        let mut room = [0u8; 4096];
+        match self.peer.stream.read(&mut room) {
+            Ok(taken) => {
+                self.dropped += taken;
+                Ok(taken)
+            }
+            Err(error) => Err(error.kind()),
+        }
+    }
+
     /// Reads and drops what is there; whether it is the last.
-    fn drop_some(&mut self, registry: &Registry, now: Instant) -> bool {
+    #[tactic(auto, using(crate::proofs::ClosingLemmas::counted_none, crate::proofs::ClosingLemmas::counted_then))]
+    fn drop_some(&mut self, registry: &Registry, now: Instant) -> bool
+        ensures counted { IsCounted (S.remaining self.old.peer.stream) (S.remaining self.new.peer.stream)
+            self.old.dropped self.new.dropped }
+    {
         for _ in 0..MOST_READS {
             if self.dropped >= MOST_DROPPED {
                 return true;
             }
-            let mut room = [0u8; 4096];
-            match self.peer.stream.read(&mut room) {
+            match self.drop_once() {
                 Ok(0) => return true,
-                Ok(taken) => self.dropped += taken,
-                Err(error) if error.kind() == ErrorKind::WouldBlock => {
-                    return self.peer.wait(registry).is_err();
-                }
+                Ok(_) => {}
+                Err(ErrorKind::WouldBlock) => return self.peer.wait(registry).is_err(),
                 Err(_) => return true,
             }
             match until(now) {

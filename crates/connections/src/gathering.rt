@@ -1,6 +1,6 @@
 //! Connections that are handed out one after the other, before the first of them is answered.
-ghost use Rattle.std.specs.Prelude.{◌≡◌, ◌+◌, ◌-◌, ◌<◌, ◌≤◌, [], length, map, Ok, Err, IfOk, IfSome, MatchOption, MatchResult};
-ghost use Rattle.std.specs.Prelude.{OnErr, vec_capacity, vec_len};
+ghost use Rattle.std.specs.Prelude.{◌≡◌, ◌+◌, ◌-◌, ◌<◌, ◌≤◌, [], length, map, Some, None, Ok, Err, IfOk, IfSome};
+ghost use Rattle.std.specs.Prelude.{MatchOption, MatchResult, OnErr, vec_capacity, vec_len};
 ghost use Rattle.connections.specs.Gathering.{AreGatheredBehind, gathered_in, handed_view, last_in};
 ghost use Rattle.connections.specs.Heard.{AreGathered, IsCutShort};
 ghost use Rattle.connections.specs.Parts.{most_together};
@@ -98,8 +98,8 @@ fn gather_behind<L: Hearing, C: Clock>(
     ensures gathered { IfOk result (λ last. AreGatheredBehind L.hands L.stays C.reads (map handed_view stamps.old.items)
         (map handed_view stamps.new.items) (last_in last) hearing.old clock.old hearing.new clock.new) }
     ensures few { IfOk result (λ last. length stamps.new.items + length (last_in last) ≤ vec_capacity stamps.old) }
-    ensures cut { OnErr result (IsCutShort L.hands C.reads (vec_capacity stamps.old - vec_len stamps.old) hearing.old
-        clock.old hearing.new clock.new) }
+    ensures cut { OnErr result (IsCutShort L.hands C.reads None (vec_capacity stamps.old - vec_len stamps.old)
+        hearing.old clock.old hearing.new clock.new) }
 {
     'gathering: while stamps.len() < stamps.capacity() {
         let Some((request, stream)) = hearing.next_now() else {
@@ -124,13 +124,14 @@ pub(crate) fn gather<L: Hearing, C: Clock>(
 ) -> Result<Option<Gathering<L::Stream>>, ClockFailed>
     requires some { 0 < most }
     ensures gathered { IfOk result (λ gathering. MatchOption gathering
-        (L.fails hearing.old hearing.new × (clock.new ≡ clock.old))
-        (λ these. AreGathered L.hands L.stays C.reads (gathered_in these) hearing.old clock.old hearing.new clock.new)) }
+        (L.fails hearing.old most hearing.new × (clock.new ≡ clock.old))
+        (λ these. AreGathered L.hands L.stays C.reads (Some most) (gathered_in these) hearing.old clock.old hearing.new
+        clock.new)) }
     ensures some { IfOk result (λ gathering. IfSome gathering (λ these. 0 < length (gathered_in these))) }
     ensures few { IfOk result (λ gathering. IfSome gathering (λ these. length (gathered_in these) ≤ most)) }
     ensures stamps { IfOk result (λ gathering. IfSome gathering
         (λ these. length these.stamps.items ≤ most_together)) }
-    ensures cut { OnErr result (IsCutShort L.hands C.reads most hearing.old clock.old hearing.new clock.new) }
+    ensures cut { OnErr result (IsCutShort L.hands C.reads (Some most) most hearing.old clock.old hearing.new clock.new) }
 {
     let Some((request, stream)) = hearing.next(most) else {
         return Ok(None);

@@ -1,6 +1,7 @@
 //! What connections are heard on.
-ghost use Rattle.std.specs.Prelude.{MatchOption};
+ghost use Rattle.std.specs.Prelude.{ℕ, Option, Some, None, MatchOption};
 ghost use Rattle.service.specs.Received.{ReceivedValue};
+ghost use Rattle.service.specs.declared.exchange.Exchanged.{Exchanged as SpecExchanged};
 
 use service::{Exchanged, Request, Routes};
 use std::alloc::Global;
@@ -12,17 +13,18 @@ pub trait Hearing {
     /// What an answer is written to.
     type Stream: Write + Drop;
 
-    // a connection is handed out: what came of its request, and what its answer goes to
-    ghost hands: { Self → ReceivedValue → Self.Stream → Self → Type 0 } = { λ _ _ _ _. Unit {0} };
+    // a connection is handed out: how many were waited for at most, or none where it was there without waiting; what
+    // came of its request, and what its answer goes to
+    ghost hands: { Self → Option ℕ → ReceivedValue → Self.Stream → Self → Type 0 } = { λ _ _ _ _ _. Unit {0} };
 
-    // one failed, or was given up for another
-    ghost fails: { Self → Self → Type 0 } = { λ _ _. Unit {0} };
+    // one failed, or was given up for another, while at most so many were waited for
+    ghost fails: { Self → ℕ → Self → Type 0 } = { λ _ _ _. Unit {0} };
 
     // it was asked for one whose request is whole already, and there is none
     ghost stays: { Self → Self → Type 0 } = { λ _ _. Unit {0} };
 
-    // one is taken back
-    ghost takes_back: { Self → Self.Stream → Self → Type 0 } = { λ _ _ _. Unit {0} };
+    // one is taken back, and what became of it
+    ghost takes_back: { Self → Self.Stream → SpecExchanged → Self → Type 0 } = { λ _ _ _ _. Unit {0} };
 
     /// What gives memory for an answer.
     fn alloc(&self) -> Global;
@@ -35,16 +37,16 @@ pub trait Hearing {
 
     /// Waits for the next connection whose request is whole; none for one that failed. At most so many are waited for.
     fn next(&mut self, most: usize) -> Option<(Request, Self::Stream)>
-        ensures { MatchOption result (fails self.old self.new)
-            (λ whole. hands self.old whole.0 whole.1 self.new) };
+        ensures { MatchOption result (fails self.old most self.new)
+            (λ whole. hands self.old (Some most) whole.0 whole.1 self.new) };
 
     /// Another connection whose request is whole already, without waiting, of those that `next` may still give; none
     /// where there is none. One that failed is left to `next`.
     fn next_now(&mut self) -> Option<(Request, Self::Stream)>
         ensures { MatchOption result (stays self.old self.new)
-            (λ whole. hands self.old whole.0 whole.1 self.new) };
+            (λ whole. hands self.old None whole.0 whole.1 self.new) };
 
-    /// Takes back a connection whose answer was written.
+    /// Takes back a connection whose answer was written, and what became of it.
     fn take_back(&mut self, stream: Self::Stream, exchanged: Exchanged)
-        ensures { takes_back self.old stream self.new };
+        ensures { takes_back self.old stream exchanged self.new };
 }

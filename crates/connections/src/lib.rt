@@ -11,6 +11,7 @@ mod limited;
 mod listening;
 mod look;
 mod peer;
+mod places;
 mod server;
 mod waiting;
 

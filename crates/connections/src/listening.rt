@@ -1,18 +1,21 @@
 //! A listener, and those of its connections that are read side by side.
-ghost use Rattle.std.specs.Prelude.{◌≡◌, IfOk};
+ghost use Rattle.std.specs.Prelude.{◌≡◌, ◌⊎◌, ◌<◌, true, false, [], length, Some, None, IfOk, MatchOption, OnErr, OnOk};
+ghost use Rattle.connections.specs.Places.{AreAdded, AreReadOn, AreWaitedFor, FailsOne, HandsOut, IsAdded};
+ghost use Rattle.connections.specs.Waiting.{places_of};
 
 use crate::closing::Closing;
 use crate::hearing::Hearing;
 use crate::limited::Limited;
 use crate::peer::Peer;
-use crate::waiting::{Progress, Waiting};
+use crate::places::{Places, lesser};
+use crate::waiting::Waiting;
 use mio::unix::SourceFd;
 use mio::{Events, Interest, Poll, Registry, Token};
 use service::{Exchanged, Request, Routes, Served};
 use sockets::{Duplex, Listener, Stream};
 use std::alloc::{AllocError, Global};
 use std::io;
-use std::io::ErrorKind;
+use std::io::{ErrorKind, Read};
 use std::net::{Net, Shutdown};
 use std::os::fd::AsRawFd;
 use std::time::{Clock, Duration, Instant};
@@ -60,9 +63,8 @@ pub struct Listening<'l, R> {
     events: Events,
     /// What requests may ask for.
     routes: Routes,
-    /// In the order in which they were taken.
-    waiting: Vec<Waiting>,
-    closing: Vec<Closing>,
+    places: Places<Stream>,
+    closing: Vec<Closing<Stream>>,
     /// A connection may be there to be taken.
     is_ready: bool,
     /// The system had nothing to spare for one.
@@ -72,66 +74,56 @@ pub struct Listening<'l, R> {
 }
 
 /// Those of a token may have something to be read.
-fn hear(waiting: &mut [Waiting], closing: &mut [Closing], token: Token) {
-    for one in waiting.iter_mut() {
-        one.peer.hear(token);
-    }
+fn hear(closing: &mut [Closing<Stream>], token: Token) {
     for one in closing.iter_mut() {
         one.peer.hear(token);
     }
 }
 
-/// Reads what is there of each in turn: where the first stands that is done with, and how.
-fn first_done(
-    waiting: &mut [Waiting],
-    routes: &Routes,
-    registry: &Registry,
-    now: Instant,
-) -> Option<(usize, Progress)> {
-    for (place, one) in waiting.iter_mut().enumerate() {
-        match one.progress(routes, registry, now) {
-            Progress::Came | Progress::Waits => {}
-            done => return Some((place, done)),
+/// Those of which the system told may have something. Whether it told of the listener.
+fn hear_events(
+    events: &Events,
+    places: &mut Places<Stream>,
+    closing: &mut [Closing<Stream>],
+) -> bool
+    ensures { places_of places.new ≡ places_of places.old }
+{
+    let mut is_ready = false;
+    for event in events {
+        if event.token() == LISTENER {
+            is_ready = true;
         }
+        places.hear(event.token());
+        hear(closing, event.token());
     }
-    None
+    is_ready
 }
 
-/// Reads what is there of each in turn: where the first stands whose request is whole. One that failed keeps its place.
-fn first_whole(waiting: &mut [Waiting], routes: &Routes, registry: &Registry) -> Option<usize> {
-    for (place, one) in waiting.iter_mut().enumerate() {
-        if let Progress::Whole = one.progress_now(routes, registry) {
-            return Some(place);
-        }
+/// The least time that one of them has left, where it is less.
+fn least_left(
+    closing: &[Closing<Stream>],
+    now: Instant,
+    least: Option<Duration>,
+) -> Option<Duration> {
+    let mut least = least;
+    for one in closing {
+        least = lesser(least, one.left(now));
     }
-    None
+    least
 }
 
 /// Drops what is there of each in turn: where the first stands that can be closed.
-fn first_closed(closing: &mut [Closing], registry: &Registry, now: Instant) -> Option<usize> {
+fn first_closed(
+    closing: &mut [Closing<Stream>],
+    registry: &Registry,
+    now: Instant,
+) -> Option<usize> {
     for (place, one) in closing.iter_mut().enumerate() {
         if one.is_done(registry, now) {
             return Some(place);
         }
     }
     None
-}
-
-/// The least time that one of them has left, where it is less.
-fn least_left(
-    waiting: &[Waiting],
-    closing: &[Closing],
-    now: Instant,
-    least: Option<Duration>,
-) -> Option<Duration> {
-    let mut least = least;
-    for one in waiting {
-        least = lesser(least, one.peer.left(now));
-    }
-    for one in closing {
-        least = lesser(least, one.left(now));
-    }
-    least
 }
 
 /// What tells of connections of a listener, which doesn't wait for one from now on.
@@ -144,26 +136,11 @@ fn poll_of<N: Net>(net: &N, listener: &Listener) -> io::Result<Poll> {
     Ok(poll)
 }
 
-/// Room for the connections that are read side by side, and for those that are closed.
-fn room(alloc: Global) -> Result<(Vec<Waiting>, Vec<Closing>), AllocError> {
-    // one more, which is taken before another is given up for it
-    let waiting = Vec::with_capacity(alloc, MOST_WAITING + 1)?;
-    let closing = Vec::with_capacity(alloc, MOST_CLOSING)?;
-    Ok((waiting, closing))
-}
-
 /// Until which moment a connection has to be read further behind its answer, where its client may still send.
 fn rest_until(exchanged: Exchanged, end: Option<Instant>) -> Option<Instant> {
     match exchanged.served {
         Served::Answered(_) if !exchanged.is_all => end,
         _ => None,
-    }
-}
-
-fn lesser(least: Option<Duration>, left: Duration) -> Option<Duration> {
-    match least {
-        Some(least) => Some(least.min(left)),
-        None => Some(left),
     }
 }
 
@@ -180,10 +157,10 @@ impl<'l, R: AllocGlobal + Clock> Listening<'l, R> {
     ) -> io::Result<Listening<'l, R>>
         ensures limit { IfOk result (λ listening. listening.limit ≡ limit) }
         ensures octets { IfOk result (λ listening. listening.octets ≡ octets) }
+        ensures places { IfOk result (λ listening. places_of listening.places ≡ []) }
     {
         let alloc = rt.alloc();
         let poll = poll_of(net, listener)?;
-        let (waiting, closing) = room(alloc)?;
         Ok(Listening {
             rt,
             limit,
@@ -192,8 +169,9 @@ impl<'l, R: AllocGlobal + Clock> Listening<'l, R> {
             poll,
             events: Events::with_capacity(alloc, MOST_EVENTS)?,
             routes: Routes::new(alloc)?,
-            waiting,
-            closing,
+            // one more, which is taken before another is given up for it
+            places: Places::new(alloc, MOST_WAITING + 1)?,
+            closing: Vec::with_capacity(alloc, MOST_CLOSING)?,
             is_ready: true,
             is_short: false,
             token: 0,
@@ -201,68 +179,73 @@ impl<'l, R: AllocGlobal + Clock> Listening<'l, R> {
     }
 
     /// Waits for the next connection whose request is whole; none for one that failed. At most so many are waited for.
-    fn next_whole(&mut self, most: usize) -> Option<Waiting> {
+    fn next_whole(&mut self, most: usize) -> Option<Waiting<Stream>>
+        ensures { MatchOption result
+            (FailsOne ⟦<Stream as Read>⟧.remaining (Some most) (places_of self.old.places) (places_of self.new.places))
+            (λ one. HandsOut ⟦<Stream as Read>⟧.remaining (Some most) (places_of self.old.places) one.request one.peer.stream
+            (places_of self.new.places)) }
+    {
         for _ in 0..u64::MAX {
-            let Ok(now) = Instant::now(self.rt) else {
-                return None;
-            };
-            if self.take(now, most.min(MOST_WAITING)) {
-                return None;
-            }
-            if let Some(done) = self.take_done(now) {
+            if let Some(done) = self.next_done(most) {
                 return done;
             }
-            if self.is_crowded(most) && self.give_up(now) {
-                return None;
-            }
-            self.close_some(now);
-            if self.wait(most).is_err() {
-                return None;
-            }
+        }
+        None
+    }
+
+    /// Takes those that are there, reads what is there of each, and, where none is done with, waits once for more. The
+    /// first that is done with: itself where its request is whole, and else none.
+    fn next_done(&mut self, most: usize) -> Option<Option<Waiting<Stream>>>
+        ensures { MatchOption result
+            (AreWaitedFor ⟦<Stream as Read>⟧.remaining most (places_of self.old.places) (places_of self.new.places))
+            (λ done. MatchOption done
+            (FailsOne ⟦<Stream as Read>⟧.remaining (Some most) (places_of self.old.places) (places_of self.new.places))
+            (λ one. HandsOut ⟦<Stream as Read>⟧.remaining (Some most) (places_of self.old.places) one.request one.peer.stream
+            (places_of self.new.places))) }
+    {
+        let Ok(now) = Instant::now(self.rt) else {
+            return Some(None);
+        };
+        if self.take(now, most.min(MOST_WAITING)) {
+            return Some(None);
+        }
+        if let Some(done) = self
+            .places
+            .take_done(&self.routes, self.poll.registry(), now)
+        {
+            return Some(done);
+        }
+        if self.give_up(now, most) {
+            return Some(None);
+        }
+        self.close_some(now);
+        if self.wait(most).is_err() {
+            return Some(None);
         }
         None
     }
 
     /// Another connection whose request is whole already, without waiting: first of those that were heard of, and then of
     /// those of which the system tells.
-    fn another_whole(&mut self) -> Option<Waiting> {
-        if let Some(place) = first_whole(&mut self.waiting, &self.routes, self.poll.registry()) {
-            return self.removed(place);
+    fn another_whole(&mut self) -> Option<Waiting<Stream>>
+        ensures { MatchOption result (AreReadOn ⟦<Stream as Read>⟧.remaining (places_of self.old.places) (places_of self.new.places))
+            (λ one. HandsOut ⟦<Stream as Read>⟧.remaining None (places_of self.old.places) one.request one.peer.stream
+            (places_of self.new.places)) }
+    {
+        if let Some(one) = self.places.take_whole(&self.routes, self.poll.registry()) {
+            return Some(one);
         }
         self.poll.poll(&mut self.events, Some(Duration::ZERO)).ok()?;
         self.hear_all();
-        let place = first_whole(&mut self.waiting, &self.routes, self.poll.registry())?;
-        self.removed(place)
-    }
-
-    /// Takes out the first connection that is done with: itself where its request is whole, and else none.
-    fn take_done(&mut self, now: Instant) -> Option<Option<Waiting>> {
-        match first_done(&mut self.waiting, &self.routes, self.poll.registry(), now) {
-            Some((place, Progress::Whole)) => Some(self.removed(place)),
-            Some((place, _)) => {
-                let _ = self.removed(place);
-                Some(None)
-            }
-            None => None,
-        }
-    }
-
-    /// The connection at a place, which isn't waited for any longer.
-    fn removed(&mut self, place: usize) -> Option<Waiting> {
-        if place < self.waiting.len() {
-            Some(self.waiting.remove(place))
-        } else {
-            None
-        }
+        self.places.take_whole(&self.routes, self.poll.registry())
     }
 
     /// Takes the connections that are there, as long as fewer than so many are waited for. Whether one failed.
-    fn take(&mut self, now: Instant, most: usize) -> bool {
+    fn take(&mut self, now: Instant, most: usize) -> bool
+        ensures { AreAdded most (places_of self.old.places) (places_of self.new.places) }
+    {
         self.is_short = false;
-        for _ in self.waiting.len()..most {
-            if !self.is_ready {
-                return false;
-            }
+        'taking: while self.places.len() < most && self.is_ready {
             match self.take_one(now) {
                 Taken::One => {}
                 Taken::Failed => return true,
@@ -273,16 +256,25 @@ impl<'l, R: AllocGlobal + Clock> Listening<'l, R> {
     }
 
     /// Whether one may be there that has no place, or no descriptor. At most so many are waited for.
-    fn is_crowded(&self, most: usize) -> bool {
-        let count = self.waiting.len();
+    fn is_crowded(&self, most: usize) -> bool
+        ensures { result ≡ true → self.now.is_short ≡ false → length (places_of self.now.places) < most }
+    {
+        let count = self.places.len();
         self.is_ready && (self.is_short || (MOST_WAITING <= count && count < most))
     }
 
-    /// Gives up the connection that was taken first, if it has kept its place for long enough, for one that is there.
-    /// Whether one failed.
-    fn give_up(&mut self, now: Instant) -> bool {
-        match self.waiting.first() {
-            Some(first) if first.keeps_place_until <= now => {}
+    /// Gives up the connection that was taken first, if it has kept its place for long enough, for one that is there and
+    /// has none. At most so many are waited for. Whether one failed.
+    fn give_up(&mut self, now: Instant, most: usize) -> bool
+        ensures failed { result ≡ true
+            → FailsOne ⟦<Stream as Read>⟧.remaining (Some most) (places_of self.old.places) (places_of self.new.places) }
+        ensures added { result ≡ false → AreAdded most (places_of self.old.places) (places_of self.new.places) }
+    {
+        if !self.is_crowded(most) {
+            return false;
+        }
+        match self.places.first_keeps_until() {
+            Some(until) if until <= now => {}
             _ => return false,
         }
         // Where a descriptor is wanting, the next can't be taken before.
@@ -293,11 +285,16 @@ impl<'l, R: AllocGlobal + Clock> Listening<'l, R> {
                 Taken::None => return false,
             }
         }
-        self.removed(0).is_some()
+        let _ = self.places.remove(0);
+        true
     }
 
     /// Takes a connection, if one is there.
-    fn take_one(&mut self, now: Instant) -> Taken {
+    fn take_one(&mut self, now: Instant) -> Taken
+        ensures one { result ≡ Taken.One → IsAdded (places_of self.old.places) (places_of self.new.places) }
+        ensures failed { result ≡ Taken.Failed → places_of self.new.places ≡ places_of self.old.places }
+        ensures none { result ≡ Taken.None → places_of self.new.places ≡ places_of self.old.places }
+    {
         match self.listener.accept() {
             Ok(stream) => match self.add(stream, now) {
                 Ok(()) => Taken::One,
@@ -318,14 +315,17 @@ impl<'l, R: AllocGlobal + Clock> Listening<'l, R> {
     }
 
     /// Waits for the request of a connection from now on.
-    fn add(&mut self, stream: Stream, now: Instant) -> io::Result<()> {
+    fn add(&mut self, stream: Stream, now: Instant) -> io::Result<()>
+        ensures added { OnOk result (IsAdded (places_of self.old.places) (places_of self.new.places)) }
+        ensures kept { OnErr result (places_of self.new.places ≡ places_of self.old.places) }
+    {
         let keeps_place_until = now.checked_add(Duration::from_secs(PLACE_SECONDS));
         let (Some(end), Some(keeps_place_until)) = (now.checked_add(self.limit), keeps_place_until)
         else {
             return Err(io::Error::from(ErrorKind::InvalidInput));
         };
         self.token = self.token.wrapping_add(1);
-        self.waiting.push(Waiting {
+        self.places.push(Waiting {
             peer: Peer::new(stream, Token(self.token), end)?,
             request: Request::new(self.rt.alloc()),
             keeps_place_until,
@@ -335,7 +335,9 @@ impl<'l, R: AllocGlobal + Clock> Listening<'l, R> {
     }
 
     /// Ends our side of a connection that was answered, and drops what its client still sends, until that moment.
-    fn close(&mut self, peer: Peer<Stream>, end: Instant) -> io::Result<()> {
+    fn close(&mut self, peer: Peer<Stream>, end: Instant) -> io::Result<()>
+        ensures { places_of self.new.places ≡ places_of self.old.places }
+    {
         let now = Instant::now(self.rt)?;
         peer.stream.shutdown(Shutdown::Write)?;
         peer.stream.set_nonblocking(true)?;
@@ -350,7 +352,9 @@ impl<'l, R: AllocGlobal + Clock> Listening<'l, R> {
     }
 
     /// Drops what is there of the connections that are being closed.
-    fn close_some(&mut self, now: Instant) {
+    fn close_some(&mut self, now: Instant)
+        ensures { places_of self.new.places ≡ places_of self.old.places }
+    {
         for _ in 0..MOST_CLOSING {
             match first_closed(&mut self.closing, self.poll.registry(), now) {
                 Some(place) if place < self.closing.len() => {
@@ -362,7 +366,9 @@ impl<'l, R: AllocGlobal + Clock> Listening<'l, R> {
     }
 
     /// Waits until the connections that are being closed can be.
-    pub(crate) fn finish(&mut self) {
+    pub(crate) fn finish(&mut self)
+        ensures { places_of self.new.places ≡ places_of self.old.places }
+    {
         for _ in 0..u64::MAX {
             let Ok(now) = Instant::now(self.rt) else {
                 return;
@@ -379,19 +385,19 @@ impl<'l, R: AllocGlobal + Clock> Listening<'l, R> {
         if self.is_short {
             return Some(Duration::from_millis(PAUSE_MILLISECONDS));
         }
-        match self.waiting.first() {
-            Some(first) if self.is_crowded(most) => {
-                Some(first.keeps_place_until.duration_since(now))
-            }
+        match self.places.first_keeps_until() {
+            Some(until) if self.is_crowded(most) => Some(until.duration_since(now)),
             _ => None,
         }
     }
 
     /// Waits until something may be there, or a connection has had its time. At most so many are waited for.
-    fn wait(&mut self, most: usize) -> io::Result<()> {
+    fn wait(&mut self, most: usize) -> io::Result<()>
+        ensures { places_of self.new.places ≡ places_of self.old.places }
+    {
         let now = Instant::now(self.rt)?;
         let pause = self.pause(now, most);
-        let left = least_left(&self.waiting, &self.closing, now, pause);
+        let left = least_left(&self.closing, now, self.places.least_left(now, pause));
         match self.poll.poll(&mut self.events, left) {
             Ok(()) => {
                 self.hear_all();
@@ -404,19 +410,29 @@ impl<'l, R: AllocGlobal + Clock> Listening<'l, R> {
     }
 
     /// Those of which the system told may have something.
-    fn hear_all(&mut self) {
-        for event in &self.events {
-            if event.token() == LISTENER {
-                self.is_ready = true;
-            }
-            hear(&mut self.waiting, &mut self.closing, event.token());
+    fn hear_all(&mut self)
+        ensures { places_of self.new.places ≡ places_of self.old.places }
+    {
+        if hear_events(&self.events, &mut self.places, &mut self.closing) {
+            self.is_ready = true;
         }
     }
 }
 
-/// It tells nothing: no contract of the machine's streams says which octets come and go.
+/// It tells which places are given and taken, and what came of each request. No contract of the machine's streams says
+/// which octets come and go.
 impl<'l, R: AllocGlobal + Clock> Hearing for Listening<'l, R> {
     type Stream = Limited<'l, R, Stream>;
+
+    ghost hands = { λ old waits received limited new. HandsOut ⟦<Stream as Read>⟧.remaining waits (places_of old.places)
+        received limited.peer.stream (places_of new.places) };
+
+    ghost fails = { λ old most new. FailsOne ⟦<Stream as Read>⟧.remaining (Some most) (places_of old.places) (places_of new.places) };
+
+    ghost stays = { λ old new. AreReadOn ⟦<Stream as Read>⟧.remaining (places_of old.places) (places_of new.places) };
+
+    // none gets a place again
+    ghost takes_back = { λ old limited exchanged new. places_of new.places ≡ places_of old.places };
 
     fn alloc(&self) -> Global {
         self.rt.alloc()

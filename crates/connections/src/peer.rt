@@ -39,7 +39,9 @@ impl<S: Duplex + Drop> Peer<S> {
 
 impl<S> Peer<S> {
     /// The same until another moment, and something may be there.
-    pub(crate) fn again(self, end: Instant) -> Peer<S> {
+    pub(crate) fn again(self, end: Instant) -> Peer<S>
+        ensures { result.stream ≡ self.stream }
+    {
         let mut peer = self;
         peer.end = end;
         peer.is_ready = true;

@@ -30,7 +30,7 @@ fn answer_next<L: Hearing, C: Clock, B: Book + Drop, G: Signer>(
 ) -> Result<usize, ClockFailed>
     requires some { 0 < most }
     ensures heard { IfOk result (λ count. IsHeard L.hands L.fails L.stays L.takes_back L.Stream.contents C.reads B.Standing
-        G.signs G.fault_count count
+        G.signs G.fault_count most count
         (hall hearing.old clock.old desk.old signer.old)
         (hall hearing.new clock.new desk.new signer.new)) }
     ensures some { IfOk result (λ count. 0 < count) }
@@ -57,7 +57,7 @@ fn answer_all<L: Hearing, C: Clock, B: Book + Drop, G: Signer>(
     signer: &mut G,
 ) -> Result<(), ClockFailed>
     ensures heard { OnOk result (AreHeard L.hands L.fails L.stays L.takes_back L.Stream.contents C.reads B.Standing
-        G.signs G.fault_count count
+        G.signs G.fault_count count count
         (hall hearing.old clock.old desk.old signer.old)
         (hall hearing.new clock.new desk.new signer.new)) }
     ensures stopped { OnErr result (StopsHearing L.hands L.fails L.stays L.takes_back L.Stream.contents C.reads B.Standing
@@ -73,8 +73,9 @@ fn answer_all<L: Hearing, C: Clock, B: Book + Drop, G: Signer>(
 }
 
 /// Answers so many connections in the order in which they are handed out: one request of each, as `service::serve_one`
-/// answers it, or, where several in a row ask for stamps, up to 64 of these together. Those that fail count too. The
-/// clock is asked once for each request.
+/// answers it, or, where several in a row ask for stamps, up to 64 of these together. Those that fail count too. At
+/// most as many are waited for as are still to be counted, and none behind the first of those that are answered
+/// together. The clock is asked once for each request. Each is taken back with what became of it.
 ///
 /// `ClockFailed` where the clock fails: the connection that was handed out is dropped then without an answer, with those
 /// that were to be answered with it, and no further one asked for.
@@ -86,7 +87,7 @@ pub fn serve_each<L: Hearing, C: Clock, B: Book + Drop, G: Signer>(
     signer: &mut G,
 ) -> Result<(), ClockFailed>
     ensures heard { OnOk result (AreHeard L.hands L.fails L.stays L.takes_back L.Stream.contents C.reads B.Standing
-        G.signs G.fault_count count
+        G.signs G.fault_count count count
         (hall hearing.old clock.old desk.old signer.old)
         (hall hearing.new clock.new desk.new signer.new)) }
     ensures stopped { OnErr result (StopsHearing L.hands L.fails L.stays L.takes_back L.Stream.contents C.reads B.Standing

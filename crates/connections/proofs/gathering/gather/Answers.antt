@@ -1,5 +1,5 @@
-use Rattle.std.proofs.Common.{◌≡◌, ◌∙◌, ◌+◌, ◌-◌, ◌≤◌, [], ◌∷◌, ◌++◌, map, ap, arith, subst, sym, vec_capacity}
-use Rattle.std.proofs.Common.{vec_len}
+use Rattle.std.proofs.Common.{◌≡◌, ◌∙◌, ◌+◌, ◌-◌, ◌≤◌, [], ◌∷◌, ◌++◌, map, Some, ap, arith, subst, sym}
+use Rattle.std.proofs.Common.{vec_capacity, vec_len}
 use Rattle.connections.specs.Gathering.{AreGatheredBehind, handed_view, last_in}
 use Rattle.connections.specs.Heard.{AreGathered}
 use Rattle.connections.proofs.GatheringLemmas.{gathered_one, gathered_first, cut_first, cut_alone, hand_over}
@@ -27,9 +27,9 @@ returns-in_err-last-clause-cut g c =
       all.ok.1,
     ) in
     on_err c.from_residual-in_err-last.result _
-    (cut_first g.L.Hearing.hands g.L.Hearing.stays g.C.Clock.reads (handed_view one) c.args.hearing.now c.args.clock.now
+    (cut_first g.L.Hearing.hands g.L.Hearing.stays g.C.Clock.reads (Some c.args.most) (handed_view one) c.args.hearing.now c.args.clock.now
     c.next.new.self c.read_for.new.clock
-    (hand_over g.L.Hearing.hands g.L.Hearing.stays g.C.Clock.reads (handed_view one) c.in-Some.request c.in-Some.stream
+    (hand_over g.L.Hearing.hands g.L.Hearing.stays g.C.Clock.reads (Some c.args.most) (handed_view one) c.in-Some.request c.in-Some.stream
     c.args.hearing.now c.next.new.self c.in_ok-first.ensures.request c.in_ok-first.ensures.stream c.in-Some.ensures)
     c.in_ok-first.ensures.given (vec_capacity all - vec_len all) c.args.most c.gather_behind.new.hearing
     c.gather_behind.new.clock within c.in_err-last.ensures.cut)
@@ -37,12 +37,12 @@ returns-in_err-last-clause-cut g c =
 pub returns-then-capacity-eq0-clause-gathered : goal.returns-then-capacity-eq0-clause-gathered
 returns-then-capacity-eq0-clause-gathered g c =
     let one = c.in_ok-first.first in
-    subst (λ xs. AreGathered g.L.Hearing.hands g.L.Hearing.stays g.C.Clock.reads
+    subst (λ xs. AreGathered g.L.Hearing.hands g.L.Hearing.stays g.C.Clock.reads (Some c.args.most)
     (map handed_view xs ++ (handed_view one ∷ [])) c.args.hearing.now c.args.clock.now c.next.new.self
     c.read_for.new.clock) (sym c.room_beside-stamps.ensures.empty)
-    (gathered_one g.L.Hearing.hands g.L.Hearing.stays g.C.Clock.reads (handed_view one) c.args.hearing.now
+    (gathered_one g.L.Hearing.hands g.L.Hearing.stays g.C.Clock.reads (Some c.args.most) (handed_view one) c.args.hearing.now
     c.args.clock.now c.next.new.self c.read_for.new.clock
-    (hand_over g.L.Hearing.hands g.L.Hearing.stays g.C.Clock.reads (handed_view one) c.in-Some.request c.in-Some.stream
+    (hand_over g.L.Hearing.hands g.L.Hearing.stays g.C.Clock.reads (Some c.args.most) (handed_view one) c.in-Some.request c.in-Some.stream
     c.args.hearing.now c.next.new.self c.in_ok-first.ensures.request c.in_ok-first.ensures.stream c.in-Some.ensures)
     c.in_ok-first.ensures.given)
 
@@ -53,9 +53,9 @@ returns-clause-gathered g c =
     let before : map handed_view all.items ≡ handed_view one ∷ [] =
     ap (map handed_view) (c.push_reserved.ensures.items
     ∙ ap (λ xs. xs ++ (one ∷ [])) c.room_beside-stamps.ensures.empty) in
-    gathered_first g.L.Hearing.hands g.L.Hearing.stays g.C.Clock.reads (handed_view one) c.args.hearing.now
+    gathered_first g.L.Hearing.hands g.L.Hearing.stays g.C.Clock.reads (Some c.args.most) (handed_view one) c.args.hearing.now
     c.args.clock.now c.next.new.self c.read_for.new.clock
-    (hand_over g.L.Hearing.hands g.L.Hearing.stays g.C.Clock.reads (handed_view one) c.in-Some.request c.in-Some.stream
+    (hand_over g.L.Hearing.hands g.L.Hearing.stays g.C.Clock.reads (Some c.args.most) (handed_view one) c.in-Some.request c.in-Some.stream
     c.args.hearing.now c.next.new.self c.in_ok-first.ensures.request c.in_ok-first.ensures.stream c.in-Some.ensures)
     c.in_ok-first.ensures.given (map handed_view c.gather_behind.new.stamps.items) (last_in c.in_ok-last.last)
     c.gather_behind.new.hearing c.gather_behind.new.clock

@@ -1,4 +1,4 @@
-use Rattle.std.proofs.Common.{◌∙◌, ◌-◌, ◌<◌, [], ◌∷◌, length, map, ap, arith, refl, vec_capacity, vec_len}
+use Rattle.std.proofs.Common.{◌∙◌, ◌-◌, ◌<◌, [], ◌∷◌, length, map, None, ap, arith, refl, vec_capacity, vec_len}
 use Rattle.std.proofs.lemmas.List.{length-map, map-append}
 use Rattle.connections.specs.Gathering.{handed_view}
 use Rattle.connections.proofs.GatheringLemmas.{none_behind, one_behind, gathered_all, gathered_most, gathered_last}
@@ -48,7 +48,7 @@ returns-then-is_none-clause-gathered g c =
     let one = c.in_ok-one.one in
     gathered_last g.L.Hearing.hands g.L.Hearing.stays g.C.Clock.reads _ _ _ _ _ _ c.gathering.invariant.behind
     (handed_view one) c.next_now.new.self c.read_for.new.clock
-    (hand_over g.L.Hearing.hands g.L.Hearing.stays g.C.Clock.reads (handed_view one) c.in-Some.request c.in-Some.stream
+    (hand_over g.L.Hearing.hands g.L.Hearing.stays g.C.Clock.reads None (handed_view one) c.in-Some.request c.in-Some.stream
     c.gathering.hearing c.next_now.new.self c.in_ok-one.ensures.request c.in_ok-one.ensures.stream c.in-Some.ensures)
     c.in_ok-one.ensures.given
 
@@ -66,7 +66,7 @@ gathering-preserved g c =
           c.gathering.invariant.behind (map handed_view c.push_reserved.new.self.items) (handed_view one)
           c.next_now.new.self c.read_for.new.clock
           (ap (map handed_view) c.push_reserved.ensures.items ∙ map-append handed_view st.items (one ∷ []))
-          (hand_over g.L.Hearing.hands g.L.Hearing.stays g.C.Clock.reads (handed_view one) c.in-Some.request
+          (hand_over g.L.Hearing.hands g.L.Hearing.stays g.C.Clock.reads None (handed_view one) c.in-Some.request
           c.in-Some.stream c.gathering.hearing c.next_now.new.self c.in_ok-one.ensures.request
           c.in_ok-one.ensures.stream c.in-Some.ensures) c.in_ok-one.ensures.given;
     }

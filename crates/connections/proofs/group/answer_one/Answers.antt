@@ -11,7 +11,7 @@ returns g c =
     let one = c.args.one in
     let fits : SFits w64 one.reading = search rules in
     one_answered g.L.Hearing.takes_back g.L.Stream.Write.contents g.B.Standing g.G.Signer.signs g.G.Signer.fault_count
-    (record { handed = handed_view one; stream_after = exchanged.new.writer; outcome = exchanged.result.served })
+    (record { handed = handed_view one; stream_after = exchanged.new.writer; exchanged = exchanged.result })
     (hall c.args.hearing.now (tt {0}) c.args.desk.now c.args.signer.now)
     (hall c.take_back.new.self (tt {0}) exchanged.new.desk exchanged.new.signer)
     (record {
@@ -30,4 +30,5 @@ returns g c =
             signer_after = exchanged.new.signer;
           }) exchanged.result.served in
           subst P (to_z-of_z fits) (exchanged.ensures.served before after consumed ended);
+      all = exchanged.ensures.all;
     }) c.take_back.ensures

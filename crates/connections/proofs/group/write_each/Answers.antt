@@ -47,13 +47,16 @@ loop-reply-preserved g c =
                 (record {
                   handed = handed_view one;
                   stream_after = exchanged.new.writer;
-                  outcome = exchanged.result.served;
+                  exchanged = exchanged.result;
                 }) others (reply_as reply) w.take_back.new.self
                 (ap (map handed_view) w.in-Some.ensures.cases.0)
-                (λ asked. subst (λ a. Sends g.L.Stream.Write.contents one.reading one.stream exchanged.new.writer a
-                exchanged.result.served) (exchanged.ensures.tells asked)
-                (subst (λ r. Sends g.L.Stream.Write.contents r one.stream exchanged.new.writer (stamp_answer reply)
-                exchanged.result.served) (to_z-of_z fits) exchanged.ensures.sent)) w.take_back.ensures));
+                (record {
+                  sent = λ asked. subst (λ a. Sends g.L.Stream.Write.contents one.reading one.stream
+                      exchanged.new.writer a exchanged.result.served) (exchanged.ensures.tells asked)
+                      (subst (λ r. Sends g.L.Stream.Write.contents r one.stream exchanged.new.writer
+                      (stamp_answer reply) exchanged.result.served) (to_z-of_z fits) exchanged.ensures.sent);
+                  all = exchanged.ensures.all;
+                }) w.take_back.ensures));
           }
       | in_default w ↦
           let left = left_to_write g.L.Hearing.takes_back g.L.Stream.Write.contents all rest (map reply_as told)

@@ -1,5 +1,5 @@
-use Rattle.std.proofs.Common.{◌+◌, ◌-◌, arith, rules}
-use Rattle.connections.specs.Heard.{StopsHearing, hall}
+use Rattle.std.proofs.Common.{◌≡◌, ◌+◌, ◌-◌, arith, rules, subst}
+use Rattle.connections.specs.Heard.{IsHeard, StopsHearing, hall}
 use Rattle.connections.proofs.HeardLemmas.{heard_as, heard_none, heard_more, on_err}
 use Rattle.connections.proofs.server.answer_all.Goals as goal
 
@@ -9,10 +9,11 @@ answering-init g c =
     record {
       within = search rules;
       heard = heard_as g.L.Hearing.hands g.L.Hearing.fails g.L.Hearing.stays g.L.Hearing.takes_back
-          g.L.Stream.Write.contents g.C.Clock.reads g.B.Standing g.G.Signer.signs g.G.Signer.fault_count 0
-          (c.args.count - c.args.count) old old (omega arith)
+          g.L.Stream.Write.contents g.C.Clock.reads g.B.Standing g.G.Signer.signs g.G.Signer.fault_count
+          c.args.count 0 (c.args.count - c.args.count) old old (omega arith)
           (heard_none g.L.Hearing.hands g.L.Hearing.fails g.L.Hearing.stays g.L.Hearing.takes_back
-          g.L.Stream.Write.contents g.C.Clock.reads g.B.Standing g.G.Signer.signs g.G.Signer.fault_count old);
+          g.L.Stream.Write.contents g.C.Clock.reads g.B.Standing g.G.Signer.signs g.G.Signer.fault_count
+          c.args.count old);
     }
 
 pub returns-in_err-left-clause-stopped : goal.returns-in_err-left-clause-stopped
@@ -38,15 +39,19 @@ answering-preserved g c =
     let new = hall c.answer_next.new.hearing c.answer_next.new.clock c.answer_next.new.desk c.answer_next.new.signer in
     let left = c.answering.left in
     let n = c.in_ok-left.field-0 in
+    let still : left ≡ c.args.count - (c.args.count - left) = omega (arith, c.answering.invariant.within) in
     record {
       within = omega (arith, c.answering.invariant.within);
       heard = heard_as g.L.Hearing.hands g.L.Hearing.fails g.L.Hearing.stays g.L.Hearing.takes_back
           g.L.Stream.Write.contents g.C.Clock.reads g.B.Standing g.G.Signer.signs g.G.Signer.fault_count
-          ((c.args.count - left) + n) (c.args.count - (left - n)) old new
+          c.args.count ((c.args.count - left) + n) (c.args.count - (left - n)) old new
           (omega (arith, c.answering.invariant.within, c.in_ok-left.ensures.few))
           (heard_more g.L.Hearing.hands g.L.Hearing.fails g.L.Hearing.stays g.L.Hearing.takes_back
           g.L.Stream.Write.contents g.C.Clock.reads g.B.Standing g.G.Signer.signs g.G.Signer.fault_count
-          (c.args.count - left) n old mid new c.answering.invariant.heard c.in_ok-left.ensures.heard);
+          c.args.count (c.args.count - left) n old mid new c.answering.invariant.heard
+          (subst (λ k. IsHeard g.L.Hearing.hands g.L.Hearing.fails g.L.Hearing.stays g.L.Hearing.takes_back
+          g.L.Stream.Write.contents g.C.Clock.reads g.B.Standing g.G.Signer.signs g.G.Signer.fault_count k n mid new)
+          still c.in_ok-left.ensures.heard));
     }
 
 pub returns-clause-heard : goal.returns-clause-heard
@@ -54,5 +59,5 @@ returns-clause-heard g c =
     let old = hall c.args.hearing.now c.args.clock.now c.args.desk.now c.args.signer.now in
     let new = hall c.answering.hearing c.answering.clock c.answering.desk c.answering.signer in
     heard_as g.L.Hearing.hands g.L.Hearing.fails g.L.Hearing.stays g.L.Hearing.takes_back g.L.Stream.Write.contents
-    g.C.Clock.reads g.B.Standing g.G.Signer.signs g.G.Signer.fault_count (c.args.count - c.answering.left) c.args.count
-    old new (omega (arith, c.answering-test.false)) c.answering.invariant.heard
+    g.C.Clock.reads g.B.Standing g.G.Signer.signs g.G.Signer.fault_count c.args.count
+    (c.args.count - c.answering.left) c.args.count old new (omega (arith, c.answering-test.false)) c.answering.invariant.heard
