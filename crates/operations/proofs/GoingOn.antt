@@ -9,12 +9,6 @@ use Rattle.std.proofs.lemmas.Bool.{le-leb, le-ltb, lt-leb, lt-ltb, eq-eqb}
 use Rattle.std.proofs.lemmas.List.{map-append, reverse-append, reverse-reverse, take_more}
 use Rattle.std.proofs.lemmas.List.Elements.{filter-append}
 use Rattle.std.proofs.lemmas.List.Sorted.{IsPermutation-reverse, list_any-IsPermutation}
-use Rattle.sqlite_disk.specs.declared.Disk.{Ghosts as Disk}
-use Rattle.sqlite_store.specs.declared.store.FileStore.{FileStore}
-use Rattle.sqlite_wal.specs.Recovery.{Image}
-use Rattle.sqlite.specs.Files.{over_files}
-use Rattle.tables.specs.Base.{BaseValue}
-use Rattle.store.specs.Stands.{over_tables, Stands as StoreStands}
 use Rattle.gentime.specs.GenTime.{last_moment}
 use Rattle.book.specs.Continuation.{Floor as Void, all_moments, closed, continued, entry_if, first_entries, holds_all}
 use Rattle.book.specs.Continuation.{IsAbove, IsAboveIfAny, identity_since, is_closed, last_reservation, last_stamp}
@@ -46,7 +40,7 @@ use Rattle.operations.specs.Continuation.{IsRefused, MayBeClosed, Reaches, entri
 use Rattle.operations.specs.Continuation.{entries_of_holds, entries_of_identity, entries_of_last, entries_of_stamp}
 use Rattle.operations.specs.Continuation.{identity_since_among, last_stamp_of, latest_of, void_in}
 use Rattle.operations.specs.DatabaseFaults.{IsOpeningFault}
-use Rattle.operations.specs.OverFiles.{IsClosedOver, IsContinuedOver, IsDoneOver, IsLeft, IsMadeOver, IsRefusedOver}
+use Rattle.operations.specs.InDatabases.{IsClosedIn, IsContinuedIn, IsDoneIn, IsMadeIn, IsRefusedIn}
 use Rattle.operations.specs.VoidStamp.{IsNoneAfterIfAny, IsVoidFault, IsVoidIfAny, reserved_as}
 use Rattle.operations.specs.declared.carried.Carried.{Carried}
 use Rattle.operations.specs.declared.fault.ContinuationFault.{ContinuationFault}
@@ -475,38 +469,29 @@ stated_from (Some floor) (Some s) (Some void) b states whole is asked =
 
 -- ---- both books
 
--- a store that stands for a history is a book that does
-pub stands_as_book : {D : Type 0} (disk : Disk D) (b : History) (store : BaseValue (FileStore D disk))
-    → StoreStands over_files b store → Stands (over_tables over_files) b store
-stands_as_book disk b store s = record {
-  sound = s.sound;
-  kept = s.kept;
-  settled = λ honest is_open left leaves. (s.kept honest is_open).leaves left leaves;
-}
-
 -- what is told of a closing where it is answered, and where it is refused
-pub closed_over : {D : Type 0} (disk : Disk D) (held : Image) (floor : Option Floor)
+pub closed_in : {B : Type 0} (g : Ghosts B) (Opens Closes : B → Type 0) (floor : Option Floor)
     (done : Result Carried ContinuationFault)
-    → IsDoneOver disk held (λ opened left. Carries (over_tables over_files) (λ b. Unit {0}) floor opened left done)
-    → IfOk done (IsClosedOver disk held floor)
-closed_over disk held floor (Ok carried) closes = closes
-closed_over disk held floor (Err fault) closes = tt
+    → IsDoneIn Opens Closes (λ opened left. Carries g (λ b. Unit {0}) floor opened left done)
+    → IfOk done (IsClosedIn g Opens Closes floor)
+closed_in g Opens Closes floor (Ok carried) closes = closes
+closed_in g Opens Closes floor (Err fault) closes = tt
 
-pub unclosed_over : {D : Type 0} (disk : Disk D) (held : Image) (floor : Option Floor)
-    (done : Result Carried ContinuationFault)
-    → IsDoneOver disk held (λ opened left. Carries (over_tables over_files) (λ b. Unit {0}) floor opened left done)
-    → IfErr done (IsRefusedOver disk held floor)
-unclosed_over disk held floor (Ok carried) closes = tt
-unclosed_over disk held floor (Err (Unopened fault)) (opened, found, (left, refused)) = absurd refused
-unclosed_over disk held floor (Err (Unclosed fault)) closes = closes
-unclosed_over disk held floor (Err NotAfter) closes = closes
-unclosed_over disk held floor (Err (Unfinished fault)) closes = closes
+pub unclosed_in : {B : Type 0} (g : Ghosts B) (Opens Closes : B → Type 0) (Refuses : StoreFault → Type 0)
+    (floor : Option Floor) (done : Result Carried ContinuationFault)
+    → IsDoneIn Opens Closes (λ opened left. Carries g (λ b. Unit {0}) floor opened left done)
+    → IfErr done (IsRefusedIn g Opens Closes Refuses floor)
+unclosed_in g Opens Closes Refuses floor (Ok carried) closes = tt
+unclosed_in g Opens Closes Refuses floor (Err (Unopened fault)) (opened, found, (left, refused, closed)) = absurd refused
+unclosed_in g Opens Closes Refuses floor (Err (Unclosed fault)) closes = closes
+unclosed_in g Opens Closes Refuses floor (Err NotAfter) closes = closes
+unclosed_in g Opens Closes Refuses floor (Err (Unfinished fault)) closes = closes
 
 -- closed, with no new one
-pub unfinished_over : {D : Type 0} (disk : Disk D) (held : Image) (floor : Option Floor) (c : Carried)
-    (fault : StoreFault) → IsOpeningFault fault → IsClosedOver disk held floor c
-    → IsRefusedOver disk held floor (Unfinished fault)
-unfinished_over disk held floor c fault is (opened, found, (left, closes)) = (
+pub unfinished_in : {B : Type 0} (g : Ghosts B) (Opens Closes : B → Type 0) (Refuses : StoreFault → Type 0)
+    (floor : Option Floor) (c : Carried) (fault : StoreFault) → IsOpeningFault fault → IsClosedIn g Opens Closes floor c
+    → IsRefusedIn g Opens Closes Refuses floor (Unfinished fault)
+unfinished_in g Opens Closes Refuses floor c fault is (opened, found, (left, closes, closed)) = (
   opened,
   found,
   (
@@ -519,6 +504,7 @@ unfinished_over disk held floor c fault is (opened, found, (left, closes)) = (
         crash = closes.0.crash;
       },
     ),
+    closed,
   ),
 )
 
@@ -551,43 +537,44 @@ reaches_from laws (Some floor) (Some s) (Some void) b sound asked above =
       subst (λ n. token_of n (continued (Some void) b) ≡ None) asked.serial on.2,
     )
 
-pub continued_over : {D E : Type 0} (disk : Disk D) (held : Image) (other : Disk E) (floor : Option Floor)
-    (c : Carried) → Laws → IsClosedOver disk held floor c → IsMadeOver other (entries_of c)
-    → IsContinuedOver disk held other floor
-continued_over disk held other floor c laws (opened, found, (left, closes)) (made, stands) = (
-  opened,
-  found,
-  (
-    left,
-    (
-      made,
-      record {
-        honest = closes.0.honest;
-        closes = λ h b s. closes.0.closes h b s tt;
-        crash = λ h l leaves. elim (closes.0.crash h l leaves) [
-          | inl before ↦ inl before
-          | inr adds ↦ inr (λ b s. adds b s tt)
-        ];
-        void = void_in c;
-        goes_on = λ h b s.
-            let carried = closes.2 h b s tt in
-            let same = entries_are c b s.sound laws.tells carried in
-            let above = above_from floor (option_map stamp_view c.stamp) (void_in c) b s.sound carried.stamp closes.1 in
-            record {
-              stands = subst (λ entries. Stands (over_tables over_files) (with_all entries []) made) same
-                  (stands (rw same (laws.fit (void_in c) b s.sound above)));
-              reaches = reaches_from laws floor (option_map stamp_view c.stamp) (void_in c) b s.sound closes.1 above;
-              whole = λ whole.
-                  let stated = stated_from floor (option_map stamp_view c.stamp) (void_in c) b laws.states whole
-                  carried.stamp closes.1 in
-                  (laws.whole (void_in c) b whole above stated, laws.rising (void_in c) b whole stated);
-            };
-      },
-    ),
-  ),
-)
-
--- a store was made with the same entries
-pub made_same : {D : Type 0} (disk : Disk D) (entries same : List Entry) (done : Result (Unit {0}) StoreFault)
-    → entries ≡ same → OnOk done (IsMadeOver disk entries) → OnOk done (IsMadeOver disk same)
-made_same disk entries same done is made = subst (λ es. OnOk done (IsMadeOver disk es)) is made
+pub continued_in : {B C : Type 0} (g : Ghosts B) (Opens Closes : B → Type 0) (h : Ghosts C)
+    (Makes : List Entry → C → Type 0) (ClosesOther : C → Type 0) (floor : Option Floor) (c : Carried) → Laws
+    → IsClosedIn g Opens Closes floor c → IsMadeIn h Makes ClosesOther (entries_of c)
+    → IsContinuedIn g Opens Closes h Makes ClosesOther floor
+continued_in g Opens Closes h Makes ClosesOther floor c laws (opened, found, (left, closes, closed))
+    (made, makes, stands, other) = (
+      opened,
+      found,
+      (
+        left,
+        (
+          made,
+          (entries_of c, makes),
+          record {
+            honest = closes.0.honest;
+            closes = λ o b s. closes.0.closes o b s tt;
+            crash = λ o l leaves. elim (closes.0.crash o l leaves) [
+              | inl before ↦ inl before
+              | inr adds ↦ inr (λ b s. adds b s tt)
+            ];
+            void = void_in c;
+            goes_on = λ o b s.
+                let carried = closes.2 o b s tt in
+                let same = entries_are c b s.sound laws.tells carried in
+                let above = above_from floor (option_map stamp_view c.stamp) (void_in c) b s.sound carried.stamp closes.1 in
+                record {
+                  asked = subst (λ last. IsVoidIfAny floor last (void_in c)) carried.stamp closes.1;
+                  stands = subst (λ entries. Stands h (with_all entries []) made) same
+                      (stands (rw same (laws.fit (void_in c) b s.sound above)));
+                  reaches = reaches_from laws floor (option_map stamp_view c.stamp) (void_in c) b s.sound closes.1 above;
+                  whole = λ whole.
+                      let stated = stated_from floor (option_map stamp_view c.stamp) (void_in c) b laws.states whole
+                      carried.stamp closes.1 in
+                      (laws.whole (void_in c) b whole above stated, laws.rising (void_in c) b whole stated);
+                };
+          },
+          other,
+        ),
+        closed,
+      ),
+    )

@@ -1,4 +1,5 @@
 pub mod CheckedStamps
+pub mod FileStores
 pub mod GoingOn
-pub mod OverFiles
+pub mod InDatabases
 pub mod ReachedSigners

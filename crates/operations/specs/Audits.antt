@@ -1,6 +1,6 @@
 -- What an audit writes.
 use Rattle.std.specs.Prelude.{◌≡◌, ◌≢◌, ◌⊎◌, ℕ, ◌<◌, Bool, true, false, List, [], ◌∷◌, ◌++◌, IfErr, IfOk, OnOk}
-use Rattle.std.specs.Prelude.{Option, Result, codes, length, take}
+use Rattle.std.specs.Prelude.{MatchResult, Option, Result, codes, length, take}
 use Rattle.std.specs.Fmt.{decimal}
 use Rattle.std.specs.Io.KnownBytes.{Appends}
 use Rattle.std.specs.List.{flat_map}
@@ -8,9 +8,11 @@ use Rattle.audit.specs.Auditor.{IsAllowed, IsMet}
 use Rattle.audit.specs.Auditor as auditor
 use Rattle.audit.specs.Consistent.{IsConsistent}
 use Rattle.audit.specs.Extract.{extract_text, header_text, stamps_text}
+use Rattle.audit.specs.Fault.{count_after}
 use Rattle.audit.specs.declared.fault.ExtractFault.{ExtractFault}
 use Rattle.audit.specs.declared.fault.ExtractFault.TheVariants as extract
 use Rattle.policy.specs.View.{account_view, policy_view}
+use Rattle.book.specs.Fault as book
 use Rattle.book.specs.declared.fault.StoreFault.TheVariants as store
 use Rattle.book.specs.declared.standing.Standing.{Ghosts}
 use Rattle.book.specs.History.{History, stamps_between}
@@ -82,6 +84,19 @@ IsExtractFault refused = (refusal : ExtractFault) × IsMet refusal × (refused �
 abbrev pub IsCheckFault : AuditFault → Type 0
 IsCheckFault refused = (refused ≡ fault.Extract extract.Memory) ⊎ (refused ≡ fault.Store store.Database)
 
+-- the book's count of its faults after a check that is refused so
+abbrev pub CountsFaults : {A : Type 0} → Result A ExtractFault → ℕ → ℕ → Type 0
+CountsFaults done before after = MatchResult done (λ _. after ≡ before) (λ refusal. after ≡ count_after refusal before)
+
+-- and after an audit
+abbrev pub count_after_audit : AuditFault → ℕ → ℕ
+count_after_audit (fault.Store refusal) n = book.count_after refusal n
+count_after_audit (fault.Extract refusal) n = count_after refusal n
+
+abbrev pub CountsAudit : {A : Type 0} → Result A AuditFault → ℕ → ℕ → Type 0
+CountsAudit done before after =
+    MatchResult done (λ _. after ≡ before) (λ refused. after ≡ count_after_audit refused before)
+
 -- an auditor asks, and for a range
 abbrev pub Allows : Inquiry → Type 0
 Allows inquiry =
@@ -115,8 +130,8 @@ IsAudited inquiry out out' told told' done =
     × (agree ≡ false → (inquiry.check ≡ true) × TellsSome told told'))
     × IfErr done (λ refused. ComesWhere inquiry refused × Leaves inquiry out out' told told' refused)
 
--- An audit of a book: it changes nowhere, and while it returns what was written, an answer comes with the extract of
--- each history that it stood for, and, where that is asked, the check of its stamps.
+-- An audit of a book: it changes nowhere but in its count of faults, and while it returns what was written, an answer
+-- comes with the extract of each history that it stood for, and, where that is asked, the check of its stamps.
 pub record IsAuditOf {B : Type 0} (g : Ghosts B) (inquiry : Inquiry) (old new : B)
     (out out' told told' : Option (List ℕ)) (done : Result Bool AuditFault) : Type 0 where
   pub looks : OnlyLooks g old new
@@ -124,3 +139,4 @@ pub record IsAuditOf {B : Type 0} (g : Ghosts B) (inquiry : Inquiry) (old new : 
       → OnOk done (Appends out out' (extract_text inquiry.from inquiry.to b))
   pub checked : g.honest new → (b : History) → Stands g b old → inquiry.check ≡ true
       → IfOk done (Checks (identities b) (stamps_between inquiry.from inquiry.to b) told told')
+  pub faults : CountsAudit done (g.fault_count old) (g.fault_count new)

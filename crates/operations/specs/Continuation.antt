@@ -128,6 +128,13 @@ IsLookFault (Unclosed fault) = IsOpeningFault fault
 IsLookFault NotAfter = Unit {0}
 IsLookFault (Unfinished fault) = ⊥
 
+-- it is refused from the closing on
+abbrev pub HasBegun : ContinuationFault → Type 0
+HasBegun (Unopened fault) = ⊥
+HasBegun (Unclosed fault) = ⊥
+HasBegun NotAfter = ⊥
+HasBegun (Unfinished fault) = Unit {0}
+
 module _ {X : Type 0} (g : Ghosts X) (Knows : History → Type 0) (floor : Option Floor) (old new : X) where
   -- a book that was opened isn't closed, by the refusal
   abbrev pub IsRefused : ContinuationFault → Type 0
@@ -158,6 +165,8 @@ Reaches (Some floor) b c =
 -- A book stands for the history that goes on from b, which is sound in full where b is.
 pub record StandsOn {Y : Type 0} (h : Ghosts Y) (floor : Option Floor) (void : Option Void) (b : History) (new : Y)
     : Type 0 where
+  -- a void stamp comes in place of the last one exactly where that is asked for, for the request of that one
+  pub asked : IsVoidIfAny floor (last_stamp_of b) void
   pub stands : Stands h (continued void b) new
   pub reaches : Reaches floor b (continued void b)
   pub whole : IsSoundInFull b → IsSoundInFull (continued void b) × Along IsRising (continued void b)

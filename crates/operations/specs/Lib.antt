@@ -2,6 +2,7 @@ pub mod Addition
 pub mod Audits
 pub mod Continuation
 pub mod DatabaseFaults
+pub mod InDatabases
 pub mod Judged
 pub mod Machine
 pub mod OverFiles

@@ -1,6 +1,10 @@
 -- Who signs.
-use Rattle.std.specs.Prelude.{ℕ, List}
+use Rattle.std.specs.Prelude.{◌≡◌, ℕ, List}
 use Rattle.cms.specs.KeyedHash.{keyed_hash_algorithm}
+use Rattle.operations.specs.declared.any_signer.AnySigner.{AnySigner}
+use Rattle.operations.specs.declared.any_signer.AnySigner.TheVariants as any
+use Rattle.operations.specs.declared.signing.Renewal.{Renewal}
+use Rattle.operations.specs.declared.signing.Renewal.TheVariants.{Never, AfterLoss}
 use Rattle.operations.specs.declared.signing.Signing.{Signing}
 use Rattle.operations.specs.declared.signing.Signing.TheVariants.{Keyed, Session}
 
@@ -8,3 +12,13 @@ use Rattle.operations.specs.declared.signing.Signing.TheVariants.{Keyed, Session
 abbrev pub algorithm_of : Signing → List ℕ
 algorithm_of (Keyed signer) = keyed_hash_algorithm
 algorithm_of (Session address algorithm) = algorithm
+
+-- what is reached of a key holder: one session, or sessions of which another is opened where one was lost
+abbrev pub IsSession : {S K : Type 0} → Renewal → AnySigner S K → Type 0
+IsSession {S} {K} Never reached = (session : S) × (reached ≡ any.Session session)
+IsSession {S} {K} AfterLoss reached = (sessions : K) × (reached ≡ any.Reconnecting sessions)
+
+-- what is reached: the stand-in as it is, or that
+abbrev pub IsOfKind : {S K : Type 0} → Signing → Renewal → AnySigner S K → Type 0
+IsOfKind (Keyed signer) renewal reached = reached ≡ any.Keyed signer
+IsOfKind (Session address algorithm) renewal reached = IsSession renewal reached

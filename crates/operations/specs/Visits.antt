@@ -1,5 +1,5 @@
 -- What is done at a desk with a signer, over the history of a book.
-use Rattle.std.specs.Prelude.{◌≡◌, ◌⊎◌, ℕ, List, Ok, Err}
+use Rattle.std.specs.Prelude.{◌≡◌, ◌⊎◌, Ok, Err}
 use Rattle.book.specs.declared.standing.Standing.{Ghosts}
 use Rattle.book.specs.History.{History}
 use Rattle.book.specs.Stands.{Stands}
@@ -38,14 +38,16 @@ pub record Opens {B : Type 0} (g : Ghosts B) (setting : Setting) (old : B) (desk
   pub in_force : g.honest desk.store → (b : History) → Stands g b old
       → StandsInForce g desk.setting.in_force b desk.store
 
--- A desk was opened so, this was done there with a signer of that algorithm, and the book is what it left.
-pub record IsVisited {B X : Type 0} (g : Ghosts B) (setting : Setting) (algorithm : List ℕ) (algorithm_of : X → List ℕ)
-    (old new : B) (Does : (desk desk' : DeskValue B) (signer signer' : X) → Type 0) : Type 0 where
+-- A desk was opened so, a signer was reached, this was done there with it, and the book and the signer that are left
+-- are those that it left.
+pub record IsVisited {B X : Type 0} (g : Ghosts B) (setting : Setting) (Reaches Leaves : X → Type 0) (old new : B)
+    (Does : (desk desk' : DeskValue B) (signer signer' : X) → Type 0) : Type 0 where
   pub desk : DeskValue B
   pub opens : Opens g setting old desk
   pub signer : X
-  pub signs_so : algorithm_of signer ≡ algorithm
+  pub reached : Reaches signer
   pub signer_after : X
+  pub signer_left : Leaves signer_after
   pub desk_after : DeskValue B
   pub left : new ≡ desk_after.store
   pub done : Does desk desk_after signer signer_after
@@ -54,3 +56,11 @@ pub record IsVisited {B X : Type 0} (g : Ghosts B) (setting : Setting) (algorith
 abbrev pub IsUnopened : {B : Type 0} → Ghosts B → Setting → B → B → OperationFault → Type 0
 IsUnopened g setting old new fault =
     (new ≡ old) ⊎ ((refusal : Fault) × (fault ≡ operation.Desk refusal) × HasOpened g setting old (Err (refusal, new)))
+
+-- Nothing was done: no signer was reached, by the refusal, and the book is as it was; or one was reached and left
+-- without being asked, and no desk was opened.
+abbrev pub IsUnvisited : {B X : Type 0} → Ghosts B → Setting → (Reaches Leaves : X → Type 0)
+    → (Refuses : OperationFault → Type 0) → B → B → OperationFault → Type 0
+IsUnvisited {X = X} g setting Reaches Leaves Refuses old new fault =
+    (Refuses fault × (new ≡ old))
+    ⊎ (((signer : X) × Reaches signer × Leaves signer) × IsUnopened g setting old new fault)

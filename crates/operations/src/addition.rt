@@ -3,16 +3,15 @@ ghost use Rattle.std.specs.Prelude.{◌≡◌, ◌⊎◌, [], ◌∷◌, Err, If
 ghost use Rattle.book.specs.Entries.{Appends};
 ghost use Rattle.book.specs.History.{History};
 ghost use Rattle.book.specs.Stands.{LeavesAsBefore, Stands};
-ghost use Rattle.store.specs.Files.{image_at};
 ghost use Rattle.operations.specs.Addition.{IsAdded, IsAdditionFault, IsBefore, entry_of, number_of};
 ghost use Rattle.operations.specs.OverFiles.{IsAddedOver};
 
 use crate::database::Database;
+use crate::database_files::DatabaseFiles;
 use crate::lifecycle::perform_at;
 use crate::operation::Operation;
 use book::{Book, Calibration, Hold, StoreFault};
-use sqlite::{FileFrom, Start};
-use sqlite_disk::Disk;
+use std::alloc::Global;
 
 /// What an operator adds to the history.
 #[derive(Clone, Copy)]
@@ -53,7 +52,7 @@ impl Operation<(), ()> for Addition {
 
     fn perform<B: Book + Drop>(
         self,
-        _rt: &HostRuntime,
+        _alloc: Global,
         book: B,
         _input: &mut (),
         _output: &mut (),
@@ -68,17 +67,21 @@ impl Operation<(), ()> for Addition {
 /// where no file stands there or the database fails, with `NotOurs` where it isn't a database of the counter's, and as
 /// `Addition::add_to`. A refused call makes no file, and changes no table, but where the database failed in the commit
 /// itself: the next opening may find the addition then. The answer is its number.
-pub fn add<F: Start + Drop>(
-    rt: &HostRuntime,
+pub fn add<F: DatabaseFiles>(
+    alloc: Global,
     database: Database<'_, F>,
     addition: &Addition,
 ) -> Result<u64, StoreFault>
-    // Whatever the files hold: it is added to the store that was opened over them.
-    ensures added { IfOk result (λ _. IsAddedOver ⟦<FileFrom<F> as Disk>⟧ (image_at F.Start) addition.now result) }
+    // Whatever the files hold: it is added to the store that was opened over them, nothing else is done to that, and it
+    // is closed.
+    ensures added { IfOk result (λ _. IsAddedOver F.Disk.Disk F.held addition.now result) }
     ensures backwards { result ≡ Err StoreFault.Backwards
-        → IsAddedOver ⟦<FileFrom<F> as Disk>⟧ (image_at F.Start) addition.now result }
+        → IsAddedOver F.Disk.Disk F.held addition.now result }
+    // Where it is refused, no store was opened, by that refusal, or the one that was opened refused it.
+    ensures refused { IfErr result (λ fault. F.refuses database.entry.files database.entry.path.now fault
+        ⊎ IsAddedOver F.Disk.Disk F.held addition.now result) }
     ensures refusals { IfErr result (λ e. (e ≡ StoreFault.Memory)
         ⊎ ((e ≡ StoreFault.Database) ⊎ ((e ≡ StoreFault.NotOurs) ⊎ (e ≡ StoreFault.Backwards)))) }
 {
-    perform_at(rt, database, *addition, &mut (), &mut ())?
+    perform_at(alloc, database, *addition, &mut (), &mut ())?
 }

@@ -6,21 +6,21 @@ ghost use Rattle.book.specs.History.{History, stamps_between};
 ghost use Rattle.book.specs.Identities.{identities};
 ghost use Rattle.book.specs.Stands.{OnlyLooks, Stands};
 ghost use Rattle.book.specs.Values.{identity_view};
-ghost use Rattle.store.specs.Files.{image_at};
-ghost use Rattle.operations.specs.Audits.{Allows, BeginsExtract, Checks, ComesWhere, IsCutOff, IsExtractFault};
+ghost use Rattle.operations.specs.Audits.{Allows, BeginsExtract, Checks, ComesWhere, CountsAudit, CountsFaults};
+ghost use Rattle.operations.specs.Audits.{IsCutOff, IsExtractFault};
 ghost use Rattle.operations.specs.declared.audits.AuditFault.TheVariants.{Extract, Store};
 ghost use Rattle.operations.specs.Audits.{IsAudited, IsAuditOf, Leaves, TellsFailing, TellsSome, WritesExtract};
 ghost use Rattle.operations.specs.Audits.{failing_line};
+ghost use Rattle.operations.specs.InDatabases.{IsUnopenedAs};
 ghost use Rattle.operations.specs.OverFiles.{IsAuditedOver};
 
 use crate::database::Database;
+use crate::database_files::DatabaseFiles;
 use crate::lifecycle::perform_at;
 use crate::operation::Operation;
 use audit::{ExtractFault, check_row, extract, write_octets};
 use book::{Book, IdentityRow, StampsBetween, StoreFault};
 use policy::{Account, Policy};
-use sqlite::{FileFrom, Start};
-use sqlite_disk::Disk;
 use std::alloc::{AllocError, Global};
 use std::io::Write;
 
@@ -75,13 +75,13 @@ impl<O: Write, E: Write> Operation<O, E> for Inquiry<'_> {
 
     fn perform<B: Book + Drop>(
         self,
-        rt: &HostRuntime,
+        alloc: Global,
         book: B,
         output: &mut O,
         errors: &mut E,
     ) -> (B, Result<bool, AuditFault>) {
         let mut book = book;
-        let done = audit_book(rt.alloc(), &mut book, &self, output, errors);
+        let done = audit_book(alloc, &mut book, &self, output, errors);
         (book, done)
     }
 }
@@ -90,8 +90,8 @@ impl<O: Write, E: Write> Operation<O, E> for Inquiry<'_> {
 /// is asked, checks each stamp as `check_stamps` does: whether all agree. Refused with `Store` where the database can't
 /// be opened, and with `Extract` as `audit::extract`; nothing is checked then. Where the check is refused it is
 /// `Extract` for want of memory, and else `Store`; the whole extract is written then.
-pub fn audit<F: Start + Drop, O: Write, E: Write>(
-    rt: &HostRuntime,
+pub fn audit<F: DatabaseFiles, O: Write, E: Write>(
+    alloc: Global,
     database: Database<'_, F>,
     inquiry: &Inquiry<'_>,
     output: &mut O,
@@ -100,9 +100,15 @@ pub fn audit<F: Start + Drop, O: Write, E: Write>(
     ensures allowed { IfOk result (λ _. Allows inquiry.now) }
     ensures extracted { OnOk result (WritesExtract (O.contents output.old) (O.contents output.new)) }
 
-    // Whatever the files hold: the store that was opened over them is audited.
-    ensures audited { IfOk result (λ _. IsAuditedOver ⟦<FileFrom<F> as Disk>⟧ (image_at F.Start) inquiry.now
+    // Whatever the files hold: the store that was opened over them is audited, changes nowhere, and is closed.
+    ensures audited { IfOk result (λ _. IsAuditedOver F.Disk.Disk F.held inquiry.now
         (O.contents output.old) (O.contents output.new) (E.contents errors.old) (E.contents errors.new) result) }
+
+    // Where it is refused, no store was opened, by that refusal, or it was audited so far.
+    ensures unaudited { IfErr result (λ fault.
+        IsUnopenedAs Store (F.refuses database.entry.files database.entry.path.now) fault
+        ⊎ IsAuditedOver F.Disk.Disk F.held inquiry.now (O.contents output.old) (O.contents output.new)
+        (E.contents errors.old) (E.contents errors.new) result) }
     ensures agreed { IfOk result (λ agree. agree ≡ true → E.contents errors.new ≡ E.contents errors.old) }
     ensures failed { IfOk result (λ agree. agree ≡ false
         → (inquiry.now.check ≡ true) × TellsSome (E.contents errors.old) (E.contents errors.new)) }
@@ -110,7 +116,7 @@ pub fn audit<F: Start + Drop, O: Write, E: Write>(
     ensures refused { IfErr result (Leaves inquiry.now (O.contents output.old) (O.contents output.new)
         (E.contents errors.old) (E.contents errors.new)) }
 {
-    perform_at(rt, database, *inquiry, output, errors)?
+    perform_at(alloc, database, *inquiry, output, errors)?
 }
 
 /// Writes the extract of a book, and then checks its stamps where that is asked.
@@ -135,6 +141,7 @@ fn audit_book<B: Book + Drop, O: Write, E: Write>(
     ensures comes { IfErr result (ComesWhere inquiry.now) }
     ensures refused { IfErr result (Leaves inquiry.now (O.contents output.old) (O.contents output.new)
         (E.contents errors.old) (E.contents errors.new)) }
+    ensures faults { CountsAudit result (B.fault_count book.old) (B.fault_count book.new) }
 {
     write_extract(alloc, book, inquiry, output)?;
     if !inquiry.check {
@@ -163,6 +170,7 @@ fn write_extract<B: Book + Drop, O: Write>(
     ensures comes { IfErr result (ComesWhere inquiry.now) }
     ensures refused { IfErr result (λ fault. (O.contents output.new ≡ O.contents output.old)
         ⊎ (IsExtractFault fault × Allows inquiry.now × BeginsExtract (O.contents output.old) (O.contents output.new))) }
+    ensures faults { CountsAudit result (B.fault_count book.old) (B.fault_count book.new) }
 {
     extract(
         alloc,
@@ -198,14 +206,11 @@ pub fn check_stamps<B: Book + Drop, E: Write>(
         → TellsSome (E.contents errors.old) (E.contents errors.new)) }
     ensures told { OnErr result (TellsFailing (E.contents errors.old) (E.contents errors.new)) }
     ensures refusals { IfErr result (λ e. (e ≡ ExtractFault.Memory) ⊎ (e ≡ ExtractFault.Store)) }
+    ensures faults { CountsFaults result (B.fault_count book.old) (B.fault_count book.new) }
 {
-    match book.identities() {
-        Ok(identities) => {
-            let range = SerialRange { from, to };
-            check_against(alloc, book, identities.as_slice(), range, errors)
-        }
-        Err(fault) => Err(ExtractFault::from(fault)),
-    }
+    let identities = book.identities()?;
+    let range = SerialRange { from, to };
+    check_against(alloc, book, identities.as_slice(), range, errors)
 }
 
 /// Serial numbers from the first to the last.
@@ -232,6 +237,7 @@ fn check_against<B: Book + Drop, E: Write>(
         → TellsSome (E.contents errors.old) (E.contents errors.new)) }
     ensures told { OnErr result (TellsFailing (E.contents errors.old) (E.contents errors.new)) }
     ensures refusals { IfErr result (λ e. (e ≡ ExtractFault.Memory) ⊎ (e ≡ ExtractFault.Store)) }
+    ensures faults { CountsFaults result (B.fault_count book.old) (B.fault_count book.new) }
 {
     let mut agree = true;
     let mut walk = StampsBetween::of(book, range.from, range.to);

@@ -1,46 +1,37 @@
 //! How the history of a database goes on in a new one.
-ghost use Rattle.std.specs.Prelude.{◌≡◌, reverse, map, option_map, Err, IfOk, IfErr, OnOk};
+ghost use Rattle.std.specs.Prelude.{◌≡◌, reverse, map, option_map, Err, IfOk, IfErr, IsOk, MatchResult, OnOk};
 ghost use Rattle.std.specs.List.{list_any};
-ghost use Rattle.sqlite.specs.Files.{over_files};
 ghost use Rattle.book.specs.Continuation.{holds_all};
 ghost use Rattle.book.specs.Entries.{entries_view};
 ghost use Rattle.book.specs.Fault.{IsOfStorage};
 ghost use Rattle.book.specs.History.{History, holds};
 ghost use Rattle.book.specs.Stands.{OnlyLooks, Stands};
 ghost use Rattle.book.specs.Values.{hold_view, stamp_view};
-ghost use Rattle.store.specs.Files.{image_at};
-ghost use Rattle.store.specs.Stands.{over_tables};
-ghost use Rattle.operations.specs.Continuation.{Carries, ClosesKnown, IsAskedFor, IsBelow, IsCarried, IsLookFault};
-ghost use Rattle.operations.specs.Continuation.{entries_of, last_stamp_of};
+ghost use Rattle.operations.specs.Continuation.{Carries, ClosesKnown, HasBegun, IsAskedFor, IsBelow, IsCarried};
+ghost use Rattle.operations.specs.Continuation.{IsLookFault, entries_of, last_stamp_of};
 ghost use Rattle.operations.specs.DatabaseFaults.{IsOpeningFault};
-ghost use Rattle.operations.specs.OverFiles.{IsClosedOver, IsContinuedOver, IsLeft, IsMadeOver, IsRefusedOver};
+ghost use Rattle.operations.specs.OverFiles.{IsClosedOver, IsContinuedOver, IsLeftOver, IsMadeOver, IsRefusedBy};
+ghost use Rattle.sqlite.specs.Files.{over_files};
+ghost use Rattle.store.specs.Stands.{over_tables};
 
 use crate::carried::{Carried, holds_all};
+use crate::database::Database;
+use crate::database_files::DatabaseFiles;
 use crate::fault::ContinuationFault;
-use crate::lifecycle::close;
+use crate::lifecycle::close_files;
+use crate::open_database::OpenDatabase;
 use crate::void_stamp::{Floor, void_for};
-use book::{Book, Entry, Hold, Stamp, continuations_go_on, identities_tell_who_signed};
+use book::{Book, Entry, Hold, Stamp, StoreFault, continuations_go_on, identities_tell_who_signed};
 use desk::{continuations_are_sound_in_full, void_stamps_are_stated};
-use sqlite::{Alter, FileFrom, FileStore, Start};
+use sqlite::FileStore;
 use sqlite_disk::Disk;
 use std::alloc::Global;
-use store::{Store, StoreFault, may_make_at};
+use store::Store;
 
 const ALL_MOMENTS: Hold = Hold {
     from: 0,
     to: i64::MAX,
 };
-
-/// Which history goes on, and where.
-#[derive(Clone, Copy)]
-pub struct Continuation<'a> {
-    /// The path of the database that keeps it.
-    pub from: &'a str,
-    /// The path of the new one.
-    pub db: &'a str,
-    /// What comes in place of its last stamp, if anything does.
-    pub floor: Option<Floor>,
-}
 
 /// Has the history that the database at a path keeps go on in a new one at another path.
 ///
@@ -55,83 +46,93 @@ pub struct Continuation<'a> {
 /// or one of both can't be read or written; `NotOurs` where the old one isn't a database of the counter's, or something
 /// else stands at the new path, such a database too, which is left as it is. The old path's refusal is told first, then
 /// `NotAfter`, then the new path's.
-pub fn continue_in<F: Start + Drop, N: Start + Drop>(
-    rt: &HostRuntime,
-    continuation: &Continuation<'_>,
-    old: F,
-    new: N,
+pub fn continue_in<F: DatabaseFiles, N: DatabaseFiles>(
+    alloc: Global,
+    old: Database<'_, F>,
+    new: Database<'_, N>,
+    floor: Option<Floor>,
 ) -> Result<(), ContinuationFault>
-    // Whatever the files hold: the store that was opened over the old ones is closed, and goes on in one over the new.
-    ensures continued { OnOk result (IsContinuedOver ⟦<FileFrom<F> as Disk>⟧ (image_at F.Start)
-        ⟦<FileFrom<N> as Disk>⟧ continuation.now.floor) }
+    // Whatever the files hold: the store that was opened over the old ones is closed for tokens, and goes on in one
+    // over the new.
+    ensures continued { OnOk result (IsContinuedOver F.Disk.Disk F.held
+        N.Disk.Disk floor) }
 
     // By the refusal, what was done to the old ones.
-    ensures refused { IfErr result (IsRefusedOver ⟦<FileFrom<F> as Disk>⟧ (image_at F.Start)
-        continuation.now.floor) }
+    ensures refused { IfErr result (IsRefusedBy F.Disk.Disk F.held
+        (F.refuses old.entry.files old.entry.path.now) floor) }
 {
     continuations_go_on();
     identities_tell_who_signed();
     void_stamps_are_stated();
     continuations_are_sound_in_full();
-    let room = may_make_at(rt, continuation.db);
-    let carried = close_at(rt, continuation.from, old, continuation.floor, room)?;
-    match make_from(rt, continuation.db, new, &carried) {
+    let room = new.files.may_make(new.path);
+    let carried = close_at(alloc, old, floor, room)?;
+    match make_from(alloc, new, &carried) {
         Ok(()) => Ok(()),
         Err(fault) => Err(ContinuationFault::Unfinished(fault)),
     }
 }
 
-/// Closes the database at a path for tokens, and answers what is carried on from it. The caller hands in whether there
-/// is room for the new one.
-fn close_at<F: Start + Drop>(
-    rt: &HostRuntime,
-    path: &str,
-    start: F,
+/// Closes the history of a database for tokens, and answers what is carried on from it. The caller hands in whether
+/// there is room for the new one.
+fn close_at<F: DatabaseFiles>(
+    alloc: Global,
+    database: Database<'_, F>,
     floor: Option<Floor>,
     room: Result<(), StoreFault>,
 ) -> Result<Carried, ContinuationFault>
     requires { IfErr room IsOpeningFault }
-    ensures closed { IfOk result (IsClosedOver ⟦<FileFrom<F> as Disk>⟧ (image_at F.Start) floor) }
-    ensures refused { IfErr result (IsRefusedOver ⟦<FileFrom<F> as Disk>⟧ (image_at F.Start) floor) }
+    ensures closed { IfOk result (IsClosedOver F.Disk.Disk F.held floor) }
+    ensures refused { IfErr result (IsRefusedBy F.Disk.Disk F.held
+        (F.refuses database.entry.files database.entry.path.now) floor) }
 {
-    match Store::open(rt, path, start) {
-        Ok(store) => close_and_leave(rt.alloc(), store, floor, room),
+    match database.files.open(database.path) {
+        Ok(store) => close_in_files(alloc, store, floor, room),
         Err(fault) => Err(ContinuationFault::Unopened(fault)),
     }
 }
 
 /// Closes a store over files for tokens, and then those files.
-fn close_and_leave<D: Disk + Drop>(
+fn close_in_files<D: Disk + Drop>(
     alloc: Global,
     store: Store<FileStore<D>>,
     floor: Option<Floor>,
     room: Result<(), StoreFault>,
 ) -> Result<Carried, ContinuationFault>
     requires { IfErr room IsOpeningFault }
-    ensures { IsLeft D.Disk (λ left. Carries (over_tables over_files) (λ b. Unit {0}) floor store left result) }
+    ensures { IsLeftOver D.Disk (λ left. Carries (over_tables over_files) (λ b. Unit {0}) floor store left result) }
 {
-    let (store, carried) = close_over(alloc, store, floor, room);
-    close(store);
+    close_and_leave(alloc, store, floor, room)
+}
+
+/// Closes a history for tokens, and then its database.
+fn close_and_leave<B: OpenDatabase>(
+    alloc: Global,
+    opened: B,
+    floor: Option<Floor>,
+    room: Result<(), StoreFault>,
+) -> Result<Carried, ContinuationFault>
+    requires { IfErr room IsOpeningFault }
+    ensures { (left : B) × Carries B.Standing (λ b. Unit {0}) floor opened left result × B.closes left }
+{
+    let mut kept = opened;
+    let carried = close_kept(alloc, &mut kept, floor, room);
+    kept.close_database();
     carried
 }
 
-/// Closes a store for tokens, whichever storage that has.
-fn close_over<S: Alter + Drop>(
+/// Closes a history for tokens.
+fn close_kept<B: OpenDatabase>(
     alloc: Global,
-    mut store: Store<S>,
+    kept: &mut B,
     floor: Option<Floor>,
     room: Result<(), StoreFault>,
-) -> (Store<S>, Result<Carried, ContinuationFault>)
+) -> Result<Carried, ContinuationFault>
     requires { IfErr room IsOpeningFault }
-    ensures { Carries (over_tables S.Store) (λ b. Unit {0}) floor store result.0 result.1 }
+    ensures { Carries B.Standing (λ b. Unit {0}) floor kept.old kept.new result }
 {
-    match store.holds() {
-        Ok(held) => {
-            let carried = carry(&mut store, held, alloc, floor, room);
-            (store, carried)
-        }
-        Err(fault) => (store, Err(ContinuationFault::Unclosed(fault))),
-    }
+    let held = kept.all_holds()?;
+    carry(kept, held, alloc, floor, room)
 }
 
 /// Looks up what is carried on from a book with these holds, and closes it for tokens, where there is room for the new
@@ -144,7 +145,9 @@ fn carry<B: Book>(
     room: Result<(), StoreFault>,
 ) -> Result<Carried, ContinuationFault>
     requires { IfErr room IsOpeningFault }
-    ensures { Carries B.Standing (λ b. map hold_view held.items ≡ reverse (holds b)) floor book.old book.new result }
+    ensures done { Carries B.Standing (λ b. map hold_view held.items ≡ reverse (holds b)) floor book.old book.new
+        result }
+    ensures room { MatchResult result (λ _. IsOk room) (λ fault. HasBegun fault → IsOk room) }
 {
     let carried = look_up(book, held, alloc, floor)?;
     if let Err(fault) = room {
@@ -214,35 +217,32 @@ fn is_closed(held: &[Hold]) -> bool
     held.iter().any(|hold| holds_all(hold))
 }
 
-/// Makes the tables at a path, with the entries of what is carried on.
-fn make_from<N: Start + Drop>(
-    rt: &HostRuntime,
-    path: &str,
-    start: N,
+/// Makes the new database, with the entries of what is carried on, and closes it.
+fn make_from<N: DatabaseFiles>(
+    alloc: Global,
+    new: Database<'_, N>,
     carried: &Carried,
 ) -> Result<(), StoreFault>
-    ensures made { OnOk result (IsMadeOver ⟦<FileFrom<N> as Disk>⟧ (entries_of carried.now)) }
+    ensures made { OnOk result (IsMadeOver N.Disk.Disk (entries_of carried.now)) }
     ensures refusals { IfErr result IsOpeningFault }
 {
-    match carried.entries(rt.alloc()) {
-        Ok(entries) => make_with(rt, path, start, entries.as_slice()),
+    match carried.entries(alloc) {
+        Ok(entries) => make_with(new, entries.as_slice()),
         Err(_) => Err(StoreFault::Memory),
     }
 }
 
-/// Makes the tables at a path, with these entries.
-fn make_with<N: Start + Drop>(
-    rt: &HostRuntime,
-    path: &str,
-    start: N,
+/// Makes the new database, with these entries, and closes it.
+fn make_with<N: DatabaseFiles>(
+    new: Database<'_, N>,
     entries: &[Entry<'_>],
 ) -> Result<(), StoreFault>
-    ensures made { OnOk result (IsMadeOver ⟦<FileFrom<N> as Disk>⟧ (entries_view entries.now)) }
+    ensures made { OnOk result (IsMadeOver N.Disk.Disk (entries_view entries.now)) }
     ensures refusals { IfErr result IsOpeningFault }
 {
-    match Store::make_with(rt, path, start, entries) {
-        Ok(store) => {
-            close(store);
+    match new.files.make(new.path, entries) {
+        Ok(made) => {
+            close_files(made);
             Ok(())
         }
         Err(fault) => Err(fault),

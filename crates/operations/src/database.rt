@@ -5,6 +5,6 @@
 pub struct Database<'a, F> {
     /// Where it lies.
     pub path: &'a str,
-    /// What is supposed of its files.
-    pub start: F,
+    /// Its files.
+    pub files: F,
 }

@@ -5,27 +5,24 @@ ghost use Rattle.cms.specs.declared.signer.Signer.{Ghosts as Signs};
 ghost use Rattle.desk.specs.Calls.{settings_view};
 ghost use Rattle.policy.specs.Record.{PolicyValue};
 ghost use Rattle.policy.specs.View.{policy_view};
-ghost use Rattle.sqlite.specs.Files.{over_files};
-ghost use Rattle.store.specs.Files.{image_at};
-ghost use Rattle.store.specs.Stands.{over_tables};
 ghost use Rattle.operations.specs.DatabaseFaults.{IsStartingFault, IsUnready};
-ghost use Rattle.operations.specs.Signing.{algorithm_of};
-ghost use Rattle.operations.specs.OverFiles.{IsVisitedOver};
-ghost use Rattle.operations.specs.Visits.{IsUnopened, IsVisited, Visit, visit_of};
+ghost use Rattle.sqlite.specs.Files.{over_files};
+ghost use Rattle.store.specs.Stands.{over_tables};
+ghost use Rattle.operations.specs.OverFiles.{IsUnvisitedBy, IsVisitedBy};
+ghost use Rattle.operations.specs.Visits.{IsUnopened, IsUnvisited, IsVisited, Visit, visit_of};
 ghost use Rattle.operations.specs.declared.fault.OperationFault.{OperationFault as SpecFault};
 
-use crate::any_signer::HostSigner;
 use crate::database_desk::DatabaseDesk;
+use crate::database_files::DatabaseFiles;
 use crate::fault::OperationFault;
 use crate::lifecycle::perform_at;
 use crate::operation::Operation;
 use crate::signed_desk::SignedDesk;
-use crate::signing::{Renewal, Signing};
+use crate::signers::Signers;
 use book::Book;
 use cms::Signer;
 use desk::{Desk, Settings};
-use sqlite::{FileFrom, Start};
-use sqlite_disk::Disk;
+use std::alloc::Global;
 
 /// What is done at a desk with a signer, over any book. Input and output are what it reads from and writes to; `()`
 /// where it does neither.
@@ -47,7 +44,7 @@ pub trait DeskOperation<I, O>: Drop {
     ghost moves: { (B X : Type 0) → Ghosts B → Signs X → Self → Visit I O B X → Self.Answer → Type 0 };
 
     /// What it needs besides desk and signer.
-    fn prepare(&self, rt: &HostRuntime) -> Result<Self::Means, OperationFault>
+    fn prepare(&self) -> Result<Self::Means, OperationFault>
         ensures { IfErr result lacks };
 
     /// Does it.
@@ -65,14 +62,13 @@ pub trait DeskOperation<I, O>: Drop {
 
 /// What is done at a desk, and by what and with whose signatures that is opened.
 #[derive(Drop)]
-struct AtDesk<'a, T> {
+struct AtDesk<'a, S, T> {
     settings: Settings<'a>,
-    signing: Signing<'a>,
-    renewal: Renewal,
+    signers: S,
     operation: T,
 }
 
-impl<I, O, T: DeskOperation<I, O>> Operation<I, O> for AtDesk<'_, T> {
+impl<I, O, S: Signers, T: DeskOperation<I, O>> Operation<I, O> for AtDesk<'_, S, T> {
     type Answer = Result<T::Answer, OperationFault>;
 
     ghost answers = { λ work input input' output output' done. IfOk done (T.answers work.operation
@@ -81,33 +77,34 @@ impl<I, O, T: DeskOperation<I, O>> Operation<I, O> for AtDesk<'_, T> {
         × IfErr done (λ fault. IsUnready fault ⊎ T.lacks fault) };
 
     ghost moves = { λ B g work old new input input' output output' done.
-        IfOk done (λ answer. IsVisited g (settings_view work.settings) (algorithm_of work.signing)
-        ⟦<HostSigner<'static> as Signer>⟧.algorithm_octets old new (λ desk desk' signer signer'.
-        T.moves B _ g ⟦<HostSigner<'static> as Signer>⟧ work.operation
+        IfOk done (λ answer. IsVisited g (settings_view work.settings) (S.reaches work.signers) S.leaves old new
+        (λ desk desk' signer signer'. T.moves B _ g S.Reached.Signer work.operation
         (visit_of input input' output output' desk desk' signer signer') answer))
-        × IfErr done (IsUnopened g (settings_view work.settings) old new) };
+        × IfErr done (IsUnvisited g (settings_view work.settings) (S.reaches work.signers) S.leaves
+        (S.refuses work.signers) old new) };
 
     fn perform<B: Book + Drop>(
         self,
-        rt: &HostRuntime,
+        alloc: Global,
         book: B,
         input: &mut I,
         output: &mut O,
     ) -> (B, Result<T::Answer, OperationFault>) {
         let AtDesk {
             settings,
-            signing,
-            renewal,
+            signers,
             operation,
         } = self;
-        match signing.reach(rt, renewal) {
+        match signers.reach() {
             Ok(signer) => {
                 let signed = Signed {
                     settings,
                     operation,
                     signer,
                 };
-                perform_signed(signed, rt, book, input, output)
+                let (book, signer, done) = perform_signed(signed, alloc, book, input, output);
+                S::leave(signer);
+                (book, done)
             }
             Err(fault) => (book, Err(fault)),
         }
@@ -122,39 +119,43 @@ struct Signed<'a, T, G> {
     signer: G,
 }
 
-/// Gets what the operation needs besides, opens a desk over a book, and does it there.
+/// Gets what the operation needs besides, opens a desk over a book, and does it there. The book and the signer come
+/// back.
 fn perform_signed<B: Book + Drop, G: Signer + Drop, I, O, T: DeskOperation<I, O>>(
     signed: Signed<'_, T, G>,
-    rt: &HostRuntime,
+    alloc: Global,
     book: B,
     input: &mut I,
     output: &mut O,
-) -> (B, Result<T::Answer, OperationFault>)
-    ensures answered { IfOk result.1 (T.answers signed.entry.operation (policy_view signed.entry.settings.policy.now)
+) -> (B, G, Result<T::Answer, OperationFault>)
+    ensures answered { IfOk result.2 (T.answers signed.entry.operation (policy_view signed.entry.settings.policy.now)
         input.old input.new output.old output.new) }
-    ensures moved { IfOk result.1 (λ answer. IsVisited B.Standing (settings_view signed.entry.settings)
-        (G.algorithm_octets signed.entry.signer) G.algorithm_octets book result.0 (λ desk desk' signer signer'.
-        T.moves B G B.Standing G.Signer signed.entry.operation
+
+    // The desk meets this signer as it is, and it comes back as that left it.
+    ensures moved { IfOk result.2 (λ answer. IsVisited B.Standing (settings_view signed.entry.settings)
+        (λ signer. signer ≡ signed.entry.signer) (λ signer. signer ≡ result.1) book result.0
+        (λ desk desk' signer signer'. T.moves B G B.Standing G.Signer signed.entry.operation
         (visit_of input.old input.new output.old output.new desk desk' signer signer') answer)) }
-    ensures unmoved { IfErr result.1 (IsUnopened B.Standing (settings_view signed.entry.settings) book result.0) }
-    ensures unread { OnErr result.1 ((input.new ≡ input.old) × (output.new ≡ output.old)) }
-    ensures refusals { IfErr result.1 (λ fault. IsUnready fault ⊎ T.lacks fault) }
+    ensures unmoved { IfErr result.2 (IsUnopened B.Standing (settings_view signed.entry.settings) book result.0) }
+    ensures unasked { OnErr result.2 (result.1 ≡ signed.entry.signer) }
+    ensures unread { OnErr result.2 ((input.new ≡ input.old) × (output.new ≡ output.old)) }
+    ensures refusals { IfErr result.2 (λ fault. IsUnready fault ⊎ T.lacks fault) }
 {
     let Signed {
         settings,
         operation,
         signer,
     } = signed;
-    match operation.prepare(rt) {
-        Ok(means) => match Desk::open(rt.alloc(), settings, book) {
+    match operation.prepare() {
+        Ok(means) => match Desk::open(alloc, settings, book) {
             Ok(desk) => {
                 let mut signed = SignedDesk { desk, signer };
                 let answer = operation.perform(means, &mut signed, input, output);
-                (signed.desk.into_store(), Ok(answer))
+                (signed.desk.into_store(), signed.signer, Ok(answer))
             }
-            Err((fault, book)) => (book, Err(OperationFault::Desk(fault))),
+            Err((fault, book)) => (book, signer, Err(OperationFault::Desk(fault))),
         },
-        Err(fault) => (book, Err(fault)),
+        Err(fault) => (book, signer, Err(fault)),
     }
 }
 
@@ -163,9 +164,9 @@ fn perform_signed<B: Book + Drop, G: Signer + Drop, I, O, T: DeskOperation<I, O>
 /// then with `Unreached` where the key holder can't be reached, and as what it needs besides. Last the identity is
 /// installed, unless it is the one that was installed last: refused with `Desk` where memory runs out, or the database
 /// refuses it. Nothing is done then.
-pub fn perform_at_desk<F: Start + Drop, I, O, T: DeskOperation<I, O>>(
-    rt: &HostRuntime,
-    desk: DatabaseDesk<'_, F>,
+pub fn perform_at_desk<F: DatabaseFiles, S: Signers, I, O, T: DeskOperation<I, O>>(
+    alloc: Global,
+    desk: DatabaseDesk<'_, F, S>,
     operation: T,
     input: &mut I,
     output: &mut O,
@@ -173,11 +174,17 @@ pub fn perform_at_desk<F: Start + Drop, I, O, T: DeskOperation<I, O>>(
     ensures answered { IfOk result (T.answers operation (policy_view desk.entry.settings.policy.now) input.old input.new
         output.old output.new) }
 
-    // Whatever the files hold: it was done at a desk over the store that was opened over them.
-    ensures moved { IfOk result (λ answer. IsVisitedOver ⟦<FileFrom<F> as Disk>⟧ (image_at F.Start)
-        ⟦<HostSigner<'static> as Signer>⟧ (settings_view desk.entry.settings) (algorithm_of desk.entry.signing)
-        (λ desk desk' signer signer'. T.moves _ _ (over_tables over_files) ⟦<HostSigner<'static> as Signer>⟧ operation
+    // Whatever the files hold: it was done at a desk over the store that was opened over them, with the signer that was
+    // reached, and both were closed and left as it left them.
+    ensures moved { IfOk result (λ answer. IsVisitedBy F.Disk.Disk F.held
+        (S.reaches desk.entry.signers) S.leaves (settings_view desk.entry.settings) (λ desk desk' signer signer'.
+        T.moves _ _ (over_tables over_files) S.Reached.Signer operation
         (visit_of input.old input.new output.old output.new desk desk' signer signer') answer)) }
+
+    // Where it is refused, no store was opened, no signer reached, or none was asked.
+    ensures unmoved { IfErr result (IsUnvisitedBy F.Disk.Disk F.held
+        (F.refuses desk.entry.database.files desk.entry.database.path.now) (S.reaches desk.entry.signers) S.leaves
+        (S.refuses desk.entry.signers) (settings_view desk.entry.settings)) }
     ensures unread { OnErr result (input.new ≡ input.old) }
     ensures unwritten { OnErr result (output.new ≡ output.old) }
     ensures refusals { IfErr result (λ fault. IsStartingFault fault ⊎ T.lacks fault) }
@@ -185,14 +192,12 @@ pub fn perform_at_desk<F: Start + Drop, I, O, T: DeskOperation<I, O>>(
     let DatabaseDesk {
         database,
         settings,
-        signing,
-        renewal,
+        signers,
     } = desk;
     let at_desk = AtDesk {
         settings,
-        signing,
-        renewal,
+        signers,
         operation,
     };
-    perform_at(rt, database, at_desk, input, output)?
+    perform_at(alloc, database, at_desk, input, output)?
 }

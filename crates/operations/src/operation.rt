@@ -1,6 +1,7 @@
 ghost use Rattle.book.specs.declared.standing.Standing.{Ghosts};
 
 use book::Book;
+use std::alloc::Global;
 
 /// What is done to a history, however the book is kept. Input and output are what it reads from and writes to; `()`
 /// where it does neither.
@@ -18,7 +19,7 @@ pub(crate) trait Operation<I, O>: Drop {
     /// Does it, and gives the book back.
     fn perform<B: Book + Drop>(
         self,
-        rt: &HostRuntime,
+        alloc: Global,
         book: B,
         input: &mut I,
         output: &mut O,

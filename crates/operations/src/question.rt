@@ -6,23 +6,21 @@ ghost use Rattle.desk.specs.Answers.{reply_as};
 ghost use Rattle.desk.specs.CallContract.{IsStep, with_signer};
 ghost use Rattle.desk.specs.Calls.{settings_view};
 ghost use Rattle.desk.specs.Command.{Stamp};
-ghost use Rattle.store.specs.Files.{image_at};
 ghost use Rattle.operations.specs.Judged.{IsJudgedReply};
 ghost use Rattle.operations.specs.DatabaseFaults.{IsStartingFault};
-ghost use Rattle.operations.specs.Signing.{algorithm_of};
-ghost use Rattle.operations.specs.OverFiles.{IsAnsweredOver};
+ghost use Rattle.operations.specs.OverFiles.{IsAnsweredBy, IsUnvisitedBy};
 
-use crate::any_signer::HostSigner;
 use crate::database_desk::DatabaseDesk;
+use crate::database_files::DatabaseFiles;
 use crate::desk_operation::{DeskOperation, perform_at_desk};
 use crate::fault::OperationFault;
 use crate::signed_desk::SignedDesk;
+use crate::signers::Signers;
 use book::Book;
 use cms::Signer;
 use desk::Reply;
 use policy::Account;
-use sqlite::{FileFrom, Start};
-use sqlite_disk::Disk;
+use std::alloc::Global;
 
 /// A request, and who asks when.
 #[derive(Clone, Copy)]
@@ -49,7 +47,7 @@ impl DeskOperation<(), ()> for Question<'_> {
         visit.signer_after) (Stamp (account_asked question.account) question.reading question.query.now) visit.desk
         visit.desk_after (reply_as reply) };
 
-    fn prepare(&self, _rt: &HostRuntime) -> Result<(), OperationFault> {
+    fn prepare(&self) -> Result<(), OperationFault> {
         Ok(())
     }
 
@@ -68,9 +66,9 @@ impl DeskOperation<(), ()> for Question<'_> {
 /// Answers the request as `Desk::answer` does, over the history that the database keeps. Refused with
 /// `Memory`, with `Database` where no file stands there, and with `NotOurs` where it isn't a database of the counter's;
 /// then with `Unreached` where the key holder can't be reached. After that there is a reply.
-pub fn answer<F: Start + Drop>(
-    rt: &HostRuntime,
-    desk: DatabaseDesk<'_, F>,
+pub fn answer<F: DatabaseFiles, S: Signers>(
+    alloc: Global,
+    desk: DatabaseDesk<'_, F, S>,
     question: &Question<'_>,
 ) -> Result<Reply, OperationFault>
     // A request that fails a rule of 1 to 9 is rejected by the first of them, whatever the database holds.
@@ -78,11 +76,14 @@ pub fn answer<F: Start + Drop>(
         (account_asked question.now.account) question.now.query.now (reply_as reply)) }
 
     // Whatever the files hold: it is the answer of the machine's step, at a desk over the store that was opened over
-    // them.
-    ensures stepped { IfOk result (λ reply. IsAnsweredOver ⟦<FileFrom<F> as Disk>⟧ (image_at F.Start)
-        ⟦<HostSigner<'static> as Signer>⟧ (settings_view desk.entry.settings) (algorithm_of desk.entry.signing)
+    // them, with the signer that was reached.
+    ensures stepped { IfOk result (λ reply. IsAnsweredBy F.Disk.Disk F.held S.Reached.Signer
+        (S.reaches desk.entry.signers) S.leaves (settings_view desk.entry.settings)
         (account_asked question.now.account) question.now.reading question.now.query.now (reply_as reply)) }
+    ensures unanswered { IfErr result (IsUnvisitedBy F.Disk.Disk F.held
+        (F.refuses desk.entry.database.files desk.entry.database.path.now) (S.reaches desk.entry.signers) S.leaves
+        (S.refuses desk.entry.signers) (settings_view desk.entry.settings)) }
     ensures refusals { IfErr result IsStartingFault }
 {
-    perform_at_desk(rt, desk, *question, &mut (), &mut ())
+    perform_at_desk(alloc, desk, *question, &mut (), &mut ())
 }

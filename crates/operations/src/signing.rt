@@ -1,7 +1,8 @@
 //! Who signs.
 ghost use Rattle.std.specs.Prelude.{◌≡◌, IfErr, IfOk};
 ghost use Rattle.operations.specs.DatabaseFaults.{IsUnreached};
-ghost use Rattle.operations.specs.Signing.{algorithm_of};
+ghost use Rattle.operations.specs.OverFiles.{IsReached};
+ghost use Rattle.operations.specs.Signing.{IsOfKind, algorithm_of};
 
 use crate::any_signer::{AnySigner, HostSigner};
 use crate::fault::OperationFault;
@@ -55,8 +56,8 @@ impl<'a> Signing<'a> {
         rt: &'a HostRuntime,
         renewal: Renewal,
     ) -> Result<HostSigner<'a>, OperationFault>
-        ensures algorithm { IfOk result (λ signer. ⟦<HostSigner<'static> as Signer>⟧.algorithm_octets signer
-            ≡ algorithm_of self.entry) }
+        ensures reached { IfOk result (IsReached ⟦<HostSigner<'static> as Signer>⟧ (algorithm_of self.entry)) }
+        ensures kind { IfOk result (IsOfKind self.entry renewal) }
         ensures refusals { IfErr result IsUnreached }
     {
         match self {
@@ -78,6 +79,7 @@ fn reach_once<'a>(
     algorithm: Algorithm,
 ) -> Result<Session<'a, HostRuntime>, OperationFault>
     ensures algorithm { IfOk result (λ signer. signer.algorithm ≡ algorithm) }
+    ensures unused { IfOk result (λ signer. signer.faults ≡ 0) }
     ensures refusals { IfErr result IsUnreached }
 {
     let limit = Duration::from_secs(SIGNER_SECONDS);
@@ -91,6 +93,7 @@ fn reach_again<'a>(
     algorithm: Algorithm,
 ) -> Result<KeyHolderSigner<'a, HostRuntime, Stderr>, OperationFault>
     ensures algorithm { IfOk result (λ signer. signer.algorithm ≡ algorithm) }
+    ensures unused { IfOk result (λ signer. signer.faults ≡ 0) }
     ensures refusals { IfErr result IsUnreached }
 {
     let limit = Duration::from_secs(SIGNER_SECONDS);

@@ -52,14 +52,12 @@ impl VoidStamp {
         let Some(gen_time) = gen_time_after(floor, last) else {
             return Err(ContinuationFault::NotAfter);
         };
-        match restated(alloc, floor.serial, gen_time, last) {
-            Ok(tst) => Ok(VoidStamp {
-                serial: floor.serial,
-                gen_time: floor.gen_time,
-                tst,
-            }),
-            Err(fault) => Err(ContinuationFault::Unclosed(fault)),
-        }
+        let tst = restated(alloc, floor.serial, gen_time, last)?;
+        Ok(VoidStamp {
+            serial: floor.serial,
+            gen_time: floor.gen_time,
+            tst,
+        })
     }
 
     /// What is reserved, where that is the last stamp.
@@ -92,10 +90,7 @@ pub(crate) fn void_for(
     ensures refusals { IfErr result IsVoidFault }
 {
     match floor {
-        Some(floor) => match VoidStamp::of(alloc, floor, last) {
-            Ok(void) => Ok(Some(void)),
-            Err(fault) => Err(fault),
-        },
+        Some(floor) => Ok(Some(VoidStamp::of(alloc, floor, last)?)),
         None => Ok(None),
     }
 }

@@ -12,7 +12,7 @@ use Rattle.operations.proofs.audits.check_against.Goals as goal
 pub loop-stamp-init : goal.loop-stamp-init
 loop-stamp-init g c =
     let walk = c.of-walk.ensures in
-    rw (walk.begun, walk.from, walk.to) (begun (map identity_view c.args.identities.now) g.B.Standing _ _ _ _, refl, refl)
+    rw (walk.begun, walk.from, walk.to) (begun (map identity_view c.args.identities.now) g.B.Standing _ _ _ _, refl, refl, refl)
 
 pub loop-stamp-preserved : goal.loop-stamp-preserved
 loop-stamp-preserved g c =
@@ -34,6 +34,7 @@ loop-stamp-preserved g c =
       ],
       handed.end ∙ before.1,
       handed.same_reference ∙ before.2,
+      handed.faults ∙ before.3,
     )
 
 pub loop-stamp-preserved-after-not-branch : goal.loop-stamp-preserved-after-not-branch
@@ -56,6 +57,7 @@ loop-stamp-preserved-after-not-branch g c =
       ],
       handed.end ∙ before.1,
       handed.same_reference ∙ before.2,
+      handed.faults ∙ before.3,
     )
 
 pub returns-in_err-tell-clause-told : goal.returns-in_err-tell-clause-told

@@ -4,8 +4,8 @@ use Rattle.book.specs.Values.{hold_view}
 use Rattle.operations.proofs.GoingOn.{may_be_closed, may_from, storage_fault}
 use Rattle.operations.proofs.continuation.carry.Goals as goal
 
-pub returns-in-Err-close_for_tokens : goal.returns-in-Err-close_for_tokens
-returns-in-Err-close_for_tokens g c =
+pub returns-in-Err-close_for_tokens-clause-done : goal.returns-in-Err-close_for_tokens-clause-done
+returns-in-Err-close_for_tokens-clause-done g c =
     let found = c.in_ok-carried.ensures in
     let refused = c.in-Err-close_for_tokens in
     let value = c.as_slice.ensures.value in

@@ -1,11 +1,11 @@
-use Rattle.operations.proofs.GoingOn.{continued_over, unfinished_over}
+use Rattle.operations.proofs.GoingOn.{continued_in, unfinished_in}
 use Rattle.operations.proofs.continuation.continue_in.Goals as goal
 
 pub returns-in-Ok-clause-continued : goal.returns-in-Ok-clause-continued
 returns-in-Ok-clause-continued g c =
     let on = c.continuations_go_on.ensures in
     let full = c.continuations_are_sound_in_full.ensures in
-    continued_over _ _ _ _ c.in_ok-carried.carried (record {
+    continued_in _ _ _ _ _ _ _ c.in_ok-carried.carried (record {
       tells = c.identities_tell_who_signed.ensures;
       fit = on.fit;
       serial = on.serial;
@@ -18,4 +18,5 @@ returns-in-Ok-clause-continued g c =
 
 pub returns-clause-refused : goal.returns-clause-refused
 returns-clause-refused g c =
-    unfinished_over _ _ _ c.in_ok-carried.carried c.in-Err.fault c.in-Err.ensures.refusals c.in_ok-carried.ensures.closed
+    unfinished_in _ _ _ (g.F.DatabaseFiles.refuses c.args.old.files c.args.old.path.now) _ c.in_ok-carried.carried c.in-Err.fault c.in-Err.ensures.refusals
+    c.in_ok-carried.ensures.closed
