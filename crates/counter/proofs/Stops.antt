@@ -18,11 +18,11 @@ use Rattle.console.proofs.Writes.{begins_after}
 use Rattle.operations.specs.Audits.{TellsSome, failing_lines}
 use Rattle.operations.specs.Machine.{Machine}
 use Rattle.operations.specs.declared.void_stamp.Floor.{Floor}
-use Rattle.counter.specs.Answers.{Does, IsNoAudit}
+use Rattle.counter.specs.Does.{Does, IsNoAudit}
 use Rattle.counter.specs.Extract.{Extracts, LeavesAudit}
 use Rattle.counter.specs.Extract as left
-use Rattle.counter.specs.Stops.{Stops, at_fault, in_answer, in_extract, in_check, failing}
-use Rattle.counter.specs.Streams.{Streams, streams_of}
+use Rattle.counter.specs.Stops.{Stops, tells_fault, in_answer, in_extract, in_check, failing}
+use Rattle.counter.specs.Streams.{Extent, Streams, begun, streams_of}
 use Rattle.counter.specs.declared.run.Outcome.{Outcome}
 use Rattle.counter.specs.declared.run.Outcome.TheVariants.{Replied, Counted, Changed, Exchanged, Served, Extracted}
 use Rattle.counter.specs.declared.run.Outcome.TheVariants.{Failing}
@@ -54,20 +54,20 @@ module _ {D X C S F O : Type 0} (m : Machine D X C Reading) (IsContinued : Optio
     (texts : List Text) (input input' : Option (List ℕ)) (contents : O → Option (List ℕ)) (out out' : O)
     (old : Option (List ℕ)) where
   -- another word doesn't speak of standard error
-  still_does : (mid new : Option (List ℕ)) (IsWritten : List ℕ → Type 0) (word : Word) → IsNoAudit word
-      → Does m IsContinued files (streams_of input input' contents out out' old mid) word IsWritten
-      → Does m IsContinued files (streams_of input input' contents out out' old new) word IsWritten
-  still_does mid new IsWritten (Audit words) none it = absurd (none words refl)
-  still_does mid new IsWritten (Tst words) none it = it
-  still_does mid new IsWritten (Check words) none it = it
-  still_does mid new IsWritten (Init words) none it = it
-  still_does mid new IsWritten (Migrate words) none it = it
-  still_does mid new IsWritten (Continue words) none it = it
-  still_does mid new IsWritten (Calibrate words) none it = it
-  still_does mid new IsWritten (Hold words) none it = it
-  still_does mid new IsWritten (Answer words) none it = it
-  still_does mid new IsWritten (Exchange words) none it = it
-  still_does mid new IsWritten (Serve words) none it = it
+  still_does : (mid new : Option (List ℕ)) (extent : Extent) (word : Word) → IsNoAudit word
+      → Does m IsContinued files (streams_of input input' contents out out' old mid) word extent
+      → Does m IsContinued files (streams_of input input' contents out out' old new) word extent
+  still_does mid new extent (Audit words) none it = absurd (none words refl)
+  still_does mid new extent (Tst words) none it = it
+  still_does mid new extent (Check words) none it = it
+  still_does mid new extent (Init words) none it = it
+  still_does mid new extent (Migrate words) none it = it
+  still_does mid new extent (Continue words) none it = it
+  still_does mid new extent (Calibrate words) none it = it
+  still_does mid new extent (Hold words) none it = it
+  still_does mid new extent (Answer words) none it = it
+  still_does mid new extent (Exchange words) none it = it
+  still_does mid new extent (Serve words) none it = it
 
   module _ (word : Word) (asks : Asks texts word) where
     asks_audit : (words : AuditWords) → word ≡ Audit words → Asks texts (Audit words)
@@ -89,7 +89,7 @@ module _ {D X C S F O : Type 0} (m : Machine D X C Reading) (IsContinued : Optio
       pub cut_stops : (words : AuditWords) → word ≡ Audit words
           → LeavesAudit files words (contents out) (contents out') old mid fault
           → Stops m IsContinued files texts (streams_of input input' contents out out' old new)
-      cut_stops words is (left.nothing same silent) = at_fault fault same (untold silent)
+      cut_stops words is (left.nothing same silent) = tells_fault fault same (untold silent)
       cut_stops words is (left.in_extract cut refusal met tells silent) =
           in_extract words (asks_audit words is) cut refusal met
           (subst (λ f. Begins old new (fault_line f)) tells (untold silent))
@@ -100,10 +100,9 @@ module _ {D X C S F O : Type 0} (m : Machine D X C Reading) (IsContinued : Optio
       -- another word is, or a stream failed while its answer was written
       pub other_stops : IsNoAudit word → mid ≡ old
           → ((contents out' ≡ contents out)
-          ⊎ ((fault ≡ Input Failed) × Does m IsContinued files (streams_of input input' contents out out' old mid) word
-          (Begins (contents out) (contents out'))))
+          ⊎ ((fault ≡ Input Failed) × Does m IsContinued files (streams_of input input' contents out out' old mid) word begun))
           → Stops m IsContinued files texts (streams_of input input' contents out out' old new)
-      other_stops none silent (inl same) = at_fault fault same (untold silent)
+      other_stops none silent (inl same) = tells_fault fault same (untold silent)
       other_stops none silent (inr failed) =
-          in_answer word asks (still_does mid new (Begins (contents out) (contents out')) word none failed.1)
+          in_answer word asks (still_does mid new begun word none failed.1)
           (subst (λ f. Begins old new (fault_line f)) failed.0 (untold silent))

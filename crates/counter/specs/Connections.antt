@@ -1,25 +1,20 @@
 -- What `serve` does: connections at an address are served over HTTP, as a run of the machine.
-use Rattle.std.specs.Prelude.{◌≡◌, ℕ, List, [], None, Result, Ok, Err}
+use Rattle.std.specs.Prelude.{◌≡◌, ℕ, List, Result, Ok, Err}
 use Rattle.book.specs.declared.standing.Standing.{Ghosts}
-use Rattle.cms.specs.Identity.{IdentityValue}
 use Rattle.cms.specs.declared.signer.SignerFault.{SignerFault}
 use Rattle.connections.specs.Clock.{Reading}
 use Rattle.connections.specs.Run.{ServesEach}
 use Rattle.connections.specs.Turns.{State}
 use Rattle.connections.specs.declared.clock.ClockFailed.{ClockFailed}
-use Rattle.desk.specs.Calls.{in_force_of}
-use Rattle.policy.specs.Meaning.{meaning_of}
-use Rattle.policy.specs.Record.{PolicyValue}
 use Rattle.command_line.specs.declared.words.ServeWords.{ServeWords}
-use Rattle.console.specs.Files.{ReadsIdentity, ReadsText, Source}
+use Rattle.console.specs.Files.{Source}
 use Rattle.operations.specs.Machine.{Machine}
 use Rattle.operations.specs.OverFiles.{IsVisitedAsAny}
 use Rattle.operations.specs.Signing.{algorithm_of}
 use Rattle.operations.specs.Visits.{Visit}
 use Rattle.operations.specs.declared.fault.OperationFault.{OperationFault}
 use Rattle.operations.specs.declared.fault.OperationFault.TheVariants as operation
-use Rattle.operations.specs.declared.signing.Signing.{Signing}
-use Rattle.counter.specs.Files.{SignsAs, path_of}
+use Rattle.counter.specs.Files.{ReadsDesk, setting_of}
 
 -- the clock, and desk and signer, before what is done and after it
 abbrev pub state_before : {I O C B X : Type 0} → C → Visit I O B X → State C B X
@@ -44,23 +39,12 @@ module _ {C B X : Type 0} (reads : C → Reading → C → Type 0) (g : Ghosts B
 -- all connections that the words ask for, or fewer where that is told
 pub record ServesConnections {D X C S F : Type 0} (m : Machine D X C Reading) (files : Source S F) (words : ServeWords)
     (done : Result (Unit {0}) OperationFault) : Type 0 where
-  -- the policy file is read first; its text means this policy
-  pub rules : List ℕ
-  pub rules_read : ReadsText files words.desk.rules.now (Ok rules)
-  pub policy : PolicyValue
-  pub meant : meaning_of rules ≡ Ok policy
-  -- then the certificate that tokens name (ESSCertIDv2, RFC 5816) and its chain, which is empty where no file is named
-  pub identity : IdentityValue
-  pub identity_read : ReadsIdentity files words.desk.certificate.now (path_of words.desk.chain) (Ok identity)
-  pub alone : words.desk.chain ≡ None → identity.chain ≡ []
-  -- then the file of who signs, whose AlgorithmIdentifier tokens state (RFC 5652 5.3)
-  pub signing : Signing
-  pub signs : SignsAs files words.desk.signer signing
-  -- over the store of the database, at a desk of these, the connections are a run of the machine, at the readings of a
-  -- clock
-  pub served : IsVisitedAsAny m.disk m.held m.signs
-      (record { file = policy; in_force = in_force_of identity (algorithm_of signing) }) (algorithm_of signing)
+  -- what the files say by which the desk answers: policy, certificate and chain, and who signs
+  pub read : ReadsDesk files words.desk
+  -- a desk is opened over the store of the database, which installs the identity unless it is the latest there; with a
+  -- signer of that algorithm the connections are a run of the machine, at the readings of a clock
+  pub served : IsVisitedAsAny m.disk m.held m.signer (setting_of read) (algorithm_of read.signing)
       (λ _ g desk desk' signer signer'. (clock clock' : C)
-      × ServesAt m.reads g m.signs.signs m.signs.fault_count words.connections
+      × ServesAt m.reads g m.signer.signs m.signer.fault_count words.connections
       (record { clock = clock; desk = desk; signer = signer })
       (record { clock = clock'; desk = desk'; signer = signer' }) done)

@@ -28,11 +28,11 @@ StopsCheck stop = (stop ≡ program.Audit extract.Memory) ⊎ (stop ≡ program.
 -- An extract, and whether all of its stamps agree, where these are checked.
 pub record Extracts {D X C S F : Type 0} (m : Machine D X C Reading) (files : Source S F) (words : AuditWords)
     (out out' err err' : Option (List ℕ)) (agree : Bool) (IsWritten : List ℕ → Type 0) : Type 0 where
-  -- the policy file is read first
+  -- the text of the policy file
   pub rules : List ℕ
   pub rules_read : ReadsText files words.rules.now (Ok rules)
-  -- by the policy that its text means, the account of the name that the words state asks for the stamps from their first
-  -- to their last serial number, and for a check of each where they do
+  -- by the policy that it means, the account of the name that the words state asks for the stamps from their first to
+  -- their last serial number, and for a check of each where they do
   pub inquiry : Inquiry
   pub meant : meaning_of rules ≡ Ok (policy_view inquiry.policy.now)
   pub named : account_named (policy_view inquiry.policy.now) words.account.now ≡ Some (account_view inquiry.account.now)
@@ -41,7 +41,8 @@ pub record Extracts {D X C S F : Type 0} (m : Machine D X C Reading) (files : So
   pub check : inquiry.check ≡ words.check
   -- the account is an auditor's, and asks for a range
   pub allowed : IsAllowed (policy_view inquiry.policy.now) (account_view inquiry.account.now) words.from words.to
-  -- the store of the database is only looked at; the stamps of that range are extracted, and checked where that is asked
+  -- the store of the database is only looked at; the stamps of that range are extracted, and checked where that is
+  -- asked
   pub audited : IsAuditedOver m.disk m.held inquiry out out' err err' (Ok agree)
   -- what is written is the extract of stamps
   pub stamps : List StampRow
@@ -50,7 +51,7 @@ pub record Extracts {D X C S F : Type 0} (m : Machine D X C Reading) (files : So
 -- An extract that is refused on the way, or whose check is. Which stamps the database holds no clause says then.
 pub record CutsExtract {S F : Type 0} (files : Source S F) (words : AuditWords) (IsWritten : List ℕ → Type 0)
     : Type 0 where
-  -- the policy file is read first; its text means this policy
+  -- the text of the policy file means this policy
   pub rules : List ℕ
   pub rules_read : ReadsText files words.rules.now (Ok rules)
   pub policy : PolicyValue

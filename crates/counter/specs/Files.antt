@@ -1,5 +1,5 @@
 -- The files that say by what requests are answered, and who signs.
-use Rattle.std.specs.Prelude.{◌≡◌, ◌≤◌, ℕ, List, Option, option_map, length, Ok, Err}
+use Rattle.std.specs.Prelude.{◌≡◌, ◌≤◌, ℕ, List, [], Option, None, option_map, length, Ok, Err}
 use Rattle.std.proofs.Common.{Bor}
 use Rattle.cms.specs.Certificate.{IsAlgorithm}
 use Rattle.cms.specs.Identity.{IdentityValue}
@@ -7,12 +7,17 @@ use Rattle.cms.specs.declared.fault.CmsFault.{CmsFault}
 use Rattle.command_line.specs.declared.words.DeskWords.{DeskWords}
 use Rattle.command_line.specs.declared.words.SignerWords.{SignerWords}
 use Rattle.command_line.specs.declared.words.SignerWords.TheVariants as words
-use Rattle.console.specs.Files.{IsAlgorithmOf, IsKeyOf, ReadsAs, ReadsIdentity, ReadsPolicy, Source}
+use Rattle.console.specs.Files.{IsAlgorithmOf, IsKeyOf, ReadsAs, ReadsIdentity, ReadsPolicy, ReadsText, Source}
 use Rattle.console.specs.Files.{most_of_algorithm, most_of_key}
 use Rattle.console.specs.declared.fault.Fault.{Fault}
 use Rattle.console.specs.declared.fault.Fault.TheVariants.{Cms}
 use Rattle.operations.specs.declared.signing.Signing.{Signing}
 use Rattle.operations.specs.declared.signing.Signing.TheVariants as signing
+use Rattle.desk.specs.Calls.{in_force_of}
+use Rattle.desk.specs.Command.{Setting}
+use Rattle.operations.specs.Signing.{algorithm_of}
+use Rattle.policy.specs.Meaning.{meaning_of}
+use Rattle.policy.specs.Record.{PolicyValue}
 use Rattle.policy.specs.declared.policy.Policy.{Policy}
 
 -- the path of a file, where one is named
@@ -33,13 +38,26 @@ module _ {S F : Type 0} (files : Source S F) where
       × (length algorithm ≤ 256)
       × IsAlgorithm algorithm
 
+  -- What these files say: the policy; the certificate that tokens name (ESSCertIDv2, RFC 5816) and its chain, which is
+  -- empty where no file is named; and who signs, by an AlgorithmIdentifier that tokens state (RFC 5652 5.3).
+  pub record ReadsDesk (words : DeskWords) : Type 0 where
+    pub rules : List ℕ
+    pub rules_read : ReadsText files words.rules.now (Ok rules)
+    pub policy : PolicyValue
+    pub meant : meaning_of rules ≡ Ok policy
+    pub identity : IdentityValue
+    pub identity_read : ReadsIdentity files words.certificate.now (path_of words.chain) (Ok identity)
+    pub alone : words.chain ≡ None → identity.chain ≡ []
+    pub signing : Signing
+    pub signs : SignsAs words.signer signing
+
   -- how the file of who signs is refused
   abbrev pub RefusesSigner : SignerWords → Fault → Type 0
   RefusesSigner (words.Key path) fault = ReadsAs files path.now most_of_key IsKeyOf (Err fault)
   RefusesSigner (words.Session address path) fault =
       ReadsAs files path.now most_of_algorithm IsAlgorithmOf (Err fault)
 
-  -- The first fault of these files: the policy file is read first, then the certificate and its chain, and then the file
+  -- The first fault of these files: of the policy file, then of the certificate and its chain, and then of the file
   -- of who signs. Last its algorithm is kept for the tokens.
   pub data RefusesFiles (words : DeskWords) (fault : Fault) : Type 0 where
     of_policy : ReadsPolicy files words.rules.now (Err fault) → RefusesFiles words fault
@@ -51,3 +69,7 @@ module _ {S F : Type 0} (files : Source S F) where
     of_algorithm : (policy : Policy) → ReadsPolicy files words.rules.now (Ok policy) → (identity : IdentityValue)
         → ReadsIdentity files words.certificate.now (path_of words.chain) (Ok identity) → (signing : Signing)
         → SignsAs words.signer signing → (refusal : CmsFault) → fault ≡ Cms refusal → RefusesFiles words fault
+
+-- the setting of a desk by what they say
+abbrev pub setting_of : {S F : Type 0} {files : Source S F} {words : DeskWords} → ReadsDesk files words → Setting
+setting_of read = record { file = read.policy; in_force = in_force_of read.identity (algorithm_of read.signing) }

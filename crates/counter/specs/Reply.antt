@@ -1,28 +1,23 @@
 -- What `answer` does: one time-stamp request gets its reply (RFC 3161 2.4).
-use Rattle.std.specs.Prelude.{◌≡◌, ℕ, pos, List, [], Option, None, Ok}
-use Rattle.cms.specs.Identity.{IdentityValue}
+use Rattle.std.specs.Prelude.{◌≡◌, ℕ, pos, List}
 use Rattle.der.specs.Node.{encoding}
-use Rattle.desk.specs.Calls.{in_force_of}
 use Rattle.desk.specs.Command as desk
-use Rattle.desk.specs.Command.{Answer, Setting}
+use Rattle.desk.specs.Command.{Answer}
 use Rattle.desk.specs.Findings.{HoldsUnasked}
 use Rattle.desk.specs.declared.reply.Reply.{Reply}
 use Rattle.desk.specs.declared.reply.Reply.TheVariants.{Granted, Rejected}
-use Rattle.policy.specs.Meaning.{meaning_of}
-use Rattle.policy.specs.Record.{AccountValue, PolicyValue}
 use Rattle.tsp.specs.Rejection.{rejection}
 use Rattle.tsp.specs.Rules.{IsFirstFailing}
 use Rattle.tsp.specs.declared.rule.Rule.{Rule}
 use Rattle.command_line.specs.declared.words.AnswerWords.{AnswerWords}
 use Rattle.console.specs.Accounts.{IsKnown, account_shown}
-use Rattle.console.specs.Files.{ReadsIdentity, ReadsText, Source}
+use Rattle.console.specs.Files.{Source}
 use Rattle.console.specs.Hexadecimal.{IsHexadecimal, line}
 use Rattle.connections.specs.Clock.{Reading}
 use Rattle.operations.specs.Machine.{Machine}
 use Rattle.operations.specs.OverFiles.{IsAnsweredOver}
 use Rattle.operations.specs.Signing.{algorithm_of}
-use Rattle.operations.specs.declared.signing.Signing.{Signing}
-use Rattle.counter.specs.Files.{SignsAs, path_of}
+use Rattle.counter.specs.Files.{ReadsDesk, setting_of}
 
 -- the octets of a reply
 abbrev pub octets_of : Reply → List ℕ
@@ -37,34 +32,24 @@ IsReplyOf _ reply = ⊥
 
 pub record Replies {D X C S F : Type 0} (m : Machine D X C Reading) (files : Source S F) (words : AnswerWords)
     (text written : List ℕ) : Type 0 where
-  -- the policy file is read first; its text means this policy
-  pub rules : List ℕ
-  pub rules_read : ReadsText files words.desk.rules.now (Ok rules)
-  pub policy : PolicyValue
-  pub meant : meaning_of rules ≡ Ok policy
-  -- then the certificate that tokens name (ESSCertIDv2, RFC 5816) and its chain, which is empty where no file is named
-  pub identity : IdentityValue
-  pub identity_read : ReadsIdentity files words.desk.certificate.now (path_of words.desk.chain) (Ok identity)
-  pub alone : words.desk.chain ≡ None → identity.chain ≡ []
-  -- then the file of who signs, whose AlgorithmIdentifier tokens state (RFC 5652 5.3)
-  pub signing : Signing
-  pub signs : SignsAs files words.desk.signer signing
+  -- what the files say by which the desk answers: policy, certificate and chain, and who signs
+  pub read : ReadsDesk files words.desk
   -- where a key is shown, an account of the policy has it
-  pub known : IsKnown policy words.key
+  pub known : IsKnown read.policy words.key
   -- the input is hexadecimal digits of the request's octets
   pub query : List ℕ
   pub spelled : IsHexadecimal text query
-  -- over the store of the database, the machine answers by one step, for that account and at the reading that the words
-  -- state
+  -- a desk is opened over the store of the database, which installs the identity unless it is the latest there; with a
+  -- signer of that algorithm the machine answers by one step, for that account and at the reading that the words state
   pub answer : Answer
-  pub stepped : IsAnsweredOver m.disk m.held m.signs
-      (record { file = policy; in_force = in_force_of identity (algorithm_of signing) }) (algorithm_of signing)
-      (account_shown policy words.key) (pos words.reading) query answer
+  pub stepped : IsAnsweredOver m.disk m.held m.signer (setting_of read) (algorithm_of read.signing)
+      (account_shown read.policy words.key) (pos words.reading) query answer
   -- the reply is its token or its rejection (TimeStampResp, RFC 3161 2.4.2)
   pub reply : List ℕ
   pub says : IsReplyOf answer reply
   -- by the first rule of 1 to 9 that fails of the request, it is that rule's rejection, whatever the database holds
-  pub judged : (rule : Rule) → IsFirstFailing (HoldsUnasked policy (account_shown policy words.key) query) rule
+  pub judged : (rule : Rule)
+      → IsFirstFailing (HoldsUnasked read.policy (account_shown read.policy words.key) query) rule
       → reply ≡ encoding (rejection rule)
   -- what is written is the reply's hexadecimal digits, and LF
   pub digits : written ≡ line reply

@@ -15,25 +15,26 @@ use Rattle.console.specs.Writes.{Begins}
 use Rattle.console.specs.declared.fault.Fault.{Fault}
 use Rattle.console.specs.declared.fault.Fault.TheVariants as program
 use Rattle.console.specs.declared.fault.InputFault.TheVariants.{Failed}
-use Rattle.counter.specs.Answers.{Does}
+use Rattle.counter.specs.Does.{Does}
 use Rattle.counter.specs.Extract.{CutsExtract, Extracts, StopsCheck}
-use Rattle.counter.specs.Streams.{Streams}
+use Rattle.counter.specs.Streams.{Streams, begun}
 use Rattle.operations.specs.Audits.{TellsSome, failing_lines}
 use Rattle.operations.specs.Machine.{Machine}
 use Rattle.operations.specs.declared.void_stamp.Floor.{Floor}
 
 -- A fault stopped it, whose line is told on standard error, or a beginning of that line; or stamps fail their check.
-pub data Stops {D X C S F O : Type 0} (m : Machine D X C Reading) (IsContinued : Option Floor → Type 0) (files : Source S F)
-    (texts : List Text) (s : Streams O) : Type 0 where
-  -- nothing is written to the output
-  at_fault : (fault : Fault) → s.contents s.output_after ≡ s.contents s.output
+pub data Stops {D X C S F O : Type 0} (m : Machine D X C Reading) (IsContinued : Option Floor → Type 0)
+    (files : Source S F) (texts : List Text) (s : Streams O) : Type 0 where
+  -- nothing is written to the output, and a fault is told, of whose cause, and of what was done before it, nothing is
+  -- said
+  tells_fault : (fault : Fault) → s.contents s.output_after ≡ s.contents s.output
       → Begins s.errors s.errors_after (fault_line fault) → Stops m IsContinued files texts s
-  -- help is asked for, and couldn't be written whole
+  -- help is asked for, and couldn't be written whole; how much of it was, isn't said
   in_help : AsksHelp texts → (fault : Fault) → Begins s.errors s.errors_after (fault_line fault)
       → Stops m IsContinued files texts s
   -- a beginning of what the words ask for is written, and then a stream fails: `input` 5
   in_answer : (word : Word) → Asks texts word
-      → Does m IsContinued files s word (Begins (s.contents s.output) (s.contents s.output_after))
+      → Does m IsContinued files s word begun
       → Begins s.errors s.errors_after (fault_line (program.Input Failed)) → Stops m IsContinued files texts s
   -- a beginning of an extract is written, which is then refused as the database, memory or the output fail
   in_extract : (words : AuditWords) → Asks texts (Audit words)

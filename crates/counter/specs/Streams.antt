@@ -1,8 +1,20 @@
 -- The streams of a process.
 use Rattle.std.specs.Prelude.{ℕ, List, Option}
+use Rattle.std.specs.Io.KnownBytes.{Appends}
+use Rattle.console.specs.Writes.{Begins}
 
--- what is left of the input, the output, and what was written to standard error: before the words are done and after it,
--- where these streams tell their octets
+-- how much is written of what is to be: all of it, or a beginning, as a stream failed
+pub data Extent : Type 0 where
+  whole : Extent
+  begun : Extent
+
+-- so much of these octets is written, where the stream tells
+abbrev pub WritesSo : Extent → (out out' : Option (List ℕ)) → List ℕ → Type 0
+WritesSo whole out out' octets = Appends out out' octets
+WritesSo begun out out' octets = Begins out out' octets
+
+-- what is left of the input, the output, and what was written to standard error: before the words are done and after
+-- it. `None` where a stream doesn't tell its octets, as the machine's don't: nothing is said of these.
 pub record Streams (O : Type 0) : Type 0 where
   pub input : Option (List ℕ)
   pub input_after : Option (List ℕ)
@@ -23,3 +35,7 @@ streams_of input input' contents output output' errors errors' = record {
   errors = errors;
   errors_after = errors';
 }
+
+-- so much of these octets is written to the output
+abbrev pub Writes : {O : Type 0} → Streams O → Extent → List ℕ → Type 0
+Writes s extent = WritesSo extent (s.contents s.output) (s.contents s.output_after)

@@ -13,7 +13,7 @@ use command_line::AnswerWords;
 use connections::{Clock, SystemClock};
 use console::{Fault, FileSource, account_of, read_hexadecimal};
 use desk::{Reply, Settings};
-use operations::{DatabaseDesk, Disk, FileFrom, HostSigner, Question, Renewal, Start};
+use operations::{DatabaseDesk, Disk, FileFrom, HostSigner, HostSigners, Question, Renewal, Start};
 use std::io::Read;
 use std::rt::HostRuntime;
 
@@ -45,15 +45,18 @@ pub fn answer<F: Start + Drop, S: FileSource + AllocGlobal, I: Read>(
             identity: &identity,
             algorithm: &algorithm,
         },
-        signing,
-        renewal: Renewal::Never,
+        signers: HostSigners {
+            rt,
+            signing,
+            renewal: Renewal::Never,
+        },
     };
     let question = Question {
         account,
         reading: words.reading as i64,
         query: query.as_slice(),
     };
-    answer_of(operations::answer(rt, desk, &question))
+    answer_of(operations::answer(rt.alloc(), desk, &question))
 }
 
 /// The reply's octets.

@@ -1,10 +1,10 @@
 //! The word `exchange`.
 ghost use Rattle.std.specs.Prelude.{◌≡◌, ◌⊎◌, OnOk, IfErr};
-ghost use Rattle.std.specs.Io.KnownBytes.{Appends, Keeps};
+ghost use Rattle.std.specs.Io.KnownBytes.{Keeps};
 ghost use Rattle.console.specs.Files.{source_of};
 ghost use Rattle.counter.specs.Exchange.{Exchanges, HasEnded, HasStopped};
 ghost use Rattle.operations.specs.Machine.{machine_of};
-ghost use Rattle.console.specs.Writes.{Begins};
+ghost use Rattle.counter.specs.Streams.{begun, whole};
 
 use crate::events::octets_at;
 use crate::fault::fault_of;
@@ -16,7 +16,9 @@ use command_line::ExchangeWords;
 use connections::{Clock, SystemClock};
 use console::{Fault, FileSource, InputFault};
 use desk::Settings;
-use operations::{DatabaseDesk, Disk, FileFrom, HostSigner, Renewal, Start, perform_at_desk};
+use operations::{
+    DatabaseDesk, Disk, FileFrom, HostSigner, HostSigners, Renewal, Start, perform_at_desk,
+};
 use service::Served;
 use std::io::{Read, Write};
 use std::rt::HostRuntime;
@@ -33,8 +35,7 @@ pub fn exchange<F: Start + Drop, S: FileSource + AllocGlobal, I: Read, O: Write>
     ensures answered { OnOk result (Exchanges (machine_of ⟦<FileFrom<F> as Disk>⟧ F.Start
         ⟦<HostSigner<'static> as Signer>⟧ ⟦<SystemClock<'static, HostRuntime> as Clock>⟧.reads)
         (source_of S.opens S.refuses S.File.remaining host.entry.files.now) words.now O.contents output.old
-        (I.remaining input.old) (I.remaining input.new)
-        (Appends (O.contents output.old) (O.contents output.new))) }
+        output.new (I.remaining input.old) (I.remaining input.new) whole) }
 
     // Before a fault nothing is written, but where there is an answer and writing it fails.
     ensures kept { IfErr result (λ fault. (O.contents output.new ≡ O.contents output.old)
@@ -42,8 +43,7 @@ pub fn exchange<F: Start + Drop, S: FileSource + AllocGlobal, I: Read, O: Write>
         × Exchanges (machine_of ⟦<FileFrom<F> as Disk>⟧ F.Start
         ⟦<HostSigner<'static> as Signer>⟧ ⟦<SystemClock<'static, HostRuntime> as Clock>⟧.reads)
         (source_of S.opens S.refuses S.File.remaining host.entry.files.now) words.now O.contents output.old
-        (I.remaining input.old) (I.remaining input.new)
-        (Begins (O.contents output.old) (O.contents output.new)))) }
+        output.new (I.remaining input.old) (I.remaining input.new) begun)) }
 {
     let rt = host.rt;
     let Files {
@@ -59,15 +59,18 @@ pub fn exchange<F: Start + Drop, S: FileSource + AllocGlobal, I: Read, O: Write>
             identity: &identity,
             algorithm: &algorithm,
         },
-        signing,
-        renewal: Renewal::Never,
+        signers: HostSigners {
+            rt,
+            signing,
+            renewal: Renewal::Never,
+        },
     };
     let asked = OneRequest {
         alloc: rt.alloc(),
         reading: words.reading as i64,
         octets: octets_at(rt, words.desk.db),
     };
-    match perform_at_desk(rt, desk, asked, input, output) {
+    match perform_at_desk(rt.alloc(), desk, asked, input, output) {
         Ok(served) => finish(served, output),
         Err(fault) => Err(fault_of(fault)),
     }

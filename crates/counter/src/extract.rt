@@ -47,5 +47,5 @@ pub fn audit<F: Start + Drop, S: FileSource + AllocGlobal, O: Write, E: Write>(
         check: words.check,
     };
     let database = host.database(words.db);
-    agreement_of(operations::audit(rt, database, &inquiry, output, errors))
+    agreement_of(operations::audit(rt.alloc(), database, &inquiry, output, errors))
 }

@@ -2,7 +2,7 @@
 ghost use Rattle.std.specs.Prelude.{◌≡◌, ◌<◌, ◌≤◌, Err, IfOk, IfErr, OnOk};
 ghost use Rattle.book.specs.Values.{calibration_view, hold_view};
 ghost use Rattle.operations.specs.Machine.{image_at};
-ghost use Rattle.operations.specs.OverFiles.{IsContinuedOver, IsMigratedOver, IsRefusedOver};
+ghost use Rattle.operations.specs.OverFiles.{IsContinuedOver, IsRefusedOver};
 ghost use Rattle.counter.specs.Calibration.{Calibrates, calibration_of};
 ghost use Rattle.counter.specs.Continuation.{floor_of};
 ghost use Rattle.counter.specs.Hold.{Holds, hold_of};
@@ -11,53 +11,32 @@ ghost use Rattle.console.specs.Fault.{IsStoreFault};
 ghost use Rattle.operations.specs.Machine.{machine_of};
 
 use crate::fault::fault_of_continuation;
-use crate::host::Host;
 use book::{Calibration, Hold};
 use cms::Signer;
-use command_line::{CalibrateWords, ContinueWords, HoldWords, InitWords, MigrateWords};
+use command_line::{CalibrateWords, ContinueWords, HoldWords};
 use connections::{Clock, SystemClock};
 use console::{Fault, InputFault};
 use operations::{
-    Addition, Continuation, ContinuationFault, Disk, FileFrom, Floor, HostSigner, Start, Unknown,
+    Addition, ContinuationFault, Database, Disk, FileFrom, Floor, HostFiles, HostSigner, Start,
 };
-
-/// Makes the tables of a new database.
-pub fn init<F: Start + Drop, S>(host: Host<'_, F, S>, words: &InitWords<'_>) -> Result<(), Fault>
-    ensures { IfErr result IsStoreFault }
-{
-    Ok(operations::init(host.rt, host.database(words.db))?)
-}
-
-/// Takes a database of an older schema over.
-pub fn migrate<F: Start + Drop, S>(
-    host: Host<'_, F, S>,
-    words: &MigrateWords<'_>,
-) -> Result<(), Fault>
-    ensures migrated { IfOk result (λ _. IsMigratedOver ⟦<FileFrom<F> as Disk>⟧ (image_at F.Start)) }
-    ensures faults { IfErr result IsStoreFault }
-{
-    Ok(operations::migrate(host.rt, host.database(words.db))?)
-}
+use std::alloc::Global;
 
 /// Closes a database for tokens, and has its history go on in a new one, above what the words state. It is `input` 9
 /// where that doesn't come after the last stamp, or there is none.
-pub fn continue_in<F: Start + Drop, S>(
-    host: Host<'_, F, S>,
+pub fn continue_in<F: Start + Drop, N: Start + Drop>(
+    alloc: Global,
+    old: Database<'_, HostFiles<'_, F>>,
+    new: Database<'_, HostFiles<'_, N>>,
     words: &ContinueWords<'_>,
 ) -> Result<(), Fault>
     ensures continued { OnOk result (IsContinuedOver ⟦<FileFrom<F> as Disk>⟧ (image_at F.Start)
-        ⟦<FileFrom<Unknown> as Disk>⟧ (floor_of words.now)) }
+        ⟦<FileFrom<N> as Disk>⟧ (floor_of words.now)) }
 
     // By the refusal, what was done to the old database.
     ensures refused { IfErr result (λ fault. (refusal : ContinuationFault) × (fault ≡ fault_of_continuation refusal)
         × IsRefusedOver ⟦<FileFrom<F> as Disk>⟧ (image_at F.Start) (floor_of words.now) refusal) }
 {
-    let continuation = Continuation {
-        from: words.from,
-        db: words.db,
-        floor: floor_of(words),
-    };
-    match operations::continue_in(host.rt, &continuation, host.start, Unknown) {
+    match operations::continue_in(alloc, old, new, floor_of(words)) {
         Ok(()) => Ok(()),
         Err(refusal) => Err(fault_of_continuation(refusal)),
     }
@@ -75,8 +54,9 @@ fn floor_of(words: &ContinueWords<'_>) -> Option<Floor>
 }
 
 /// Adds the calibration that the words state.
-pub fn calibrate<F: Start + Drop, S>(
-    host: Host<'_, F, S>,
+pub fn calibrate<F: Start + Drop>(
+    alloc: Global,
+    database: Database<'_, HostFiles<'_, F>>,
     words: &CalibrateWords<'_>,
 ) -> Result<(), Fault>
     ensures added { IfOk result (λ _. Calibrates (machine_of ⟦<FileFrom<F> as Disk>⟧ F.Start ⟦<HostSigner<'static> as Signer>⟧
@@ -84,13 +64,17 @@ pub fn calibrate<F: Start + Drop, S>(
     ensures faults { IfErr result IsStoreFault }
 {
     let addition = Addition::Calibration(calibration_of(words));
-    operations::add(host.rt, host.database(words.db), &addition)?;
+    operations::add(alloc, database, &addition)?;
     Ok(())
 }
 
 /// Adds the hold that the words state. One that doesn't begin before it ends is `input` 3, before the database is
 /// looked at.
-pub fn hold<F: Start + Drop, S>(host: Host<'_, F, S>, words: &HoldWords<'_>) -> Result<(), Fault>
+pub fn hold<F: Start + Drop>(
+    alloc: Global,
+    database: Database<'_, HostFiles<'_, F>>,
+    words: &HoldWords<'_>,
+) -> Result<(), Fault>
     ensures added { IfOk result (λ _. Holds (machine_of ⟦<FileFrom<F> as Disk>⟧ F.Start ⟦<HostSigner<'static> as Signer>⟧
         ⟦<SystemClock<'static, HostRuntime> as Clock>⟧.reads) words.now) }
     ensures some { IfOk result (λ _. words.now.from < words.now.to) }
@@ -98,7 +82,7 @@ pub fn hold<F: Start + Drop, S>(host: Host<'_, F, S>, words: &HoldWords<'_>) -> 
     ensures faults { words.now.from < words.now.to → IfErr result IsStoreFault }
 {
     let addition = Addition::Hold(hold_of(words)?);
-    operations::add(host.rt, host.database(words.db), &addition)?;
+    operations::add(alloc, database, &addition)?;
     Ok(())
 }
 

@@ -1,7 +1,7 @@
 //! The machine that the program runs on.
 ghost use Rattle.std.specs.Prelude.{◌≡◌};
 
-use operations::Database;
+use operations::{Database, HostFiles, Start, Unknown};
 
 /// The machine that the program runs on.
 #[derive(Drop)]
@@ -14,15 +14,23 @@ pub struct Host<'a, F, S> {
     pub start: F,
 }
 
-impl<F, S> Host<'_, F, S> {
+impl<'a, F: Start + Drop, S> Host<'a, F, S> {
+    /// Another database at a path of it, of whose files nothing is supposed.
+    pub fn another(&self, path: &'a str) -> Database<'a, HostFiles<'a, Unknown>>
+        ensures { result.path.now ≡ path.now }
+    {
+        let files = HostFiles::new(self.rt, Unknown);
+        Database { path, files }
+    }
+
     /// The database at a path of it.
-    pub fn database<'p>(self, path: &'p str) -> Database<'p, F>
+    pub fn database(self, path: &'a str) -> Database<'a, HostFiles<'a, F>>
         ensures path { result.path.now ≡ path.now }
-        ensures start { result.start ≡ self.entry.start }
+        ensures start { result.files.start ≡ self.entry.start }
     {
         Database {
             path,
-            start: self.start,
+            files: HostFiles::new(self.rt, self.start),
         }
     }
 }

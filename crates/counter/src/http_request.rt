@@ -8,7 +8,6 @@ use operations::{DeskOperation, OperationFault, SignedDesk};
 use service::{Served, Surroundings, serve_over};
 use std::alloc::Global;
 use std::io::{Read, Write};
-use std::rt::HostRuntime;
 
 /// One HTTP request, which is read and answered.
 #[derive(Drop)]
@@ -34,7 +33,7 @@ impl<R: Read, W: Write> DeskOperation<R, W> for OneRequest {
     ghost moves = { λ _ _ g signs exchange visit served. Serves g signs.signs signs.fault_count W.contents
         exchange.reading (turn_of R.remaining visit) served };
 
-    fn prepare(&self, _rt: &HostRuntime) -> Result<(), OperationFault> {
+    fn prepare(&self) -> Result<(), OperationFault> {
         Ok(())
     }
 

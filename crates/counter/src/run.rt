@@ -4,11 +4,11 @@ ghost use Rattle.command_line.specs.Words.{AreRefused, AreTaken, Asks, AsksHelp,
 ghost use Rattle.console.specs.Fault.{fault_line, no_text};
 ghost use Rattle.console.specs.Files.{source_of};
 ghost use Rattle.console.specs.Writes.{Begins};
-ghost use Rattle.counter.specs.Answers.{Does, IsNoAudit};
+ghost use Rattle.counter.specs.Does.{Does, IsNoAudit};
 ghost use Rattle.counter.specs.Extract.{Extracts, LeavesAudit};
 ghost use Rattle.counter.specs.Reply.{Replies};
 ghost use Rattle.counter.specs.Stops.{Stops};
-ghost use Rattle.counter.specs.Streams.{streams_of};
+ghost use Rattle.counter.specs.Streams.{begun, streams_of, whole};
 ghost use Rattle.operations.specs.Audits.{TellsSome};
 ghost use Rattle.operations.specs.Machine.{image_at, machine_of};
 ghost use Rattle.operations.specs.OverFiles.{IsContinuedOver};
@@ -16,7 +16,7 @@ ghost use Rattle.operations.specs.OverFiles.{IsContinuedOver};
 use crate::answer::{answer, octets_of};
 use crate::exchange::exchange;
 use crate::extract::audit;
-use crate::history::{calibrate, continue_in, hold, init, migrate};
+use crate::history::{calibrate, continue_in, hold};
 use crate::host::Host;
 use crate::server::serve;
 use cms::Signer;
@@ -157,8 +157,7 @@ pub fn run_words<F: Start + Drop, S: FileSource + AllocGlobal, I: Read, O: Write
         (IsContinuedOver ⟦<FileFrom<F> as Disk>⟧ (image_at F.Start) ⟦<FileFrom<Unknown> as Disk>⟧)
         (source_of S.opens S.refuses S.File.remaining host.entry.files.now)
         (streams_of (I.remaining process.old.input) (I.remaining process.new.input) O.contents process.old.output
-        process.new.output (E.contents process.old.errors) (E.contents process.new.errors)) word
-        (Appends (O.contents process.old.output) (O.contents process.new.output)))
+        process.new.output (E.contents process.old.errors) (E.contents process.new.errors)) word whole)
         ⊎ AsksHelp (texts_of words.now) }
 
     // Where all is done, no fault is written.
@@ -208,8 +207,7 @@ fn run_word<F: Start + Drop, S: FileSource + AllocGlobal, I: Read, O: Write, E: 
         (IsContinuedOver ⟦<FileFrom<F> as Disk>⟧ (image_at F.Start) ⟦<FileFrom<Unknown> as Disk>⟧)
         (source_of S.opens S.refuses S.File.remaining host.entry.files.now)
         (streams_of (I.remaining input.old) (I.remaining input.new) O.contents output.old output.new
-        (E.contents errors.old) (E.contents errors.new)) word.now
-        (Appends (O.contents output.old) (O.contents output.new))) }
+        (E.contents errors.old) (E.contents errors.new)) word.now whole) }
     ensures silent { IfOk result (λ outcome. outcome ≢ Outcome.Failing
         → E.contents errors.new ≡ E.contents errors.old) }
 
@@ -231,8 +229,7 @@ fn run_word<F: Start + Drop, S: FileSource + AllocGlobal, I: Read, O: Write, E: 
         (IsContinuedOver ⟦<FileFrom<F> as Disk>⟧ (image_at F.Start) ⟦<FileFrom<Unknown> as Disk>⟧)
         (source_of S.opens S.refuses S.File.remaining host.entry.files.now)
         (streams_of (I.remaining input.old) (I.remaining input.new) O.contents output.old output.new
-        (E.contents errors.old) (E.contents errors.new)) word.now
-        (Begins (O.contents output.old) (O.contents output.new)))) }
+        (E.contents errors.old) (E.contents errors.new)) word.now begun)) }
     ensures untold { IsNoAudit word.now → IfErr result (λ _. E.contents errors.new ≡ E.contents errors.old) }
 
     // A refused extract may have been begun, and one whose check is refused is whole.
@@ -250,23 +247,25 @@ fn run_word<F: Start + Drop, S: FileSource + AllocGlobal, I: Read, O: Write, E: 
             Ok(Outcome::Counted)
         }
         Word::Init(words) => {
-            init(host, words)?;
+            operations::init(host.database(words.db))?;
             Ok(Outcome::Changed)
         }
         Word::Migrate(words) => {
-            migrate(host, words)?;
+            operations::migrate(host.database(words.db))?;
             Ok(Outcome::Changed)
         }
         Word::Continue(words) => {
-            continue_in(host, words)?;
+            let alloc = host.rt.alloc();
+            let new = host.another(words.db);
+            continue_in(alloc, host.database(words.from), new, words)?;
             Ok(Outcome::Changed)
         }
         Word::Calibrate(words) => {
-            calibrate(host, words)?;
+            calibrate(host.rt.alloc(), host.database(words.db), words)?;
             Ok(Outcome::Changed)
         }
         Word::Hold(words) => {
-            hold(host, words)?;
+            hold(host.rt.alloc(), host.database(words.db), words)?;
             Ok(Outcome::Changed)
         }
         Word::Answer(words) => {

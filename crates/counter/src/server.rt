@@ -19,8 +19,8 @@ use connections::{CONNECTION_SECONDS, Clock, Listening, SystemClock, serve_conne
 use console::{Fault, FileSource, InputFault};
 use desk::Settings;
 use operations::{
-    DatabaseDesk, DeskOperation, Disk, FileFrom, HostSigner, OperationFault, Renewal, SignedDesk,
-    Start, perform_at_desk,
+    DatabaseDesk, DeskOperation, Disk, FileFrom, HostSigner, HostSigners, OperationFault, Renewal,
+    SignedDesk, Start, perform_at_desk,
 };
 use sockets::Listener;
 use std::time::{Duration, Instant};
@@ -51,8 +51,8 @@ impl DeskOperation<(), ()> for Serving<'_> {
         serving.connections (state_before clock visit) (state_after clock' visit) done };
 
     /// Listens on the address.
-    fn prepare(&self, rt: &HostRuntime) -> Result<Listener, OperationFault> {
-        Listener::bind(rt, self.address).or(Err(OperationFault::Unheard))
+    fn prepare(&self) -> Result<Listener, OperationFault> {
+        Listener::bind(self.rt, self.address).or(Err(OperationFault::Unheard))
     }
 
     fn perform<B: Book + Drop, G: Signer>(
@@ -130,8 +130,11 @@ pub fn serve<F: Start + Drop, S: FileSource + AllocGlobal>(
             identity: &identity,
             algorithm: &algorithm,
         },
-        signing,
-        renewal: Renewal::AfterLoss,
+        signers: HostSigners {
+            rt,
+            signing,
+            renewal: Renewal::AfterLoss,
+        },
     };
     let octets = octets_at(rt, words.desk.db);
     let serving = Serving {
@@ -142,7 +145,7 @@ pub fn serve<F: Start + Drop, S: FileSource + AllocGlobal>(
         begun: Instant::now(rt).ok(),
     };
     tell_opening(rt, octets);
-    match perform_at_desk(rt, desk, serving, &mut (), &mut ()) {
+    match perform_at_desk(rt.alloc(), desk, serving, &mut (), &mut ()) {
         Ok(done) => answer_of(done),
         Err(fault) => Err(fault_of(fault)),
     }

@@ -1,7 +1,30 @@
 //! Lists of deposits, and what is told of them.
 use std::fmt::Debug;
+use std::io::{self, ErrorKind, Write};
 use store::Listed;
 use transcript::Printer;
+
+/// An output that can be flushed so many times, and takes all octets.
+#[derive(Drop)]
+pub struct LimitedOutput {
+    pub flushes: u64,
+}
+
+impl Write for LimitedOutput {
+    fn write(&mut self, buf: &[u8]) -> io::Result<usize> {
+        Ok(buf.len())
+    }
+
+    fn flush(&mut self) -> io::Result<()> {
+        match self.flushes.checked_sub(1) {
+            Some(left) => {
+                self.flushes = left;
+                Ok(())
+            }
+            None => Err(ErrorKind::TimedOut.into()),
+        }
+    }
+}
 
 /// Tells a list's rows, a line for each, and how many there are.
 pub fn tell_rows(printer: Printer<'_>, rows: &[Listed]) {

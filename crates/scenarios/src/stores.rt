@@ -1,7 +1,7 @@
 //! Calls of the store.
 use crate::entries::entries_of;
 use crate::kept::Kept;
-use crate::lists::tell_list;
+use crate::lists::{LimitedOutput, tell_list};
 use crate::stamps::{AskedOfStamps, tell_stamp, tell_stamps};
 use book::{Entry, IdentityRow};
 use store::{Book, Calibration, Deposit, Hold, Reservation, StampedDeposit, StoreFault};
@@ -147,10 +147,18 @@ fn named<'n, 'w>(names: &'n [&'w str; 2]) -> &'n [&'w str] {
     names
 }
 
-fn list<B: Book>(printer: Printer<'_>, store: &mut B, words: &mut Words<'_>) {
+/// Lists deposits for an output that can be flushed so many times.
+fn list_within<B: Book>(printer: Printer<'_>, store: &mut B, flushes: u64, words: &mut Words<'_>) {
     let account = words.next();
     let names = [words.next(), words.next()];
-    tell_list(printer, store.list(account, named(&names)));
+    let mut output = LimitedOutput { flushes };
+    tell_list(printer, store.list(account, named(&names), &mut output));
+}
+
+/// Lists deposits for an output that the next word limits.
+fn list_limited<B: Book>(printer: Printer<'_>, store: &mut B, words: &mut Words<'_>) {
+    let flushes = words.number();
+    list_within(printer, store, flushes, words);
 }
 
 fn tell_visible<B: Book>(printer: Printer<'_>, store: &mut B, words: &mut Words<'_>) {
@@ -212,7 +220,8 @@ fn show<B: Book>(printer: Printer<'_>, store: &mut B, word: &str, words: &mut Wo
         "held" => tell_held(printer, store, words),
         "last" => tell_last(printer, store),
         "count" => tell_count(printer, store, words),
-        "list" => list(printer, store, words),
+        "list" => list_within(printer, store, u64::MAX, words),
+        "list-within" => list_limited(printer, store, words),
         "visible" => tell_visible(printer, store, words),
         "deposit" => tell_stamped(printer, store, words),
         "under" => tell_under(printer, store, words),

@@ -45,15 +45,17 @@ returns g c =
     IfOk-weaker c.answer_of.result _ _
     (λ reply it. IfSome_then (g.I.Read.remaining c.args.input.now) c.in_ok-query.ensures.found
     (λ text spelled. record {
-      rules = read.0;
-      rules_read = read.1;
-      policy = policy_view files.policy;
-      meant = read.2;
-      identity = files.identity;
-      identity_read = c.in_ok-policy.ensures.identity;
-      alone = c.in_ok-policy.ensures.alone;
-      signing = files.signing;
-      signs = c.in_ok-policy.ensures.signs;
+      read = record {
+        rules = read.0;
+        rules_read = read.1;
+        policy = policy_view files.policy;
+        meant = read.2;
+        identity = files.identity;
+        identity_read = c.in_ok-policy.ensures.identity;
+        alone = c.in_ok-policy.ensures.alone;
+        signing = files.signing;
+        signs = c.in_ok-policy.ensures.signs;
+      };
       known = c.in_ok-account.ensures.known;
       query = c.in_ok-query.query.items;
       spelled = spelled;

@@ -1,7 +1,8 @@
-use Rattle.std.proofs.Common.{rules, ◌<◌, ◌^◌, inl, inr, pos, w64}
+use Rattle.std.proofs.Common.{rules, ◌<◌, ◌^◌, inl, inr, pos, subst, w64}
 use Rattle.std.proofs.lemmas.Int.{to_z_pos}
 use Rattle.std.proofs.lemmas.Result.{IfErr-weaker, on_ok_weaker}
 use Rattle.policy.specs.View.{policy_view}
+use Rattle.counter.specs.Exchange.{HasStopped}
 use Rattle.counter.proofs.Exchanged.{ended, stopped}
 use Rattle.counter.proofs.exchange.exchange.Goals as goal
 
@@ -18,22 +19,25 @@ returns-in-Ok-clause-answered g c =
     in
     on_ok_weaker c.finish.result
     (λ end. record {
-      rules = read.0;
-      rules_read = read.1;
-      policy = policy_view files.policy;
-      meant = read.2;
-      identity = files.identity;
-      identity_read = c.in_ok-policy.ensures.identity;
-      alone = c.in_ok-policy.ensures.alone;
-      signing = files.signing;
-      signs = c.in_ok-policy.ensures.signs;
+      read = record {
+        rules = read.0;
+        rules_read = read.1;
+        policy = policy_view files.policy;
+        meant = read.2;
+        identity = files.identity;
+        identity_read = c.in_ok-policy.ensures.identity;
+        alone = c.in_ok-policy.ensures.alone;
+        signing = files.signing;
+        signs = c.in_ok-policy.ensures.signs;
+      };
       writes = ended (policy_view files.policy) (pos c.args.words.now.reading)
           (g.I.Read.remaining c.args.input.now) (g.I.Read.remaining c.perform_at_desk.new.input)
           (g.O.Write.contents c.args.output.now) (g.O.Write.contents c.perform_at_desk.new.output)
           (g.O.Write.contents c.finish.new.output) c.in-Ok.served answered end;
-      unflushed = c.perform_at_desk.new.output;
+      output_served = c.perform_at_desk.new.output;
       outcome = c.in-Ok.served;
       served = served;
+      ends = end;
     })
     c.finish.ensures.ended
 
@@ -59,19 +63,23 @@ returns-in-Ok-clause-kept g c =
           inr (
             known.0,
             record {
-              rules = read.0;
-              rules_read = read.1;
-              policy = policy_view files.policy;
-              meant = read.2;
-              identity = files.identity;
-              identity_read = c.in_ok-policy.ensures.identity;
-              alone = c.in_ok-policy.ensures.alone;
-              signing = files.signing;
-              signs = c.in_ok-policy.ensures.signs;
+              read = record {
+                rules = read.0;
+                rules_read = read.1;
+                policy = policy_view files.policy;
+                meant = read.2;
+                identity = files.identity;
+                identity_read = c.in_ok-policy.ensures.identity;
+                alone = c.in_ok-policy.ensures.alone;
+                signing = files.signing;
+                signs = c.in_ok-policy.ensures.signs;
+              };
               writes = known.1;
-              unflushed = c.perform_at_desk.new.output;
+              output_served = c.perform_at_desk.new.output;
               outcome = c.in-Ok.served;
               served = served;
+              ends = subst (λ f. HasStopped c.in-Ok.served (g.O.Write.contents c.perform_at_desk.new.output)
+                  (g.O.Write.contents c.finish.new.output) f) known.0 stop;
             },
           )
     ])

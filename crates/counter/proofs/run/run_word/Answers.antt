@@ -2,6 +2,14 @@ use Rattle.std.proofs.Common.{refl}
 use Rattle.console.proofs.Writes.{appends_nothing}
 use Rattle.counter.proofs.run.run_word.Goals as goal
 
+pub returns-in_ok-init-in-Init-clause-done : goal.returns-in_ok-init-in-Init-clause-done
+returns-in_ok-init-in-Init-clause-done g c = λ _.
+    rw c.in-Init.is (
+      refl,
+      c.in_ok-init-in-Init.ensures.made,
+      appends_nothing (g.O.Write.contents c.args.output.now),
+    )
+
 pub returns-in_ok-migrate-in-Migrate-clause-done : goal.returns-in_ok-migrate-in-Migrate-clause-done
 returns-in_ok-migrate-in-Migrate-clause-done g c = λ _.
     rw c.in-Migrate.is (

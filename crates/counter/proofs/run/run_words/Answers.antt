@@ -1,6 +1,6 @@
 use Rattle.std.proofs.Common.{inl, inr}
 use Rattle.command_line.specs.Words.{texts_of}
-use Rattle.counter.specs.Stops.{at_fault, in_help}
+use Rattle.counter.specs.Stops.{tells_fault, in_help}
 use Rattle.counter.proofs.Stops.{audit_or_not, cut_stops, failing_or_not, failing_stops, other_stops}
 use Rattle.counter.proofs.run.run_words.Goals as goal
 
@@ -34,6 +34,6 @@ returns-in-Err-clause-stopped g c =
     λ one.
     let told = c.explain.ensures.told one in
     elim c.explain.ensures.unwritten [
-      | inl same ↦ at_fault told.0 same told.1
+      | inl same ↦ tells_fault told.0 same told.1
       | inr help ↦ in_help (rw help.1 at c.in-Err.ensures.refused) told.0 told.1
     ]

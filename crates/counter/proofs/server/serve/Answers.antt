@@ -14,15 +14,17 @@ returns-in-Ok-clause-served g c =
     let moved = rw c.in_ok-policy.ensures.algorithm at c.in-Ok.ensures.moved in
     on_ok_weaker c.answer_of.result
     (λ done. record {
-      rules = read.0;
-      rules_read = read.1;
-      policy = policy_view files.policy;
-      meant = read.2;
-      identity = files.identity;
-      identity_read = c.in_ok-policy.ensures.identity;
-      alone = c.in_ok-policy.ensures.alone;
-      signing = files.signing;
-      signs = c.in_ok-policy.ensures.signs;
+      read = record {
+        rules = read.0;
+        rules_read = read.1;
+        policy = policy_view files.policy;
+        meant = read.2;
+        identity = files.identity;
+        identity_read = c.in_ok-policy.ensures.identity;
+        alone = c.in_ok-policy.ensures.alone;
+        signing = files.signing;
+        signs = c.in_ok-policy.ensures.signs;
+      };
       served = rw done at moved;
     })
     (told_done c.in-Ok.done c.answer_of.result c.answer_of.ensures)
@@ -34,15 +36,17 @@ returns-in-Ok-clause-stopped g c =
     λ failed.
     let stopped = told_failed c.in-Ok.done c.answer_of.result c.answer_of.ensures failed in
     record {
-      rules = read.0;
-      rules_read = read.1;
-      policy = policy_view files.policy;
-      meant = read.2;
-      identity = files.identity;
-      identity_read = c.in_ok-policy.ensures.identity;
-      alone = c.in_ok-policy.ensures.alone;
-      signing = files.signing;
-      signs = c.in_ok-policy.ensures.signs;
+      read = record {
+        rules = read.0;
+        rules_read = read.1;
+        policy = policy_view files.policy;
+        meant = read.2;
+        identity = files.identity;
+        identity_read = c.in_ok-policy.ensures.identity;
+        alone = c.in_ok-policy.ensures.alone;
+        signing = files.signing;
+        signs = c.in_ok-policy.ensures.signs;
+      };
       served = rw (stopped, c.in_ok-policy.ensures.algorithm) at c.in-Ok.ensures.moved;
     }
 
