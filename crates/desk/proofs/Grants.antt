@@ -1,7 +1,7 @@
 -- A right is entered, or refused.
 use Rattle.std.proofs.Common.{◌≡◌, ℕ, cond, Bool, true, false, List, [], ◌∷◌, ◌++◌, Option, Some, None, Ok, Err, refl}
 use Rattle.std.proofs.Common.{sym, ap, ◌∙◌, subst, inl, inr}
-use Rattle.std.specs.Prelude.{Result, MatchResult}
+use Rattle.std.specs.Prelude.{Result, IfErr, MatchResult}
 use Rattle.std.specs.Str.{bytes_eq}
 use Rattle.std.specs.Hash.DefaultHasher.{wrapping_add}
 use Rattle.policy.specs.Record.{PolicyValue}
@@ -19,13 +19,14 @@ use Rattle.book.specs.Stands.{Stands, OnlyLooks}
 use Rattle.desk.specs.Command.{Setting, Command, Done, Refused}
 use Rattle.desk.specs.Effects.{Effect, only, unless, fault_of, objection, accepted, unless_against, right_effect}
 use Rattle.desk.specs.Obstacles.{fault_with, hindered, outcome_with, IsOfRight, IsOfSight, IsOpposed, IsUnseen}
-use Rattle.desk.specs.Obstacles.{MayName, MayNot, Owns}
+use Rattle.desk.specs.Obstacles.{told_with, MayName, MayNot, Owns}
 use Rattle.desk.specs.Outcome.{Call, Fine, OutOfMemory, Failed, Outcome, Cause, OfMemory, OfStore, cause_of}
 use Rattle.desk.specs.Outcome.{faults_after}
 use Rattle.desk.specs.Outcome.{all_fine}
 use Rattle.desk.specs.MachineStep.{HasEffect}
 use Rattle.desk.specs.Fit.{IsFit}
 use Rattle.desk.specs.CallContract.{no_signer, IsBlamed, IsOpened, StepsBy, committed}
+use Rattle.desk.specs.Shown.{done_as}
 use Rattle.desk.specs.Viewers.{viewer_in}
 use Rattle.desk.specs.declared.fault.Fault.{Fault}
 use Rattle.desk.specs.declared.fault.Fault.TheVariants as fault
@@ -35,6 +36,7 @@ use Rattle.desk.proofs.Denied.{looked_up, denied}
 use Rattle.desk.proofs.Fits.{none_failed}
 use Rattle.desk.proofs.Seals.{one_in_doubt}
 use Rattle.desk.proofs.StepFacts.{right_seen}
+use Rattle.desk.proofs.Wrapped.{wrapped}
 
 -- what stands in the way of seeing a deposit, stands in the way of its rights
 pub unseen_named : (file : PolicyValue) (account : List ℕ) (reader : Reader) (n : ℕ) (b : History) (x : Obstacle)
@@ -126,7 +128,7 @@ pub record Allows {B : Type 0} (g : Ghosts B) (s : Setting) (c : Command) (accou
   pub may : g.honest mid → (b : History) → Stands g b old → MayName s.file account reader n b
 
 -- the right is entered
-pub right_entered : {B : Type 0} (g : Ghosts B) (s : Setting) (c : Command) (account : List ℕ) (reader : Reader)
+right_entered : {B : Type 0} (g : Ghosts B) (s : Setting) (c : Command) (account : List ℕ) (reader : Reader)
     (n : ℕ) (entry : Entry) (old mid new : B) → Allows g s c account reader n entry old mid new
     → Appends {A = Unit {0}} g (entry ∷ []) mid new (Ok tt)
     → StepsBy g no_signer s c (all_fine (Ok [])) old new Done
@@ -245,7 +247,7 @@ refused_as g s c account reader n entry old mid new o cause a searched looked wh
           };
     }
 
-pub right_refused : {B : Type 0} (g : Ghosts B) (s : Setting) (c : Command) (account : List ℕ) (reader : Reader)
+right_refused : {B : Type 0} (g : Ghosts B) (s : Setting) (c : Command) (account : List ℕ) (reader : Reader)
     (n : ℕ) (entry : Entry) (old mid new : B) (f : StoreFault) → Allows g s c account reader n entry old mid new
     → ((call : Call) → IsFit c (record (all_fine (Ok [])) { adding = call }))
     → ((f : Fault) → IsOpened g c (Refused f) new) → IsOfStorage f
@@ -265,3 +267,17 @@ right_refused g s c account reader n entry old mid new store.Full a fits opened 
     absurd (elim of [ inl e ↦ cc | inr e ↦ cc ])
 right_refused g s c account reader n entry old mid new store.Backwards a fits opened of x =
     absurd (elim of [ inl e ↦ cc | inr e ↦ cc ])
+
+-- what the store answers to it is told
+pub right_told : {B : Type 0} (g : Ghosts B) (s : Setting) (c : Command) (account : List ℕ) (reader : Reader) (n : ℕ)
+    (entry : Entry) (old mid new : B) (r : Result (Unit {0}) StoreFault)
+    → Allows g s c account reader n entry old mid new
+    → ((call : Call) → IsFit c (record (all_fine (Ok [])) { adding = call }))
+    → ((f : Fault) → IsOpened g c (Refused f) new) → IfErr r IsOfStorage
+    → Appends {A = Unit {0}} g (entry ∷ []) mid new r
+    → StepsBy g no_signer s c (outcome_with (wrapped obstacle.Adding r)) old new
+    (told_with done_as (wrapped obstacle.Adding r))
+right_told g s c account reader n entry old mid new (Ok tt) a fits opened of x =
+    right_entered g s c account reader n entry old mid new a x
+right_told g s c account reader n entry old mid new (Err f) a fits opened of x =
+    right_refused g s c account reader n entry old mid new f a fits opened of x

@@ -50,3 +50,4 @@ pub mod Turns
 pub mod Views
 pub mod Whole
 pub mod WholeOn
+pub mod Wrapped

@@ -1,8 +1,9 @@
 -- Who sees a deposit, and whom the policy file names.
 use Rattle.std.proofs.Common.{◌≡◌, ℕ, ◌==◌, ◌||◌, cond, Bool, true, false, is_some, List, [], ◌∷◌, map, Option, Some}
 use Rattle.std.proofs.Common.{None, refl, sym, ap, ◌∙◌, subst}
+use Rattle.std.specs.Prelude.{MatchResult}
 use Rattle.std.specs.List.{find}
-use Rattle.std.specs.Option.{option_and_then, option_map}
+use Rattle.std.specs.Option.{ok_or, option_and_then, option_map}
 use Rattle.std.specs.Str.{bytes_eq}
 use Rattle.std.proofs.lemmas.Bool.{eqb-true}
 use Rattle.policy.specs.Record.{AccountValue, PolicyValue}
@@ -17,7 +18,8 @@ use Rattle.book.specs.Sound.{Along, Fits, FitsSealed, IsSound}
 use Rattle.book.specs.Values.{deposit_view, stamped_view}
 use Rattle.book.specs.declared.values.StampedDeposit.{StampedDeposit}
 use Rattle.desk.specs.Effects.{has_account}
-use Rattle.desk.specs.Obstacles.{Sees}
+use Rattle.desk.specs.Obstacles.{Sees, IsUnseen}
+use Rattle.desk.specs.declared.obstacle.Obstacle.TheVariants as obstacle
 use Rattle.desk.proofs.Views.{reservation_stays}
 
 abbrev with_stamp : Option (List ℕ) → Option ReservationValue → Option DepositRow → Option (DepositRow × StampRow)
@@ -116,6 +118,13 @@ pub sees_found : (viewer : Viewer) (n : ℕ) (b : History) (found : StampedDepos
 sees_found viewer n b found e is =
     let both = seen_as viewer (may_read viewer n b) found (token_of n b) (reservation_at n b) (deposit_at n b) e is in
     record { seen = both.0; token = both.1 }
+
+-- what is visible is seen where it is found, and else nobody sees it
+pub sees_where : (viewer : Viewer) (n : ℕ) (b : History) (found : Option StampedDeposit) → IsSound b
+    → true ≡ is_visible viewer n b → found_as found ≡ deposit_with_stamp n b
+    → MatchResult (ok_or found obstacle.NotHere) (Sees viewer n b) (IsUnseen viewer n b)
+sees_where viewer n b None sound e is = unseen viewer n b sound is
+sees_where viewer n b (Some found) sound e is = sees_found viewer n b found e is
 
 -- an account of the file has the name
 known_at : (name : List ℕ) (a : AccountValue) (accounts : List AccountValue) (here : Bool)

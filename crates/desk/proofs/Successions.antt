@@ -1,7 +1,7 @@
 -- An identity is installed, unless it is the one that was installed last.
 use Rattle.std.proofs.Common.{◌≡◌, true, false, List, [], ◌∷◌, ◌++◌, length, map, reverse, Option, Some, None}
-use Rattle.std.proofs.Common.{Ok, Err, refl, sym, ◌∙◌, ap, subst, inl, inr, arith}
-use Rattle.std.specs.Prelude.{option_map}
+use Rattle.std.proofs.Common.{Result, Ok, Err, refl, sym, ◌∙◌, ap, subst, inl, inr, arith}
+use Rattle.std.specs.Prelude.{option_map, IfErr}
 use Rattle.std.proofs.lemmas.List.{reverse-append, reverse-reverse, map-append}
 use Rattle.std.specs.Hash.DefaultHasher.{wrapping_add}
 use Rattle.book.specs.declared.fault.StoreFault.{StoreFault}
@@ -19,13 +19,15 @@ use Rattle.book.specs.Values.{identity_view}
 use Rattle.desk.specs.Command.{InForce, Setting, Succeed, Done, Refused}
 use Rattle.desk.specs.Effects.{only, unless, fault_of, accepted, succeed_effect}
 use Rattle.desk.specs.Fit.{IsFit}
-use Rattle.desk.specs.Obstacles.{fault_with, hindered}
+use Rattle.desk.specs.Obstacles.{fault_with, hindered, outcome_with, told_with}
 use Rattle.desk.specs.Outcome.{Fine, Outcome, Cause, OfMemory, OfStore, cause_of, faults_after, all_fine}
 use Rattle.desk.specs.CallContract.{no_signer, IsBlamed, StepsBy, committed}
+use Rattle.desk.specs.Shown.{done_as}
 use Rattle.desk.specs.Succession.{installed_by, is_latest}
 use Rattle.desk.specs.declared.obstacle.Obstacle.TheVariants as obstacle
 use Rattle.desk.proofs.Fits.{none_failed}
 use Rattle.desk.proofs.Seals.{one_in_doubt}
+use Rattle.desk.proofs.Wrapped.{wrapped}
 
 -- the latest identity is that of the newest row
 abbrev newest_in : List InstalledRow → Option InstalledValue
@@ -95,7 +97,7 @@ pub record FindsOther {B : Type 0} (g : Ghosts B) (i : InstalledValue) (old mid 
   pub other : g.honest mid → (b : History) → Stands g b old → false ≡ is_latest i (latest_identity b)
 
 -- it is installed
-pub succeeded_now : {B : Type 0} (g : Ghosts B) (s : Setting) (next : InForce) (old mid new : B)
+succeeded_now : {B : Type 0} (g : Ghosts B) (s : Setting) (next : InForce) (old mid new : B)
     → FindsOther g (installed_by next.identity) old mid
     → Appends {A = Unit {0}} g (Installed (installed_by next.identity) ∷ []) mid new (Ok tt)
     → StepsBy g no_signer s (Succeed next) (all_fine (Ok [])) old new Done
@@ -203,7 +205,7 @@ uninstalled_by g s next old mid new o cause finds looked why also_looked answere
           };
     }
 
-pub uninstalled : {B : Type 0} (g : Ghosts B) (s : Setting) (next : InForce) (old mid new : B) (f : StoreFault)
+uninstalled : {B : Type 0} (g : Ghosts B) (s : Setting) (next : InForce) (old mid new : B) (f : StoreFault)
     → FindsOther g (installed_by next.identity) old mid → IsOfStorage f
     → Appends {A = Unit {0}} g (Installed (installed_by next.identity) ∷ []) mid new (Err f)
     → StepsBy g no_signer s (Succeed next) (hindered (obstacle.Adding f)) old new
@@ -221,3 +223,12 @@ uninstalled g s next old mid new store.Full finds of a =
     absurd (elim of [ inl e ↦ cc | inr e ↦ cc ])
 uninstalled g s next old mid new store.Backwards finds of a =
     absurd (elim of [ inl e ↦ cc | inr e ↦ cc ])
+
+-- what the store answers to it is told
+pub addition_told : {B : Type 0} (g : Ghosts B) (s : Setting) (next : InForce) (old mid new : B)
+    (r : Result (Unit {0}) StoreFault) → FindsOther g (installed_by next.identity) old mid → IfErr r IsOfStorage
+    → Appends {A = Unit {0}} g (Installed (installed_by next.identity) ∷ []) mid new r
+    → StepsBy g no_signer s (Succeed next) (outcome_with (wrapped obstacle.Adding r)) old new
+    (told_with done_as (wrapped obstacle.Adding r))
+addition_told g s next old mid new (Ok tt) finds of a = succeeded_now g s next old mid new finds a
+addition_told g s next old mid new (Err f) finds of a = uninstalled g s next old mid new f finds of a

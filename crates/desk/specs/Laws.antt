@@ -63,8 +63,8 @@ IsRejection s account reading octets o b rule = IsFirstFailing (HoldsAt s.file a
     × (IsUnanswered o ⊎ (greatest_number ≤ greatest_serial b)))
 
 -- What `Begin` answers waits for the signature of its plan's text: no rule of 1 to 11 fails, the serial number is the
--- greatest plus one, and the TSTInfo, the certificate exactly where it is asked for, identity and algorithm are those of
--- the plan and the setting.
+-- greatest plus one, and the TSTInfo, the certificate exactly where it is asked for, identity and algorithm are those
+-- of the plan and the setting.
 pub record IsBegunOf (s : Setting) (account : Option AccountValue) (reading : ℤ) (octets : List ℕ) (b : History)
     (p : PendingValue) : Type 0 where
   pub plan : StampPlan
@@ -82,8 +82,8 @@ pub record IsFinished (p : PendingValue) (signature : List ℕ) (serial : ℕ) (
   pub text : reply ≡ granted_octets (token p.identity p.algorithm p.tst signature p.certificate)
 
 -- A new deposit: no rule of 1 to 11 fails of the one request of its octets, its number is the greatest serial number
--- plus one, and it stands with the token over the TSTInfo of the plan and the signer's answer, which has the certificate
--- exactly where the owner's default policy gives it out.
+-- plus one, and it stands with the token over the TSTInfo of the plan and the signer's answer, which has the
+-- certificate exactly where the owner's default policy gives it out.
 pub record IsDeposited (s : Setting) (a : AccountValue) (reading : ℤ) (reference bytes : List ℕ) (o : Outcome)
     (b : History) (e : Effect) (number : ℕ) : Type 0 where
   pub plan : StampPlan
@@ -92,8 +92,8 @@ pub record IsDeposited (s : Setting) (a : AccountValue) (reading : ℤ) (referen
   pub next : number ≡ greatest_serial b + 1
   pub signature : List ℕ
   pub signed : o.signing ≡ Ok signature
-  pub adds : e.adds ≡ Deposited (deposit_of number a.name reference bytes) (token s.in_force.identity s.in_force.algorithm
-      (tst_of s plan number) signature (gives_certificate s.file a))
+  pub adds : e.adds ≡ Deposited (deposit_of number a.name reference bytes) (token s.in_force.identity
+      s.in_force.algorithm (tst_of s plan number) signature (gives_certificate s.file a))
       ∷ Reserved (reservation_of s a.name plan (octets_for s.file a bytes) number) ∷ []
 
 -- A stamp's answer is of its plan, or by the first rule that fails. It isn't answered otherwise.

@@ -49,26 +49,24 @@ fn judge_one<'p, 'a, B: Book + Drop>(
     ensures counted { B.fault_count store.new ≡ faults_after (outcome_of result) (B.fault_count store.old) }
     ensures judges { B.honest store.new → (b : History) → Stands B.Standing b store.old
         → IsSound (with_waiting waits.now b)
-        → IfOk result (IsJudgedAs (settings_view settings.entry) (question_view asked.entry) (with_waiting waits.now b)) }
+        → IfOk result (IsJudgedAs (settings_view settings.entry) (question_view asked.entry)
+        (with_waiting waits.now b)) }
     ensures texts { IfOk result (HasItsText (settings_view settings.entry)) }
     ensures unasked { (rule : Rule) → IsFirstFailing (HoldsUnasked (policy_view settings.entry.policy.now)
         (account_asked asked.entry.account) asked.entry.query.now) rule → IfOk result (IsFailing rule) }
 {
-    match find_among(store, waits, settings.policy, asked) {
-        Err(refusal) => Err(refusal),
-        Ok(Judgement::Fails(rule)) => Ok(Judged::Fails(rule)),
-        Ok(Judgement::Allows(planned)) => {
+    match find_among(store, waits, settings.policy, asked)? {
+        Judgement::Fails(rule) => Ok(Judged::Fails(rule)),
+        Judgement::Allows(planned) => {
             if planned.last >= GREATEST_NUMBER {
                 return Err(StampRefusal::Exhausted);
             }
-            match prepare(alloc, settings, planned, asked.query) {
-                Ok(prepared) => Ok(Judged::Waits(Waiting {
-                    account: name_of(asked.account),
-                    query: asked.query,
-                    prepared,
-                })),
-                Err(refusal) => Err(refusal),
-            }
+            let prepared = prepare(alloc, settings, planned, asked.query)?;
+            Ok(Judged::Waits(Waiting {
+                account: name_of(asked.account),
+                query: asked.query,
+                prepared,
+            }))
         }
     }
 }
@@ -115,9 +113,8 @@ fn entries_of<'w>(alloc: Global, waits: &'w [Waiting<'_, '_>]) -> Result<Vec<Ent
     ensures entries { IfOk result (λ entries. entries_view entries.items ≡ map Reserved (map waiting_view waits.now)) }
     ensures refused { IfErr result (λ fault. fault ≡ StoreFault.Memory) }
 {
-    let mut entries = match Vec::with_capacity(alloc, waits.len()) {
-        Ok(entries) => entries,
-        Err(_) => return Err(StoreFault::Memory),
+    let Ok(mut entries) = Vec::with_capacity(alloc, waits.len()) else {
+        return Err(StoreFault::Memory);
     };
     for waiting in waits {
         entries.push_reserved(Entry::Reserved(reservation_of(waiting)));
@@ -176,8 +173,6 @@ pub(crate) fn begin_each<'p, 'a, B: Book + Drop>(
     if waits.is_empty() {
         return Ok(());
     }
-    match reserve_each(store, alloc, waits) {
-        Ok(()) => Ok(()),
-        Err(fault) => Err(StampRefusal::Adding(fault)),
-    }
+    reserve_each(store, alloc, waits).map_err(StampRefusal::Adding)?;
+    Ok(())
 }

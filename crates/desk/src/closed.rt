@@ -19,8 +19,8 @@ ghost use Rattle.desk.specs.Outcome.{Outcome};
 use tsp::{requests_have_one_reading, tst_infos_have_one_reading};
 
 /// While a hold of all moments stands, rule 10 fails at every reading (`clock`). So no command reserves a serial
-/// number, has a text signed, or is answered with one that waits for its signature; a stamp is granted only where it was
-/// begun before, and finished then (`nothing`).
+/// number, has a text signed, or is answered with one that waits for its signature; a stamp is granted only where it
+/// was begun before, and finished then (`nothing`).
 pub fn closed_books_give_nothing_out()
     ensures clock { (counter : CounterValue) (reading : ℤ) (b : History) → is_closed b ≡ true
         → IsGood counter (clock_of reading b) → ⊥ }
@@ -35,8 +35,8 @@ pub fn closed_books_stay_closed()
         → HasEffect s c o b e → StaysClosed k e b }
 {}
 
-/// Over both books serial numbers rise and genTimes never fall: what is reserved in the new one, behind the entries with
-/// which it begins, comes after each stamp of the old one.
+/// Over both books serial numbers rise and genTimes never fall: what is reserved in the new one, behind the entries
+/// with which it begins, comes after each stamp of the old one.
 pub fn continuations_rise()
     ensures { (floor : Option Floor) (b : History) (added : List Entry) → Along IsRising b → IsSound b
         → IsAboveIfAny floor b → IsSound (added ++ continued floor b) → Along IsRising (added ++ continued floor b)

@@ -58,21 +58,17 @@ fn write(
         return None;
     };
     let prepared = &waiting.prepared;
-    let token = match token(
+    let token = token(
         alloc,
         settings.identity,
         settings.algorithm,
         &prepared.tst,
         signature,
         prepared.certificate,
-    ) {
-        Ok(token) => token,
-        Err(_) => return None,
-    };
-    match write_granted(alloc, &token) {
-        Ok(bytes) => Some(Written { token, bytes }),
-        Err(_) => None,
-    }
+    )
+    .ok()?;
+    let bytes = write_granted(alloc, &token).ok()?;
+    Some(Written { token, bytes })
 }
 
 /// Seals a stamp in a commit of its own where it was signed: its reply.
@@ -145,8 +141,8 @@ fn write_each(
     requires as_many { length answers.now ≡ length batch.waits.now }
     requires sized { AllByRecursion IsSized answers.now }
     ensures { IfSome result (λ written. (os : List Outcome)
-        × AreWritten (pendings_in (settings_view batch.entry.settings) batch.entry.waits.now) (map signed_by answers.now)
-        os (map seal_view written.seals.items) (map reply_as written.replies.items)) }
+        × AreWritten (pendings_in (settings_view batch.entry.settings) batch.entry.waits.now)
+        (map signed_by answers.now) os (map seal_view written.seals.items) (map reply_as written.replies.items)) }
 {
     let WaitingBatch { settings, waits } = batch;
     let Ok(seals) = Vec::with_capacity(alloc, waits.len()) else {

@@ -45,7 +45,9 @@ impl<'p, B: Book + Drop> Desk<'p, B> {
         ensures large { 1048576 < length bytes.now
             → (result ≡ Err Fault.TooLarge) × (self.new ≡ self.old) × (signer.new ≡ signer.old) }
         ensures refusals { IfErr result IsOfDeposit }
-        ensures step { IsStep B.Standing (with_signer G.signs G.fault_count signer.old signer.new) (Deposit (account_view account.now) reading reference.now bytes.now) self.old self.new (answered deposited_as result) }
+        ensures step { IsStep B.Standing (with_signer G.signs G.fault_count signer.old signer.new)
+            (Deposit (account_view account.now) reading reference.now bytes.now) self.old self.new
+            (answered deposited_as result) }
     {
         steps_keep_their_promises();
         let settings = self.settings;
@@ -90,7 +92,8 @@ impl<'p, B: Book + Drop> Desk<'p, B> {
     pub fn list(&mut self, account: &Account) -> Result<Vec<Listed>, Fault>
         ensures honest { B.honest self.new.store → B.honest self.old.store }
         ensures refusals { IfErr result (λ fault. (fault ≡ Fault.Memory) ⊎ (fault ≡ Fault.Store)) }
-        ensures step { IsStep B.Standing no_signer (ListAll (account_view account.now)) self.old self.new (answered listed_as result) }
+        ensures step { IsStep B.Standing no_signer (ListAll (account_view account.now)) self.old self.new
+            (answered listed_as result) }
     {
         self.list_within(account, &mut io::sink())
     }
@@ -105,7 +108,8 @@ impl<'p, B: Book + Drop> Desk<'p, B> {
         ensures honest { B.honest self.new.store → B.honest self.old.store }
         ensures unwritten { Keeps (W.contents output.old) (W.contents output.new) }
         ensures refusals { IfErr result (λ fault. (fault ≡ Fault.Memory) ⊎ (fault ≡ Fault.Store)) }
-        ensures step { IsStep B.Standing no_signer (ListAll (account_view account.now)) self.old self.new (answered listed_as result) }
+        ensures step { IsStep B.Standing no_signer (ListAll (account_view account.now)) self.old self.new
+            (answered listed_as result) }
     {
         steps_keep_their_promises();
         let settings = self.settings;
@@ -132,7 +136,8 @@ impl<'p, B: Book + Drop> Desk<'p, B> {
     }
 
     /// Takes that right away, from now on; one that wasn't granted may be taken too, which changes nothing. A member of
-    /// a group that has the right still sees the deposit. The right of an account that has left the policy file stays: it is `UnknownReader`. Refused as `grant` is.
+    /// a group that has the right still sees the deposit. The right of an account that has left the policy file stays:
+    /// it is `UnknownReader`. Refused as `grant` is.
     pub fn revoke(&mut self, account: &Account, number: u64, name: &str) -> Result<(), Fault>
         ensures honest { B.honest self.new.store → B.honest self.old.store }
         ensures refusals { IfErr result (IsOfRight (Named name.now)) }

@@ -163,7 +163,8 @@ impl<'p, B: Book + Drop> Desk<'p, B> {
         requires few { length signature.now ≤ 4096 }
         ensures honest { B.honest self.new.store → B.honest self.old.store }
         ensures refusals { IfErr result (λ fault. (fault ≡ Fault.Memory) ⊎ (fault ≡ Fault.Store)) }
-        ensures step { IsStep B.Standing no_signer (Finish pending.entry signature.now) self.old self.new (answered reply_as result) }
+        ensures step { IsStep B.Standing no_signer (Finish pending.entry signature.now) self.old self.new
+            (answered reply_as result) }
     {
         steps_keep_their_promises();
         Ok(finish_with(&mut self.store, self.alloc, pending, signature)?)
@@ -203,7 +204,8 @@ impl<'p, B: Book + Drop> Desk<'p, B> {
         ensures rejected { B.honest self.new.store → (b : History) → Stands B.Standing b self.old.store
             → (rule : Rule) → reply_as result ≡ Rejected rule
             → IsRejected self.old.setting (account_asked account.entry) reading query.now b rule }
-        ensures step { IsStep B.Standing (with_signer G.signs G.fault_count signer.old signer.new) (Stamp (account_asked account.entry) reading query.now) self.old self.new (reply_as result) }
+        ensures step { IsStep B.Standing (with_signer G.signs G.fault_count signer.old signer.new)
+            (Stamp (account_asked account.entry) reading query.now) self.old self.new (reply_as result) }
     {
         steps_keep_their_promises();
         let settings = self.settings;

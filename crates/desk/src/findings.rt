@@ -216,9 +216,8 @@ pub(crate) fn find_among<'p, 'a, B: Book + Drop>(
     ensures somebody { IfErr result (IsSomebodys (account_asked asked.entry.account)) }
     ensures refusals { IfErr result IsOfLooks }
 {
-    let request = match read_request(asked.query) {
-        Ok(request) => request,
-        Err(_) => return Ok(Judgement::Fails(Rule::Spelling)),
+    let Ok(request) = read_request(asked.query) else {
+        return Ok(Judgement::Fails(Rule::Spelling));
     };
     let requested = Requested {
         account: asked.account,

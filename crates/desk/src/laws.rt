@@ -141,11 +141,11 @@ pub fn rejections_tell_their_rule()
     ensures { (one other : Rule) → encoding (rejection one) ≡ encoding (rejection other) → one ≡ other }
 {}
 
-/// In each journey through openings, commands, successions, migrations and stops, serial numbers rise and genTimes never fall, what was
-/// acknowledged stands, and no deposit is without a sealed stamp of its hash. The serial numbers of the texts that it
-/// gave out to be signed rise, stops included, and none is above the greatest that the history has. Who reads a deposit
-/// after it is told by the rights that it acknowledged and that its stops left. So it is where a run goes on from it,
-/// to the run's end or to a stop in it.
+/// In each journey through openings, commands, successions, migrations and stops, serial numbers rise and genTimes
+/// never fall, what was acknowledged stands, and no deposit is without a sealed stamp of its hash. The serial numbers
+/// of the texts that it gave out to be signed rise, stops included, and none is above the greatest that the history
+/// has. Who reads a deposit after it is told by the rights that it acknowledged and that its stops left. So it is where
+/// a run goes on from it, to the run's end or to a stop in it.
 pub fn journeys_keep_their_promises()
     ensures journey { (b : History) (x : Option Setting) (w : List Told) → Journey b x w → HasProperties b w }
     ensures open_by { (b : History) (s : Setting) (w : List Told) → Journey b (Some s) w
@@ -167,7 +167,8 @@ pub fn accounts_are_isolated<S: Signer>()
     ensures { (account : List ℕ) (s : Setting) (cs : List Command) (os : List Outcome) (b c : History) (x : S)
         (answers : List Answer) (b' : History) (x' : S)
         → IsProper s → AreCommandsOf account cs → IsSound b → IsSound c
-        → Agree (viewer_in s.file account) b c → Runs S.signs s cs os b x answers b' x' → RunsAlike S.signs account s cs os c x answers b' x' }
+        → Agree (viewer_in s.file account) b c → Runs S.signs s cs os b x answers b' x'
+        → RunsAlike S.signs account s cs os c x answers b' x' }
 {
     requests_have_one_reading();
 }

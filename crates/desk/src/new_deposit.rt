@@ -103,10 +103,7 @@ fn octets_of(alloc: Global, planned: &Planned<'_, '_>) -> Result<Vec<u8>, StampR
     if planned.last >= GREATEST_NUMBER {
         return Err(StampRefusal::Exhausted);
     }
-    match write_request(alloc, &planned.request) {
-        Ok(octets) => Ok(octets),
-        Err(_) => Err(StampRefusal::OutOfMemory),
-    }
+    write_request(alloc, &planned.request).map_err(|_| StampRefusal::OutOfMemory)
 }
 
 /// Reserves the next serial number for the request without its stated FALSEs: `reserve_next` on the octets that are
@@ -170,14 +167,11 @@ fn begin<'p, B: Book + Drop>(
         reading: submission.reading,
         request,
     };
-    match judge(store, policy, requested) {
-        Err(refusal) => Err(refusal),
-        Ok(Judgement::Fails(rule)) => Ok(Begun::Rejected(Rejection::of(rule))),
-        Ok(Judgement::Allows(planned)) => {
-            match reserve(store, alloc, settings, account.name.as_str(), planned) {
-                Ok(pending) => Ok(Begun::Pending(pending)),
-                Err(refusal) => Err(refusal),
-            }
+    match judge(store, policy, requested)? {
+        Judgement::Fails(rule) => Ok(Begun::Rejected(Rejection::of(rule))),
+        Judgement::Allows(planned) => {
+            let pending = reserve(store, alloc, settings, account.name.as_str(), planned)?;
+            Ok(Begun::Pending(pending))
         }
     }
 }
@@ -206,24 +200,23 @@ fn seal<B: Book + Drop>(
         identity,
         algorithm,
     } = pending;
-    let token = match token(alloc, identity, algorithm, &tst, signature, certificate) {
-        Ok(token) => token,
-        Err(_) => return Err(StampRefusal::OutOfReplyMemory),
+    let Ok(token) = token(alloc, identity, algorithm, &tst, signature, certificate) else {
+        return Err(StampRefusal::OutOfReplyMemory);
     };
     let owner = submission.account.name.as_str();
-    match store.seal_deposit(
-        serial,
-        &token,
-        owner,
-        submission.reference,
-        submission.bytes,
-    ) {
-        Ok(()) => Ok(Deposited {
-            number: serial,
-            is_new: true,
-        }),
-        Err(fault) => Err(StampRefusal::Sealing(fault)),
-    }
+    store
+        .seal_deposit(
+            serial,
+            &token,
+            owner,
+            submission.reference,
+            submission.bytes,
+        )
+        .map_err(StampRefusal::Sealing)?;
+    Ok(Deposited {
+        number: serial,
+        is_new: true,
+    })
 }
 
 /// Has the text of a reservation signed, and stores the deposit with its token. Where the signer, memory or the store
@@ -268,15 +261,9 @@ fn deposit_new<B: Book + Drop, X: Signer>(
         (IsUnused (account_view submission.entry.account.now) submission.entry.reference.now) o store.old store.new
         (answered deposited_as result) }
 {
-    match begin(store, alloc, settings, submission) {
-        Err(refusal) => Err(Fault::from(refusal)),
-        Ok(Begun::Rejected(rejection)) => Err(Fault::Rejected(rejection.rule)),
-        Ok(Begun::Pending(pending)) => {
-            match sign_and_seal(store, alloc, pending, submission, signer) {
-                Ok(deposited) => Ok(deposited),
-                Err(refusal) => Err(Fault::from(refusal)),
-            }
-        }
+    match begin(store, alloc, settings, submission)? {
+        Begun::Rejected(rejection) => Err(Fault::Rejected(rejection.rule)),
+        Begun::Pending(pending) => Ok(sign_and_seal(store, alloc, pending, submission, signer)?),
     }
 }
 
@@ -306,13 +293,13 @@ pub(crate) fn deposit_with<B: Book + Drop, X: Signer>(
     if bytes.len() > MOST {
         return Err(Fault::TooLarge);
     }
-    match find_known(store, account.name.as_str(), reference, bytes) {
-        Err(fault) => Err(Fault::from(Obstacle::Searching(fault))),
-        Ok(Known::Same(number)) => Ok(Deposited {
+    let known = find_known(store, account.name.as_str(), reference, bytes);
+    match known.map_err(Obstacle::Searching)? {
+        Known::Same(number) => Ok(Deposited {
             number,
             is_new: false,
         }),
-        Ok(Known::Other) => Err(Fault::Conflict),
-        Ok(Known::Nothing) => deposit_new(store, alloc, settings, submission, signer),
+        Known::Other => Err(Fault::Conflict),
+        Known::Nothing => deposit_new(store, alloc, settings, submission, signer),
     }
 }

@@ -98,13 +98,11 @@ pub(crate) fn prepare<'p, 'a>(
         counter.ordering,
         name_in_force(settings),
     );
-    let tst = match write_tst(alloc, &tst_info) {
-        Ok(tst) => tst,
-        Err(_) => return Err(StampRefusal::OutOfMemory),
+    let Ok(tst) = write_tst(alloc, &tst_info) else {
+        return Err(StampRefusal::OutOfMemory);
     };
-    let text = match attribute_text(alloc, settings.identity, &tst) {
-        Ok(text) => text,
-        Err(_) => return Err(StampRefusal::OutOfMemory),
+    let Ok(text) = attribute_text(alloc, settings.identity, &tst) else {
+        return Err(StampRefusal::OutOfMemory);
     };
     Ok(Prepared {
         serial,
@@ -171,10 +169,7 @@ pub(crate) fn reserve_next<'p, B: Book + Drop>(
         request: query,
         tst: &prepared.tst,
     };
-    match add(store, &reservation) {
-        Ok(()) => {}
-        Err(fault) => return Err(StampRefusal::Adding(fault)),
-    }
+    add(store, &reservation).map_err(StampRefusal::Adding)?;
     Ok(Pending {
         serial: prepared.serial,
         tst: prepared.tst,

@@ -74,11 +74,8 @@ fn may_name<B: Book + Drop>(
         (MayNot (policy_view policy.now) account.now (reader_view reader.entry) number b) }
     ensures refusals { IfErr result (IsOfRight (reader_view reader.entry)) }
 {
-    let is_own = match see(store, policy, account, number) {
-        Ok(found) => found.deposit.owner.as_str() == account,
-        Err(unseen) => return Err(unseen),
-    };
-    if !is_own {
+    let found = see(store, policy, account, number)?;
+    if found.deposit.owner.as_str() != account {
         return Err(Obstacle::NotOwner);
     }
     may_read(policy, account, reader)
@@ -100,10 +97,9 @@ pub(crate) fn grant_by<B: Book + Drop>(
 {
     let policy = settings.policy;
     may_name(store, policy, account.name.as_str(), number, reader)?;
-    match store.append(&[Entry::Granted { number, reader }]) {
-        Ok(()) => Ok(()),
-        Err(fault) => Err(Obstacle::Adding(fault)),
-    }
+    store
+        .append(&[Entry::Granted { number, reader }])
+        .map_err(Obstacle::Adding)
 }
 
 /// Takes that right away, from now on.
@@ -122,8 +118,7 @@ pub(crate) fn revoke_by<B: Book + Drop>(
 {
     let policy = settings.policy;
     may_name(store, policy, account.name.as_str(), number, reader)?;
-    match store.append(&[Entry::Revoked { number, reader }]) {
-        Ok(()) => Ok(()),
-        Err(fault) => Err(Obstacle::Adding(fault)),
-    }
+    store
+        .append(&[Entry::Revoked { number, reader }])
+        .map_err(Obstacle::Adding)
 }

@@ -187,8 +187,8 @@ pub(crate) fn obey<'p, B: Book + Drop, G: Signer>(
     }
 }
 
-/// Does what each command asks, one after the other, each by what the one before it left in force: the answers, and with
-/// what the desk goes on. Room for all the answers is taken first.
+/// Does what each command asks, one after the other, each by what the one before it left in force: the answers, and
+/// with what the desk goes on. Room for all the answers is taken first.
 pub(crate) fn obey_each<'p, B: Book + Drop, G: Signer>(
     store: &mut B,
     alloc: Global,
@@ -202,9 +202,8 @@ pub(crate) fn obey_each<'p, B: Book + Drop, G: Signer>(
         (settings_view settings.entry) (commands_view commands.now) os (answers_view done.0.items) store.old signer.old
         (settings_view done.1) store.new signer.new) }
 {
-    let mut answers = match Vec::with_capacity(alloc, commands.len()) {
-        Ok(answers) => answers,
-        Err(_) => return Err(Fault::Memory),
+    let Ok(mut answers) = Vec::with_capacity(alloc, commands.len()) else {
+        return Err(Fault::Memory);
     };
     let mut current = settings;
     for command in commands {
@@ -221,7 +220,8 @@ pub(crate) fn obey_each<'p, B: Book + Drop, G: Signer>(
 impl<'p, B: Book + Drop> Desk<'p, B> {
     /// Does what each command asks, one after the other: an answer for each, none for no command. A command that is
     /// refused doesn't stop those after it. The caller's conditions are those of the commands: an uncertainty of at
-    /// most 10^12 microseconds, a hold that ends after its first moment, and an identity that has its subject, as each has (`has_subject`).
+    /// most 10^12 microseconds, a hold that ends after its first moment, and an identity that has its subject, as each
+    /// has (`has_subject`).
     ///
     /// Room for the answers is taken first: where it is refused, the answer is `Memory`, and nothing is done.
     pub fn run<G: Signer>(

@@ -75,18 +75,12 @@ pub(crate) fn see<B: Book + Drop>(
         (IsUnseen (viewer_in (policy_view policy.now) account.now) number b) }
     ensures refusals { IfErr result IsOfSight }
 {
-    let visible = match is_seen(store, policy, account, number) {
-        Ok(visible) => visible,
-        Err(fault) => return Err(Obstacle::Searching(fault)),
-    };
+    let visible = is_seen(store, policy, account, number).map_err(Obstacle::Searching)?;
     if !visible {
         return Err(Obstacle::NotHere);
     }
-    match store.deposit(number) {
-        Ok(Some(found)) => Ok(found),
-        Ok(None) => Err(Obstacle::NotHere),
-        Err(fault) => Err(Obstacle::Looking(fault)),
-    }
+    let found = store.deposit(number).map_err(Obstacle::Looking)?;
+    found.ok_or(Obstacle::NotHere)
 }
 
 /// The octets of a deposit that the account sees.
@@ -126,10 +120,10 @@ pub(crate) fn token_to<B: Book + Drop>(
     let Some(token) = token else {
         return Err(Obstacle::NotHere);
     };
-    match write_granted(alloc, &token) {
-        Ok(reply) => Ok(reply),
-        Err(_) => Err(Obstacle::OutOfMemory),
-    }
+    let Ok(reply) = write_granted(alloc, &token) else {
+        return Err(Obstacle::OutOfMemory);
+    };
+    Ok(reply)
 }
 
 /// All that the account sees, by number, as long as the output can be flushed.
@@ -147,8 +141,5 @@ pub(crate) fn list_to<B: Book + Drop, W: Write>(
         ⊎ (fault_with obstacle ≡ Fault.Store)) }
 {
     let policy = settings.policy;
-    match all_seen(store, policy, account.name.as_str(), output) {
-        Ok(rows) => Ok(rows),
-        Err(fault) => Err(Obstacle::Looking(fault)),
-    }
+    all_seen(store, policy, account.name.as_str(), output).map_err(Obstacle::Looking)
 }

@@ -46,18 +46,14 @@ pub(crate) fn finish_with<B: Book + Drop>(
         identity,
         algorithm,
     } = pending;
-    let token = match token(alloc, identity, algorithm, &tst, signature, certificate) {
-        Ok(token) => token,
-        Err(_) => return Err(StampRefusal::OutOfReplyMemory),
+    let Ok(token) = token(alloc, identity, algorithm, &tst, signature, certificate) else {
+        return Err(StampRefusal::OutOfReplyMemory);
     };
-    let bytes = match write_granted(alloc, &token) {
-        Ok(bytes) => bytes,
-        Err(_) => return Err(StampRefusal::OutOfReplyMemory),
+    let Ok(bytes) = write_granted(alloc, &token) else {
+        return Err(StampRefusal::OutOfReplyMemory);
     };
-    match store.seal(serial, &token) {
-        Ok(()) => Ok(Reply::Granted { serial, bytes }),
-        Err(fault) => Err(StampRefusal::Sealing(fault)),
-    }
+    store.seal(serial, &token).map_err(StampRefusal::Sealing)?;
+    Ok(Reply::Granted { serial, bytes })
 }
 
 /// Has the text of a reservation signed, and stores the token. The rejection by rule 12 where the signer, memory or the

@@ -50,19 +50,16 @@ pub(crate) fn begin_with<'p, B: Book + Drop>(
     ensures refusals { IfErr result IsOfBeginning }
 {
     let policy = settings.policy;
-    match find(store, policy, asked) {
-        Err(refusal) => Err(refusal),
-        Ok(Judgement::Fails(rule)) => Ok(Begun::Rejected(Rejection::of(rule))),
-        Ok(Judgement::Allows(planned)) => {
+    match find(store, policy, asked)? {
+        Judgement::Fails(rule) => Ok(Begun::Rejected(Rejection::of(rule))),
+        Judgement::Allows(planned) => {
             let next = NextStamp {
                 account: name_of(asked.account),
                 query: asked.query,
                 planned,
             };
-            match reserve_next(store, alloc, settings, next) {
-                Ok(pending) => Ok(Begun::Pending(pending)),
-                Err(refusal) => Err(refusal),
-            }
+            let pending = reserve_next(store, alloc, settings, next)?;
+            Ok(Begun::Pending(pending))
         }
     }
 }

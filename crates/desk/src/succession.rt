@@ -73,17 +73,11 @@ pub(crate) fn install<B: Book + Drop>(store: &mut B, identity: &Identity) -> Res
     ensures refusals { IfErr result (λ obstacle. (fault_with obstacle ≡ Fault.Memory)
         ⊎ (fault_with obstacle ≡ Fault.Store)) }
 {
-    let latest = match is_installed(store, identity) {
-        Ok(latest) => latest,
-        Err(fault) => return Err(Obstacle::Looking(fault)),
-    };
+    let latest = is_installed(store, identity).map_err(Obstacle::Looking)?;
     if latest {
         return Ok(());
     }
-    match add(store, identity) {
-        Ok(()) => Ok(()),
-        Err(fault) => Err(Obstacle::Adding(fault)),
-    }
+    add(store, identity).map_err(Obstacle::Adding)
 }
 
 /// Brings an identity and an algorithm into force: with what a desk goes on, or why it goes on as before.
@@ -130,12 +124,8 @@ impl<'p, B: Book + Drop> Desk<'p, B> {
         steps_keep_their_promises();
         has_subject(identity);
         let settings = self.settings;
-        match succeed_by(&mut self.store, settings, identity, algorithm) {
-            Ok(settings) => {
-                self.settings = settings;
-                Ok(())
-            }
-            Err(obstacle) => Err(Fault::from(obstacle)),
-        }
+        let settings = succeed_by(&mut self.store, settings, identity, algorithm)?;
+        self.settings = settings;
+        Ok(())
     }
 }

@@ -8,23 +8,23 @@ use Rattle.desk.specs.WaitingStamps.{with_waiting}
 use Rattle.desk.proofs.Judgement.{unread, unspelled, one_unasked}
 use Rattle.desk.proofs.findings.find_among.Goals as goal
 
-pub returns-in-Err-clause-finds : goal.returns-in-Err-clause-finds
-returns-in-Err-clause-finds g c honest d st sound =
+pub returns-in_default-clause-finds : goal.returns-in_default-clause-finds
+returns-in_default-clause-finds g c honest d st sound =
     let b = with_waiting c.args.waits.now d in
     let file = policy_view c.args.policy.now in
     let account = account_asked c.args.asked.account in
-    let fails = unread c.args.asked.query.now c.in-Err.field-0 c.in-Err.ensures.refusals
-    (λ e. c.in-Err.ensures.form (ap Err e)) (λ e. c.in-Err.ensures.too_long.0 (ap Err e)) in (
+    let fails = unread c.args.asked.query.now c.in_default.field-0 c.in_default.ensures.refusals
+    (λ e. c.in_default.ensures.form (ap Err e)) (λ e. c.in_default.ensures.too_long.0 (ap Err e)) in (
       unspelled (λ r. Holds file account r (facts_of file account c.args.asked.reading b)) c.args.asked.query.now fails,
       tt,
     )
 
-pub returns-in-Err-clause-unasked : goal.returns-in-Err-clause-unasked
-returns-in-Err-clause-unasked g c rule first =
+pub returns-in_default-clause-unasked : goal.returns-in_default-clause-unasked
+returns-in_default-clause-unasked g c rule first =
     let file = policy_view c.args.policy.now in
     let account = account_asked c.args.asked.account in
-    let fails = unread c.args.asked.query.now c.in-Err.field-0 c.in-Err.ensures.refusals
-    (λ e. c.in-Err.ensures.form (ap Err e)) (λ e. c.in-Err.ensures.too_long.0 (ap Err e)) in (
+    let fails = unread c.args.asked.query.now c.in_default.field-0 c.in_default.ensures.refusals
+    (λ e. c.in_default.ensures.form (ap Err e)) (λ e. c.in_default.ensures.too_long.0 (ap Err e)) in (
       one_unasked file account c.args.asked.query.now Spelling rule
           (unspelled (HoldsOf file account) c.args.asked.query.now fails) first,
       refl,

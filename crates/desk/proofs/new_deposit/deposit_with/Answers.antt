@@ -1,18 +1,20 @@
 use Rattle.std.proofs.Common.{[], Ok, length, sym, subst, arith}
+use Rattle.std.proofs.lemmas.Result.{err_from_is_err_and}
 use Rattle.policy.specs.View.{account_view}
 use Rattle.desk.specs.Answers.{answered}
 use Rattle.desk.specs.Calls.{settings_view}
 use Rattle.desk.specs.Command.{Deposit, Refused}
 use Rattle.desk.specs.Calls.{store_cause}
-use Rattle.desk.specs.Fault.{IsOfDeposit}
 use Rattle.desk.specs.NewDeposit.{IsUnused}
 use Rattle.desk.specs.Outcome.{all_fine}
 use Rattle.desk.specs.Shown.{deposited_as}
 use Rattle.desk.specs.CallContract.{StepsBy, with_signer}
-use Rattle.desk.specs.declared.fault.Fault.{Fault}
+use Rattle.desk.specs.Obstacles.{fault_with}
+use Rattle.desk.specs.declared.obstacle.Obstacle.TheVariants as obstacle
 use Rattle.desk.proofs.KnownDeposits.{is_too_large, is_unsearched, unsearched, is_same, is_other, is_unused, is_after}
 use Rattle.desk.proofs.Late.{by_cause}
 use Rattle.desk.proofs.NewDeposits.{is_few}
+use Rattle.desk.proofs.Wrapped.{call_ok, call_err}
 use Rattle.desk.proofs.new_deposit.deposit_with.Goals as goal
 
 pub returns-then-bytes-gt-MOST-clause-step : goal.returns-then-bytes-gt-MOST-clause-step
@@ -24,25 +26,30 @@ returns-then-bytes-gt-MOST-clause-step g c = (
       (omega arith),
 )
 
-pub returns-in-Err-clause-step : goal.returns-in-Err-clause-step
-returns-in-Err-clause-step g c =
+pub returns-in_err-number-clause-step : goal.returns-in_err-number-clause-step
+returns-in_err-number-clause-step g c =
     let s = settings_view c.args.settings in
     let a = account_view c.args.submission.account.now in
-    let reading = c.args.submission.reading in
-    let f = c.in-Err.fault in (
+    let refused = call_err obstacle.Searching c.find_known-known.result c.in_err-number.field-0.0
+    c.in_err-number.ensures.cases in
+    let told = err_from_is_err_and c.from_residual.result c.from_residual.ensures.1 in
+    let f = refused.0 in (
       unsearched f,
-      subst (λ (x : Fault). StepsBy g.B.Standing (with_signer g.X.Signer.signs g.X.Signer.fault_count
-          c.args.signer.now c.args.signer.now) s (Deposit a reading c.args.submission.reference.now
-          c.args.submission.bytes.now)
-          (unsearched f) c.args.store.now c.find_known.new.store (Refused x)) (sym c.from.ensures)
-          (is_unsearched g.B.Standing g.X.Signer.signs g.X.Signer.fault_count c.args.signer.now s a reading
-          c.args.submission.reference.now c.args.submission.bytes.now c.args.store.now c.find_known.new.store f
-          (is_few (length c.args.submission.bytes.now) (omega arith)) c.in-Err.ensures.refusals c.in-Err.ensures.looks
-          c.in-Err.ensures.faults),
+      rw (told.1, told.2) (subst (λ x. StepsBy g.B.Standing (with_signer g.X.Signer.signs g.X.Signer.fault_count
+          c.args.signer.now c.args.signer.now) s (Deposit a c.args.submission.reading c.args.submission.reference.now
+          c.args.submission.bytes.now) (unsearched f) c.args.store.now c.find_known-known.new.store
+          (Refused (fault_with x))) (sym refused.2)
+          (is_unsearched g.B.Standing g.X.Signer.signs g.X.Signer.fault_count
+          c.args.signer.now s a c.args.submission.reading c.args.submission.reference.now c.args.submission.bytes.now
+          c.args.store.now c.find_known-known.new.store f (is_few (length c.args.submission.bytes.now) (omega arith))
+          (rw refused.1 at c.find_known-known.ensures.refusals) c.find_known-known.ensures.looks
+          (rw refused.1 at c.find_known-known.ensures.faults))),
     )
 
-pub returns-in-Ok-Same-clause-step : goal.returns-in-Ok-Same-clause-step
-returns-in-Ok-Same-clause-step g c =
+pub returns-in-Same-clause-step : goal.returns-in-Same-clause-step
+returns-in-Same-clause-step g c =
+    let found = call_ok obstacle.Searching c.find_known-known.result c.in_ok-number.field-0
+    c.in_ok-number.ensures.cases in
     let s = settings_view c.args.settings in
     let a = account_view c.args.submission.account.now in
     let reading = c.args.submission.reading in
@@ -50,13 +57,16 @@ returns-in-Ok-Same-clause-step g c =
     let reference = c.args.submission.reference.now in (
       all_fine (Ok []),
       is_same g.B.Standing g.X.Signer.signs g.X.Signer.fault_count c.args.signer.now s a reading reference bytes
-          c.args.store.now c.find_known.new.store c.as_str.result.now c.in-Ok-Same.field-0
-          c.in-Ok-Same.number (is_few (length bytes) (omega arith)) c.in-Ok-Same.ensures.looks
-          c.in-Ok-Same.ensures.faults c.as_str.ensures.value c.in-Ok-Same.field-0-is c.in-Ok-Same.ensures.value,
+          c.args.store.now c.find_known-known.new.store c.as_str.result.now c.in_ok-number.field-0
+          c.in-Same.number (is_few (length bytes) (omega arith)) c.find_known-known.ensures.looks
+          (rw found at c.find_known-known.ensures.faults) c.as_str.ensures.value c.in-Same.is
+          (λ honest b st. rw found at (c.find_known-known.ensures.value honest b st)),
     )
 
-pub returns-in-Ok-Other-clause-step : goal.returns-in-Ok-Other-clause-step
-returns-in-Ok-Other-clause-step g c =
+pub returns-in-Other-clause-step : goal.returns-in-Other-clause-step
+returns-in-Other-clause-step g c =
+    let found = call_ok obstacle.Searching c.find_known-known.result c.in_ok-number.field-0
+    c.in_ok-number.ensures.cases in
     let s = settings_view c.args.settings in
     let a = account_view c.args.submission.account.now in
     let reading = c.args.submission.reading in
@@ -64,13 +74,16 @@ returns-in-Ok-Other-clause-step g c =
     let reference = c.args.submission.reference.now in (
       all_fine (Ok []),
       is_other g.B.Standing g.X.Signer.signs g.X.Signer.fault_count c.args.signer.now s a reading reference bytes
-          c.args.store.now c.find_known.new.store c.as_str.result.now c.in-Ok-Other.field-0
-          (is_few (length bytes) (omega arith)) c.in-Ok-Other.ensures.looks c.in-Ok-Other.ensures.faults
-          c.as_str.ensures.value c.in-Ok-Other.field-0-is c.in-Ok-Other.ensures.value,
+          c.args.store.now c.find_known-known.new.store c.as_str.result.now c.in_ok-number.field-0
+          (is_few (length bytes) (omega arith)) c.find_known-known.ensures.looks
+          (rw found at c.find_known-known.ensures.faults) c.as_str.ensures.value c.in-Other.is
+          (λ honest b st. rw found at (c.find_known-known.ensures.value honest b st)),
     )
 
-pub returns-in-Ok-Nothing-clause-step : goal.returns-in-Ok-Nothing-clause-step
-returns-in-Ok-Nothing-clause-step g c =
+pub returns-in-Nothing-clause-step : goal.returns-in-Nothing-clause-step
+returns-in-Nothing-clause-step g c =
+    let found = call_ok obstacle.Searching c.find_known-known.result c.in_ok-number.field-0
+    c.in_ok-number.ensures.cases in
     let s = settings_view c.args.settings in
     let a = account_view c.args.submission.account.now in
     let reading = c.args.submission.reading in
@@ -81,12 +94,16 @@ returns-in-Ok-Nothing-clause-step g c =
     let done = c.deposit_new.ensures.step in (
       done.0,
       is_after g.B.Standing t s (Deposit a reading reference bytes) (IsUnused a reference) done.0
-          c.args.store.now c.find_known.new.store c.deposit_new.new.store said c.in-Ok-Nothing.ensures.looks
-          c.in-Ok-Nothing.ensures.faults
-          (λ honest b st. is_unused a bytes reference b c.as_str.result.now c.in-Ok-Nothing.field-0
-          c.as_str.ensures.value c.in-Ok-Nothing.field-0-is (c.in-Ok-Nothing.ensures.value honest b st))
+          c.args.store.now c.find_known-known.new.store c.deposit_new.new.store said c.find_known-known.ensures.looks
+          (rw found at c.find_known-known.ensures.faults)
+          (λ honest b st. is_unused a bytes reference b c.as_str.result.now c.in_ok-number.field-0
+          c.as_str.ensures.value c.in-Nothing.is (rw found at (c.find_known-known.ensures.value honest b st)))
           c.deposit_new.ensures.honest done.1,
     )
 
-pub returns-in-Err-clause-refusals : goal.returns-in-Err-clause-refusals
-returns-in-Err-clause-refusals g c = subst IsOfDeposit (sym c.from.ensures) (by_cause (store_cause c.in-Err.fault))
+pub returns-in_err-number-clause-refusals : goal.returns-in_err-number-clause-refusals
+returns-in_err-number-clause-refusals g c =
+    let refused = call_err obstacle.Searching c.find_known-known.result c.in_err-number.field-0.0
+    c.in_err-number.ensures.cases in
+    let told = err_from_is_err_and c.from_residual.result c.from_residual.ensures.1 in
+    rw (told.1, told.2, refused.2) (by_cause (store_cause refused.0))

@@ -49,8 +49,8 @@ returns-in_default-clause-step g c =
     untokened (viewer_in s.file a.name) n b (deposit_view c.in_ok-found.found.deposit) sees.seen
     (sees.token ∙ ap (option_map (λ t. t.items)) c.in_default.is))
 
-pub returns-in-Ok-clause-step : goal.returns-in-Ok-clause-step
-returns-in-Ok-clause-step g c =
+pub returns-clause-step : goal.returns-clause-step
+returns-clause-step g c =
     let s = settings_view c.args.settings in
     let a = account_view c.args.account.now in
     let n = c.args.number in
@@ -64,8 +64,8 @@ returns-in-Ok-clause-step g c =
     (sees.token ∙ ap (option_map (λ t. t.items)) c.in-Some.is)
     (c.in-Ok.ensures.text ∙ ap granted_octets c.deref.ensures.value))
 
-pub returns-clause-step : goal.returns-clause-step
-returns-clause-step g c =
+pub returns-in_default-write_granted-clause-step : goal.returns-in_default-write_granted-clause-step
+returns-in_default-write_granted-clause-step g c =
     let s = settings_view c.args.settings in
     let a = account_view c.args.account.now in
     let n = c.args.number in

@@ -1,11 +1,15 @@
 use Rattle.std.proofs.Common.{◌≡◌, sym, ◌∙◌, ap}
+use Rattle.std.proofs.lemmas.Result.{err_from_is_err_and}
 use Rattle.tsp.specs.Granted.{granted_octets}
 use Rattle.desk.specs.Command.{PendingValue}
+use Rattle.desk.specs.declared.refusal.StampRefusal.TheVariants as refusal
 use Rattle.desk.proofs.Seals.{seals, refuses, token_seen}
+use Rattle.desk.proofs.Wrapped.{call_ok, call_err}
 use Rattle.desk.proofs.stamp_end.finish_with.Goals as goal
 
-pub returns-in-Ok-seal-clause-step : goal.returns-in-Ok-seal-clause-step
-returns-in-Ok-seal-clause-step g c s =
+pub returns-clause-step : goal.returns-clause-step
+returns-clause-step g c s =
+    let sealed = call_ok refusal.Sealing c.seal.result _ c.in_ok-map_err.ensures.cases in
     let is = token_seen c.args.pending _ c.args.signature.now c.in-Ok.token.items c.deref-3.result.now
     c.deref.result.now c.pending.view_is c.deref.ensures.value c.deref-3.ensures.value c.in-Ok.ensures.text in
     let reply : c.in-Ok-write_granted.bytes.items ≡ granted_octets c.deref-3.result.now =
@@ -14,12 +18,15 @@ returns-in-Ok-seal-clause-step g c s =
     seals g.B.Standing s c.args.pending c.args.signature.now c.pending.inside.serial c.deref-3.result.now
     c.in-Ok-write_granted.bytes.items c.args.store.now c.seal.new.self
     (ap (λ (p : PendingValue). p.serial) c.pending.view_is)
-    is reply c.in-Ok-seal.ensures.appends
+    is reply (rw sealed at c.seal.ensures.appends)
 
-pub returns-clause-step : goal.returns-clause-step
-returns-clause-step g c s =
+pub returns-in_err-map_err-clause-step : goal.returns-in_err-map_err-clause-step
+returns-in_err-map_err-clause-step g c =
+    let refused = call_err refusal.Sealing c.seal.result c.in_err-map_err.field-0.0 c.in_err-map_err.ensures.cases in
+    let told = err_from_is_err_and c.from_residual.result c.from_residual.ensures.1 in
     let is = token_seen c.args.pending _ c.args.signature.now c.in-Ok.token.items c.deref-3.result.now
     c.deref.result.now c.pending.view_is c.deref.ensures.value c.deref-3.ensures.value c.in-Ok.ensures.text in
-    refuses g.B.Standing s c.args.pending c.args.signature.now c.pending.inside.serial c.deref-3.result.now
-    c.args.store.now c.seal.new.self c.in-Err-seal.fault (ap (λ (p : PendingValue). p.serial) c.pending.view_is) is
-    c.in-Err-seal.ensures.refusals c.in-Err-seal.ensures.appends
+    rw (told.1, told.2, refused.2) (λ s. refuses g.B.Standing s c.args.pending c.args.signature.now
+    c.pending.inside.serial c.deref-3.result.now c.args.store.now c.seal.new.self refused.0
+    (ap (λ (p : PendingValue). p.serial) c.pending.view_is) is (rw refused.1 at c.seal.ensures.refusals)
+    (rw refused.1 at c.seal.ensures.appends))

@@ -1,33 +1,37 @@
 use Rattle.std.proofs.Common.{sym, ◌∙◌}
+use Rattle.std.proofs.lemmas.Result.{err_from_is_err_and}
 use Rattle.desk.specs.Calls.{in_force_of}
-use Rattle.desk.proofs.Successions.{succeeded_already, succeeded_now, unlooked, uninstalled}
+use Rattle.desk.specs.declared.obstacle.Obstacle.TheVariants as obstacle
+use Rattle.desk.proofs.Successions.{succeeded_already, unlooked, addition_told}
+use Rattle.desk.proofs.Wrapped.{call_ok, call_err, wrapped_is}
 use Rattle.desk.proofs.succession.install.Goals as goal
 
-pub returns-in-Err-clause-step : goal.returns-in-Err-clause-step
-returns-in-Err-clause-step g c s algorithm =
-    unlooked g.B.Standing s (in_force_of c.args.identity.now algorithm) c.args.store.now c.is_installed.new.store
-    c.in-Err.fault c.in-Err.ensures.refusals c.in-Err.ensures.faults c.in-Err.ensures.looks
+pub returns-in_err-latest-clause-step : goal.returns-in_err-latest-clause-step
+returns-in_err-latest-clause-step g c s algorithm =
+    let looked = c.is_installed.ensures in
+    let refused = call_err obstacle.Looking c.is_installed.result c.in_err-latest.field-0.0
+    c.in_err-latest.ensures.cases in
+    let told = err_from_is_err_and c.from_residual.result c.from_residual.ensures.1 in
+    rw (told.1, told.2, refused.2) (unlooked g.B.Standing s (in_force_of c.args.identity.now algorithm)
+    c.args.store.now c.is_installed.new.store refused.0 (rw refused.1 at looked.refusals) (rw refused.1 at looked.faults)
+    looked.looks)
 
 pub returns-then-latest-clause-step : goal.returns-then-latest-clause-step
 returns-then-latest-clause-step g c s algorithm =
+    let looked = c.is_installed.ensures in
+    let is = call_ok obstacle.Looking c.is_installed.result c.in_ok-latest.latest c.in_ok-latest.ensures.cases in
     succeeded_already g.B.Standing s (in_force_of c.args.identity.now algorithm) c.args.store.now
-    c.is_installed.new.store c.in-Ok.ensures.looks c.in-Ok.ensures.faults
-    (λ honest b st. sym c.if-latest.true ∙ c.in-Ok.ensures.value honest b st)
+    c.is_installed.new.store looked.looks (rw is at looked.faults)
+    (λ honest b st. sym c.if-latest.true ∙ (rw is at (looked.value honest b st)))
 
-pub returns-in-Ok-add-clause-step : goal.returns-in-Ok-add-clause-step
-returns-in-Ok-add-clause-step g c s algorithm =
-    succeeded_now g.B.Standing s (in_force_of c.args.identity.now algorithm) c.args.store.now c.is_installed.new.store
-    c.add.new.store (record {
-      looks = c.in-Ok.ensures.looks;
-      uncounted = c.in-Ok.ensures.faults;
-      other = λ honest b st. sym c.if-latest.false ∙ c.in-Ok.ensures.value honest b st;
-    }) c.in-Ok-add.ensures.appends
-
-pub returns-in-Err-add-clause-step : goal.returns-in-Err-add-clause-step
-returns-in-Err-add-clause-step g c s algorithm =
-    uninstalled g.B.Standing s (in_force_of c.args.identity.now algorithm) c.args.store.now c.is_installed.new.store
-    c.add.new.store c.in-Err-add.fault (record {
-      looks = c.in-Ok.ensures.looks;
-      uncounted = c.in-Ok.ensures.faults;
-      other = λ honest b st. sym c.if-latest.false ∙ c.in-Ok.ensures.value honest b st;
-    }) c.in-Err-add.ensures.refusals c.in-Err-add.ensures.appends
+pub returns-clause-step : goal.returns-clause-step
+returns-clause-step g c s algorithm =
+    let looked = c.is_installed.ensures in
+    let is = call_ok obstacle.Looking c.is_installed.result c.in_ok-latest.latest c.in_ok-latest.ensures.cases in
+    rw (wrapped_is obstacle.Adding c.add.result c.map_err-2.result c.map_err-2.ensures.cases)
+    (addition_told g.B.Standing s (in_force_of c.args.identity.now algorithm) c.args.store.now c.is_installed.new.store
+    c.add.new.store c.add.result (record {
+      looks = looked.looks;
+      uncounted = rw is at looked.faults;
+      other = λ honest b st. sym c.if-latest.false ∙ (rw is at (looked.value honest b st));
+    }) c.add.ensures.refusals c.add.ensures.appends)
