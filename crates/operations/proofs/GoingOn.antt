@@ -305,11 +305,6 @@ closed_now g Knows old new done tells fit appends = record {
   ];
 }
 
-pub is_closed_known : {X A : Type 0} (g : Ghosts X) (Knows : History → Type 0) (old new : X) (a : A)
-    → ClosesKnown g Knows old new (Ok a) → IsClosedKnown g Knows old new
-is_closed_known g Knows old new a closes =
-    record { honest = closes.honest; closes = closes.closes; crash = closes.crash }
-
 pub may_be_closed : {X A : Type 0} (g : Ghosts X) (Knows : History → Type 0) (old new : X) (fault : StoreFault)
     → ClosesKnown {A = A} g Knows old new (Err fault) → MayBeClosed g Knows old new
 may_be_closed g Knows old new fault closes =
@@ -359,24 +354,9 @@ carries_after g Knows Knew floor old mid new (Err NotAfter) looks tells refused 
 carries_after g Knows Knew floor old mid new (Err (Unfinished fault)) looks tells refused =
     (refused.0, may_from g Knows Knew old mid new looks tells refused.1)
 
-pub void_fault : (fault : ContinuationFault) → IsVoidFault fault → IsLookFault fault
-void_fault fault (inl is) = subst IsLookFault (sym is) tt
-void_fault fault (inr (inl is)) = subst IsLookFault (sym is) (inl refl)
-void_fault fault (inr (inr is)) = subst IsLookFault (sym is) (inr (inr refl))
-
 pub storage_fault : (fault : StoreFault) → IsOfStorage fault → IsOpeningFault fault
 storage_fault fault (inl is) = inl is
 storage_fault fault (inr is) = inr (inl is)
-
--- what is carried on couldn't be looked up
-pub refused_looking : {X : Type 0} (g : Ghosts X) (Knows : History → Type 0) (floor : Option Floor) (old new : X)
-    (fault : ContinuationFault) → OnlyLooks g old new → IsLookFault fault
-    → (fault ≡ NotAfter → g.honest new → (b : History) → Stands g b old → IsBelow floor b)
-    → IsRefused g Knows floor old new fault
-refused_looking g Knows floor old new (Unopened fault) looks is none = absurd is
-refused_looking g Knows floor old new (Unclosed fault) looks is none = (is, looks)
-refused_looking g Knows floor old new NotAfter looks is none = (looks, λ h b s k. none refl h b s)
-refused_looking g Knows floor old new (Unfinished fault) looks is none = absurd is
 
 -- ---- a void stamp in place of the last one
 
@@ -427,29 +407,6 @@ above_from (Some floor) (Some s) (Some void) b sound is asked =
       follows = rw (sym gen_time, moment) follows;
       moment = rw moment statable;
     }
-
--- no other does, where this one doesn't
-pub below_from : (floor : Option Floor) (last : Option StampRow) (b : History) → IsSound b → last ≡ last_stamp_of b
-    → IsNoneAfterIfAny floor last → IsBelow floor b
-below_from None last b sound is none = absurd none
-below_from (Some floor) None b sound is none = λ void number moment above.
-    let missing : last_stamp_of b ≡ None = sym is in
-    let there : last_stamp_of b ≡ Some (stamp_of (token_of above.last.serial b) above.last) =
-    ap (option_map (λ (r : ReservationValue). stamp_of (token_of r.serial b) r)) above.reserved in
-    cc
-below_from (Some floor) (Some s) b sound is none = λ void number moment above.
-    let found = last_of_stamp b s (sym is) in
-    let same : above.last ≡ found.0 = let both = sym above.reserved ∙ found.1 in cc in
-    let serial : s.serial ≡ found.0.serial = ap (λ (v : ReservationValue). v.serial) found.2 in
-    let gen_time : s.gen_time ≡ above.last.gen_time = ap (λ (v : ReservationValue). v.gen_time) (found.2 ∙ sym same) in
-    let greatest : greatest_serial b ≡ found.0.serial =
-    greatest_first (reservations b) found.0 (falls b sound) found.1 in
-    none (record {
-      rises = rw (serial, sym greatest, sym number) above.rises;
-      within = rw (sym number) above.within;
-      follows = rw (gen_time, sym moment) above.follows;
-      moment = rw (sym moment) above.moment;
-    })
 
 -- what tells that a void stamp states what it has to
 abbrev pub StatesVoid : Type 0

@@ -32,11 +32,6 @@ pub anyway : {A E : Type 0} (r : Result A E) (Other : E → Type 0) (P : Type 0)
 anyway (Ok a) Other P holds = tt
 anyway (Err e) Other P holds = inr holds
 
--- what holds where there is an answer holds, where there is one
-pub held_by : {A E : Type 0} (r : Result A E) (P : Type 0) → OnOk r P → IsOk r → P
-held_by (Ok a) P holds is = holds
-held_by (Err e) P holds is = let apart = is in cc
-
 abbrev refused_as : {A E : Type 0} → E → Result A E
 refused_as fault = Err fault
 

@@ -230,8 +230,8 @@ fn check_against<B: Book + Drop, E: Write>(
 ) -> Result<bool, ExtractFault>
     ensures looks { OnlyLooks B.Standing book.old book.new }
     ensures checked { B.honest book.new → (b : History) → Stands B.Standing b book.old
-        → IfOk result (Checks (map identity_view identities.now) (stamps_between range.from range.to b) (E.contents errors.old)
-        (E.contents errors.new)) }
+        → IfOk result (Checks (map identity_view identities.now) (stamps_between range.from range.to b)
+        (E.contents errors.old) (E.contents errors.new)) }
     ensures agreed { IfOk result (λ agree. agree ≡ true → E.contents errors.new ≡ E.contents errors.old) }
     ensures failed { IfOk result (λ agree. agree ≡ false
         → TellsSome (E.contents errors.old) (E.contents errors.new)) }

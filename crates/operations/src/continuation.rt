@@ -38,14 +38,15 @@ const ALL_MOMENTS: Hold = Hold {
 /// The old one is closed for tokens by a hold of all moments, unless it has one. The new one is made where no file
 /// stands, an empty one, or a database without tables, with its first entries in one commit: the latest calibration,
 /// the other holds, and the last stamp with its token, behind its identity and before a later one. Where a floor is
-/// asked for, a void stamp comes in place of the last one, for its request, under the floor's serial number and genTime.
+/// asked for, a void stamp comes in place of the last one, for its request, under the floor's serial number and
+/// genTime.
 ///
-/// Refused with `Unopened`, where nothing was done; with `Unclosed` or `NotAfter`, where the old one was only looked at;
-/// and with `Unfinished`, where it is closed or as it was: then the same can be asked for again. Each but `NotAfter` has
-/// the database's refusal: `Memory`; `Database` where no file stands at the old path, none can be made at the new one,
-/// or one of both can't be read or written; `NotOurs` where the old one isn't a database of the counter's, or something
-/// else stands at the new path, such a database too, which is left as it is. The old path's refusal is told first, then
-/// `NotAfter`, then the new path's.
+/// Refused with `Unopened`, where nothing was done; with `Unclosed` or `NotAfter`, where the old one was only looked
+/// at; and with `Unfinished`, where it is closed or as it was: then the same can be asked for again. Each but
+/// `NotAfter` has the database's refusal: `Memory`; `Database` where no file stands at the old path, none can be made
+/// at the new one, or one of both can't be read or written; `NotOurs` where the old one isn't a database of the
+/// counter's, or something else stands at the new path, such a database too, which is left as it is. The old path's
+/// refusal is told first, then `NotAfter`, then the new path's.
 pub fn continue_in<F: DatabaseFiles, N: DatabaseFiles>(
     alloc: Global,
     old: Database<'_, F>,
@@ -240,11 +241,7 @@ fn make_with<N: DatabaseFiles>(
     ensures made { OnOk result (IsMadeOver N.Disk.Disk (entries_view entries.now)) }
     ensures refusals { IfErr result IsOpeningFault }
 {
-    match new.files.make(new.path, entries) {
-        Ok(made) => {
-            close_files(made);
-            Ok(())
-        }
-        Err(fault) => Err(fault),
-    }
+    let made = new.files.make(new.path, entries)?;
+    close_files(made);
+    Ok(())
 }

@@ -24,13 +24,9 @@ pub fn init<F: DatabaseFiles>(database: Database<'_, F>) -> Result<(), StoreFaul
     ensures refused { IfErr result (F.refuses_making database.entry.files database.entry.path.now) }
     ensures refusals { IfErr result IsOpeningFault }
 {
-    match database.files.make(database.path, &[]) {
-        Ok(made) => {
-            close_files(made);
-            Ok(())
-        }
-        Err(fault) => Err(fault),
-    }
+    let made = database.files.make(database.path, &[])?;
+    close_files(made);
+    Ok(())
 }
 
 /// Takes the database, which an earlier version of the counter may have made, to the schema of now, in one commit: each
@@ -67,10 +63,8 @@ pub(crate) fn perform_at<F: DatabaseFiles, I, O, T: Operation<I, O>>(
     ensures unwritten { OnErr result (output.new ≡ output.old) }
     ensures refusals { IfErr result IsOpeningFault }
 {
-    match database.files.open(database.path) {
-        Ok(store) => Ok(perform_in_files(alloc, store, operation, input, output)),
-        Err(fault) => Err(fault),
-    }
+    let store = database.files.open(database.path)?;
+    Ok(perform_in_files(alloc, store, operation, input, output))
 }
 
 /// Does it to the history of a store over files, and closes that.

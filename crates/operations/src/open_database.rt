@@ -7,8 +7,8 @@ ghost use Rattle.book.specs.Values.{hold_view};
 
 use book::{Book, Hold, StoreFault};
 
-/// The history that an opened database keeps, until that is closed. What an instance tells of a closing is known only of
-/// what was closed by it.
+/// The history that an opened database keeps, until that is closed. What an instance tells of a closing is known only
+/// of what was closed by it.
 pub trait OpenDatabase: Book + Drop {
     // it is closed
     ghost closes: { Self → Type 0 };

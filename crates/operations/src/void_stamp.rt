@@ -4,8 +4,8 @@ ghost use Rattle.gentime.specs.GenTime.{last_moment};
 ghost use Rattle.book.specs.Sound.{greatest_number};
 ghost use Rattle.book.specs.Values.{reservation_view, stamp_view};
 ghost use Rattle.desk.specs.Continuation.{IsRestated};
-ghost use Rattle.operations.specs.VoidStamp.{ComesAfter, IsNoneAfter, IsNoneAfterIfAny, IsVoidFault};
-ghost use Rattle.operations.specs.VoidStamp.{IsVoidFor, IsVoidIfAny, reserved_as, reserved_in_place, void_of, void_view};
+ghost use Rattle.operations.specs.VoidStamp.{ComesAfter, IsNoneAfter, IsNoneAfterIfAny, IsVoidFault, void_view};
+ghost use Rattle.operations.specs.VoidStamp.{IsVoidFor, IsVoidIfAny, reserved_as, reserved_in_place, void_of};
 
 use crate::fault::ContinuationFault;
 use book::{GREATEST_NUMBER, Reservation, Stamp, StoreFault};

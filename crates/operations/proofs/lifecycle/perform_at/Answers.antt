@@ -1,4 +1,4 @@
 use Rattle.operations.proofs.lifecycle.perform_at.Goals as goal
 
-pub returns-in-Ok-clause-moved : goal.returns-in-Ok-clause-moved
-returns-in-Ok-clause-moved g c = (c.in-Ok.store, c.in-Ok.ensures.opened, c.perform_in_files.ensures.moved)
+pub returns-clause-moved : goal.returns-clause-moved
+returns-clause-moved g c = (c.in_ok-store.store, c.in_ok-store.ensures.opened, c.perform_in_files.ensures.moved)
