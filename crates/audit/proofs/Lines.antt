@@ -344,30 +344,3 @@ counted_more g old now next from to octets left last left' last' line before loo
     length-append line (stamps_text (stamps_between left' last' b)),
   );
 }
-
--- more octets than 64 bits count
-pub counted_too_many : {B : Type 0} (g : Ghosts B) (old now next : B)
-    (from to octets left last left' last' : ℕ) (line : List ℕ)
-    → HasCounted g old now from to octets left last → OnlyLooks g now next
-    → (g.honest next → (b : History) → Stands g b now
-    → stamps_text (stamps_between left last b) ≡ line ++ stamps_text (stamps_between left' last' b))
-    → 2 ^ 64 ≤ octets + length line
-    → g.honest next → (b : History) → Stands g b old → 2 ^ 64 ≤ length (extract_text from to b)
-counted_too_many g old now next from to octets left last left' last' line before looks value many h b s = omega (
-  arith,
-  many,
-  before.splits (looks.honest h) b s,
-  ap length (value h b (before.looks.stands b s)),
-  length-append line (stamps_text (stamps_between left' last' b)),
-)
-
-pub counted_all : {B : Type 0} (g : Ghosts B) (old now next : B) (from to octets left last : ℕ)
-    → HasCounted g old now from to octets left last → OnlyLooks g now next
-    → (g.honest next → (b : History) → Stands g b now → stamps_between left last b ≡ [])
-    → g.honest next → (b : History) → Stands g b old → octets ≡ length (extract_text from to b)
-counted_all g old now next from to octets left last before looks none h b s =
-    omega (
-      arith,
-      before.splits (looks.honest h) b s,
-      ap (λ l. length (stamps_text l)) (none h b (before.looks.stands b s)),
-    )

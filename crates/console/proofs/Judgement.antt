@@ -42,13 +42,6 @@ none_lower P rule h = absurd (omega arith)
 pub spelling_fails : (query : List ℕ) → (IsSpelled query → ⊥) → IsFirstFailing (Holds query) Spelling
 spelling_fails query fails = record { fails = fails; before = λ earlier lower. none_lower (Holds query) earlier lower }
 
-before_version : (r : RequestValue) (earlier : Rule) → number_of earlier < 2 → HoldsOf r earlier
-before_version r Spelling h = tt
-before_version r rule h = absurd (omega arith)
-
-pub version_fails : (r : RequestValue) → (HasVersionOne r → ⊥) → IsFirstFailing (HoldsOf r) Version
-version_fails r fails = record { fails = fails; before = before_version r }
-
 before_algorithm : (r : RequestValue) → HasVersionOne r → (earlier : Rule) → number_of earlier < 4 → HoldsOf r earlier
 before_algorithm r version Spelling h = tt
 before_algorithm r version Version h = version
@@ -58,18 +51,6 @@ before_algorithm r version rule h = absurd (omega arith)
 pub algorithm_fails : (r : RequestValue) → HasVersionOne r → (HasKnownAlgorithm five_algorithms r → ⊥)
     → IsFirstFailing (HoldsOf r) Algorithm
 algorithm_fails r version fails = record { fails = fails; before = before_algorithm r version }
-
-before_length : (r : RequestValue) → HasVersionOne r → HasKnownAlgorithm five_algorithms r → (earlier : Rule)
-    → number_of earlier < 5 → HoldsOf r earlier
-before_length r version algorithm Spelling h = tt
-before_length r version algorithm Version h = version
-before_length r version algorithm Account h = tt
-before_length r version algorithm Algorithm h = algorithm
-before_length r version algorithm rule h = absurd (omega arith)
-
-pub length_fails : (r : RequestValue) → HasVersionOne r → HasKnownAlgorithm five_algorithms r
-    → (HasAlgorithmLength five_algorithms r → ⊥) → IsFirstFailing (HoldsOf r) HashLength
-length_fails r version algorithm fails = record { fails = fails; before = before_length r version algorithm }
 
 pub all_hold : (r : RequestValue) → HasVersionOne r → HasKnownAlgorithm five_algorithms r
     → HasAlgorithmLength five_algorithms r

@@ -20,8 +20,8 @@ use Rattle.console.specs.declared.fault.Fault.{Fault}
 use Rattle.console.specs.declared.fault.Fault.TheVariants.{Der, Tsp, Input}
 use Rattle.console.specs.declared.fault.InputFault.TheVariants.{Failed, Memory, NotHexadecimal}
 
--- the TSTInfo of a request: its policy is the request's where it states one, its genTime the moment rounded down, and it
--- names no authority
+-- the TSTInfo of a request: its policy is the request's where it states one, its genTime the moment rounded down, and
+-- it names no authority
 abbrev pub tst_of : SettingsValue → RequestValue → TstValue
 tst_of settings r = record {
   policy = unwrap_or r.policy settings.policy;

@@ -95,7 +95,8 @@ fn key_of(alloc: Global, octets: &[u8]) -> Result<KeyedHash, Fault>
 /// than 256 octets, `cms` with the number of its refusal. Where memory runs out it is `input` 7 over the file, and
 /// `cms` 3 over the algorithm.
 pub fn read_algorithm<F: FileSource + AllocGlobal>(rt: &F, path: &str) -> Result<Algorithm, Fault>
-    ensures reads { ReadsAs (source_of F.opens F.refuses F.File.remaining rt.now) path.now most_of_algorithm IsAlgorithmOf result }
+    ensures reads { ReadsAs (source_of F.opens F.refuses F.File.remaining rt.now) path.now most_of_algorithm
+        IsAlgorithmOf result }
 
     // No contract says what a file of the machine holds. So it is some algorithm.
     ensures found { IfOk result (λ algorithm. (length algorithm ≤ 256) × IsAlgorithm algorithm) }

@@ -88,14 +88,6 @@ asked_once signs fresh before between session text answer after taken is (asks o
 asked_once signs fresh before between session text answer after taken is (refused none left failed) =
     let none : None ≡ Some session = sym none ∙ is in cc
 
--- the first of some texts
-pub signs_first : {S : Type 0} (signs : S → List ℕ → Result (List ℕ) SignerFault → S → Type 0) (x : S)
-    (texts : List (List ℕ)) (answer : Result (List ℕ) SignerFault) (y : S) → 0 < length texts
-    → ((text : List ℕ) (rest : List (List ℕ)) → texts ≡ text ∷ rest → signs x text answer y)
-    → SignsEach signs x (take 1 texts) (answer ∷ []) y
-signs_first signs x [] answer y some one = absurd (omega (arith, some))
-signs_first signs x (text ∷ texts) answer y some one = (y, (one text texts refl, refl))
-
 -- texts that are signed after others
 pub signs_after : {S : Type 0} (signs : S → List ℕ → Result (List ℕ) SignerFault → S → Type 0) (x : S)
     (texts : List (List ℕ)) (answers : List (Result (List ℕ) SignerFault)) (y : S) (others : List (List ℕ))
