@@ -1,5 +1,5 @@
--- Connections one after the other, as what they are heard on tells of them: each one that is handed out is served by the
--- octets that came of it, and its answer goes to it.
+-- Connections one after the other, as what they are heard on tells of them: each one that is handed out is served by
+-- the octets that came of it, and its answer goes to it.
 use Rattle.std.specs.Prelude.{◌≡◌, ◌⊎◌, ℕ, ◌+◌, ◌-◌, ◌<◌, ℤ, List, [], ◌∷◌, length, Option, Some, None}
 use Rattle.std.specs.Prelude.{Result, Err}
 use Rattle.book.specs.declared.standing.Standing.{Ghosts}
@@ -114,8 +114,8 @@ module _ {L S C B X : Type 0} (hands : L → Option ℕ → ReceivedValue → S 
     -- they are answered
     answered : IsServed most connections old new → IsHeard most connections old new
 
-  -- Each turn finds what the one before it left, and how many are still to be counted: how many connections each is, and
-  -- all after it, in their order.
+  -- Each turn finds what the one before it left, and how many are still to be counted: how many connections each is,
+  -- and all after it, in their order.
   abbrev pub Follow : ℕ → Hall L C B X → List (ℕ × Hall L C B X) → Hall L C B X → Type 0
   Follow most old [] new = new ≡ old
   Follow most old (next ∷ rest) new = IsHeard most next.0 old next.1 × Follow (most - next.0) next.1 rest new

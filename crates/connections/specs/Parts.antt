@@ -1,5 +1,5 @@
--- Connections that were handed out one after the other, and what comes of them in that order: one is served by itself, or
--- the stamps that several ask for are answered together.
+-- Connections that were handed out one after the other, and what comes of them in that order: one is served by itself,
+-- or the stamps that several ask for are answered together.
 use Rattle.std.specs.Prelude.{◌≡◌, ℕ, ◌<◌, ◌≤◌, ℤ, true, List, [], ◌∷◌, ◌++◌, map, length, take, Option, Result}
 use Rattle.std.specs.Io.KnownBytes.{Consumes, IsAtEnd}
 use Rattle.std.specs.List.{AllByRecursion}
@@ -87,8 +87,8 @@ module _ {S B X : Type 0} (contents : S → Option (List ℕ)) (g : Ghosts B)
         }) a.exchanged.served
     pub all : TellsAll a
 
-  -- By the octets that came of it, it asks for its stamp at its reading, and what is written to it is the answer with its
-  -- reply.
+  -- By the octets that came of it, it asks for its stamp at its reading, and what is written to it is the answer with
+  -- its reply.
   pub record IsMember (file : PolicyValue) (m : Member S) : Type 0 where
     pub asks : AsksStamp file m.answered.handed.reading m.answered.handed.received m.question
     pub sent : Sends contents m.answered.handed.reading m.answered.handed.stream m.answered.stream_after

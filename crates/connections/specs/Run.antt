@@ -136,7 +136,8 @@ module _ {B X : Type 0} (g : Ghosts B) (signs : X → List ℕ → Result (List 
     abbrev pub stretch_of : (part : Part (Unit {0})) (old : DeskValue B) (x : X) (new : DeskValue B) (y : X)
         → IsDone untold g signs count part old x new y → Stretch
     stretch_of (alone a) old x new y done =
-        in_turn (told_in a.handed.reading (turn old x new y) a.exchanged.served (done.serves None None tt (λ ended taken. tt)))
+        in_turn (told_in a.handed.reading (turn old x new y) a.exchanged.served
+        (done.serves None None tt (λ ended taken. tt)))
     stretch_of (together members) old x new y done = at_once record {
       asked = map (λ m. m.question) members;
       answers = map (λ m. m.reply) members;
@@ -146,8 +147,8 @@ module _ {B X : Type 0} (g : Ghosts B) (signs : X → List ℕ → Result (List 
     }
 
     -- and for all, the oldest first
-    abbrev pub stretches_along : (parts : List (Part (Unit {0}))) (old : DeskValue B) (x : X) (new : DeskValue B) (y : X)
-        → AreDone untold g signs count parts old x new y → List Stretch
+    abbrev pub stretches_along : (parts : List (Part (Unit {0}))) (old : DeskValue B) (x : X) (new : DeskValue B)
+        (y : X) → AreDone untold g signs count parts old x new y → List Stretch
     stretches_along [] old x new y done = []
     stretches_along (part ∷ parts) old x new y done =
         stretch_of part old x done.0 done.1 done.2.0 ∷ stretches_along parts done.0 done.1 new y done.2.1

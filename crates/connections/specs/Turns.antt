@@ -35,8 +35,8 @@ module _ {C B X : Type 0} (reads : C → Result ℤ ClockFailed → C → Type 0
     pub given : AreGiven reads old.clock (readings (handed_along parts)) new.clock
     pub done : AreDone untold g signs count parts old.desk old.signer new.desk new.signer
 
-  -- Fewer connections were served; for the next one the clock was asked, or for it and some behind it, and failed for the
-  -- last of these, and no more was done.
+  -- Fewer connections were served; for the next one the clock was asked, or for it and some behind it, and failed for
+  -- the last of these, and no more was done.
   pub record StopsByClock (connections : ℕ) (old new : State C B X) : Type 0 where
     pub served : ℕ
     pub last : State C B X

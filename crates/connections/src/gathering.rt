@@ -66,8 +66,8 @@ fn read_for<S: Drop, C: Clock>(
     })
 }
 
-/// Room for it and those whose stamps can be answered with its own: for none where it asks for something else, or memory
-/// wants.
+/// Room for it and those whose stamps can be answered with its own: for none where it asks for something else, or
+/// memory wants.
 fn room_beside<S: Drop>(
     first: &Handed<S>,
     most: usize,
@@ -131,7 +131,8 @@ pub(crate) fn gather<L: Hearing, C: Clock>(
     ensures few { IfOk result (λ gathering. IfSome gathering (λ these. length (gathered_in these) ≤ most)) }
     ensures stamps { IfOk result (λ gathering. IfSome gathering
         (λ these. length these.stamps.items ≤ most_together)) }
-    ensures cut { OnErr result (IsCutShort L.hands C.reads (Some most) most hearing.old clock.old hearing.new clock.new) }
+    ensures cut { OnErr result
+        (IsCutShort L.hands C.reads (Some most) most hearing.old clock.old hearing.new clock.new) }
 {
     let Some((request, stream)) = hearing.next(most) else {
         return Ok(None);

@@ -49,8 +49,8 @@ enum Taken {
 }
 
 /// A listener, and those of its connections that aren't done with. So many are read side by side. Where there are so
-/// many, the next one is taken once one of them is done with, or has waited for two seconds and no other for longer: that
-/// one is given up then.
+/// many, the next one is taken once one of them is done with, or has waited for two seconds and no other for longer:
+/// that one is given up then.
 #[derive(Drop)]
 pub struct Listening<'l, R> {
     rt: &'l R,
@@ -146,8 +146,8 @@ fn rest_until(exchanged: Exchanged, end: Option<Instant>) -> Option<Instant> {
 
 impl<'l, R: AllocGlobal + Clock> Listening<'l, R> {
     /// A listener, of whose connections none is taken yet. From now on it doesn't wait for one. A request has so much
-    /// time to come, and its answer so much to go out; so many octets the database's files had. An error where the system can't wait for several, or memory runs
-    /// out.
+    /// time to come, and its answer so much to go out; so many octets the database's files had. An error where the
+    /// system can't wait for several, or memory runs out.
     pub fn new<N: Net>(
         net: &N,
         rt: &'l R,
@@ -182,8 +182,8 @@ impl<'l, R: AllocGlobal + Clock> Listening<'l, R> {
     fn next_whole(&mut self, most: usize) -> Option<Waiting<Stream>>
         ensures { MatchOption result
             (FailsOne ⟦<Stream as Read>⟧.remaining (Some most) (places_of self.old.places) (places_of self.new.places))
-            (λ one. HandsOut ⟦<Stream as Read>⟧.remaining (Some most) (places_of self.old.places) one.request one.peer.stream
-            (places_of self.new.places)) }
+            (λ one. HandsOut ⟦<Stream as Read>⟧.remaining (Some most) (places_of self.old.places) one.request
+            one.peer.stream (places_of self.new.places)) }
     {
         for _ in 0..u64::MAX {
             if let Some(done) = self.next_done(most) {
@@ -200,8 +200,8 @@ impl<'l, R: AllocGlobal + Clock> Listening<'l, R> {
             (AreWaitedFor ⟦<Stream as Read>⟧.remaining most (places_of self.old.places) (places_of self.new.places))
             (λ done. MatchOption done
             (FailsOne ⟦<Stream as Read>⟧.remaining (Some most) (places_of self.old.places) (places_of self.new.places))
-            (λ one. HandsOut ⟦<Stream as Read>⟧.remaining (Some most) (places_of self.old.places) one.request one.peer.stream
-            (places_of self.new.places))) }
+            (λ one. HandsOut ⟦<Stream as Read>⟧.remaining (Some most) (places_of self.old.places) one.request
+            one.peer.stream (places_of self.new.places))) }
     {
         let Ok(now) = Instant::now(self.rt) else {
             return Some(None);
@@ -225,10 +225,11 @@ impl<'l, R: AllocGlobal + Clock> Listening<'l, R> {
         None
     }
 
-    /// Another connection whose request is whole already, without waiting: first of those that were heard of, and then of
-    /// those of which the system tells.
+    /// Another connection whose request is whole already, without waiting: first of those that were heard of, and then
+    /// of those of which the system tells.
     fn another_whole(&mut self) -> Option<Waiting<Stream>>
-        ensures { MatchOption result (AreReadOn ⟦<Stream as Read>⟧.remaining (places_of self.old.places) (places_of self.new.places))
+        ensures { MatchOption result
+            (AreReadOn ⟦<Stream as Read>⟧.remaining (places_of self.old.places) (places_of self.new.places))
             (λ one. HandsOut ⟦<Stream as Read>⟧.remaining None (places_of self.old.places) one.request one.peer.stream
             (places_of self.new.places)) }
     {
@@ -263,11 +264,11 @@ impl<'l, R: AllocGlobal + Clock> Listening<'l, R> {
         self.is_ready && (self.is_short || (MOST_WAITING <= count && count < most))
     }
 
-    /// Gives up the connection that was taken first, if it has kept its place for long enough, for one that is there and
-    /// has none. At most so many are waited for. Whether one failed.
+    /// Gives up the connection that was taken first, if it has kept its place for long enough, for one that is there
+    /// and has none. At most so many are waited for. Whether one failed.
     fn give_up(&mut self, now: Instant, most: usize) -> bool
-        ensures failed { result ≡ true
-            → FailsOne ⟦<Stream as Read>⟧.remaining (Some most) (places_of self.old.places) (places_of self.new.places) }
+        ensures failed { result ≡ true → FailsOne ⟦<Stream as Read>⟧.remaining (Some most)
+            (places_of self.old.places) (places_of self.new.places) }
         ensures added { result ≡ false → AreAdded most (places_of self.old.places) (places_of self.new.places) }
     {
         if !self.is_crowded(most) {
@@ -427,7 +428,8 @@ impl<'l, R: AllocGlobal + Clock> Hearing for Listening<'l, R> {
     ghost hands = { λ old waits received limited new. HandsOut ⟦<Stream as Read>⟧.remaining waits (places_of old.places)
         received limited.peer.stream (places_of new.places) };
 
-    ghost fails = { λ old most new. FailsOne ⟦<Stream as Read>⟧.remaining (Some most) (places_of old.places) (places_of new.places) };
+    ghost fails = { λ old most new.
+        FailsOne ⟦<Stream as Read>⟧.remaining (Some most) (places_of old.places) (places_of new.places) };
 
     ghost stays = { λ old new. AreReadOn ⟦<Stream as Read>⟧.remaining (places_of old.places) (places_of new.places) };
 

@@ -147,8 +147,8 @@ impl<S: Duplex + AsRawFd + Drop> Places<S> {
         registry: &Registry,
         now: Instant,
     ) -> Option<Option<Waiting<S>>>
-        ensures { MatchOption result (AreReadOn S.remaining (places_of self.old) (places_of self.new)) (λ done. MatchOption done
-            (FailsOne S.remaining None (places_of self.old) (places_of self.new))
+        ensures { MatchOption result (AreReadOn S.remaining (places_of self.old) (places_of self.new))
+            (λ done. MatchOption done (FailsOne S.remaining None (places_of self.old) (places_of self.new))
             (λ one. HandsOut S.remaining None (places_of self.old) one.request one.peer.stream (places_of self.new))) }
     {
         let (place, is_whole) = self.first_done(routes, registry, now)?;

@@ -19,8 +19,8 @@ use desk::{
 /// The limit on a connection's time: so many seconds for its request, and so many for its answer.
 pub const CONNECTION_SECONDS: u64 = 20;
 
-/// Waits for the next connection whose request is whole, gathers those that can be answered with it, and answers them. At
-/// most so many are waited for. How many they were; one where it failed.
+/// Waits for the next connection whose request is whole, gathers those that can be answered with it, and answers them.
+/// At most so many are waited for. How many they were; one where it failed.
 fn answer_next<L: Hearing, C: Clock, B: Book + Drop, G: Signer>(
     hearing: &mut L,
     most: usize,
@@ -29,8 +29,8 @@ fn answer_next<L: Hearing, C: Clock, B: Book + Drop, G: Signer>(
     signer: &mut G,
 ) -> Result<usize, ClockFailed>
     requires some { 0 < most }
-    ensures heard { IfOk result (λ count. IsHeard L.hands L.fails L.stays L.takes_back L.Stream.contents C.reads B.Standing
-        G.signs G.fault_count most count
+    ensures heard { IfOk result (λ count. IsHeard L.hands L.fails L.stays L.takes_back L.Stream.contents C.reads
+        B.Standing G.signs G.fault_count most count
         (hall hearing.old clock.old desk.old signer.old)
         (hall hearing.new clock.new desk.new signer.new)) }
     ensures some { IfOk result (λ count. 0 < count) }
@@ -60,8 +60,8 @@ fn answer_all<L: Hearing, C: Clock, B: Book + Drop, G: Signer>(
         G.signs G.fault_count count count
         (hall hearing.old clock.old desk.old signer.old)
         (hall hearing.new clock.new desk.new signer.new)) }
-    ensures stopped { OnErr result (StopsHearing L.hands L.fails L.stays L.takes_back L.Stream.contents C.reads B.Standing
-        G.signs G.fault_count count
+    ensures stopped { OnErr result (StopsHearing L.hands L.fails L.stays L.takes_back L.Stream.contents C.reads
+        B.Standing G.signs G.fault_count count
         (hall hearing.old clock.old desk.old signer.old)
         (hall hearing.new clock.new desk.new signer.new)) }
 {
@@ -77,8 +77,8 @@ fn answer_all<L: Hearing, C: Clock, B: Book + Drop, G: Signer>(
 /// most as many are waited for as are still to be counted, and none behind the first of those that are answered
 /// together. The clock is asked once for each request. Each is taken back with what became of it.
 ///
-/// `ClockFailed` where the clock fails: the connection that was handed out is dropped then without an answer, with those
-/// that were to be answered with it, and no further one asked for.
+/// `ClockFailed` where the clock fails: the connection that was handed out is dropped then without an answer, with
+/// those that were to be answered with it, and no further one asked for.
 pub fn serve_each<L: Hearing, C: Clock, B: Book + Drop, G: Signer>(
     hearing: &mut L,
     count: u32,
@@ -90,8 +90,8 @@ pub fn serve_each<L: Hearing, C: Clock, B: Book + Drop, G: Signer>(
         G.signs G.fault_count count count
         (hall hearing.old clock.old desk.old signer.old)
         (hall hearing.new clock.new desk.new signer.new)) }
-    ensures stopped { OnErr result (StopsHearing L.hands L.fails L.stays L.takes_back L.Stream.contents C.reads B.Standing
-        G.signs G.fault_count count
+    ensures stopped { OnErr result (StopsHearing L.hands L.fails L.stays L.takes_back L.Stream.contents C.reads
+        B.Standing G.signs G.fault_count count
         (hall hearing.old clock.old desk.old signer.old)
         (hall hearing.new clock.new desk.new signer.new)) }
     ensures setting { desk.new.setting ≡ desk.old.setting }
@@ -110,16 +110,16 @@ pub fn serve_each<L: Hearing, C: Clock, B: Book + Drop, G: Signer>(
 }
 
 /// Serves so many connections of a listener, as `serve_each`. They are served one after the other, and the next is one
-/// whose request is whole; until then up to 256 are read side by side, so that none holds up another. Requests for stamps
-/// that are whole at the same time are answered together, and none waits for others to come. One that fails
+/// whose request is whole; until then up to 256 are read side by side, so that none holds up another. Requests for
+/// stamps that are whole at the same time are answered together, and none waits for others to come. One that fails
 /// counts too, also where it was given up: by its client before it could be taken, or for another, where it has waited
 /// longest, for two seconds at least. Where the system has no descriptor for one, it is tried again after 50
 /// milliseconds.
 ///
 /// A request has the listening's time to come, from when its connection is taken, and its answer as much to go out,
 /// from when it begins; what isn't done by then fails. The clock is asked once for each request, when it is there.
-/// Where a client may still send behind the answer, that is read and dropped for a while, so that the answer isn't lost;
-/// the call ends once the last of these is closed.
+/// Where a client may still send behind the answer, that is read and dropped for a while, so that the answer isn't
+/// lost; the call ends once the last of these is closed.
 ///
 /// `ClockFailed` where the clock fails: the connection is closed then without an answer, with those that were to be
 /// answered with it, and no further one served.

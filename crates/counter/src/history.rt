@@ -59,8 +59,8 @@ pub fn calibrate<F: Start + Drop>(
     database: Database<'_, HostFiles<'_, F>>,
     words: &CalibrateWords<'_>,
 ) -> Result<(), Fault>
-    ensures added { IfOk result (λ _. Calibrates (machine_of ⟦<FileFrom<F> as Disk>⟧ F.Start ⟦<HostSigner<'static> as Signer>⟧
-        ⟦<SystemClock<'static, HostRuntime> as Clock>⟧.reads) words.now) }
+    ensures added { IfOk result (λ _. Calibrates (machine_of ⟦<FileFrom<F> as Disk>⟧ F.Start
+        ⟦<HostSigner<'static> as Signer>⟧ ⟦<SystemClock<'static, HostRuntime> as Clock>⟧.reads) words.now) }
     ensures faults { IfErr result IsStoreFault }
 {
     let addition = Addition::Calibration(calibration_of(words));
@@ -75,8 +75,8 @@ pub fn hold<F: Start + Drop>(
     database: Database<'_, HostFiles<'_, F>>,
     words: &HoldWords<'_>,
 ) -> Result<(), Fault>
-    ensures added { IfOk result (λ _. Holds (machine_of ⟦<FileFrom<F> as Disk>⟧ F.Start ⟦<HostSigner<'static> as Signer>⟧
-        ⟦<SystemClock<'static, HostRuntime> as Clock>⟧.reads) words.now) }
+    ensures added { IfOk result (λ _. Holds (machine_of ⟦<FileFrom<F> as Disk>⟧ F.Start
+        ⟦<HostSigner<'static> as Signer>⟧ ⟦<SystemClock<'static, HostRuntime> as Clock>⟧.reads) words.now) }
     ensures some { IfOk result (λ _. words.now.from < words.now.to) }
     ensures none { words.now.to ≤ words.now.from → result ≡ Err (Fault.Input InputFault.Hold) }
     ensures faults { words.now.from < words.now.to → IfErr result IsStoreFault }

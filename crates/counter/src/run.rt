@@ -110,7 +110,8 @@ fn take_words<I, O: Write, E: Write>(
     ensures taken { IfOk words (λ given. (result ≡ Ok given)
         × (E.contents process.new.errors ≡ E.contents process.old.errors)) }
     ensures memory { words ≡ Err ErrorKind.OutOfMemory → (result ≡ Err 1)
-        × Begins (E.contents process.old.errors) (E.contents process.new.errors) (fault_line (Fault.Input InputFault.Memory)) }
+        × Begins (E.contents process.old.errors) (E.contents process.new.errors)
+        (fault_line (Fault.Input InputFault.Memory)) }
     ensures refused { IfErr words (λ kind. kind ≢ ErrorKind.OutOfMemory → (result ≡ Err 2)
         × Begins (E.contents process.old.errors) (E.contents process.new.errors) no_text) }
     ensures most { IfErr result (λ status. status ≤ 2) }
@@ -135,10 +136,10 @@ fn take_words<I, O: Write, E: Write>(
 /// the input isn't hexadecimal, 2 where a file can't be read, has a wrong size or isn't UTF-8 where it has to be text,
 /// 3 where a hold doesn't begin before it ends, 4 where no account has the key or the name, 5 where the input, the
 /// output or the clock fails, or the database or memory in the middle of an extract by `exchange`, 6 where the address
-/// can't be listened on, 7 where memory runs out, 8 where the signer can't be reached, and 9 where a history is to go on
-/// above what doesn't come after its last stamp. 1 also where stamps fail the check that `audit` makes: a line
-/// `row N fails` for each stands on `errors` then, before the line of a fault that stopped the check. 2 where the words
-/// are refused; why is written to `errors`.
+/// can't be listened on, 7 where memory runs out, 8 where the signer can't be reached, and 9 where a history is to go
+/// on above what doesn't come after its last stamp. 1 also where stamps fail the check that `audit` makes: a line
+/// `row N fails` for each stands on `errors` then, before the line of a fault that stopped the check. 2 where the words are
+/// refused; why is written to `errors`.
 ///
 /// Where the status isn't 0 nothing is written to `output`, but where writing an answer or help fails, or an extract is
 /// refused on the way: then a beginning of it stands there; and where a check fails or is stopped: then the whole

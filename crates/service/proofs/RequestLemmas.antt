@@ -28,16 +28,6 @@ and_true false = refl
 lost : (a b : Bool) → a ≡ true → b ≡ false → a ≡ b → ⊥
 lost a b holds fails same = cc
 
--- where octets are wanted, there is room for one
-pub room_for_more : (room : List ℕ) (headers : List HeaderSpan) (filled : ℕ) (k : Known) → IsKept room headers filled k
-    → is_wanting k filled ≡ true → filled < length room
-room_for_more room headers filled known.Open kept wanting =
-    omega (arith, kept.within, kept.left, kept.is.short, length-take-le filled room kept.within)
-room_for_more room headers filled (known.Parsed parsed) kept wanting =
-    let less : filled < parsed.size = ltb-true filled parsed.size wanting in
-    omega (arith, less, kept.left less)
-room_for_more room headers filled (known.Refused refused) kept wanting = cc
-
 -- what is open wants octets, and its input hasn't ended
 pub open_parts : (wanting is_ended : Bool) → (wanting && not is_ended) ≡ true
     → (wanting ≡ true) × (is_ended ≡ false)

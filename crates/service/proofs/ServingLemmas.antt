@@ -42,13 +42,6 @@ turn before after w w' d d' x x' = record {
   signer_after = x';
 }
 
--- nothing more is read
-pub and_nothing : (a b c : Option (List ℕ)) (octets : List ℕ) → Consumes a b octets → Consumes b c []
-    → Consumes a c octets
-and_nothing a b c octets first second =
-    let P : List ℕ → Type 0 = λ l. Consumes a c l in
-    subst P (append-nil octets) (Consumes-trans a b c octets [] first second)
-
 -- what was read of a request is a request that is whole
 pub answerable : (file : PolicyValue) (reading : ℤ) (before after : Option (List ℕ)) (octets : List ℕ) (action : Action)
     (start : Head) (body : List ℕ) → IsAnswerable octets action start body → Consumes before after octets

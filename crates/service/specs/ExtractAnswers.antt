@@ -24,7 +24,8 @@ module _ {B W : Type 0} (g : Ghosts B) (contents : W → Option (List ℕ)) (rea
   -- an extract is answered
   pub data ServesExtract (file : PolicyValue) (account : AccountValue) (from to : ℕ) (outcome : Served) : Type 0 where
     extracted : IsAllowed file account from to
-        → (g.honest new → (b : History) → Stands g b old → Sends contents reading w w' (extract_answer from to b) outcome)
+        → (g.honest new → (b : History) → Stands g b old
+        → Sends contents reading w w' (extract_answer from to b) outcome)
         → SendsOctets contents reading w w' outcome → ServesExtract file account from to outcome
     kept_back : (f : ExtractFault) → ComesWhere file account from to f → IfUnasked (new ≡ old) f
         → g.fault_count new ≡ count_after f (g.fault_count old) → f ≢ Write

@@ -1,5 +1,5 @@
--- What the forms of operators state. A form's fields are those of the URL Standard 5.1; names and values are taken as they
--- stand, since a form in which they are right has nothing to escape.
+-- What the forms of operators state. A form's fields are those of the URL Standard 5.1; names and values are taken as
+-- they stand, since a form in which they are right has nothing to escape.
 use Rattle.std.specs.Prelude.{ℕ, ◌==◌, nat_le, nat_lt, pos, List, length, find, codes, Option, Some, None, option_map}
 use Rattle.std.specs.Prelude.{Result, Ok}
 use Rattle.std.specs.Str.{bytes_eq}

@@ -32,7 +32,8 @@ micros_in octets =
 abbrev pub signed_in : List ℕ → Option ℤ
 signed_in [] = None
 signed_in (first ∷ rest) =
-    if first == 0x2D then option_map (λ n. neg_ℤ (pos n)) (micros_in rest) else option_map pos (micros_in (first ∷ rest))
+    if first == 0x2D then option_map (λ n. neg_ℤ (pos n)) (micros_in rest)
+    else option_map pos (micros_in (first ∷ rest))
 
 -- a letter or a digit of ASCII, or one of . _ -
 abbrev pub is_reference_octet : ℕ → Bool

@@ -186,7 +186,8 @@ module _ {B X : Type 0} (g : Ghosts B) (signs : X → List ℕ → Result (List 
     pub sent : Sends contents reading t.writer t.writer_after answer outcome
 
   -- The extract that the request asks for is written, row by row: it is that of each history that the store stands for.
-  -- A store that fails between two rows leaves a beginning of the answer, and a writer whose time is up before them none.
+  -- A store that fails between two rows leaves a beginning of the answer, and a writer whose time is up before them
+  -- none.
   pub record Extracts {W : Type 0} (contents : W → Option (List ℕ)) (reading : ℤ) (t : Turn W B X) (outcome : Served)
       : Type 0 where
     pub account : AccountValue

@@ -70,7 +70,8 @@ clock_lines counter clock gives =
 
 -- the faults of store and signer since the start
 abbrev pub fault_lines : ℕ → ℕ → List ℕ
-fault_lines store signer = named (codes "store-faults") (decimal store) ++ named (codes "signer-faults") (decimal signer)
+fault_lines store signer =
+    named (codes "store-faults") (decimal store) ++ named (codes "signer-faults") (decimal signer)
 
 -- how many octets the database had when it was opened, if that is known
 abbrev pub size_line : Option ℕ → List ℕ

@@ -84,8 +84,8 @@ fn give<W: Write, B: Book + Drop, G: Signer>(
 }
 
 impl Request {
-    /// Answers it by the octets that came, of which those behind it aren't looked at. One to which octets are wanting is
-    /// refused: by status 400 where the input ended, and else, as there is no memory for them, by 503.
+    /// Answers it by the octets that came, of which those behind it aren't looked at. One to which octets are wanting
+    /// is refused: by status 400 where the input ended, and else, as there is no memory for them, by 503.
     pub fn serve<W: Write, B: Book + Drop, G: Signer>(
         &self,
         environment: Environment<'_>,

@@ -15,8 +15,8 @@ use desk::Desk;
 use http::StatusCode;
 use std::io::Write;
 
-/// Writes the answer with an extract that is found to have so many octets; none of it where they and the head's are 2^64
-/// or more.
+/// Writes the answer with an extract that is found to have so many octets; none of it where they and the head's are
+/// 2^64 or more.
 fn send_extract<W: Write, B: Book + Drop>(
     context: &Context<'_>,
     writer: &mut W,
@@ -58,8 +58,8 @@ fn send_extract<W: Write, B: Book + Drop>(
     Served::Answered(status)
 }
 
-/// Answers an auditor who asks for the stamps with serial numbers from one on and up to another. Where the writer's time
-/// is up before their length is found, nothing is written.
+/// Answers an auditor who asks for the stamps with serial numbers from one on and up to another. Where the writer's
+/// time is up before their length is found, nothing is written.
 pub(crate) fn serve_extract<W: Write, B: Book + Drop>(
     context: &Context<'_>,
     writer: &mut W,
@@ -68,9 +68,9 @@ pub(crate) fn serve_extract<W: Write, B: Book + Drop>(
 ) -> Served
     ensures setting { desk.new.setting ≡ desk.old.setting }
     ensures looks { OnlyLooks B.Standing desk.old.store desk.new.store }
-    ensures served { ServesExtract B.Standing W.contents context.now.at.reading writer.old writer.new desk.old.store desk.new.store
-        (policy_view inquiry.now.policy.now) (account_view inquiry.now.account.now) inquiry.now.from inquiry.now.to
-        result }
+    ensures served { ServesExtract B.Standing W.contents context.now.at.reading writer.old writer.new desk.old.store
+        desk.new.store (policy_view inquiry.now.policy.now) (account_view inquiry.now.account.now) inquiry.now.from
+        inquiry.now.to result }
 {
     match extract_length(context.alloc, desk.store(), inquiry, writer) {
         Ok(length) => send_extract(context, writer, desk.store(), inquiry, length),

@@ -76,8 +76,8 @@ fn ends_with_body(head: Head<'_>) -> bool
     has_body(head.method) || has_no_body(head)
 }
 
-/// After how many of these octets it is so that no head begins them, whatever follows, if it is so after all of them, and
-/// not after so many.
+/// After how many of these octets it is so that no head begins them, whatever follows, if it is so after all of them,
+/// and not after so many.
 fn malformed_after(octets: &[u8], before: usize, headers: &mut [HeaderSpan]) -> usize
     requires few { length octets.now ≤ most_octets }
     requires fields { length headers.old ≡ most_fields }

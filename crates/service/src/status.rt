@@ -1,11 +1,13 @@
 //! The counter's state, for an operator or an auditor.
-ghost use Rattle.std.specs.Prelude.{◌≡◌, ◌++◌, ◌≤◌, ℕ, pos, codes, IfOk, IfSome, MatchOption, OnSome, option_map, string_bytes};
+ghost use Rattle.std.specs.Prelude.{◌≡◌, ◌++◌, ◌≤◌, ℕ, pos, codes, IfOk, IfSome, MatchOption, OnSome, option_map};
+ghost use Rattle.std.specs.Prelude.{string_bytes};
 ghost use Rattle.std.specs.Fmt.{decimal, signed_decimal};
 ghost use Rattle.gentime.specs.GenTime.{text_of};
 ghost use Rattle.policy.specs.View.{counter_view};
 ghost use Rattle.book.specs.Stands.{OnlyLooks};
 ghost use Rattle.service.specs.Status.{drifting, greatest_age, age, age_left, or_none, yes_or_no, named};
-ghost use Rattle.service.specs.Status.{calibration_lines, giving_lines, clock_lines, fault_lines, size_line, Gives, IsStateOver};
+ghost use Rattle.service.specs.Status.{calibration_lines, giving_lines, clock_lines, fault_lines, size_line, Gives};
+ghost use Rattle.service.specs.Status.{IsStateOver};
 ghost use Rattle.service.specs.StateAnswers.{ServesStatus};
 
 use crate::answer::Media;

@@ -1,8 +1,7 @@
 //! The checks of a head, in their order.
 ghost use Rattle.std.specs.Prelude.{◌≡◌, ◌≤◌, Option, IfOk};
-ghost use Rattle.service.specs.Checks.{without_coding, stated_length, body_length, stated_query, typed, wanted_at, wanted_by};
-ghost use Rattle.service.specs.Checks.{most_body};
-ghost use Rattle.service.specs.Checks.{once, has_body, is_stamp};
+ghost use Rattle.service.specs.Checks.{without_coding, stated_length, body_length, stated_query, typed, wanted_at};
+ghost use Rattle.service.specs.Checks.{wanted_by, most_body, once, has_body, is_stamp};
 ghost use Rattle.service.specs.Views.{occurrence_view, head_view, IsInPlace, octets_given, result_by, wanted_view};
 
 use crate::fields::{Occurrence, same_letters, stated, type_in};
