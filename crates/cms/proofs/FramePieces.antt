@@ -1,13 +1,14 @@
 -- Frames that go out and come in piece by piece.
-use Rattle.std.proofs.Common.{◌≡◌, ℕ, ◌+◌, ◌<◌, ◌≤◌, ◌^◌, List, ◌++◌, Option, length, take, drop, refl}
-use Rattle.std.proofs.Common.{sym, ap, ◌∙◌, subst, append_assoc, arith}
+use Rattle.std.proofs.Common.{◌≡◌, ℕ, suc, ◌+◌, ◌<◌, ◌≤◌, ◌^◌, List, ◌++◌, Option, length, map, take, drop}
+use Rattle.std.proofs.Common.{refl, sym, ap, ◌∙◌, subst, append_assoc, arith, drop-cons, slice_index_or}
+use Rattle.std.specs.List.{AllByRecursion}
 use Rattle.std.specs.Int.{to_be_bytes, from_be_bytes, w32}
-use Rattle.std.specs.Io.KnownBytes.{Appends, Consumes}
-use Rattle.std.proofs.KnownBytes.{Appends-trans, Consumes-trans}
-use Rattle.std.proofs.lemmas.List.{length-append}
+use Rattle.std.specs.Io.KnownBytes.{Consumes}
+use Rattle.std.proofs.KnownBytes.{Consumes-trans}
+use Rattle.std.proofs.lemmas.List.{length-append, append-nil, drop_all}
 use Rattle.std.proofs.lemmas.Nat.{from_be_bytes-to_be_bytes_4}
 use Rattle.std.proofs.Math.Seq.{take-append_seam, drop-append_seam}
-use Rattle.cms.specs.Framed.{frame, IsAnswer, SendsBeginning, ReceivesNoAnswer}
+use Rattle.cms.specs.Framed.{frame, frames, IsShort, IsAnswer, ReceivesNoAnswer}
 
 pub frame_is : (octets : List ℕ) → frame octets ≡ to_be_bytes w32 (length octets) ++ octets
 unfolding frame
@@ -16,31 +17,44 @@ frame_is octets = refl
 pub length-frame : (octets : List ℕ) → length (frame octets) ≡ 4 + length octets
 length-frame octets = ap length (frame_is octets) ∙ length-append (to_be_bytes w32 (length octets)) octets
 
-pub sends_header : (u v : Option (List ℕ)) (octets header : List ℕ) → header ≡ to_be_bytes w32 (length octets)
-    → SendsBeginning u v header → SendsBeginning u v (frame octets)
-sends_header u v octets header told s = record {
-  sent = s.sent;
-  unsent = s.unsent ++ octets;
-  split = frame_is octets ∙ ap (λ front. front ++ octets) (sym told ∙ s.split) ∙ append_assoc s.sent s.unsent octets;
-  grown = s.grown;
-}
+-- a frame behind octets
+pub frame_behind : (octets header text first second : List ℕ) → header ≡ to_be_bytes w32 (length text)
+    → first ≡ octets ++ header → second ≡ first ++ text → second ≡ octets ++ frame text
+frame_behind octets header text first second told one other =
+    other ∙ ap (λ front. front ++ text) (one ∙ ap (λ h. octets ++ h) told)
+    ∙ append_assoc octets (to_be_bytes w32 (length text)) text ∙ ap (λ f. octets ++ f) (sym (frame_is text))
 
-pub sends_octets : (u v w : Option (List ℕ)) (octets header : List ℕ) → header ≡ to_be_bytes w32 (length octets)
-    → Appends u v header → SendsBeginning v w octets → SendsBeginning u w (frame octets)
-sends_octets u v w octets header told first s = record {
-  sent = header ++ s.sent;
-  unsent = s.unsent;
-  split = frame_is octets ∙ ap (λ front. front ++ octets) (sym told) ∙ ap (λ rest. header ++ rest) s.split
-      ∙ sym (append_assoc header s.sent s.unsent);
-  grown = Appends-trans u v w header s.sent first s.grown;
-}
+-- the next of some frames
+pub next_frame : {T : Type 0} (f : T → List ℕ) (texts : List T) (i : ℕ) (d : T) (octets more whole : List ℕ)
+    → i < length texts → octets ++ frames (map f (drop i texts)) ≡ whole
+    → more ≡ octets ++ frame (f (slice_index_or texts i d)) → more ++ frames (map f (drop (i + 1) texts)) ≡ whole
+next_frame f texts i d octets more whole within before grown =
+    let text = f (slice_index_or texts i d) in
+    let on : suc i ≡ i + 1 = omega arith in
+    let split : frames (map f (drop i texts)) ≡ frame text ++ frames (map f (drop (i + 1) texts)) =
+    ap (λ ts. frames (map f ts)) (drop-cons texts i d within)
+    ∙ ap (λ j. frame text ++ frames (map f (drop j texts))) on in
+    ap (λ front. front ++ frames (map f (drop (i + 1) texts))) grown
+    ∙ append_assoc octets (frame text) (frames (map f (drop (i + 1) texts)))
+    ∙ ap (λ rest. octets ++ rest) (sym split) ∙ before
 
-pub sends_frame : (u v w : Option (List ℕ)) (octets header : List ℕ) → header ≡ to_be_bytes w32 (length octets)
-    → Appends u v header → Appends v w octets → Appends u w (frame octets)
-sends_frame u v w octets header told first second =
-    let P : List ℕ → Type 0 = λ sent. Appends u w sent in
-    subst P (ap (λ front. front ++ octets) told ∙ sym (frame_is octets))
-    (Appends-trans u v w header octets first second)
+pub short_next : {T : Type 0} (f : T → List ℕ) (texts : List T) (i : ℕ) (d : T) → i < length texts
+    → length (f (slice_index_or texts i d)) < 2 ^ 32 → AllByRecursion IsShort (map f (drop (i + 1) texts))
+    → AllByRecursion IsShort (map f (drop i texts))
+short_next f texts i d within short rest =
+    let on : i + 1 ≡ suc i = omega arith in
+    subst (λ ts. AllByRecursion IsShort (map f ts)) (sym (drop-cons texts i d within))
+    (short, subst (λ j. AllByRecursion IsShort (map f (drop j texts))) on rest)
+
+-- there is no other
+pub last_frame : {T : Type 0} (f : T → List ℕ) (texts : List T) (i : ℕ) (octets whole : List ℕ) → length texts ≤ i
+    → octets ++ frames (map f (drop i texts)) ≡ whole → octets ≡ whole
+last_frame f texts i octets whole none before =
+    sym (append-nil octets) ∙ ap (λ ts. octets ++ frames (map f ts)) (sym (drop_all i texts none)) ∙ before
+
+pub short_last : {T : Type 0} (f : T → List ℕ) (texts : List T) (i : ℕ) → length texts ≤ i
+    → AllByRecursion IsShort (map f (drop i texts))
+short_last f texts i none = subst (λ ts. AllByRecursion IsShort (map f ts)) (sym (drop_all i texts none)) tt
 
 -- an answer's frame has at least five octets
 too_short : (received answer rest : List ℕ) → length received < 5 → IsAnswer answer → received ≡ frame answer ++ rest

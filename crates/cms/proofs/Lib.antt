@@ -1,4 +1,3 @@
-pub mod Ahead
 pub mod Ascending
 pub mod Chains
 pub mod Digits
@@ -8,5 +7,6 @@ pub mod Members
 pub mod Names
 pub mod Outlines
 pub mod Places
+pub mod Sending
 pub mod SignedEach
 pub mod Texts

@@ -12,3 +12,7 @@ SignsByHash before text answer after =
 -- the AlgorithmIdentifier of 2.999.9, without parameters
 abbrev pub keyed_hash_algorithm : List ℕ
 keyed_hash_algorithm = 0x30 ∷ 0x05 ∷ 0x06 ∷ 0x03 ∷ 0x88 ∷ 0x37 ∷ 0x09 ∷ []
+
+-- nothing goes out
+abbrev pub SendsNothing : List ℕ → List (List ℕ) → List ℕ → Type 0
+SendsNothing before texts after = after ≡ before

@@ -10,6 +10,8 @@ pub mod KeyedHash
 pub mod Outline
 pub mod OutlineView
 pub mod Place
+pub mod Sent
+pub mod SentLaws
 pub mod SetOf
 pub mod SignedData
 pub mod Signer

@@ -38,3 +38,12 @@ SignsEach {S} signs x (text ∷ texts) (answer ∷ answers) y =
     (z : S) × (signs x text answer z × SignsEach signs z texts answers y)
 SignsEach signs x [] (answer ∷ answers) y = ⊥
 SignsEach signs x (text ∷ texts) [] y = ⊥
+
+-- How far a signer is with texts that were handed to it, where it is asked for one at a time, when its answer is
+-- received: those that were answered were signed one after the other, and of those that are outstanding nothing went
+-- out.
+pub record AwaitsInTurn {S : Type 0} (signs : S → List ℕ → Result (List ℕ) SignerFault → S → Type 0)
+    (sent : S → List (List ℕ) → S → Type 0) (x : S) (texts : List (List ℕ))
+    (answers : List (Result (List ℕ) SignerFault)) (outstanding : List (List ℕ)) (y : S) : Type 0 where
+  pub signed : SignsEach signs x texts answers y
+  pub went_out : sent x texts y

@@ -1,11 +1,13 @@
 //! A signer at the other end of a connection.
-ghost use Rattle.std.specs.Prelude.{◌≡◌, ◌≤◌, ◌+◌, false, map, length, IfOk, vec_len, vec_capacity};
-ghost use Rattle.cms.specs.Ahead.{AsksEach};
-ghost use Rattle.cms.specs.Framed.{Asks};
+ghost use Rattle.std.specs.Prelude.{◌≡◌, ◌≤◌, ◌∷◌, [], true, IfOk, vec_len};
+ghost use Rattle.std.specs.Hash.DefaultHasher.{wrapping_add};
+ghost use Rattle.cms.specs.Framed.{Asks, over_ends};
 ghost use Rattle.cms.specs.Signer.{signed_by};
+ghost use Rattle.cms.specs.declared.signer.SignerFault.TheVariants.{Failed};
 
 use crate::algorithm::Algorithm;
-use crate::frames::{MAX_ANSWER, Stopped, receive, receive_each, rooms_of, send, send_each};
+use crate::answer_room::{AnswerRoom, MAX_ANSWER};
+use crate::frames::{Stopped, frame_of, frames_of, receive, rooms_of, write_all};
 use crate::pipeline::Pipeline;
 use crate::signer::{Signer, SignerFault};
 use std::alloc::Global;
@@ -13,13 +15,16 @@ use std::io::{Read, Write};
 use std::marker::Model;
 
 /// Asks a key holder over any reader and writer: writes the text's frame, and reads the answer's. A frame is octets
-/// with their number in front, in four octets, most significant first.
+/// with their number in front, in four octets, most significant first, and is written as a whole.
 ///
 /// Text of 2^32 octets or more, an answer of none or of more than 4,096 octets, an end of the input, a read or a write
 /// that fails or takes nothing: each is `Failed`, and closes the session. From then on each call is `Failed` and
 /// touches neither end. Want of memory is met first, and leaves the session open.
+///
+/// By itself it asks for one text at a time, when its answer is received. As a `Pipeline` it sends the frames of many,
+/// as few writes as the writer takes.
 #[derive(Drop)]
-pub struct FramedSigner<R, W> {
+pub struct FramedSigner<R: Read, W: Write> {
     alloc: Global,
     reader: R,
     writer: W,
@@ -28,7 +33,8 @@ pub struct FramedSigner<R, W> {
     is_closed: bool,
 }
 
-impl<R, W> Model for FramedSigner<R, W> {
+/// Contracts see both ends, and the octets that they tell.
+impl<R: Read, W: Write> Model for FramedSigner<R, W> {
     ghost use Rattle.cms.specs.Framed.{FramedState};
 
     ghost Value = { FramedState R W };
@@ -36,6 +42,8 @@ impl<R, W> Model for FramedSigner<R, W> {
     ghost view = { λ s. record {
       reader = s.reader;
       writer = s.writer;
+      unread = R.remaining s.reader;
+      written = W.contents s.writer;
       algorithm = s.algorithm;
       faults = s.faults;
       is_closed = s.is_closed;
@@ -49,7 +57,8 @@ fn ask<R: Read, W: Write>(
     writer: &mut W,
     text: &[u8],
 ) -> Result<Vec<u8>, SignerFault>
-    ensures asks { Asks R.remaining W.contents reader.old reader.new writer.old writer.new text.now (signed_by result) }
+    ensures asks { Asks (over_ends R.remaining W.contents reader.old writer.old []) text.now (signed_by result)
+        (over_ends R.remaining W.contents reader.new writer.new []) }
     ensures some { IfOk result (λ answer. 1 ≤ vec_len answer) }
     ensures few { IfOk result (λ answer. vec_len answer ≤ 4096) }
 {
@@ -57,7 +66,8 @@ fn ask<R: Read, W: Write>(
     if text.len() >= 1 << 32 {
         return Err(SignerFault::Failed);
     }
-    match send(writer, text) {
+    let frame = frame_of(alloc, text)?;
+    match write_all(writer, &frame) {
         Ok(()) => {}
         Err(Stopped) => return Err(SignerFault::Failed),
     }
@@ -67,50 +77,13 @@ fn ask<R: Read, W: Write>(
     }
 }
 
-/// Asks for the signatures of texts over an open session: all are sent before the first answer is read. Each answer is
-/// put behind those that are there.
-fn ask_each<R: Read, W: Write>(
-    alloc: Global,
-    reader: &mut R,
-    writer: &mut W,
-    texts: &[&[u8]],
-    answers: &mut Vec<Result<Vec<u8>, SignerFault>>,
-) -> Result<(), SignerFault>
-    requires room { vec_len answers.old + length texts.now ≤ vec_capacity answers.old }
-    ensures asks { AsksEach R.remaining W.contents reader.old reader.new writer.old writer.new
-        (map (λ text. text.now) texts.now) answers.old.items answers.new.items result }
-    ensures same_room { vec_capacity answers.old ≤ vec_capacity answers.new }
-{
-    let mut rooms = rooms_of(alloc, texts.len())?;
-    let sent = send_each(writer, texts);
-    rooms.truncate(sent);
-    match receive_each(reader, rooms, answers) {
-        Ok(()) => {}
-        Err(Stopped) => return Err(SignerFault::Failed),
-    }
-    if sent < texts.len() {
-        return Err(SignerFault::Failed);
-    }
-    Ok(())
-}
-
-impl<R, W> FramedSigner<R, W> {
-    ghost use Rattle.std.specs.Prelude.{◌<◌, ◌++◌, ◌∷◌, [], true, Err};
-    ghost use Rattle.std.specs.Hash.DefaultHasher.{wrapping_add};
-    ghost use Rattle.cms.specs.declared.signer.SignerFault.TheVariants.{Failed};
-
+impl<R: Read, W: Write> FramedSigner<R, W> {
     /// A signer over an open session, of signatures of that algorithm. It keeps the allocator for its answers. Takes no
     /// memory.
     ///
     /// What the writer takes has to reach the key holder without a `flush`.
     pub fn new(alloc: Global, reader: R, writer: W, algorithm: Algorithm) -> FramedSigner<R, W>
-        ensures { result ≡ record {
-          reader = reader;
-          writer = writer;
-          algorithm = algorithm;
-          faults = 0;
-          is_closed = false;
-        } }
+        ensures { result ≡ over_ends R.remaining W.contents reader writer algorithm }
     {
         FramedSigner {
             alloc,
@@ -122,23 +95,28 @@ impl<R, W> FramedSigner<R, W> {
         }
     }
 
-    /// Counts a failure, which closes the session, and puts it behind the answers.
-    fn fail(&mut self, answers: &mut Vec<Result<Vec<u8>, SignerFault>>)
-        requires room { vec_len answers.old < vec_capacity answers.old }
+    /// Counts a failure, which closes the session.
+    fn fail(&mut self) -> SignerFault
         ensures closed { self.new ≡ record self.old { faults = wrapping_add self.old.faults 1; is_closed = true } }
-        ensures items { answers.new.items ≡ answers.old.items ++ (Err Failed ∷ []) }
-        ensures same_room { vec_capacity answers.old ≤ vec_capacity answers.new }
+        ensures failed { result ≡ Failed }
     {
-        answers.push_reserved(Err(SignerFault::Failed));
         self.faults = self.faults.wrapping_add(1);
         self.is_closed = true;
+        SignerFault::Failed
     }
 }
 
 impl<R: Read, W: Write> Signer for FramedSigner<R, W> {
     ghost use Rattle.cms.specs.Framed.{SignsByFrame};
+    ghost use Rattle.cms.specs.Sent.{SendsFrames};
+    ghost use Rattle.cms.specs.Signer.{AwaitsInTurn};
+    ghost use Rattle.cms.specs.SentLaws.{sends_nothing, sends_after, sends_others};
 
-    ghost signs = { SignsByFrame R.remaining W.contents };
+    ghost signs = { SignsByFrame };
+
+    ghost sent = { SendsFrames };
+
+    ghost awaits = { AwaitsInTurn SignsByFrame SendsFrames };
 
     ghost fault_count = { λ signer. signer.faults };
 
@@ -146,18 +124,19 @@ impl<R: Read, W: Write> Signer for FramedSigner<R, W> {
 
     fn sign(&mut self, text: &[u8]) -> Result<Vec<u8>, SignerFault> {
         if self.is_closed {
-            self.faults = self.faults.wrapping_add(1);
-            return Err(SignerFault::Failed);
+            return Err(self.fail());
         }
         match ask(self.alloc, &mut self.reader, &mut self.writer, text) {
             Ok(answer) => Ok(answer),
             Err(SignerFault::Memory) => Err(SignerFault::Memory),
-            Err(SignerFault::Failed) => {
-                self.faults = self.faults.wrapping_add(1);
-                self.is_closed = true;
-                Err(SignerFault::Failed)
-            }
+            Err(SignerFault::Failed) => Err(self.fail()),
         }
+    }
+
+    fn send(&mut self, _texts: &[&[u8]]) {}
+
+    fn receive(&mut self, text: &[u8]) -> Result<Vec<u8>, SignerFault> {
+        self.sign(text)
     }
 
     fn algorithm(&self) -> &Algorithm {
@@ -167,34 +146,49 @@ impl<R: Read, W: Write> Signer for FramedSigner<R, W> {
     fn faults(&self) -> u64 {
         self.faults
     }
+
+    ghost unsent = { sends_nothing };
+
+    ghost sent_after = { sends_after };
+
+    ghost all_signed = { λ x y texts answers awaits. awaits.signed };
+
+    ghost all_sent = { λ x y texts answers outstanding awaits. sends_others x texts outstanding y awaits.went_out };
 }
 
 impl<R: Read, W: Write> Pipeline for FramedSigner<R, W> {
-    fn sign_ahead(
-        &mut self,
-        texts: &[&[u8]],
-        answers: &mut Vec<Result<Vec<u8>, SignerFault>>,
-    ) -> bool {
-        if texts.is_empty() {
-            return true;
+    ghost use Rattle.cms.specs.Ahead.{IsAhead};
+    ghost use Rattle.cms.specs.SentLaws.{sends_no_more};
+
+    ghost ahead = { IsAhead };
+
+    ghost closed = { λ session. session.is_closed ≡ true };
+
+    fn send_ahead(&mut self, texts: &[&[u8]]) -> Result<Vec<AnswerRoom>, SignerFault> {
+        if self.is_closed {
+            return Err(self.fail());
         }
-        let is_closed = self.is_closed;
-        if is_closed {
-            self.fail(answers);
-            return false;
-        }
-        match ask_each(
-            self.alloc,
-            &mut self.reader,
-            &mut self.writer,
-            texts,
-            answers,
-        ) {
-            Ok(()) | Err(SignerFault::Memory) => true,
-            Err(SignerFault::Failed) => {
-                self.fail(answers);
-                false
-            }
+        let rooms = rooms_of(self.alloc, texts.len())?;
+        let frames = frames_of(self.alloc, texts)?;
+        match write_all(&mut self.writer, &frames) {
+            Ok(()) => Ok(rooms),
+            Err(Stopped) => Err(self.fail()),
         }
     }
+
+    fn receive_ahead(&mut self, room: AnswerRoom) -> Result<Vec<u8>, SignerFault> {
+        if self.is_closed {
+            return Err(self.fail());
+        }
+        let AnswerRoom { octets } = room;
+        let mut answer = octets;
+        match receive(&mut self.reader, &mut answer) {
+            Ok(()) => Ok(answer),
+            Err(Stopped) => Err(self.fail()),
+        }
+    }
+
+    ghost all_received = { λ x y ahead. ahead };
+
+    ghost silent = { sends_no_more };
 }

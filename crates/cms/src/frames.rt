@@ -1,25 +1,20 @@
 //! Frames: octets with their number in front, over any reader and writer.
-ghost use Rattle.std.specs.Prelude.{◌≡◌, ◌^◌, ◌<◌, ◌≤◌, ◌+◌, ℕ, List, map, length, slice_index, IfOk, OnOk, OnErr};
-ghost use Rattle.std.specs.Prelude.{vec_len, vec_capacity};
+ghost use Rattle.std.specs.Prelude.{◌≡◌, ◌^◌, ◌<◌, ◌++◌, ℕ, List, map, length, slice_index, IfOk, OnOk, OnErr, vec_len};
 ghost use Rattle.std.specs.List.{AllByRecursion};
 ghost use Rattle.std.specs.Int.{to_be_bytes, w32};
 ghost use Rattle.std.specs.Io.KnownBytes.{Appends, Consumes};
-ghost use Rattle.cms.specs.Ahead.{SendsEach, IsRoom, Received, ReceivedSome};
-ghost use Rattle.cms.specs.Framed.{frame, IsAnswer, SendsBeginning, ReceivesNoAnswer};
+ghost use Rattle.cms.specs.Framed.{frame, frames, IsAnswer, IsShort, SendsBeginning, ReceivesNoAnswer};
 
-use crate::signer::SignerFault;
+use crate::answer_room::{AnswerRoom, MAX_ANSWER};
 use std::alloc::{AllocError, Global};
 use std::io::{Read, Write};
-
-/// The most octets that an answer has.
-pub(crate) const MAX_ANSWER: usize = 4_096;
 
 /// An end is done: a read or a write failed, the input ended, or there is no answer in it.
 #[derive(Drop)]
 pub(crate) struct Stopped;
 
 /// Writes octets, all of them or a beginning.
-fn write_all<W: Write>(writer: &mut W, octets: &[u8]) -> Result<(), Stopped>
+pub(crate) fn write_all<W: Write>(writer: &mut W, octets: &[u8]) -> Result<(), Stopped>
     ensures ok { OnOk result (Appends (W.contents writer.old) (W.contents writer.new) octets.now) }
     ensures err { OnErr result (SendsBeginning (W.contents writer.old) (W.contents writer.new) octets.now) }
 {
@@ -78,22 +73,6 @@ fn fill<R: Read>(reader: &mut R, room: &mut Vec<u8>) -> Result<(), Stopped>
     }
 }
 
-/// Writes a frame of octets, all of it or a beginning.
-pub(crate) fn send<W: Write>(writer: &mut W, octets: &[u8]) -> Result<(), Stopped>
-    requires { length octets.now < 2 ^ 32 }
-    ensures ok { OnOk result (Appends (W.contents writer.old) (W.contents writer.new) (frame octets.now)) }
-    ensures err { OnErr result (SendsBeginning (W.contents writer.old) (W.contents writer.new) (frame octets.now)) }
-{
-    match write_all(writer, &(octets.len() as u32).to_be_bytes()) {
-        Ok(()) => {}
-        Err(Stopped) => return Err(Stopped),
-    }
-    match write_all(writer, octets) {
-        Ok(()) => Ok(()),
-        Err(Stopped) => Err(Stopped),
-    }
-}
-
 /// Reads a frame of 1 to 4,096 octets into room for so many, and leaves the octets there.
 pub(crate) fn receive<R: Read>(reader: &mut R, room: &mut Vec<u8>) -> Result<(), Stopped>
     requires { vec_len room.old ≡ 4096 }
@@ -115,59 +94,48 @@ pub(crate) fn receive<R: Read>(reader: &mut R, room: &mut Vec<u8>) -> Result<(),
     }
 }
 
-/// Writes frames of texts, one after the other, up to the first that isn't written whole or is too long for a frame:
-/// how many were written.
-pub(crate) fn send_each<W: Write>(writer: &mut W, texts: &[&[u8]]) -> usize
-    ensures few { result ≤ length texts.now }
-    ensures sends { SendsEach W.contents writer.old (map (λ text. text.now) texts.now) result writer.new }
+/// Puts a frame behind octets.
+fn push_frame(octets: &mut Vec<u8>, text: &[u8]) -> Result<(), AllocError>
+    requires { length text.now < 2 ^ 32 }
+    ensures { OnOk result (octets.new.items ≡ octets.old.items ++ frame text.now) }
 {
-    let mut sent = 0;
+    octets.extend_from_slice(&(text.len() as u32).to_be_bytes())?;
+    octets.extend_from_slice(text)?;
+    Ok(())
+}
+
+/// The frame of a text.
+pub(crate) fn frame_of(alloc: Global, text: &[u8]) -> Result<Vec<u8>, AllocError>
+    requires { length text.now < 2 ^ 32 }
+    ensures { IfOk result (λ octets. octets.items ≡ frame text.now) }
+{
+    let mut octets = Vec::with_capacity(alloc, 4 + text.len())?;
+    push_frame(&mut octets, text)?;
+    Ok(octets)
+}
+
+/// The frames of texts, one after the other. Refused where memory wants, or a text is too long for a frame.
+pub(crate) fn frames_of(alloc: Global, texts: &[&[u8]]) -> Result<Vec<u8>, AllocError>
+    ensures octets { IfOk result (λ octets. octets.items ≡ frames (map (λ text. text.now) texts.now)) }
+    ensures short { OnOk result (AllByRecursion IsShort (map (λ text. text.now) texts.now)) }
+{
+    let mut octets = Vec::new(alloc);
     for text in texts {
         if text.len() >= 1 << 32 {
-            return sent;
+            return Err(AllocError);
         }
-        match send(writer, text) {
-            Ok(()) => sent += 1,
-            Err(Stopped) => return sent,
-        }
+        push_frame(&mut octets, text)?;
     }
-    sent
+    Ok(octets)
 }
 
 /// Room for so many answers.
-pub(crate) fn rooms_of(alloc: Global, count: usize) -> Result<Vec<Vec<u8>>, AllocError>
-    ensures count { IfOk result (λ rooms. vec_len rooms ≡ count) }
-    ensures size { IfOk result (λ rooms. AllByRecursion IsRoom rooms.items) }
+pub(crate) fn rooms_of(alloc: Global, count: usize) -> Result<Vec<AnswerRoom>, AllocError>
+    ensures { IfOk result (λ rooms. vec_len rooms ≡ count) }
 {
     let mut rooms = Vec::with_capacity(alloc, count)?;
     while rooms.len() < count {
-        rooms.push(vec![in alloc; 0u8; MAX_ANSWER]?)?;
+        rooms.push(AnswerRoom::new(alloc)?)?;
     }
     Ok(rooms)
-}
-
-/// Reads an answer into each room, one after the other, and puts them behind those that are there, up to the first
-/// that doesn't come.
-pub(crate) fn receive_each<R: Read>(
-    reader: &mut R,
-    rooms: Vec<Vec<u8>>,
-    answers: &mut Vec<Result<Vec<u8>, SignerFault>>,
-) -> Result<(), Stopped>
-    requires size { AllByRecursion IsRoom rooms.items }
-    requires room { vec_len answers.old + vec_len rooms ≤ vec_capacity answers.old }
-    ensures ok { OnOk result (Received R.remaining reader.old answers.old.items answers.new.items (vec_len rooms)
-        reader.new) }
-    ensures err { OnErr result (ReceivedSome R.remaining reader.old answers.old.items answers.new.items
-        (vec_len rooms) reader.new) }
-    ensures same_room { vec_capacity answers.old ≤ vec_capacity answers.new }
-{
-    let mut rooms = rooms;
-    while let Some(room) = rooms.pop() {
-        let mut room = room;
-        match receive(reader, &mut room) {
-            Ok(()) => answers.push_reserved(Ok(room)),
-            Err(Stopped) => return Err(Stopped),
-        }
-    }
-    Ok(())
 }

@@ -47,9 +47,15 @@ impl KeyedHash {
 }
 
 impl Signer for KeyedHash {
-    ghost use Rattle.cms.specs.KeyedHash.{SignsByHash, keyed_hash_algorithm};
+    ghost use Rattle.std.proofs.Common.{refl, ◌∙◌};
+    ghost use Rattle.cms.specs.KeyedHash.{SignsByHash, SendsNothing, keyed_hash_algorithm};
+    ghost use Rattle.cms.specs.Signer.{AwaitsInTurn};
 
     ghost signs = { SignsByHash };
+
+    ghost sent = { SendsNothing };
+
+    ghost awaits = { AwaitsInTurn SignsByHash SendsNothing };
 
     ghost fault_count = { λ _. 0 };
 
@@ -65,6 +71,12 @@ impl Signer for KeyedHash {
         Ok(signature)
     }
 
+    fn send(&mut self, _texts: &[&[u8]]) {}
+
+    fn receive(&mut self, text: &[u8]) -> Result<Vec<u8>, SignerFault> {
+        self.sign(text)
+    }
+
     fn algorithm(&self) -> &Algorithm {
         &self.algorithm
     }
@@ -72,4 +84,12 @@ impl Signer for KeyedHash {
     fn faults(&self) -> u64 {
         0
     }
+
+    ghost unsent = { λ x texts. refl };
+
+    ghost sent_after = { λ x y z texts others first second. second ∙ first };
+
+    ghost all_signed = { λ x y texts answers awaits. awaits.signed };
+
+    ghost all_sent = { λ x y texts answers outstanding awaits. awaits.went_out };
 }

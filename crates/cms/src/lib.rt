@@ -2,6 +2,7 @@
 #![tactic(auto)]
 
 mod algorithm;
+mod answer_room;
 mod chain;
 mod encode;
 mod fault;
@@ -17,6 +18,7 @@ mod signer;
 mod tags;
 
 pub use algorithm::Algorithm;
+pub use answer_room::AnswerRoom;
 pub use chain::sets_are_ascending;
 pub use fault::CmsFault;
 pub use framed_signer::FramedSigner;

@@ -1,23 +1,44 @@
-//! Texts that are handed to a signer ahead of its answers to those before them.
-ghost use Rattle.std.specs.Prelude.{◌≡◌, ◌+◌, ◌≤◌, map, length, vec_len, vec_capacity};
-ghost use Rattle.cms.specs.Ahead.{SignedAhead};
+//! Texts that are sent to a session ahead of its answers to those before them.
+ghost use Rattle.std.specs.Prelude.{◌≡◌, ℕ, ◌<◌, ◌≤◌, List, [], ◌∷◌, map, length, IfOk, IfErr, OnErr, vec_len};
+ghost use Rattle.cms.specs.Ahead.{SendsAhead, ReceivesAhead};
+ghost use Rattle.cms.specs.Signer.{signed_by, count_after};
+ghost use Rattle.cms.specs.declared.signer.SignerFault.TheVariants.{Failed};
 
+use crate::answer_room::AnswerRoom;
 use crate::signer::{Signer, SignerFault};
 
-/// A signer that takes texts ahead of its answers to those before them.
+/// A session that takes texts ahead of its answers to those before them, and is closed by the first that fails.
 pub trait Pipeline: Signer {
-    /// Has texts signed in their order, up to the first that fails. The answers are put behind those that are there:
-    /// one for each text up to there. Whether none failed: a signer that failed so isn't to be asked again. Memory for
-    /// all the answers is taken first; where there is none, nothing is asked, and no answer comes. The caller has taken
-    /// the room in the list of answers.
-    fn sign_ahead(
-        &mut self,
-        texts: &[&[u8]],
-        answers: &mut Vec<Result<Vec<u8>, SignerFault>>,
-    ) -> bool
-        requires room { vec_len answers.old + length texts.now ≤ vec_capacity answers.old }
-        ensures signed { SignedAhead Self.signs Self.fault_count self.old (map (λ text. text.now) texts.now)
-            answers.old.items answers.new.items result self.new }
-        ensures same_algorithm { Self.algorithm_octets self.new ≡ Self.algorithm_octets self.old }
-        ensures same_room { vec_capacity answers.old ≤ vec_capacity answers.new };
+    /// As if the session were the first, and these texts outstanding, it is the second.
+    ghost ahead: { Self → List (List ℕ) → Self → Type 0 };
+
+    /// It is closed.
+    ghost closed: { Self → Type 0 };
+
+    /// Sends texts, all at once: room for an answer to each. Memory for all is taken first; where there is none, or a
+    /// text is too long to be sent with others, it is `Memory`, and nothing is done.
+    fn send_ahead(&mut self, texts: &[&[u8]]) -> Result<Vec<AnswerRoom>, SignerFault>
+        requires some { 0 < length texts.now }
+        ensures sends { SendsAhead Self.signs ahead closed self.old (map (λ text. text.now) texts.now) result self.new }
+        ensures sent { Self.sent self.old (map (λ text. text.now) texts.now) self.new }
+        ensures counted { Self.fault_count self.new ≡ count_after result (Self.fault_count self.old) }
+        ensures same_algorithm { Self.algorithm_octets self.new ≡ Self.algorithm_octets self.old };
+
+    /// The answer to the next text that is outstanding. Nothing goes out, and no memory is taken.
+    fn receive_ahead(&mut self, room: AnswerRoom) -> Result<Vec<u8>, SignerFault>
+        ensures receives { (x : Self) (text : List ℕ) (texts : List (List ℕ)) → ahead x (text ∷ texts) self.old
+            → ReceivesAhead Self.signs ahead x text texts (signed_by result) self.new }
+        ensures some { IfOk result (λ signature. 1 ≤ vec_len signature) }
+        ensures few { IfOk result (λ signature. vec_len signature ≤ 4096) }
+        ensures failed { IfErr result (λ fault. fault ≡ Failed) }
+        ensures closed { OnErr result (closed self.new) }
+        ensures sent { Self.sent self.old [] self.new }
+        ensures counted { Self.fault_count self.new ≡ count_after result (Self.fault_count self.old) }
+        ensures same_algorithm { Self.algorithm_octets self.new ≡ Self.algorithm_octets self.old };
+
+    /// With nothing outstanding it is as it was.
+    ghost all_received: { (x y : Self) → ahead x [] y → y ≡ x };
+
+    /// Over a session that is closed nothing goes out.
+    ghost silent: { (x y : Self) (texts : List (List ℕ)) → closed x → Self.sent x texts y → Self.sent x [] y };
 }

@@ -32,8 +32,14 @@ impl<S> FailingSigner<S> {
 impl<S: Signer> Signer for FailingSigner<S> {
     ghost use Rattle.std.specs.Prelude.{◌+◌, ◌%◌, ◌^◌};
     ghost use Rattle.counter_fakes.specs.Chosen.{SignsUnlessChosen};
+    ghost use Rattle.cms.specs.Signer.{AwaitsInTurn};
 
     ghost signs = { SignsUnlessChosen S.signs };
+
+    ghost sent = { λ before texts after. S.sent before.signer texts after.signer };
+
+    ghost awaits = { AwaitsInTurn (SignsUnlessChosen S.signs)
+        (λ before texts after. S.sent before.signer texts after.signer) };
 
     ghost fault_count = { λ signer. (signer.faults + S.fault_count signer.signer) % 2 ^ 64 };
 
@@ -48,6 +54,12 @@ impl<S: Signer> Signer for FailingSigner<S> {
         self.signer.sign(text)
     }
 
+    fn send(&mut self, _texts: &[&[u8]]) {}
+
+    fn receive(&mut self, text: &[u8]) -> Result<Vec<u8>, SignerFault> {
+        self.sign(text)
+    }
+
     fn algorithm(&self) -> &Algorithm {
         self.signer.algorithm()
     }
@@ -55,4 +67,14 @@ impl<S: Signer> Signer for FailingSigner<S> {
     fn faults(&self) -> u64 {
         self.faults.wrapping_add(self.signer.faults())
     }
+
+    ghost unsent = { λ x texts. S.unsent x.signer texts };
+
+    ghost sent_after = { λ x y z texts others first second.
+        S.sent_after x.signer y.signer z.signer texts others first second };
+
+    ghost all_signed = { λ x y texts answers awaits. awaits.signed };
+
+    ghost all_sent = { λ x y texts answers outstanding awaits.
+        S.sent_after x.signer y.signer y.signer texts outstanding awaits.went_out (S.unsent y.signer outstanding) };
 }

@@ -1,13 +1,8 @@
 use Rattle.std.proofs.Common.{◌≤◌, ◌-◌, vec_len}
-use Rattle.std.specs.List.{AllByRecursion}
-use Rattle.cms.specs.Ahead.{IsRoom}
 use Rattle.cms.proofs.frames.rooms_of.Given as goal
 
 abbrev pub invariant-loop-alloc : goal.invariant-loop-alloc
-invariant-loop-alloc l = record {
-  few : vec_len l.rooms ≤ l.count;
-  sized : AllByRecursion IsRoom l.rooms.items;
-}
+invariant-loop-alloc l = vec_len l.rooms ≤ l.count
 
 abbrev pub decreases-loop-alloc : goal.decreases-loop-alloc
 decreases-loop-alloc l = l.count - vec_len l.rooms
