@@ -1,242 +1,414 @@
--- Texts that a session takes ahead of its answers are signed one after the other, by sessions that are renewed.
-use Rattle.std.proofs.Common.{◌≡◌, ℕ, ◌+◌, ◌<◌, ◌≤◌, Bool, true, false, cond, List, [], ◌∷◌, ◌++◌, map, take, drop}
-use Rattle.std.proofs.Common.{length, Some, None, Result, Ok, Err, Vec, refl, sym, ap, ◌∙◌, subst, inl, inr, arith}
-use Rattle.std.proofs.Common.{slice_index_or, IfOk, vec_len}
-use Rattle.std.proofs.lemmas.List.{length-map, length-append, map-append, append-nil}
-use Rattle.std.proofs.Math.Seq.{take-add}
-use Rattle.std.specs.Hash.DefaultHasher.{wrapping_add}
-use Rattle.std.specs.List.{AllByRecursion}
-use Rattle.cms.specs.Ahead.{SignsAhead, SignedAhead, none_failed}
-use Rattle.cms.specs.Signer.{signed_by, count_after, count_after_each, SignsEach, IsSized}
+-- Texts that are handed over and asked for one after the other, by sessions that are renewed.
+use Rattle.std.proofs.Common.{◌≡◌, ℕ, ◌+◌, ◌==◌, ◌<◌, true, false, List, [], ◌∷◌, ◌++◌, length, Option, Some}
+use Rattle.std.proofs.Common.{None, Result, Ok, Err, refl, sym, ap, ◌∙◌, subst, inl, inr, arith, append_assoc, map}
+use Rattle.std.proofs.lemmas.Bool.Decides.{nat_tests}
+use Rattle.std.proofs.lemmas.List.{append-nil, length-map}
+use Rattle.cms.specs.Ahead.{FailsFirst, ReceivesAhead}
 use Rattle.cms.specs.declared.signer.SignerFault.{SignerFault}
-use Rattle.cms.specs.declared.signer.SignerFault.TheVariants.{Failed, Memory}
-use Rattle.sessions.specs.ReconnectingSigner.{ReconnectingState, AsksSession, IsTaken, SignsRenewed, SignedSome, asks}
-use Rattle.sessions.specs.ReconnectingSigner.{refused}
+use Rattle.cms.specs.declared.signer.SignerFault.TheVariants.{Failed}
+use Rattle.cms.proofs.SignedEach.{signs_then}
+use Rattle.sessions.specs.ReconnectingSigner.{ReconnectingState, AsksSession, IsTaken, SignsRenewed, SendsRenewed, Stands}
+use Rattle.sessions.specs.ReconnectingSigner.{AwaitsRenewed, asks, refused, abandoned, nothing, hands, told, lost, both}
+use Rattle.sessions.specs.ReconnectingSigner.{still, taken, sent, gone}
+use Rattle.sessions.specs.RenewedLaws.{all_signed}
 
--- no more texts are answered than are there
-pub few_ahead : {S : Type 0} (signs : S → List ℕ → Result (List ℕ) SignerFault → S → Type 0) (x : S)
-    (texts : List (List ℕ)) (answers : List (Result (List ℕ) SignerFault)) (y : S) → SignsAhead signs x texts answers y
-    → length answers ≤ length texts
-few_ahead signs x texts [] y ahead = omega arith
-few_ahead signs x (text ∷ texts) (Ok a ∷ answers) y ahead =
-    let rest = few_ahead signs ahead.0 texts answers y ahead.1.1 in omega (arith, rest)
-few_ahead signs x (text ∷ texts) (Err Failed ∷ []) y ahead = omega arith
-few_ahead signs x (text ∷ texts) (Err Failed ∷ answer ∷ answers) y ahead = absurd ahead
-few_ahead signs x (text ∷ texts) (Err Memory ∷ answers) y ahead = absurd ahead
-few_ahead signs x [] (answer ∷ answers) y ahead = absurd ahead
-
--- one failure is counted, where there is one
-pub counted_ahead : {S A : Type 0} (signs : S → List ℕ → Result (List ℕ) SignerFault → S → Type 0) (x : S)
-    (texts : List (List ℕ)) (more : List (Result (Vec ℕ A) SignerFault)) (y : S) (count : ℕ)
-    → SignsAhead signs x texts (map signed_by more) y
-    → count_after_each more count ≡ cond (none_failed more) count (wrapping_add count 1)
-counted_ahead signs x texts [] y count ahead = refl
-counted_ahead signs x (text ∷ texts) (Ok a ∷ more) y count ahead =
-    counted_ahead signs ahead.0 texts more y count ahead.1.1
-counted_ahead signs x (text ∷ texts) (Err Failed ∷ []) y count ahead = refl
-counted_ahead signs x (text ∷ texts) (Err Failed ∷ answer ∷ more) y count ahead = absurd ahead
-counted_ahead signs x (text ∷ texts) (Err Memory ∷ more) y count ahead = absurd ahead
-counted_ahead signs x [] (answer ∷ more) y count ahead = absurd ahead
-
--- a signer whose session is kept while it answers, and lost where it fails
-pub renewed_ahead : {S A : Type 0} (signs : S → List ℕ → Result (List ℕ) SignerFault → S → Type 0) (fresh : S → Type 0)
-    (before : ReconnectingState S) (session : S) (texts : List (List ℕ)) (more : List (Result (Vec ℕ A) SignerFault))
-    (y : S) (after : ReconnectingState S) → IsTaken fresh before.session session
-    → SignsAhead signs session texts (map signed_by more) y → 1 ≤ length more
-    → after.session ≡ cond (none_failed more) (Some y) None
-    → SignsEach (SignsRenewed signs fresh) before (take (length more) texts) (map signed_by more) after
-renewed_ahead signs fresh before session texts [] y after taken ahead some left = absurd (omega (arith, some))
-renewed_ahead signs fresh before session (text ∷ texts) (Ok a ∷ []) y after taken ahead some left = (
-  after,
-  (
-    asks session taken (record {
-      after = ahead.0;
-      signs_it = ahead.1.0;
-      left_so = left ∙ ap Some ahead.1.1;
-    }),
-    refl,
-  ),
-)
-renewed_ahead signs fresh before session (text ∷ texts) (Ok a ∷ b ∷ more) y after taken ahead some left =
-    let between = record before { session = Some ahead.0 } in
-    let others : 1 ≤ length (b ∷ more) = omega arith in (
-      between,
-      (
-        asks session taken (record { after = ahead.0; signs_it = ahead.1.0; left_so = refl }),
-        renewed_ahead signs fresh between ahead.0 texts (b ∷ more) y after (inl refl) ahead.1.1 others left,
-      ),
-    )
-renewed_ahead signs fresh before session (text ∷ texts) (Err Failed ∷ []) y after taken ahead some left = (
-  after,
-  (asks session taken (record { after = ahead.0; signs_it = ahead.1; left_so = left }), refl),
-)
-renewed_ahead signs fresh before session (text ∷ texts) (Err Failed ∷ b ∷ more) y after taken ahead some left =
-    absurd ahead
-renewed_ahead signs fresh before session (text ∷ texts) (Err Memory ∷ more) y after taken ahead some left = absurd ahead
-renewed_ahead signs fresh before session [] (b ∷ more) y after taken ahead some left = absurd ahead
+-- a call depends on what session was open before it, and which is after it
+pub signs_alike : {S O : Type 0} (signs : S → List ℕ → Result (List ℕ) SignerFault → S → Type 0) (fresh : S → Type 0)
+    (m x y z : ReconnectingState S O) (text : List ℕ) (answer : Result (List ℕ) SignerFault) → m.session ≡ x.session
+    → m.ahead ≡ x.ahead → z.session ≡ y.session → SignsRenewed signs fresh x text answer y
+    → SignsRenewed signs fresh m text answer z
+signs_alike signs fresh m x y z text answer same many left (asks session is step) =
+    asks session (subst (λ s. IsTaken fresh s session) (sym same) is)
+    (subst (λ s. AsksSession signs session text answer s) (sym left) step)
+signs_alike signs fresh m x y z text answer same many left (refused none leaves failed) =
+    refused (same ∙ none) (left ∙ leaves) failed
+signs_alike signs fresh m x y z text answer same many left (abandoned some leaves failed) =
+    abandoned (subst (λ n. 0 < n) (sym many) some) (left ∙ leaves) failed
 
 -- a session that was taken and put back is asked as if it had just been taken
-pub asked_once : {S : Type 0} (signs : S → List ℕ → Result (List ℕ) SignerFault → S → Type 0) (fresh : S → Type 0)
-    (before between : ReconnectingState S) (session : S) (text : List ℕ) (answer : Result (List ℕ) SignerFault)
-    (after : ReconnectingState S) → IsTaken fresh before.session session → between.session ≡ Some session
-    → SignsRenewed signs fresh between text answer after → SignsRenewed signs fresh before text answer after
-asked_once signs fresh before between session text answer after taken is (asks other (inl same) step) =
+pub asked_once : {S O : Type 0} (signs : S → List ℕ → Result (List ℕ) SignerFault → S → Type 0) (fresh : S → Type 0)
+    (before between : ReconnectingState S O) (session : S) (text : List ℕ) (answer : Result (List ℕ) SignerFault)
+    (after : ReconnectingState S O) → IsTaken fresh before.session session → between.session ≡ Some session
+    → between.ahead ≡ 0 → SignsRenewed signs fresh between text answer after
+    → SignsRenewed signs fresh before text answer after
+asked_once signs fresh before between session text answer after is kept none (asks other (inl same) step) =
     let one : other ≡ session = cc in
-    asks session taken (subst (λ s. AsksSession signs s text answer after.session) one step)
-asked_once signs fresh before between session text answer after taken is (asks other (inr new) step) =
-    let none : None ≡ Some session = sym new.0 ∙ is in cc
-asked_once signs fresh before between session text answer after taken is (refused none left failed) =
-    let none : None ≡ Some session = sym none ∙ is in cc
+    asks session is (subst (λ s. AsksSession signs s text answer after.session) one step)
+asked_once signs fresh before between session text answer after is kept none (asks other (inr new) step) =
+    let apart : None ≡ Some session = sym new.0 ∙ kept in cc
+asked_once signs fresh before between session text answer after is kept none (refused missing left failed) =
+    let apart : None ≡ Some session = sym missing ∙ kept in cc
+asked_once signs fresh before between session text answer after is kept none (abandoned some left failed) =
+    absurd (omega (arith, some, none))
 
--- texts that are signed after others
-pub signs_after : {S : Type 0} (signs : S → List ℕ → Result (List ℕ) SignerFault → S → Type 0) (x : S)
-    (texts : List (List ℕ)) (answers : List (Result (List ℕ) SignerFault)) (y : S) (others : List (List ℕ))
-    (more : List (Result (List ℕ) SignerFault)) (z : S) → SignsEach signs x texts answers y
-    → SignsEach signs y others more z → SignsEach signs x (texts ++ others) (answers ++ more) z
-signs_after signs x [] [] y others more z one other = subst (λ s. SignsEach signs s others more z) one other
-signs_after signs x (text ∷ texts) (a ∷ answers) y others more z one other =
-    (one.0, (one.1.0, signs_after signs one.0 texts answers y others more z one.1.1 other))
-signs_after signs x [] (a ∷ answers) y others more z one other = absurd one
-signs_after signs x (text ∷ texts) [] y others more z one other = absurd one
+-- a session is asked, and fails
+pub asks_failed : {S O : Type 0} (signs : S → List ℕ → Result (List ℕ) SignerFault → S → Type 0) (fresh : S → Type 0)
+    (x z : ReconnectingState S O) (session now : S) (text : List ℕ) (fault other : SignerFault) → fault ≡ Failed
+    → other ≡ Failed → IsTaken fresh x.session session → signs session text (Err fault) now → z.session ≡ None
+    → SignsRenewed signs fresh x text (Err other) z
+asks_failed signs fresh x z session now text fault other is same taking one none =
+    subst (λ f. SignsRenewed signs fresh x text (Err f) z) (sym same) (asks session taking (record {
+      after = now;
+      signs_it = subst (λ f. signs session text (Err f) now) is one;
+      left_so = none;
+    }))
 
-pub counted_after : {A : Type 0} (answers more : List (Result A SignerFault)) (count : ℕ)
-    → count_after_each (answers ++ more) count ≡ count_after_each more (count_after_each answers count)
-counted_after [] more count = refl
-counted_after (Ok a ∷ answers) more count = counted_after answers more count
-counted_after (Err Failed ∷ answers) more count = counted_after answers more (wrapping_add count 1)
-counted_after (Err Memory ∷ answers) more count = counted_after answers more count
+-- a failure leaves no session
+pub fails_as : {S O : Type 0} (signs : S → List ℕ → Result (List ℕ) SignerFault → S → Type 0) (fresh : S → Type 0)
+    (x y z : ReconnectingState S O) (text : List ℕ) → z.session ≡ None → SignsRenewed signs fresh x text (Err Failed) y
+    → SignsRenewed signs fresh x text (Err Failed) z
+fails_as signs fresh x y z text none (asks session is step) =
+    asks session is (record { after = step.after; signs_it = step.signs_it; left_so = none })
+fails_as signs fresh x y z text none (refused missing left failed) = refused missing none failed
+fails_as signs fresh x y z text none (abandoned some left failed) = abandoned some none failed
 
-pub sized_after : {A : Type 0} (answers more : List (Result (Vec ℕ A) SignerFault)) → AllByRecursion IsSized answers
-    → AllByRecursion IsSized more → AllByRecursion IsSized (answers ++ more)
-sized_after [] more one other = other
-sized_after (a ∷ answers) more one other = (one.0, sized_after answers more one.1 other)
+module _ {S O : Type 0} (goes : S → List (List ℕ) → S → Type 0) (fresh : S → Type 0)
+    (opens : O → Option S → O → Type 0) (signed : O → O → Type 0) (loses : O → S → O → Type 0) where
+  -- nothing goes out before, and after
+  pub sends_on : (x y z : ReconnectingState S O) (texts : List (List ℕ))
+      → SendsRenewed goes fresh opens signed loses x [] y → SendsRenewed goes fresh opens signed loses y texts z
+      → SendsRenewed goes fresh opens signed loses x texts z
+  sends_on x y z texts first second = both x y z [] texts first second
 
-pub some_failed : {A : Type 0} (more : List (Result A SignerFault)) → none_failed more ≡ false → 1 ≤ length more
-some_failed [] fails = cc
-some_failed (a ∷ more) fails = omega arith
+  pub sends_off : (x y z : ReconnectingState S O) (texts : List (List ℕ))
+      → SendsRenewed goes fresh opens signed loses x texts y → SendsRenewed goes fresh opens signed loses y [] z
+      → SendsRenewed goes fresh opens signed loses x texts z
+  sends_off x y z texts first second =
+      subst (λ ts. SendsRenewed goes fresh opens signed loses x ts z) (append-nil texts)
+      (both x y z texts [] first second)
 
--- the session failed, and none is kept
-pub lost_some : {S A : Type 0} (signs : S → List ℕ → Result (List ℕ) SignerFault → S → Type 0) (count : S → ℕ)
-    (fresh : S → Type 0) (before after : ReconnectingState S) (session y : S) (texts : List (List ℕ))
-    (old new : List (Result (Vec ℕ A) SignerFault)) → IsTaken fresh before.session session
-    → SignedAhead signs count session texts old new false y → after.session ≡ None
-    → after.faults ≡ wrapping_add before.faults 1
-    → SignedSome (SignsRenewed signs fresh) before texts old new after
-lost_some signs count fresh before after session y texts old new taken s none counted =
-    let fails = sym s.told in
-    record {
-      more = s.more;
-      all = s.all;
-      some = some_failed s.more fails;
-      few = subst (λ n. n ≤ length texts) (length-map s.more signed_by)
-          (few_ahead signs session texts (map signed_by s.more) y s.signed);
-      signed = renewed_ahead signs fresh before session texts s.more y after taken s.signed (some_failed s.more fails)
-          (none ∙ ap (λ (b : Bool). cond b (Some y) None) (sym fails));
-      sized = s.sized;
-      counted = counted ∙ (ap (λ (b : Bool). cond b before.faults (wrapping_add before.faults 1)) (sym fails)
-          ∙ sym (counted_ahead signs session texts s.more y before.faults s.signed));
+  -- a session is asked and gives a signature
+  pub hands_told : (x z : ReconnectingState S O) (texts : List (List ℕ)) (before after : S) → x.session ≡ Some before
+      → goes before texts after → z.session ≡ Some after → signed x.sessions z.sessions
+      → SendsRenewed goes fresh opens signed loses x texts z
+  hands_told x z texts before after kept one left tells =
+      let y = record x { session = Some after } in
+      sends_off x y z texts (hands x texts y before after kept one refl refl) (told y z left tells)
+
+  -- and is lost
+  pub hands_lost : (x z : ReconnectingState S O) (texts : List (List ℕ)) (before after : S) → x.session ≡ Some before
+      → goes before texts after → z.session ≡ None → loses x.sessions after z.sessions
+      → SendsRenewed goes fresh opens signed loses x texts z
+  hands_lost x z texts before after kept one none gives =
+      let y = record x { session = Some after } in
+      sends_off x y z texts (hands x texts y before after kept one refl refl) (lost y z after refl gives none)
+
+  sends_next : (x y z : ReconnectingState S O) (texts : List (List ℕ)) (text : List ℕ) (outstanding : List (List ℕ))
+      → SendsRenewed goes fresh opens signed loses x (texts ++ (text ∷ outstanding)) y
+      → SendsRenewed goes fresh opens signed loses y [] z
+      → SendsRenewed goes fresh opens signed loses x ((texts ++ (text ∷ [])) ++ outstanding) z
+  sends_next x y z texts text outstanding first second =
+      subst (λ ts. SendsRenewed goes fresh opens signed loses x ts z)
+      (sym (append_assoc texts (text ∷ []) outstanding))
+      (sends_off x y z (texts ++ (text ∷ outstanding)) first second)
+
+  none_left : (x z : ReconnectingState S O) (texts outstanding : List (List ℕ)) → length outstanding ≡ 0
+      → SendsRenewed goes fresh opens signed loses x (texts ++ outstanding) z
+      → SendsRenewed goes fresh opens signed loses x texts z
+  none_left x z texts [] none all =
+      subst (λ ts. SendsRenewed goes fresh opens signed loses x ts z) (append-nil texts) all
+  none_left x z texts (text ∷ outstanding) none all = absurd (omega (arith, none))
+
+  module _ (signs : S → List ℕ → Result (List ℕ) SignerFault → S → Type 0) (is_ahead : S → List (List ℕ) → S → Type 0) where
+    -- the next text fails where the session is gone
+    fails_next : (m y z : ReconnectingState S O) (text : List ℕ) (outstanding : List (List ℕ)) → y.is_lost ≡ true
+        → z.session ≡ y.session → Stands signs is_ahead fresh m (text ∷ outstanding) y
+        → SignsRenewed signs fresh m text (Err Failed) z × (y.ahead ≡ 0) × (y.session ≡ None)
+    fails_next m y z text outstanding is left (still same none leaves) =
+        let empty = leaves (omega arith) is in
+        (refused (ap (λ s. s.session) (sym same) ∙ empty) (left ∙ empty) refl, none (omega arith), empty)
+    fails_next m y z text outstanding is left (taken session taking kept none fine some) =
+        let apart : true ≡ false = sym is ∙ fine in cc
+    fails_next m y z text outstanding is left (sent before after taking ahead kept many fine some) =
+        let apart : true ≡ false = sym is ∙ fine in cc
+    fails_next m y z text outstanding is left (gone first empty none fine some) =
+        (fails_as signs fresh m first.0 z text (left ∙ empty) first.1, none, empty)
+
+    pub lost_next : (y z : ReconnectingState S O) (text : List ℕ) (fault : SignerFault) → fault ≡ Failed
+        → y.is_lost ≡ true → z.session ≡ y.session
+        → z.sessions ≡ y.sessions → z.ahead ≡ y.ahead → z.is_lost ≡ true → (x : ReconnectingState S O)
+        (texts : List (List ℕ)) (answers : List (Result (List ℕ) SignerFault)) (outstanding : List (List ℕ))
+        → AwaitsRenewed signs is_ahead fresh (SendsRenewed goes fresh opens signed loses) x texts answers
+        (text ∷ outstanding) y
+        → AwaitsRenewed signs is_ahead fresh (SendsRenewed goes fresh opens signed loses) x (texts ++ (text ∷ []))
+        (answers ++ (Err fault ∷ [])) outstanding z
+    lost_next y z text fault failed is left alike many still_lost x texts answers outstanding a =
+        let next = fails_next a.as_if y z text outstanding is left a.stands in
+        record {
+          as_if = z;
+          signed = signs_then (SignsRenewed signs fresh) x texts answers a.as_if text (Err fault) z a.signed
+              (subst (λ f. SignsRenewed signs fresh a.as_if text (Err f) z) (sym failed) next.0);
+          stands = still refl (λ some. many ∙ next.1) (λ some fails. left ∙ next.2);
+          went_out = sends_next x y z texts text outstanding a.went_out (nothing y [] z left alike);
+          not_yet = λ none fine. let apart : true ≡ false = sym still_lost ∙ fine in cc;
+        }
+
+    -- the next text is asked for by itself
+    asks_next : (m y z : ReconnectingState S O) (text : List ℕ) (answer : Result (List ℕ) SignerFault)
+        (outstanding : List (List ℕ)) → y.is_lost ≡ false → y.ahead ≡ 0 → SignsRenewed signs fresh y text answer z
+        → Stands signs is_ahead fresh m (text ∷ outstanding) y → SignsRenewed signs fresh m text answer z
+    asks_next m y z text answer outstanding fine none one (still same idle leaves) =
+        subst (λ s. SignsRenewed signs fresh s text answer z) same one
+    asks_next m y z text answer outstanding fine none one (taken session taking kept idle open_still some) =
+        asked_once signs fresh m y session text answer z taking kept none one
+    asks_next m y z text answer outstanding fine none one (sent before after taking ahead kept many open_still some) =
+        absurd (omega (arith, none, many, some))
+    asks_next m y z text answer outstanding fine none one (gone first empty idle fails some) =
+        let apart : true ≡ false = sym fails ∙ fine in cc
+
+    pub asked_next : (w y z : ReconnectingState S O) (text : List ℕ) (answer : Result (List ℕ) SignerFault) → w ≡ y
+        → y.is_lost ≡ false → y.ahead ≡ 0 → SignsRenewed signs fresh w text answer z
+        → SendsRenewed goes fresh opens signed loses w (text ∷ []) z → z.ahead ≡ 0
+        → (z.is_lost ≡ true → z.session ≡ None) → (x : ReconnectingState S O)
+        (texts : List (List ℕ)) (answers : List (Result (List ℕ) SignerFault)) (outstanding : List (List ℕ))
+        → AwaitsRenewed signs is_ahead fresh (SendsRenewed goes fresh opens signed loses) x texts answers
+        (text ∷ outstanding) y
+        → AwaitsRenewed signs is_ahead fresh (SendsRenewed goes fresh opens signed loses) x (texts ++ (text ∷ []))
+        (answers ++ (answer ∷ [])) outstanding z
+    asked_next w y z text answer same fine none one goes_out idle empty x texts answers outstanding a =
+        let far = both x y z texts (text ∷ []) (a.not_yet none fine)
+        (subst (λ s. SendsRenewed goes fresh opens signed loses s (text ∷ []) z) same goes_out) in
+        record {
+          as_if = z;
+          signed = signs_then (SignsRenewed signs fresh) x texts answers a.as_if text answer z a.signed
+              (asks_next a.as_if y z text answer outstanding fine none
+              (subst (λ s. SignsRenewed signs fresh s text answer z) same one) a.stands);
+          stands = still refl (λ some. idle) (λ some. empty);
+          went_out = both x z z (texts ++ (text ∷ [])) outstanding far (nothing z outstanding z refl refl);
+          not_yet = λ many open_still. far;
+        }
+
+    -- the session that the texts were sent to
+    pub record WasSent (m : ReconnectingState S O) (outstanding : List (List ℕ)) (y : ReconnectingState S O) (session : S)
+        : Type 0 where
+      pub before : S
+      pub taking : IsTaken fresh m.session before
+      pub ahead : is_ahead before outstanding session
+      pub many : y.ahead ≡ length outstanding
+
+    was_sent : (m y : ReconnectingState S O) (session : S) (text : List ℕ) (outstanding : List (List ℕ)) → 0 < y.ahead
+        → y.session ≡ Some session → Stands signs is_ahead fresh m (text ∷ outstanding) y
+        → WasSent m (text ∷ outstanding) y session
+    was_sent m y session text outstanding some kept (still same none leaves) =
+        let idle = none (omega arith) in absurd (omega (arith, some, idle))
+    was_sent m y session text outstanding some kept (taken other taking left none fine one) =
+        absurd (omega (arith, some, none))
+    was_sent m y session text outstanding some kept (sent before after taking ahead left many fine one) =
+        let same : after ≡ session = let both_are : Some after ≡ Some session = sym left ∙ kept in cc in
+        record {
+          before = before;
+          taking = taking;
+          ahead = subst (λ s. is_ahead before (text ∷ outstanding) s) same ahead;
+          many = many;
+        }
+    was_sent m y session text outstanding some kept (gone first empty none fails one) =
+        absurd (omega (arith, some, none))
+
+    no_session : (m y : ReconnectingState S O) (text : List ℕ) (outstanding : List (List ℕ)) → 0 < y.ahead
+        → y.session ≡ None → Stands signs is_ahead fresh m (text ∷ outstanding) y → ⊥
+    no_session m y text outstanding some missing (still same none leaves) =
+        let idle = none (omega arith) in absurd (omega (arith, some, idle))
+    no_session m y text outstanding some missing (taken other taking left none fine one) =
+        absurd (omega (arith, some, none))
+    no_session m y text outstanding some missing (sent before after taking ahead left many fine one) =
+        let apart : None ≡ Some after = sym missing ∙ left in cc
+    no_session m y text outstanding some missing (gone first empty none fails one) = absurd (omega (arith, some, none))
+
+    -- a session is there as long as answers are to come
+    pub none_missing : (y z : ReconnectingState S O) (text : List ℕ) (answer : Result (List ℕ) SignerFault) → 0 < y.ahead
+        → y.session ≡ None → (x : ReconnectingState S O)
+        (texts : List (List ℕ)) (answers : List (Result (List ℕ) SignerFault)) (outstanding : List (List ℕ))
+        → AwaitsRenewed signs is_ahead fresh (SendsRenewed goes fresh opens signed loses) x texts answers
+        (text ∷ outstanding) y
+        → AwaitsRenewed signs is_ahead fresh (SendsRenewed goes fresh opens signed loses) x (texts ++ (text ∷ []))
+        (answers ++ (answer ∷ [])) outstanding z
+    none_missing y z text answer some missing x texts answers outstanding a =
+        absurd (no_session a.as_if y text outstanding some missing a.stands)
+
+    -- an answer comes of the session
+    after_answer : (z : ReconnectingState S O) (next now : S) (outstanding : List (List ℕ))
+        → ((x y : S) → is_ahead x [] y → y ≡ x) → is_ahead next outstanding now → z.session ≡ Some now
+        → z.ahead ≡ length outstanding → z.is_lost ≡ false
+        → (m : ReconnectingState S O) × (m.session ≡ Some next) × Stands signs is_ahead fresh m outstanding z
+    after_answer z next now [] received ahead left many fine = (
+      z,
+      left ∙ ap Some (received next now ahead),
+      still refl (λ some. absurd (omega (arith, some))) (λ some. absurd (omega (arith, some))),
+    )
+    after_answer z next now (text ∷ outstanding) received ahead left many fine = (
+      record z { session = Some next },
+      refl,
+      sent next now (inl refl) ahead left many fine (omega arith),
+    )
+
+    pub answered_next : (y z : ReconnectingState S O) (session now : S) (text signature : List ℕ)
+        → ((x y : S) → is_ahead x [] y → y ≡ x) → 0 < y.ahead → y.session ≡ Some session
+        → ((x : S) (first : List ℕ) (others : List (List ℕ)) → is_ahead x (first ∷ others) session
+        → ReceivesAhead signs is_ahead x first others (Ok signature) now)
+        → goes session [] now → z.session ≡ Some now → signed y.sessions z.sessions → z.ahead + 1 ≡ y.ahead
+        → z.is_lost ≡ false → (x : ReconnectingState S O)
+        (texts : List (List ℕ)) (answers : List (Result (List ℕ) SignerFault)) (outstanding : List (List ℕ))
+        → AwaitsRenewed signs is_ahead fresh (SendsRenewed goes fresh opens signed loses) x texts answers
+        (text ∷ outstanding) y
+        → AwaitsRenewed signs is_ahead fresh (SendsRenewed goes fresh opens signed loses) x (texts ++ (text ∷ []))
+        (answers ++ (Ok signature ∷ [])) outstanding z
+    answered_next y z session now text signature received some kept comes quiet left tells fewer fine x texts answers outstanding a =
+        let was = was_sent a.as_if y session text outstanding some kept a.stands in
+        let one = comes was.before text outstanding was.ahead in
+        let all = was.many in
+        let many : z.ahead ≡ length outstanding = omega (arith, fewer, all) in
+        let after = after_answer z one.0 now outstanding received one.1.1 left many fine in
+        let far = sends_next x y z texts text outstanding a.went_out
+        (hands_told y z [] session now kept quiet left tells) in
+        record {
+          as_if = after.0;
+          signed = signs_then (SignsRenewed signs fresh) x texts answers a.as_if text (Ok signature) after.0 a.signed
+              (asks was.before was.taking (record { after = one.0; signs_it = one.1.0; left_so = after.1 }));
+          stands = after.2;
+          went_out = far;
+          not_yet = λ none open_still. none_left x z (texts ++ (text ∷ [])) outstanding (sym many ∙ none) far;
+        }
+
+    -- or none does
+    pub failed_next : (y z : ReconnectingState S O) (session now : S) (text : List ℕ) (fault : SignerFault)
+        → fault ≡ Failed → 0 < y.ahead
+        → y.session ≡ Some session
+        → ((x : S) (first : List ℕ) (others : List (List ℕ)) → is_ahead x (first ∷ others) session
+        → FailsFirst signs x (first ∷ others))
+        → goes session [] now → z.session ≡ None → loses y.sessions now z.sessions → z.ahead ≡ 0
+        → z.is_lost ≡ true → (x : ReconnectingState S O)
+        (texts : List (List ℕ)) (answers : List (Result (List ℕ) SignerFault)) (outstanding : List (List ℕ))
+        → AwaitsRenewed signs is_ahead fresh (SendsRenewed goes fresh opens signed loses) x texts answers
+        (text ∷ outstanding) y
+        → AwaitsRenewed signs is_ahead fresh (SendsRenewed goes fresh opens signed loses) x (texts ++ (text ∷ []))
+        (answers ++ (Err fault ∷ [])) outstanding z
+    failed_next y z session now text fault failed some kept fails quiet empty gives none is x texts answers outstanding a =
+        let was = was_sent a.as_if y session text outstanding some kept a.stands in
+        let one = fails was.before text outstanding was.ahead in
+        record {
+          as_if = z;
+          signed = signs_then (SignsRenewed signs fresh) x texts answers a.as_if text (Err fault) z a.signed
+              (asks_failed signs fresh a.as_if z was.before one.0 text Failed fault refl failed was.taking one.1 empty);
+          stands = still refl (λ one_more. none) (λ one_more fine. empty);
+          went_out = sends_next x y z texts text outstanding a.went_out
+              (hands_lost y z [] session now kept quiet empty gives);
+          not_yet = λ idle fine. let apart : true ≡ false = sym is ∙ fine in cc;
+        }
+
+    -- Texts are handed over. There are none;
+    pub hands_none : (x : ReconnectingState S O) (texts : List (List ℕ)) → length texts ≡ 0
+        → AwaitsRenewed signs is_ahead fresh (SendsRenewed goes fresh opens signed loses) x [] [] texts x
+    hands_none x texts none = record {
+      as_if = x;
+      signed = refl;
+      stands = still refl (λ some. absurd (omega (arith, some, none))) (λ some. absurd (omega (arith, some, none)));
+      went_out = nothing x texts x refl refl;
+      not_yet = λ idle fine. nothing x [] x refl refl;
     }
 
--- it answered each, and is kept
-pub kept_some : {S A : Type 0} (signs : S → List ℕ → Result (List ℕ) SignerFault → S → Type 0) (count : S → ℕ)
-    (fresh : S → Type 0) (before after : ReconnectingState S) (session y : S) (texts : List (List ℕ))
-    (old new : List (Result (Vec ℕ A) SignerFault)) → IsTaken fresh before.session session
-    → SignedAhead signs count session texts old new true y → after.session ≡ Some y → after.faults ≡ before.faults
-    → length old < length new
-    → SignedSome (SignsRenewed signs fresh) before texts old new after
-kept_some signs count fresh before after session y texts old new taken s is counted longer =
-    let fine = sym s.told in
-    let all : length new ≡ length old + length s.more = ap length s.all ∙ length-append old s.more in
-    let some : 1 ≤ length s.more = omega (arith, all, longer) in
-    record {
-      more = s.more;
-      all = s.all;
-      some = some;
-      few = subst (λ n. n ≤ length texts) (length-map s.more signed_by)
-          (few_ahead signs session texts (map signed_by s.more) y s.signed);
-      signed = renewed_ahead signs fresh before session texts s.more y after taken s.signed some
-          (is ∙ ap (λ (b : Bool). cond b (Some y) None) (sym fine));
-      sized = s.sized;
-      counted = counted ∙ (ap (λ (b : Bool). cond b before.faults (wrapping_add before.faults 1)) (sym fine)
-          ∙ sym (counted_ahead signs session texts s.more y before.faults s.signed));
+    -- or the session is gone;
+    pub hands_gone : (x y : ReconnectingState S O) (texts : List (List ℕ)) → 0 < length texts
+        → FailsFirst (SignsRenewed signs fresh) x texts → y.session ≡ None → y.ahead ≡ 0 → y.is_lost ≡ true
+        → SendsRenewed goes fresh opens signed loses x texts y
+        → AwaitsRenewed signs is_ahead fresh (SendsRenewed goes fresh opens signed loses) x [] [] texts y
+    hands_gone x y texts some fails empty none is far = record {
+      as_if = x;
+      signed = refl;
+      stands = gone fails empty none is (omega (arith, some));
+      went_out = far;
+      not_yet = λ idle fine. let apart : true ≡ false = sym is ∙ fine in cc;
     }
 
--- a list that didn't grow is as it was
-none_more : {X : Type 0} (old more : List X) → length (old ++ more) ≤ length old → more ≡ []
-none_more old [] same = refl
-none_more old (x ∷ more) same =
-    let all = length-append old (x ∷ more) in absurd (omega (arith, all, same))
+    fails_refused : (x y : ReconnectingState S O) (texts : List (List ℕ)) → x.session ≡ None → y.session ≡ None
+        → FailsFirst (SignsRenewed signs fresh) x texts
+    fails_refused x y [] missing empty = tt
+    fails_refused x y (text ∷ texts) missing empty = (y, refused missing empty refl)
 
-still_there : {S : Type 0} (signs : S → List ℕ → Result (List ℕ) SignerFault → S → Type 0) (session : S)
-    (texts : List (List ℕ)) (answers : List (Result (List ℕ) SignerFault)) (y : S)
-    → answers ≡ [] → SignsAhead signs session texts answers y → y ≡ session
-still_there signs session texts answers y none ahead = subst (λ a. SignsAhead signs session texts a y) none ahead
+    fails_abandoned : (x y : ReconnectingState S O) (texts : List (List ℕ)) → 0 < x.ahead → y.session ≡ None
+        → FailsFirst (SignsRenewed signs fresh) x texts
+    fails_abandoned x y [] some empty = tt
+    fails_abandoned x y (text ∷ texts) some empty = (y, abandoned some empty refl)
 
--- what is left of a session that wanted memory for all the answers
-pub record IsUnasked {S A : Type 0} (session y : S) (old new : List (Result (Vec ℕ A) SignerFault)) : Type 0 where
-  pub same : y ≡ session
-  pub none : new ≡ old
+    fails_asked : (x y : ReconnectingState S O) (session : S) (texts : List (List ℕ))
+        → IsTaken fresh x.session session → FailsFirst signs session texts → y.session ≡ None
+        → FailsFirst (SignsRenewed signs fresh) x texts
+    fails_asked x y session [] taking fails empty = tt
+    fails_asked x y session (text ∷ texts) taking fails empty =
+        (y, asks session taking (record { after = fails.0; signs_it = fails.1; left_so = empty }))
 
-pub unasked : {S A : Type 0} (signs : S → List ℕ → Result (List ℕ) SignerFault → S → Type 0) (count : S → ℕ)
-    (session y : S) (texts : List (List ℕ)) (old new : List (Result (Vec ℕ A) SignerFault)) (fine : Bool)
-    → SignedAhead signs count session texts old new fine y → length new ≤ length old → IsUnasked session y old new
-unasked signs count session y texts old new fine s short =
-    let none : s.more ≡ [] = none_more old s.more (subst (λ xs. length xs ≤ length old) s.all short) in
-    record {
-      same = still_there signs session texts (map signed_by s.more) y (ap (map signed_by) none) s.signed;
-      none = s.all ∙ (ap (λ xs. old ++ xs) none ∙ append-nil old);
+    -- as no other could be opened
+    pub hands_refused : (x y : ReconnectingState S O) (texts : List (List ℕ)) → 0 < length texts → x.session ≡ None
+        → y.session ≡ None → y.ahead ≡ 0 → y.is_lost ≡ true → SendsRenewed goes fresh opens signed loses x [] y
+        → AwaitsRenewed signs is_ahead fresh (SendsRenewed goes fresh opens signed loses) x [] [] texts y
+    hands_refused x y texts some missing empty none is far =
+        hands_gone x y texts some (fails_refused x y texts missing empty) empty none is
+        (sends_on x y y texts far (nothing y texts y refl refl))
+
+    -- as answers to others were to come
+    pub hands_abandoned : (x y : ReconnectingState S O) (texts : List (List ℕ)) → 0 < length texts → 0 < x.ahead
+        → y.session ≡ None → y.ahead ≡ 0 → y.is_lost ≡ true → SendsRenewed goes fresh opens signed loses x [] y
+        → AwaitsRenewed signs is_ahead fresh (SendsRenewed goes fresh opens signed loses) x [] [] texts y
+    hands_abandoned x y texts some owed empty none is far =
+        hands_gone x y texts some (fails_abandoned x y texts owed empty) empty none is
+        (sends_on x y y texts far (nothing y texts y refl refl))
+
+    -- as it failed
+    pub hands_failed : (x t y : ReconnectingState S O) (session now : S) (texts : List (List ℕ)) → 0 < length texts
+        → IsTaken fresh x.session session → FailsFirst signs session texts
+        → SendsRenewed goes fresh opens signed loses x [] t → t.session ≡ Some session → goes session texts now
+        → loses t.sessions now y.sessions → y.session ≡ None → y.ahead ≡ 0 → y.is_lost ≡ true
+        → AwaitsRenewed signs is_ahead fresh (SendsRenewed goes fresh opens signed loses) x [] [] texts y
+    hands_failed x t y session now texts some taking fails far kept one gives empty none is =
+        hands_gone x y texts some (fails_asked x y session texts taking fails empty) empty none is
+        (sends_on x t y texts far (hands_lost t y texts session now kept one empty gives))
+
+    -- or all are sent;
+    pub hands_all : (x t y : ReconnectingState S O) (session now : S) (texts : List (List ℕ)) → 0 < length texts
+        → IsTaken fresh x.session session → is_ahead session texts now
+        → SendsRenewed goes fresh opens signed loses x [] t → t.session ≡ Some session → goes session texts now
+        → y.session ≡ Some now → y.sessions ≡ t.sessions → y.ahead ≡ length texts → y.is_lost ≡ false
+        → AwaitsRenewed signs is_ahead fresh (SendsRenewed goes fresh opens signed loses) x [] [] texts y
+    hands_all x t y session now texts some taking ahead far kept one left alike many fine = record {
+      as_if = x;
+      signed = refl;
+      stands = sent session now taking ahead left many fine (omega (arith, some));
+      went_out = sends_on x t y texts far (hands t texts y session now kept one left alike);
+      not_yet = λ none open_still. absurd (omega (arith, none, many, some));
     }
 
--- one text is signed by itself
-pub signs_one : {S A T : Type 0} (signs : S → List ℕ → Result (List ℕ) SignerFault → S → Type 0) (fresh : S → Type 0)
-    (before after : ReconnectingState S) (f : T → List ℕ) (texts : List T) (d : T)
-    (old new : List (Result (Vec ℕ A) SignerFault)) (answer : Result (Vec ℕ A) SignerFault) → 0 < length texts
-    → SignsRenewed signs fresh before (f (slice_index_or texts 0 d)) (signed_by answer) after
-    → new ≡ old ++ (answer ∷ []) → IsSized answer
-    → after.faults ≡ count_after answer before.faults
-    → SignedSome (SignsRenewed signs fresh) before (map f texts) old new after
-signs_one signs fresh before after f [] d old new answer some one all sized counted = absurd (omega (arith, some))
-signs_one signs fresh before after f (text ∷ texts) d old new answer some one all sized counted = record {
-  more = answer ∷ [];
-  all = all;
-  some = omega arith;
-  few = omega arith;
-  signed = (after, (one, refl));
-  sized = (sized, tt);
-  counted = counted;
-}
+    -- or each is asked for by itself.
+    pub hands_singly : (x t y : ReconnectingState S O) (session : S) (texts : List (List ℕ)) → 0 < length texts
+        → IsTaken fresh x.session session → SendsRenewed goes fresh opens signed loses x [] t
+        → t.session ≡ Some session → y.session ≡ Some session → y.sessions ≡ t.sessions → y.ahead ≡ 0
+        → y.is_lost ≡ false
+        → AwaitsRenewed signs is_ahead fresh (SendsRenewed goes fresh opens signed loses) x [] [] texts y
+    hands_singly x t y session texts some taking far kept left alike none fine =
+        let so_far = sends_off x t y [] far (nothing t [] y (left ∙ sym kept) alike) in
+        record {
+          as_if = x;
+          signed = refl;
+          stands = taken session taking left none fine (omega (arith, some));
+          went_out = sends_on x y y texts so_far (nothing y texts y refl refl);
+          not_yet = λ idle open_still. so_far;
+        }
 
--- no session can be opened
-pub refuses_one : {S A : Type 0} (signs : S → List ℕ → Result (List ℕ) SignerFault → S → Type 0) (fresh : S → Type 0)
-    (before after : ReconnectingState S) (texts : List (List ℕ)) (old new : List (Result (Vec ℕ A) SignerFault))
-    → 0 < length texts → before.session ≡ None → after.session ≡ None → new ≡ old ++ (Err Failed ∷ [])
-    → after.faults ≡ wrapping_add before.faults 1
-    → SignedSome (SignsRenewed signs fresh) before texts old new after
-refuses_one signs fresh before after [] old new some none left all counted = absurd (omega (arith, some))
-refuses_one signs fresh before after (text ∷ texts) old new some none left all counted = record {
-  more = Err Failed ∷ [];
-  all = all;
-  some = omega arith;
-  few = omega arith;
-  signed = (after, (refused none left refl, refl));
-  sized = (tt, tt);
-  counted = counted;
-}
+    -- one text that was handed over and answered
+    pub signs_one : (x y : ReconnectingState S O) (text : List ℕ) (answer : Result (List ℕ) SignerFault)
+        → AwaitsRenewed signs is_ahead fresh (SendsRenewed goes fresh opens signed loses) x (text ∷ []) (answer ∷ []) [] y
+        → SignsRenewed signs fresh x text answer y
+    signs_one x y text answer a =
+        let each = all_signed signs is_ahead fresh (SendsRenewed goes fresh opens signed loses) x y (text ∷ [])
+        (answer ∷ []) a in
+        subst (λ z. SignsRenewed signs fresh x text answer z) (sym each.1.1) each.1.0
 
--- the list goes on by some more
-pub goes_on : {S A : Type 0} (signs : ReconnectingState S → List ℕ → Result (List ℕ) SignerFault → ReconnectingState S
-    → Type 0)
-    (x y z : ReconnectingState S) (texts : List (List ℕ)) (n : ℕ) (old new : List (Result (Vec ℕ A) SignerFault))
-    → SignsEach signs x (take n texts) (map signed_by old) y → (s : SignedSome signs y (drop n texts) old new z)
-    → SignsEach signs x (take (n + length s.more) texts) (map signed_by new) z
-goes_on signs x y z texts n old new before s =
-    subst (λ ts. SignsEach signs x ts (map signed_by new) z) (sym (take-add n (length s.more) texts))
-    (subst (λ answers. SignsEach signs x (take n texts ++ take (length s.more) (drop n texts)) answers z)
-    (sym (ap (map signed_by) s.all ∙ map-append signed_by old s.more))
-    (signs_after signs x (take n texts) (map signed_by old) y (take (length s.more) (drop n texts))
-    (map signed_by s.more) z before s.signed))
+pub none_owed : (n : ℕ) → (n == 0) ≡ true → n ≡ 0
+none_owed n none = grind (arith, nat_tests)
 
-pub is_sized : {A : Type 0} (answer : Result (Vec ℕ A) SignerFault) → IfOk answer (λ signature. 1 ≤ vec_len signature)
-    → IfOk answer (λ signature. vec_len signature ≤ 4096) → IsSized answer
-is_sized (Ok signature) some few = (some, few)
-is_sized (Err fault) some few = tt
+pub some_owed : (n : ℕ) → (n == 0) ≡ false → 0 < n
+some_owed n some = grind (arith, nat_tests)
+
+pub none_texts : {T : Type 0} (f : T → List ℕ) (texts : List T) → (length texts == 0) ≡ true → length (map f texts) ≡ 0
+none_texts f texts none = length-map texts f ∙ none_owed (length texts) none
+
+pub some_texts : {T : Type 0} (f : T → List ℕ) (texts : List T) → (length texts == 0) ≡ false → 0 < length (map f texts)
+some_texts f texts some = subst (λ n. 0 < n) (sym (length-map texts f)) (some_owed (length texts) some)

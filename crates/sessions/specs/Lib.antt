@@ -1,1 +1,3 @@
+pub mod Notices
 pub mod ReconnectingSigner
+pub mod RenewedLaws

@@ -1,5 +1,6 @@
 //! A key holder behind a connection.
 ghost use Rattle.std.specs.Prelude.{◌≡◌, false, IfOk};
+ghost use Rattle.cms.specs.Framed.{over_ends};
 
 use crate::session::{Exchange, SessionStream};
 use cms::{Algorithm, FramedSigner};
@@ -38,13 +39,7 @@ pub fn signer_over<'a, R: Clock + AllocGlobal, S: Duplex + Drop>(
     limit: Duration,
     algorithm: Algorithm,
 ) -> Result<StreamSigner<'a, R, S>, AllocError>
-    ensures { IfOk result (λ signer. signer ≡ record {
-      reader = reader;
-      writer = writer;
-      algorithm = algorithm;
-      faults = 0;
-      is_closed = false;
-    }) }
+    ensures { IfOk result (λ signer. signer ≡ over_ends S.remaining S.contents reader writer algorithm) }
 {
     let none = Exchange {
         end: None,

@@ -1,11 +1,14 @@
-use Rattle.sessions.specs.ReconnectingSigner.{asks}
+use Rattle.std.proofs.Common.{[]}
+use Rattle.cms.specs.Signer.{signed_by}
+use Rattle.sessions.proofs.Chains.{signs_one}
 use Rattle.sessions.proofs.reconnecting_signer.ReconnectingSignerSigner.sign.Goals as goal
 
-pub returns-in-Err-Failed-clause-signs : goal.returns-in-Err-Failed-clause-signs
-returns-in-Err-Failed-clause-signs g c = asks c.in-Some.session c.in-Some.ensures.taken c.ask-answer.ensures.asks
+pub returns-clause-signs : goal.returns-clause-signs
+returns-clause-signs g c =
+    signs_one g.S.Signer.sent g.O.Sessions.fresh g.O.Sessions.opens g.O.Sessions.signed g.O.Sessions.loses
+    g.S.Signer.signs g.S.Pipeline.ahead c.args.self.now c.receive.new.self c.args.text.now (signed_by c.receive.result)
+    (c.receive.ensures.awaits c.args.self.now [] [] [] c.send.ensures.awaits)
 
-pub returns-in-Ok-clause-signs : goal.returns-in-Ok-clause-signs
-returns-in-Ok-clause-signs g c = asks c.in-Some.session c.in-Some.ensures.taken c.ask-answer.ensures.asks
-
-pub returns-in-Err-Memory-clause-signs : goal.returns-in-Err-Memory-clause-signs
-returns-in-Err-Memory-clause-signs g c = asks c.in-Some.session c.in-Some.ensures.taken c.ask-answer.ensures.asks
+pub returns-clause-sent : goal.returns-clause-sent
+returns-clause-sent g c =
+    let awaits = c.receive.ensures.awaits c.args.self.now [] [] [] c.send.ensures.awaits in awaits.went_out
