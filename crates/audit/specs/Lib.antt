@@ -4,6 +4,7 @@ pub mod Extract
 pub mod Failures
 pub mod Fault
 pub mod Inquiries
+pub mod Intact
 pub mod Steps
 pub mod Texts
 pub mod Writes

@@ -1,17 +1,19 @@
 //! Whether a stamp's octets say what its row says.
-ghost use Rattle.std.specs.Prelude.{◌≡◌, ◌↔◌, IsTrue, MatchResult, option_map, map};
+ghost use Rattle.std.specs.Prelude.{◌≡◌, ◌↔◌, IsTrue, MatchResult, Some, option_map, map};
 ghost use Rattle.der.specs.DataValueView.{value_view};
 ghost use Rattle.der.specs.ObjectIdentifier.{oid_content};
 ghost use Rattle.book.specs.Identities.{identity_before};
-ghost use Rattle.book.specs.Values.{identity_view, stamp_view};
+ghost use Rattle.book.specs.Values.{identity_view, stamp_view, stamped_view};
 ghost use Rattle.cms.specs.Certificate.{IsSubject};
 ghost use Rattle.tsp.specs.View.{imprint_view, request_view, tst_view};
 ghost use Rattle.audit.specs.Consistent.{Agree, IsConsistent, IsOwnName};
+ghost use Rattle.audit.specs.Intact.{IsIntact};
 
 use crate::fault::ExtractFault;
-use book::{IdentityRow, Stamp};
+use book::{IdentityRow, Stamp, StampedDeposit};
 use cms::subject_of;
 use der::{DataValue, encodings_are_read, oids_have_one_content_and_text};
+use sha2::{Digest, Sha256};
 use tsp::{MessageImprint, Request, TstInfo, read_request, read_tst};
 
 /// Whether a stamp's octets say what its row says: the TSTInfo is one, and carries the row's serial number, genTime and
@@ -33,6 +35,13 @@ pub fn check_row(stamp: &Stamp, identities: &[IdentityRow]) -> Result<bool, Extr
     };
     let identity = identity_at(identities, stamp.serial);
     Ok(agree(stamp, identity, &tst, &request))
+}
+
+/// Whether a deposit's octets are those that were stamped: their SHA-256 is the digest of its stamp. Takes no memory.
+pub fn check_deposit(kept: &StampedDeposit) -> bool
+    ensures { IsTrue result ↔ IsIntact (Some (stamped_view kept.now)) }
+{
+    Sha256::digest(&kept.deposit.bytes).as_slice() == kept.stamp.digest.as_slice()
 }
 
 /// The identity that was in force when a serial number was reserved; none before the first.

@@ -9,7 +9,7 @@ mod line;
 mod output;
 mod writes;
 
-pub use check::{check_row, identity_at};
+pub use check::{check_deposit, check_row, identity_at};
 pub use extracts::{Extracted, Inquiry, extract, extract_length, write_extract};
 pub use fault::ExtractFault;
 pub use output::Output;
